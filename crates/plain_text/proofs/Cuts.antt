@@ -1,0 +1,62 @@
+-- A list that is cut at the first element which passes a test.
+use Rattle.std.proofs.Common.{◌≡◌, ℕ, ◌<◌, ◌≤◌, ◌+◌, ◌==◌, List, [], ◌∷◌, length, take, drop, get_or, Bool, true, false, not, cond, Option, Some, None, refl, ap, sym, ◌∙◌, arith, nat_lt}
+use Rattle.std.specs.Prelude.{position}
+use Rattle.std.specs.List.{slice_split, onto_first, position_or_len, All}
+use Rattle.std.specs.Str.Lines.{lines, lines_of_parts, strip_carriage_return}
+use Rattle.std.proofs.lemmas.Bool.Decides.{nat_tests}
+use Rattle.std.proofs.lemmas.List.{drop-drop}
+use Rattle.std.proofs.lemmas.List.Sums.{prefix_len_passes}
+use Rattle.std.proofs.lemmas.List.Splits.{slice_split_none, slice_split_first}
+
+not_true : (b : Bool) → not b ≡ true → b ≡ false
+not_true true h = absurd cc
+not_true false h = refl
+
+none_if : (b : Bool) (n : ℕ) → cond b (Some n) None ≡ None → b ≡ false
+none_if true n h = absurd cc
+none_if false n h = refl
+
+some_if : (b : Bool) (n i : ℕ) → cond b (Some n) None ≡ Some i → (b ≡ true) × (n ≡ i)
+some_if true n i h = (refl, cc)
+some_if false n i h = absurd cc
+
+pub cut_none : {X : Type 0} (p : X → Bool) (xs : List X) → position p xs ≡ None → slice_split p xs ≡ xs ∷ []
+cut_none p xs h =
+    let past : length xs ≤ position_or_len p xs = let test = none_if _ _ h in grind (arith, nat_tests) in
+    slice_split_none p xs (λ k d within. not_true _ (prefix_len_passes (λ x. not (p x)) xs k d (omega arith)))
+
+pub cut_at : {X : Type 0} (p : X → Bool) (xs : List X) (i : ℕ) → position p xs ≡ Some i → (d : X) → slice_split p xs ≡ take i xs ∷ slice_split p (drop 1 (drop i xs))
+cut_at p xs i h d =
+    let found = some_if _ _ _ h in
+    let within : position_or_len p xs < length xs = let test = found.0 in grind (arith, nat_tests) in
+    slice_split_first p xs d within ∙ ap (λ n. take n xs ∷ slice_split p (drop (n + 1) xs)) found.1 ∙ ap (λ ys. take i xs ∷ slice_split p ys) (sym (drop-drop 1 i xs))
+
+-- the lines of a text that is cut at its first newline, and of one without a newline
+
+onto_rest : (x y : List ℕ) (parts more : List (List ℕ)) → parts ≡ y ∷ more → lines_of_parts (x ∷ parts) ≡ strip_carriage_return x ∷ lines_of_parts parts
+onto_rest x y parts more h = ap (λ ps. lines_of_parts (x ∷ ps)) h ∙ ap (λ ps. strip_carriage_return x ∷ lines_of_parts ps) (sym h)
+
+some_part : (p : ℕ → Bool) (xs : List ℕ) → (y : List ℕ) × ((more : List (List ℕ)) × (slice_split p xs ≡ y ∷ more))
+some_part p [] = ([], ([], refl))
+some_part p (x ∷ xs) = by_test (p x) (some_part p xs)
+  where
+    by_test : (b : Bool) → ((y : List ℕ) × ((more : List (List ℕ)) × (slice_split p xs ≡ y ∷ more))) → (y : List ℕ) × ((more : List (List ℕ)) × (cond b ([] ∷ slice_split p xs) (onto_first x (slice_split p xs)) ≡ y ∷ more))
+    by_test true h = ([], (slice_split p xs, refl))
+    by_test false h = (x ∷ h.0, (h.1.0, ap (onto_first x) h.1.1))
+
+pub lines_cut : (text line rest : List ℕ) → slice_split (λ b. b == 10) text ≡ line ∷ slice_split (λ b. b == 10) rest → lines text ≡ strip_carriage_return line ∷ lines rest
+lines_cut text line rest h =
+    let part = some_part (λ b. b == 10) rest in
+    ap lines_of_parts h ∙ onto_rest line part.0 (slice_split (λ b. b == 10) rest) part.1.0 part.1.1
+
+pub lines_last : (text line : List ℕ) → slice_split (λ b. b == 10) text ≡ line ∷ [] → line ≡ text → (length text == 0) ≡ false → lines text ≡ line ∷ []
+lines_last text line h whole some =
+    let there : (length line == 0) ≡ false = ap (λ t. length t == 0) whole ∙ some in
+    ap lines_of_parts h ∙ ap (λ b. cond b [] (line ∷ [])) there
+
+pub next_part : (separator : ℕ) (text part rest after : List ℕ) (place : ℕ) → position (λ b. b == separator) text ≡ Some place → part ≡ take place text → rest ≡ drop place text → after ≡ drop 1 rest
+    → slice_split (λ b. b == separator) text ≡ part ∷ slice_split (λ b. b == separator) after
+next_part separator text part rest after place found front back next =
+    let split : List ℕ → List (List ℕ) = slice_split (λ b. b == separator) in
+    cut_at (λ b. b == separator) text place found 0 ∙ ap (λ x. x ∷ split (drop 1 (drop place text))) (sym front)
+    ∙ ap (λ x. part ∷ split (drop 1 x)) (sym back) ∙ ap (λ x. part ∷ split x) (sym next)

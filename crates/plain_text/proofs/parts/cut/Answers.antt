@@ -1,0 +1,12 @@
+use Rattle.std.proofs.Common.{refl, ap, ◌∙◌, take, drop, ◌∷◌, sym}
+use Rattle.std.specs.List.{slice_split}
+use Rattle.plain_text.proofs.Cuts.{cut_none, cut_at, next_part}
+use Rattle.plain_text.proofs.parts.cut.Goals as goal
+
+pub returns-in_default : goal.returns-in_default
+returns-in_default c = record { whole = refl; alone = cut_none _ c.args.text.now (cc) }
+
+pub returns : goal.returns
+returns c = record {
+  first = next_part c.args.separator c.args.text.now _ _ _ c.in-Some.place (sym c.first_place.ensures ∙ c.in-Some.is) c.split_at.ensures.front c.split_at.ensures.back c.split_at-2.ensures.back;
+}
