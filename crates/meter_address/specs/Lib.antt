@@ -1,0 +1,4 @@
+pub mod Address
+pub mod Letters
+pub mod Commission
+pub use Rattle.hex.specs.Hex

@@ -1,0 +1,33 @@
+//! What is commissioned of a meter.
+ghost use Rattle.std.specs.Prelude.{◌≤◌};
+ghost use Rattle.std.specs.Option.{ForSome};
+ghost use Rattle.meter_address.specs.Commission.{most_last};
+
+use crate::address::Address;
+
+/// The security mode of a meter's messages (OMS Volume 2).
+#[derive(Clone, Copy, Debug, PartialEq, Eq)]
+pub enum Mode {
+    /// Mode 5: AES-128-CBC under the meter's key.
+    Five,
+    /// Mode 7: AES-128-CBC and a CMAC, under keys derived from the meter's key.
+    Seven,
+}
+
+/// What is known of a meter when it is commissioned, or when it is written to the next roster.
+#[derive(Clone, Copy, Debug, PartialEq, Eq)]
+pub struct Commission {
+    /// The meter.
+    pub address: Address,
+    /// How its messages are secured.
+    pub mode: Mode,
+    /// Its key.
+    pub key: [u8; 16],
+    /// The last stored counter in mode 7, the last stored access number in mode 5.
+    pub last: Option<u32>,
+    /// The last counter of a downlink.
+    pub down: u32,
+    /// The last id of a command.
+    pub ids: u32,
+    ghost last_in_range: { ForSome last (λ n. n ≤ most_last mode) },
+}
