@@ -1,0 +1,12 @@
+pub mod Bytes
+pub mod Sums
+pub mod ByteTables
+pub mod Elements
+pub mod Remainder
+pub mod Lists
+pub mod Mixing
+pub mod Columns
+pub mod Cipher
+pub mod ColumnWords
+pub mod RoundWords
+pub mod WordTables

@@ -1,0 +1,180 @@
+-- The inverse mixing undoes the mixing, and the mixing the inverse.
+use Rattle.std.proofs.Common.{◌≡◌, ℕ, zero, suc, ◌*◌, ◌<◌, ◌&&◌, ◌++◌, Bool, true, List, [], ◌∷◌, length, map, refl, sym, ap, ap₂, ◌∙◌, bit_xor, arith}
+use Rattle.std.proofs.lemmas.Bool.{and_parts}
+use Rattle.std.proofs.lemmas.List.{length-append}
+use Rattle.std.proofs.lemmas.List.Elements.{All-nil, All-cons, All-head, All-tail, All-append}
+use Rattle.std.specs.List.{All}
+use lib.Bits.{xor_zero_r}
+use Rattle.aes_block.proofs.Bytes.{holds_below, at_each_below}
+use Rattle.aes_block.proofs.Sums.{product_of_sum}
+use Rattle.aes_block.proofs.Elements.{product-lt}
+use Rattle.aes_block.proofs.Lists.{AreBytes, add_swap, length-add, AreBytes-add, at_four, same_list, same_list-true}
+use Rattle.aes_block.specs.Field.{polynomial_product, remainder, product}
+use Rattle.aes_block.specs.Block.{add, column_product, mix, mix_polynomial, inverse_mix_polynomial}
+
+length-column_product_4 : (m : List ℕ) (a b c d : ℕ) → length (column_product m (a ∷ b ∷ c ∷ d ∷ [])) ≡ 4
+unfolding column_product
+length-column_product_4 [] a b c d = refl
+length-column_product_4 (k ∷ m) a b c d =
+    omega (arith, length-add (map (product k) (a ∷ b ∷ c ∷ d ∷ [])) (column_product m (d ∷ a ∷ b ∷ c ∷ [])), length-column_product_4 m d a b c)
+
+pub length-column_product : (m x : List ℕ) → length x ≡ 4 → length (column_product m x) ≡ 4
+length-column_product m = at_four (λ x. length (column_product m x) ≡ 4) (length-column_product_4 m)
+
+-- a product distributes over a sum
+sum_of_fours : (m : List ℕ) (a b c d a' b' c' d' : ℕ) →
+    column_product m (bit_xor a a' ∷ bit_xor b b' ∷ bit_xor c c' ∷ bit_xor d d' ∷ [])
+    ≡ add (column_product m (a ∷ b ∷ c ∷ d ∷ [])) (column_product m (a' ∷ b' ∷ c' ∷ d' ∷ []))
+unfolding column_product
+sum_of_fours [] a b c d a' b' c' d' = refl
+sum_of_fours (k ∷ m) a b c d a' b' c' d' =
+    let here : map (product k) (bit_xor a a' ∷ bit_xor b b' ∷ bit_xor c c' ∷ bit_xor d d' ∷ [])
+    ≡ add (map (product k) (a ∷ b ∷ c ∷ d ∷ [])) (map (product k) (a' ∷ b' ∷ c' ∷ d' ∷ [])) =
+    rw (product_of_sum k a a', product_of_sum k b b', product_of_sum k c c', product_of_sum k d d') refl in
+    ap₂ add here (sum_of_fours m d a b c d' a' b' c')
+    ∙ (add_swap (map (product k) (a ∷ b ∷ c ∷ d ∷ [])) (map (product k) (a' ∷ b' ∷ c' ∷ d' ∷ []))
+    (column_product m (d ∷ a ∷ b ∷ c ∷ [])) (column_product m (d' ∷ a' ∷ b' ∷ c' ∷ [])))
+
+pub column_product_of_sum : (m x y : List ℕ) → length x ≡ 4 → length y ≡ 4 →
+    column_product m (add x y) ≡ add (column_product m x) (column_product m y)
+column_product_of_sum m x y hx hy =
+    at_four (λ x. column_product m (add x y) ≡ add (column_product m x) (column_product m y))
+    (λ a b c d. at_four (λ y. column_product m (add (a ∷ b ∷ c ∷ d ∷ []) y) ≡ add (column_product m (a ∷ b ∷ c ∷ d ∷ [])) (column_product m y))
+    (sum_of_fours m a b c d) y hy)
+    x hx
+
+-- n times m times a column of one byte is the column
+abbrev undoes_at : List ℕ → List ℕ → List ℕ → Bool
+undoes_at n m x = same_list (column_product n (column_product m x)) x
+
+abbrev undoes : List ℕ → List ℕ → ℕ → Bool
+undoes n m x =
+    undoes_at n m (x ∷ 0 ∷ 0 ∷ 0 ∷ []) && (undoes_at n m (0 ∷ x ∷ 0 ∷ 0 ∷ [])
+    && (undoes_at n m (0 ∷ 0 ∷ x ∷ 0 ∷ []) && undoes_at n m (0 ∷ 0 ∷ 0 ∷ x ∷ [])))
+
+-- m undoes n on a column, by what it does on columns of one byte
+module _ (n m : List ℕ) (each : holds_below 256 (undoes n m) ≡ true) where
+  at_one : (x : ℕ) → x < 256 →
+      (column_product n (column_product m (x ∷ 0 ∷ 0 ∷ 0 ∷ [])) ≡ x ∷ 0 ∷ 0 ∷ 0 ∷ [])
+      × (column_product n (column_product m (0 ∷ x ∷ 0 ∷ 0 ∷ [])) ≡ 0 ∷ x ∷ 0 ∷ 0 ∷ [])
+      × (column_product n (column_product m (0 ∷ 0 ∷ x ∷ 0 ∷ [])) ≡ 0 ∷ 0 ∷ x ∷ 0 ∷ [])
+      × (column_product n (column_product m (0 ∷ 0 ∷ 0 ∷ x ∷ [])) ≡ 0 ∷ 0 ∷ 0 ∷ x ∷ [])
+  at_one x h =
+      let all = at_each_below 256 (undoes n m) each x h in
+      let p = and_parts _ _ all in
+      let q = and_parts _ _ p.1 in
+      let r = and_parts _ _ q.1 in
+      (same_list-true _ _ p.0, same_list-true _ _ q.0, same_list-true _ _ r.0, same_list-true _ _ r.1)
+
+  undone_four : (a b c d : ℕ) → a < 256 → b < 256 → c < 256 → d < 256 →
+      column_product n (column_product m (a ∷ b ∷ c ∷ d ∷ [])) ≡ a ∷ b ∷ c ∷ d ∷ []
+  undone_four a b c d ha hb hc hd =
+      let A : List ℕ = a ∷ 0 ∷ 0 ∷ 0 ∷ [] in
+      let B : List ℕ = 0 ∷ b ∷ 0 ∷ 0 ∷ [] in
+      let C : List ℕ = 0 ∷ 0 ∷ c ∷ 0 ∷ [] in
+      let D : List ℕ = 0 ∷ 0 ∷ 0 ∷ d ∷ [] in
+      let F : List ℕ → List ℕ = λ x. column_product n (column_product m x) in
+      let L : (x : List ℕ) → length x ≡ 4 → length (column_product m x) ≡ 4 = length-column_product m in
+      let split : add (add A B) (add C D) ≡ a ∷ b ∷ c ∷ d ∷ [] = rw (xor_zero_r a, xor_zero_r a, xor_zero_r b, xor_zero_r c) refl in
+      let step : (x y : List ℕ) → length x ≡ 4 → length y ≡ 4 → F (add x y) ≡ add (F x) (F y) =
+      λ x y hx hy. ap (column_product n) (column_product_of_sum m x y hx hy) ∙ column_product_of_sum n _ _ (L x hx) (L y hy) in
+      ap F (sym split)
+      ∙ step (add A B) (add C D) refl refl
+      ∙ ap₂ add (step A B refl refl) (step C D refl refl)
+      ∙ rw ((at_one a ha).0, (at_one b hb).1, (at_one c hc).2, (at_one d hd).3) split
+
+-- ---- the two polynomials of the cipher
+inverse_mix_polynomial_undoes : holds_below 256 (undoes inverse_mix_polynomial mix_polynomial) ≡ true
+unfolding holds_below same_list column_product product polynomial_product remainder
+inverse_mix_polynomial_undoes = refl
+
+mix_polynomial_undoes : holds_below 256 (undoes mix_polynomial inverse_mix_polynomial) ≡ true
+unfolding holds_below same_list column_product product polynomial_product remainder
+mix_polynomial_undoes = refl
+
+-- ---- whole blocks
+
+AreBytes-product : (k : ℕ) (xs : List ℕ) → k < 256 → AreBytes xs → AreBytes (map (product k) xs)
+AreBytes-product k [] hk h = All-nil (λ x. x < 256)
+AreBytes-product k (x ∷ xs) hk h =
+    let P : ℕ → Type 0 = λ x. x < 256 in
+    All-cons P (product k x) (map (product k) xs) (product-lt k x hk (All-head P x xs h)) (AreBytes-product k xs hk (All-tail P x xs h))
+
+pub All-4 : (P : ℕ → Type 0) (a b c d : ℕ) → P a → P b → P c → P d → All P (a ∷ b ∷ c ∷ d ∷ [])
+All-4 P a b c d ha hb hc hd = All-cons P a (b ∷ c ∷ d ∷ []) ha (All-cons P b (c ∷ d ∷ []) hb (All-cons P c (d ∷ []) hc (All-cons P d [] hd (All-nil P))))
+
+pub AreBytes-4 : (a b c d : ℕ) → a < 256 → b < 256 → c < 256 → d < 256 → AreBytes (a ∷ b ∷ c ∷ d ∷ [])
+AreBytes-4 = All-4 (λ x. x < 256)
+
+pub AreBytes-mix_polynomial : AreBytes mix_polynomial
+AreBytes-mix_polynomial = All-4 (λ x. x < 256) 2 1 1 3 (omega arith) (omega arith) (omega arith) (omega arith)
+
+pub AreBytes-inverse_mix_polynomial : AreBytes inverse_mix_polynomial
+AreBytes-inverse_mix_polynomial = All-4 (λ x. x < 256) 14 9 13 11 (omega arith) (omega arith) (omega arith) (omega arith)
+
+pub AreBytes-column_product : (m : List ℕ) (a b c d : ℕ) → AreBytes m → a < 256 → b < 256 → c < 256 → d < 256
+    → AreBytes (column_product m (a ∷ b ∷ c ∷ d ∷ []))
+unfolding column_product
+AreBytes-column_product [] a b c d hm ha hb hc hd = AreBytes-4 0 0 0 0 (omega arith) (omega arith) (omega arith) (omega arith)
+AreBytes-column_product (k ∷ m) a b c d hm ha hb hc hd =
+    let Q : ℕ → Type 0 = λ x. x < 256 in
+    AreBytes-add (map (product k) (a ∷ b ∷ c ∷ d ∷ [])) (column_product m (d ∷ a ∷ b ∷ c ∷ [])) (AreBytes-product k (a ∷ b ∷ c ∷ d ∷ []) (All-head Q k m hm) (AreBytes-4 a b c d ha hb hc hd))
+    (AreBytes-column_product m d a b c (All-tail Q k m hm) hd ha hb hc)
+
+mix_append : (m x y : List ℕ) → length x ≡ 4 → mix m (x ++ y) ≡ column_product m x ++ mix m y
+unfolding mix
+mix_append m x y = at_four (λ x. mix m (x ++ y) ≡ column_product m x ++ mix m y) (λ a b c d. refl) x
+
+-- a list of q columns is a list of bytes, and m undoes n on each
+module _ (m : List ℕ) where
+  pub length-mix : (q : ℕ) (s : List ℕ) → length s ≡ 4 * q → length (mix m s) ≡ 4 * q
+  unfolding mix
+  length-mix q [] h = h
+  length-mix q (a ∷ []) h = absurd (omega arith)
+  length-mix q (a ∷ b ∷ []) h = absurd (omega arith)
+  length-mix q (a ∷ b ∷ c ∷ []) h = absurd (omega arith)
+  length-mix zero (a ∷ b ∷ c ∷ d ∷ s) h = absurd (omega arith)
+  length-mix (suc q) (a ∷ b ∷ c ∷ d ∷ s) h =
+      let rest : length s ≡ 4 * q = omega arith in
+      omega (arith, length-append (column_product m (a ∷ b ∷ c ∷ d ∷ [])) (mix m s), length-column_product_4 m a b c d, length-mix q s rest)
+
+  pub AreBytes-mix : (q : ℕ) (s : List ℕ) → length s ≡ 4 * q → AreBytes m → AreBytes s → AreBytes (mix m s)
+  unfolding mix
+  AreBytes-mix q [] h hm hs = hs
+  AreBytes-mix q (a ∷ []) h hm hs = absurd (omega arith)
+  AreBytes-mix q (a ∷ b ∷ []) h hm hs = absurd (omega arith)
+  AreBytes-mix q (a ∷ b ∷ c ∷ []) h hm hs = absurd (omega arith)
+  AreBytes-mix zero (a ∷ b ∷ c ∷ d ∷ s) h hm hs = absurd (omega arith)
+  AreBytes-mix (suc q) (a ∷ b ∷ c ∷ d ∷ s) h hm hs =
+      let P : ℕ → Type 0 = λ x. x < 256 in
+      let rest : length s ≡ 4 * q = omega arith in
+      let h1 = All-tail P a (b ∷ c ∷ d ∷ s) hs in
+      let h2 = All-tail P b (c ∷ d ∷ s) h1 in
+      let h3 = All-tail P c (d ∷ s) h2 in
+      All-append P (column_product m (a ∷ b ∷ c ∷ d ∷ [])) (mix m s)
+      (AreBytes-column_product m a b c d hm (All-head P a (b ∷ c ∷ d ∷ s) hs) (All-head P b (c ∷ d ∷ s) h1) (All-head P c (d ∷ s) h2) (All-head P d s h3))
+      (AreBytes-mix q s rest hm (All-tail P d s h3))
+
+mix_undone : (n m : List ℕ) → holds_below 256 (undoes n m) ≡ true → (q : ℕ) (s : List ℕ) → length s ≡ 4 * q → AreBytes s → mix n (mix m s) ≡ s
+unfolding mix
+mix_undone n m each q [] h hs = refl
+mix_undone n m each q (a ∷ []) h hs = absurd (omega arith)
+mix_undone n m each q (a ∷ b ∷ []) h hs = absurd (omega arith)
+mix_undone n m each q (a ∷ b ∷ c ∷ []) h hs = absurd (omega arith)
+mix_undone n m each zero (a ∷ b ∷ c ∷ d ∷ s) h hs = absurd (omega arith)
+mix_undone n m each (suc q) (a ∷ b ∷ c ∷ d ∷ s) h hs =
+    let P : ℕ → Type 0 = λ x. x < 256 in
+    let rest : length s ≡ 4 * q = omega arith in
+    let h1 = All-tail P a (b ∷ c ∷ d ∷ s) hs in
+    let h2 = All-tail P b (c ∷ d ∷ s) h1 in
+    let h3 = All-tail P c (d ∷ s) h2 in
+    mix_append n (column_product m (a ∷ b ∷ c ∷ d ∷ [])) (mix m s) (length-column_product_4 m a b c d)
+    ∙ ap₂ (λ (x y : List ℕ). x ++ y)
+    (undone_four n m each a b c d (All-head P a (b ∷ c ∷ d ∷ s) hs) (All-head P b (c ∷ d ∷ s) h1) (All-head P c (d ∷ s) h2) (All-head P d s h3))
+    (mix_undone n m each q s rest (All-tail P d s h3))
+
+pub inverse_mix-mix : (q : ℕ) (s : List ℕ) → length s ≡ 4 * q → AreBytes s → mix inverse_mix_polynomial (mix mix_polynomial s) ≡ s
+inverse_mix-mix = mix_undone inverse_mix_polynomial mix_polynomial inverse_mix_polynomial_undoes
+
+pub mix-inverse_mix : (q : ℕ) (s : List ℕ) → length s ≡ 4 * q → AreBytes s → mix mix_polynomial (mix inverse_mix_polynomial s) ≡ s
+mix-inverse_mix = mix_undone mix_polynomial inverse_mix_polynomial mix_polynomial_undoes

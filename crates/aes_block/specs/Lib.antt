@@ -1,0 +1,4 @@
+pub mod Field
+pub mod Block
+pub mod Words
+pub mod Laws

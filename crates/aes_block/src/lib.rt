@@ -1,0 +1,104 @@
+//! AES-128 (FIPS 197): the round keys of a key, and one block of 16 bytes encrypted or decrypted in place.
+//!
+//! The code works on columns as words of 32 bits, with tables; the contracts speak of FIPS 197's mathematics alone
+//! (`specs/Field.antt`, `specs/Block.antt`). Nothing is claimed of the cipher's strength, nor of constant time: the
+//! tables are looked up at places that depend on the key and the block.
+#![tactic(auto)]
+
+ghost use Rattle.std.specs.Prelude.{◌≡◌, ◌+◌, ◌<◌, ℕ, List};
+ghost use Rattle.aes_block.specs.Block.{add, round_key, encrypt, decrypt};
+ghost use Rattle.aes_block.specs.Words.{AreWordsOf};
+
+use rounds::{
+    forward_round, inverse_mixed_words, inverse_round, last_round, loaded, next_words, stored,
+};
+use std::marker::Model;
+
+pub mod laws;
+mod rounds;
+pub mod tables;
+#[cfg(test)]
+mod tests;
+
+/// A key of 16 bytes, ready for use: the 44 words of its round keys (FIPS 197, section 5.2).
+#[derive(Clone, Copy)]
+pub struct Keys {
+    words: [u32; 44],
+}
+
+// A contract sees the key alone.
+impl Model for Keys {
+    ghost use Rattle.std.specs.Prelude.{◌≡◌, ℕ, List};
+    ghost use Rattle.std.proofs.Common.{sym};
+    ghost use Rattle.aes_block.specs.Words.{first_key, round_words, AreExpanded};
+
+    ghost Value = { List ℕ };
+
+    ghost view = { λ k. first_key k.words };
+
+    ghost invariant = { λ k. AreExpanded k.words };
+
+    ghost inverse = { λ key. record { words = round_words 11 key } };
+
+    ghost inverse_ok = { λ k h. λ i. record { words = sym h.whole i } };
+}
+
+impl Keys {
+    /// Makes the round keys of a key.
+    pub fn new(key: &[u8; 16]) -> Keys
+        ensures { result ≡ key.now }
+    {
+        let mut words = [0; 44];
+        let mut last = loaded(key);
+        words[..4].copy_from_slice(&last);
+        for n in 0..10 {
+            last = next_words(last, n);
+            words[4 * n + 4..4 * n + 8].copy_from_slice(&last);
+        }
+        Keys { words }
+    }
+
+    // The words of a block and round key n, added.
+    fn add_round_key(&self, words: [u32; 4], n: usize) -> [u32; 4]
+        requires { n < 11 }
+        ensures { (b : List ℕ) → AreWordsOf words b → AreWordsOf result (add b (round_key self.now n)) }
+    {
+        [
+            words[0] ^ self.words[4 * n],
+            words[1] ^ self.words[4 * n + 1],
+            words[2] ^ self.words[4 * n + 2],
+            words[3] ^ self.words[4 * n + 3],
+        ]
+    }
+
+    /// Encrypts a block in place (FIPS 197, section 5.1).
+    pub fn encrypt(&self, block: &mut [u8; 16])
+        ensures { block.new ≡ encrypt self.now block.old }
+    {
+        let mut state = self.add_round_key(loaded(block), 0);
+        for n in 0..9 {
+            state = self.add_round_key(forward_round(state), n + 1);
+        }
+        *block = stored(self.add_round_key(last_round(state), 10));
+    }
+
+    /// Decrypts a block in place (FIPS 197, section 5.3).
+    pub fn decrypt(&self, block: &mut [u8; 16])
+        ensures { block.new ≡ decrypt self.now block.old }
+    {
+        let mut state = self.add_round_key(loaded(block), 10);
+        for n in 0..9 {
+            state = inverse_mixed_words(self.add_round_key(inverse_round(state), 9 - n));
+        }
+        *block = stored(self.add_round_key(inverse_round(state), 0));
+    }
+}
+
+/// Adds a block to another in place, element by element: the exclusive or of their bytes.
+pub fn add_block(block: &mut [u8; 16], other: &[u8; 16])
+    ensures { block.new ≡ add block.old other.now }
+{
+    for i in 0..16 {
+        block[i] ^= other[i];
+    }
+}
