@@ -1,5 +1,5 @@
 -- Addresses and their texts.
-use Rattle.std.proofs.Common.{◌≡◌, ℕ, zero, suc, ◌+◌, ◌*◌, ◌/◌, ◌%◌, ◌^◌, ◌<◌, ◌≤◌, true, cond, ltb, ◌⊎◌, List, [], ◌∷◌, length, get_or, take, map, Option, Some, None, Result, Ok, Err, MatchResult, refl, sym, ap, subst, ◌∙◌, arith, inl, inr}
+use Rattle.std.proofs.Common.{◌≡◌, ℕ, zero, suc, ◌+◌, ◌*◌, ◌/◌, ◌%◌, ◌^◌, ◌<◌, ◌≤◌, ◌==◌, true, cond, ltb, ◌⊎◌, List, [], ◌∷◌, length, get_or, take, map, Option, Some, None, Result, Ok, Err, MatchResult, refl, sym, ap, subst, ◌∙◌, arith, inl, inr}
 use Rattle.std.specs.Char.{to_ascii_lowercase}
 use Rattle.std.specs.Str.{str_to_ascii_lowercase}
 use Rattle.std.proofs.lemmas.Bool.Decides.{nat_tests}
@@ -15,7 +15,7 @@ use Rattle.hex.proofs.HexLemmas.{decode_of-ok, decode_of-err, decode_of-same, de
 use Rattle.meter_address.specs.declared.address.Address.{Address}
 use Rattle.meter_address.specs.declared.address.AddressFault.{AddressFault}
 use Rattle.meter_address.specs.declared.address.AddressFault.TheVariants as faults
-use Rattle.meter_address.specs.Address.{bytes_of, text_of, Spells, IsFirstOther, IsFault}
+use Rattle.meter_address.specs.Address.{bytes_of, text_of, address_of, from_decoded, Spells, IsFirstOther, IsFault}
 
 pub length-bytes_of : (a : Address) → length (bytes_of a) ≡ 8
 unfolding bytes_of
@@ -123,20 +123,32 @@ decoded text out r len given ok = sym (decode_sized-twice text 8 len) ∙ is_rea
     is_read (Ok bytes) h = ap Ok (sym h.1)
     is_read (Err e) h = absurd cc
 
+pub not_decoded : (text out : List ℕ) (r : Result Unit FromHexError) (e : FromHexError) → length text ≡ 16
+    → MatchResult (decode_sized text 8) (λ bytes. (r ≡ Ok tt) × (out ≡ bytes)) (λ e. r ≡ Err e) → r ≡ Err e
+    → decode_of text ≡ Err e
+not_decoded text out r e len given err = sym (decode_sized-twice text 8 len) ∙ is_read (decode_sized text 8) given
+  where
+    is_read : (d : Result (List ℕ) FromHexError) → MatchResult d (λ bytes. (r ≡ Ok tt) × (out ≡ bytes)) (λ e. r ≡ Err e) → d ≡ Err e
+    is_read (Ok bytes) h = absurd cc
+    is_read (Err d) h = let same : d ≡ e = cc in ap Err same
+
 -- a text of sixteen bytes that was refused
 pub refused : (text out : List ℕ) (r : Result Unit FromHexError) (e : FromHexError) → length text ≡ 16
     → MatchResult (decode_sized text 8) (λ bytes. (r ≡ Ok tt) × (out ≡ bytes)) (λ e. r ≡ Err e) → r ≡ Err e
     → (place : ℕ) × (e ≡ InvalidHexCharacter (get_or text place 0) place) × IsFirstOther text place
 refused text out r e len given err =
-    let found : decode_of text ≡ Err e = sym (decode_sized-twice text 8 len) ∙ is_read (decode_sized text 8) given in
-    elim (decode_of-err text e found) [
+    elim (decode_of-err text e (not_decoded text out r e len given err)) [
       | inl odd ↦ absurd (omega (arith, odd.0))
       | inr other ↦ let same : 0 + other.0 ≡ other.0 = omega arith in (other.0, rw same at other.1, record { within = other.2; other = other.3; before = other.4 })
     ]
+
+-- the address of a text that decodes, or doesn't
+pub address_of_decoded : (text : List ℕ) (d : Result (List ℕ) FromHexError) → length text ≡ 16 → decode_of text ≡ d → address_of text ≡ from_decoded d
+unfolding address_of
+address_of_decoded text d len is = ap (λ b. cond b (from_decoded (decode_of text)) None) (sixteen (length text) len) ∙ ap from_decoded is
   where
-    is_read : (d : Result (List ℕ) FromHexError) → MatchResult d (λ bytes. (r ≡ Ok tt) × (out ≡ bytes)) (λ e. r ≡ Err e) → d ≡ Err e
-    is_read (Ok bytes) h = absurd cc
-    is_read (Err d) h = let same : d ≡ e = cc in ap Err same
+    sixteen : (n : ℕ) → n ≡ 16 → (n == 16) ≡ true
+    sixteen n h = grind (arith, nat_tests)
 
 -- ---- the case of the letters
 

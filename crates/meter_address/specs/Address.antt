@@ -1,8 +1,9 @@
 -- The address of a meter, and its text.
-use Rattle.std.specs.Prelude.{ℕ, ◌≡◌, ◌≢◌, ◌<◌, List, length, take, slice_index, false, Ok}
+use Rattle.std.specs.Prelude.{ℕ, ◌≡◌, ◌≢◌, ◌<◌, ◌==◌, List, length, take, slice_index, false, Option, Some, None, Result, Ok, Err, if◌then◌else◌}
 use Rattle.std.specs.List.{AllPass}
-use Rattle.std.specs.Int.{w64, to_be_bytes}
+use Rattle.std.specs.Int.{w64, to_be_bytes, from_be_bytes}
 use Rattle.hex.specs.Hex.{decode_of, encode_lower, is_hex_digit}
+use Rattle.hex.specs.declared.error.FromHexError.{FromHexError}
 use Rattle.meter_address.specs.declared.address.Address.{Address}
 use Rattle.meter_address.specs.declared.address.AddressFault.{AddressFault}
 use Rattle.meter_address.specs.declared.address.AddressFault.TheVariants as faults
@@ -18,6 +19,14 @@ text_of a = encode_lower (bytes_of a)
 -- the text spells the address: sixteen hexadecimal digits of either case, two for each of its bytes
 abbrev pub Spells : List ℕ → Address → Type 0
 Spells text a = decode_of text ≡ Ok (bytes_of a)
+
+abbrev pub from_decoded : Result (List ℕ) FromHexError → Option Address
+from_decoded (Ok bytes) = Some (record { 0 = from_be_bytes w64 bytes })
+from_decoded (Err e) = None
+
+-- the address that a text spells, if it spells one
+unfoldable pub address_of : List ℕ → Option Address
+address_of text = if length text == 16 then from_decoded (decode_of text) else None
 
 -- the first byte of the text that is no hexadecimal digit stands at this place
 pub record IsFirstOther (text : List ℕ) (place : ℕ) : Type 0 where

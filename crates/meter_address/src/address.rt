@@ -21,7 +21,8 @@ pub enum AddressFault {
 }
 
 impl Address {
-    ghost use Rattle.meter_address.specs.Address.{bytes_of, text_of, Spells, IsFault};
+    ghost use Rattle.meter_address.specs.Address.{bytes_of, text_of, address_of, Spells, IsFault};
+    ghost use Rattle.std.specs.Result.{result_ok};
     ghost use Rattle.meter_address.specs.Letters.{manufacturer_of, AreLetters};
 
     /// The address with these bytes.
@@ -66,6 +67,7 @@ impl Address {
         ensures found { IfOk result (λ a. Spells text.now a) }
         ensures only { (a : Address) → a.0 < 2 ^ 64 → Spells text.now a → result ≡ Ok a }
         ensures fault { (f : AddressFault) → (result ≡ Err f) ↔ IsFault text.now f }
+        ensures exact { result_ok result ≡ address_of text.now }
     {
         if text.len() != 16 {
             return Err(AddressFault::Length(text.len()));

@@ -1,5 +1,9 @@
-use Rattle.std.proofs.Common.{◌∙◌, Ok, ap, sym, refl, arith}
-use Rattle.meter_address.proofs.Texts.{fault_is, no_fault, read_is, decoded, refused, spelt-len}
+use Rattle.meter_address.specs.declared.address.Address.{Address}
+use Rattle.std.proofs.Common.{ℕ, ◌∙◌, ◌==◌, ◌≡◌, false, cond, length, Ok, None, Some, ap, sym, refl, arith}
+use Rattle.std.proofs.lemmas.Bool.Decides.{nat_tests}
+use Rattle.hex.specs.Hex.{decode_of}
+use Rattle.meter_address.specs.Address.{address_of, from_decoded}
+use Rattle.meter_address.proofs.Texts.{address_of_decoded, not_decoded, fault_is, no_fault, read_is, decoded, refused, spelt-len}
 use Rattle.meter_address.proofs.address.Address.read_text.Goals as goal
 
 pub returns-then-text-ne16-clause-only : goal.returns-then-text-ne16-clause-only
@@ -26,3 +30,17 @@ returns-in-Ok-clause-only c = λ a fits h.
 pub returns-in-Ok-clause-fault : goal.returns-in-Ok-clause-fault
 returns-in-Ok-clause-fault c = λ f.
     no_fault c.args.text.now c.from_bytes.result f (decoded c.args.text.now _ _ c.if-text-ne16.false c.in-Ok.ensures.value refl ∙ ap Ok (sym c.from_bytes.ensures.again))
+
+pub returns-then-text-ne16-clause-exact : goal.returns-then-text-ne16-clause-exact
+unfolding address_of
+returns-then-text-ne16-clause-exact c =
+    let other : (length c.args.text.now == 16) ≡ false = let h = c.if-text-ne16.true in grind (arith, nat_tests) in
+    ap (λ b. cond b (from_decoded (decode_of c.args.text.now)) None) (sym other)
+
+pub returns-in-Err-clause-exact : goal.returns-in-Err-clause-exact
+returns-in-Err-clause-exact c =
+    sym (address_of_decoded c.args.text.now _ c.if-text-ne16.false (not_decoded c.args.text.now _ _ c.in-Err.refusal c.if-text-ne16.false c.in-Err.ensures.value refl))
+
+pub returns-in-Ok-clause-exact : goal.returns-in-Ok-clause-exact
+returns-in-Ok-clause-exact c =
+    ap (λ (n : ℕ). let made : Address = record { 0 = n } in Some made) c.from_bytes.ensures.value ∙ sym (address_of_decoded c.args.text.now _ c.if-text-ne16.false (decoded c.args.text.now _ _ c.if-text-ne16.false c.in-Ok.ensures.value refl))
