@@ -1,9 +1,6 @@
 //! What is commissioned of a meter.
-ghost use Rattle.std.specs.Prelude.{◌≤◌};
-ghost use Rattle.std.specs.Option.{ForSome};
-ghost use Rattle.meter_address.specs.Commission.{most_last};
-
 use crate::address::Address;
+use std::marker::Model;
 
 /// The security mode of a meter's messages (OMS Volume 2).
 #[derive(Clone, Copy, Debug, PartialEq, Eq)]
@@ -29,5 +26,18 @@ pub struct Commission {
     pub down: u32,
     /// The last id of a command.
     pub ids: u32,
-    ghost last_in_range: { ForSome last (λ n. n ≤ most_last mode) },
+}
+
+impl Model for Commission {
+    ghost use Rattle.std.specs.Prelude.{◌≤◌};
+    ghost use Rattle.std.specs.Option.{ForSome};
+    ghost use Rattle.meter_address.specs.Commission.{Commissioned, most_last};
+
+    ghost Value = { Commissioned };
+
+    ghost view = { λ c. record { address = c.address; mode = c.mode; key = c.key; last = c.last; down = c.down; ids = c.ids } };
+
+    ghost invariant = { λ c. ForSome c.last (λ n. n ≤ most_last c.mode) };
+
+    ghost inverse = { λ v. record { address = v.address; mode = v.mode; key = v.key; last = v.last; down = v.down; ids = v.ids } };
 }
