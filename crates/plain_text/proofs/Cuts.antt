@@ -5,8 +5,8 @@ use Rattle.std.specs.List.{slice_split, onto_first, position_or_len, All}
 use Rattle.std.specs.Str.Lines.{lines, lines_of_parts, strip_carriage_return}
 use Rattle.std.proofs.lemmas.Bool.Decides.{nat_tests}
 use Rattle.std.proofs.lemmas.List.{drop-drop}
-use Rattle.std.proofs.lemmas.List.Sums.{prefix_len_passes}
-use Rattle.std.proofs.lemmas.List.Splits.{slice_split_none, slice_split_first}
+use Rattle.std.proofs.lemmas.List.Sums.{prefix_len_passes, count_by-le-length}
+use Rattle.std.proofs.lemmas.List.Splits.{slice_split_none, slice_split_first, length-slice_split}
 
 not_true : (b : Bool) → not b ≡ true → b ≡ false
 not_true true h = absurd cc
@@ -60,3 +60,17 @@ next_part separator text part rest after place found front back next =
     let split : List ℕ → List (List ℕ) = slice_split (λ b. b == separator) in
     cut_at (λ b. b == separator) text place found 0 ∙ ap (λ x. x ∷ split (drop 1 (drop place text))) (sym front)
     ∙ ap (λ x. part ∷ split (drop 1 x)) (sym back) ∙ ap (λ x. part ∷ split x) (sym next)
+
+-- there are no more lines than parts
+parts-le : (parts : List (List ℕ)) → length (lines_of_parts parts) ≤ length parts
+parts-le [] = omega arith
+parts-le (x ∷ []) = by_test (length x == 0)
+  where
+    by_test : (b : Bool) → length (cond b [] (x ∷ [])) ≤ 1
+    by_test true = omega arith
+    by_test false = omega arith
+parts-le (x ∷ y ∷ more) = omega (arith, parts-le (y ∷ more))
+
+pub length-lines : (text : List ℕ) → length (lines text) ≤ length text + 1
+length-lines text =
+    omega (arith, parts-le (slice_split (λ b. b == 10) text), length-slice_split (λ b. b == 10) text, count_by-le-length (λ b. b == 10) text)

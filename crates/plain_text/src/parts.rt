@@ -87,12 +87,13 @@ impl<'a> Model for TextLines<'a> {
 }
 
 impl<'a> TextLines<'a> {
-    ghost use Rattle.std.specs.Prelude.{◌≡◌};
+    ghost use Rattle.std.specs.Prelude.{◌≡◌, ◌+◌, ◌≤◌, length};
     ghost use Rattle.std.specs.Str.Lines.{lines};
 
     /// The lines of a text.
     pub fn of_text(text: &'a [u8]) -> Self
-        ensures { result ≡ lines text.now }
+        ensures lines { result ≡ lines text.now }
+        ensures few { length result ≤ length text.now + 1 }
     {
         TextLines { rest: text }
     }

@@ -1,0 +1,39 @@
+-- The lines of a roster that count, line by line.
+use Rattle.std.proofs.Common.{◌≡◌, ℕ, ◌+◌, ◌<◌, ◌≤◌, ◌==◌, List, [], ◌∷◌, ◌++◌, Bool, true, false, not, cond, nat_le, length, Result, Ok, Err, refl, ap, sym, ◌∙◌, arith}
+use Rattle.std.specs.Prelude.{filter}
+use Rattle.std.specs.List.{enumerate_from, list_any}
+use Rattle.std.proofs.lemmas.Bool.Decides.{nat_tests}
+use Rattle.meter_address.specs.Commission.{Commissioned}
+use Rattle.roster_file.specs.declared.reader.TheConstants.{MOST_METERS}
+use Rattle.roster_file.specs.declared.roster.LineCause.{LineCause}
+use Rattle.roster_file.specs.declared.roster.LineCause.TheVariants as causes
+use Rattle.roster_file.specs.declared.roster.RosterFault.{RosterFault}
+use Rattle.roster_file.specs.Roster.{entries_from, is_passed_over, meter_of, enlisted, enlisted_from, meters_of, at_line, ◌>>=◌}
+
+pub passed : (n : ℕ) (text : List ℕ) (texts : List (List ℕ)) → is_passed_over text ≡ true → entries_from n (text ∷ texts) ≡ entries_from (n + 1) texts
+unfolding entries_from
+passed n text texts h = let rest = filter (λ e. not (is_passed_over e.1)) (enumerate_from (n + 1) texts) in ap (λ b. cond (not b) ((n, text) ∷ rest) rest) h
+
+pub counted : (n : ℕ) (text : List ℕ) (texts : List (List ℕ)) → is_passed_over text ≡ false → entries_from n (text ∷ texts) ≡ (n, text) ∷ entries_from (n + 1) texts
+unfolding entries_from
+counted n text texts h = let rest = filter (λ e. not (is_passed_over e.1)) (enumerate_from (n + 1) texts) in ap (λ b. cond (not b) ((n, text) ∷ rest) rest) h
+
+pub none_left : (n : ℕ) → entries_from n [] ≡ []
+unfolding entries_from
+none_left n = refl
+
+pub one_fewer : (text : List ℕ) (lines texts : List (List ℕ)) → lines ≡ text ∷ texts → length lines ≡ length texts + 1
+one_fewer text lines texts h = ap length h ∙ (omega arith)
+
+-- meters, line by line
+pub meters_next : (meters more : List Commissioned) (e : ℕ × List ℕ) (entries : List (ℕ × List ℕ)) → enlisted_from meters e ≡ Ok more → meters_of meters (e ∷ entries) ≡ meters_of more entries
+unfolding meters_of
+meters_next meters more e entries h = ap (λ r. r >>= λ next. meters_of next entries) h
+
+pub meters_fault : (meters : List Commissioned) (fault : RosterFault) (e : ℕ × List ℕ) (entries : List (ℕ × List ℕ)) → enlisted_from meters e ≡ Err fault → meters_of meters (e ∷ entries) ≡ Err fault
+unfolding meters_of
+meters_fault meters fault e entries h = ap (λ r. r >>= λ next. meters_of next entries) h
+
+pub meters_end : (meters : List Commissioned) → meters_of meters [] ≡ Ok meters
+unfolding meters_of
+meters_end meters = refl

@@ -1,0 +1,136 @@
+-- The grammar of the roster, with its first fault.
+use Rattle.std.specs.Prelude.{ℕ, ◌==◌, ◌+◌, ◌-◌, ◌^◌, ◌||◌, not, nat_eq, nat_le, nat_lt, Bool, List, [], ◌∷◌, ◌++◌, length, slice_index, filter, codes, Option, Some, None, option_map, Result, Ok, Err, if◌then◌else◌}
+use Rattle.std.specs.Option.{ok_or}
+use Rattle.std.specs.Result.{result_ok}
+use Rattle.std.specs.List.{enumerate_from, list_any}
+use Rattle.std.specs.Cmp.Lexicographic.{pointwise}
+use Rattle.std.specs.Str.Lines.{lines}
+use Rattle.hex.specs.Hex.{decode_of}
+use Rattle.plain_text.specs.Numbers.{number_of}
+use Rattle.plain_text.specs.Parts.{fields_of}
+use Rattle.meter_address.specs.declared.address.Address.{Address}
+use Rattle.meter_address.specs.declared.commission.Mode.{Mode}
+use Rattle.meter_address.specs.declared.commission.Mode.TheVariants.{Five, Seven}
+use Rattle.meter_address.specs.Address.{address_of}
+use Rattle.meter_address.specs.Commission.{Commissioned, most_last}
+use Rattle.roster_file.specs.declared.roster.LineCause.{LineCause}
+use Rattle.roster_file.specs.declared.roster.LineCause.TheVariants as causes
+use Rattle.roster_file.specs.declared.roster.RosterFault.{RosterFault}
+use Rattle.roster_file.specs.declared.roster.RosterFault.TheVariants.{Line}
+use Rattle.roster_file.specs.declared.reader.TheConstants.{MOST_BYTES, MOST_METERS}
+
+-- the second step, if the first gave a value
+infixl 10 ◌>>=◌
+abbrev pub ◌>>=◌ : {A B E : Type 0} → Result A E → (A → Result B E) → Result B E
+Ok x >>= f = f x
+Err e >>= f = Err e
+
+-- the collector's own address and the meters
+pub record Enrolled : Type 0 where
+  pub own : Address
+  pub meters : List Commissioned
+
+-- two texts are the same
+abbrev pub is_text : List ℕ → List ℕ → Bool
+is_text text other = pointwise nat_eq text other
+
+-- ---- a field
+
+abbrev pub mode_of : List ℕ → Option Mode
+mode_of text = if is_text text (codes "5") then Some Five else if is_text text (codes "7") then Some Seven else None
+
+-- 32 hexadecimal digits of either case
+abbrev pub key_of : List ℕ → Option (List ℕ)
+key_of text = if length text == 32 then result_ok (decode_of text) else None
+
+-- a dash for none, or a number of the mode's range
+abbrev pub last_of : Mode → List ℕ → Option (Option ℕ)
+last_of mode text = if is_text text (codes "-") then Some None else option_map Some (number_of (most_last mode) text)
+
+abbrev pub counter_of : List ℕ → Option ℕ
+counter_of text = number_of (2 ^ 32 - 1) text
+
+-- ---- a line
+
+-- the six fields behind `meter`
+unfoldable pub meter_of_fields : List (List ℕ) → Result Commissioned LineCause
+meter_of_fields (a ∷ m ∷ k ∷ l ∷ d ∷ i ∷ []) = do
+  address ← ok_or (address_of a) causes.Address
+  mode ← ok_or (mode_of m) causes.Mode
+  key ← ok_or (key_of k) causes.Key
+  last ← ok_or (last_of mode l) causes.Last
+  down ← ok_or (counter_of d) causes.Down
+  ids ← ok_or (counter_of i) causes.Ids
+  Ok (record { address = address; mode = mode; key = key; last = last; down = down; ids = ids })
+meter_of_fields fields = Err causes.Fields
+
+abbrev pub meter_of_kind : List (List ℕ) → Result Commissioned LineCause
+meter_of_kind [] = Err causes.Kind
+meter_of_kind (kind ∷ fields) = if is_text kind (codes "meter") then meter_of_fields fields else Err causes.Kind
+
+-- what a meter's line says by itself
+abbrev pub meter_of : List ℕ → Result Commissioned LineCause
+meter_of line = meter_of_kind (fields_of line)
+
+abbrev pub own_of_fields : List (List ℕ) → Result Address LineCause
+own_of_fields (kind ∷ a ∷ []) = if is_text kind (codes "own") then ok_or (address_of a) causes.Own else Err causes.Own
+own_of_fields fields = Err causes.Own
+
+-- what the own line says
+abbrev pub own_of : List ℕ → Result Address LineCause
+own_of line = own_of_fields (fields_of line)
+
+-- the meters with one more: its address is new, and there is room
+abbrev pub enlisted : List Commissioned → Commissioned → Result (List Commissioned) LineCause
+enlisted meters c =
+    if list_any (λ m. m.address.0 == c.address.0) meters then Err causes.Same
+    else if nat_le MOST_METERS (length meters) then Err causes.TooMany
+    else Ok (meters ++ c ∷ [])
+
+-- ---- a text
+
+-- empty lines and comments
+abbrev pub is_passed_over : List ℕ → Bool
+is_passed_over text = length text == 0 || slice_index text 0 == 35
+
+-- the lines that count, each with its number; the first of the lines has the number n
+unfoldable pub entries_from : ℕ → List (List ℕ) → List (ℕ × List ℕ)
+entries_from n texts = filter (λ e. not (is_passed_over e.1)) (enumerate_from n texts)
+
+-- what is left of a text: its lines that count, and the number after that of its last line
+pub record Unread : Type 0 where
+  pub entries : List (ℕ × List ℕ)
+  pub end : ℕ
+
+abbrev pub at_line : {A : Type 0} → ℕ → Result A LineCause → Result A RosterFault
+at_line n (Ok x) = Ok x
+at_line n (Err cause) = Err (Line n cause)
+
+-- the meters with that of one more line
+abbrev pub enlisted_from : List Commissioned → (ℕ × List ℕ) → Result (List Commissioned) RosterFault
+enlisted_from meters e = at_line e.0 (meter_of e.1 >>= enlisted meters)
+
+-- the meters of lines, after those that stand already
+unfoldable pub meters_of : List Commissioned → List (ℕ × List ℕ) → Result (List Commissioned) RosterFault
+meters_of meters [] = Ok meters
+meters_of meters (e ∷ entries) = enlisted_from meters e >>= λ more. meters_of more entries
+
+abbrev pub with_own : Address → Result (List Commissioned) RosterFault → Result Enrolled RosterFault
+with_own own (Ok meters) = Ok (record { own = own; meters = meters })
+with_own own (Err fault) = Err fault
+
+-- the own line and the meters, where `end` is the number after that of the last line
+unfoldable pub owned : List (ℕ × List ℕ) → ℕ → Result Enrolled RosterFault
+owned [] end = Err (Line end causes.Missing)
+owned (e ∷ entries) end = at_line e.0 (own_of e.1) >>= λ own. with_own own (meters_of [] entries)
+
+-- the head, and what follows it
+unfoldable pub headed : List (ℕ × List ℕ) → ℕ → Result Enrolled RosterFault
+headed [] end = Err (Line end causes.Missing)
+headed (e ∷ entries) end = if is_text e.1 (codes "wmbus-roster 1") then owned entries end else Err (Line e.0 causes.Head)
+
+-- the roster of a text, or its first fault
+unfoldable pub roster_of : List ℕ → Result Enrolled RosterFault
+roster_of bytes =
+    if nat_lt MOST_BYTES (length bytes) then Err (Line 0 causes.TooLong)
+    else headed (entries_from 1 (lines bytes)) (length (lines bytes) + 1)
