@@ -1,7 +1,7 @@
 -- A list that is cut at the first element which passes a test.
-use Rattle.std.proofs.Common.{◌≡◌, ℕ, ◌<◌, ◌≤◌, ◌+◌, ◌==◌, List, [], ◌∷◌, length, take, drop, get_or, Bool, true, false, not, cond, Option, Some, None, refl, ap, sym, ◌∙◌, arith, nat_lt}
+use Rattle.std.proofs.Common.{◌≡◌, ℕ, suc, ◌<◌, ◌≤◌, ◌+◌, ◌==◌, List, [], ◌∷◌, length, take, drop, get_or, Bool, true, false, not, cond, Option, Some, None, refl, ap, sym, ◌∙◌, arith, nat_lt}
 use Rattle.std.specs.Prelude.{position}
-use Rattle.std.specs.List.{slice_split, onto_first, position_or_len, All}
+use Rattle.std.specs.List.{slice_split, onto_first, position_or_len, All, AllByRecursion}
 use Rattle.std.specs.Str.Lines.{lines, lines_of_parts, strip_carriage_return}
 use Rattle.std.proofs.lemmas.Bool.Decides.{nat_tests}
 use Rattle.std.proofs.lemmas.List.{drop-drop}
@@ -74,3 +74,24 @@ parts-le (x ∷ y ∷ more) = omega (arith, parts-le (y ∷ more))
 pub length-lines : (text : List ℕ) → length (lines text) ≤ length text + 1
 length-lines text =
     omega (arith, parts-le (slice_split (λ b. b == 10) text), length-slice_split (λ b. b == 10) text, count_by-le-length (λ b. b == 10) text)
+
+-- no part is longer than the list that is cut
+abbrev IsWithin : {X : Type 0} → ℕ → List X → Type 0
+IsWithin n part = length part ≤ n
+
+wider : {X : Type 0} (n : ℕ) (parts : List (List X)) → AllByRecursion (IsWithin n) parts → AllByRecursion (IsWithin (suc n)) parts
+wider n [] all = tt
+wider n (part ∷ parts) all = (omega (arith, all.0), wider n parts all.1)
+
+onto-within : {X : Type 0} (x : X) (n : ℕ) (parts : List (List X)) → AllByRecursion (IsWithin n) parts → AllByRecursion (IsWithin (suc n)) (onto_first x parts)
+onto-within x n [] all = (omega arith, tt)
+onto-within x n (part ∷ parts) all = (omega (arith, all.0), wider n parts all.1)
+
+pub split-within : {X : Type 0} (p : X → Bool) (xs : List X) → AllByRecursion (λ part. length part ≤ length xs) (slice_split p xs)
+split-within p [] = (omega arith, tt)
+split-within p (x ∷ xs) = by_test (p x) (split-within p xs)
+  where
+    by_test : (b : Bool) → AllByRecursion (λ part. length part ≤ length xs) (slice_split p xs)
+        → AllByRecursion (λ part. length part ≤ length (x ∷ xs)) (cond b ([] ∷ slice_split p xs) (onto_first x (slice_split p xs)))
+    by_test true all = (omega arith, wider (length xs) (slice_split p xs) all)
+    by_test false all = onto-within x (length xs) (slice_split p xs) all

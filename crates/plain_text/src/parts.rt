@@ -43,12 +43,14 @@ impl<'a> Model for Fields<'a> {
 }
 
 impl<'a> Fields<'a> {
-    ghost use Rattle.std.specs.Prelude.{◌≡◌};
+    ghost use Rattle.std.specs.Prelude.{◌≡◌, ◌≤◌, length};
+    ghost use Rattle.std.specs.List.{AllByRecursion};
     ghost use Rattle.plain_text.specs.Parts.{fields_of};
 
     /// The fields of a line: one more than it has spaces, so that some may be empty.
     pub fn of_line(line: &'a [u8]) -> Self
-        ensures { result ≡ fields_of line.now }
+        ensures fields { result ≡ fields_of line.now }
+        ensures within { AllByRecursion (λ field. length field ≤ length line.now) result }
     {
         Fields { rest: Some(line) }
     }

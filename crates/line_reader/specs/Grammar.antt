@@ -1,0 +1,83 @@
+-- What one line says, or its first fault.
+use Rattle.std.specs.Prelude.{ℕ, ◌-◌, ◌^◌, ◌≤◌, ◌&&◌, nat_eq, nat_le, nat_lt, Bool, List, [], ◌∷◌, length, codes, Option, Some, None, Result, Ok, Err, if◌then◌else◌}
+use Rattle.std.specs.Option.{ok_or}
+use Rattle.std.specs.Result.{result_ok}
+use Rattle.std.specs.Cmp.Lexicographic.{pointwise}
+use Rattle.hex.specs.Hex.{decode_of}
+use Rattle.plain_text.specs.Numbers.{number_of}
+use Rattle.plain_text.specs.Parts.{fields_of}
+use Rattle.meter_address.specs.Address.{address_of}
+use Rattle.meter_address.specs.declared.payload.TheConstants.{PAYLOAD_MAX}
+use Rattle.line_reader.specs.declared.grammar.TheConstants.{LINE_MAX}
+use Rattle.line_reader.specs.declared.line.Line.{Line}
+use Rattle.line_reader.specs.declared.line.Line.TheVariants.{Frame, Tick, Put, Cancel}
+use Rattle.line_reader.specs.declared.line.LineFormat.{LineFormat}
+use Rattle.line_reader.specs.declared.line.LineFormat.TheVariants as formats
+use Rattle.line_reader.specs.declared.line.BadLine.{BadLine}
+use Rattle.line_reader.specs.declared.line.BadLine.TheVariants as bads
+
+-- the second step, if the first gave a value
+infixl 10 ◌>>=◌
+abbrev pub ◌>>=◌ : {A B : Type 0} → Result A BadLine → (A → Result B BadLine) → Result B BadLine
+Ok x >>= f = f x
+Err e >>= f = Err e
+
+-- an even number of hexadecimal digits of either case
+abbrev pub bytes_of : List ℕ → Option (List ℕ)
+bytes_of digits = result_ok (decode_of digits)
+
+-- a frame at a moment below 2^64
+unfoldable pub frame_line : LineFormat → List (List ℕ) → Result Line BadLine
+frame_line format (moment ∷ digits ∷ []) = do
+  at ← ok_or (number_of (2 ^ 64 - 1) moment) bads.Number
+  bytes ← ok_or (bytes_of digits) bads.Hex
+  Ok (Frame format at bytes)
+frame_line format fields = Err bads.Fields
+
+-- a tick for a meter
+unfoldable pub tick_line : List (List ℕ) → Result Line BadLine
+tick_line (text ∷ []) = ok_or (address_of text) bads.Address >>= λ address. Ok (Tick address)
+tick_line fields = Err bads.Fields
+
+-- a payload has 1 to 94 bytes
+abbrev pub payload_of : List ℕ → Result (List ℕ) BadLine
+payload_of bytes = if nat_le 1 (length bytes) && nat_le (length bytes) PAYLOAD_MAX then Ok bytes else Err (bads.Payload (length bytes))
+
+-- a command for a meter
+unfoldable pub put_line : List (List ℕ) → Result Line BadLine
+put_line (text ∷ digits ∷ []) = do
+  address ← ok_or (address_of text) bads.Address
+  bytes ← ok_or (bytes_of digits) bads.Hex
+  payload ← payload_of bytes
+  Ok (Put address payload)
+put_line fields = Err bads.Fields
+
+-- a command's id below 2^32, to be cancelled
+unfoldable pub cancel_line : List (List ℕ) → Result Line BadLine
+cancel_line (text ∷ number ∷ []) = do
+  id ← ok_or (number_of (2 ^ 32 - 1) number) bads.Number
+  address ← ok_or (address_of text) bads.Address
+  Ok (Cancel address id)
+cancel_line fields = Err bads.Fields
+
+abbrev pub is_word : List ℕ → List ℕ → Bool
+is_word text word = pointwise nat_eq text word
+
+-- the first field is one of five words
+unfoldable pub by_word : List (List ℕ) → Result Line BadLine
+by_word [] = Err bads.Word
+by_word (word ∷ fields) =
+    if is_word word (codes "A") then frame_line formats.A fields
+    else if is_word word (codes "B") then frame_line formats.B fields
+    else if is_word word (codes "T") then tick_line fields
+    else if is_word word (codes "Q") then put_line fields
+    else if is_word word (codes "X") then cancel_line fields
+    else Err bads.Word
+
+-- what a line says, or its first fault
+unfoldable pub line_of : List ℕ → Result Line BadLine
+line_of text = if nat_lt LINE_MAX (length text) then Err bads.TooLong else by_word (fields_of text)
+
+-- no field is longer than a line
+abbrev pub IsLineText : List ℕ → Type 0
+IsLineText text = length text ≤ LINE_MAX

@@ -1,0 +1,51 @@
+//! One line.
+use crate::frame::FrameBytes;
+use meter_address::{Address, Payload};
+
+/// The frame format in which a receiver heard a telegram (EN 13757-4).
+#[derive(Clone, Copy, Debug, PartialEq, Eq)]
+pub enum LineFormat {
+    /// Frame format A.
+    A,
+    /// Frame format B.
+    B,
+}
+
+/// What a line says.
+#[derive(Drop)]
+pub enum Line {
+    /// A frame, heard at this moment.
+    Frame {
+        /// Its format.
+        format: LineFormat,
+        /// The moment, in the receiver's own unit.
+        at: u64,
+        /// Its bytes, which may be no frame at all.
+        bytes: FrameBytes,
+    },
+    /// A tick for a meter.
+    Tick(Address),
+    /// A command to be queued for a meter.
+    Put(Address, Payload),
+    /// A meter's command, by its id, to be cancelled.
+    Cancel(Address, u32),
+}
+
+/// Why a line says nothing: the first of these that applies.
+#[derive(Clone, Copy, Debug, PartialEq, Eq)]
+pub enum BadLine {
+    /// It has more than 1,024 bytes.
+    TooLong,
+    /// Its first field is none of the five words.
+    Word,
+    /// It has another number of fields than its word asks for.
+    Fields,
+    /// The moment or the id is no plain decimal number of its range.
+    Number,
+    /// The address isn't sixteen hexadecimal digits.
+    Address,
+    /// The bytes aren't an even number of hexadecimal digits.
+    Hex,
+    /// The command's payload has this many bytes, which isn't 1 to 94.
+    Payload(usize),
+}
