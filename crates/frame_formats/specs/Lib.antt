@@ -1,0 +1,4 @@
+pub mod Crc
+pub mod Frames
+pub mod Decoding
+pub mod Laws

@@ -1,0 +1,16 @@
+//! Why bytes are no frame.
+
+/// Why bytes are no frame: the first of these that applies.
+#[derive(Clone, Copy, Debug, PartialEq, Eq)]
+pub enum FrameFault {
+    /// There is no byte.
+    Empty,
+    /// L is below its least value, 10 in format A and 12 in format B.
+    Short(u8),
+    /// L is 128 or 129, which format B leaves out.
+    Gap(u8),
+    /// The bytes are not as many as L says.
+    Length { want: usize, have: usize },
+    /// The first block whose CRC differs, counted from 1.
+    Crc(usize),
+}

@@ -1,0 +1,133 @@
+//! Format A: a block of 10 bytes, then blocks of 16, each with its CRC.
+ghost use Rattle.std.specs.Prelude.{◌≡◌, ◌≤◌, ◌<◌, ◌+◌, ◌-◌, ◌*◌, ◌/◌, ◌++◌, List, ℕ, length, take, slice_index, Ok, Err, IsOk, OnOk, OnErr, MatchResult};
+ghost use Rattle.std.specs.List.{flat_map};
+ghost use Rattle.frame_formats.specs.Frames.{FrameA};
+ghost use Rattle.frame_formats.specs.Decoding.{cut, content_of, frame_len, pieces_a, decoded_a, frame_a, with_crc};
+
+use crate::blocks::{checked_block, put, put_with_crc};
+use crate::{FrameFault, Telegram};
+
+// How many bytes a frame with this L has.
+fn whole_len(length: u8) -> usize
+    ensures { result ≡ frame_len length }
+{
+    let length = length as usize;
+    length + 1 + 2 * (1 + (length.saturating_sub(9) + 15) / 16)
+}
+
+// Fills `into` from the blocks behind the first, each with its CRC.
+fn read_others(bytes: &[u8], into: &mut [u8]) -> Result<(), FrameFault>
+    requires { length bytes.now ≡ length into.old + 2 * ((length into.old + 15) / 16) }
+    ensures { let pieces = cut ((length into.old + 15) / 16) 18 bytes.now in
+        MatchResult result (λ _. content_of 2 pieces ≡ Ok into.new) (λ e. content_of 2 pieces ≡ Err e) }
+{
+    let mut rest = bytes;
+    let mut len = 0;
+    let mut number = 2;
+    while len < into.len() {
+        let size = (into.len() - len).min(16);
+        let (piece, after) = rest.split_at(size + 2);
+        let block = checked_block(piece, number)?;
+        put(into, len, block);
+        len += size;
+        number += 1;
+        rest = after;
+    }
+    Ok(())
+}
+
+// Fills `into` from all blocks, each with its CRC.
+fn read_blocks(bytes: &[u8], into: &mut [u8]) -> Result<(), FrameFault>
+    requires more { 10 < length into.old }
+    requires whole { length bytes.now ≡ 12 + (length into.old - 10) + 2 * ((length into.old - 10 + 15) / 16) }
+    ensures read { MatchResult result
+        (λ _. content_of 1 (pieces_a bytes.now) ≡ Ok into.new) (λ e. content_of 1 (pieces_a bytes.now) ≡ Err e) }
+    ensures head { OnOk result (slice_index into.new 0 ≡ slice_index bytes.now 0) }
+{
+    let (front, rest) = bytes.split_at(12);
+    let first = checked_block(front, 1)?;
+    put(into, 0, first);
+    read_others(rest, &mut into[10..])?;
+    Ok(())
+}
+
+// The telegram of as many bytes as its first one says.
+fn read_telegram(bytes: &[u8]) -> Result<Telegram, FrameFault>
+    requires counted { 10 ≤ slice_index bytes.now 0 }
+    requires whole { length bytes.now ≡ frame_len (slice_index bytes.now 0) }
+    ensures { MatchResult result
+        (λ t. content_of 1 (pieces_a bytes.now) ≡ Ok t) (λ e. content_of 1 (pieces_a bytes.now) ≡ Err e) }
+{
+    let len = bytes[0] as usize + 1;
+    let mut telegram = [0; 256];
+    read_blocks(bytes, &mut telegram[..len])?;
+    Ok(Telegram {
+        bytes: telegram,
+        len: len as u16,
+    })
+}
+
+// The telegram, or the first fault.
+#[tactic(auto, unfolding(crate::specs::Decoding::decoded_a))]
+fn decode(bytes: &[u8], out: &mut Telegram) -> Result<(), FrameFault>
+    ensures exact { MatchResult result (λ _. decoded_a bytes.now ≡ Ok out.new) (λ e. decoded_a bytes.now ≡ Err e) }
+    ensures err { OnErr result (out.new ≡ out.old) }
+{
+    let Some(length) = bytes.first().copied() else {
+        return Err(FrameFault::Empty);
+    };
+    if length < 10 {
+        return Err(FrameFault::Short(length));
+    }
+    let want = whole_len(length);
+    if bytes.len() != want {
+        return Err(FrameFault::Length {
+            want,
+            have: bytes.len(),
+        });
+    }
+    *out = read_telegram(bytes)?;
+    Ok(())
+}
+
+/// Reads a frame of format A (EN 13757-4). Each error is the first that the bytes show, in the order of `FrameFault`,
+/// and leaves `out` as it was.
+pub fn decode_a(bytes: &[u8], out: &mut Telegram) -> Result<(), FrameFault>
+    // What is read is a frame of its telegram, and each frame is read.
+    ensures found { OnOk result (FrameA bytes.now out.new) }
+    ensures only { (t : List ℕ) → FrameA bytes.now t → IsOk result × (out.new ≡ t) }
+
+    // A fault is the first that the bytes show.
+    ensures exact { MatchResult result (λ _. decoded_a bytes.now ≡ Ok out.new) (λ e. decoded_a bytes.now ≡ Err e) }
+    ensures err { OnErr result (out.new ≡ out.old) }
+{
+    decode(bytes, out)
+}
+
+// Writes the blocks behind the first, and answers the place behind them.
+fn put_others(out: &mut [u8], at: usize, bytes: &[u8]) -> usize
+    requires { at + length bytes.now + 2 * ((length bytes.now + 15) / 16) ≤ length out.old }
+    ensures end { result ≡ at + length bytes.now + 2 * ((length bytes.now + 15) / 16) }
+    ensures written { take result out.new
+        ≡ take at out.old ++ flat_map with_crc (cut ((length bytes.now + 15) / 16) 16 bytes.now) }
+{
+    let mut end = at;
+    let mut rest = bytes;
+    'cutting: while !rest.is_empty() {
+        let (block, after) = rest.split_at(rest.len().min(16));
+        end = put_with_crc(out, end, block);
+        rest = after;
+    }
+    end
+}
+
+/// Writes the one frame of format A of a telegram (EN 13757-4), and answers its length.
+pub fn encode_a(telegram: &Telegram, out: &mut [u8; 290]) -> usize
+    ensures len { result ≡ frame_len (length telegram.now - 1) }
+    ensures written { take result out.new ≡ frame_a telegram.now }
+    ensures frame { FrameA (take result out.new) telegram.now }
+{
+    let (first, others) = telegram.bytes().split_at(10);
+    let end = put_with_crc(out, 0, first);
+    put_others(out, end, others)
+}
