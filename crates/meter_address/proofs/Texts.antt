@@ -22,7 +22,7 @@ unfolding bytes_of
 length-bytes_of a = refl
 
 -- eight bytes are bytes at each place
-IsBytes-eight : (a b c d e f g h : ℕ) → a < 256 → b < 256 → c < 256 → d < 256 → e < 256 → f < 256 → g < 256 → h < 256
+pub IsBytes-eight : (a b c d e f g h : ℕ) → a < 256 → b < 256 → c < 256 → d < 256 → e < 256 → f < 256 → g < 256 → h < 256
     → IsBytes (a ∷ b ∷ c ∷ d ∷ e ∷ f ∷ g ∷ h ∷ [])
 IsBytes-eight a b c d e f g h la lb lc ld le lf lg lh zero = la
 IsBytes-eight a b c d e f g h la lb lc ld le lf lg lh (suc zero) = lb
@@ -43,11 +43,15 @@ pub bytes_of-made : (bytes : List ℕ) (a : Address) → length bytes ≡ 8 → 
 unfolding bytes_of
 bytes_of-made bytes a len fits made = be_bytes_8 bytes a.0 len fits made
 
+-- the number of an address's bytes
+pub from_be_bytes-bytes_of : (a : Address) → a.0 < 2 ^ 64 → from_be_bytes w64 (bytes_of a) ≡ a.0
+unfolding bytes_of
+from_be_bytes-bytes_of a fits = from_be_bytes-to_be_bytes_8 a.0 fits
+
 -- an address is known by its bytes
 pub one_address : (a b : Address) → a.0 < 2 ^ 64 → b.0 < 2 ^ 64 → bytes_of a ≡ bytes_of b → a ≡ b
-unfolding bytes_of
 one_address a b fits_a fits_b same =
-    let value : a.0 ≡ b.0 = sym (from_be_bytes-to_be_bytes_8 a.0 fits_a) ∙ ap (from_be_bytes w64) same ∙ from_be_bytes-to_be_bytes_8 b.0 fits_b in
+    let value : a.0 ≡ b.0 = sym (from_be_bytes-bytes_of a fits_a) ∙ ap (from_be_bytes w64) same ∙ from_be_bytes-bytes_of b fits_b in
     ap (λ (n : ℕ). let made : Address = record { 0 = n } in made) value
 
 pub spelt_once : (text : List ℕ) (a b : Address) → a.0 < 2 ^ 64 → b.0 < 2 ^ 64 → Spells text a → Spells text b → a ≡ b

@@ -1,0 +1,45 @@
+-- The header of the extended link layer (EN 13757-4).
+use Rattle.std.specs.Prelude.{ℕ, ◌≡◌, ◌⊎◌, List, [], ◌∷◌, ◌++◌, length, slice_index, Result, Ok, Err, nat_lt, ◌==◌, if◌then◌else◌}
+use Rattle.ell_layer.specs.declared.extension.Ell.{Ell}
+use Rattle.ell_layer.specs.declared.extension.EllFault.{EllFault}
+use Rattle.ell_layer.specs.declared.extension.EllFault.TheVariants.{Truncated, Kind}
+use Rattle.ell_layer.specs.Access.{access_in}
+
+-- the short header: CI 8C, the communication control, the access number
+pub record IsShort (header : List ℕ) (e : Ell) : Type 0 where
+  pub control : ℕ
+  pub bytes : header ≡ 0x8C ∷ control ∷ e.acc ∷ []
+  pub access : e.access ≡ access_in control
+
+-- the long header: CI 8E, the communication control, the access number, and a second address of eight bytes
+pub record IsLong (header : List ℕ) (e : Ell) : Type 0 where
+  pub control : ℕ
+  pub address : List ℕ
+  pub eight : length address ≡ 8
+  pub bytes : header ≡ 0x8E ∷ control ∷ e.acc ∷ address
+  pub access : e.access ≡ access_in control
+
+-- the bytes begin with a spelling of the header, which has e.len bytes
+pub record Begins (bytes : List ℕ) (e : Ell) : Type 0 where
+  pub header : List ℕ
+  pub rest : List ℕ
+  pub parts : bytes ≡ header ++ rest
+  pub len : e.len ≡ length header
+  pub spelt : IsShort header e ⊎ IsLong header e
+
+-- how long the header is that begins so, or what is wrong with its CI
+unfoldable pub header_len : List ℕ → Result ℕ EllFault
+header_len [] = Err (Truncated 0)
+header_len (ci ∷ rest) = if ci == 0x8C then Ok 3 else if ci == 0x8E then Ok 11 else Err (Kind ci)
+
+-- reading from left to right, with the first fault
+infixl 10 ◌>>=◌
+abbrev pub ◌>>=◌ : {A B : Type 0} → Result A EllFault → (A → Result B EllFault) → Result B EllFault
+(Ok x) >>= f = f x
+(Err e) >>= f = Err e
+
+-- the header with which the bytes begin, or the first fault
+unfoldable pub extension_at : List ℕ → Result Ell EllFault
+extension_at bytes = do
+  len ← header_len bytes
+  if nat_lt (length bytes) len then Err (Truncated (length bytes)) else Ok (record { access = access_in (slice_index bytes 1); acc = slice_index bytes 2; len = len })

@@ -1,0 +1,68 @@
+//! The header of the extended link layer.
+ghost use Rattle.std.specs.Prelude.{◌≡◌, ◌≤◌, Ok, IfOk};
+ghost use Rattle.ell_layer.specs.Extension.{Begins, header_len, extension_at};
+ghost use Rattle.ell_layer.specs.declared.extension.Ell.{Ell};
+
+use crate::access::Access;
+
+/// The header of the extended link layer (EN 13757-4), of CI 8C, or of CI 8E, whose second address isn't kept.
+#[derive(Clone, Copy, Debug, PartialEq, Eq)]
+pub struct Ell {
+    /// When the meter listens, from the communication control.
+    pub access: Access,
+    /// The access number.
+    pub acc: u8,
+    /// How many bytes the header has, from its CI on: 3 or 11.
+    pub len: usize,
+}
+
+/// Why bytes begin with no header of the extended link layer: the first of these that applies.
+#[derive(Clone, Copy, Debug, PartialEq, Eq)]
+pub enum EllFault {
+    /// There is no byte, or there are fewer than the header has. There are this many.
+    Truncated(usize),
+    /// The CI is neither 8C nor 8E, but this one.
+    Kind(u8),
+}
+
+// How long the header is that begins so.
+#[tactic(auto, unfolding(crate::specs::Extension::header_len))]
+fn len_of_header(bytes: &[u8]) -> Result<usize, EllFault>
+    ensures exact { result ≡ header_len bytes.now }
+    ensures least { IfOk result (λ len. 3 ≤ len) }
+{
+    match bytes {
+        [] => Err(EllFault::Truncated(0)),
+        [0x8C, ..] => Ok(3),
+        [0x8E, ..] => Ok(11),
+        [ci, ..] => Err(EllFault::Kind(*ci)),
+    }
+}
+
+// The header with which the bytes begin, or the first fault.
+#[tactic(auto, unfolding(crate::specs::Extension::extension_at))]
+fn extension(bytes: &[u8]) -> Result<Ell, EllFault>
+    ensures { result ≡ extension_at bytes.now }
+{
+    let len = len_of_header(bytes)?;
+    if bytes.len() < len {
+        return Err(EllFault::Truncated(bytes.len()));
+    }
+    Ok(Ell {
+        access: Access::from_control(bytes[1]),
+        acc: bytes[2],
+        len,
+    })
+}
+
+/// The header of the extended link layer with which the bytes begin.
+pub fn read_ell(bytes: &[u8]) -> Result<Ell, EllFault>
+    // What is read is spelled so, and what is spelled so is read.
+    ensures found { IfOk result (λ e. Begins bytes.now e) }
+    ensures only { (e : Ell) → Begins bytes.now e → result ≡ Ok e }
+
+    // A fault is the first that the bytes show.
+    ensures exact { result ≡ extension_at bytes.now }
+{
+    extension(bytes)
+}

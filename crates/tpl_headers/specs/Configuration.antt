@@ -1,0 +1,14 @@
+-- The configuration field of a transport header, and its extension (EN 13757-7, OMS Volume 2).
+use Rattle.std.specs.Prelude.{ℕ, ◌/◌, ◌%◌, ◌^◌}
+
+-- the security mode: bits 12 to 8 of the configuration field
+abbrev pub mode_of : ℕ → ℕ
+mode_of cf = cf / 2 ^ 8 % 2 ^ 5
+
+-- N, how many blocks are encrypted: bits 7 to 4 of the configuration field
+abbrev pub blocks_of : ℕ → ℕ
+blocks_of cf = cf / 2 ^ 4 % 2 ^ 4
+
+-- which derivation gives the keys: bits 5 and 4 of the extension
+abbrev pub derivation_of : ℕ → ℕ
+derivation_of cfe = cfe / 2 ^ 4 % 2 ^ 2

@@ -1,0 +1,85 @@
+//! Writing a transport header.
+ghost use Rattle.std.specs.Prelude.{◌≡◌, ◌+◌, ◌≤◌, ◌<◌, ◌^◌, IfSome, ◌++◌, [], ◌∷◌, ℕ, List, Option, Some, None, length, take, Ok};
+ghost use Rattle.tpl_headers.specs.Header.{HasItsAddress, HasItsExtension, header_order, address_bytes, extension_bytes, spelling, header_at};
+
+use crate::header::Tpl;
+use meter_address::Address;
+
+// Writes bytes at this place, and answers the place behind them.
+fn put(out: &mut [u8], at: usize, bytes: &[u8]) -> usize
+    requires { at + length bytes.now ≤ length out.old }
+    ensures end { result ≡ at + length bytes.now }
+    ensures written { take result out.new ≡ take at out.old ++ bytes.now }
+{
+    let end = at + bytes.len();
+    out[at..end].copy_from_slice(bytes);
+    end
+}
+
+// The address's bytes, identification first.
+fn in_header_order(address: Address) -> [u8; 8]
+    ensures order { result ≡ header_order address }
+    ensures number { address.0 < 2 ^ 64 }
+{
+    let [m, n, i, j, k, l, version, kind] = address.to_bytes();
+    [i, j, k, l, m, n, version, kind]
+}
+
+// Writes the address, where there is one, identification first.
+fn put_address(out: &mut [u8], at: usize, address: Option<Address>) -> usize
+    requires { at + 8 ≤ length out.old }
+    ensures end { result ≡ at + length (address_bytes address) }
+    ensures most { result ≤ at + 8 }
+    ensures number { IfSome address (λ a. a.0 < 2 ^ 64) }
+    ensures written { take result out.new ≡ take at out.old ++ address_bytes address }
+{
+    match address {
+        None => at,
+        Some(address) => {
+            let bytes = in_header_order(address);
+            put(out, at, &bytes)
+        }
+    }
+}
+
+// Writes the extension of the configuration field, where there is one.
+fn put_extension(out: &mut [u8], at: usize, cfe: Option<u8>) -> usize
+    requires { at + 1 ≤ length out.old }
+    ensures end { result ≡ at + length (extension_bytes cfe) }
+    ensures most { result ≤ at + 1 }
+    ensures written { take result out.new ≡ take at out.old ++ extension_bytes cfe }
+{
+    match cfe {
+        None => at,
+        Some(cfe) => put(out, at, &[cfe]),
+    }
+}
+
+// Writes the header, whose numbers are those of their widths.
+fn put_header(tpl: &Tpl, out: &mut [u8]) -> usize
+    requires { length out.old ≡ 14 }
+    ensures number { IfSome tpl.now.address (λ a. a.0 < 2 ^ 64) }
+    ensures cf { tpl.now.cf < 2 ^ 16 }
+    ensures len { result ≡ length (spelling tpl.now) }
+    ensures spelt { take result out.new ≡ spelling tpl.now }
+{
+    let cf = tpl.cf.to_le_bytes();
+    let end = put(out, 0, &[tpl.ci]);
+    let end = put_address(out, end, tpl.address);
+    let end = put(out, end, &[tpl.acc, tpl.status]);
+    let end = put(out, end, &cf);
+    put_extension(out, end, tpl.cfe)
+}
+
+/// Writes the header, and answers how many bytes it has. What `tpl.len` says doesn't matter.
+pub fn write_tpl(tpl: &Tpl, out: &mut [u8; 14]) -> usize
+    requires address { HasItsAddress tpl.now.ci tpl.now.address }
+    requires extension { HasItsExtension tpl.now.cf tpl.now.cfe }
+    ensures len { result ≡ length (spelling tpl.now) }
+    ensures spelt { take result out.new ≡ spelling tpl.now }
+
+    // What is written is read back, whatever follows it.
+    ensures again { (rest : List ℕ) → header_at (take result out.new ++ rest) ≡ Ok (record tpl.now { len = result }) }
+{
+    put_header(tpl, out)
+}
