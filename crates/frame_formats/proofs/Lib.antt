@@ -6,3 +6,4 @@ pub mod Reading
 pub mod Checked
 pub mod RelationA
 pub mod Writing
+pub mod RelationB
