@@ -13,3 +13,6 @@ pub use fault::FrameFault;
 pub use format_a::{decode_a, encode_a};
 pub use format_b::decode_b;
 pub use telegram::Telegram;
+
+#[cfg(test)]
+mod tests;
