@@ -9,14 +9,15 @@ use Rattle.frame_formats.specs.declared.fault.FrameFault.TheVariants as faults
 use Rattle.frame_formats.specs.Crc.{crc_of, IsBytes}
 use Rattle.frame_formats.specs.Frames.{AreChecked, IsTelegram, OneBlock, TwoBlocks, FrameB}
 use Rattle.frame_formats.specs.Decoding.{◌>>=◌, with_crc, pieces_b, content_of, block_of, counted, telegram_b, decoded_b}
+use Rattle.frame_formats.proofs.Chain.{chain_ok, chain_passed}
 use Rattle.frame_formats.proofs.Pieces.{with_front, first_read, first_fault, nothing_read}
 use Rattle.frame_formats.proofs.Checked.{bytes-take, bytes-drop, bytes_same, byte_at, checked_is, is_checked, checked_same, content_bytes, block_found, block_again, length-with_crc, bind_ok}
 use Rattle.frame_formats.proofs.RelationA.{read_ok}
 
-one_piece : (bytes : List ℕ) → length bytes ≤ 128 → pieces_b bytes ≡ bytes ∷ []
+pub one_piece : (bytes : List ℕ) → length bytes ≤ 128 → pieces_b bytes ≡ bytes ∷ []
 one_piece bytes short = ap (λ b. cond b (bytes ∷ []) (take 128 bytes ∷ drop 128 bytes ∷ [])) (lt-ltb (length bytes) 129 (omega arith))
 
-two_pieces : (bytes : List ℕ) → 128 < length bytes → pieces_b bytes ≡ take 128 bytes ∷ drop 128 bytes ∷ []
+pub two_pieces : (bytes : List ℕ) → 128 < length bytes → pieces_b bytes ≡ take 128 bytes ∷ drop 128 bytes ∷ []
 two_pieces bytes long = ap (λ b. cond b (bytes ∷ []) (take 128 bytes ∷ drop 128 bytes ∷ [])) (le-ltb (length bytes) 129 (omega arith))
 
 -- one block
@@ -77,26 +78,12 @@ length-sent : (t : List ℕ) (l : ℕ) → IsTelegram t → length (l ∷ drop 1
 length-sent [] l is = absurd (omega (arith, is.least))
 length-sent (b ∷ t) l is = refl
 
-chain_ok : (a b c d : Bool) (e f g h : FrameFault) (x : Result (List ℕ) FrameFault) (z : List ℕ) → cond a (Err e) (cond b (Err f) (cond c (Err g) (cond d x (Err h)))) ≡ Ok z → (b ≡ false) × (c ≡ false) × (d ≡ true) × (x ≡ Ok z)
-chain_ok true b c d e f g h x z is = cc
-chain_ok false true c d e f g h x z is = cc
-chain_ok false false true d e f g h x z is = cc
-chain_ok false false false true e f g h x z is = (refl, refl, refl, is)
-chain_ok false false false false e f g h x z is = cc
-
-chain_again : (a b c d : Bool) (e f g h : FrameFault) (x : Result (List ℕ) FrameFault) → a ≡ false → b ≡ false → c ≡ false → d ≡ true → cond a (Err e) (cond b (Err f) (cond c (Err g) (cond d x (Err h)))) ≡ x
-chain_again true b c d e f g h x p q r s = cc
-chain_again false true c d e f g h x p q r s = cc
-chain_again false false true d e f g h x p q r s = cc
-chain_again false false false true e f g h x p q r s = refl
-chain_again false false false false e f g h x p q r s = cc
-
-neither : (a b : Bool) → (a || b) ≡ false → (a ≡ false) × (b ≡ false)
+pub neither : (a b : Bool) → (a || b) ≡ false → (a ≡ false) × (b ≡ false)
 neither true b is = cc
 neither false true is = cc
 neither false false is = (refl, refl)
 
-neither_again : (a b : Bool) → a ≡ false → b ≡ false → (a || b) ≡ false
+pub neither_again : (a b : Bool) → a ≡ false → b ≡ false → (a || b) ≡ false
 neither_again true b p q = cc
 neither_again false true p q = cc
 neither_again false false p q = refl
@@ -114,7 +101,7 @@ decoded_again : (bytes : List ℕ) (l : ℕ) → l ≡ get_or bytes 0 0 → 12 �
 unfolding decoded_b
 decoded_again bytes l is least gap gap' whole =
     let k : ℕ = get_or bytes 0 0
-    in chain_again (eqb (length bytes) 0) (ltb k 12) (eqb k 128 || eqb k 129) (eqb (length bytes) (k + 1)) faults.Empty (faults.Short k) (faults.Gap k) (faults.Length (k + 1) (length bytes)) (telegram_b bytes)
+    in chain_passed (eqb (length bytes) 0) (ltb k 12) (eqb k 128 || eqb k 129) (eqb (length bytes) (k + 1)) faults.Empty (faults.Short k) (faults.Gap k) (faults.Length (k + 1) (length bytes)) (telegram_b bytes)
     (ne_eqb _ _ (λ e. absurd (omega arith))) (le-ltb _ _ (omega arith)) (neither_again _ _ (ne_eqb _ _ (λ e. gap (is ∙ e))) (ne_eqb _ _ (λ e. gap' (is ∙ e)))) (eq-eqb _ _ (omega arith))
 
 -- a frame begins as what is sent

@@ -1,6 +1,8 @@
 //! Format B: one block or two, each with its CRC. L counts the CRCs too.
-ghost use Rattle.std.specs.Prelude.{◌≡◌, ◌≤◌, ◌<◌, ◌+◌, List, ℕ, length, slice_index, Ok, Err, IsOk, OnOk, OnErr, MatchResult};
+ghost use Rattle.std.specs.Prelude.{◌≡◌, ◌≤◌, ◌<◌, ◌+◌, List, ℕ, length, slice_index, Ok, Err, IsOk, OnOk, OnErr, IfErr, MatchResult};
 ghost use Rattle.frame_formats.specs.Frames.{FrameB};
+ghost use Rattle.frame_formats.specs.declared.fault.FrameFault.{FrameFault};
+ghost use Rattle.frame_formats.specs.Faults.{FaultB};
 ghost use Rattle.frame_formats.specs.Decoding.{content_of, pieces_b, telegram_b, decoded_b};
 
 use crate::blocks::{checked_block, put};
@@ -111,9 +113,13 @@ pub fn decode_b(bytes: &[u8], out: &mut Telegram) -> Result<(), FrameFault>
     ensures found { OnOk result (FrameB bytes.now out.new) }
     ensures only { (t : List ℕ) → FrameB bytes.now t → IsOk result × (out.new ≡ t) }
 
-    // A fault is the first that the bytes show.
-    ensures exact { MatchResult result (λ _. decoded_b bytes.now ≡ Ok out.new) (λ e. decoded_b bytes.now ≡ Err e) }
+    // A fault is the first that the bytes show, and the first that they show is answered.
+    ensures fault { IfErr result (FaultB bytes.now) }
+    ensures each_fault { (fault : FrameFault) → FaultB bytes.now fault → result ≡ Err fault }
     ensures err { OnErr result (out.new ≡ out.old) }
+
+    // Both as one function of the bytes.
+    ensures exact { MatchResult result (λ _. decoded_b bytes.now ≡ Ok out.new) (λ e. decoded_b bytes.now ≡ Err e) }
 {
     decode(bytes, out)
 }
