@@ -1,5 +1,5 @@
 -- Each fault that is answered is the first of the bytes, and the first is answered.
-use Rattle.std.proofs.Common.{◌≡◌, ◌≢◌, ℕ, zero, suc, ◌+◌, ◌-◌, ◌*◌, ◌/◌, ◌<◌, ◌≤◌, List, [], ◌∷◌, ◌++◌, length, take, drop, get_or, Bool, true, false, cond, eqb, ltb, ◌||◌, Result, Ok, Err, refl, sym, ◌∙◌, ap, subst, arith, length-drop, eq-eqb, ◌⊎◌, inl, inr}
+use Rattle.std.proofs.Common.{◌≡◌, ℕ, ◌+◌, ◌-◌, ◌≤◌, List, [], ◌∷◌, length, get_or, Bool, true, false, eqb, ltb, ◌||◌, Result, Ok, Err, refl, sym, ◌∙◌, ap, subst, arith, length-drop, eq-eqb, ◌⊎◌, inl, inr}
 use Rattle.std.proofs.lemmas.List.{nil_from_length, length-take}
 use Rattle.std.proofs.lemmas.Bool.{eqb-true, eqb-false, lt-ltb, le-ltb, ltb-true, ltb-false, ne_eqb, cases_lt}
 use Rattle.std.specs.Prelude.{MatchResult, IfErr}
@@ -10,7 +10,7 @@ use Rattle.frame_formats.specs.Faults.{BeginsWith, IsLengthB, IsFirstWrong, Faul
 use Rattle.frame_formats.specs.Decoding.{◌>>=◌, frame_len, pieces_a, pieces_b, content_of, counted, decoded_a, telegram_b, decoded_b}
 use Rattle.frame_formats.proofs.Chain.{chain_err, chain_first, chain_second, chain_third, chain_last, chain_passed}
 use Rattle.frame_formats.proofs.Checked.{bytes-take, bytes-drop}
-use Rattle.frame_formats.proofs.FirstWrong.{IsPiece, ArePieces, IsAt, wrong_found, first_wrong_again, are_pieces_a}
+use Rattle.frame_formats.proofs.FirstWrong.{ArePieces, IsAt, wrong_found, first_wrong_again, are_pieces_a}
 use Rattle.frame_formats.proofs.RelationB.{neither, neither_again, one_piece, two_pieces, counted_fault}
 
 begins : (bytes : List ℕ) → eqb (length bytes) 0 ≡ false → BeginsWith bytes (get_or bytes 0 0)
@@ -45,10 +45,10 @@ fault_found_a bytes e all is =
     (λ some long no same. cc)
     (λ some long no other same. fault_same_a bytes _ _ same (l, begins bytes some, ltb-false _ _ long, refl, refl, eqb-false _ _ other))
     (λ some long no whole err.
-        let least : 10 ≤ l = ltb-false _ _ long
-        in let len : length bytes ≡ frame_len l = eqb-true _ _ whole
-        in let at = wrong_at (pieces_a bytes) e (wrong_found 1 (pieces_a bytes) e (whole_a bytes l all least len) err)
-        in fault_same_a bytes _ _ (sym at.1) (l, begins bytes some, least, len, at.2))
+    let least : 10 ≤ l = ltb-false _ _ long
+    in let len : length bytes ≡ frame_len l = eqb-true _ _ whole
+    in let at = wrong_at (pieces_a bytes) e (wrong_found 1 (pieces_a bytes) e (whole_a bytes l all least len) err)
+    in fault_same_a bytes _ _ (sym at.1) (l, begins bytes some, least, len, at.2))
 
 pub fault_only_a : (bytes : List ℕ) (e : FrameFault) → IsBytes bytes → FaultA bytes e → decoded_a bytes ≡ Err e
 unfolding decoded_a
@@ -145,10 +145,10 @@ fault_found_b bytes e all is =
     (λ some long gap same. fault_same_b bytes _ _ same (begins bytes some, gap_of l gap))
     (λ some long no_gap other same. fault_same_b bytes _ _ same (l, begins bytes some, length_of l long no_gap, refl, refl, eqb-false _ _ other))
     (λ some long no_gap whole err.
-        let lengths : IsLengthB l = length_of l long no_gap
-        in let len : length bytes ≡ l + 1 = eqb-true _ _ whole
-        in let at = wrong_at (pieces_b bytes) e (wrong_found 1 (pieces_b bytes) e (whole_b bytes l all lengths len) (content_err bytes e err))
-        in fault_same_b bytes _ _ (sym at.1) (l, begins bytes some, lengths, len, at.2))
+    let lengths : IsLengthB l = length_of l long no_gap
+    in let len : length bytes ≡ l + 1 = eqb-true _ _ whole
+    in let at = wrong_at (pieces_b bytes) e (wrong_found 1 (pieces_b bytes) e (whole_b bytes l all lengths len) (content_err bytes e err))
+    in fault_same_b bytes _ _ (sym at.1) (l, begins bytes some, lengths, len, at.2))
 
 pub fault_only_b : (bytes : List ℕ) (e : FrameFault) → IsBytes bytes → FaultB bytes e → decoded_b bytes ≡ Err e
 unfolding decoded_b

@@ -1,13 +1,12 @@
 -- The first piece that is no block with its CRC.
-use Rattle.std.proofs.Common.{◌≡◌, ℕ, zero, suc, ◌+◌, ◌-◌, ◌*◌, ◌/◌, ◌<◌, ◌≤◌, List, [], ◌∷◌, ◌++◌, length, take, drop, Bool, true, false, cond, Result, Ok, Err, refl, sym, ◌∙◌, ap, subst, arith, length-drop, append-nil, add-zero}
+use Rattle.std.proofs.Common.{◌≡◌, ℕ, zero, suc, ◌+◌, ◌-◌, ◌*◌, ◌/◌, ◌≤◌, List, [], ◌∷◌, ◌++◌, length, drop, Bool, true, false, cond, Result, Ok, Err, refl, sym, ◌∙◌, ap, subst, arith, length-drop, append-nil, add-zero}
 use Rattle.std.proofs.lemmas.List.{length-take}
 use Rattle.std.specs.List.{flat_map}
 use Rattle.frame_formats.specs.declared.fault.FrameFault.{FrameFault}
 use Rattle.frame_formats.specs.declared.fault.FrameFault.TheVariants as faults
 use Rattle.frame_formats.specs.Crc.{IsBytes}
-use Rattle.frame_formats.specs.Frames.{AreChecked}
 use Rattle.frame_formats.specs.Faults.{IsChecked, AllChecked, IsFirstWrong}
-use Rattle.frame_formats.specs.Decoding.{with_crc, block_of, content_of, cut, pieces_a, pieces_b}
+use Rattle.frame_formats.specs.Decoding.{with_crc, block_of, content_of, cut, pieces_a}
 use Rattle.frame_formats.proofs.Pieces.{with_front, first_read, first_fault, nothing_read}
 use Rattle.frame_formats.proofs.Checked.{bytes-take, bytes-drop, bytes_same, checked_is, is_checked, checked_same, content_bytes, block_found, block_again}
 

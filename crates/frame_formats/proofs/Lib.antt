@@ -10,3 +10,4 @@ pub mod Writing
 pub mod RelationB
 pub mod FirstWrong
 pub mod FirstFault
+pub mod FrameLaws

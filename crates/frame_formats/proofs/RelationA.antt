@@ -1,5 +1,5 @@
 -- Format A: what is decoded is a frame of its telegram, and each frame is decoded.
-use Rattle.std.proofs.Common.{◌≡◌, ℕ, zero, suc, ◌+◌, ◌-◌, ◌*◌, ◌/◌, ◌%◌, ◌<◌, ◌≤◌, List, [], ◌∷◌, ◌++◌, length, take, drop, get_or, Bool, true, false, cond, eqb, ltb, Result, Ok, Err, refl, sym, ◌∙◌, ap, subst, arith, length-append, length-drop, append-nil, eq-eqb}
+use Rattle.std.proofs.Common.{◌≡◌, ℕ, zero, suc, ◌+◌, ◌-◌, ◌*◌, ◌/◌, ◌%◌, ◌<◌, ◌≤◌, List, [], ◌∷◌, ◌++◌, length, take, drop, get_or, true, false, eqb, ltb, Result, Ok, Err, refl, sym, ◌∙◌, ap, arith, length-append, length-drop, append-nil, eq-eqb}
 use Rattle.std.proofs.lemmas.List.{take_all, drop_all, take_at, drop_at, take-append-drop, length-take, get_or_append_left}
 use Rattle.std.proofs.lemmas.Bool.{eqb-true, le-ltb, ltb-false, ne_eqb}
 use Rattle.std.specs.List.{flat_map, concat}
@@ -7,8 +7,8 @@ use Rattle.std.specs.Prelude.{MatchResult, OnOk, IsOk}
 use Rattle.frame_formats.specs.declared.fault.FrameFault.{FrameFault}
 use Rattle.frame_formats.specs.declared.fault.FrameFault.TheVariants as faults
 use Rattle.frame_formats.specs.Crc.{crc_of, IsBytes}
-use Rattle.frame_formats.specs.Frames.{AreSixteens, AreChecked, IsTelegram, FrameA}
-use Rattle.frame_formats.specs.Decoding.{◌>>=◌, with_crc, frame_len, cut, pieces_a, content_of, block_of, decoded_a}
+use Rattle.frame_formats.specs.Frames.{AreSixteens, FrameA}
+use Rattle.frame_formats.specs.Decoding.{with_crc, frame_len, cut, pieces_a, content_of, block_of, decoded_a}
 use Rattle.frame_formats.proofs.Chain.{chain_ok, chain_passed}
 use Rattle.frame_formats.proofs.Pieces.{with_front, first_read, nothing_read}
 use Rattle.frame_formats.proofs.Checked.{bytes-take, bytes-drop, bytes_same, byte_at, checked_is, is_checked, checked_same, content_bytes, block_found, block_again, length-with_crc, bind_ok}
@@ -94,7 +94,7 @@ telegram_found bytes t l all is least len read =
 pub found : (bytes t : List ℕ) → IsBytes bytes → decoded_a bytes ≡ Ok t → FrameA bytes t
 found bytes t all is = let ok = decoded_ok bytes t is in telegram_found bytes t (get_or bytes 0 0) all refl ok.0 ok.1 ok.2
 
-blocks_len : (blocks : List (List ℕ)) → AreSixteens blocks → (length blocks ≡ (length (concat blocks) + 15) / 16) × (length (flat_map with_crc blocks) ≡ length (concat blocks) + 2 * length blocks) × (0 < length (concat blocks))
+pub blocks_len : (blocks : List (List ℕ)) → AreSixteens blocks → (length blocks ≡ (length (concat blocks) + 15) / 16) × (length (flat_map with_crc blocks) ≡ length (concat blocks) + 2 * length blocks) × (0 < length (concat blocks))
 blocks_len [] are = absurd are
 blocks_len (b ∷ []) are = (omega (arith, length-append b []), omega (arith, length-append b [], length-append (with_crc b) [], length-with_crc b), omega (arith, length-append b []))
 blocks_len (b ∷ c ∷ bs) are =

@@ -1,12 +1,12 @@
 -- Format B: reading its blocks; what is decoded is a frame of its telegram, and each frame is decoded.
-use Rattle.std.proofs.Common.{◌≡◌, ◌≢◌, ℕ, zero, suc, ◌+◌, ◌-◌, ◌*◌, ◌/◌, ◌%◌, ◌<◌, ◌≤◌, List, [], ◌∷◌, ◌++◌, length, take, drop, set, get_or, Bool, true, false, cond, eqb, ltb, ◌||◌, Result, Ok, Err, refl, sym, ◌∙◌, ap, subst, arith, length-append, length-drop, append-nil, append_assoc, eq-eqb, ◌⊎◌, inl, inr}
+use Rattle.std.proofs.Common.{◌≡◌, ◌≢◌, ℕ, ◌+◌, ◌-◌, ◌<◌, ◌≤◌, List, [], ◌∷◌, ◌++◌, length, take, drop, set, get_or, Bool, true, false, cond, eqb, ltb, ◌||◌, Result, Ok, Err, refl, sym, ◌∙◌, ap, subst, arith, length-append, length-drop, append-nil, append_assoc, eq-eqb, inl, inr}
 use Rattle.std.proofs.lemmas.List.{take_all, take_at, drop_at, take-append-drop, length-take, get_or_append_left}
 use Rattle.std.proofs.lemmas.Bool.{eqb-true, eqb-false, lt-ltb, le-ltb, ltb-false, ne_eqb, cases_lt}
-use Rattle.std.specs.List.{flat_map, concat}
+use Rattle.std.specs.List.{flat_map}
 use Rattle.std.specs.Prelude.{MatchResult, OnOk, IsOk}
 use Rattle.frame_formats.specs.declared.fault.FrameFault.{FrameFault}
 use Rattle.frame_formats.specs.declared.fault.FrameFault.TheVariants as faults
-use Rattle.frame_formats.specs.Crc.{crc_of, IsBytes}
+use Rattle.frame_formats.specs.Crc.{IsBytes}
 use Rattle.frame_formats.specs.Frames.{AreChecked, IsTelegram, OneBlock, TwoBlocks, FrameB}
 use Rattle.frame_formats.specs.Decoding.{◌>>=◌, with_crc, pieces_b, content_of, block_of, counted, telegram_b, decoded_b}
 use Rattle.frame_formats.proofs.Chain.{chain_ok, chain_passed}
