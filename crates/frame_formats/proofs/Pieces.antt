@@ -1,7 +1,7 @@
 -- Pieces, and the blocks that are read from them.
-use Rattle.std.proofs.Common.{◌≡◌, ℕ, zero, suc, ◌+◌, ◌-◌, ◌*◌, ◌/◌, ◌%◌, ◌<◌, ◌≤◌, List, [], ◌∷◌, ◌++◌, length, take, drop, Result, Ok, Err, refl, sym, ◌∙◌, ap, arith, append_assoc}
+use Rattle.std.proofs.Common.{◌≡◌, ℕ, ◌+◌, List, [], ◌∷◌, ◌++◌, Result, Ok, Err, refl, ◌∙◌, ap, append_assoc}
 use Rattle.frame_formats.specs.declared.fault.FrameFault.{FrameFault}
-use Rattle.frame_formats.specs.Decoding.{◌>>=◌, block_of, content_of, cut}
+use Rattle.frame_formats.specs.Decoding.{◌>>=◌, block_of, content_of}
 
 -- bytes in front of those that are read
 abbrev pub with_front : List ℕ → Result (List ℕ) FrameFault → Result (List ℕ) FrameFault

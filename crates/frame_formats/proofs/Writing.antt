@@ -1,5 +1,5 @@
 -- Writing the blocks of a telegram.
-use Rattle.std.proofs.Common.{◌≡◌, ℕ, zero, suc, ◌+◌, ◌-◌, ◌*◌, ◌/◌, ◌<◌, ◌≤◌, List, [], ◌∷◌, ◌++◌, length, take, drop, get_or, Bool, true, false, eqb, refl, sym, ◌∙◌, ap, arith, append_assoc, append-nil, length-append, length-drop, min, ◌⊎◌, inl, inr}
+use Rattle.std.proofs.Common.{◌≡◌, ℕ, zero, suc, ◌+◌, ◌-◌, ◌/◌, ◌<◌, ◌≤◌, List, [], ◌∷◌, ◌++◌, length, take, drop, false, eqb, sym, ◌∙◌, ap, arith, append_assoc, append-nil, length-drop, min, inl, inr}
 use Rattle.std.proofs.lemmas.List.{take_all, drop_all, take-append-drop, length-take}
 use Rattle.std.proofs.lemmas.Bool.{cases_lt, eqb-false}
 use Rattle.std.specs.List.{flat_map, concat}
