@@ -111,8 +111,8 @@ placed_by : (fcl : ℕ) (a : Afl) → Says fcl a → misplaces fcl ≡ false →
 unfolding misplaces uncounts
 placed_by fcl a says fields fid =
     let same : is_misplaced a.more a.fid (is_some a.mcl) (is_some a.ki) (is_some a.mcr) (is_some a.mac) (is_some a.ml)
-        ≡ is_misplaced (has_more fcl) (fid_of fcl) (names_mcl fcl) (names_ki fcl) (names_mcr fcl) (names_mac fcl) (names_ml fcl) =
-        rw (says.more, says.fid, says.mcl, says.ki, says.mcr, says.mac, says.ml) refl in
+    ≡ is_misplaced (has_more fcl) (fid_of fcl) (names_mcl fcl) (names_ki fcl) (names_mcr fcl) (names_mac fcl) (names_ml fcl) =
+    rw (says.more, says.fid, says.mcl, says.ki, says.mcr, says.mac, says.ml) refl in
     let counted : is_uncounted a.more a.fid ≡ is_uncounted (has_more fcl) (fid_of fcl) = rw (says.more, says.fid) refl in
     record { fields = same ∙ fields; fid = counted ∙ fid }
 
@@ -139,9 +139,9 @@ takes_at ci said low high rest a is_afl fits e =
       rest = fields.rest;
       word = omega (arith, fits 2, fits 3);
       parts = ap (λ (x : List ℕ). ci ∷ said ∷ low ∷ high ∷ x) fields.parts
-        ∙ ap (λ (x : ℕ). x ∷ said ∷ low ∷ high ∷ (text ++ fields.rest)) is_afl
-        ∙ ap (λ (x : ℕ). 0x90 ∷ x ∷ low ∷ high ∷ (text ++ fields.rest)) said_is
-        ∙ ap (λ (x : List ℕ). 0x90 ∷ (2 + length text) ∷ ((x ++ text) ++ fields.rest)) (sym word);
+          ∙ ap (λ (x : ℕ). x ∷ said ∷ low ∷ high ∷ (text ++ fields.rest)) is_afl
+          ∙ ap (λ (x : ℕ). 0x90 ∷ x ∷ low ∷ high ∷ (text ++ fields.rest)) said_is
+          ∙ ap (λ (x : List ℕ). 0x90 ∷ (2 + length text) ∷ ((x ++ text) ++ fields.rest)) (sym word);
       says = fields.says;
       fits = fields.fits;
       placed = placed_by fcl (afl_at fcl rest) fields.says placed.0 numbered.0;
@@ -213,11 +213,11 @@ again_fields : (fcl : ℕ) (a : Afl) (rest : List ℕ) → Says fcl a → Fits a
 again_fields fcl a rest says fits len =
     ap (afl_at fcl) (five_front (field_bytes one_byte a.mcl) (field_bytes (to_le_bytes w16) a.ki) (field_bytes (to_le_bytes w32) a.mcr) (field_bytes itself a.mac) (field_bytes (to_le_bytes w16) a.ml) rest)
     ∙ fields_at fcl _ _ _ _ _ rest
-      (length-one a.mcl ∙ ap (λ (b : Bool). len_if b 1) says.mcl)
-      (length-two a.ki ∙ ap (λ (b : Bool). len_if b 2) says.ki)
-      (length-four a.mcr ∙ ap (λ (b : Bool). len_if b 4) says.mcr)
-      (length-eight a.mac fits.mac ∙ ap (λ (b : Bool). len_if b 8) says.mac)
-      (length-two a.ml ∙ ap (λ (b : Bool). len_if b 2) says.ml)
+    (length-one a.mcl ∙ ap (λ (b : Bool). len_if b 1) says.mcl)
+    (length-two a.ki ∙ ap (λ (b : Bool). len_if b 2) says.ki)
+    (length-four a.mcr ∙ ap (λ (b : Bool). len_if b 4) says.mcr)
+    (length-eight a.mac fits.mac ∙ ap (λ (b : Bool). len_if b 8) says.mac)
+    (length-two a.ml ∙ ap (λ (b : Bool). len_if b 2) says.ml)
     ∙ rw (one_again a.mcl, two_again a.ki fits.ki, four_again a.mcr fits.mcr, eight_again a.mac fits.mac, two_again a.ml fits.ml, ← says.more, ← says.fid, ← len) refl
 
 pub length-fields_bytes : (fcl : ℕ) (a : Afl) → Says fcl a → Fits a → length (fields_bytes a) ≡ fields_len fcl

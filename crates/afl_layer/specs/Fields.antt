@@ -56,3 +56,10 @@ is_misplaced more fid mcl ki mcr mac ml = (more && mac) || (nat_le 2 fid && ((mc
 -- fragments are counted from 1, and only a whole message may have FID 0
 abbrev pub is_uncounted : Bool → ℕ → Bool
 is_uncounted more fid = more && fid == 0
+
+-- FCL of a header: a bit for MF and for each field that is there, and FID. The bits that aren't used are 0
+abbrev pub bit_if : Bool → ℕ → ℕ
+bit_if set bit = cond set bit 0
+
+unfoldable pub fcl_of : Afl → ℕ
+fcl_of a = bit_if a.more (2 ^ 14) + (bit_if (is_some a.mcl) (2 ^ 13) + (bit_if (is_some a.ml) (2 ^ 12) + (bit_if (is_some a.mcr) (2 ^ 11) + (bit_if (is_some a.mac) (2 ^ 10) + (bit_if (is_some a.ki) (2 ^ 9) + a.fid)))))

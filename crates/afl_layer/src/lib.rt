@@ -4,9 +4,11 @@
 mod fields;
 mod header;
 mod scratch;
+mod writing;
 
 pub use header::{Afl, AflFault, Auth, read_afl};
 pub use scratch::{SCRATCH_MAX, Scratch};
+pub use writing::write_afl;
 
 #[cfg(test)]
 mod tests;
