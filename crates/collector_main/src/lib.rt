@@ -1,0 +1,7 @@
+//! The collector: its command words, a session of one receiver, and the top call.
+#![tactic(auto)]
+
+mod hearing;
+mod told;
+
+pub use told::{Told, tell};
