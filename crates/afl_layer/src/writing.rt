@@ -2,7 +2,7 @@
 ghost use Rattle.std.specs.Prelude.{◌≡◌, ◌+◌, ◌≤◌, ◌<◌, ◌^◌, ◌++◌, ℕ, List, length, take, Ok, IfSome};
 ghost use Rattle.std.specs.Int.{w16, w32, to_le_bytes};
 ghost use Rattle.afl_layer.specs.Fields.{bit_if, fcl_of, field_bytes, one_byte, fields_bytes};
-ghost use Rattle.afl_layer.specs.Header.{spelling, Fits, IsPlaced, header_at};
+ghost use Rattle.afl_layer.specs.Header.{afl_bytes, Fits, IsPlaced, afl_at};
 
 use crate::header::Afl;
 
@@ -109,8 +109,8 @@ fn put_fields(afl: &Afl, out: &mut [u8]) -> usize
 // Writes the header.
 fn put_header(afl: &Afl, out: &mut [u8]) -> usize
     requires { length out.old ≡ 21 }
-    ensures len { result ≡ length (spelling (fcl_of afl.now) afl.now) }
-    ensures spelt { take result out.new ≡ spelling (fcl_of afl.now) afl.now }
+    ensures len { result ≡ length (afl_bytes (fcl_of afl.now) afl.now) }
+    ensures spelt { take result out.new ≡ afl_bytes (fcl_of afl.now) afl.now }
     ensures fits { Fits afl.now }
 {
     let mut fields = [0; 17];
@@ -124,12 +124,12 @@ fn put_header(afl: &Afl, out: &mut [u8]) -> usize
 /// Writes the header, with the bits of FCL that aren't used as 0, and answers how many bytes it has. What `afl.len` says
 /// doesn't matter.
 pub fn write_afl(afl: &Afl, out: &mut [u8; 21]) -> usize
-    ensures len { result ≡ length (spelling (fcl_of afl.now) afl.now) }
-    ensures spelt { take result out.new ≡ spelling (fcl_of afl.now) afl.now }
+    ensures len { result ≡ length (afl_bytes (fcl_of afl.now) afl.now) }
+    ensures spelt { take result out.new ≡ afl_bytes (fcl_of afl.now) afl.now }
 
     // What is written is read back, whatever follows it, where its fields have places that are read.
     ensures again { IsPlaced afl.now → (rest : List ℕ)
-        → header_at (take result out.new ++ rest) ≡ Ok (record afl.now { len = result }) }
+        → afl_at (take result out.new ++ rest) ≡ Ok (record afl.now { len = result }) }
 {
     put_header(afl, out)
 }
