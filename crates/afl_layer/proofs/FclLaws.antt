@@ -2,7 +2,7 @@
 use Rattle.std.proofs.Common.{◌≡◌, ℕ, ◌+◌, ◌*◌, ◌/◌, ◌%◌, ◌^◌, ◌<◌, ◌≤◌, Bool, true, false, cond, eqb, List, ◌++◌, length, is_some, Ok, refl, sym, ap, ◌∙◌, arith}
 use Rattle.afl_layer.specs.declared.header.Afl.{Afl}
 use Rattle.afl_layer.specs.Fields.{has_bit, bit_if, fcl_of}
-use Rattle.afl_layer.specs.Header.{spelling, Says, Fits, IsPlaced, header_at}
+use Rattle.afl_layer.specs.Header.{afl_bytes, Says, Fits, IsPlaced, afl_at}
 use Rattle.afl_layer.proofs.HeaderLaws.{again}
 
 -- a set bit as a number
@@ -72,8 +72,8 @@ says_of a fid =
     }
 
 -- a header that was written is read back
-pub written_again : (text rest : List ℕ) (a : Afl) (n : ℕ) → text ≡ spelling (fcl_of a) a → n ≡ length (spelling (fcl_of a) a) → Fits a → IsPlaced a
-    → header_at (text ++ rest) ≡ Ok (record a { len = n })
+pub written_again : (text rest : List ℕ) (a : Afl) (n : ℕ) → text ≡ afl_bytes (fcl_of a) a → n ≡ length (afl_bytes (fcl_of a) a) → Fits a → IsPlaced a
+    → afl_at (text ++ rest) ≡ Ok (record a { len = n })
 unfolding fcl_of
 written_again text rest a n written len fits placed =
     again (text ++ rest) (record a { len = n }) (record {

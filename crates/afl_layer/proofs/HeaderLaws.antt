@@ -9,7 +9,7 @@ use Rattle.afl_layer.specs.declared.header.Afl.{Afl}
 use Rattle.afl_layer.specs.declared.header.AflFault.{AflFault}
 use Rattle.afl_layer.specs.declared.header.AflFault.TheVariants.{Truncated, AflLength, FieldPlace, FidZero}
 use Rattle.afl_layer.specs.Fields.{has_more, names_mcl, names_ki, names_mcr, names_mac, names_ml, fid_of, len_if, fields_len, field_bytes, fields_bytes, one_byte, is_misplaced, is_uncounted}
-use Rattle.afl_layer.specs.Header.{spelling, Says, Fits, IsPlaced, Begins, byte_in, two_in, four_in, all_in, afl_at, misplaces, uncounts, header_at}
+use Rattle.afl_layer.specs.Header.{afl_bytes, Says, Fits, IsPlaced, BeginsWithAfl, byte_in, two_in, four_in, all_in, fields_at, misplaces, uncounts, afl_at}
 use Rattle.afl_layer.proofs.FieldLaws.{IsBytes, IsBytes-drop, IsField, itself, one_is, two_is, four_is, eight_is, length-one, length-two, length-four, length-eight, one_again, two_again, four_again, eight_again}
 
 -- a test that came out one way
@@ -60,8 +60,8 @@ pub record TakesFields (fcl : ℕ) (bytes : List ℕ) (a : Afl) : Type 0 where
   pub says : Says fcl a
   pub fits : Fits a
 
-fields_take : (fcl : ℕ) (bytes : List ℕ) → IsBytes bytes → fields_len fcl ≤ length bytes → TakesFields fcl bytes (afl_at fcl bytes)
-unfolding afl_at fields_len
+fields_take : (fcl : ℕ) (bytes : List ℕ) → IsBytes bytes → fields_len fcl ≤ length bytes → TakesFields fcl bytes (fields_at fcl bytes)
+unfolding fields_at fields_len
 fields_take fcl bytes fits enough =
     let m : ℕ = len_if (names_mcl fcl) 1 in
     let k : ℕ = len_if (names_ki fcl) 2 in
@@ -116,25 +116,25 @@ placed_by fcl a says fields fid =
     let counted : is_uncounted a.more a.fid ≡ is_uncounted (has_more fcl) (fid_of fcl) = rw (says.more, says.fid) refl in
     record { fields = same ∙ fields; fid = counted ∙ fid }
 
-len_is : (fcl : ℕ) (rest : List ℕ) → length (fields_bytes (afl_at fcl rest)) ≡ fields_len fcl → (afl_at fcl rest).len ≡ length (spelling fcl (afl_at fcl rest))
-unfolding afl_at
+len_is : (fcl : ℕ) (rest : List ℕ) → length (fields_bytes (fields_at fcl rest)) ≡ fields_len fcl → (fields_at fcl rest).len ≡ length (afl_bytes fcl (fields_at fcl rest))
+unfolding fields_at
 len_is fcl rest len = omega (arith, len)
 
-takes_at : (ci said low high : ℕ) (rest : List ℕ) (a : Afl) → ci ≡ 0x90 → IsBytes (ci ∷ said ∷ low ∷ high ∷ rest) → header_at (ci ∷ said ∷ low ∷ high ∷ rest) ≡ Ok a
-    → Begins (ci ∷ said ∷ low ∷ high ∷ rest) a
-unfolding header_at
+takes_at : (ci said low high : ℕ) (rest : List ℕ) (a : Afl) → ci ≡ 0x90 → IsBytes (ci ∷ said ∷ low ∷ high ∷ rest) → afl_at (ci ∷ said ∷ low ∷ high ∷ rest) ≡ Ok a
+    → BeginsWithAfl (ci ∷ said ∷ low ∷ high ∷ rest) a
+unfolding afl_at
 takes_at ci said low high rest a is_afl fits e =
     let fcl : ℕ = from_le_bytes w16 (low ∷ high ∷ []) in
     let counted = guard_ok (not (eqb said (2 + fields_len fcl))) _ _ a e in
     let enough = guard_ok (ltb (length rest) (fields_len fcl)) _ _ a counted.1 in
     let placed = guard_ok (misplaces fcl) _ _ a enough.1 in
     let numbered = guard_ok (uncounts fcl) _ _ a placed.1 in
-    let same : afl_at fcl rest ≡ a = cc numbered.1 in
+    let same : fields_at fcl rest ≡ a = cc numbered.1 in
     let fields = fields_take fcl rest (λ i. fits (suc (suc (suc (suc i))))) (ltb-false _ _ enough.0) in
     let word = le_bytes_2 (low ∷ high ∷ []) fcl refl (two_bytes low high (fits 2) (fits 3)) refl in
-    let said_is : said ≡ 2 + length (fields_bytes (afl_at fcl rest)) = eqb-true _ _ (not_false _ counted.0) ∙ ap (λ (n : ℕ). 2 + n) (sym fields.len) in
-    let text : List ℕ = fields_bytes (afl_at fcl rest) in
-    let made : Begins (ci ∷ said ∷ low ∷ high ∷ rest) (afl_at fcl rest) = record {
+    let said_is : said ≡ 2 + length (fields_bytes (fields_at fcl rest)) = eqb-true _ _ (not_false _ counted.0) ∙ ap (λ (n : ℕ). 2 + n) (sym fields.len) in
+    let text : List ℕ = fields_bytes (fields_at fcl rest) in
+    let made : BeginsWithAfl (ci ∷ said ∷ low ∷ high ∷ rest) (fields_at fcl rest) = record {
       fcl = fcl;
       rest = fields.rest;
       word = omega (arith, fits 2, fits 3);
@@ -144,20 +144,20 @@ takes_at ci said low high rest a is_afl fits e =
           ∙ ap (λ (x : List ℕ). 0x90 ∷ (2 + length text) ∷ ((x ++ text) ++ fields.rest)) (sym word);
       says = fields.says;
       fits = fields.fits;
-      placed = placed_by fcl (afl_at fcl rest) fields.says placed.0 numbered.0;
+      placed = placed_by fcl (fields_at fcl rest) fields.says placed.0 numbered.0;
       len = len_is fcl rest fields.len;
     } in
-    subst (Begins (ci ∷ said ∷ low ∷ high ∷ rest)) same made
+    subst (BeginsWithAfl (ci ∷ said ∷ low ∷ high ∷ rest)) same made
 
-too_short : (bytes : List ℕ) (a : Afl) → header_at bytes ≡ Ok a → 4 ≤ length bytes
-unfolding header_at
+too_short : (bytes : List ℕ) (a : Afl) → afl_at bytes ≡ Ok a → 4 ≤ length bytes
+unfolding afl_at
 too_short [] a e = absurd cc
 too_short (b ∷ []) a e = absurd cc
 too_short (b ∷ c ∷ []) a e = absurd cc
 too_short (b ∷ c ∷ d ∷ []) a e = absurd cc
 too_short (b ∷ c ∷ d ∷ f ∷ rest) a e = omega arith
 
-takes : (bytes : List ℕ) (a : Afl) → slice_get bytes 0 ≡ Some 0x90 → IsBytes bytes → header_at bytes ≡ Ok a → Begins bytes a
+pub takes : (bytes : List ℕ) (a : Afl) → slice_get bytes 0 ≡ Some 0x90 → IsBytes bytes → afl_at bytes ≡ Ok a → BeginsWithAfl bytes a
 takes [] a ci fits e = absurd cc
 takes (b ∷ []) a ci fits e = absurd (omega (arith, too_short (b ∷ []) a e))
 takes (b ∷ c ∷ []) a ci fits e = absurd (omega (arith, too_short (b ∷ c ∷ []) a e))
@@ -172,26 +172,26 @@ judged said fcl rest =
     cond (not (eqb said (2 + fields_len fcl))) (Err (AflLength said (2 + fields_len fcl)))
     (cond (ltb (length rest) (fields_len fcl)) (Err (Truncated (4 + length rest)))
     (cond (misplaces fcl) (Err (FieldPlace fcl))
-    (cond (uncounts fcl) (Err FidZero) (Ok (afl_at fcl rest)))))
+    (cond (uncounts fcl) (Err FidZero) (Ok (fields_at fcl rest)))))
 
 judged_ok : (said fcl : ℕ) (rest : List ℕ) → said ≡ 2 + fields_len fcl → fields_len fcl ≤ length rest → misplaces fcl ≡ false → uncounts fcl ≡ false
-    → judged said fcl rest ≡ Ok (afl_at fcl rest)
+    → judged said fcl rest ≡ Ok (fields_at fcl rest)
 unfolding judged
 judged_ok said fcl rest counted enough placed numbered =
     rw (eq-eqb said (2 + fields_len fcl) counted, le-ltb (length rest) (fields_len fcl) enough, placed, numbered) refl
 
 header_parts : (ci said low high fcl : ℕ) (rest : List ℕ) → from_le_bytes w16 (low ∷ high ∷ []) ≡ fcl → said ≡ 2 + fields_len fcl → fields_len fcl ≤ length rest
-    → misplaces fcl ≡ false → uncounts fcl ≡ false → header_at (ci ∷ said ∷ low ∷ high ∷ rest) ≡ Ok (afl_at fcl rest)
-unfolding header_at judged
+    → misplaces fcl ≡ false → uncounts fcl ≡ false → afl_at (ci ∷ said ∷ low ∷ high ∷ rest) ≡ Ok (fields_at fcl rest)
+unfolding afl_at judged
 header_parts ci said low high fcl rest word counted enough placed numbered =
     ap (λ (n : ℕ). judged said n rest) word ∙ judged_ok said fcl rest counted enough placed numbered
 
 -- the fields of these lengths are those in front
-fields_at : (fcl : ℕ) (a b c d e rest : List ℕ) → length a ≡ len_if (names_mcl fcl) 1 → length b ≡ len_if (names_ki fcl) 2 → length c ≡ len_if (names_mcr fcl) 4
+fields_at_is : (fcl : ℕ) (a b c d e rest : List ℕ) → length a ≡ len_if (names_mcl fcl) 1 → length b ≡ len_if (names_ki fcl) 2 → length c ≡ len_if (names_mcr fcl) 4
     → length d ≡ len_if (names_mac fcl) 8 → length e ≡ len_if (names_ml fcl) 2
-    → afl_at fcl (a ++ (b ++ (c ++ (d ++ (e ++ rest))))) ≡ record { more = has_more fcl; fid = fid_of fcl; mcl = byte_in a; ki = two_in b; mcr = four_in c; mac = all_in d; ml = two_in e; len = 4 + fields_len fcl }
-unfolding afl_at
-fields_at fcl a b c d e rest la lb lc ld le =
+    → fields_at fcl (a ++ (b ++ (c ++ (d ++ (e ++ rest))))) ≡ record { more = has_more fcl; fid = fid_of fcl; mcl = byte_in a; ki = two_in b; mcr = four_in c; mac = all_in d; ml = two_in e; len = 4 + fields_len fcl }
+unfolding fields_at
+fields_at_is fcl a b c d e rest la lb lc ld le =
     let ra : List ℕ = b ++ (c ++ (d ++ (e ++ rest))) in
     let rb : List ℕ = c ++ (d ++ (e ++ rest)) in
     let rc : List ℕ = d ++ (e ++ rest) in
@@ -209,10 +209,10 @@ fields_at fcl a b c d e rest la lb lc ld le =
     )
     refl
 
-again_fields : (fcl : ℕ) (a : Afl) (rest : List ℕ) → Says fcl a → Fits a → a.len ≡ 4 + fields_len fcl → afl_at fcl (fields_bytes a ++ rest) ≡ a
+again_fields : (fcl : ℕ) (a : Afl) (rest : List ℕ) → Says fcl a → Fits a → a.len ≡ 4 + fields_len fcl → fields_at fcl (fields_bytes a ++ rest) ≡ a
 again_fields fcl a rest says fits len =
-    ap (afl_at fcl) (five_front (field_bytes one_byte a.mcl) (field_bytes (to_le_bytes w16) a.ki) (field_bytes (to_le_bytes w32) a.mcr) (field_bytes itself a.mac) (field_bytes (to_le_bytes w16) a.ml) rest)
-    ∙ fields_at fcl _ _ _ _ _ rest
+    ap (fields_at fcl) (five_front (field_bytes one_byte a.mcl) (field_bytes (to_le_bytes w16) a.ki) (field_bytes (to_le_bytes w32) a.mcr) (field_bytes itself a.mac) (field_bytes (to_le_bytes w16) a.ml) rest)
+    ∙ fields_at_is fcl _ _ _ _ _ rest
     (length-one a.mcl ∙ ap (λ (b : Bool). len_if b 1) says.mcl)
     (length-two a.ki ∙ ap (λ (b : Bool). len_if b 2) says.ki)
     (length-four a.mcr ∙ ap (λ (b : Bool). len_if b 4) says.mcr)
@@ -240,18 +240,18 @@ placed_of fcl a says placed = (
 )
 
 -- a spelt header is read, whatever follows it
-pub again : (bytes : List ℕ) (a : Afl) → Begins bytes a → header_at bytes ≡ Ok a
+pub again : (bytes : List ℕ) (a : Afl) → BeginsWithAfl bytes a → afl_at bytes ≡ Ok a
 again bytes a h =
     let len = length-fields_bytes h.fcl a h.says h.fits in
     let places = placed_of h.fcl a h.says h.placed in
-    let whole : length (spelling h.fcl a) ≡ 4 + length (fields_bytes a) = omega arith in
-    ap header_at h.parts
+    let whole : length (afl_bytes h.fcl a) ≡ 4 + length (fields_bytes a) = omega arith in
+    ap afl_at h.parts
     ∙ header_parts 0x90 (2 + length (fields_bytes a)) _ _ h.fcl (fields_bytes a ++ h.rest) (from_le_bytes-to_le_bytes_2 h.fcl h.word) (ap (λ (n : ℕ). 2 + n) len) (omega (arith, len, length-append (fields_bytes a) h.rest)) places.0 places.1
     ∙ ap (λ (x : Afl). let r : Result Afl AflFault = Ok x in r) (again_fields h.fcl a h.rest h.says h.fits (h.len ∙ whole ∙ ap (λ (n : ℕ). 4 + n) len))
 
-pub is_only : (bytes : List ℕ) (r : Result Afl AflFault) → r ≡ header_at bytes → (a : Afl) → Begins bytes a → r ≡ Ok a
+pub is_only : (bytes : List ℕ) (r : Result Afl AflFault) → r ≡ afl_at bytes → (a : Afl) → BeginsWithAfl bytes a → r ≡ Ok a
 is_only bytes r h a begins = h ∙ again bytes a begins
 
-pub is_found : (bytes : List ℕ) (r : Result Afl AflFault) → slice_get bytes 0 ≡ Some 0x90 → IsBytes bytes → r ≡ header_at bytes → IfOk r (λ a. Begins bytes a)
+pub is_found : (bytes : List ℕ) (r : Result Afl AflFault) → slice_get bytes 0 ≡ Some 0x90 → IsBytes bytes → r ≡ afl_at bytes → IfOk r (λ a. BeginsWithAfl bytes a)
 is_found bytes (Ok a) ci fits h = takes bytes a ci fits (sym h)
 is_found bytes (Err f) ci fits h = tt

@@ -7,8 +7,8 @@ use Rattle.afl_layer.specs.declared.header.AflFault.TheVariants.{Truncated, AflL
 use Rattle.afl_layer.specs.Fields.{has_more, names_mcl, names_ki, names_mcr, names_mac, names_ml, fid_of, len_if, fields_len, fields_bytes, is_misplaced, is_uncounted}
 
 -- the bytes of a header with this FCL: CI 90, AFLL, which counts the bytes behind itself, FCL, the fields
-abbrev pub spelling : ℕ → Afl → List ℕ
-spelling fcl a = 0x90 ∷ (2 + length (fields_bytes a)) ∷ (to_le_bytes w16 fcl ++ fields_bytes a)
+abbrev pub afl_bytes : ℕ → Afl → List ℕ
+afl_bytes fcl a = 0x90 ∷ (2 + length (fields_bytes a)) ∷ (to_le_bytes w16 fcl ++ fields_bytes a)
 
 -- FCL says what the header has; its bits 15 and 8 say nothing
 pub record Says (fcl : ℕ) (a : Afl) : Type 0 where
@@ -33,16 +33,16 @@ pub record IsPlaced (a : Afl) : Type 0 where
   pub fields : is_misplaced a.more a.fid (is_some a.mcl) (is_some a.ki) (is_some a.mcr) (is_some a.mac) (is_some a.ml) ≡ false
   pub fid : is_uncounted a.more a.fid ≡ false
 
--- the bytes begin with a spelling of the header
-pub record Begins (bytes : List ℕ) (a : Afl) : Type 0 where
+-- the bytes begin with a afl_bytes of the header
+pub record BeginsWithAfl (bytes : List ℕ) (a : Afl) : Type 0 where
   pub fcl : ℕ
   pub rest : List ℕ
   pub word : fcl < 2 ^ 16
-  pub parts : bytes ≡ spelling fcl a ++ rest
+  pub parts : bytes ≡ afl_bytes fcl a ++ rest
   pub says : Says fcl a
   pub fits : Fits a
   pub placed : IsPlaced a
-  pub len : a.len ≡ length (spelling fcl a)
+  pub len : a.len ≡ length (afl_bytes fcl a)
 
 -- ---- reading from left to right, with the first fault
 
@@ -63,8 +63,8 @@ all_in [] = None
 all_in (b ∷ bytes) = Some (b ∷ bytes)
 
 -- the fields that FCL names, one behind the other
-unfoldable pub afl_at : ℕ → List ℕ → Afl
-afl_at fcl bytes =
+unfoldable pub fields_at : ℕ → List ℕ → Afl
+fields_at fcl bytes =
     let mcl : ℕ = len_if (names_mcl fcl) 1 in
     let ki : ℕ = len_if (names_ki fcl) 2 in
     let mcr : ℕ = len_if (names_mcr fcl) 4 in
@@ -94,12 +94,12 @@ unfoldable pub uncounts : ℕ → Bool
 uncounts fcl = is_uncounted (has_more fcl) (fid_of fcl)
 
 -- the header with which the bytes begin, whose CI is 90, or the first fault
-unfoldable pub header_at : List ℕ → Result Afl AflFault
-header_at (ci ∷ said ∷ low ∷ high ∷ rest) =
+unfoldable pub afl_at : List ℕ → Result Afl AflFault
+afl_at (ci ∷ said ∷ low ∷ high ∷ rest) =
     let fcl : ℕ = from_le_bytes w16 (low ∷ high ∷ []) in
     if not (said == 2 + fields_len fcl) then Err (AflLength said (2 + fields_len fcl))
     else if nat_lt (length rest) (fields_len fcl) then Err (Truncated (4 + length rest))
     else if misplaces fcl then Err (FieldPlace fcl)
     else if uncounts fcl then Err FidZero
-    else Ok (afl_at fcl rest)
-header_at bytes = Err (Truncated (length bytes))
+    else Ok (fields_at fcl rest)
+afl_at bytes = Err (Truncated (length bytes))

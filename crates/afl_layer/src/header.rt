@@ -1,7 +1,7 @@
 //! Reading the header of the authentication and fragmentation layer.
 ghost use Rattle.std.specs.Prelude.{◌≡◌, ◌+◌, ◌≤◌, length, slice_get, Some, Ok, IfOk};
 ghost use Rattle.afl_layer.specs.Fields.{fields_len};
-ghost use Rattle.afl_layer.specs.Header.{Begins, misplaces, uncounts, afl_at, header_at};
+ghost use Rattle.afl_layer.specs.Header.{BeginsWithAfl, misplaces, uncounts, fields_at, afl_at};
 ghost use Rattle.afl_layer.specs.declared.header.Afl.{Afl};
 
 use crate::fields::{eight, four, has, len_of, one, two};
@@ -89,10 +89,10 @@ fn is_unnumbered(fcl: u16) -> bool
 }
 
 // The fields that FCL names, one behind the other.
-#[tactic(auto, unfolding(crate::specs::Header::afl_at, crate::specs::Fields::fields_len))]
+#[tactic(auto, unfolding(crate::specs::Header::fields_at, crate::specs::Fields::fields_len))]
 fn read_fields(fcl: u16, bytes: &[u8]) -> Afl
     requires { fields_len fcl ≤ length bytes.now }
-    ensures { result ≡ afl_at fcl bytes.now }
+    ensures { result ≡ fields_at fcl bytes.now }
 {
     let (mcl, rest) = bytes.split_at(len_of(has(fcl, 13), 1));
     let (ki, rest) = rest.split_at(len_of(has(fcl, 9), 2));
@@ -112,9 +112,9 @@ fn read_fields(fcl: u16, bytes: &[u8]) -> Afl
 }
 
 // The header with which the bytes begin, or the first fault.
-#[tactic(auto, unfolding(crate::specs::Header::header_at))]
+#[tactic(auto, unfolding(crate::specs::Header::afl_at))]
 fn read_header(bytes: &[u8]) -> Result<Afl, AflFault>
-    ensures { result ≡ header_at bytes.now }
+    ensures { result ≡ afl_at bytes.now }
 {
     let [_, said, low, high, rest @ ..] = bytes else {
         return Err(AflFault::Truncated(bytes.len()));
@@ -143,11 +143,11 @@ pub fn read_afl(bytes: &[u8]) -> Result<Afl, AflFault>
     requires { slice_get bytes.now 0 ≡ Some 0x90 }
 
     // What is read is spelled so, and what is spelled so is read.
-    ensures found { IfOk result (λ a. Begins bytes.now a) }
-    ensures only { (a : Afl) → Begins bytes.now a → result ≡ Ok a }
+    ensures found { IfOk result (λ a. BeginsWithAfl bytes.now a) }
+    ensures only { (a : Afl) → BeginsWithAfl bytes.now a → result ≡ Ok a }
 
     // A fault is the first that the bytes show.
-    ensures exact { result ≡ header_at bytes.now }
+    ensures exact { result ≡ afl_at bytes.now }
 {
     read_header(bytes)
 }

@@ -25,7 +25,7 @@ fn whole_messages(rt: HostRuntime) {
     assert_eq!(rt; read_afl(&WHOLE[..16]), Err(AflFault::Truncated(16)));
     let mut out = [0xFF; 21];
     assert_eq!(rt; write_afl(&whole(), &mut out), 17);
-    assert_eq!(rt; out[..17], WHOLE);
+    assert_eq!(rt; &out[..17], WHOLE.as_slice());
 }
 
 #[test]
@@ -42,7 +42,10 @@ fn faults(rt: HostRuntime) {
         ),
         (&[0x90, 3, 1, 0x20], AflFault::Truncated(4)),
         (&[0x90, 3, 2, 0x20, 0x25], AflFault::FieldPlace(0x2002)),
-        (&[0x90, 4, 9, 0x93, 1, 2], AflFault::FieldPlace(0x9309)),
+        (
+            &[0x90, 6, 9, 0x93, 1, 2, 3, 4],
+            AflFault::FieldPlace(0x9309),
+        ),
         (
             &[0x90, 15, 0, 0x6C, 0x25, 5, 0, 0, 0, 1, 2, 3, 4, 5, 6, 7, 8],
             AflFault::FieldPlace(0x6C00),

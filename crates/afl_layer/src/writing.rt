@@ -1,10 +1,9 @@
 //! Writing the header of the authentication and fragmentation layer.
-ghost use Rattle.std.specs.Prelude.{◌≡◌, ◌+◌, ◌≤◌, ◌<◌, ◌^◌, ◌++◌, ℕ, List, length, take, Ok, IfSome, is_some};
+ghost use Rattle.std.specs.Prelude.{◌≡◌, ◌+◌, ◌≤◌, ◌<◌, ◌^◌, ◌++◌, ℕ, List, length, take, Ok, IfSome};
 ghost use Rattle.std.specs.Int.{w16, w32, to_le_bytes};
-ghost use Rattle.afl_layer.specs.Fields.{bit_if, fcl_of, len_if, field_bytes, one_byte, fields_bytes};
-ghost use Rattle.afl_layer.specs.Header.{spelling, Fits, IsPlaced, header_at};
+ghost use Rattle.afl_layer.specs.Fields.{bit_if, fcl_of, field_bytes, one_byte, fields_bytes};
+ghost use Rattle.afl_layer.specs.Header.{afl_bytes, Fits, IsPlaced, afl_at};
 
-use crate::fields::len_of;
 use crate::header::Afl;
 
 // A bit of FCL, where it is set.
@@ -25,17 +24,6 @@ fn fcl_for(afl: &Afl) -> u16
         + (bit(afl.ki.is_some(), 1 << 9) + u16::from(afl.fid));
     let middle = bit(afl.ml.is_some(), 1 << 12) + (bit(afl.mcr.is_some(), 1 << 11) + low);
     bit(afl.more, 1 << 14) + (bit(afl.mcl.is_some(), 1 << 13) + middle)
-}
-
-// How many bytes the fields have.
-fn room(afl: &Afl) -> usize
-    ensures is { result ≡ len_if (is_some afl.now.mcl) 1 + (len_if (is_some afl.now.ki) 2 + (len_if (is_some afl.now.mcr) 4 + (len_if (is_some afl.now.mac) 8 + len_if (is_some afl.now.ml) 2))) }
-    ensures most { result ≤ 17 }
-{
-    len_of(afl.mcl.is_some(), 1)
-        + (len_of(afl.ki.is_some(), 2)
-            + (len_of(afl.mcr.is_some(), 4)
-                + (len_of(afl.mac.is_some(), 8) + len_of(afl.ml.is_some(), 2))))
 }
 
 // Writes bytes at this place, and answers the place behind them.
@@ -101,16 +89,17 @@ fn put_eight(out: &mut [u8], at: usize, field: Option<[u8; 8]>) -> usize
 }
 
 // Writes the fields, one behind the other.
-fn put_fields(afl: &Afl, out: &mut [u8], at: usize) -> usize
-    requires { at + 17 ≤ length out.old }
-    ensures end { result ≡ at + length (fields_bytes afl.now) }
-    ensures written { take result out.new ≡ take at out.old ++ fields_bytes afl.now }
+fn put_fields(afl: &Afl, out: &mut [u8]) -> usize
+    requires { length out.old ≡ 17 }
+    ensures end { result ≡ length (fields_bytes afl.now) }
+    ensures most { result ≤ 17 }
+    ensures written { take result out.new ≡ fields_bytes afl.now }
     ensures ki { IfSome afl.now.ki (λ n. n < 2 ^ 16) }
     ensures mcr { IfSome afl.now.mcr (λ n. n < 2 ^ 32) }
     ensures mac { IfSome afl.now.mac (λ mac. length mac ≡ 8) }
     ensures ml { IfSome afl.now.ml (λ n. n < 2 ^ 16) }
 {
-    let end = put_one(out, at, afl.mcl);
+    let end = put_one(out, 0, afl.mcl);
     let end = put_two(out, end, afl.ki);
     let end = put_four(out, end, afl.mcr);
     let end = put_eight(out, end, afl.mac);
@@ -120,25 +109,27 @@ fn put_fields(afl: &Afl, out: &mut [u8], at: usize) -> usize
 // Writes the header.
 fn put_header(afl: &Afl, out: &mut [u8]) -> usize
     requires { length out.old ≡ 21 }
-    ensures len { result ≡ length (spelling (fcl_of afl.now) afl.now) }
-    ensures spelt { take result out.new ≡ spelling (fcl_of afl.now) afl.now }
+    ensures len { result ≡ length (afl_bytes (fcl_of afl.now) afl.now) }
+    ensures spelt { take result out.new ≡ afl_bytes (fcl_of afl.now) afl.now }
     ensures fits { Fits afl.now }
 {
+    let mut fields = [0; 17];
+    let len = put_fields(afl, &mut fields);
     let fcl = fcl_for(afl).to_le_bytes();
-    let end = put(out, 0, &[0x90, 2 + room(afl) as u8]);
+    let end = put(out, 0, &[0x90, 2 + len as u8]);
     let end = put(out, end, &fcl);
-    put_fields(afl, out, end)
+    put(out, end, &fields[..len])
 }
 
 /// Writes the header, with the bits of FCL that aren't used as 0, and answers how many bytes it has. What `afl.len` says
 /// doesn't matter.
 pub fn write_afl(afl: &Afl, out: &mut [u8; 21]) -> usize
-    ensures len { result ≡ length (spelling (fcl_of afl.now) afl.now) }
-    ensures spelt { take result out.new ≡ spelling (fcl_of afl.now) afl.now }
+    ensures len { result ≡ length (afl_bytes (fcl_of afl.now) afl.now) }
+    ensures spelt { take result out.new ≡ afl_bytes (fcl_of afl.now) afl.now }
 
     // What is written is read back, whatever follows it, where its fields have places that are read.
     ensures again { IsPlaced afl.now → (rest : List ℕ)
-        → header_at (take result out.new ++ rest) ≡ Ok (record afl.now { len = result }) }
+        → afl_at (take result out.new ++ rest) ≡ Ok (record afl.now { len = result }) }
 {
     put_header(afl, out)
 }

@@ -67,6 +67,9 @@ fn written_header(rt: HostRuntime) {
 fn configuration(rt: HostRuntime) {
     let gas = tpl(0x7A, None, 0x0520, None, 5);
     assert_eq!(rt; (gas.mode(), gas.blocks(), gas.derivation()), (5, 2, None));
+    assert!(rt; !gas.is_bidirectional() && !gas.is_accessible());
+    let open = tpl(0x7A, None, 0x8520, None, 5);
+    assert!(rt; open.is_bidirectional() && !open.is_accessible());
     let heat = tpl(0x7A, None, 0xE7F0, Some(0x2F), 6);
     assert_eq!(rt;
         (heat.mode(), heat.blocks(), heat.derivation()),
