@@ -49,7 +49,7 @@ fn inverse_mixed_word(column: u32) -> u32
     inverse_mixture(0, a) ^ inverse_mixture(1, b) ^ inverse_mixture(2, c) ^ inverse_mixture(3, d)
 }
 
-// A round up to its round key.
+/// A round up to its round key.
 pub fn forward_round(s: [u32; 4]) -> [u32; 4]
     ensures { (b : List ℕ) → AreWordsOf s b → AreWordsOf result (mix_columns (shift_rows (sub_bytes b))) }
 {
@@ -61,7 +61,7 @@ pub fn forward_round(s: [u32; 4]) -> [u32; 4]
     ]
 }
 
-// The last round, which doesn't mix, up to its round key.
+/// The last round, which doesn't mix, up to its round key.
 pub fn last_round(s: [u32; 4]) -> [u32; 4]
     ensures { (b : List ℕ) → AreWordsOf s b → AreWordsOf result (shift_rows (sub_bytes b)) }
 {
@@ -73,7 +73,7 @@ pub fn last_round(s: [u32; 4]) -> [u32; 4]
     ]
 }
 
-// A round of the inverse cipher up to its round key.
+/// A round of the inverse cipher up to its round key.
 pub fn inverse_round(s: [u32; 4]) -> [u32; 4]
     ensures { (b : List ℕ) → AreWordsOf s b → AreWordsOf result (inverse_sub_bytes (inverse_shift_rows b)) }
 {
@@ -85,7 +85,7 @@ pub fn inverse_round(s: [u32; 4]) -> [u32; 4]
     ]
 }
 
-// The columns mixed back.
+/// The columns mixed back.
 pub fn inverse_mixed_words(s: [u32; 4]) -> [u32; 4]
     ensures { (b : List ℕ) → AreWordsOf s b → AreWordsOf result (inverse_mix_columns b) }
 {
@@ -97,7 +97,7 @@ pub fn inverse_mixed_words(s: [u32; 4]) -> [u32; 4]
     ]
 }
 
-// The words of a block.
+/// The words of a block.
 pub fn loaded(block: &[u8; 16]) -> [u32; 4]
     ensures { AreWordsOf result block.now }
 {
@@ -110,7 +110,7 @@ pub fn loaded(block: &[u8; 16]) -> [u32; 4]
     ]
 }
 
-// The block of four words.
+/// The block of four words.
 pub fn stored(s: [u32; 4]) -> [u8; 16]
     ensures { (b : List ℕ) → AreWordsOf s b → result ≡ b }
 {
@@ -134,7 +134,7 @@ fn round_constant(n: usize) -> u8
     ROUND_CONSTANTS[n]
 }
 
-// The words of the round key after round key n.
+/// The words of the round key after round key n.
 pub fn next_words(k: [u32; 4], n: usize) -> [u32; 4]
     requires { n < 10 }
     ensures { (b : List ℕ) → AreWordsOf k b → AreWordsOf result (next_round_key n b) }
