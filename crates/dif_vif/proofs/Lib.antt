@@ -1,0 +1,6 @@
+pub mod Chains
+pub mod Digits
+pub mod Steps
+pub mod Takes
+pub mod Again
+pub mod Spans
