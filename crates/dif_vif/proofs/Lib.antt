@@ -4,3 +4,4 @@ pub mod Steps
 pub mod Takes
 pub mod Again
 pub mod Spans
+pub mod Listings

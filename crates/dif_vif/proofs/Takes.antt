@@ -3,7 +3,7 @@ use Rattle.std.proofs.Common.{◌≡◌, ℕ, zero, suc, ◌+◌, ◌%◌, ◌<�
 use Rattle.std.specs.Prelude.{unwrap_or}
 use Rattle.std.specs.Option.{option_to_list}
 use Rattle.std.proofs.lemmas.Bool.{cases_lt, ltb-false, eqb-true, eqb-false}
-use Rattle.std.proofs.lemmas.List.{take-append-drop, length-take}
+use Rattle.std.proofs.lemmas.List.{take-append-drop, length-take, length-append}
 use Rattle.dif_vif.specs.declared.fault.RecordFault.{RecordFault}
 use Rattle.dif_vif.specs.declared.fault.RecordFault.TheVariants.{Truncated, TooManyExtensions, Lvar, Selection, Special}
 use Rattle.dif_vif.specs.Spelling.{Dib, Vib, Contents, DataRecord, IsChain, IsPlainText, IsRecord, lvar_width, data_width, dib_spelling, vib_spelling, contents_spelling, spelling}
@@ -205,3 +205,7 @@ record_takes start bytes x e =
       few_vifes = second.few;
       sent = third.wide;
     })
+
+-- and it is no longer than what was there
+pub record_fits : (start : ℕ) (bytes : List ℕ) (x : DataRecord × List ℕ) → record_at start bytes ≡ Ok x → length (spelling x.0) ≤ length bytes
+record_fits start bytes x e = rw (record_takes start bytes x e).0 (omega (arith, length-append (spelling x.0) x.1))

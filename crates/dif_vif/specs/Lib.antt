@@ -3,3 +3,4 @@ pub mod Spelling
 pub mod Spans
 pub mod Reading
 pub mod Views
+pub mod Listing

@@ -70,6 +70,14 @@ pub record IsMakerSpan (bytes : List ℕ) (span : RecordSpan) : Type 0 where
 abbrev pub IsSpanOf : List ℕ → RecordSpan → Type 0
 IsSpanOf bytes span = IsRecordSpan bytes span ⊎ IsMakerSpan bytes span
 
+-- The places of a span are in order, and inside the bytes.
+pub record LiesWithin (bytes : List ℕ) (span : RecordSpan) : Type 0 where
+  pub begins : span.start < span.data_at
+  pub text : span.text_at + span.text_len ≡ span.vifes_at
+  pub vifes : span.vifes_at + span.vifes ≤ span.data_at
+  pub ends : span.data_at + span.data_len ≡ span.end
+  pub within : span.end ≤ length bytes
+
 -- Only fillers, 2F, stand from one place to another.
 pub record AreFillers (bytes : List ℕ) (from to : ℕ) : Type 0 where
   pub ordered : from ≤ to

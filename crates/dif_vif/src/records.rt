@@ -1,8 +1,9 @@
 //! The records of a payload, one after another.
 
-ghost use Rattle.std.specs.Prelude.{◌≡◌, ◌≢◌, ◌+◌, ◌^◌, ◌<◌, ◌≤◌, length, slice_get, Ok, IfOk, IfErr, IfSome};
+ghost use Rattle.std.specs.Prelude.{◌≡◌, ◌+◌, ◌^◌, ◌<◌, ◌≤◌, length, drop, Option, ◌↔◌, Ok, IsErr, IfOk, IfSome};
+ghost use Rattle.dif_vif.specs.declared.span.RecordSpan.{RecordSpan};
 ghost use Rattle.dif_vif.specs.Spelling.{IsRecord, spelling};
-ghost use Rattle.dif_vif.specs.Spans.{span_of, maker_span, IsSpanOf, IsNext, NoneBegins};
+ghost use Rattle.dif_vif.specs.Spans.{span_of, maker_span, LiesWithin, IsNext, NoneBegins};
 ghost use Rattle.dif_vif.specs.Reading.{span_at, next_of};
 ghost use Rattle.dif_vif.specs.Views.{data_record};
 
@@ -69,4 +70,48 @@ fn maker_span(start: usize, dif: u8, len: usize) -> RecordSpan
         data_at: start + 1,
         data_len: len - (start + 1),
     }
+}
+
+#[tactic(auto, unfolding(crate::specs::Reading::span_at))]
+fn span_at(bytes: &[u8], start: usize) -> Result<RecordSpan, RecordFault>
+    requires { start < length bytes.now }
+    ensures { result ≡ span_at (length bytes.now) start (drop start bytes.now) }
+{
+    let dif = bytes[start];
+    if dif == MAKER || dif == MAKER_AND_MORE {
+        return Ok(maker_span(start, dif, bytes.len()));
+    }
+    let (_, rest) = bytes.split_at(start);
+    let (found, _) = record_of(start, rest)?;
+    Ok(span_of(start, &found))
+}
+
+fn next_span(bytes: &[u8], from: usize) -> Result<Option<RecordSpan>, RecordFault>
+    requires { from ≤ length bytes.now }
+    ensures { result ≡ next_of bytes.now from }
+{
+    for start in from..bytes.len() {
+        if bytes[start] != FILLER {
+            return Ok(Some(span_at(bytes, start)?));
+        }
+    }
+    Ok(None)
+}
+
+/// The next record from a place on, or the first fault on the way through it. Fillers are passed over.
+pub fn next_record(bytes: &[u8], from: usize) -> Result<Option<RecordSpan>, RecordFault>
+    requires { from ≤ length bytes.now }
+    // What is answered comes next: a span after fillers, or none after fillers alone.
+    ensures found { IfOk result (λ next. IsNext bytes.now from next) }
+    // What comes next is answered.
+    ensures only { (next : Option RecordSpan) → IsNext bytes.now from next → result ≡ Ok next }
+    // A fault comes exactly where no record begins after the fillers.
+    ensures refused { IsErr result ↔ NoneBegins bytes.now from }
+    // Which fault it is.
+    ensures exact { result ≡ next_of bytes.now from }
+    // A span begins no earlier, and its places are inside the bytes.
+    ensures onward { IfOk result (λ next. IfSome next (λ span. from ≤ span.start)) }
+    ensures within { IfOk result (λ next. IfSome next (LiesWithin bytes.now)) }
+{
+    next_span(bytes, from)
 }
