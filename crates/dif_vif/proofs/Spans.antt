@@ -8,7 +8,7 @@ use Rattle.std.proofs.lemmas.Option.{slice_get-get_or, slice_get_within, get_or_
 use Rattle.dif_vif.specs.declared.fault.RecordFault.{RecordFault}
 use Rattle.dif_vif.specs.declared.fault.RecordFault.TheVariants.{Truncated}
 use Rattle.dif_vif.specs.declared.span.RecordSpan.{RecordSpan}
-use Rattle.dif_vif.specs.Spelling.{DataRecord, IsRecord, vib_spelling, contents_spelling, spelling}
+use Rattle.dif_vif.specs.Spelling.{DataRecord, IsChain, IsRecord, data_width, vib_spelling, contents_spelling, spelling}
 use Rattle.dif_vif.specs.Spans.{span_of, maker_span, IsRecordSpan, IsMakerSpan, IsSpanOf, LiesWithin, AreFillers, IsNext, NoneBegins}
 use Rattle.dif_vif.specs.Reading.{◌>>=◌, record_at, begins_maker, span_at, next_at, next_of}
 use Rattle.dif_vif.proofs.Steps.{bind_ok, ok_is}
@@ -285,3 +285,26 @@ onward_if_ok bytes from (Err fault) le e = tt
 pub within_if_ok : (bytes : List ℕ) (from : ℕ) (r : Result (Option RecordSpan) RecordFault) → from ≤ length bytes → r ≡ next_of bytes from → IfOk r (λ next. IfSome next (LiesWithin bytes))
 within_if_ok bytes from (Ok next) le e = within_is bytes from next (next_found bytes from next le (sym e))
 within_if_ok bytes from (Err fault) le e = tt
+
+-- ---- what a reader of a span needs
+
+chain_not_empty : (byte : ℕ) (part : List ℕ) → IsChain byte part → 128 ≤ byte → 0 < length part
+chain_not_empty byte [] chain le = absurd (omega (arith, chain))
+chain_not_empty byte (next ∷ others) chain le = omega arith
+
+-- behind a VIF with its top bit stands a VIFE
+pub first_vife_within : (bytes : List ℕ) (span : RecordSpan) → IsSpanOf bytes span → span.maker ≡ false → 128 ≤ span.vif → (0 < span.vifes) × (span.vifes_at < length bytes)
+first_vife_within bytes span (inl s) not_maker le =
+    let top : 128 ≤ s.found.vib.vif = subst (λ (x : RecordSpan). 128 ≤ x.vif) s.places le in
+    let some : 0 < length s.found.vib.vifes = chain_not_empty s.found.vib.vif s.found.vib.vifes s.is_record.vifes top in
+    let some_vifes : 0 < span.vifes = subst (λ (x : RecordSpan). 0 < x.vifes) (sym s.places) some in
+    let places = LiesWithin-from_span bytes span (inl s) in
+    (some_vifes, omega (arith, places.vifes, places.ends, places.within))
+first_vife_within bytes span (inr s) not_maker le =
+    absurd (let is_maker_span : true ≡ span.maker = ap (λ (x : RecordSpan). x.maker) (sym s.places) in cc)
+
+-- of a record the DIF and the LVAR announce as many bytes of data as there are
+pub width_of_span : (bytes : List ℕ) (span : RecordSpan) → IsSpanOf bytes span → span.maker ≡ false → data_width span.dif span.lvar ≡ Some span.data_len
+width_of_span bytes span (inl s) not_maker = subst (λ (x : RecordSpan). data_width x.dif x.lvar ≡ Some x.data_len) (sym s.places) s.is_record.sent
+width_of_span bytes span (inr s) not_maker =
+    absurd (let is_maker_span : true ≡ span.maker = ap (λ (x : RecordSpan). x.maker) (sym s.places) in cc)
