@@ -5,3 +5,4 @@ pub mod Takes
 pub mod Again
 pub mod Spans
 pub mod Listings
+pub mod Lowest

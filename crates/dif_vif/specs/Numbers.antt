@@ -8,7 +8,7 @@ low_first base (digit ∷ digits) = digit + base * low_first base digits
 
 -- Each DIFE brings four bits of the storage number, above the one bit of the DIF.
 abbrev pub storage_of : ℕ → List ℕ → ℕ
-storage_of dif difes = dif / 64 % 2 + 2 * low_first 16 (map (λ dife. dife / 1 % 16) difes)
+storage_of dif difes = dif / 64 % 2 + 2 * low_first 16 (map (λ dife. dife % 16) difes)
 
 -- Each DIFE brings two bits of the tariff.
 abbrev pub tariff_of : List ℕ → ℕ

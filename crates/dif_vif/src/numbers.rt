@@ -21,6 +21,7 @@ fn number_of(difes: &[u8], lowest: u8, base: u8) -> u64
     number
 }
 
+#[tactic(auto, using(crate::proofs::Lowest::lowest))]
 pub fn storage_of(dif: u8, difes: &[u8]) -> u64
     requires { length difes.now ≤ 10 }
     ensures { result ≡ storage_of dif difes.now }

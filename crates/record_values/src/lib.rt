@@ -1,7 +1,11 @@
-//! What a data record says: its quantity, its unit and its value (EN 13757-3, chapter 6 and annexes A and B).
+//! What a data record says: its quantity, its unit and its value (EN 13757-3, chapter 6 and annex A).
 #![tactic(auto)]
 
+mod dates;
+mod digits;
 mod unit_tables;
 mod units;
+mod values;
 
 pub use units::{Quantity, Unit, UnitName, unit_of};
+pub use values::Value;
