@@ -1,1 +1,4 @@
 pub mod UnitCases
+pub mod Decimal
+pub mod Whole
+pub mod ValueCases

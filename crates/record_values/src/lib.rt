@@ -8,4 +8,4 @@ mod units;
 mod values;
 
 pub use units::{Quantity, Unit, UnitName, unit_of};
-pub use values::Value;
+pub use values::{Value, value_of};

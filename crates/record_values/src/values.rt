@@ -105,3 +105,42 @@ fn lvar_value(lvar: u8, sent: &[u8]) -> Value
         _ => Value::Whole(signed_of(sent)),
     }
 }
+
+/// The value of a number with its data field, or with its LVAR where there is one.
+fn number_value(dif: u8, lvar: Option<u8>, sent: &[u8]) -> Value
+    requires { data_width dif lvar ≡ Some (length sent.now) }
+    ensures { result ≡ number_value (dif % 16) lvar sent.now }
+{
+    match lvar {
+        None => field_value(dif % 16, sent),
+        Some(lvar) => lvar_value(lvar, sent),
+    }
+}
+
+fn reading_of(quantity: Quantity) -> Reading
+    ensures { result ≡ reading_of quantity }
+{
+    match quantity {
+        Quantity::Unknown | Quantity::Manufacturer => Reading::Unread,
+        Quantity::Date => Reading::Day,
+        Quantity::DateTime => Reading::Moment,
+        _ => Reading::Number,
+    }
+}
+
+/// The value of a record of these bytes.
+pub fn value_of(bytes: &[u8], span: &RecordSpan) -> Value
+    requires { IsSpanOf bytes.now span.now }
+    ensures { result ≡ value bytes.now span.now }
+{
+    let (_, rest) = bytes.split_at(span.data_at);
+    let (sent, _) = rest.split_at(span.data_len);
+    match reading_of(unit_of(bytes, span).quantity) {
+        Reading::Unread => unread(sent),
+        Reading::Day if span.dif % 16 == 2 => day_value(unsigned_of(sent) as u32),
+        Reading::Day => unread(sent),
+        Reading::Moment if span.dif % 16 == 4 => moment_value(unsigned_of(sent) as u32),
+        Reading::Moment => unread(sent),
+        Reading::Number => number_value(span.dif, span.lvar, sent),
+    }
+}
