@@ -83,12 +83,12 @@ span_found bytes start span lt e =
     let at_first : span_at (length bytes) start (dif ∷ drop (start + 1) bytes) ≡ Ok span = ap (span_at (length bytes) start) (sym first) ∙ e in
     elim (cases_Bool (begins_maker dif)) [
       | inl m ↦
-        let same : maker_span start dif (length bytes) ≡ span = ok_is _ _ (sym (span_at-maker (length bytes) start dif (drop (start + 1) bytes) m) ∙ at_first) in
-        subst (λ (s : RecordSpan). IsSpanOf bytes s × (s.start ≡ start)) same (inr (record { dif = is_maker dif m; stands = slice_get-get_or bytes start 0 lt; places = refl }), refl)
+          let same : maker_span start dif (length bytes) ≡ span = ok_is _ _ (sym (span_at-maker (length bytes) start dif (drop (start + 1) bytes) m) ∙ at_first) in
+          subst (λ (s : RecordSpan). IsSpanOf bytes s × (s.start ≡ start)) same (inr (record { dif = is_maker dif m; stands = slice_get-get_or bytes start 0 lt; places = refl }), refl)
       | inr m ↦
-        let a = bind_ok (record_at start (dif ∷ drop (start + 1) bytes)) (λ found. Ok (span_of start found.0)) span (sym (span_at-record (length bytes) start dif (drop (start + 1) bytes) m) ∙ at_first) in
-        let t = record_takes start (dif ∷ drop (start + 1) bytes) a.0 a.1 in
-        subst (λ (s : RecordSpan). IsSpanOf bytes s × (s.start ≡ start)) (ok_is (span_of start a.0.0) span a.2) (inl (record { found = a.0.0; is_record = t.1; rest = a.0.1; spelled = first ∙ t.0; places = refl }), refl)
+          let a = bind_ok (record_at start (dif ∷ drop (start + 1) bytes)) (λ found. Ok (span_of start found.0)) span (sym (span_at-record (length bytes) start dif (drop (start + 1) bytes) m) ∙ at_first) in
+          let t = record_takes start (dif ∷ drop (start + 1) bytes) a.0 a.1 in
+          subst (λ (s : RecordSpan). IsSpanOf bytes s × (s.start ≡ start)) (ok_is (span_of start a.0.0) span a.2) (inl (record { found = a.0.0; is_record = t.1; rest = a.0.1; spelled = first ∙ t.0; places = refl }), refl)
     ]
 
 -- what stands at a place is answered
@@ -128,10 +128,10 @@ one_filler_more bytes from to lt filler f =
       ordered = omega (arith, f.ordered);
       within = f.within;
       fillers = λ place low high.
-        elim (cases_eq place from) [
-          | inl here ↦ rw here (slice_get-get_or bytes from 0 lt ∙ ap (λ (b : ℕ). Some b) filler)
-          | inr other ↦ f.fillers place (omega arith) high
-        ];
+          elim (cases_eq place from) [
+            | inl here ↦ rw here (slice_get-get_or bytes from 0 lt ∙ ap (λ (b : ℕ). Some b) filler)
+            | inr other ↦ f.fillers place (omega arith) high
+          ];
     }
 
 one_filler_less : (bytes : List ℕ) (from to : ℕ) → from < to → AreFillers bytes from to → AreFillers bytes (from + 1) to
@@ -158,9 +158,9 @@ next_found_in (suc left) bytes from next all e =
     elim (cases_eq (get_or bytes from 0) 0x2f) [
       | inl filler ↦ more_fillers bytes from next lt filler (next_found_in left bytes (from + 1) next (omega arith) (sym (next_of-filler bytes from lt filler) ∙ e))
       | inr other ↦
-        let a = bind_ok (span_at (length bytes) from (drop from bytes)) (λ span. Ok (Some span)) next (sym (next_of-span bytes from lt other) ∙ e) in
-        let found = span_found bytes from a.0 lt a.1 in
-        subst (λ (n : Option RecordSpan). IsNext bytes from n) (ok_is (Some a.0) next a.2) (rw found.1 (no_fillers bytes from (omega arith)), found.0)
+          let a = bind_ok (span_at (length bytes) from (drop from bytes)) (λ span. Ok (Some span)) next (sym (next_of-span bytes from lt other) ∙ e) in
+          let found = span_found bytes from a.0 lt a.1 in
+          subst (λ (n : Option RecordSpan). IsNext bytes from n) (ok_is (Some a.0) next a.2) (rw found.1 (no_fillers bytes from (omega arith)), found.0)
     ]
   where
     more_fillers : (bytes : List ℕ) (from : ℕ) (next : Option RecordSpan) → from < length bytes → get_or bytes from 0 ≡ 0x2f → IsNext bytes (from + 1) next → IsNext bytes from next
@@ -183,16 +183,16 @@ next_only_in (suc left) bytes from (Some span) all n =
     let lt : from < length bytes = omega arith in
     elim (cases_eq (get_or bytes from 0) 0x2f) [
       | inl filler ↦
-        elim (cases_lt from span.start) [
-          | inl before ↦ next_of-filler bytes from lt filler ∙ next_only_in left bytes (from + 1) (Some span) (omega arith) (one_filler_less bytes from span.start before n.0, n.1)
-          | inr le ↦
-            let here : span.start ≡ from = omega (arith, n.0.ordered) in
-            absurd (span_not_filler bytes span n.1 (ap (λ (p : ℕ). get_or bytes p 0) here ∙ filler))
-        ]
+          elim (cases_lt from span.start) [
+            | inl before ↦ next_of-filler bytes from lt filler ∙ next_only_in left bytes (from + 1) (Some span) (omega arith) (one_filler_less bytes from span.start before n.0, n.1)
+            | inr le ↦
+                let here : span.start ≡ from = omega (arith, n.0.ordered) in
+                absurd (span_not_filler bytes span n.1 (ap (λ (p : ℕ). get_or bytes p 0) here ∙ filler))
+          ]
       | inr other ↦
-        let here : from ≡ span.start = sym (none_before bytes from span.start other n.0) in
-        let answered : span_at (length bytes) from (drop from bytes) ≡ Ok span = ap (λ (p : ℕ). span_at (length bytes) p (drop p bytes)) here ∙ span_again bytes span n.1 in
-        next_of-span bytes from lt other ∙ rw answered refl
+          let here : from ≡ span.start = sym (none_before bytes from span.start other n.0) in
+          let answered : span_at (length bytes) from (drop from bytes) ≡ Ok span = ap (λ (p : ℕ). span_at (length bytes) p (drop p bytes)) here ∙ span_again bytes span n.1 in
+          next_of-span bytes from lt other ∙ rw answered refl
     ]
 
 pub next_only : (bytes : List ℕ) (from : ℕ) (next : Option RecordSpan) → from ≤ length bytes → IsNext bytes from next → next_of bytes from ≡ Ok next
@@ -209,15 +209,15 @@ next_refused_in (suc left) bytes from fault all e =
     elim (cases_eq (get_or bytes from 0) 0x2f) [
       | inl filler ↦ filler_then_none bytes from lt filler (next_refused_in left bytes (from + 1) fault (omega arith) (sym (next_of-filler bytes from lt filler) ∙ e))
       | inr other ↦
-        record {
-          place = from;
-          fillers = no_fillers bytes from (omega arith);
-          within = lt;
-          not_filler = λ filler. other (get_or_from_slice_get bytes from 0x2f 0 filler);
-          no_span = λ span here is.
-            (let answered = next_only bytes from (Some span) (omega arith) (subst (λ (p : ℕ). AreFillers bytes from p) (sym here) (no_fillers bytes from (omega arith)), is) in
-            cc);
-        }
+          record {
+            place = from;
+            fillers = no_fillers bytes from (omega arith);
+            within = lt;
+            not_filler = λ filler. other (get_or_from_slice_get bytes from 0x2f 0 filler);
+            no_span = λ span here is.
+                (let answered = next_only bytes from (Some span) (omega arith) (subst (λ (p : ℕ). AreFillers bytes from p) (sym here) (no_fillers bytes from (omega arith)), is) in
+                cc);
+          }
     ]
 
 pub next_refused : (bytes : List ℕ) (from : ℕ) (fault : RecordFault) → from ≤ length bytes → next_of bytes from ≡ Err fault → NoneBegins bytes from

@@ -50,10 +50,10 @@ chain_len_takes start (suc room) byte (next ∷ rest) count e =
     elim (cases_lt byte 128) [
       | inl lt ↦ none_taken byte (suc room) (next ∷ rest) count (chain_len start (suc room) byte (next ∷ rest)) (chain_done start (suc room) byte (next ∷ rest) lt) e lt
       | inr le ↦
-        let a = bind_ok (chain_len start room next rest) (λ others. Ok (others + 1)) count (sym (chain_more start room byte next rest le) ∙ e) in
-        let t = chain_len_takes start room next rest a.0 a.1 in
-        let one : suc a.0 ≡ count = sym (add-one a.0) ∙ ok_is (a.0 + 1) count a.2 in
-        subst (λ (n : ℕ). IsFront byte (suc room) (next ∷ rest) n) one (record { chain = (le, t.chain); few = omega (arith, t.few); within = omega (arith, t.within) })
+          let a = bind_ok (chain_len start room next rest) (λ others. Ok (others + 1)) count (sym (chain_more start room byte next rest le) ∙ e) in
+          let t = chain_len_takes start room next rest a.0 a.1 in
+          let one : suc a.0 ≡ count = sym (add-one a.0) ∙ ok_is (a.0 + 1) count a.2 in
+          subst (λ (n : ℕ). IsFront byte (suc room) (next ∷ rest) n) one (record { chain = (le, t.chain); few = omega (arith, t.few); within = omega (arith, t.within) })
     ]
 
 record IsChainPart (byte : ℕ) (bytes part rest : List ℕ) : Type 0 where
@@ -110,15 +110,15 @@ unfolding text_at
 text_takes start vif bytes x e =
     elim (chosen (eqb (vif % 128) 0x7c) (byte_at start bytes >>= λ count. bytes_at start count.0 count.1 >>= λ letters. Ok (count.0 ∷ letters.0, letters.1)) (Ok ([], bytes)) (Ok x) e) [
       | inl h ↦
-        let a = bind_ok (byte_at start bytes) (λ count. bytes_at start count.0 count.1 >>= λ letters. Ok (count.0 ∷ letters.0, letters.1)) x h.1 in
-        let b = bind_ok (bytes_at start a.0.0 a.0.1) (λ letters. Ok (a.0.0 ∷ letters.0, letters.1)) x a.2 in
-        let first = byte_takes start bytes a.0 a.1 in
-        let second = bytes_takes start a.0.0 a.0.1 b.0 b.1 in
-        let made : List ℕ × List ℕ = (a.0.0 ∷ b.0.0, b.0.1) in
-        subst (λ (y : List ℕ × List ℕ). (bytes ≡ y.0 ++ y.1) × IsPlainText vif y.0) (ok_is made x b.2) (first ∙ ap (λ (r : List ℕ). a.0.0 ∷ r) second.0, (eqb-true _ _ h.0, second.1))
+          let a = bind_ok (byte_at start bytes) (λ count. bytes_at start count.0 count.1 >>= λ letters. Ok (count.0 ∷ letters.0, letters.1)) x h.1 in
+          let b = bind_ok (bytes_at start a.0.0 a.0.1) (λ letters. Ok (a.0.0 ∷ letters.0, letters.1)) x a.2 in
+          let first = byte_takes start bytes a.0 a.1 in
+          let second = bytes_takes start a.0.0 a.0.1 b.0 b.1 in
+          let made : List ℕ × List ℕ = (a.0.0 ∷ b.0.0, b.0.1) in
+          subst (λ (y : List ℕ × List ℕ). (bytes ≡ y.0 ++ y.1) × IsPlainText vif y.0) (ok_is made x b.2) (first ∙ ap (λ (r : List ℕ). a.0.0 ∷ r) second.0, (eqb-true _ _ h.0, second.1))
       | inr h ↦
-        let made : List ℕ × List ℕ = ([], bytes) in
-        subst (λ (y : List ℕ × List ℕ). (bytes ≡ y.0 ++ y.1) × IsPlainText vif y.0) (ok_is made x h.1) (refl, eqb-false _ _ h.0)
+          let made : List ℕ × List ℕ = ([], bytes) in
+          subst (λ (y : List ℕ × List ℕ). (bytes ≡ y.0 ++ y.1) × IsPlainText vif y.0) (ok_is made x h.1) (refl, eqb-false _ _ h.0)
     ]
 
 record IsVibPart (bytes : List ℕ) (b : Vib) (rest : List ℕ) : Type 0 where
@@ -155,15 +155,15 @@ unfolding lvar_at
 lvar_takes start dif bytes x plain e =
     elim (chosen (eqb (dif % 16) 13) (byte_at start bytes >>= λ lvar. cond (is_some (lvar_width lvar.0)) (Ok (Some lvar.0, lvar.1)) (Err (Lvar lvar.0))) (Ok (None, bytes)) (Ok x) e) [
       | inl h ↦
-        let a = bind_ok (byte_at start bytes) (λ lvar. cond (is_some (lvar_width lvar.0)) (Ok (Some lvar.0, lvar.1)) (Err (Lvar lvar.0))) x h.1 in
-        let g = guard_ok_if (is_some (lvar_width a.0.0)) (Lvar a.0.0) (Ok (Some a.0.0, a.0.1)) x a.2 in
-        let first = byte_takes start bytes a.0 a.1 in
-        let made : Option ℕ × List ℕ = (Some a.0.0, a.0.1) in
-        let wide : is_some (data_width dif (Some a.0.0)) ≡ true = rw h.0 g.0 in
-        subst (λ (y : Option ℕ × List ℕ). IsLvarPart dif bytes y.0 y.1) (ok_is made x g.1) (record { parts = first; wide = wide })
+          let a = bind_ok (byte_at start bytes) (λ lvar. cond (is_some (lvar_width lvar.0)) (Ok (Some lvar.0, lvar.1)) (Err (Lvar lvar.0))) x h.1 in
+          let g = guard_ok_if (is_some (lvar_width a.0.0)) (Lvar a.0.0) (Ok (Some a.0.0, a.0.1)) x a.2 in
+          let first = byte_takes start bytes a.0 a.1 in
+          let made : Option ℕ × List ℕ = (Some a.0.0, a.0.1) in
+          let wide : is_some (data_width dif (Some a.0.0)) ≡ true = rw h.0 g.0 in
+          subst (λ (y : Option ℕ × List ℕ). IsLvarPart dif bytes y.0 y.1) (ok_is made x g.1) (record { parts = first; wide = wide })
       | inr h ↦
-        let made : Option ℕ × List ℕ = (None, bytes) in
-        subst (λ (y : Option ℕ × List ℕ). IsLvarPart dif bytes y.0 y.1) (ok_is made x h.1) (record { parts = refl; wide = field_some (dif % 16) (omega arith) plain.not_selection (eqb-false _ _ h.0) plain.not_special })
+          let made : Option ℕ × List ℕ = (None, bytes) in
+          subst (λ (y : Option ℕ × List ℕ). IsLvarPart dif bytes y.0 y.1) (ok_is made x h.1) (record { parts = refl; wide = field_some (dif % 16) (omega arith) plain.not_selection (eqb-false _ _ h.0) plain.not_special })
     ]
 
 record IsContentsPart (dif : ℕ) (bytes : List ℕ) (c : Contents) (rest : List ℕ) : Type 0 where
@@ -197,14 +197,17 @@ record_takes start bytes x e =
     let made : DataRecord × List ℕ = (record { dib = a.0.0; vib = b.0.0; contents = c.0.0 }, c.0.1) in
     let tail : a.0.1 ≡ (vib_spelling b.0.0 ++ contents_spelling c.0.0) ++ c.0.1 = second.parts ∙ ap (λ (r : List ℕ). vib_spelling b.0.0 ++ r) third.parts ∙ sym (append_assoc (vib_spelling b.0.0) (contents_spelling c.0.0) c.0.1) in
     let whole : bytes ≡ spelling made.0 ++ c.0.1 = first.parts ∙ ap (λ (r : List ℕ). dib_spelling a.0.0 ++ r) tail ∙ sym (append_assoc (dib_spelling a.0.0) (vib_spelling b.0.0 ++ contents_spelling c.0.0) c.0.1) in
-    subst (λ (y : DataRecord × List ℕ). (bytes ≡ spelling y.0 ++ y.1) × IsRecord y.0) (ok_is made x c.2) (whole, record {
-      difes = first.chain;
-      few_difes = first.few;
-      text = second.text;
-      vifes = second.chain;
-      few_vifes = second.few;
-      sent = third.wide;
-    })
+    subst (λ (y : DataRecord × List ℕ). (bytes ≡ spelling y.0 ++ y.1) × IsRecord y.0) (ok_is made x c.2) (
+      whole,
+      record {
+        difes = first.chain;
+        few_difes = first.few;
+        text = second.text;
+        vifes = second.chain;
+        few_vifes = second.few;
+        sent = third.wide;
+      },
+    )
 
 -- and it is no longer than what was there
 pub record_fits : (start : ℕ) (bytes : List ℕ) (x : DataRecord × List ℕ) → record_at start bytes ≡ Ok x → length (spelling x.0) ≤ length bytes

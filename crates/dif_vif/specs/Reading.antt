@@ -31,9 +31,9 @@ bytes_at start count bytes = if nat_lt (length bytes) count then Err (Truncated 
 unfoldable pub chain_len : ℕ → ℕ → ℕ → List ℕ → Result ℕ RecordFault
 chain_len start room byte [] = if nat_lt byte 128 then Ok 0 else Err (Truncated start)
 chain_len start room byte (next ∷ rest) =
-  if nat_lt byte 128 then Ok 0 else
-  (if room == 0 then Err (TooManyExtensions start) else
-  (chain_len start (room - 1) next rest >>= λ others. Ok (others + 1)))
+    if nat_lt byte 128 then Ok 0 else
+    (if room == 0 then Err (TooManyExtensions start) else
+    (chain_len start (room - 1) next rest >>= λ others. Ok (others + 1)))
 
 -- the extensions of a byte
 unfoldable pub chain_at : ℕ → ℕ → List ℕ → Result (List ℕ × List ℕ) RecordFault

@@ -8,49 +8,49 @@ use Rattle.dif_vif.specs.Spelling.{DataRecord, IsRecord, spelling}
 -- the span of a record that begins at a place
 abbrev pub span_of : ℕ → DataRecord → RecordSpan
 span_of start r =
-  let vifes_at = start + 1 + length r.dib.difes + 1 + length r.vib.text in
-  let text_len = length r.vib.text - 1 in
-  let data_at = vifes_at + length r.vib.vifes + length (option_to_list r.contents.lvar) in
-  record {
-    start = start;
-    end = data_at + length r.contents.sent;
-    maker = false;
-    dif = r.dib.dif;
-    function = r.dib.dif / 16 % 4;
-    storage = storage_of r.dib.dif r.dib.difes;
-    tariff = tariff_of r.dib.difes;
-    subunit = subunit_of r.dib.difes;
-    vif = r.vib.vif;
-    text_at = vifes_at - text_len;
-    text_len = text_len;
-    vifes_at = vifes_at;
-    vifes = length r.vib.vifes;
-    lvar = r.contents.lvar;
-    data_at = data_at;
-    data_len = length r.contents.sent;
-  }
+    let vifes_at = start + 1 + length r.dib.difes + 1 + length r.vib.text in
+    let text_len = length r.vib.text - 1 in
+    let data_at = vifes_at + length r.vib.vifes + length (option_to_list r.contents.lvar) in
+    record {
+      start = start;
+      end = data_at + length r.contents.sent;
+      maker = false;
+      dif = r.dib.dif;
+      function = r.dib.dif / 16 % 4;
+      storage = storage_of r.dib.dif r.dib.difes;
+      tariff = tariff_of r.dib.difes;
+      subunit = subunit_of r.dib.difes;
+      vif = r.vib.vif;
+      text_at = vifes_at - text_len;
+      text_len = text_len;
+      vifes_at = vifes_at;
+      vifes = length r.vib.vifes;
+      lvar = r.contents.lvar;
+      data_at = data_at;
+      data_len = length r.contents.sent;
+    }
 
 -- the span of manufacturer data that begin at a place: all that is left of the payload
 abbrev pub maker_span : ℕ → ℕ → ℕ → RecordSpan
 maker_span start dif len =
-  record {
-    start = start;
-    end = len;
-    maker = true;
-    dif = dif;
-    function = 0;
-    storage = 0;
-    tariff = 0;
-    subunit = 0;
-    vif = 0;
-    text_at = 0;
-    text_len = 0;
-    vifes_at = 0;
-    vifes = 0;
-    lvar = None;
-    data_at = start + 1;
-    data_len = len - (start + 1);
-  }
+    record {
+      start = start;
+      end = len;
+      maker = true;
+      dif = dif;
+      function = 0;
+      storage = 0;
+      tariff = 0;
+      subunit = 0;
+      vif = 0;
+      text_at = 0;
+      text_len = 0;
+      vifes_at = 0;
+      vifes = 0;
+      lvar = None;
+      data_at = start + 1;
+      data_len = len - (start + 1);
+    }
 
 -- The span is that of a record whose spelling stands at its start.
 pub record IsRecordSpan (bytes : List ℕ) (span : RecordSpan) : Type 0 where

@@ -37,23 +37,23 @@ IsPlainText vif (count ∷ letters) = (vif % 128 ≡ 0x7c) × (length letters �
 -- How many bytes of data a data field has; none is said for a selection (8), an LVAR (D) and a special function (F).
 abbrev pub field_width : ℕ → Option ℕ
 field_width field =
-  if nat_le field 4 then Some field else
-  (if field == 5 then Some 4 else
-  (if field == 6 then Some 6 else
-  (if field == 7 then Some 8 else
-  (if field == 8 then None else
-  (if nat_le field 12 then Some (field - 8) else
-  (if field == 14 then Some 6 else None))))))
+    if nat_le field 4 then Some field else
+    (if field == 5 then Some 4 else
+    (if field == 6 then Some 6 else
+    (if field == 7 then Some 8 else
+    (if field == 8 then None else
+    (if nat_le field 12 then Some (field - 8) else
+    (if field == 14 then Some 6 else None))))))
 
 -- How many bytes of data an LVAR announces; none for an LVAR that isn't used here.
 abbrev pub lvar_width : ℕ → Option ℕ
 lvar_width lvar =
-  if nat_lt lvar 0xc0 then Some lvar else
-  (if nat_lt lvar 0xca then Some (lvar - 0xc0) else
-  (if nat_lt lvar 0xd0 then None else
-  (if nat_lt lvar 0xda then Some (lvar - 0xd0) else
-  (if nat_lt lvar 0xe0 then None else
-  (if nat_lt lvar 0xf0 then Some (lvar - 0xe0) else None)))))
+    if nat_lt lvar 0xc0 then Some lvar else
+    (if nat_lt lvar 0xca then Some (lvar - 0xc0) else
+    (if nat_lt lvar 0xd0 then None else
+    (if nat_lt lvar 0xda then Some (lvar - 0xd0) else
+    (if nat_lt lvar 0xe0 then None else
+    (if nat_lt lvar 0xf0 then Some (lvar - 0xe0) else None)))))
 
 -- How many bytes of data belong to a DIF and the LVAR that it may have; an LVAR stands only for the data field D.
 abbrev pub data_width : ℕ → Option ℕ → Option ℕ

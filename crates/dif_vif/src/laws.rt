@@ -11,20 +11,17 @@ ghost use Rattle.dif_vif.specs.Listing.{IsListing, Listing};
 pub fn no_record_begins_another()
     ensures { (a b : DataRecord) (x y : List ℕ)
         → IsRecord a → IsRecord b → spelling a ++ x ≡ spelling b ++ y → (a ≡ b) × (x ≡ y) }
-{
-}
+{}
 
 /// One span at most stands at a place, of a record or of manufacturer data.
 pub fn one_span_at_a_place()
     ensures { (bytes : List ℕ) (s t : RecordSpan)
         → IsSpanOf bytes s → IsSpanOf bytes t → s.start ≡ t.start → s ≡ t }
-{
-}
+{}
 
 /// Each payload has one listing, and no other.
 pub fn one_listing()
     ensures some { (bytes : List ℕ) → Listing bytes 0 }
     ensures only { (bytes : List ℕ) (ss ts : List RecordSpan) (e f : Option RecordFault)
         → IsListing bytes 0 ss e → IsListing bytes 0 ts f → (ss ≡ ts) × (e ≡ f) }
-{
-}
+{}

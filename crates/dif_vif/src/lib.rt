@@ -13,3 +13,6 @@ pub use fault::RecordFault;
 pub use laws::{no_record_begins_another, one_listing, one_span_at_a_place};
 pub use records::next_record;
 pub use span::RecordSpan;
+
+#[cfg(test)]
+mod tests;

@@ -186,7 +186,11 @@ pub struct DataContents<'a> {
 }
 
 #[tactic(auto, unfolding(crate::specs::Reading::contents_at))]
-fn contents_of(start: usize, dif: u8, bytes: &[u8]) -> Result<(DataContents<'_>, &[u8]), RecordFault>
+fn contents_of(
+    start: usize,
+    dif: u8,
+    bytes: &[u8],
+) -> Result<(DataContents<'_>, &[u8]), RecordFault>
     ensures { Gives (λ x. (contents x.0, x.1.now)) result (contents_at start dif bytes.now) }
 {
     let (lvar, rest) = lvar_of(start, dif, bytes)?;

@@ -17,6 +17,7 @@ const FILLER: u8 = 0x2f;
 
 /// The DIFs of manufacturer data: the second says that more follow in the next message (EN 13757-3, 6.3.3).
 const MAKER: u8 = 0x0f;
+
 const MAKER_AND_MORE: u8 = 0x1f;
 
 fn span_of(start: usize, found: &RecordParts<'_>) -> RecordSpan

@@ -16,9 +16,9 @@ use Rattle.record_values.specs.Units.{unit}
 -- Type B: two's complement, the low byte first. The upper half of the numbers of so many bytes is negative.
 abbrev pub signed_of : List ℕ → ℤ
 signed_of sent =
-  if nat_lt (2 * low_first 256 sent) (256 ^ length sent)
-  then pos (low_first 256 sent)
-  else (pos (low_first 256 sent) -ℤ pos (256 ^ length sent))
+    if nat_lt (2 * low_first 256 sent) (256 ^ length sent)
+    then pos (low_first 256 sent)
+    else (pos (low_first 256 sent) -ℤ pos (256 ^ length sent))
 
 -- ---- decimal digits
 
@@ -42,9 +42,9 @@ negative None = values.Raw
 -- Type A: a top digit F says that the other digits are a negative number.
 abbrev pub bcd_value : List ℕ → Value
 bcd_value sent =
-  if slice_index (digits_of sent) (2 * length sent - 1) == 15
-  then negative (decimal_of (take (2 * length sent - 1) (digits_of sent)))
-  else positive (decimal_of (digits_of sent))
+    if slice_index (digits_of sent) (2 * length sent - 1) == 15
+    then negative (decimal_of (take (2 * length sent - 1) (digits_of sent)))
+    else positive (decimal_of (digits_of sent))
 
 -- ---- days and moments
 
@@ -62,25 +62,25 @@ is_day year month day = nat_le year 99 && (nat_le 1 month && (nat_le month 12 &&
 -- Type G: a day in 16 bits.
 abbrev pub day_value : ℕ → Value
 day_value word =
-  let day = bits word 0 5 in
-  let month = bits word 8 4 in
-  let year = bits word 5 3 + 8 * bits word 12 4 in
-  if is_day year month day then values.Day (year_of 0 year) month day else values.Raw
+    let day = bits word 0 5 in
+    let month = bits word 8 4 in
+    let year = bits word 5 3 + 8 * bits word 12 4 in
+    if is_day year month day then values.Day (year_of 0 year) month day else values.Raw
 
 -- Type F: a minute in 32 bits, with marks for a time that is invalid and for summer time.
 abbrev pub moment_value : ℕ → Value
 moment_value word =
-  let minute = bits word 0 6 in
-  let invalid = bits word 7 1 == 1 in
-  let hour = bits word 8 5 in
-  let hundreds = bits word 13 2 in
-  let summer = bits word 15 1 == 1 in
-  let day = bits word 16 5 in
-  let month = bits word 24 4 in
-  let year = bits word 21 3 + 8 * bits word 28 4 in
-  if is_day year month day && (nat_le hour 23 && nat_le minute 59)
-  then values.Moment (year_of hundreds year) month day hour minute invalid summer
-  else values.Raw
+    let minute = bits word 0 6 in
+    let invalid = bits word 7 1 == 1 in
+    let hour = bits word 8 5 in
+    let hundreds = bits word 13 2 in
+    let summer = bits word 15 1 == 1 in
+    let day = bits word 16 5 in
+    let month = bits word 24 4 in
+    let year = bits word 21 3 + 8 * bits word 28 4 in
+    if is_day year month day && (nat_le hour 23 && nat_le minute 59)
+    then values.Moment (year_of hundreds year) month day hour minute invalid summer
+    else values.Raw
 
 -- ---- the value of a record
 
@@ -91,18 +91,18 @@ unread sent = if length sent == 0 then values.None else values.Raw
 -- the value by a data field
 abbrev pub field_value : ℕ → List ℕ → Value
 field_value field sent =
-  if field == 0 then values.None else
-  (if field == 5 then values.Raw else
-  (if nat_le field 7 then values.Whole (signed_of sent) else
-  bcd_value sent))
+    if field == 0 then values.None else
+    (if field == 5 then values.Raw else
+    (if nat_le field 7 then values.Whole (signed_of sent) else
+    bcd_value sent))
 
 -- the value by an LVAR
 abbrev pub lvar_value : ℕ → List ℕ → Value
 lvar_value lvar sent =
-  if nat_lt lvar 0xc0 then values.Text else
-  (if nat_lt lvar 0xd0 then positive (decimal_of (digits_of sent)) else
-  (if nat_lt lvar 0xe0 then negative (decimal_of (digits_of sent)) else
-  values.Whole (signed_of sent)))
+    if nat_lt lvar 0xc0 then values.Text else
+    (if nat_lt lvar 0xd0 then positive (decimal_of (digits_of sent)) else
+    (if nat_lt lvar 0xe0 then negative (decimal_of (digits_of sent)) else
+    values.Whole (signed_of sent)))
 
 abbrev pub number_value : ℕ → Option ℕ → List ℕ → Value
 number_value field None sent = field_value field sent

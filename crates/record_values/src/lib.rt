@@ -9,3 +9,6 @@ mod values;
 
 pub use units::{Quantity, Unit, UnitName, unit_of};
 pub use values::{Value, value_of};
+
+#[cfg(test)]
+mod tests;

@@ -116,6 +116,7 @@ pub struct Unit {
 
 /// The VIFs whose code stands in the first VIFE (EN 13757-3, 6.4).
 const VIF_FB: u8 = 0xfb;
+
 const VIF_FD: u8 = 0xfd;
 
 /// The quantity and the unit of a record of these bytes.
@@ -136,6 +137,10 @@ pub fn unit_of(bytes: &[u8], span: &RecordSpan) -> Unit
         return unit_in(&PRIMARY, span.vif % 128, span.vifes_at, span.vifes);
     }
     let code = bytes[span.vifes_at] % 128;
-    let rows = if span.vif == VIF_FB { AFTER_FB.as_slice() } else { AFTER_FD.as_slice() };
+    let rows = if span.vif == VIF_FB {
+        AFTER_FB.as_slice()
+    } else {
+        AFTER_FD.as_slice()
+    };
     unit_in(rows, code, span.vifes_at + 1, span.vifes - 1)
 }

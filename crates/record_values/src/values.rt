@@ -79,7 +79,11 @@ pub fn negative(number: Option<u64>) -> Value
 fn unread(sent: &[u8]) -> Value
     ensures { result ≡ unread sent.now }
 {
-    if sent.is_empty() { Value::None } else { Value::Raw }
+    if sent.is_empty() {
+        Value::None
+    } else {
+        Value::Raw
+    }
 }
 
 fn field_value(field: u8, sent: &[u8]) -> Value
