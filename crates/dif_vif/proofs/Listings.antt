@@ -1,6 +1,6 @@
 -- A payload has one listing, and no record begins another.
-use Rattle.std.proofs.Common.{◌≡◌, ℕ, zero, suc, ◌+◌, ◌-◌, ◌<◌, ◌≤◌, List, [], ◌∷◌, ◌++◌, length, get_or, drop, Option, Some, None, Result, Ok, Err, ◌⊎◌, refl, sym, ap, subst, ◌∙◌, inl, inr, arith}
-use Rattle.std.specs.Prelude.{slice_get, IsErr, is_err, IfOk, IfErr}
+use Rattle.std.proofs.Common.{◌≡◌, ℕ, zero, suc, ◌+◌, ◌-◌, ◌<◌, ◌≤◌, List, [], ◌∷◌, ◌++◌, length, drop, Option, Some, None, Result, Ok, Err, refl, sym, ap, subst, ◌∙◌, inl, inr, arith}
+use Rattle.std.specs.Prelude.{slice_get, IsErr}
 use Rattle.std.proofs.lemmas.Bool.{cases_lt}
 use Rattle.std.proofs.lemmas.Option.{get_or_from_slice_get, same_Some}
 use Rattle.dif_vif.specs.declared.fault.RecordFault.{RecordFault}
@@ -11,7 +11,7 @@ use Rattle.dif_vif.specs.Reading.{record_at, span_at, next_of}
 use Rattle.dif_vif.specs.Listing.{IsEnding, IsListing, Listing}
 use Rattle.dif_vif.proofs.Steps.{ok_is}
 use Rattle.dif_vif.proofs.Again.{record_again}
-use Rattle.dif_vif.proofs.Spans.{span_within, span_not_filler, span_again, next_found, next_only, next_refused, LiesWithin-from_span}
+use Rattle.dif_vif.proofs.Spans.{span_not_filler, span_again, next_found, next_only, next_refused, LiesWithin-from_span}
 
 -- no record begins another one
 pub one_record : (a b : DataRecord) (x y : List ℕ) → IsRecord a → IsRecord b → spelling a ++ x ≡ spelling b ++ y → (a ≡ b) × (x ≡ y)

@@ -1,15 +1,14 @@
 -- What is answered at a place stands there, and what stands there is answered.
-use Rattle.std.proofs.Common.{◌≡◌, ◌≢◌, ℕ, zero, suc, ◌+◌, ◌-◌, ◌%◌, ◌<◌, ◌≤◌, Bool, true, false, cond, eqb, ◌||◌, List, [], ◌∷◌, ◌++◌, length, get_or, drop, Option, Some, None, Result, Ok, Err, ◌⊎◌, refl, sym, ap, subst, ◌∙◌, inl, inr, add-one, arith}
-use Rattle.std.specs.Prelude.{slice_get, IfOk, IfErr, IfSome}
+use Rattle.std.proofs.Common.{◌≡◌, ℕ, zero, suc, ◌+◌, ◌-◌, ◌%◌, ◌<◌, ◌≤◌, true, false, eqb, List, [], ◌∷◌, ◌++◌, length, get_or, drop, Option, Some, None, Result, Ok, Err, ◌⊎◌, refl, sym, ap, subst, ◌∙◌, inl, inr, arith}
+use Rattle.std.specs.Prelude.{IfOk, IfSome}
 use Rattle.std.specs.Option.{option_to_list}
-use Rattle.std.proofs.lemmas.Bool.{cases_Bool, cases_eq, cases_lt, eqb-true, eqb-false, eq-eqb, ne_eqb, or_cases, or_left, or_right, or_parts, or_from}
+use Rattle.std.proofs.lemmas.Bool.{cases_Bool, cases_eq, cases_lt, eqb-true, eq-eqb, ne_eqb, or_cases, or_left, or_right, or_from}
 use Rattle.std.proofs.lemmas.List.{drop_more, drop_all, length-drop, length-append}
 use Rattle.std.proofs.lemmas.Option.{slice_get-get_or, slice_get_within, get_or_from_slice_get}
 use Rattle.dif_vif.specs.declared.fault.RecordFault.{RecordFault}
-use Rattle.dif_vif.specs.declared.fault.RecordFault.TheVariants.{Truncated}
 use Rattle.dif_vif.specs.declared.span.RecordSpan.{RecordSpan}
 use Rattle.dif_vif.specs.Spelling.{DataRecord, IsChain, IsRecord, data_width, vib_spelling, contents_spelling, spelling}
-use Rattle.dif_vif.specs.Spans.{span_of, maker_span, IsRecordSpan, IsMakerSpan, IsSpanOf, LiesWithin, AreFillers, IsNext, NoneBegins}
+use Rattle.dif_vif.specs.Spans.{span_of, maker_span, IsSpanOf, LiesWithin, AreFillers, IsNext, NoneBegins}
 use Rattle.dif_vif.specs.Reading.{◌>>=◌, record_at, begins_maker, span_at, next_at, next_of}
 use Rattle.dif_vif.proofs.Steps.{bind_ok, ok_is}
 use Rattle.dif_vif.proofs.Takes.{record_takes}

@@ -1,5 +1,5 @@
 -- What a step of reading gave, and what a test on the way said.
-use Rattle.std.proofs.Common.{◌≡◌, ℕ, ◌<◌, Bool, true, false, cond, eqb, not, ◌||◌, Option, Some, None, Result, Ok, Err, refl, is_some, ◌⊎◌, inl, inr, arith}
+use Rattle.std.proofs.Common.{◌≡◌, ℕ, ◌<◌, Bool, true, false, cond, eqb, ◌||◌, Option, Some, None, Result, Ok, Err, refl, is_some, ◌⊎◌, inl, inr}
 use Rattle.std.specs.Prelude.{unwrap_or}
 use Rattle.std.proofs.lemmas.Bool.{agree_below_at, ne_eqb, or_from, or_cases, both_ways}
 use Rattle.dif_vif.specs.declared.fault.RecordFault.{RecordFault}

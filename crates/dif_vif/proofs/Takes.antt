@@ -1,11 +1,11 @@
 -- What is read is spelled so.
-use Rattle.std.proofs.Common.{◌≡◌, ℕ, zero, suc, ◌+◌, ◌%◌, ◌<◌, ◌≤◌, Bool, true, false, cond, eqb, ltb, List, [], ◌∷◌, ◌++◌, length, take, drop, Option, Some, None, Result, Ok, Err, is_some, refl, sym, ap, subst, ◌∙◌, inl, inr, append_assoc, add-one, arith}
+use Rattle.std.proofs.Common.{◌≡◌, ℕ, zero, suc, ◌+◌, ◌%◌, ◌<◌, ◌≤◌, true, cond, eqb, ltb, List, [], ◌∷◌, ◌++◌, length, take, drop, Option, Some, None, Result, Ok, Err, is_some, refl, sym, ap, subst, ◌∙◌, inl, inr, append_assoc, add-one, arith}
 use Rattle.std.specs.Prelude.{unwrap_or}
 use Rattle.std.specs.Option.{option_to_list}
 use Rattle.std.proofs.lemmas.Bool.{cases_lt, ltb-false, eqb-true, eqb-false}
 use Rattle.std.proofs.lemmas.List.{take-append-drop, length-take, length-append}
 use Rattle.dif_vif.specs.declared.fault.RecordFault.{RecordFault}
-use Rattle.dif_vif.specs.declared.fault.RecordFault.TheVariants.{Truncated, TooManyExtensions, Lvar, Selection, Special}
+use Rattle.dif_vif.specs.declared.fault.RecordFault.TheVariants.{Truncated, Lvar, Selection, Special}
 use Rattle.dif_vif.specs.Spelling.{Dib, Vib, Contents, DataRecord, IsChain, IsPlainText, IsRecord, lvar_width, data_width, dib_spelling, vib_spelling, contents_spelling, spelling}
 use Rattle.dif_vif.specs.Reading.{◌>>=◌, byte_at, bytes_at, chain_len, chain_at, dif_at, dib_at, text_at, vib_at, lvar_at, contents_at, record_at}
 use Rattle.dif_vif.proofs.Chains.{chain_done, chain_missing, chain_full, chain_more}

@@ -1,10 +1,10 @@
 -- The decimal digits of bytes, and the number of some of them.
-use Rattle.std.proofs.Common.{◌≡◌, ℕ, zero, suc, ◌+◌, ◌-◌, ◌*◌, ◌/◌, ◌%◌, ◌^◌, ◌<◌, ◌≤◌, Bool, true, false, cond, leb, ◌&&◌, List, [], ◌∷◌, length, get_or, take, drop, Option, Some, None, refl, sym, ap, ◌∙◌, inl, inr, arith}
+use Rattle.std.proofs.Common.{◌≡◌, ℕ, zero, suc, ◌+◌, ◌-◌, ◌*◌, ◌/◌, ◌%◌, ◌^◌, ◌<◌, ◌≤◌, Bool, true, false, leb, List, [], ◌∷◌, length, get_or, take, drop, Some, None, refl, sym, ap, ◌∙◌, arith}
 use Rattle.std.specs.List.{list_all}
-use Rattle.std.proofs.lemmas.Bool.{cases_lt, cases_Bool, leb-true, lt-leb, le-leb, and_parts, and_from, and_left, and_right, cond-true, cond-false}
+use Rattle.std.proofs.lemmas.Bool.{leb-true, lt-leb, le-leb, and_parts, and_from, and_left, and_right, cond-true, cond-false}
 use Rattle.std.proofs.lemmas.List.{drop_more, get_or-take, length-take, length-drop, drop_all, take_all}
 use Rattle.dif_vif.specs.Numbers.{low_first}
-use Rattle.dif_vif.proofs.Digits.{low_first-below, low_first-few, low_first-step}
+use Rattle.dif_vif.proofs.Digits.{low_first-few, low_first-step}
 use Rattle.record_values.specs.Values.{digits_of, decimal_of}
 
 -- a digit of a decimal number

@@ -1,5 +1,5 @@
 -- The quantity and the unit of a record, by the tables of VIF codes (EN 13757-3, 6.4).
-use Rattle.std.specs.Prelude.{ℕ, ◌+◌, ◌-◌, ◌%◌, Bool, true, false, ◌&&◌, List, [], ◌∷◌, ℤ, pos, neg_ℤ, ◌+ℤ◌, int_le, nat_le, ◌==◌, if◌then◌else◌, slice_index}
+use Rattle.std.specs.Prelude.{ℕ, ◌+◌, ◌-◌, ◌%◌, Bool, ◌&&◌, List, [], ◌∷◌, ℤ, pos, neg_ℤ, ◌+ℤ◌, int_le, nat_le, ◌==◌, if◌then◌else◌, slice_index}
 use Rattle.dif_vif.specs.declared.span.RecordSpan.{RecordSpan}
 use Rattle.record_values.specs.declared.units.Quantity.{Quantity}
 use Rattle.record_values.specs.declared.units.Quantity.TheVariants.{Energy, Volume, Mass, OnTime, OperatingTime, Power, Flow, MassFlow, FlowTemperature, ReturnTemperature, TemperatureDifference, ExternalTemperature, Pressure, Date, DateTime, Hca, AveragingDuration, ActualityDuration, Fabrication, Identification, Address, Plain, Any, Manufacturer, AccessNumber, ErrorFlags, Voltage, Current, Unknown}

@@ -1,4 +1,4 @@
-use Rattle.std.proofs.Common.{◌≡◌, ◌+◌, ◌-◌, ◌≤◌, suc, List, [], ◌∷◌, drop, length, get_or, arith}
+use Rattle.std.proofs.Common.{◌≡◌, length, arith}
 use Rattle.std.proofs.lemmas.List.{drop_more, drop_all}
 use Rattle.dif_vif.proofs.Chains.{turn_done, turn_missing, turn_full, turn_more}
 use Rattle.dif_vif.proofs.parts.chain_len_of.Goals as goal

@@ -1,4 +1,4 @@
-use Rattle.std.proofs.Common.{◌≡◌, ◌-◌, ◌≤◌, drop, length}
+use Rattle.std.proofs.Common.{◌≡◌, ◌-◌, ◌≤◌, drop}
 use Rattle.dif_vif.specs.Reading.{chain_len}
 use Rattle.dif_vif.proofs.Chains.{plus}
 use Rattle.dif_vif.proofs.parts.chain_len_of.Given as goal

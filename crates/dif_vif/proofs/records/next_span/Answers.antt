@@ -1,4 +1,3 @@
-use Rattle.std.proofs.Common.{◌≡◌, arith}
 use Rattle.std.proofs.lemmas.Result.{err_from_is_err_and}
 use Rattle.dif_vif.proofs.Spans.{answer_here, fault_here, filler_here, none_here}
 use Rattle.dif_vif.proofs.records.next_span.Goals as goal
