@@ -1,4 +1,4 @@
--- The numbers that the extensions of a DIF give, digit by digit (EN 13757-3, 6.3.4).
+-- The numbers that the extensions of a DIF give, digit by digit (EN 13757-3, 6.3).
 use Rattle.std.specs.Prelude.{ℕ, ◌+◌, ◌*◌, ◌/◌, ◌%◌, List, [], ◌∷◌, map}
 
 -- the number whose digits in a base stand lowest first

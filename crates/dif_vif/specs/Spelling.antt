@@ -1,4 +1,4 @@
--- What a data record is, and the one spelling of each (EN 13757-3, 6.2 to 6.5).
+-- What a data record is, and the one spelling of each (EN 13757-3, clause 6).
 use Rattle.std.specs.Prelude.{◌≡◌, ◌≢◌, ℕ, ◌-◌, ◌%◌, ◌<◌, ◌≤◌, List, [], ◌∷◌, ◌++◌, length, Option, Some, None, nat_lt, nat_le, ◌==◌, if◌then◌else◌}
 use Rattle.std.specs.Option.{option_to_list}
 

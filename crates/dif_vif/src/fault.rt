@@ -7,7 +7,7 @@ pub enum RecordFault {
     Truncated(usize),
     /// The DIF or the VIF of the record at this place has an eleventh extension.
     TooManyExtensions(usize),
-    /// The LVAR, which is given, announces no data that are read here (EN 13757-3, 6.5).
+    /// The LVAR, which is given, announces no data that are read here (EN 13757-3, 6.3).
     Lvar(u8),
     /// The DIF at this place has the data field 8, a selection for readout.
     Selection(usize),

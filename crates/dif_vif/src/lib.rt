@@ -1,5 +1,5 @@
 //! The data records of a meter's message: where each stands in a payload, and which fault ends them
-//! (EN 13757-3, chapter 6).
+//! (EN 13757-3, clause 6).
 #![tactic(auto)]
 
 mod fault;

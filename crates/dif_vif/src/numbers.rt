@@ -1,4 +1,4 @@
-//! The numbers that the DIFEs give: storage, tariff and subunit (EN 13757-3, 6.3.4).
+//! The numbers that the DIFEs give: storage, tariff and subunit (EN 13757-3, 6.3).
 
 ghost use Rattle.std.specs.Prelude.{◌≡◌, ◌/◌, ◌%◌, ◌^◌, ◌<◌, ◌≤◌, map, length};
 ghost use Rattle.dif_vif.specs.Numbers.{low_first, storage_of, tariff_of, subunit_of};

@@ -7,13 +7,13 @@ ghost use Rattle.dif_vif.specs.Views.{dib, vib, contents, data_record};
 
 use crate::fault::RecordFault;
 
-/// How many DIFEs, and how many VIFEs, a record may have (EN 13757-3, 6.3.4 and 6.4.6).
+/// How many DIFEs, and how many VIFEs, a record may have (EN 13757-3, 6.3 and 6.4).
 const MOST_EXTENSIONS: usize = 10;
 
-/// The code of a VIF behind which a plain text unit stands (EN 13757-3, 6.4.3).
+/// The code of a VIF behind which a plain text unit stands (EN 13757-3, 6.4).
 const PLAIN_TEXT: u8 = 0x7c;
 
-/// The data field for which an LVAR says how many bytes of data there are (EN 13757-3, 6.3.3).
+/// The data field for which an LVAR says how many bytes of data there are (EN 13757-3, 6.3).
 const BY_LVAR: u8 = 13;
 
 #[tactic(auto, unfolding(crate::specs::Reading::byte_at))]

@@ -12,10 +12,10 @@ use crate::numbers::{storage_of, subunit_of, tariff_of};
 use crate::parts::{RecordParts, record_of};
 use crate::span::RecordSpan;
 
-/// What stands in a DIF's place and is passed over (EN 13757-3, 6.3.3).
+/// What stands in a DIF's place and is passed over (EN 13757-3, 6.3).
 const FILLER: u8 = 0x2f;
 
-/// The DIFs of manufacturer data: the second says that more follow in the next message (EN 13757-3, 6.3.3).
+/// The DIFs of manufacturer data: the second says that more follow in the next message (EN 13757-3, 6.3).
 const MAKER: u8 = 0x0f;
 
 const MAKER_AND_MORE: u8 = 0x1f;

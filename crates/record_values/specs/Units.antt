@@ -1,5 +1,5 @@
 -- The quantity and the unit of a record, by the tables of VIF codes (EN 13757-3, 6.4).
-use Rattle.std.specs.Prelude.{ℕ, ◌+◌, ◌-◌, ◌%◌, Bool, ◌&&◌, List, [], ◌∷◌, ℤ, pos, neg_ℤ, ◌+ℤ◌, int_le, nat_le, ◌==◌, if◌then◌else◌, slice_index}
+use Rattle.std.specs.Prelude.{◌≡◌, ◌≤◌, Some, slice_get, ℕ, ◌+◌, ◌-◌, ◌%◌, Bool, ◌&&◌, List, [], ◌∷◌, ℤ, pos, neg_ℤ, ◌+ℤ◌, int_le, nat_le, ◌==◌, if◌then◌else◌, slice_index}
 use Rattle.dif_vif.specs.declared.span.RecordSpan.{RecordSpan}
 use Rattle.record_values.specs.declared.units.Quantity.{Quantity}
 use Rattle.record_values.specs.declared.units.Quantity.TheVariants.{Energy, Volume, Mass, OnTime, OperatingTime, Power, Flow, MassFlow, FlowTemperature, ReturnTemperature, TemperatureDifference, ExternalTemperature, Pressure, Date, DateTime, Hca, AveragingDuration, ActualityDuration, Fabrication, Identification, Address, Plain, Any, Manufacturer, AccessNumber, ErrorFlags, Voltage, Current, Unknown}
@@ -76,13 +76,24 @@ after_fb =
     row 0x08 0x09 Energy Gigajoule (minus 1) ∷
     []
 
+-- the unit of a code by its row
+abbrev pub unit_by : UnitRow → ℕ → ℕ → ℕ → Unit
+unit_by r code modifiers_at modifiers =
+  record { quantity = r.quantity; name = r.name; exponent = r.least +ℤ pos (code - r.first); modifiers_at = modifiers_at; modifiers = modifiers }
+
 -- the unit of a code by a table: unknown where no row has it
 abbrev pub unit_in : List UnitRow → ℕ → ℕ → ℕ → Unit
 unit_in [] code modifiers_at modifiers = record { quantity = Unknown; name = NoUnit; exponent = pos 0; modifiers_at = modifiers_at; modifiers = modifiers }
 unit_in (r ∷ rows) code modifiers_at modifiers =
-    if nat_le r.first code && nat_le code r.last
-    then record { quantity = r.quantity; name = r.name; exponent = r.least +ℤ pos (code - r.first); modifiers_at = modifiers_at; modifiers = modifiers }
-    else unit_in rows code modifiers_at modifiers
+  if nat_le r.first code && nat_le code r.last
+  then unit_by r code modifiers_at modifiers
+  else unit_in rows code modifiers_at modifiers
+
+-- Each code of each row has the unit of that row, whatever rows stand before it.
+abbrev pub EachRowCounts : List UnitRow → Type 0
+EachRowCounts rows =
+  (place : ℕ) (r : UnitRow) (code modifiers_at modifiers : ℕ) → slice_get rows place ≡ Some r → r.first ≤ code → code ≤ r.last
+  → unit_in rows code modifiers_at modifiers ≡ unit_by r code modifiers_at modifiers
 
 -- The exponents of a row are small.
 abbrev pub is_scaled : UnitRow → Bool

@@ -1,12 +1,14 @@
-//! What a data record says: its quantity, its unit and its value (EN 13757-3, chapter 6 and annex A).
+//! What a data record says: its quantity, its unit and its value (EN 13757-3, clause 6 and annex A).
 #![tactic(auto)]
 
 mod dates;
 mod digits;
+mod laws;
 mod unit_tables;
 mod units;
 mod values;
 
+pub use laws::each_row_counts;
 pub use units::{Quantity, Unit, UnitName, unit_of};
 pub use values::{Value, value_of};
 

@@ -1,4 +1,4 @@
-//! Which unit a code of a VIF or of its first VIFE stands for (EN 13757-3, 6.4, and its tables of VIF codes).
+//! Which unit a code of a VIF or of its first VIFE stands for (EN 13757-3, 6.4).
 
 ghost use Rattle.std.specs.Prelude.{◌≡◌, IsTrue};
 ghost use Rattle.std.specs.List.{list_all};

@@ -10,20 +10,31 @@ use dif_vif::RecordSpan;
 /// What a record measures or states.
 #[derive(Clone, Copy, Debug, PartialEq, Eq)]
 pub enum Quantity {
+    /// Energy, or heat.
     Energy,
+    /// A volume.
     Volume,
+    /// A mass.
     Mass,
     /// How long the meter has been switched on.
     OnTime,
     /// How long the meter has measured.
     OperatingTime,
+    /// Power.
     Power,
+    /// A volume in a time.
     Flow,
+    /// A mass in a time.
     MassFlow,
+    /// The temperature of what comes to the meter.
     FlowTemperature,
+    /// The temperature of what goes back.
     ReturnTemperature,
+    /// The difference of these two.
     TemperatureDifference,
+    /// The temperature outside.
     ExternalTemperature,
+    /// A pressure.
     Pressure,
     /// A day.
     Date,
@@ -35,8 +46,11 @@ pub enum Quantity {
     AveragingDuration,
     /// How old the value is.
     ActualityDuration,
+    /// The number that the meter was made with.
     Fabrication,
+    /// An identification.
     Identification,
+    /// An address on the bus.
     Address,
     /// A quantity whose unit stands as plain text in the record.
     Plain,
@@ -44,9 +58,13 @@ pub enum Quantity {
     Any,
     /// A quantity that the manufacturer defines; manufacturer data too.
     Manufacturer,
+    /// The number of a transmission.
     AccessNumber,
+    /// Error flags.
     ErrorFlags,
+    /// A voltage.
     Voltage,
+    /// A current.
     Current,
     /// A quantity that is not read here.
     Unknown,
@@ -104,7 +122,9 @@ pub enum UnitName {
 /// What a record measures, in which unit, and where its modifiers stand.
 #[derive(Clone, Copy, Debug, PartialEq, Eq)]
 pub struct Unit {
+    /// What is measured or stated.
     pub quantity: Quantity,
+    /// In which unit.
     pub name: UnitName,
     /// The power of ten by which the value is multiplied.
     pub exponent: i8,
