@@ -1,0 +1,6 @@
+pub mod Numbers
+pub mod Spelling
+pub mod Spans
+pub mod Reading
+pub mod Views
+pub mod Listing
