@@ -1,9 +1,10 @@
 -- What one more line adds to the steps and to the counts.
-use Rattle.std.proofs.Common.{◌≡◌, ◌==◌, ◌||◌, ℕ, zero, suc, ◌+◌, ◌-◌, ◌^◌, ◌<◌, ◌≤◌, min, List, [], ◌∷◌, ◌++◌, length, Bool, true, false, cond, Option, Some, None, refl, ap, sym, ◌∙◌, arith, subst, add-zero, length-append}
+use Rattle.std.proofs.Common.{◌≡◌, ◌==◌, ◌||◌, ℕ, zero, suc, ◌+◌, ◌-◌, ◌^◌, ◌<◌, ◌≤◌, min, List, [], ◌∷◌, ◌++◌, length, Bool, true, false, cond, take, drop, get_or, Option, Some, None, refl, ap, sym, ◌∙◌, arith, subst, add-zero, length-append, length-drop}
 use Rattle.std.specs.Prelude.{count_by, option_to_list, slice_get}
 use Rattle.std.specs.List.{enumerate_from, filter_map, cons_option, list_any}
 use Rattle.std.proofs.lemmas.Bool.Decides.{nat_tests}
-use Rattle.std.proofs.lemmas.List.{append-nil}
+use Rattle.std.proofs.lemmas.List.{append-nil, take_more}
+use Rattle.std.proofs.Math.Seq.{drop-cons}
 use Rattle.std.proofs.lemmas.List.Elements.{filter_map-append}
 use Rattle.std.proofs.lemmas.List.Sums.{count_by-le-length, fold-append}
 use Rattle.meter_address.specs.declared.address.Address.{Address}
@@ -154,3 +155,31 @@ counts_landed own cs lines text steps s landed n k m is few tells lands next mad
         let b = ap (λ (x : Counts). x.bad) e ∙ ap (λ (x : Counts). x.bad) next in
         let all = kept in
         counted cs lines text Strange n m is class (omega (arith, l)) (omega (arith, o)) (omega (arith, t)) (omega (arith, u)) (omega (arith, b))
+
+-- ---- all lines
+
+-- what is left begins with the next element
+pub record IsNext {X : Type 0} (xs : List X) (n : ℕ) (x : X) (more : List X) : Type 0 where
+  pub within : n < length xs
+  pub front : take (n + 1) xs ≡ take n xs ++ x ∷ []
+  pub back : drop (n + 1) xs ≡ more
+
+pub is_next : {X : Type 0} (xs : List X) (n : ℕ) (x : X) (more : List X) → drop n xs ≡ x ∷ more → IsNext xs n x more
+is_next xs n x more h =
+    let within : n < length xs = omega (arith, ap length h, length-drop n xs) in
+    let both = sym (drop-cons xs n x within) ∙ h in
+    let same : get_or xs n x ≡ x = cc in
+    let rest : drop (suc n) xs ≡ more = cc in
+    let one : suc n ≡ n + 1 = omega arith in
+    record {
+      within = within;
+      front = take_more xs n x within ∙ ap (λ y. take n xs ++ y ∷ []) same;
+      back = ap (λ m. drop m xs) (sym one) ∙ rest;
+    }
+
+pub stands_first : (own : Address) (cs : List Commissioned) (all : List (List ℕ)) (world : WorldView) (n : Counts) → world ≡ world_of own cs [] → n ≡ record { lines = 0; own = 0; strangers = 0; unframed = 0; bad = 0 } → StandsFor own cs (take n.lines all) world n
+unfolding steps_of counts_of
+stands_first own cs all world n fresh none =
+    let first : StandsFor own cs [] world n = record { world_is = fresh; counts_are = none } in
+    let zero : n.lines ≡ 0 = ap (λ (m : Counts). m.lines) none in
+    subst (λ k. StandsFor own cs (take k all) world n) (sym zero) first

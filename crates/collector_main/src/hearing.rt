@@ -1,8 +1,9 @@
 //! Hearing the lines of one receiver.
-ghost use Rattle.std.specs.Prelude.{◌≡◌, ◌+◌, ◌-◌, ◌<◌, ◌≤◌, ◌^◌, ◌∷◌, ◌++◌, List, ℕ, [], length, min, IfOk, IfSome, OnOk, OnErr};
+ghost use Rattle.std.specs.Prelude.{◌≡◌, ◌+◌, ◌-◌, ◌<◌, ◌^◌, ◌∷◌, ◌++◌, List, ℕ, [], length, min, IfOk, IfSome, IfNone};
 ghost use Rattle.std.specs.Str.Lines.{lines};
 ghost use Rattle.meter_address.specs.declared.address.Address.{Address};
 ghost use Rattle.meter_address.specs.Commission.{Commissioned};
+ghost use Rattle.meter_slots.specs.World.{world_of};
 ghost use Rattle.collector_main.specs.Session.{StandsFor, landed_counts};
 
 use crate::told::{Told, tell};
@@ -71,4 +72,21 @@ fn hear_line(world: &mut World, counts: Counts, text: &[u8]) -> Result<Counts, M
             Ok(count_landed(counts, &landed))
         }
     }
+}
+
+// Hears all lines of a text: none where there are more than a receiver may have.
+pub(crate) fn hear_lines(world: &mut World, text: &[u8]) -> Result<Option<Counts>, Memory>
+    ensures heard { IfOk result (λ heard. IfSome heard (λ counts. (own : Address) (commissions : List Commissioned) →
+        world.old ≡ world_of own commissions [] → StandsFor own commissions (lines text.now) world.new counts)) }
+    ensures cut { IfOk result (λ heard. IfNone heard (LINES_MAX < length (lines text.now))) }
+{
+    let mut counts = no_counts();
+    let mut rest = TextLines::of_text(text);
+    while let Some(line) = rest.next() {
+        if counts.lines == LINES_MAX {
+            return Ok(None);
+        }
+        counts = hear_line(world, counts, line)?;
+    }
+    Ok(Some(counts))
 }

@@ -2,6 +2,7 @@
 #![tactic(auto)]
 
 mod hearing;
+mod report;
 mod told;
 
 pub use told::{Told, tell};
