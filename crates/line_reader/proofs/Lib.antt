@@ -1,0 +1,3 @@
+pub mod HeldLemmas
+pub mod NewlineLemmas
+pub mod SearchLemmas

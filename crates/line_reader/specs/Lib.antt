@@ -1,1 +1,4 @@
 pub mod Grammar
+pub mod Newlines
+pub mod Reading
+pub mod Search

@@ -3,8 +3,12 @@
 
 mod frame;
 mod grammar;
+mod held;
 mod line;
+mod lines;
+mod search;
 
 pub use frame::{FRAME_MAX, FrameBytes};
 pub use grammar::{LINE_MAX, read_line};
 pub use line::{BadLine, Line, LineFormat};
+pub use lines::{BYTES_MAX, LINES_MAX};
