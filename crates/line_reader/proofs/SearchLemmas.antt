@@ -1,13 +1,14 @@
 -- The bytes of a line while its end is sought.
-use Rattle.std.proofs.Common.{◌≡◌, ℕ, zero, suc, ◌<◌, ◌≤◌, ◌+◌, ◌-◌, List, [], ◌∷◌, ◌++◌, length, take, drop, refl, ap, sym, ◌∙◌, arith, append_assoc}
+use Rattle.std.proofs.Common.{◌≡◌, ℕ, zero, suc, ◌<◌, ◌≤◌, ◌+◌, ◌-◌, List, [], ◌∷◌, ◌++◌, length, take, drop, refl, ap, sym, subst, ◌∙◌, arith, append_assoc}
 use Rattle.std.proofs.Math.Seq.{take-add}
-use Rattle.std.proofs.lemmas.List.{nil_from_length, take-append-drop, take-append-le, drop-append-le, drop-drop, take_all, length-take, length-drop, length-append}
+use Rattle.std.proofs.lemmas.List.{append-nil, nil_from_length, take-append-drop, take-append-le, drop-append-le, drop-drop, take_all, length-take, length-drop, length-append}
 use lib.Seq.{take-append-add}
 use Rattle.outer_io.specs.Bytes.{Moves}
 use Rattle.line_reader.specs.Newlines.{newlines}
 use Rattle.line_reader.specs.Reading.{BeginsWithLine}
-use Rattle.line_reader.specs.Search.{IsRestOfLine, KeepsBytes, IsHeldBehind}
+use Rattle.line_reader.specs.Search.{Finds, IsRestOfLine, Searches}
 use Rattle.line_reader.specs.declared.grammar.TheConstants.{LINE_MAX}
+use Rattle.line_reader.specs.declared.search.Ending.TheVariants.{Source, Fault}
 use Rattle.line_reader.proofs.NewlineLemmas.{newlines-both, newlines-take, newlines-drop, line_behind}
 
 -- what is held of a line, none of whose bytes given up is a newline
@@ -88,24 +89,25 @@ more_read line held added given_up part =
       long = part.long;
     }
 
-pub keeps_start : (start : ℕ) (taken left held : List ℕ) → IsHeldBehind start taken held → KeepsBytes start taken left taken left
-keeps_start start taken left held h = record { within = h.within; before = refl; whole = refl }
+-- two reads, one after the other
+pub moves_more : (a b taken₀ left₀ taken left taken' left' : List ℕ) → Moves a taken₀ left₀ taken left → Moves b taken left taken' left' → Moves (a ++ b) taken₀ left₀ taken' left'
+moves_more a b taken₀ left₀ taken left taken' left' one two = record {
+  front = one.front ∙ ap (λ x. a ++ x) two.front ∙ sym (append_assoc a b left');
+  back = two.back ∙ ap (λ x. x ++ b) one.back ∙ append_assoc taken₀ a b;
+}
 
-pub searched_start : (start : ℕ) (taken held : List ℕ) → IsHeldBehind start taken held → IsSearched (drop start taken) held 0
-searched_start start taken held h = record { rest = record { within = omega arith; rest = h.behind; long = λ some. absurd (omega arith) }; none = refl }
+-- what was read since the search began, and the line so far
+pub record IsReading (held₀ taken₀ left₀ taken left held : List ℕ) (given_up : ℕ) : Type 0 where
+  pub added : List ℕ
+  pub moves : Moves added taken₀ left₀ taken left
+  pub line : IsSearched (held₀ ++ added) held given_up
 
-pub keeps_more : (start : ℕ) (taken₀ left₀ taken left added taken' left' : List ℕ) → KeepsBytes start taken₀ left₀ taken left → Moves added taken left taken' left' → KeepsBytes start taken₀ left₀ taken' left'
-keeps_more start taken₀ left₀ taken left added taken' left' keeps moves =
-    let within = keeps.within in
-    let longer = ap length moves.back ∙ length-append taken added in
-    record {
-      within = omega arith;
-      before = ap (take start) moves.back ∙ take-append-le start taken added within ∙ keeps.before;
-      whole = ap (λ x. x ++ left') moves.back ∙ append_assoc taken added left' ∙ ap (λ x. taken ++ x) (sym moves.front) ∙ keeps.whole;
-    }
-
-pub line_more : (start : ℕ) (taken left added taken' left' : List ℕ) → start ≤ length taken → Moves added taken left taken' left' → drop start taken' ≡ drop start taken ++ added
-line_more start taken left added taken' left' within moves = ap (drop start) moves.back ∙ drop-append-le start taken added within
+pub begin : (held taken left : List ℕ) → IsReading held taken left taken left held 0
+begin held taken left = record {
+  added = [];
+  moves = record { front = refl; back = sym (append-nil taken) };
+  line = record { rest = record { within = omega arith; rest = sym (append-nil held); long = λ some. absurd (omega arith) }; none = refl };
+}
 
 -- the line before a read: no newline was found, and what made it too long is given up
 pub ready : (line held held' : List ℕ) (given_up count most : ℕ) → IsSearched line held given_up → given_up ≤ most → newlines (take (most - given_up) held) ≡ 0 → length held ≤ most - given_up → held' ≡ drop count held → count ≤ length held → (0 < count → LINE_MAX + 1 < count)
@@ -123,22 +125,43 @@ searched_more line held added line' held' given_up none part line_is held_is =
     } in
     rw (line_is, held_is) same
 
--- the line at the source's end
-pub at_end : (line held added line' held' left left' : List ℕ) (given_up : ℕ) → newlines line ≡ 0 → IsRestOfLine line held given_up → line' ≡ line ++ added → held' ≡ held ++ added → length held' ≡ length held → left ≡ added ++ left' → left ≡ []
-    → IsRestOfLine line' held' given_up × (newlines line' ≡ 0) × (left' ≡ [])
-at_end line held added line' held' left left' given_up none part line_is held_is same front none_left =
-    let longer = ap length held_is ∙ length-append held added in
-    let nothing : added ≡ [] = nil_from_length added (omega arith) in
-    let state = searched_more line held added line' held' given_up none part line_is held_is in
-    (state.rest, ap newlines (line_is ∙ ap (λ x. line ++ x) nothing) ∙ newlines-both line [] none refl, sym (ap (λ x. x ++ left') nothing) ∙ sym front ∙ none_left)
+-- the state after a read
+pub read_on : (held₀ taken₀ left₀ taken left held bytes held' taken' left' : List ℕ) (given_up given_up' : ℕ) (state : IsReading held₀ taken₀ left₀ taken left held given_up) (rest : List ℕ)
+    → newlines (held₀ ++ state.added) ≡ 0 → IsRestOfLine (held₀ ++ state.added) rest given_up' → held' ≡ rest ++ bytes → Moves bytes taken left taken' left'
+    → IsReading held₀ taken₀ left₀ taken' left' held' given_up'
+read_on held₀ taken₀ left₀ taken left held bytes held' taken' left' given_up given_up' state rest none part held_is moves = record {
+  added = state.added ++ bytes;
+  moves = moves_more state.added bytes taken₀ left₀ taken left taken' left' state.moves moves;
+  line = searched_more (held₀ ++ state.added) rest bytes (held₀ ++ (state.added ++ bytes)) held' given_up' none part (sym (append_assoc held₀ state.added bytes)) held_is;
+}
 
--- the line after a read that failed
-pub at_fault : (line line' : List ℕ) (most : ℕ) → newlines line ≡ 0 → length line ≤ most → line' ≡ line ++ [] → (newlines line' ≡ 0) × (length line' ≤ most)
-at_fault line line' most none few line_is =
-    let same = ap length line_is ∙ length-append line [] in
-    (ap newlines line_is ∙ newlines-both line [] none refl, omega arith)
+-- nothing came
+pub nothing_came : (held bytes held' left left' : List ℕ) → held' ≡ held ++ bytes → length held' ≡ length held → left ≡ bytes ++ left' → left ≡ [] → (bytes ≡ []) × (left' ≡ [])
+nothing_came held bytes held' left left' held_is same front none_left =
+    let longer = ap length held_is ∙ length-append held bytes in
+    let nothing : bytes ≡ [] = nil_from_length bytes (omega arith) in
+    (nothing, sym (ap (λ x. x ++ left') nothing) ∙ sym front ∙ none_left)
 
 -- what was held before a read has no newline
 pub alone_after : (held held' held'' : List ℕ) (count n most : ℕ) → newlines (take most held) ≡ 0 → length held ≤ most → held' ≡ drop count held → take (length held') held'' ≡ held' → n ≡ length held' → newlines (take n held'') ≡ 0
 alone_after held held' held'' count n most none short is kept same =
     ap (λ m. newlines (take m held'')) same ∙ ap newlines (kept ∙ is) ∙ newlines-drop count held (ap newlines (sym (take_all most held short)) ∙ none)
+
+-- what a search found at the end, and at a fault
+pub ends : (held₀ taken₀ left₀ taken left held held' taken' left' bytes : List ℕ) (given_up given_up' most : ℕ) (state : IsReading held₀ taken₀ left₀ taken left held given_up)
+    → newlines (held₀ ++ state.added) ≡ 0 → IsRestOfLine (held₀ ++ state.added) held' given_up' → bytes ≡ [] → left' ≡ [] → Moves bytes taken left taken' left'
+    → Searches (Source given_up') most held₀ held' taken₀ left₀ taken' left'
+ends held₀ taken₀ left₀ taken left held held' taken' left' bytes given_up given_up' most state none part nothing none_left moves = record {
+  added = state.added;
+  moves = let more = moves_more state.added bytes taken₀ left₀ taken left taken' left' state.moves moves in subst (λ b. Moves b taken₀ left₀ taken' left') (ap (λ b. state.added ++ b) nothing ∙ append-nil state.added) more;
+  finds = (part, none, none_left);
+}
+
+pub faults : (held₀ taken₀ left₀ taken left held held' taken' left' : List ℕ) (given_up most : ℕ) (state : IsReading held₀ taken₀ left₀ taken left held given_up)
+    → newlines (held₀ ++ state.added) ≡ 0 → length (held₀ ++ state.added) ≤ most → Moves [] taken left taken' left'
+    → Searches Fault most held₀ held' taken₀ left₀ taken' left'
+faults held₀ taken₀ left₀ taken left held held' taken' left' given_up most state none few moves = record {
+  added = state.added;
+  moves = let more = moves_more state.added [] taken₀ left₀ taken left taken' left' state.moves moves in subst (λ b. Moves b taken₀ left₀ taken' left') (append-nil state.added) more;
+  finds = (none, few);
+}

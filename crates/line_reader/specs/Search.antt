@@ -1,5 +1,6 @@
 -- Words of private contracts: what the search for the end of a line found.
 use Rattle.std.specs.Prelude.{ℕ, ◌≡◌, ◌+◌, ◌<◌, ◌≤◌, List, [], ◌++◌, length, take, drop}
+use Rattle.outer_io.specs.Bytes.{Moves}
 use Rattle.line_reader.specs.Newlines.{newlines}
 use Rattle.line_reader.specs.Reading.{BeginsWithLine}
 use Rattle.line_reader.specs.declared.grammar.TheConstants.{LINE_MAX}
@@ -26,13 +27,8 @@ FitsIn (Source given_up) held most = given_up + length held ≤ most
 FitsIn Limit held most = Unit {0}
 FitsIn Fault held most = Unit {0}
 
--- the held bytes are those taken behind the first ones, so many, which belong to lines that were given
-pub record IsHeldBehind (start : ℕ) (taken held : List ℕ) : Type 0 where
-  pub within : start ≤ length taken
-  pub behind : held ≡ drop start taken
-
--- the first bytes taken, so many, stay, and those taken with those left are the same as before
-pub record KeepsBytes (start : ℕ) (taken left taken' left' : List ℕ) : Type 0 where
-  pub within : start ≤ length taken'
-  pub before : take start taken' ≡ take start taken
-  pub whole : taken' ++ left' ≡ taken ++ left
+-- what was read in a search and what it found behind the bytes that were held
+pub record Searches (ending : Ending) (most : ℕ) (held held' taken left taken' left' : List ℕ) : Type 0 where
+  pub added : List ℕ
+  pub moves : Moves added taken left taken' left'
+  pub finds : Finds ending (held ++ added) held' left' most

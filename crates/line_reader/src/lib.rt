@@ -6,9 +6,11 @@ mod grammar;
 mod held;
 mod line;
 mod lines;
+mod next;
 mod search;
 
 pub use frame::{FRAME_MAX, FrameBytes};
 pub use grammar::{LINE_MAX, read_line};
 pub use line::{BadLine, Line, LineFormat};
 pub use lines::{BYTES_MAX, LINES_MAX};
+pub use next::{Next, ReadFault};

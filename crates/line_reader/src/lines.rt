@@ -1,7 +1,60 @@
 //! The lines of a source.
+ghost use Rattle.std.specs.Prelude.{◌≡◌, ◌≤◌, ◌<◌, ◌-◌, ℕ, List, [], ◌∷◌, true, length, take, drop, Ok};
+ghost use Rattle.std.specs.Str.Lines.{lines};
+ghost use Rattle.line_reader.specs.Grammar.{line_of};
+ghost use Rattle.line_reader.specs.Reader.{next_of, gives_line};
+
+use crate::grammar::read_line;
+use crate::held::Held;
+use crate::line::BadLine;
+use crate::next::{Next, ReadFault};
+use crate::search::{Ending, find_end};
+use outer_io::Source;
+use plain_text::TextLines;
+use std::marker::Model;
 
 /// The most lines of a source.
 pub const LINES_MAX: u32 = 65_536;
 
 /// The most bytes of a source.
 pub const BYTES_MAX: usize = 67_108_864;
+
+// How many bytes count behind these bytes and lines.
+fn most_bytes(start: usize, line: u32) -> usize
+    requires { start ≤ BYTES_MAX }
+    ensures line { line < LINES_MAX → result ≡ BYTES_MAX - start }
+    ensures none { LINES_MAX ≤ line → result ≡ 0 }
+{
+    if line < LINES_MAX { BYTES_MAX - start } else { 0 }
+}
+
+// What the one line of these bytes says.
+fn said(bytes: &[u8]) -> Next
+    ensures line { gives_line (Ok result) ≡ true }
+    ensures says { (text : List ℕ) → lines bytes.now ≡ text ∷ [] → result ≡ next_of (line_of text) }
+{
+    let text = TextLines::of_text(bytes).next().unwrap_or(&[]);
+    match read_line(text) {
+        Ok(line) => Next::Line(line),
+        Err(bad) => Next::Bad(bad),
+    }
+}
+
+// Takes the first bytes, a line of which some bytes may have been given up before.
+fn take_line(held: &mut Held, given_up: usize, count: usize) -> Next
+    requires { count ≤ length held.old }
+    ensures rest { held.new ≡ drop count held.old }
+    ensures line { gives_line (Ok result) ≡ true }
+    ensures long { 0 < given_up → result ≡ Next.Bad BadLine.TooLong }
+    ensures says { given_up ≡ 0 → (text : List ℕ) → lines (take count held.old) ≡ text ∷ [] →
+        result ≡ next_of (line_of text) }
+{
+    let (bytes, _) = held.bytes().split_at(count);
+    let next = if given_up > 0 {
+        Next::Bad(BadLine::TooLong)
+    } else {
+        said(bytes)
+    };
+    held.advance(count);
+    next
+}

@@ -3,11 +3,10 @@ ghost use Rattle.std.specs.Prelude.{◌≡◌, ◌≤◌, ◌<◌, ◌+◌, ◌-
 ghost use Rattle.outer_io.specs.Faults.{Rose};
 ghost use Rattle.line_reader.specs.Newlines.{newlines};
 ghost use Rattle.line_reader.specs.Reading.{BeginsWithLine};
-ghost use Rattle.line_reader.specs.Search.{Finds, FitsIn, IsHeldBehind, KeepsBytes};
+ghost use Rattle.line_reader.specs.Search.{FitsIn, Searches};
 
 use crate::grammar::LINE_MAX;
 use crate::held::Held;
-use crate::lines::BYTES_MAX;
 use outer_io::Source;
 
 /// What ends a line, or what stands in the way. The first bytes of a line that is too long aren't held any more.
@@ -61,19 +60,14 @@ fn give_up(held: &mut Held) -> usize
     count
 }
 
-/// Reads to the end of the line that begins behind the first `start` bytes of the source, or to what stands in the way.
-pub(crate) fn find_end<S: Source>(source: &mut S, held: &mut Held, start: usize) -> Ending
-    requires start { start ≤ BYTES_MAX }
-    requires held { IsTrue S.tells → IsHeldBehind start (S.taken source.old) held.old }
-    ensures fits { FitsIn result held.new (BYTES_MAX - start) }
-    ensures finds { IsTrue S.tells →
-        Finds result (drop start (S.taken source.new)) held.new (S.left source.new) (BYTES_MAX - start) }
-    ensures keeps { IsTrue S.tells →
-        KeepsBytes start (S.taken source.old) (S.left source.old) (S.taken source.new) (S.left source.new) }
+/// Reads to the end of the line that begins with what is held, of which at most `most` bytes count, or to what stands in the way.
+pub(crate) fn find_end<S: Source>(source: &mut S, held: &mut Held, most: usize) -> Ending
+    ensures fits { FitsIn result held.new most }
+    ensures searches { IsTrue S.tells → Searches result most held.old held.new
+        (S.taken source.old) (S.left source.old) (S.taken source.new) (S.left source.new) }
     ensures later { S.faults source.old ≤ S.faults source.new }
     ensures cause { result ≡ Ending.Fault → Rose (S.faults source.old) (S.faults source.new) }
 {
-    let most = BYTES_MAX - start;
     let mut given_up = 0;
     let mut searched = 0;
     'reading: loop {

@@ -1,7 +1,6 @@
-use Rattle.std.proofs.Common.{◌≡◌, ◌≤◌, ◌+◌, ◌-◌, length, take, drop, IsTrue}
+use Rattle.std.proofs.Common.{◌≡◌, ◌≤◌, ◌+◌, ◌-◌, length, take, IsTrue}
 use Rattle.line_reader.specs.Newlines.{newlines}
-use Rattle.line_reader.specs.Search.{KeepsBytes}
-use Rattle.line_reader.proofs.SearchLemmas.{IsSearched}
+use Rattle.line_reader.proofs.SearchLemmas.{IsReading}
 use Rattle.line_reader.proofs.search.find_end.Given as goal
 
 abbrev pub invariant-reading : goal.invariant-reading
@@ -10,8 +9,7 @@ invariant-reading g l = record {
   alone : newlines (take l.searched l.held) ≡ 0;
   given_up : l.given_up ≤ l.most;
   later : g.S.Source.faults l.fn.source ≤ g.S.Source.faults l.source;
-  keeps : IsTrue g.S.Source.tells → KeepsBytes l.start (g.S.Source.taken l.fn.source) (g.S.Source.left l.fn.source) (g.S.Source.taken l.source) (g.S.Source.left l.source);
-  line : IsTrue g.S.Source.tells → IsSearched (drop l.start (g.S.Source.taken l.source)) l.held l.given_up;
+  line : IsTrue g.S.Source.tells → IsReading l.fn.held (g.S.Source.taken l.fn.source) (g.S.Source.left l.fn.source) (g.S.Source.taken l.source) (g.S.Source.left l.source) l.held l.given_up;
 }
 
 abbrev pub decreases-reading : goal.decreases-reading
