@@ -12,5 +12,5 @@ mod search;
 pub use frame::{FRAME_MAX, FrameBytes};
 pub use grammar::{LINE_MAX, read_line};
 pub use line::{BadLine, Line, LineFormat};
-pub use lines::{BYTES_MAX, LINES_MAX};
+pub use lines::{BYTES_MAX, LINES_MAX, Lines};
 pub use next::{Next, ReadFault};

@@ -58,3 +58,89 @@ fn take_line(held: &mut Held, given_up: usize, count: usize) -> Next
     held.advance(count);
     next
 }
+
+/// The lines of a source, one after another, bad ones too. They are numbered from 1.
+///
+/// A line ends with a newline, in front of which one carriage return is dropped, or at the source's end if it isn't empty there.
+#[derive(Drop)]
+pub struct Lines<S: Source> {
+    source: S,
+    held: Held,
+    start: usize,
+    line: u32,
+    ended: bool,
+    done: bool,
+}
+
+impl<S: Source> Model for Lines<S> {
+    ghost use Rattle.line_reader.specs.Reader.{Reader, reader_code};
+
+    ghost Value = { Reader S };
+
+    ghost coded = { reader_code S.code };
+
+    ghost use Rattle.line_reader.specs.Keeps.{Keeps};
+
+    ghost view = { λ l. record { source = l.source; line = l.line; done = l.done } };
+
+    ghost invariant = { λ l. Keeps S.tells l.start l.line l.ended l.done (S.taken l.source) (S.left l.source) l.held };
+}
+
+impl<S: Source> Lines<S> {
+    ghost use Rattle.std.specs.Prelude.{◌≡◌, ◌≤◌, ◌+◌, ◌++◌, [], false, not, IsTrue, OnErr, if◌then◌else◌};
+    ghost use Rattle.outer_io.specs.Faults.{Rose};
+    ghost use Rattle.line_reader.specs.Lines.{whole_lines};
+    ghost use Rattle.line_reader.specs.Reader.{given, gives_line, Gives, IsAtEnd, IsPastLimit};
+
+    /// The lines of a source of which nothing was taken yet.
+    pub fn new(source: S) -> Lines<S>
+        requires { IsTrue S.tells → S.taken source ≡ [] }
+        ensures { result ≡ record { source = source; line = 0; done = false } }
+    {
+        Lines {
+            source,
+            held: Held::new(),
+            start: 0,
+            line: 0,
+            ended: false,
+            done: false,
+        }
+    }
+
+    /// Whether no more line is given: the last answer was an end, a cut or a fault.
+    pub fn done(&self) -> bool
+        ensures { result ≡ self.now.done }
+    {
+        self.done
+    }
+
+    /// The number of the last line given, 0 before the first.
+    pub fn line(&self) -> u32
+        ensures number { result ≡ self.now.line }
+        ensures few { self.now.line ≤ LINES_MAX }
+    {
+        self.line
+    }
+
+    /// The source.
+    pub fn source(&self) -> &S
+        ensures { result.now ≡ self.now.source }
+    {
+        &self.source
+    }
+
+    /// The source, without the bytes that were read ahead.
+    pub fn into_source(self) -> S
+        ensures { result ≡ self.source }
+    {
+        let Lines {
+            source,
+            held: _,
+            start: _,
+            line: _,
+            ended: _,
+            done: _,
+        } = self;
+        source
+    }
+}
