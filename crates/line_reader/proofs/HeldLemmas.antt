@@ -1,5 +1,5 @@
 -- A part of a list, from one place to another.
-use Rattle.std.proofs.Common.{◌≡◌, ℕ, ◌+◌, ◌-◌, ◌≤◌, List, [], ◌++◌, length, take, drop, sym, ap, ◌∙◌, refl, arith}
+use Rattle.std.proofs.Common.{◌≡◌, ℕ, ◌+◌, ◌≤◌, List, ◌++◌, length, take, drop, sym, ap, ◌∙◌, refl, arith}
 use Rattle.std.specs.Prelude.{slice_range}
 use Rattle.std.proofs.Math.Seq.{take-add}
 use Rattle.std.proofs.lemmas.List.{drop-drop, drop-append-le, drop_at, length-take}
@@ -9,9 +9,6 @@ use Rattle.std.proofs.lemmas.Slice.{between_is}
 pub advanced : (bytes : List ℕ) (start end count : ℕ) → slice_range bytes (start + count) end ≡ drop count (slice_range bytes start end)
 advanced bytes start end count =
     between_is bytes (start + count) end ∙ sym (drop-drop count start (take end bytes)) ∙ ap (drop count) (sym (between_is bytes start end))
-
-
-
 
 -- a part with the elements behind it that came
 pub filled : (before after : List ℕ) (start end n : ℕ) → start ≤ end → end ≤ length before → take end after ≡ take end before

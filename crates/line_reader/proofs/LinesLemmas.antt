@@ -1,11 +1,10 @@
 -- The lines of bytes that are read from their front.
-use Rattle.std.proofs.Common.{◌≡◌, ℕ, zero, suc, ◌<◌, ◌≤◌, ◌+◌, ◌-◌, ◌==◌, List, [], ◌∷◌, ◌++◌, length, take, drop, get_or, min, Bool, true, false, cond, Option, Some, None, Ok, Err, refl, ap, sym, subst, ◌∙◌, arith, nat_lt, append_assoc, eqb-true}
+use Rattle.std.proofs.Common.{◌≡◌, ℕ, ◌<◌, ◌≤◌, ◌+◌, ◌-◌, ◌==◌, List, [], ◌∷◌, ◌++◌, length, take, get_or, Bool, true, false, cond, Option, Some, None, Err, refl, ap, sym, ◌∙◌, arith, nat_lt, append_assoc}
 use Rattle.std.specs.Prelude.{position, ◌||◌}
 use Rattle.std.specs.List.{slice_split, onto_first}
 use Rattle.std.specs.Str.Lines.{lines, lines_of_parts, strip_carriage_return}
-use Rattle.std.proofs.Math.Seq.{take-add}
 use Rattle.std.proofs.lemmas.Bool.Decides.{nat_tests}
-use Rattle.std.proofs.lemmas.List.{append-nil, length_push, take_at, take_all, take-take, take-append-le, length-take, length-append, nil_from_length}
+use Rattle.std.proofs.lemmas.List.{length_push, take_at, take_all, take-take, length-take}
 use Rattle.std.proofs.lemmas.List.Sums.{sum_by-cons}
 use Rattle.plain_text.proofs.Cuts.{lines_cut}
 use lib.Seq.{take-append-add}
@@ -13,11 +12,10 @@ use Rattle.line_reader.specs.Grammar.{line_of}
 use Rattle.line_reader.specs.Keeps.{IsFinished}
 use Rattle.line_reader.specs.Lines.{ended_lines, is_over, whole_lines, all_lines}
 use Rattle.line_reader.specs.Newlines.{newlines}
-use Rattle.line_reader.specs.Reading.{BeginsWithLine}
 use Rattle.line_reader.specs.declared.grammar.TheConstants.{LINE_MAX}
 use Rattle.line_reader.specs.declared.lines.TheConstants.{LINES_MAX, BYTES_MAX}
 use Rattle.line_reader.specs.declared.line.BadLine.TheVariants as bads
-use Rattle.line_reader.proofs.NewlineLemmas.{is_newline, newlines-append, newlines-take, no_place, first_place}
+use Rattle.line_reader.proofs.NewlineLemmas.{is_newline, newlines-append, no_place, first_place}
 
 -- the parts of bytes whose front has no newline
 
@@ -71,17 +69,17 @@ lines_more bytes front finished none = finished.follow (front ++ 10 ∷ []) ∙ 
 pub finished_more : (bytes front : List ℕ) → IsFinished bytes → newlines front ≡ 0 → IsFinished (bytes ++ (front ++ 10 ∷ []))
 finished_more bytes front finished none = record {
   follow = λ rest.
-    ap lines (append_assoc bytes (front ++ 10 ∷ []) rest ∙ ap (λ x. bytes ++ x) (append_assoc front (10 ∷ []) rest))
-    ∙ finished.follow (front ++ 10 ∷ rest)
-    ∙ ap (λ x. lines bytes ++ x) (lines_front front rest none)
-    ∙ sym (append_assoc (lines bytes) (strip_carriage_return front ∷ []) (lines rest))
-    ∙ ap (λ x. x ++ lines rest) (sym (lines_more bytes front finished none));
+      ap lines (append_assoc bytes (front ++ 10 ∷ []) rest ∙ ap (λ x. bytes ++ x) (append_assoc front (10 ∷ []) rest))
+      ∙ finished.follow (front ++ 10 ∷ rest)
+      ∙ ap (λ x. lines bytes ++ x) (lines_front front rest none)
+      ∙ sym (append_assoc (lines bytes) (strip_carriage_return front ∷ []) (lines rest))
+      ∙ ap (λ x. x ++ lines rest) (sym (lines_more bytes front finished none));
   counted =
-    let counts = newlines-append bytes (front ++ 10 ∷ []) in
-    let line = newlines-append front (10 ∷ []) in
-    let more = ap length (lines_more bytes front finished none) ∙ length_push (lines bytes) (strip_carriage_return front) in
-    let before = finished.counted in
-    omega arith;
+      let counts = newlines-append bytes (front ++ 10 ∷ []) in
+      let line = newlines-append front (10 ∷ []) in
+      let more = ap length (lines_more bytes front finished none) ∙ length_push (lines bytes) (strip_carriage_return front) in
+      let before = finished.counted in
+      omega arith;
 }
 
 -- the lines that end with a newline, behind lines that do

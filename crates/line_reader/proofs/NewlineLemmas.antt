@@ -1,8 +1,7 @@
 -- Newlines in parts of bytes.
-use Rattle.std.proofs.Common.{◌≡◌, ℕ, suc, ◌<◌, ◌≤◌, ◌+◌, ◌-◌, ◌==◌, List, [], ◌∷◌, ◌++◌, length, take, drop, get_or, Bool, true, false, not, cond, eqb, Option, Some, None, refl, ap, sym, ◌∙◌, arith, nat_lt, append_assoc, eqb-true}
-use Rattle.std.specs.Prelude.{position, MatchOption}
-use Rattle.std.specs.List.{position_or_len, sum_by}
-use Rattle.std.proofs.Math.Seq.{take-add}
+use Rattle.std.proofs.Common.{◌≡◌, ℕ, suc, ◌<◌, ◌≤◌, ◌+◌, ◌==◌, List, [], ◌∷◌, ◌++◌, length, take, drop, get_or, Bool, true, false, not, cond, Some, None, refl, ap, sym, ◌∙◌, arith, append_assoc, eqb-true}
+use Rattle.std.specs.Prelude.{position}
+use Rattle.std.specs.List.{position_or_len}
 use Rattle.std.proofs.lemmas.Bool.Decides.{nat_tests}
 use Rattle.std.proofs.lemmas.List.{take-append-drop, take-append-le, take_all, drop_more, length-take, length-append}
 use Rattle.std.proofs.lemmas.List.Sums.{sum_by-append, prefix_len_stops}

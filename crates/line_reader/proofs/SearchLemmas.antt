@@ -1,12 +1,11 @@
 -- The bytes of a line while its end is sought.
-use Rattle.std.proofs.Common.{◌≡◌, ℕ, zero, suc, ◌<◌, ◌≤◌, ◌+◌, ◌-◌, List, [], ◌∷◌, ◌++◌, length, take, drop, refl, ap, sym, subst, ◌∙◌, arith, append_assoc}
-use Rattle.std.proofs.Math.Seq.{take-add}
+use Rattle.std.proofs.Common.{◌≡◌, ℕ, zero, suc, ◌<◌, ◌≤◌, ◌+◌, ◌-◌, List, [], ◌++◌, length, take, drop, refl, ap, sym, subst, ◌∙◌, arith, append_assoc}
 use Rattle.std.proofs.lemmas.List.{append-nil, nil_from_length, take-append-drop, take-append-le, drop-append-le, drop-drop, take_all, length-take, length-drop, length-append}
 use lib.Seq.{take-append-add}
 use Rattle.outer_io.specs.Bytes.{Moves}
 use Rattle.line_reader.specs.Newlines.{newlines}
 use Rattle.line_reader.specs.Reading.{BeginsWithLine}
-use Rattle.line_reader.specs.Search.{Finds, IsRestOfLine, Searches}
+use Rattle.line_reader.specs.Search.{IsRestOfLine, Searches}
 use Rattle.line_reader.specs.declared.grammar.TheConstants.{LINE_MAX}
 use Rattle.line_reader.specs.declared.search.Ending.TheVariants.{Source, Fault}
 use Rattle.line_reader.proofs.NewlineLemmas.{newlines-both, newlines-take, newlines-drop, line_behind}

@@ -25,7 +25,11 @@ fn most_bytes(start: usize, line: u32) -> usize
     ensures line { line < LINES_MAX → result ≡ BYTES_MAX - start }
     ensures none { LINES_MAX ≤ line → result ≡ 0 }
 {
-    if line < LINES_MAX { BYTES_MAX - start } else { 0 }
+    if line < LINES_MAX {
+        BYTES_MAX - start
+    } else {
+        0
+    }
 }
 
 // What the one line of these bytes says.
@@ -87,7 +91,7 @@ impl<S: Source> Model for Lines<S> {
 }
 
 impl<S: Source> Lines<S> {
-    ghost use Rattle.std.specs.Prelude.{◌≡◌, ◌≤◌, ◌+◌, ◌++◌, [], false, not, IsTrue, OnErr, if◌then◌else◌};
+    ghost use Rattle.std.specs.Prelude.{◌≡◌, ◌≤◌, ◌+◌, ◌++◌, [], false, not, Ok, IsTrue, OnErr, if◌then◌else◌};
     ghost use Rattle.outer_io.specs.Faults.{Rose};
     ghost use Rattle.line_reader.specs.Lines.{whole_lines};
     ghost use Rattle.line_reader.specs.Reader.{given, gives_line, Gives, IsAtEnd, IsPastLimit};
@@ -104,6 +108,67 @@ impl<S: Source> Lines<S> {
             line: 0,
             ended: false,
             done: false,
+        }
+    }
+
+    /// What comes next. After an end, a cut or a fault no more line is given.
+    ///
+    /// Each read asks the source for at least 1,024 bytes. No memory is taken.
+    pub fn next(&mut self) -> Result<Next, ReadFault>
+        requires { self.old.done ≡ false }
+
+        // A line or a bad line is the next of the source's lines, and says what is answered.
+        ensures lines { IsTrue S.tells → Gives result (given S.taken self.old) (given S.taken self.new) }
+        ensures number { self.new.line ≡ self.old.line + (if gives_line result then 1 else 0) }
+        ensures done { self.new.done ≡ not (gives_line result) }
+
+        // The source is at its end exactly where no byte is left, and cut exactly where it has one behind a limit.
+        ensures end { result ≡ Ok Next.End → IsTrue S.tells →
+            IsAtEnd (S.taken self.new.source) (S.left self.new.source) (given S.taken self.new) }
+        ensures cut { result ≡ Ok Next.Cut → IsTrue S.tells →
+            IsPastLimit (S.taken self.new.source) (S.left self.new.source) (given S.taken self.new) }
+
+        // Only a fault of the source is a fault, and every whole line of the bytes taken was given before.
+        ensures fault { OnErr result (IsTrue S.tells → given S.taken self.new ≡ whole_lines (S.taken self.new.source)) }
+        ensures cause { OnErr result (Rose (S.faults self.old.source) (S.faults self.new.source)) }
+        ensures later { S.faults self.old.source ≤ S.faults self.new.source }
+
+        // No byte is lost.
+        ensures bytes { IsTrue S.tells →
+            S.taken self.new.source ++ S.left self.new.source ≡ S.taken self.old.source ++ S.left self.old.source }
+    {
+        if self.ended {
+            self.done = true;
+            return Ok(Next::End);
+        }
+        let most = most_bytes(self.start, self.line);
+        match find_end(&mut self.source, &mut self.held, most) {
+            Ending::Newline { given_up, count } => {
+                let next = take_line(&mut self.held, given_up, count);
+                self.start += given_up + count;
+                self.line += 1;
+                Ok(next)
+            }
+            Ending::Source { given_up } => {
+                let count = self.held.len();
+                if given_up + count == 0 {
+                    self.done = true;
+                    return Ok(Next::End);
+                }
+                let next = take_line(&mut self.held, given_up, count);
+                self.start += given_up + count;
+                self.line += 1;
+                self.ended = true;
+                Ok(next)
+            }
+            Ending::Limit => {
+                self.done = true;
+                Ok(Next::Cut)
+            }
+            Ending::Fault => {
+                self.done = true;
+                Err(ReadFault)
+            }
         }
     }
 

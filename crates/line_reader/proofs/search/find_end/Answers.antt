@@ -1,8 +1,8 @@
-use Rattle.std.proofs.Common.{◌≡◌, ◌≤◌, ◌+◌, ◌-◌, ◌∙◌, ◌++◌, sym, ap, refl, length, take, drop, arith}
+use Rattle.std.proofs.Common.{◌≡◌, ◌+◌, ◌-◌, ◌∙◌, ◌++◌, ap, length, take, drop, arith}
 use Rattle.std.proofs.lemmas.List.{append-nil}
 use Rattle.line_reader.specs.Newlines.{newlines}
 use Rattle.line_reader.specs.Reading.{BeginsWithLine}
-use Rattle.line_reader.proofs.SearchLemmas.{alone_after, begin, ends, faults, found_line, held_more, nothing_came, past_limit, read_on, ready}
+use Rattle.line_reader.proofs.SearchLemmas.{alone_after, ends, faults, found_line, held_more, nothing_came, past_limit, read_on, ready}
 use Rattle.line_reader.proofs.search.find_end.Goals as goal
 
 pub returns-in-Some-clause-searches : goal.returns-in-Some-clause-searches
@@ -41,9 +41,9 @@ reading-preserved g c =
       given_up = omega arith;
       later = omega arith;
       line = λ told.
-        let state = c.reading.invariant.line told in
-        let before = ready _ c.reading.held held c.reading.given_up c.give_up-given_up.result c.args.most state.line c.reading.invariant.given_up none (omega arith) c.give_up-given_up.ensures.rest c.give_up-given_up.ensures.within c.give_up-given_up.ensures.long in
-        read_on c.args.held.now _ _ _ _ c.reading.held (drop (length held) c.fill.new.self) c.fill.new.self _ _ c.reading.given_up (c.reading.given_up + c.give_up-given_up.result) state held before.0 before.2 (held_more held c.fill.new.self kept) (c.in-Ok.ensures.ok told);
+          let state = c.reading.invariant.line told in
+          let before = ready _ c.reading.held held c.reading.given_up c.give_up-given_up.result c.args.most state.line c.reading.invariant.given_up none (omega arith) c.give_up-given_up.ensures.rest c.give_up-given_up.ensures.within c.give_up-given_up.ensures.long in
+          read_on c.args.held.now _ _ _ _ c.reading.held (drop (length held) c.fill.new.self) c.fill.new.self _ _ c.reading.given_up (c.reading.given_up + c.give_up-given_up.result) state held before.0 before.2 (held_more held c.fill.new.self kept) (c.in-Ok.ensures.ok told);
     }
 
 pub returns-in-Err-clause-searches : goal.returns-in-Err-clause-searches
