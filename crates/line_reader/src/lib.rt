@@ -14,3 +14,6 @@ pub use grammar::{LINE_MAX, read_line};
 pub use line::{BadLine, Line, LineFormat};
 pub use lines::{BYTES_MAX, LINES_MAX, Lines};
 pub use next::{Next, ReadFault};
+
+#[cfg(test)]
+mod tests;
