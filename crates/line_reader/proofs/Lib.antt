@@ -1,0 +1,5 @@
+pub mod HeldLemmas
+pub mod LinesLemmas
+pub mod NewlineLemmas
+pub mod ReaderLemmas
+pub mod SearchLemmas

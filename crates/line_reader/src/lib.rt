@@ -3,8 +3,17 @@
 
 mod frame;
 mod grammar;
+mod held;
 mod line;
+mod lines;
+mod next;
+mod search;
 
 pub use frame::{FRAME_MAX, FrameBytes};
 pub use grammar::{LINE_MAX, read_line};
 pub use line::{BadLine, Line, LineFormat};
+pub use lines::{BYTES_MAX, LINES_MAX, Lines};
+pub use next::{Next, ReadFault};
+
+#[cfg(test)]
+mod tests;

@@ -1,0 +1,88 @@
+use Rattle.std.proofs.Common.{◌∙◌, ap, arith}
+use Rattle.line_reader.proofs.NewlineLemmas.{newlines-take}
+use Rattle.line_reader.proofs.ReaderLemmas.{search_from, room_after, same_lines, next_reader, line_gives, last_line, last_gives, at_end, whole_given, past_limit, last_end}
+use Rattle.line_reader.proofs.lines.Lines.next.Goals as goal
+
+pub returns-then-self-clause-end : goal.returns-then-self-clause-end
+returns-then-self-clause-end g c = λ is told.
+    last_end c.self.inside.line _ _ (c.self.invariant.last told (ap (λ r. r.done) c.self.view_is ∙ c.requires) c.if-self.true)
+
+pub invariant_of-self-in-Newline : goal.invariant_of-self-in-Newline
+invariant_of-self-in-Newline g c =
+    let fits = c.in-Newline.ensures.fits in
+    let few_bytes = c.self.invariant.few_bytes in
+    let room = room_after c.self.inside.start c.self.inside.line c.most_bytes-most.result c.most_bytes-most.ensures.line c.most_bytes-most.ensures.none (omega arith) in
+    record {
+      few_lines = omega arith;
+      few_bytes = omega arith;
+      reader = λ told not_done not_ended.
+          let found = c.in-Newline.ensures.searches told in
+          let s = search_from c.self.inside.start c.self.inside.line c.most_bytes-most.result _ _ _ _ _ _ c.self.invariant told (ap (λ r. r.done) c.self.view_is ∙ c.requires) c.if-self.false c.most_bytes-most.ensures.line c.most_bytes-most.ensures.none found.moves in
+          next_reader s _ _ c.in-Newline.given_up c.in-Newline.count found.finds.0 found.finds.1 c.take_line-next.ensures.rest;
+      last = λ told not_done ended. let not_ended = c.if-self.false in absurd (cc);
+    }
+
+pub returns-then-given_up-count-eq0-clause-end : goal.returns-then-given_up-count-eq0-clause-end
+returns-then-given_up-count-eq0-clause-end g c = λ is told.
+    let found = c.in-Source.ensures.searches told in
+    let s = search_from c.self.inside.start c.self.inside.line c.most_bytes-most.result _ _ _ _ _ _ c.self.invariant told (ap (λ r. r.done) c.self.view_is ∙ c.requires) c.if-self.false c.most_bytes-most.ensures.line c.most_bytes-most.ensures.none found.moves in
+    at_end s _ _ c.in-Source.given_up found.finds.0 found.finds.1 found.finds.2 (let count = c.len-count.ensures in omega arith)
+
+pub invariant_of-self-in-Source : goal.invariant_of-self-in-Source
+invariant_of-self-in-Source g c =
+    let fits = c.in-Source.ensures.fits in
+    let few_bytes = c.self.invariant.few_bytes in
+    let count = c.len-count.ensures in
+    let room = room_after c.self.inside.start c.self.inside.line c.most_bytes-most.result c.most_bytes-most.ensures.line c.most_bytes-most.ensures.none (omega arith) in
+    record {
+      few_lines = omega arith;
+      few_bytes = omega arith;
+      reader = λ told not_done not_ended. absurd (cc);
+      last = λ told not_done ended.
+          let found = c.in-Source.ensures.searches told in
+          let s = search_from c.self.inside.start c.self.inside.line c.most_bytes-most.result _ _ _ _ _ _ c.self.invariant told (ap (λ r. r.done) c.self.view_is ∙ c.requires) c.if-self.false c.most_bytes-most.ensures.line c.most_bytes-most.ensures.none found.moves in
+          last_line s _ _ c.in-Source.given_up found.finds.0 found.finds.1 found.finds.2 (omega arith) (omega arith);
+    }
+
+pub returns-in-Newline-clause-lines : goal.returns-in-Newline-clause-lines
+returns-in-Newline-clause-lines g c = λ told.
+    let found = c.in-Newline.ensures.searches told in
+    let s = search_from c.self.inside.start c.self.inside.line c.most_bytes-most.result _ _ _ _ _ _ c.self.invariant told (ap (λ r. r.done) c.self.view_is ∙ c.requires) c.if-self.false c.most_bytes-most.ensures.line c.most_bytes-most.ensures.none found.moves in
+    let fits = c.in-Newline.ensures.fits in
+    let few_bytes = c.self.invariant.few_bytes in
+    let room = room_after c.self.inside.start c.self.inside.line c.most_bytes-most.result c.most_bytes-most.ensures.line c.most_bytes-most.ensures.none (omega arith) in
+    let gives = line_gives s _ _ c.in-Newline.given_up c.in-Newline.count found.finds.0 found.finds.1 c.take_line-next.ensures.rest c.take_line-next.result fits.0 room.0 (omega arith) c.take_line-next.ensures.long c.take_line-next.ensures.says in
+    rw (← c.self.view_is) gives
+
+pub returns-else-given_up-count-eq0-clause-lines : goal.returns-else-given_up-count-eq0-clause-lines
+returns-else-given_up-count-eq0-clause-lines g c = λ told.
+    let found = c.in-Source.ensures.searches told in
+    let s = search_from c.self.inside.start c.self.inside.line c.most_bytes-most.result _ _ _ _ _ _ c.self.invariant told (ap (λ r. r.done) c.self.view_is ∙ c.requires) c.if-self.false c.most_bytes-most.ensures.line c.most_bytes-most.ensures.none found.moves in
+    let fits = c.in-Source.ensures.fits in
+    let count = c.len-count.ensures in
+    let gives = last_gives s _ _ c.in-Source.given_up found.finds.0 found.finds.1 found.finds.2 (omega arith) fits c.take_line-next-in-Source.result c.take_line-next-in-Source.ensures.long (rw (← count) c.take_line-next-in-Source.ensures.says) in
+    rw (← c.self.view_is) gives
+
+pub returns-in-Limit-clause-lines : goal.returns-in-Limit-clause-lines
+returns-in-Limit-clause-lines g c = λ told.
+    let found = c.in-Limit.ensures.searches told in
+    let s = search_from c.self.inside.start c.self.inside.line c.most_bytes-most.result _ _ _ _ _ _ c.self.invariant told (ap (λ r. r.done) c.self.view_is ∙ c.requires) c.if-self.false c.most_bytes-most.ensures.line c.most_bytes-most.ensures.none found.moves in
+    rw (← c.self.view_is) (same_lines s)
+
+pub returns-in-Limit-clause-cut : goal.returns-in-Limit-clause-cut
+returns-in-Limit-clause-cut g c = λ is told.
+    let found = c.in-Limit.ensures.searches told in
+    let s = search_from c.self.inside.start c.self.inside.line c.most_bytes-most.result _ _ _ _ _ _ c.self.invariant told (ap (λ r. r.done) c.self.view_is ∙ c.requires) c.if-self.false c.most_bytes-most.ensures.line c.most_bytes-most.ensures.none found.moves in
+    past_limit s _ found.finds.0 found.finds.1
+
+pub returns-in-Fault-clause-lines : goal.returns-in-Fault-clause-lines
+returns-in-Fault-clause-lines g c = λ told.
+    let found = c.in-Fault.ensures.searches told in
+    let s = search_from c.self.inside.start c.self.inside.line c.most_bytes-most.result _ _ _ _ _ _ c.self.invariant told (ap (λ r. r.done) c.self.view_is ∙ c.requires) c.if-self.false c.most_bytes-most.ensures.line c.most_bytes-most.ensures.none found.moves in
+    rw (← c.self.view_is) (same_lines s)
+
+pub returns-in-Fault-clause-fault : goal.returns-in-Fault-clause-fault
+returns-in-Fault-clause-fault g c = λ told.
+    let found = c.in-Fault.ensures.searches told in
+    let s = search_from c.self.inside.start c.self.inside.line c.most_bytes-most.result _ _ _ _ _ _ c.self.invariant told (ap (λ r. r.done) c.self.view_is ∙ c.requires) c.if-self.false c.most_bytes-most.ensures.line c.most_bytes-most.ensures.none found.moves in
+    whole_given s (newlines-take c.most_bytes-most.result _ found.finds.0)

@@ -1,0 +1,30 @@
+-- What the lines of a source keep between two calls.
+use Rattle.std.specs.Prelude.{ℕ, ◌≡◌, ◌≤◌, Bool, true, false, List, [], ◌++◌, length, take, drop, IsTrue}
+use Rattle.std.specs.Str.Lines.{lines}
+use Rattle.line_reader.specs.Newlines.{newlines}
+use Rattle.line_reader.specs.Lines.{is_over}
+use Rattle.line_reader.specs.declared.lines.TheConstants.{LINES_MAX, BYTES_MAX}
+
+-- each line of the bytes ends with a newline, so that what follows them begins a line
+pub record IsFinished (bytes : List ℕ) : Type 0 where
+  pub follow : (rest : List ℕ) → lines (bytes ++ rest) ≡ lines bytes ++ lines rest
+  pub counted : newlines bytes ≡ length (lines bytes)
+
+-- the first bytes taken, so many, are the lines that were given, and the others are held
+pub record IsReader (start line : ℕ) (taken held : List ℕ) : Type 0 where
+  pub within : start ≤ length taken
+  pub behind : held ≡ drop start taken
+  pub finished : IsFinished (take start taken)
+  pub counted : length (lines (take start taken)) ≡ line
+
+-- an unfinished last line was given too, the last of all lines
+pub record IsLast (line : ℕ) (taken left : List ℕ) : Type 0 where
+  pub nothing_left : left ≡ []
+  pub within : is_over taken ≡ false
+  pub counted : length (lines taken) ≡ line
+
+pub record Keeps (tells : Bool) (start line : ℕ) (ended done : Bool) (taken left held : List ℕ) : Type 0 where
+  pub few_lines : line ≤ LINES_MAX
+  pub few_bytes : start ≤ BYTES_MAX
+  pub reader : IsTrue tells → done ≡ false → ended ≡ false → IsReader start line taken held
+  pub last : IsTrue tells → done ≡ false → ended ≡ true → IsLast line taken left
