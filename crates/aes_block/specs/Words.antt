@@ -13,6 +13,10 @@ word column = from_be_bytes w32 column
 abbrev pub row : ℕ → ℕ → ℕ
 row w r = slice_index (to_be_bytes w32 w) r
 
+-- four bytes through f, one row of each of four words
+abbrev pub rows : (ℕ → ℕ) → ℕ → ℕ → ℕ → ℕ → List ℕ
+rows f a b c d = f (row a 0) ∷ f (row b 1) ∷ f (row c 2) ∷ f (row d 3) ∷ []
+
 -- the four words of a block
 abbrev pub words_of : List ℕ → List ℕ
 words_of b = word (column b 0) ∷ word (column b 1) ∷ word (column b 2) ∷ word (column b 3) ∷ []
