@@ -1,4 +1,4 @@
--- Blocks as four words of 32 bits: a column is a word, its first row highest.
+-- Blocks as four words of 32 bits: a column is a word (FIPS 197, section 3.5), its first row highest.
 use Rattle.std.specs.Prelude.{◌≡◌, ℕ, zero, suc, List, [], ◌∷◌, ◌++◌, take, slice_index, slice_set}
 use Rattle.std.specs.List.{flat_map}
 use Rattle.std.specs.Int.{w32, from_be_bytes, to_be_bytes}
