@@ -33,7 +33,7 @@ pub record AreInverseBijections (f g : ℕ → ℕ) : Type 0 where
 abbrev pub SubstitutionIsABijection : Type 0
 SubstitutionIsABijection = AreInverseBijections substitute inverse_substitute
 
--- each word of the key schedule from the fourth on is the one four places before it, added to the one before it, which
+-- each word of the key schedule from word 4 on is the one four places before it, added to the one before it, which
 -- is turned first where a round key begins
 abbrev pub ScheduleIsTheStandards : Type 0
 ScheduleIsTheStandards = (key : List ℕ) → IsBlock key → (i : ℕ) →

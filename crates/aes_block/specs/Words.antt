@@ -1,4 +1,4 @@
--- Blocks as four words of 32 bits: a column is a word, its first row highest.
+-- Blocks as four words of 32 bits: a column is a word (FIPS 197, section 3.5), its first row highest.
 use Rattle.std.specs.Prelude.{◌≡◌, ℕ, zero, suc, List, [], ◌∷◌, ◌++◌, take, slice_index, slice_set}
 use Rattle.std.specs.List.{flat_map}
 use Rattle.std.specs.Int.{w32, from_be_bytes, to_be_bytes}
@@ -12,6 +12,10 @@ word column = from_be_bytes w32 column
 -- the byte of a word at row r
 abbrev pub row : ℕ → ℕ → ℕ
 row w r = slice_index (to_be_bytes w32 w) r
+
+-- four bytes through f, one row of each of four words
+abbrev pub rows : (ℕ → ℕ) → ℕ → ℕ → ℕ → ℕ → List ℕ
+rows f a b c d = f (row a 0) ∷ f (row b 1) ∷ f (row c 2) ∷ f (row d 3) ∷ []
 
 -- the four words of a block
 abbrev pub words_of : List ℕ → List ℕ

@@ -7,7 +7,7 @@ pub fn product_is_remainder()
     ensures { ProductIsRemainder }
 {}
 
-/// Each element other than 0 has one inverse, and `inverse` is it (FIPS 197, section 4.4).
+/// Each element other than 0 has one inverse, and `inverse` is it (FIPS 197, section 4.2).
 pub fn inverse_is_the_inverse()
     ensures { InverseIsTheInverse }
 {}
