@@ -1,6 +1,5 @@
 -- The commands that wait to be sent to a meter.
-use Rattle.std.specs.Prelude.{ℕ, ◌≡◌, ◌+◌, ◌-◌, ◌^◌, ◌<◌, ◌≤◌, Bool, not, ◌==◌, nat_le, if◌then◌else◌, List, [], ◌∷◌, ◌++◌, length, filter, find, Result, Ok, Err, ok_or}
-use Rattle.std.specs.List.{list_any}
+use Rattle.std.specs.Prelude.{ℕ, ◌≡◌, ◌+◌, ◌-◌, ◌^◌, ◌<◌, ◌≤◌, Bool, not, ◌==◌, nat_le, if◌then◌else◌, List, [], ◌∷◌, ◌++◌, length, filter, find, is_some, Result, Ok, Err, ok_or}
 use Rattle.command_queue.specs.declared.command.Command.{Command}
 use Rattle.command_queue.specs.declared.command.QueueFault.{QueueFault}
 use Rattle.command_queue.specs.declared.command.QueueFault.TheVariants.{Full, IdsSpent}
@@ -44,7 +43,7 @@ has_id id c = c.id == id
 
 -- whether a command with this id waits
 unfoldable pub is_pending : ℕ → Pending → Bool
-is_pending id q = list_any (has_id id) q.commands
+is_pending id q = is_some (find (has_id id) q.commands)
 
 -- the id of the next command, or why there is none: a full queue comes first, then the last id
 unfoldable pub put_answer : Pending → Result ℕ QueueFault

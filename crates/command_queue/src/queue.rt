@@ -99,6 +99,7 @@ impl Queue {
     pub fn take(&mut self, id: u32) -> Result<Command, NoSuch>
         ensures answer { result ≡ take_answer id self.old }
         ensures after { self.new ≡ without_command id self.old }
+        ensures was_sound { IsSound self.old }
 
         // Without such a command the queue stays as it was.
         ensures no_such { (result ≡ Err (no_such id)) ↔ All (λ c. c.id ≢ id) self.old.commands }
