@@ -1,20 +1,18 @@
 -- How the window and the queue go on agreeing.
-use Rattle.std.proofs.Common.{◌≡◌, ◌≢◌, ℕ, ◌==◌, ◌<◌, Bool, true, false, not, cond, List, [], ◌∷◌, ◌++◌, Option, Some, None, Result, Ok, Err, is_some, refl, sym, ap, subst, ◌∙◌, arith}
-use Rattle.std.specs.Prelude.{ok_or, slice_get, find}
+use Rattle.std.proofs.Common.{◌≡◌, ℕ, ◌==◌, ◌-◌, ◌^◌, ◌<◌, ◌&&◌, Bool, true, false, not, cond, List, [], ◌∷◌, ◌++◌, Option, Some, None, Result, Ok, Err, is_some, refl, sym, ap, subst, ◌∙◌, arith}
+use Rattle.std.specs.Prelude.{ok_or, slice_get, find, nat_lt, IfSome, is_ok}
 use Rattle.std.proofs.lemmas.Bool.Decides.{nat_tests}
 use Rattle.command_queue.specs.declared.command.Command.{Command}
 use Rattle.command_queue.specs.declared.command.NoSuch.{NoSuch}
 use Rattle.command_queue.specs.Pending.{Pending, AreUntried, OnlyOldestTried, IsSound, has_id, no_such, is_pending, take_answer, without_command, with_try, with_command, with_command_by, put_answer}
-use Rattle.command_queue.proofs.Moves.{without, untried_without}
+use Rattle.command_queue.proofs.Moves.{without, same_id, untried_without}
+use Rattle.ell_layer.specs.declared.access.Access.{Access}
 use Rattle.access_window.specs.declared.window.Window.{Window}
 use Rattle.access_window.specs.declared.window.Window.TheVariants.{Idle, Waiting}
-use Rattle.access_window.specs.Orders.{Orders, orders_of, AgreesWith, Agrees, window_without, after_cancel}
+use Rattle.access_window.specs.Orders.{Orders, orders_of, AgreesWith, Agrees, window_without, after_cancel, is_open, oldest_where_idle, sent, sent_orders, after_sent, IsOldestAfterTry}
 
-same_id : (a b : ℕ) → a ≡ b → (a == b) ≡ true
-same_id a b h = grind (arith, nat_tests)
-
-other_id : (a b c : ℕ) → a ≡ b → (b == c) ≡ false → (a == c) ≡ false
-other_id a b c h k = grind (arith, nat_tests)
+still_other : (a b c : ℕ) → a ≡ b → (b == c) ≡ false → (a == c) ≡ false
+still_other a b c h k = grind (arith, nat_tests)
 
 from_same : (a b : ℕ) → (a == b) ≡ true → a ≡ b
 from_same a b h = grind (arith, nat_tests)
@@ -40,7 +38,7 @@ awaited_without id (c ∷ cs) t a =
 other_without : (id other : ℕ) (cs : List Command) → (other == id) ≡ false → AgreesWith (Waiting other) cs → AgreesWith (Waiting other) (without id cs)
 other_without id other [] differs a = absurd a
 other_without id other (c ∷ cs) differs a =
-    let kept : (c.id == id) ≡ false = other_id c.id other id a.0 differs in
+    let kept : (c.id == id) ≡ false = still_other c.id other id a.0 differs in
     rw kept a
 
 waiting_without : (b : Bool) (id other : ℕ) (cs : List Command) → (other == id) ≡ b → OnlyOldestTried cs → AgreesWith (Waiting other) cs → AgreesWith (cond b Idle (Waiting other)) (without id cs)
@@ -88,7 +86,32 @@ pub agrees_put : (w : Window) (q : Pending) (payload : List ℕ) → Agrees w q 
 unfolding with_command
 agrees_put w q payload a = put_agrees w q payload (put_answer q) a
 
--- ---- what was cancelled
+-- ---- what is sent
+
+first_sent : (b : Bool) (w : Window) (ids : ℕ) (cs : List Command) (d : ℕ) → IfSome (cond b (oldest_where_idle w cs) None) (λ c. IsOldestAfterTry (sent_orders (orders_of (record { ids = ids; commands = cs }) w d) (cond b (oldest_where_idle w cs) None)).queue c)
+unfolding with_try
+first_sent false w ids cs d = tt
+first_sent true (Waiting id) ids cs d = tt
+first_sent true Idle ids [] d = tt
+first_sent true Idle ids (c ∷ cs) d = refl
+
+-- the command that is sent stands first
+pub sent_first : (k : Orders) (access : Access) → IfSome (sent k access) (λ c. IsOldestAfterTry (after_sent k access).queue c)
+unfolding sent after_sent
+sent_first k access = first_sent (is_open access && nat_lt k.down (2 ^ 32 - 1)) k.window k.queue.ids k.queue.commands k.down
+
+-- ---- what is taken
+
+found_taken : (id : ℕ) (cs : List Command) (n : NoSuch) → AgreesWith (Waiting id) cs → is_ok (ok_or (find (has_id id) cs) n) ≡ true
+found_taken id [] n a = absurd a
+found_taken id (c ∷ cs) n a =
+    let same : (c.id == id) ≡ true = same_id c.id id a.0 in
+    rw same refl
+
+-- the command for which the window waits can be taken
+pub awaited_taken : (id : ℕ) (q : Pending) (r : Result Command NoSuch) → Agrees (Waiting id) q → r ≡ take_answer id q → is_ok r ≡ true
+unfolding take_answer
+awaited_taken id q r a is = ap is_ok is ∙ found_taken id q.commands (no_such id) a
 
 is_refused : (o : Option Command) (n e : NoSuch) → ok_or o n ≡ Err e → is_some o ≡ false
 is_refused None n e h = refl

@@ -1,5 +1,5 @@
 -- The commands of a meter, and how they move.
-use Rattle.std.specs.Prelude.{ℕ, ◌≡◌, ◌+◌, ◌-◌, ◌^◌, ◌<◌, ◌≤◌, Bool, true, false, ◌&&◌, ◌==◌, nat_lt, nat_le, if◌then◌else◌, List, [], ◌∷◌, find, Option, Some, None}
+use Rattle.std.specs.Prelude.{ℕ, ◌≡◌, ◌+◌, ◌-◌, ◌^◌, ◌<◌, ◌≤◌, Bool, true, false, ◌&&◌, ◌==◌, nat_lt, nat_le, if◌then◌else◌, List, [], ◌∷◌, slice_get, find, Option, Some, None}
 use Rattle.command_queue.specs.declared.command.Command.{Command}
 use Rattle.command_queue.specs.declared.command.TheConstants.{TRIES_MAX}
 use Rattle.command_queue.specs.Pending.{Pending, has_id, is_pending, with_command, without_command, with_try}
@@ -50,13 +50,13 @@ awaited_in Idle commands = None
 awaited_in (Waiting id) commands = find (has_id id) commands
 
 -- the id of a command that was sent three times
-abbrev pub spent : Option Command → Option ℕ
-spent None = None
-spent (Some c) = if nat_le TRIES_MAX c.tries then Some c.id else None
+abbrev pub spent_id : Option Command → Option ℕ
+spent_id None = None
+spent_id (Some c) = if nat_le TRIES_MAX c.tries then Some c.id else None
 
 -- the command that expires at a tick: the one for which the window waits, where it was sent three times
 unfoldable pub expired : Orders → Option ℕ
-expired k = spent (awaited_in k.window k.queue.commands)
+expired k = spent_id (awaited_in k.window k.queue.commands)
 
 abbrev pub queue_less : Option ℕ → Pending → Pending
 queue_less None queue = queue
@@ -109,6 +109,10 @@ sent_orders k (Some c) = record { queue = with_try k.queue; window = Waiting c.i
 -- with a command that is sent its tries and the counter rise by one, and the window waits for it
 unfoldable pub after_sent : Orders → Access → Orders
 after_sent k access = sent_orders k (sent k access)
+
+-- the command is the oldest one in the queue, now with one try more
+abbrev pub IsOldestAfterTry : Pending → Command → Type 0
+IsOldestAfterTry queue c = slice_get queue.commands 0 ≡ Some (record c { tries = c.tries + 1 })
 
 -- a stored message first confirms, and what is left then may be sent
 abbrev pub sent_at : Orders → Access → Bool → Option Command

@@ -4,7 +4,7 @@
 mod laws;
 mod window;
 
-pub use laws::moves_keep_agreement;
+pub use laws::{moves_keep_agreement, sent_over_time};
 pub use window::{Moved, Window};
 
 #[cfg(test)]

@@ -24,9 +24,9 @@ pub struct Moved {
 }
 
 impl Window {
-    ghost use Rattle.std.specs.Prelude.{ℕ, is_some};
-    ghost use Rattle.command_queue.specs.Pending.{take_answer};
-    ghost use Rattle.access_window.specs.Orders.{orders_of, Agrees, window_without, after_cancel, expired, after_tick, confirmed, after_confirmed, sent, after_sent, sent_at, after_stored};
+    ghost use Rattle.std.specs.Prelude.{ℕ, ◌≢◌, ◌↔◌, Err, is_some, IfSome, OnErr, All};
+    ghost use Rattle.command_queue.specs.Pending.{take_answer, no_such};
+    ghost use Rattle.access_window.specs.Orders.{orders_of, Agrees, window_without, after_cancel, expired, after_tick, confirmed, after_confirmed, sent, after_sent, sent_at, after_stored, IsOldestAfterTry};
 
     /// A message of the meter was stored, with this access. A response (`response`) confirms the command for which the window
     /// waits, and removes it. Then, while the window is idle, the oldest command is sent where the meter listens now and `down`
@@ -43,6 +43,8 @@ impl Window {
         ensures sent { result.send ≡ is_some (sent_at (orders_of queue.old self.old down.old) access response) }
         ensures after { orders_of queue.new self.new down.new
             ≡ after_stored (orders_of queue.old self.old down.old) access response }
+        ensures oldest { IfSome (sent_at (orders_of queue.old self.old down.old) access response)
+            (IsOldestAfterTry queue.new) }
         ensures agrees { Agrees self.new queue.new }
     {
         let confirmed = self.confirm(queue, response);
@@ -65,7 +67,8 @@ impl Window {
         let Window::Waiting(id) = *self else {
             return None;
         };
-        let _confirmed = queue.take(id);
+        let confirmed = queue.take(id).is_ok();
+        prove!(confirmed);
         *self = Window::Idle;
         Some(id)
     }
@@ -112,7 +115,8 @@ impl Window {
         if oldest.tries < TRIES_MAX {
             return None;
         }
-        let _expired = queue.take(id);
+        let expired = queue.take(id).is_ok();
+        prove!(expired);
         Some(id)
     }
 
@@ -132,6 +136,12 @@ impl Window {
         ensures answer { result ≡ take_answer id queue.old }
         ensures after { (down : ℕ) → orders_of queue.new self.new down
             ≡ after_cancel (orders_of queue.old self.old down) id }
+
+        // Without such a command nothing changes.
+        ensures no_such { (result ≡ Err (no_such id)) ↔ All (λ c. c.id ≢ id) queue.old.commands }
+        ensures same_queue { OnErr result (queue.new ≡ queue.old) }
+        ensures same_window { OnErr result (self.new ≡ self.old) }
+
         ensures agrees { Agrees self.new queue.new }
     {
         let command = queue.take(id)?;

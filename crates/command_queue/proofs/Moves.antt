@@ -12,10 +12,10 @@ use Rattle.command_queue.specs.Pending.{Pending, IdsRise, AreUntried, OnlyOldest
 abbrev pub without : ℕ → List Command → List Command
 without id cs = filter (λ c. not (has_id id c)) cs
 
-same_id : (a b : ℕ) → a ≡ b → (a == b) ≡ true
+pub same_id : (a b : ℕ) → a ≡ b → (a == b) ≡ true
 same_id a b h = grind (arith, nat_tests)
 
-other_id : (a b : ℕ) → a ≢ b → (a == b) ≡ false
+pub other_id : (a b : ℕ) → a ≢ b → (a == b) ≡ false
 other_id a b h = grind (arith, nat_tests)
 
 -- ---- a new command
@@ -150,7 +150,7 @@ is_without id q r ids commands = λ i. record { ids = ids i; commands = commands
 
 -- ---- what the ids of a queue say
 
-rise_last : (n : ℕ) (cs : List Command) (last : ℕ) → IdsRise n cs last → n ≤ last
+pub rise_last : (n : ℕ) (cs : List Command) (last : ℕ) → IdsRise n cs last → n ≤ last
 rise_last n [] last h = h
 rise_last n (c ∷ cs) last h = omega (arith, h.0, rise_last c.id cs last h.1)
 

@@ -1,5 +1,5 @@
-use Rattle.std.proofs.Common.{subst, sym, ap, ◌∙◌}
-use Rattle.access_window.specs.Orders.{orders_of, Agrees, window_without}
+use Rattle.std.proofs.Common.{sym, ap, ◌∙◌}
+use Rattle.access_window.specs.Orders.{orders_of}
 use Rattle.access_window.proofs.Agreement.{agrees_cancelled, cancel_refused, cancel_taken}
 use Rattle.access_window.proofs.window.Window.cancel.Goals as goal
 

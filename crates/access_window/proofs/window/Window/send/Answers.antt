@@ -1,4 +1,4 @@
-use Rattle.std.proofs.Common.{subst, sym, ap, ◌∙◌}
+use Rattle.std.proofs.Common.{subst, sym}
 use Rattle.access_window.specs.declared.window.Window.TheVariants.{Waiting}
 use Rattle.access_window.specs.Orders.{Agrees}
 use Rattle.access_window.proofs.Agreement.{agrees_sent}
