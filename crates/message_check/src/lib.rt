@@ -4,11 +4,15 @@
 
 mod addressee;
 mod headers;
+mod mode_five;
+mod opening;
 mod reading;
 mod refusal;
 
 pub use addressee::target;
 pub use headers::Layers;
+pub use mode_five::open5;
+pub use opening::Opened;
 pub use reading::layers;
 pub use refusal::{LayerFault, Reason};
 
