@@ -1,20 +1,26 @@
 -- What a message says to the slot of a meter once it is checked and decrypted, or the first refusal (OMS Volume 2, EN 13757-7).
 -- A message is the bytes from the CI of its transport header on.
-use Rattle.std.specs.Prelude.{ℕ, ◌-◌, ◌*◌, ◌==◌, nat_lt, if◌then◌else◌, List, [], ◌∷◌, ◌++◌, length, take, drop, slice_index, replicate, Option, Some, None, Result, Ok, Err}
+use Rattle.std.specs.Prelude.{ℕ, ◌≡◌, ◌+◌, ◌-◌, ◌*◌, ◌%◌, ◌<◌, ◌==◌, nat_lt, if◌then◌else◌, List, [], ◌∷◌, ◌++◌, length, take, drop, slice_index, replicate, Option, Some, None, IfSome, ok_or, option_map, unwrap_or, Result, Ok, Err}
 use Rattle.std.specs.Result.{result_map_both}
 use Rattle.std.specs.Str.{bytes_eq}
-use Rattle.std.specs.Int.{bit_at}
+use Rattle.std.specs.Int.{bit_at, w16, w32, to_le_bytes}
 use Rattle.meter_address.specs.declared.address.Address.{Address}
 use Rattle.meter_address.specs.Address.{bytes_of}
 use Rattle.meter_address.specs.Commission.{Commissioned}
 use Rattle.ell_layer.specs.declared.access.Access.{Access}
+use Rattle.ell_layer.specs.declared.access.Access.TheVariants as access
 use Rattle.ell_layer.specs.Access.{access_of}
+use Rattle.afl_layer.specs.declared.header.Auth.{Auth}
 use Rattle.tpl_headers.specs.declared.header.Tpl.{Tpl}
-use Rattle.tpl_headers.specs.Configuration.{mode_of, blocks_of}
-use Rattle.tpl_headers.specs.Header.{header_at}
+use Rattle.tpl_headers.specs.Configuration.{mode_of, blocks_of, derivation_of}
+use Rattle.tpl_headers.specs.Header.{Begins, header_at}
 use Rattle.cbc_cmac.specs.Cbc.{cbc_decrypted}
+use Rattle.cbc_cmac.specs.Mac.{zeros, cmac}
+use Rattle.key_derivation.specs.declared.KeyUse.TheVariants.{MeterCipher, MeterMac}
+use Rattle.key_derivation.specs.Derivation.{derived}
+use Rattle.message_check.specs.declared.signature.Signature.{Signature}
 use Rattle.message_check.specs.declared.refusal.Reason.{Reason}
-use Rattle.message_check.specs.declared.refusal.Reason.TheVariants.{BadMessage, OtherAddress, Mode, ShortBlocks, Unchecked, CheckBytes, SameAccess}
+use Rattle.message_check.specs.declared.refusal.Reason.TheVariants.{BadMessage, OtherAddress, Mode, NoAuth, Kdf, ShortBlocks, Unchecked, BadMac, Stale, CheckBytes, SameAccess}
 
 -- what a message says: the number that counts it, which is the message counter in mode 7 and the access number in mode 5; when
 -- the meter listens, as far as the message says it; the payload
@@ -117,3 +123,82 @@ unfoldable pub opened5_after : Option ℕ → Commissioned → List ℕ → Resu
 opened5_after last c m = do
   f ← opened5 c m
   compared5 last f
+
+-- ---- mode 7
+
+-- the identification of a meter's address: four bytes as sent
+abbrev pub identification_of : Address → List ℕ
+identification_of a = take 4 (drop 2 (bytes_of a))
+
+-- a part of the authentication that has to be there
+abbrev pub part_there : {A : Type 0} → Option A → Result A Reason
+part_there o = ok_or o NoAuth
+
+-- AES-CMAC-128, cut to eight bytes, is 5 in bits 3 to 0 of the message control
+abbrev pub control_passed : ℕ → Passed
+control_passed mcl = if mcl % 16 == 5 then Ok tt else Err NoAuth
+
+-- a part is missing, or the message control names another authentication
+unfoldable pub signature_of : Auth → Result Signature Reason
+signature_of auth = do
+  mcl ← part_there auth.mcl
+  counter ← part_there auth.mcr
+  mac ← part_there auth.mac
+  _ ← control_passed mcl
+  Ok (record { mcl = mcl; counter = counter; ml = auth.ml; mac = mac })
+
+-- the derivation of keys that a header of mode 7 names
+abbrev pub derivation_in : Tpl → ℕ
+derivation_in h = unwrap_or (option_map derivation_of h.cfe) 0
+
+-- a derivation other than by CMAC, which is 1
+abbrev pub derivation_passed : Tpl → Passed
+derivation_passed h = if derivation_in h == 1 then Ok tt else Err (Kdf (derivation_in h))
+
+-- the message length as sent, where it is there
+abbrev pub length_bytes : Option ℕ → List ℕ
+length_bytes None = []
+length_bytes (Some ml) = to_le_bytes w16 ml
+
+-- what the MAC is taken over: message control, message counter and message length as sent, and the whole message as sent
+abbrev pub mac_input : Signature → List ℕ → List ℕ
+mac_input s m = s.mcl ∷ [] ++ to_le_bytes w32 s.counter ++ length_bytes s.ml ++ m
+
+-- the MAC of a message: the first eight bytes of its CMAC under the derived MAC key
+unfoldable pub mac_of : Commissioned → Signature → List ℕ → List ℕ
+mac_of c s m = take 8 (cmac (derived c.key MeterMac s.counter (identification_of c.address)) (mac_input s m))
+
+-- another MAC than that of the message
+abbrev pub mac_passed : Commissioned → Signature → List ℕ → Passed
+mac_passed c s m = if bytes_eq (mac_of c s m) s.mac then Ok tt else Err BadMac
+
+-- the blocks, decrypted under the derived cipher key; CBC begins with zeros
+unfoldable pub decrypted7 : Commissioned → ℕ → Tpl → List ℕ → List ℕ
+decrypted7 c counter h m = cbc_decrypted (derived c.key MeterCipher counter (identification_of c.address)) zeros (encrypted_of h m)
+
+-- a counter that isn't above the last one
+abbrev pub counter_passed : Option ℕ → ℕ → Passed
+counter_passed None counter = Ok tt
+counter_passed (Some last) counter = if nat_lt last counter then Ok tt else Err (Stale counter last)
+
+-- what a genuine message of mode 7 says, or the first refusal but that of its counter
+unfoldable pub opened7 : Commissioned → Auth → List ℕ → Result Found Reason
+opened7 c auth m = do
+  h ← header_for c.address 7 m
+  s ← signature_of auth
+  _ ← derivation_passed h
+  _ ← blocks_passed h m
+  _ ← mac_passed c s m
+  Ok (record { counter = s.counter; access = access.None; payload = decrypted7 c s.counter h m ++ rest_of h m })
+
+-- what is found, where its counter is above the last one
+unfoldable pub compared7 : Option ℕ → Found → Result Found Reason
+compared7 last f = do
+  _ ← counter_passed last f.counter
+  Ok f
+
+-- what a message of mode 7 says after another, or the first refusal
+unfoldable pub opened7_after : Option ℕ → Commissioned → Auth → List ℕ → Result Found Reason
+opened7_after last c auth m = do
+  f ← opened7 c auth m
+  compared7 last f

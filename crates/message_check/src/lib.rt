@@ -5,13 +5,16 @@
 mod addressee;
 mod headers;
 mod mode_five;
+mod mode_seven;
 mod opening;
 mod reading;
 mod refusal;
+mod signature;
 
 pub use addressee::target;
 pub use headers::Layers;
 pub use mode_five::open5;
+pub use mode_seven::open7;
 pub use opening::Opened;
 pub use reading::layers;
 pub use refusal::{LayerFault, Reason};
