@@ -2,7 +2,6 @@
 use Rattle.std.proofs.Common.{◌≡◌, ℕ, ◌+◌, ◌-◌, ◌≤◌, List, [], ◌∷◌, length, get_or, Bool, true, false, eqb, ltb, ◌||◌, Result, Ok, Err, refl, sym, ◌∙◌, ap, subst, arith, length-drop, eq-eqb, ◌⊎◌, inl, inr}
 use Rattle.std.proofs.lemmas.List.{nil_from_length, length-take}
 use Rattle.std.proofs.lemmas.Bool.{eqb-true, eqb-false, lt-ltb, le-ltb, ltb-true, ltb-false, ne_eqb, cases_lt}
-use Rattle.std.specs.Prelude.{MatchResult, IfErr}
 use Rattle.frame_formats.specs.declared.fault.FrameFault.{FrameFault}
 use Rattle.frame_formats.specs.declared.fault.FrameFault.TheVariants as faults
 use Rattle.frame_formats.specs.Crc.{IsBytes}
@@ -77,15 +76,6 @@ fault_only_a bytes (faults.Crc n) all is =
     in chain_passed (eqb (length bytes) 0) (ltb k 10) false (eqb (length bytes) (frame_len k)) faults.Empty (faults.Short k) faults.Empty (faults.Length (frame_len k) (length bytes)) (content_of 1 (pieces_a bytes))
     (some_begin bytes is.0 is.1) (le-ltb _ _ least) refl (eq-eqb _ _ len)
     ∙ first_wrong_again n (pieces_a bytes) (whole_a bytes k all least len) is.4
-
--- what the code answers, by the causes
-pub fault_by_a : (bytes new : List ℕ) (r : Result (Unit {0}) FrameFault) → IsBytes bytes → MatchResult r (λ _. decoded_a bytes ≡ Ok new) (λ e. decoded_a bytes ≡ Err e) → IfErr r (FaultA bytes)
-fault_by_a bytes new (Ok u) all is = tt
-fault_by_a bytes new (Err e) all is = fault_found_a bytes e all is
-
-pub answered_by_a : (bytes new : List ℕ) (r : Result (Unit {0}) FrameFault) (e : FrameFault) → IsBytes bytes → MatchResult r (λ _. decoded_a bytes ≡ Ok new) (λ e. decoded_a bytes ≡ Err e) → FaultA bytes e → r ≡ Err e
-answered_by_a bytes new (Ok u) e all is fault = let both : Ok new ≡ Err e = sym is ∙ fault_only_a bytes e all fault in cc
-answered_by_a bytes new (Err f) e all is fault = let both : Err f ≡ Err e = sym is ∙ fault_only_a bytes e all fault in let same : f ≡ e = cc in ap Err same
 
 -- one block, or two
 whole_b : (bytes : List ℕ) (l : ℕ) → IsBytes bytes → IsLengthB l → length bytes ≡ l + 1 → ArePieces (pieces_b bytes)
@@ -190,11 +180,3 @@ fault_only_b bytes (faults.Crc n) all is =
     in chain_passed (eqb (length bytes) 0) (ltb k 12) (eqb k 128 || eqb k 129) (eqb (length bytes) (k + 1)) faults.Empty (faults.Short k) (faults.Gap k) (faults.Length (k + 1) (length bytes)) (telegram_b bytes)
     (some_begin bytes is.0 is.1) (le-ltb _ _ (omega (arith, is.2.least))) no_gap (eq-eqb _ _ len)
     ∙ counted_fault bytes (faults.Crc n) (first_wrong_again n (pieces_b bytes) (whole_b bytes is.0 all is.2 is.3) is.4)
-
-pub fault_by_b : (bytes new : List ℕ) (r : Result (Unit {0}) FrameFault) → IsBytes bytes → MatchResult r (λ _. decoded_b bytes ≡ Ok new) (λ e. decoded_b bytes ≡ Err e) → IfErr r (FaultB bytes)
-fault_by_b bytes new (Ok u) all is = tt
-fault_by_b bytes new (Err e) all is = fault_found_b bytes e all is
-
-pub answered_by_b : (bytes new : List ℕ) (r : Result (Unit {0}) FrameFault) (e : FrameFault) → IsBytes bytes → MatchResult r (λ _. decoded_b bytes ≡ Ok new) (λ e. decoded_b bytes ≡ Err e) → FaultB bytes e → r ≡ Err e
-answered_by_b bytes new (Ok u) e all is fault = let both : Ok new ≡ Err e = sym is ∙ fault_only_b bytes e all fault in cc
-answered_by_b bytes new (Err f) e all is fault = let both : Err f ≡ Err e = sym is ∙ fault_only_b bytes e all fault in let same : f ≡ e = cc in ap Err same

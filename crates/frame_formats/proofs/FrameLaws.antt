@@ -7,6 +7,7 @@ use Rattle.frame_formats.specs.Frames.{AreSixteens, FrameA}
 use Rattle.frame_formats.specs.Decoding.{with_crc, cut, frame_a}
 use Rattle.frame_formats.specs.Laws.{OneTelegramA, OneTelegramB, OneFrameA}
 use Rattle.frame_formats.proofs.Checked.{bytes-take, bytes-drop, bytes_joined, checked_is}
+use Rattle.frame_formats.proofs.Pieces.{cut_none}
 use Rattle.frame_formats.proofs.RelationA.{only as only_a, blocks_len}
 use Rattle.frame_formats.proofs.RelationB.{only as only_b}
 use Rattle.frame_formats.proofs.Writing.{is_frame}
@@ -36,15 +37,11 @@ one_cut : (k : ℕ) (b rest bytes : List ℕ) (blocks : List (List ℕ)) → tak
 unfolding cut
 one_cut k b rest bytes blocks front back is = ap (λ x. x ∷ cut k 16 (drop 16 bytes)) front ∙ ap (λ x. b ∷ cut k 16 x) back ∙ ap (λ x. b ∷ x) is
 
-no_cut : (bytes : List ℕ) → cut zero 16 bytes ≡ []
-unfolding cut
-no_cut bytes = refl
-
 cut_again : (blocks : List (List ℕ)) → AreSixteens blocks → cut (length blocks) 16 (concat blocks) ≡ blocks
 cut_again [] are = absurd are
 cut_again (b ∷ []) are =
     let short : length (b ++ []) ≤ 16 = omega (arith, length-append b [], are.1)
-    in one_cut zero b (drop 16 (b ++ [])) (b ++ []) [] (take_all 16 _ short ∙ append-nil b) refl (no_cut _)
+    in one_cut zero b (drop 16 (b ++ [])) (b ++ []) [] (take_all 16 _ short ∙ append-nil b) refl (cut_none 16 _)
 cut_again (b ∷ c ∷ blocks) are =
     one_cut (length (c ∷ blocks)) b (concat (c ∷ blocks)) (b ++ concat (c ∷ blocks)) (c ∷ blocks) (take_at b _ 16 are.0) (drop_at b _ 16 are.0) (cut_again (c ∷ blocks) are.1)
 

@@ -3,6 +3,7 @@ pub mod Division
 pub mod Table
 pub mod Chain
 pub mod Pieces
+pub mod Answered
 pub mod Reading
 pub mod Checked
 pub mod RelationA

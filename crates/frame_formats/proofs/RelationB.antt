@@ -1,9 +1,8 @@
 -- Format B: reading its blocks; what is decoded is a frame of its telegram, and each frame is decoded.
-use Rattle.std.proofs.Common.{◌≡◌, ◌≢◌, ℕ, ◌+◌, ◌-◌, ◌<◌, ◌≤◌, List, [], ◌∷◌, ◌++◌, length, take, drop, set, get_or, Bool, true, false, cond, eqb, ltb, ◌||◌, Result, Ok, Err, refl, sym, ◌∙◌, ap, subst, arith, length-append, length-drop, append-nil, append_assoc, eq-eqb, inl, inr}
+use Rattle.std.proofs.Common.{◌≡◌, ◌≢◌, ℕ, ◌+◌, ◌-◌, ◌<◌, ◌≤◌, List, [], ◌∷◌, ◌++◌, length, take, drop, set, get_or, Bool, true, false, cond, eqb, ltb, ◌||◌, Ok, Err, refl, sym, ◌∙◌, ap, subst, arith, length-append, length-drop, append-nil, append_assoc, eq-eqb, inl, inr}
 use Rattle.std.proofs.lemmas.List.{take_all, take_at, drop_at, take-append-drop, length-take, get_or_append_left}
 use Rattle.std.proofs.lemmas.Bool.{eqb-true, eqb-false, lt-ltb, le-ltb, ltb-false, ne_eqb, cases_lt}
 use Rattle.std.specs.List.{flat_map}
-use Rattle.std.specs.Prelude.{MatchResult, OnOk, IsOk}
 use Rattle.frame_formats.specs.declared.fault.FrameFault.{FrameFault}
 use Rattle.frame_formats.specs.declared.fault.FrameFault.TheVariants as faults
 use Rattle.frame_formats.specs.Crc.{IsBytes}
@@ -211,12 +210,3 @@ only bytes t all is = elim is.blocks [
   | inl one ↦ one_only bytes t is.l all is.telegram is.counted one
   | inr two ↦ two_only bytes t is.l all is.telegram is.counted two
 ]
-
--- what the code answers, by the relation
-pub found_by : (bytes new : List ℕ) (r : Result (Unit {0}) FrameFault) → IsBytes bytes → MatchResult r (λ _. decoded_b bytes ≡ Ok new) (λ e. decoded_b bytes ≡ Err e) → OnOk r (FrameB bytes new)
-found_by bytes new (Ok u) all is = found bytes new all is
-found_by bytes new (Err e) all is = tt
-
-pub only_by : (bytes new t : List ℕ) (r : Result (Unit {0}) FrameFault) → IsBytes bytes → MatchResult r (λ _. decoded_b bytes ≡ Ok new) (λ e. decoded_b bytes ≡ Err e) → FrameB bytes t → IsOk r × (new ≡ t)
-only_by bytes new t (Ok u) all is frame = let h : Ok new ≡ Ok t = sym is ∙ only bytes t all frame in (refl, cc)
-only_by bytes new t (Err e) all is frame = let h : Err e ≡ Ok t = sym is ∙ only bytes t all frame in cc
