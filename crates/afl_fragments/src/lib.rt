@@ -1,0 +1,10 @@
+//! The fragments of a meter's message that are held, and the message that they make.
+#![tactic(auto)]
+
+mod part;
+mod parts;
+mod places;
+
+pub use part::{PART_MAX, Part};
+pub use parts::{Held, Parts};
+pub use places::PARTS_MAX;
