@@ -1,3 +1,4 @@
 pub mod FrontLaws
 pub mod Holding
+pub mod LatestLaws
 pub mod PlaceLaws
