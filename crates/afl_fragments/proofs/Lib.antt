@@ -2,3 +2,4 @@ pub mod FrontLaws
 pub mod Holding
 pub mod LatestLaws
 pub mod PlaceLaws
+pub mod Room

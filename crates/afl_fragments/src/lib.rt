@@ -10,3 +10,6 @@ pub use laws::held_is_latest;
 pub use part::{PART_MAX, Part};
 pub use parts::{Held, Parts};
 pub use places::PARTS_MAX;
+
+#[cfg(test)]
+mod tests;

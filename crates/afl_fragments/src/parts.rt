@@ -1,10 +1,10 @@
 //! The fragments that are held.
-ghost use Rattle.std.specs.Prelude.{◌≡◌, ◌≤◌, ◌<◌, ◌+◌, ◌↔◌, List, [], ◌∷◌, length, option_map, IfNone};
+ghost use Rattle.std.specs.Prelude.{◌≡◌, ◌≤◌, ◌<◌, ◌+◌, ◌↔◌, List, [], ◌∷◌, length, option_map, IfNone, OnSome};
 ghost use Rattle.afl_fragments.specs.Held.{Told, Piece, Tick, Clear, StandsFor, assembled, held_bytes};
 
 use crate::part::Part;
 use crate::places::{
-    HeldPart, PARTS_MAX, PLACES, assemble, count_bytes, grow_older, keep_fresh, leave_out,
+    HeldPart, PARTS_MAX, PLACES, assemble, count_bytes, grow_older, keep_fresh, put,
 };
 use afl_layer::{Auth, Scratch};
 use arrayvec::ArrayVec;
@@ -57,15 +57,15 @@ impl Parts {
         ensures too_many { (result ≡ Held.TooMany part.afl.fid) ↔ (PARTS_MAX < part.afl.fid) }
         ensures held { (told : List Told) → StandsFor self.old told → StandsFor self.new (Piece part ∷ told) }
         ensures unchanged { PARTS_MAX < part.afl.fid → self.new ≡ self.old }
+
+        // So much room is enough for a message that the fragment completes.
+        ensures room { held_bytes self.new ≤ held_bytes self.old + length part.bytes }
     {
         let fid = part.afl().fid;
         if fid > PARTS_MAX {
             return Held::TooMany(fid);
         }
-        let place = fid - 1;
-        leave_out(&mut self.order, place);
-        self.order.insert(0, place);
-        self.places[place as usize] = HeldPart { ticks: 0, part };
+        put(&mut self.places, &mut self.order, part);
         Held::Kept
     }
 
@@ -89,6 +89,7 @@ impl Parts {
     pub fn whole(&self, out: &mut Scratch) -> Option<Auth>
         ensures message { option_map (λ auth. record { auth = auth; bytes = out.new }) result ≡ assembled self.now }
         ensures unchanged { IfNone result (out.new ≡ out.old) }
+        ensures room { OnSome result (length out.new ≤ held_bytes self.now) }
     {
         assemble(&self.places, self.order.as_slice(), out)
     }

@@ -2,7 +2,7 @@
 ghost use Rattle.std.specs.Prelude.{◌≡◌, ◌≤◌, ◌<◌, ◌+◌, ◌*◌, ◌++◌, ◌∷◌, length, filter, map, not, eqb, find, take, option_map, IfSome, IfNone, Some, None, if◌then◌else◌};
 ghost use Rattle.std.specs.List.{flat_map};
 ghost use Rattle.afl_fragments.specs.Held.{is_end, front, auth_of, assembled, held_bytes};
-ghost use Rattle.afl_fragments.specs.Places.{at_place, held_in, is_in, is_led, is_fresh, older, parts_in, IsPlace, AreOrdered};
+ghost use Rattle.afl_fragments.specs.Places.{at_place, held_in, held_with, is_in, is_led, is_fresh, older, parts_in, IsPlace, AreOrdered};
 
 use crate::part::{PART_MAX, Part};
 use afl_layer::{Afl, Auth, SCRATCH_MAX, Scratch};
@@ -42,10 +42,23 @@ impl HeldPart {
 }
 
 // Takes a place out of use.
-pub(crate) fn leave_out(order: &mut ArrayVec<u8, PLACES>, place: u8)
+fn leave_out(order: &mut ArrayVec<u8, PLACES>, place: u8)
     ensures { order.new.items ≡ filter (λ i. not (eqb i place)) order.old.items }
 {
     order.retain(|i| *i != place);
+}
+
+// Holds a fragment in the place of its number.
+pub(crate) fn put(places: &mut [HeldPart; PLACES], order: &mut ArrayVec<u8, PLACES>, part: Part)
+    requires counted { part.afl.fid ≤ PARTS_MAX }
+    requires ordered { AreOrdered places.old order.old.items }
+    ensures ordered { AreOrdered places.new order.new.items }
+    ensures held { held_in places.new order.new.items ≡ held_with part (held_in places.old order.old.items) }
+{
+    let place = part.afl().fid - 1;
+    leave_out(order, place);
+    order.insert(0, place);
+    places[place as usize] = HeldPart { ticks: 0, part };
 }
 
 fn is_fresh_at(places: &[HeldPart; PLACES], place: u8) -> bool
