@@ -55,3 +55,99 @@ fn second() -> Part {
 fn third() -> Part {
     Part::new(THIRD, &[30])
 }
+
+// Heard in any order, and again: each is held once, and the message is put together when none is missing. Once it was
+// stored, nothing is held.
+#[test]
+fn in_any_order(rt: HostRuntime) {
+    let mut parts = Parts::new();
+    let mut out = Scratch::new();
+    out.extend(&[9]);
+    for part in [third(), third(), first(), first()] {
+        assert_eq!(rt; parts.hold(part), Held::Kept);
+        assert_eq!(rt; parts.whole(&mut out), None);
+    }
+    assert_eq!(rt; out.bytes(), [9].as_slice());
+    assert_eq!(rt; parts.held_bytes(), 3);
+    assert_eq!(rt; parts.hold(second()), Held::Kept);
+    assert_eq!(rt; parts.whole(&mut out), Some(AUTH));
+    assert_eq!(rt; out.bytes(), [10, 11, 20, 21, 22, 30].as_slice());
+    parts.clear();
+    assert_eq!(rt; parts.hold(second()), Held::Kept);
+    assert_eq!(rt; parts.whole(&mut out), None);
+    assert_eq!(rt; parts.held_bytes(), 3);
+}
+
+// A fragment takes the place of an earlier one with its number.
+#[test]
+fn the_latest_counts(rt: HostRuntime) {
+    let mut parts = Parts::new();
+    let mut out = Scratch::new();
+    for part in [first(), Part::new(SECOND, &[20, 21, 23]), third()] {
+        assert_eq!(rt; parts.hold(part), Held::Kept);
+    }
+    assert_eq!(rt; parts.whole(&mut out), Some(AUTH));
+    assert_eq!(rt; out.bytes(), [10, 11, 20, 21, 23, 30].as_slice());
+    assert_eq!(rt; parts.hold(second()), Held::Kept);
+    assert_eq!(rt; parts.whole(&mut out), Some(AUTH));
+    assert_eq!(rt; out.bytes(), [10, 11, 20, 21, 22, 30].as_slice());
+}
+
+// A fragment is there after one tick, and gone after two.
+#[test]
+fn ticks(rt: HostRuntime) {
+    let mut parts = Parts::new();
+    let mut out = Scratch::new();
+    for part in [first(), second()] {
+        assert_eq!(rt; parts.hold(part), Held::Kept);
+    }
+    parts.tick();
+    assert_eq!(rt; parts.hold(third()), Held::Kept);
+    assert_eq!(rt; parts.whole(&mut out), Some(AUTH));
+    parts.tick();
+    assert_eq!(rt; parts.held_bytes(), 1);
+    assert_eq!(rt; parts.whole(&mut out), None);
+    assert_eq!(rt; out.len(), 6);
+}
+
+// Sixteen fragments make a message, and a seventeenth isn't held.
+#[test]
+fn sixteen_fragments(rt: HostRuntime) {
+    let mut parts = Parts::new();
+    let mut out = Scratch::new();
+    assert_eq!(rt; parts.hold(first()), Held::Kept);
+    for fid in 2..18u8 {
+        let more = fid != 16;
+        let part = Part::new(
+            Afl {
+                more,
+                fid,
+                ..SECOND
+            },
+            &[fid],
+        );
+        let wanted = if fid == 17 {
+            Held::TooMany(17)
+        } else {
+            Held::Kept
+        };
+        assert_eq!(rt; parts.hold(part), wanted);
+    }
+    let auth = parts.whole(&mut out);
+    assert_eq!(rt; auth, Some(Auth { mac: None, ..AUTH }));
+    assert_eq!(rt; out.len(), 17);
+    assert_eq!(rt; parts.held_bytes(), 17);
+    assert_eq!(rt;
+        out.bytes(),
+        [10, 11, 2, 3, 4, 5, 6, 7, 8, 9, 10, 11, 12, 13, 14, 15, 16].as_slice()
+    );
+}
+
+// A fragment gives back what it was made of.
+#[test]
+fn fragments(rt: HostRuntime) {
+    let part = second();
+    assert_eq!(rt; part.afl(), SECOND);
+    assert_eq!(rt; part.bytes(), [20, 21, 22].as_slice());
+    held_is_latest();
+}

@@ -11,7 +11,7 @@ pub insert-requires : goal.insert-requires
 insert-requires c =
     let same = ap (λ a. a.fid) c.afl-place.ensures.header in
     let few =
-        others_few c.args.places.now c.args.order.now.items (c.afl-place.result.fid - 1) c.args.part c.requires.ordered (omega (arith, same, c.requires.counted)) (at_its_place _ _ same c.afl-place.ensures.first) in
+    others_few c.args.places.now c.args.order.now.items (c.afl-place.result.fid - 1) c.args.part c.requires.ordered (omega (arith, same, c.requires.counted)) (at_its_place _ _ same c.afl-place.ensures.first) in
     (omega arith, (omega arith, rw c.leave_out.ensures few))
 
 pub returns-clause-ordered : goal.returns-clause-ordered
