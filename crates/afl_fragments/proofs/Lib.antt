@@ -1,0 +1,5 @@
+pub mod FrontLaws
+pub mod Holding
+pub mod LatestLaws
+pub mod PlaceLaws
+pub mod Room
