@@ -49,12 +49,16 @@ fn letters(rt: HostRuntime) {
 #[test]
 fn payloads(rt: HostRuntime) {
     let bytes = [7u8; 95];
+    let Some(filled) = Payload::new(&bytes[..94]) else {
+        return;
+    };
     for (len, fits) in [(0, false), (1, true), (94, true), (95, false)] {
         let payload = Payload::new(&bytes[..len]);
         assert_eq!(rt; payload.is_some(), fits);
         if let Some(payload) = payload {
             assert_eq!(rt; payload.bytes(), &bytes[..len]);
-            assert_eq!(rt; payload.copied().bytes(), &bytes[..len]);
+            assert_eq!(rt; payload.copied(), payload);
+            assert_eq!(rt; payload == filled, len == 94);
         }
     }
 }
