@@ -1,5 +1,5 @@
 -- The fragmentation control field FCL, and the fields that it names (EN 13757-7, authentication and fragmentation layer).
-use Rattle.std.specs.Prelude.{ℕ, ◌≡◌, ◌+◌, ◌*◌, ◌%◌, ◌<◌, ◌^◌, Bool, false, cond, ◌==◌, ◌&&◌, ◌||◌, nat_le, List, [], ◌∷◌, ◌++◌, length, Option, Some, None, is_some, IfSome}
+use Rattle.std.specs.Prelude.{ℕ, ◌+◌, ◌%◌, ◌^◌, Bool, cond, ◌==◌, ◌&&◌, ◌||◌, nat_le, List, [], ◌∷◌, ◌++◌, Option, Some, None, is_some}
 use Rattle.std.specs.Int.{bit_at, w16, w32, to_le_bytes}
 use Rattle.afl_layer.specs.declared.header.Afl.{Afl}
 
