@@ -1,5 +1,5 @@
 -- What is read is spelled so, and what is spelled so is read.
-use Rattle.std.proofs.Common.{◌≡◌, ℕ, zero, suc, ◌+◌, ◌<◌, ◌≤◌, Bool, true, false, cond, not, eqb, ltb, ◌⊎◌, List, [], ◌∷◌, ◌++◌, length, take, drop, Some, is_some, Result, Ok, Err, refl, sym, ap, subst, ◌∙◌, eq-eqb, append_assoc, arith, inl, inr}
+use Rattle.std.proofs.Common.{◌≡◌, ℕ, zero, suc, ◌+◌, ◌<◌, ◌≤◌, Bool, true, false, cond, not, eqb, ltb, List, [], ◌∷◌, ◌++◌, length, take, drop, Some, is_some, Result, Ok, Err, refl, sym, ap, subst, ◌∙◌, eq-eqb, append_assoc, arith}
 use Rattle.std.specs.Prelude.{IfOk, slice_get}
 use Rattle.std.specs.Int.{w16, w32, to_le_bytes, from_le_bytes}
 use Rattle.std.proofs.lemmas.Bool.{eqb-true, ltb-false, le-ltb}
@@ -11,11 +11,6 @@ use Rattle.afl_layer.specs.declared.header.AflFault.TheVariants.{Truncated, AflL
 use Rattle.afl_layer.specs.Fields.{has_more, names_mcl, names_ki, names_mcr, names_mac, names_ml, fid_of, where_so, fields_len, field_bytes, fields_bytes, one_byte, is_misplaced, is_uncounted}
 use Rattle.afl_layer.specs.Header.{afl_bytes, Says, Fits, IsPlaced, BeginsWithAfl, byte_in, two_in, four_in, all_in, fields_at, misplaces, uncounts, afl_at}
 use Rattle.afl_layer.proofs.FieldLaws.{IsBytes, IsBytes-drop, itself, one_is, two_is, four_is, eight_is, length-one, length-two, length-four, length-eight, one_again, two_again, four_again, eight_again}
-
--- a test that came out one way
-chosen : {A : Type 0} (b : Bool) (x y z : A) → cond b x y ≡ z → ((b ≡ true) × (x ≡ z)) ⊎ ((b ≡ false) × (y ≡ z))
-chosen true x y z e = inl (refl, e)
-chosen false x y z e = inr (refl, e)
 
 -- a test that did not fail
 guard_ok : {A : Type 0} (b : Bool) (f : AflFault) (r : Result A AflFault) (x : A) → cond b (Err f) r ≡ Ok x → (b ≡ false) × (r ≡ Ok x)
