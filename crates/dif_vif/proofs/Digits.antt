@@ -1,9 +1,11 @@
 -- Numbers by their digits: how large they are, and one digit more.
-use Rattle.std.proofs.Common.{◌≡◌, ℕ, suc, ◌+◌, ◌-◌, ◌*◌, ◌/◌, ◌%◌, ◌^◌, ◌<◌, ◌≤◌, List, [], ◌∷◌, length, get_or, drop, map, refl, ap, ◌∙◌, inl, inr, arith}
+use Rattle.std.proofs.Common.{◌≡◌, ℕ, suc, ◌+◌, ◌-◌, ◌*◌, ◌/◌, ◌%◌, ◌^◌, ◌<◌, ◌≤◌, List, [], ◌∷◌, ◌++◌, reverse, length, get_or, drop, map, refl, ap, ◌∙◌, inl, inr, arith}
 use Rattle.std.proofs.Math.Nat.{pow-le-pow_right, pow-le-pow_left, pow-zero, pow-succ', mul-le-mul_left}
 use Rattle.std.proofs.lemmas.Bool.{cases_lt}
-use Rattle.std.proofs.lemmas.List.{drop_more, length-drop, length-map, get_or-map, get_or_past}
+use Rattle.std.proofs.lemmas.List.{drop_more, reverse-append, length-drop, length-map, get_or-map, get_or_past}
 use Rattle.std.proofs.lemmas.Nat.{mul-le}
+use Rattle.std.specs.Int.Digits.{number_from_digits}
+use Rattle.std.proofs.lemmas.Int.Digits.{number_push}
 use Rattle.dif_vif.specs.Numbers.{low_first}
 
 one_more : (base digit number power : ℕ) → digit < base → number < power → digit + base * number < base * power
@@ -51,3 +53,12 @@ low_first-by_one base [] = refl
 low_first-by_one base (x ∷ xs) =
     let same : x / 1 ≡ x = omega arith in
     rw (same, low_first-by_one base xs) refl
+
+-- ---- digits in reverse
+
+pub low_first-reverse : (base : ℕ) (digits : List ℕ) → low_first base digits ≡ number_from_digits base (reverse digits)
+low_first-reverse base [] = refl
+low_first-reverse base (digit ∷ digits) =
+    let turned : reverse (digit ∷ digits) ≡ reverse digits ++ digit ∷ [] = reverse-append (digit ∷ []) digits in
+    let pushed : number_from_digits base (reverse digits ++ digit ∷ []) ≡ number_from_digits base (reverse digits) * base + digit = number_push base (reverse digits) digit in
+    rw (turned, pushed, ← low_first-reverse base digits) (omega arith)
