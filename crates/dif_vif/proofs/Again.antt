@@ -35,15 +35,18 @@ chain_again start byte part rest chain few =
 
 -- ---- the data information block
 
--- a width is announced, so the DIF is no special function
+-- the DIF of a record has no data field without a width but D
+not_field : (dif : ℕ) (lvar : Option ℕ) (width field : ℕ) → data_width dif lvar ≡ Some width → field_width field ≡ None → (field ≡ 13 → ⊥) → dif % 16 ≡ field → ⊥
+not_field dif None width field wide without other here = let none : None ≡ Some width = sym without ∙ ap field_width (sym here) ∙ wide in cc
+not_field dif (Some lvar) width field wide without other here = let none : None ≡ Some width = sym (cond-false (eqb (dif % 16) 13) (lvar_width lvar) None (ne_eqb (dif % 16) 13 (λ e. other (sym here ∙ e)))) ∙ wide in cc
+
+-- so it is no special function
 pub not_special : (dif : ℕ) (lvar : Option ℕ) (width : ℕ) → data_width dif lvar ≡ Some width → dif % 16 ≡ 15 → ⊥
-not_special dif None width wide field = let none : field_width 15 ≡ Some width = ap field_width (sym field) ∙ wide in cc
-not_special dif (Some lvar) width wide field = let none : None ≡ Some width = sym (cond-false (eqb (dif % 16) 13) (lvar_width lvar) None (ne_eqb (dif % 16) 13 (λ e. omega arith))) ∙ wide in cc
+not_special dif lvar width wide = not_field dif lvar width 15 wide refl (λ e. omega arith)
 
 -- and no selection
 not_selection : (dif : ℕ) (lvar : Option ℕ) (width : ℕ) → data_width dif lvar ≡ Some width → dif % 16 ≡ 8 → ⊥
-not_selection dif None width wide field = let none : field_width 8 ≡ Some width = ap field_width (sym field) ∙ wide in cc
-not_selection dif (Some lvar) width wide field = let none : None ≡ Some width = sym (cond-false (eqb (dif % 16) 13) (lvar_width lvar) None (ne_eqb (dif % 16) 13 (λ e. omega arith))) ∙ wide in cc
+not_selection dif lvar width wide = not_field dif lvar width 8 wide refl (λ e. omega arith)
 
 dif_again : (start dif : ℕ) (rest : List ℕ) → (dif % 16 ≡ 15 → ⊥) → (dif % 16 ≡ 8 → ⊥) → dif_at start (dif ∷ rest) ≡ Ok (dif, rest)
 unfolding dif_at

@@ -21,12 +21,14 @@ low_first-below base (x ∷ xs) below =
 pub low_first-few : (base most : ℕ) (xs : List ℕ) → 0 < base → length xs ≤ most → ((i : ℕ) → get_or xs i 0 < base) → low_first base xs < base ^ most
 low_first-few base most xs some few below = omega (arith, low_first-below base xs below, pow-le-pow_right some few)
 
--- one digit more, from the back
-pub low_first-step : (base : ℕ) (xs : List ℕ) (left number : ℕ) → 0 < left → left ≤ length xs → number ≡ low_first base (drop left xs) → number * base + get_or xs (left - 1) 0 ≡ low_first base (drop (left - 1) xs)
-low_first-step base xs left number some within is =
+-- one element more, from the back
+pub drop-before : (xs : List ℕ) (left : ℕ) → 0 < left → left ≤ length xs → drop (left - 1) xs ≡ get_or xs (left - 1) 0 ∷ drop left xs
+drop-before xs left some within =
     let back : left - 1 + 1 ≡ left = omega arith in
-    let first : drop (left - 1) xs ≡ get_or xs (left - 1) 0 ∷ drop left xs = drop_more xs (left - 1) 0 (omega arith) ∙ ap (λ (k : ℕ). get_or xs (left - 1) 0 ∷ drop k xs) back in
-    rw (first, ← is) (omega arith)
+    drop_more xs (left - 1) 0 (omega arith) ∙ ap (λ (k : ℕ). get_or xs (left - 1) 0 ∷ drop k xs) back
+
+pub low_first-step : (base : ℕ) (xs : List ℕ) (left number : ℕ) → 0 < left → left ≤ length xs → number ≡ low_first base (drop left xs) → number * base + get_or xs (left - 1) 0 ≡ low_first base (drop (left - 1) xs)
+low_first-step base xs left number some within is = rw (drop-before xs left some within, ← is) (omega arith)
 
 -- ---- the digits of extensions
 

@@ -32,5 +32,4 @@ pub fn one_listing()
 pub fn digits_in_reverse()
     ensures { (base : ℕ) (digits : List ℕ)
         → low_first base digits ≡ number_from_digits base (reverse digits) }
-{
-}
+{}
