@@ -1,7 +1,7 @@
 -- FCL of a header says what the header has, and what is written is read back.
 use Rattle.std.proofs.Common.{◌≡◌, ℕ, ◌+◌, ◌*◌, ◌/◌, ◌%◌, ◌^◌, ◌<◌, ◌≤◌, Bool, true, false, cond, eqb, List, ◌++◌, length, is_some, Ok, refl, sym, ap, ◌∙◌, arith}
 use Rattle.afl_layer.specs.declared.header.Afl.{Afl}
-use Rattle.afl_layer.specs.Fields.{has_bit, bit_if, fcl_of}
+use Rattle.afl_layer.specs.Fields.{where_so, fcl_of}
 use Rattle.afl_layer.specs.Header.{afl_bytes, Says, Fits, IsPlaced, afl_at}
 use Rattle.afl_layer.proofs.HeaderLaws.{again}
 
@@ -9,7 +9,7 @@ use Rattle.afl_layer.proofs.HeaderLaws.{again}
 abbrev one : Bool → ℕ
 one b = cond b 1 0
 
-bit_is : (b : Bool) (bit : ℕ) → bit_if b bit ≡ one b * bit
+bit_is : (b : Bool) (bit : ℕ) → where_so b bit ≡ one b * bit
 bit_is true bit = omega arith
 bit_is false bit = omega arith
 

@@ -1,10 +1,10 @@
 -- The fields of a header: what is read of each is spelled so, and what is spelled so is read.
-use Rattle.std.proofs.Common.{◌≡◌, ℕ, zero, suc, ◌+◌, ◌^◌, ◌<◌, ◌≤◌, Bool, true, false, cond, eqb, ◌⊎◌, List, [], ◌∷◌, ◌++◌, length, get_or, take, drop, Option, Some, None, is_some, refl, sym, ap, subst, ◌∙◌, append_assoc, arith, inl, inr}
+use Rattle.std.proofs.Common.{◌≡◌, ℕ, zero, suc, ◌+◌, ◌^◌, ◌<◌, ◌≤◌, Bool, true, false, List, [], ◌∷◌, ◌++◌, length, get_or, take, drop, Option, Some, None, is_some, refl, ap, arith}
 use Rattle.std.specs.Prelude.{IfSome}
-use Rattle.std.specs.Int.{w16, w32, to_le_bytes, from_le_bytes}
+use Rattle.std.specs.Int.{w16, w32, to_le_bytes}
 use Rattle.std.proofs.lemmas.List.{take-append-drop, get_or-drop, length-take}
 use Rattle.std.proofs.lemmas.Nat.{le_bytes_2, le_bytes_4, from_le_bytes-to_le_bytes_2, from_le_bytes-to_le_bytes_4}
-use Rattle.afl_layer.specs.Fields.{len_if, field_bytes, one_byte}
+use Rattle.afl_layer.specs.Fields.{where_so, field_bytes, one_byte}
 use Rattle.afl_layer.specs.Header.{byte_in, two_in, four_in, all_in}
 
 -- eight bytes, one by one
@@ -40,18 +40,18 @@ pub record IsField {A : Type 0} (spell : A → List ℕ) (named : Bool) (text : 
   pub text_is : field_bytes spell v ≡ text
   pub named_is : is_some v ≡ named
 
-pub one_is : (named : Bool) (bytes : List ℕ) → len_if named 1 ≤ length bytes → IsField one_byte named (take (len_if named 1) bytes) (byte_in (take (len_if named 1) bytes))
+pub one_is : (named : Bool) (bytes : List ℕ) → where_so named 1 ≤ length bytes → IsField one_byte named (take (where_so named 1) bytes) (byte_in (take (where_so named 1) bytes))
 one_is true [] enough = absurd (omega arith)
 one_is true (b ∷ bytes) enough = record { text_is = refl; named_is = refl }
 one_is false bytes enough = record { text_is = refl; named_is = refl }
 
-pub two_is : (named : Bool) (bytes : List ℕ) → IsBytes bytes → len_if named 2 ≤ length bytes → IsField (to_le_bytes w16) named (take (len_if named 2) bytes) (two_in (take (len_if named 2) bytes)) × IfSome (two_in (take (len_if named 2) bytes)) (λ n. n < 2 ^ 16)
+pub two_is : (named : Bool) (bytes : List ℕ) → IsBytes bytes → where_so named 2 ≤ length bytes → IsField (to_le_bytes w16) named (take (where_so named 2) bytes) (two_in (take (where_so named 2) bytes)) × IfSome (two_in (take (where_so named 2) bytes)) (λ n. n < 2 ^ 16)
 two_is true [] fits enough = absurd (omega arith)
 two_is true (a ∷ []) fits enough = absurd (omega arith)
 two_is true (a ∷ b ∷ bytes) fits enough = (record { text_is = le_bytes_2 (a ∷ b ∷ []) _ refl (IsBytes-take 2 (a ∷ b ∷ bytes) fits) refl; named_is = refl }, omega (arith, fits 0, fits 1))
 two_is false bytes fits enough = (record { text_is = refl; named_is = refl }, tt)
 
-pub four_is : (named : Bool) (bytes : List ℕ) → IsBytes bytes → len_if named 4 ≤ length bytes → IsField (to_le_bytes w32) named (take (len_if named 4) bytes) (four_in (take (len_if named 4) bytes)) × IfSome (four_in (take (len_if named 4) bytes)) (λ n. n < 2 ^ 32)
+pub four_is : (named : Bool) (bytes : List ℕ) → IsBytes bytes → where_so named 4 ≤ length bytes → IsField (to_le_bytes w32) named (take (where_so named 4) bytes) (four_in (take (where_so named 4) bytes)) × IfSome (four_in (take (where_so named 4) bytes)) (λ n. n < 2 ^ 32)
 four_is true [] fits enough = absurd (omega arith)
 four_is true (a ∷ []) fits enough = absurd (omega arith)
 four_is true (a ∷ b ∷ []) fits enough = absurd (omega arith)
@@ -66,25 +66,25 @@ eight_of : (xs : List ℕ) → length xs ≡ 8 → IsField itself true xs (all_i
 eight_of [] len = absurd (omega arith)
 eight_of (a ∷ xs) len = (record { text_is = refl; named_is = refl }, len)
 
-pub eight_is : (named : Bool) (bytes : List ℕ) → len_if named 8 ≤ length bytes → IsField itself named (take (len_if named 8) bytes) (all_in (take (len_if named 8) bytes)) × IfSome (all_in (take (len_if named 8) bytes)) (λ mac. length mac ≡ 8)
+pub eight_is : (named : Bool) (bytes : List ℕ) → where_so named 8 ≤ length bytes → IsField itself named (take (where_so named 8) bytes) (all_in (take (where_so named 8) bytes)) × IfSome (all_in (take (where_so named 8) bytes)) (λ mac. length mac ≡ 8)
 eight_is true bytes enough = eight_of (take 8 bytes) (omega (arith, length-take 8 bytes))
 eight_is false bytes enough = (record { text_is = refl; named_is = refl }, tt)
 
 -- ---- and back
 
-pub length-one : (v : Option ℕ) → length (field_bytes one_byte v) ≡ len_if (is_some v) 1
+pub length-one : (v : Option ℕ) → length (field_bytes one_byte v) ≡ where_so (is_some v) 1
 length-one None = refl
 length-one (Some b) = refl
 
-pub length-two : (v : Option ℕ) → length (field_bytes (to_le_bytes w16) v) ≡ len_if (is_some v) 2
+pub length-two : (v : Option ℕ) → length (field_bytes (to_le_bytes w16) v) ≡ where_so (is_some v) 2
 length-two None = refl
 length-two (Some n) = refl
 
-pub length-four : (v : Option ℕ) → length (field_bytes (to_le_bytes w32) v) ≡ len_if (is_some v) 4
+pub length-four : (v : Option ℕ) → length (field_bytes (to_le_bytes w32) v) ≡ where_so (is_some v) 4
 length-four None = refl
 length-four (Some n) = refl
 
-pub length-eight : (v : Option (List ℕ)) → IfSome v (λ mac. length mac ≡ 8) → length (field_bytes itself v) ≡ len_if (is_some v) 8
+pub length-eight : (v : Option (List ℕ)) → IfSome v (λ mac. length mac ≡ 8) → length (field_bytes itself v) ≡ where_so (is_some v) 8
 length-eight None len = refl
 length-eight (Some mac) len = len
 

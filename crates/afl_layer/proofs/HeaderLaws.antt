@@ -1,6 +1,6 @@
 -- What is read is spelled so, and what is spelled so is read.
-use Rattle.std.proofs.Common.{◌≡◌, ℕ, zero, suc, ◌+◌, ◌-◌, ◌^◌, ◌<◌, ◌≤◌, Bool, true, false, cond, not, eqb, ltb, ◌⊎◌, List, [], ◌∷◌, ◌++◌, length, get_or, take, drop, Option, Some, None, is_some, Result, Ok, Err, refl, sym, ap, subst, ◌∙◌, eq-eqb, append_assoc, arith, inl, inr}
-use Rattle.std.specs.Prelude.{IfOk, IfSome, slice_get}
+use Rattle.std.proofs.Common.{◌≡◌, ℕ, zero, suc, ◌+◌, ◌<◌, ◌≤◌, Bool, true, false, cond, not, eqb, ltb, List, [], ◌∷◌, ◌++◌, length, take, drop, Some, is_some, Result, Ok, Err, refl, sym, ap, subst, ◌∙◌, eq-eqb, append_assoc, arith}
+use Rattle.std.specs.Prelude.{IfOk, slice_get}
 use Rattle.std.specs.Int.{w16, w32, to_le_bytes, from_le_bytes}
 use Rattle.std.proofs.lemmas.Bool.{eqb-true, ltb-false, le-ltb}
 use Rattle.std.proofs.lemmas.List.{take_at, drop_at, take-append-drop, length-append, length-take, length-drop}
@@ -8,14 +8,9 @@ use Rattle.std.proofs.lemmas.Nat.{le_bytes_2, from_le_bytes-to_le_bytes_2}
 use Rattle.afl_layer.specs.declared.header.Afl.{Afl}
 use Rattle.afl_layer.specs.declared.header.AflFault.{AflFault}
 use Rattle.afl_layer.specs.declared.header.AflFault.TheVariants.{Truncated, AflLength, FieldPlace, FidZero}
-use Rattle.afl_layer.specs.Fields.{has_more, names_mcl, names_ki, names_mcr, names_mac, names_ml, fid_of, len_if, fields_len, field_bytes, fields_bytes, one_byte, is_misplaced, is_uncounted}
+use Rattle.afl_layer.specs.Fields.{has_more, names_mcl, names_ki, names_mcr, names_mac, names_ml, fid_of, where_so, fields_len, field_bytes, fields_bytes, one_byte, is_misplaced, is_uncounted}
 use Rattle.afl_layer.specs.Header.{afl_bytes, Says, Fits, IsPlaced, BeginsWithAfl, byte_in, two_in, four_in, all_in, fields_at, misplaces, uncounts, afl_at}
-use Rattle.afl_layer.proofs.FieldLaws.{IsBytes, IsBytes-drop, IsField, itself, one_is, two_is, four_is, eight_is, length-one, length-two, length-four, length-eight, one_again, two_again, four_again, eight_again}
-
--- a test that came out one way
-chosen : {A : Type 0} (b : Bool) (x y z : A) → cond b x y ≡ z → ((b ≡ true) × (x ≡ z)) ⊎ ((b ≡ false) × (y ≡ z))
-chosen true x y z e = inl (refl, e)
-chosen false x y z e = inr (refl, e)
+use Rattle.afl_layer.proofs.FieldLaws.{IsBytes, IsBytes-drop, itself, one_is, two_is, four_is, eight_is, length-one, length-two, length-four, length-eight, one_again, two_again, four_again, eight_again}
 
 -- a test that did not fail
 guard_ok : {A : Type 0} (b : Bool) (f : AflFault) (r : Result A AflFault) (x : A) → cond b (Err f) r ≡ Ok x → (b ≡ false) × (r ≡ Ok x)
@@ -63,11 +58,11 @@ pub record TakesFields (fcl : ℕ) (bytes : List ℕ) (a : Afl) : Type 0 where
 fields_take : (fcl : ℕ) (bytes : List ℕ) → IsBytes bytes → fields_len fcl ≤ length bytes → TakesFields fcl bytes (fields_at fcl bytes)
 unfolding fields_at fields_len
 fields_take fcl bytes fits enough =
-    let m : ℕ = len_if (names_mcl fcl) 1 in
-    let k : ℕ = len_if (names_ki fcl) 2 in
-    let r : ℕ = len_if (names_mcr fcl) 4 in
-    let c : ℕ = len_if (names_mac fcl) 8 in
-    let l : ℕ = len_if (names_ml fcl) 2 in
+    let m : ℕ = where_so (names_mcl fcl) 1 in
+    let k : ℕ = where_so (names_ki fcl) 2 in
+    let r : ℕ = where_so (names_mcr fcl) 4 in
+    let c : ℕ = where_so (names_mac fcl) 8 in
+    let l : ℕ = where_so (names_ml fcl) 2 in
     let after_mcl : List ℕ = drop m bytes in
     let after_ki : List ℕ = drop k after_mcl in
     let after_mcr : List ℕ = drop r after_ki in
@@ -187,8 +182,8 @@ header_parts ci said low high fcl rest word counted enough placed numbered =
     ap (λ (n : ℕ). judged said n rest) word ∙ judged_ok said fcl rest counted enough placed numbered
 
 -- the fields of these lengths are those in front
-fields_at_is : (fcl : ℕ) (a b c d e rest : List ℕ) → length a ≡ len_if (names_mcl fcl) 1 → length b ≡ len_if (names_ki fcl) 2 → length c ≡ len_if (names_mcr fcl) 4
-    → length d ≡ len_if (names_mac fcl) 8 → length e ≡ len_if (names_ml fcl) 2
+fields_at_is : (fcl : ℕ) (a b c d e rest : List ℕ) → length a ≡ where_so (names_mcl fcl) 1 → length b ≡ where_so (names_ki fcl) 2 → length c ≡ where_so (names_mcr fcl) 4
+    → length d ≡ where_so (names_mac fcl) 8 → length e ≡ where_so (names_ml fcl) 2
     → fields_at fcl (a ++ (b ++ (c ++ (d ++ (e ++ rest))))) ≡ record { more = has_more fcl; fid = fid_of fcl; mcl = byte_in a; ki = two_in b; mcr = four_in c; mac = all_in d; ml = two_in e; len = 4 + fields_len fcl }
 unfolding fields_at
 fields_at_is fcl a b c d e rest la lb lc ld le =
@@ -197,15 +192,15 @@ fields_at_is fcl a b c d e rest la lb lc ld le =
     let rc : List ℕ = d ++ (e ++ rest) in
     let rd : List ℕ = e ++ rest in
     rw (
-      drop_at a ra (len_if (names_mcl fcl) 1) la,
-      drop_at b rb (len_if (names_ki fcl) 2) lb,
-      drop_at c rc (len_if (names_mcr fcl) 4) lc,
-      drop_at d rd (len_if (names_mac fcl) 8) ld,
-      take_at a ra (len_if (names_mcl fcl) 1) la,
-      take_at b rb (len_if (names_ki fcl) 2) lb,
-      take_at c rc (len_if (names_mcr fcl) 4) lc,
-      take_at d rd (len_if (names_mac fcl) 8) ld,
-      take_at e rest (len_if (names_ml fcl) 2) le,
+      drop_at a ra (where_so (names_mcl fcl) 1) la,
+      drop_at b rb (where_so (names_ki fcl) 2) lb,
+      drop_at c rc (where_so (names_mcr fcl) 4) lc,
+      drop_at d rd (where_so (names_mac fcl) 8) ld,
+      take_at a ra (where_so (names_mcl fcl) 1) la,
+      take_at b rb (where_so (names_ki fcl) 2) lb,
+      take_at c rc (where_so (names_mcr fcl) 4) lc,
+      take_at d rd (where_so (names_mac fcl) 8) ld,
+      take_at e rest (where_so (names_ml fcl) 2) le,
     )
     refl
 
@@ -213,21 +208,21 @@ again_fields : (fcl : ℕ) (a : Afl) (rest : List ℕ) → Says fcl a → Fits a
 again_fields fcl a rest says fits len =
     ap (fields_at fcl) (five_front (field_bytes one_byte a.mcl) (field_bytes (to_le_bytes w16) a.ki) (field_bytes (to_le_bytes w32) a.mcr) (field_bytes itself a.mac) (field_bytes (to_le_bytes w16) a.ml) rest)
     ∙ fields_at_is fcl _ _ _ _ _ rest
-    (length-one a.mcl ∙ ap (λ (b : Bool). len_if b 1) says.mcl)
-    (length-two a.ki ∙ ap (λ (b : Bool). len_if b 2) says.ki)
-    (length-four a.mcr ∙ ap (λ (b : Bool). len_if b 4) says.mcr)
-    (length-eight a.mac fits.mac ∙ ap (λ (b : Bool). len_if b 8) says.mac)
-    (length-two a.ml ∙ ap (λ (b : Bool). len_if b 2) says.ml)
+    (length-one a.mcl ∙ ap (λ (b : Bool). where_so b 1) says.mcl)
+    (length-two a.ki ∙ ap (λ (b : Bool). where_so b 2) says.ki)
+    (length-four a.mcr ∙ ap (λ (b : Bool). where_so b 4) says.mcr)
+    (length-eight a.mac fits.mac ∙ ap (λ (b : Bool). where_so b 8) says.mac)
+    (length-two a.ml ∙ ap (λ (b : Bool). where_so b 2) says.ml)
     ∙ rw (one_again a.mcl, two_again a.ki fits.ki, four_again a.mcr fits.mcr, eight_again a.mac fits.mac, two_again a.ml fits.ml, ← says.more, ← says.fid, ← len) refl
 
 pub length-fields_bytes : (fcl : ℕ) (a : Afl) → Says fcl a → Fits a → length (fields_bytes a) ≡ fields_len fcl
 unfolding fields_len
 length-fields_bytes fcl a says fits =
-    let mcl = length-one a.mcl ∙ ap (λ (b : Bool). len_if b 1) says.mcl in
-    let ki = length-two a.ki ∙ ap (λ (b : Bool). len_if b 2) says.ki in
-    let mcr = length-four a.mcr ∙ ap (λ (b : Bool). len_if b 4) says.mcr in
-    let mac = length-eight a.mac fits.mac ∙ ap (λ (b : Bool). len_if b 8) says.mac in
-    let ml = length-two a.ml ∙ ap (λ (b : Bool). len_if b 2) says.ml in
+    let mcl = length-one a.mcl ∙ ap (λ (b : Bool). where_so b 1) says.mcl in
+    let ki = length-two a.ki ∙ ap (λ (b : Bool). where_so b 2) says.ki in
+    let mcr = length-four a.mcr ∙ ap (λ (b : Bool). where_so b 4) says.mcr in
+    let mac = length-eight a.mac fits.mac ∙ ap (λ (b : Bool). where_so b 8) says.mac in
+    let ml = length-two a.ml ∙ ap (λ (b : Bool). where_so b 2) says.ml in
     length-five (field_bytes one_byte a.mcl) (field_bytes (to_le_bytes w16) a.ki) (field_bytes (to_le_bytes w32) a.mcr) (field_bytes itself a.mac) (field_bytes (to_le_bytes w16) a.ml)
     ∙ rw (mcl, ki, mcr, mac, ml) refl
 

@@ -1,5 +1,5 @@
 -- The fragmentation control field FCL, and the fields that it names (EN 13757-7, authentication and fragmentation layer).
-use Rattle.std.specs.Prelude.{ℕ, ◌≡◌, ◌+◌, ◌*◌, ◌%◌, ◌<◌, ◌^◌, Bool, false, cond, ◌==◌, ◌&&◌, ◌||◌, nat_le, List, [], ◌∷◌, ◌++◌, length, Option, Some, None, is_some, IfSome}
+use Rattle.std.specs.Prelude.{ℕ, ◌+◌, ◌%◌, ◌^◌, Bool, cond, ◌==◌, ◌&&◌, ◌||◌, nat_le, List, [], ◌∷◌, ◌++◌, Option, Some, None, is_some}
 use Rattle.std.specs.Int.{bit_at, w16, w32, to_le_bytes}
 use Rattle.afl_layer.specs.declared.header.Afl.{Afl}
 
@@ -29,13 +29,13 @@ names_ki fcl = has_bit fcl 9
 abbrev pub fid_of : ℕ → ℕ
 fid_of fcl = fcl % 2 ^ 8
 
--- how many bytes a field has, which are there where it is named
-abbrev pub len_if : Bool → ℕ → ℕ
-len_if named len = cond named len 0
+-- a number where something is so, and else 0
+abbrev pub where_so : Bool → ℕ → ℕ
+where_so so n = cond so n 0
 
 -- how many bytes the fields that FCL names have: MCL, KI, MCR, MAC, ML
 unfoldable pub fields_len : ℕ → ℕ
-fields_len fcl = len_if (names_mcl fcl) 1 + (len_if (names_ki fcl) 2 + (len_if (names_mcr fcl) 4 + (len_if (names_mac fcl) 8 + len_if (names_ml fcl) 2)))
+fields_len fcl = where_so (names_mcl fcl) 1 + (where_so (names_ki fcl) 2 + (where_so (names_mcr fcl) 4 + (where_so (names_mac fcl) 8 + where_so (names_ml fcl) 2)))
 
 -- the bytes of a field, where it is there
 abbrev pub field_bytes : {A : Type 0} → (A → List ℕ) → Option A → List ℕ
@@ -58,8 +58,5 @@ abbrev pub is_uncounted : Bool → ℕ → Bool
 is_uncounted more fid = more && fid == 0
 
 -- FCL of a header: a bit for MF and for each field that is there, and FID. The bits that aren't used are 0
-abbrev pub bit_if : Bool → ℕ → ℕ
-bit_if set bit = cond set bit 0
-
 unfoldable pub fcl_of : Afl → ℕ
-fcl_of a = bit_if a.more (2 ^ 14) + (bit_if (is_some a.mcl) (2 ^ 13) + (bit_if (is_some a.ml) (2 ^ 12) + (bit_if (is_some a.mcr) (2 ^ 11) + (bit_if (is_some a.mac) (2 ^ 10) + (bit_if (is_some a.ki) (2 ^ 9) + a.fid)))))
+fcl_of a = where_so a.more (2 ^ 14) + (where_so (is_some a.mcl) (2 ^ 13) + (where_so (is_some a.ml) (2 ^ 12) + (where_so (is_some a.mcr) (2 ^ 11) + (where_so (is_some a.mac) (2 ^ 10) + (where_so (is_some a.ki) (2 ^ 9) + a.fid)))))

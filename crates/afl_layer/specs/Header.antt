@@ -1,10 +1,10 @@
 -- The header of the authentication and fragmentation layer (EN 13757-7).
-use Rattle.std.specs.Prelude.{ℕ, ◌≡◌, ◌+◌, ◌<◌, ◌^◌, Bool, false, true, ◌==◌, nat_lt, nat_eq, not, List, [], ◌∷◌, ◌++◌, length, take, drop, Option, Some, None, is_some, IfSome, Result, Ok, Err, if◌then◌else◌}
+use Rattle.std.specs.Prelude.{ℕ, ◌≡◌, ◌+◌, ◌<◌, ◌^◌, Bool, false, ◌==◌, nat_lt, not, List, [], ◌∷◌, ◌++◌, length, take, drop, Option, Some, None, is_some, IfSome, Result, Ok, Err, if◌then◌else◌}
 use Rattle.std.specs.Int.{w16, w32, to_le_bytes, from_le_bytes}
 use Rattle.afl_layer.specs.declared.header.Afl.{Afl}
 use Rattle.afl_layer.specs.declared.header.AflFault.{AflFault}
 use Rattle.afl_layer.specs.declared.header.AflFault.TheVariants.{Truncated, AflLength, FieldPlace, FidZero}
-use Rattle.afl_layer.specs.Fields.{has_more, names_mcl, names_ki, names_mcr, names_mac, names_ml, fid_of, len_if, fields_len, fields_bytes, is_misplaced, is_uncounted}
+use Rattle.afl_layer.specs.Fields.{has_more, names_mcl, names_ki, names_mcr, names_mac, names_ml, fid_of, where_so, fields_len, fields_bytes, is_misplaced, is_uncounted}
 
 -- the bytes of a header with this FCL: CI 90, AFLL, which counts the bytes behind itself, FCL, the fields
 abbrev pub afl_bytes : ℕ → Afl → List ℕ
@@ -33,7 +33,7 @@ pub record IsPlaced (a : Afl) : Type 0 where
   pub fields : is_misplaced a.more a.fid (is_some a.mcl) (is_some a.ki) (is_some a.mcr) (is_some a.mac) (is_some a.ml) ≡ false
   pub fid : is_uncounted a.more a.fid ≡ false
 
--- the bytes begin with a afl_bytes of the header
+-- the bytes begin with those of the header, with some FCL that says what it has
 pub record BeginsWithAfl (bytes : List ℕ) (a : Afl) : Type 0 where
   pub fcl : ℕ
   pub rest : List ℕ
@@ -46,6 +46,7 @@ pub record BeginsWithAfl (bytes : List ℕ) (a : Afl) : Type 0 where
 
 -- ---- reading from left to right, with the first fault
 
+-- the value of a field's bytes, none where there are none: a byte, a number of two or four bytes, the bytes themselves
 abbrev pub byte_in : List ℕ → Option ℕ
 byte_in [] = None
 byte_in (b ∷ bytes) = Some b
@@ -65,11 +66,11 @@ all_in (b ∷ bytes) = Some (b ∷ bytes)
 -- the fields that FCL names, one behind the other
 unfoldable pub fields_at : ℕ → List ℕ → Afl
 fields_at fcl bytes =
-    let mcl : ℕ = len_if (names_mcl fcl) 1 in
-    let ki : ℕ = len_if (names_ki fcl) 2 in
-    let mcr : ℕ = len_if (names_mcr fcl) 4 in
-    let mac : ℕ = len_if (names_mac fcl) 8 in
-    let ml : ℕ = len_if (names_ml fcl) 2 in
+    let mcl : ℕ = where_so (names_mcl fcl) 1 in
+    let ki : ℕ = where_so (names_ki fcl) 2 in
+    let mcr : ℕ = where_so (names_mcr fcl) 4 in
+    let mac : ℕ = where_so (names_mac fcl) 8 in
+    let ml : ℕ = where_so (names_ml fcl) 2 in
     let after_mcl : List ℕ = drop mcl bytes in
     let after_ki : List ℕ = drop ki after_mcl in
     let after_mcr : List ℕ = drop mcr after_ki in

@@ -1,6 +1,6 @@
 //! The fields of a header, which FCL names.
 ghost use Rattle.std.specs.Prelude.{◌≡◌, ◌<◌, ◌≤◌, ◌⊎◌, length};
-ghost use Rattle.afl_layer.specs.Fields.{has_bit, len_if};
+ghost use Rattle.afl_layer.specs.Fields.{has_bit, where_so};
 ghost use Rattle.afl_layer.specs.Header.{byte_in, two_in, four_in, all_in};
 
 // Whether a bit is set.
@@ -13,17 +13,19 @@ pub(crate) fn has(fcl: u16, place: u8) -> bool
 
 // How many bytes a field has here.
 pub(crate) fn len_of(named: bool, len: usize) -> usize
-    ensures { result ≡ len_if named len }
+    ensures { result ≡ where_so named len }
 {
     if named { len } else { 0 }
 }
 
+// The field of one byte that these are, if any.
 pub(crate) fn one(bytes: &[u8]) -> Option<u8>
     ensures { result ≡ byte_in bytes.now }
 {
     bytes.first().copied()
 }
 
+// The number of two bytes that these are, if any.
 pub(crate) fn two(bytes: &[u8]) -> Option<u16>
     requires { (length bytes.now ≡ 0) ⊎ (length bytes.now ≡ 2) }
     ensures { result ≡ two_in bytes.now }
@@ -34,6 +36,7 @@ pub(crate) fn two(bytes: &[u8]) -> Option<u16>
     }
 }
 
+// The number of four bytes that these are, if any.
 pub(crate) fn four(bytes: &[u8]) -> Option<u32>
     requires { (length bytes.now ≡ 0) ⊎ (length bytes.now ≡ 4) }
     ensures { result ≡ four_in bytes.now }
@@ -44,6 +47,7 @@ pub(crate) fn four(bytes: &[u8]) -> Option<u32>
     }
 }
 
+// The eight bytes that these are, if any.
 pub(crate) fn eight(bytes: &[u8]) -> Option<[u8; 8]>
     requires { (length bytes.now ≡ 0) ⊎ (length bytes.now ≡ 8) }
     ensures { result ≡ all_in bytes.now }

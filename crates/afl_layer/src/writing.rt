@@ -1,14 +1,14 @@
 //! Writing the header of the authentication and fragmentation layer.
 ghost use Rattle.std.specs.Prelude.{◌≡◌, ◌+◌, ◌≤◌, ◌<◌, ◌^◌, ◌++◌, ℕ, List, length, take, Ok, IfSome};
 ghost use Rattle.std.specs.Int.{w16, w32, to_le_bytes};
-ghost use Rattle.afl_layer.specs.Fields.{bit_if, fcl_of, field_bytes, one_byte, fields_bytes};
+ghost use Rattle.afl_layer.specs.Fields.{where_so, fcl_of, field_bytes, one_byte, fields_bytes};
 ghost use Rattle.afl_layer.specs.Header.{afl_bytes, Fits, IsPlaced, afl_at};
 
 use crate::header::Afl;
 
 // A bit of FCL, where it is set.
-fn bit(set: bool, bit: u16) -> u16
-    ensures is { result ≡ bit_if set bit }
+fn bit_where(set: bool, bit: u16) -> u16
+    ensures is { result ≡ where_so set bit }
     ensures most { result ≤ bit }
 {
     if set { bit } else { 0 }
@@ -20,10 +20,11 @@ fn fcl_for(afl: &Afl) -> u16
     ensures is { result ≡ fcl_of afl.now }
     ensures fid { afl.now.fid < 2 ^ 8 }
 {
-    let low = bit(afl.mac.is_some(), 1 << 10)
-        + (bit(afl.ki.is_some(), 1 << 9) + u16::from(afl.fid));
-    let middle = bit(afl.ml.is_some(), 1 << 12) + (bit(afl.mcr.is_some(), 1 << 11) + low);
-    bit(afl.more, 1 << 14) + (bit(afl.mcl.is_some(), 1 << 13) + middle)
+    let low = bit_where(afl.mac.is_some(), 1 << 10)
+        + (bit_where(afl.ki.is_some(), 1 << 9) + u16::from(afl.fid));
+    let middle = bit_where(afl.ml.is_some(), 1 << 12)
+        + (bit_where(afl.mcr.is_some(), 1 << 11) + low);
+    bit_where(afl.more, 1 << 14) + (bit_where(afl.mcl.is_some(), 1 << 13) + middle)
 }
 
 // Writes bytes at this place, and answers the place behind them.

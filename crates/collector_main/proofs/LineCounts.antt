@@ -156,7 +156,7 @@ counts_landed own cs lines text steps s landed n k m is few tells lands next mad
         let all = kept in
         counted cs lines text Strange n m is class (omega (arith, l)) (omega (arith, o)) (omega (arith, t)) (omega (arith, u)) (omega (arith, b))
 
--- ---- all lines
+-- ---- the first lines
 
 -- what is left begins with the next element
 pub record IsNext {X : Type 0} (xs : List X) (n : ℕ) (x : X) (more : List X) : Type 0 where

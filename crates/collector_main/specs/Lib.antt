@@ -1,3 +1,4 @@
+pub mod Hearing
 pub mod Report
 pub mod Session
 pub mod Told

@@ -1,18 +1,18 @@
 //! Hearing the lines of one receiver.
-ghost use Rattle.std.specs.Prelude.{◌≡◌, ◌+◌, ◌-◌, ◌<◌, ◌^◌, ◌∷◌, ◌++◌, List, ℕ, [], length, min, IfOk, IfSome, IfNone};
-ghost use Rattle.std.specs.Str.Lines.{lines};
+ghost use Rattle.std.specs.Prelude.{◌≡◌, ◌+◌, ◌-◌, ◌<◌, ◌≤◌, ◌^◌, ◌∷◌, ◌++◌, List, ℕ, [], false, length, IsTrue, IfOk, IfErr, OnOk, MatchResult};
+ghost use Rattle.outer_io.specs.Faults.{Rose};
+ghost use Rattle.line_reader.specs.Reader.{given};
 ghost use Rattle.meter_address.specs.declared.address.Address.{Address};
 ghost use Rattle.meter_address.specs.Commission.{Commissioned};
 ghost use Rattle.meter_slots.specs.World.{world_of};
+ghost use Rattle.collector_main.specs.Hearing.{TellsNext, IsEnding};
 ghost use Rattle.collector_main.specs.Session.{StandsFor, landed_counts};
+ghost use Rattle.collector_main.specs.Told.{told_of};
 
 use crate::told::{Told, tell};
-use meter_slots::{Counts, Landed, Step, World};
-use outer_io::Memory;
-use plain_text::TextLines;
-
-/// The most lines of a receiver.
-pub const LINES_MAX: u32 = 65_536;
+use line_reader::{LINES_MAX, Lines, Next};
+use meter_slots::{Counts, Ended, Landed, Step, World};
+use outer_io::{Memory, Source};
 
 // No line yet.
 pub(crate) fn no_counts() -> Counts
@@ -43,17 +43,16 @@ fn count_landed(counts: Counts, landed: &Landed) -> Counts
     }
 }
 
-// Hears one more line, and counts it.
-fn hear_line(world: &mut World, counts: Counts, text: &[u8]) -> Result<Counts, Memory>
-    ensures heard { IfOk result (λ after. (own : Address) (commissions : List Commissioned) (before : List (List ℕ)) → length before < 2 ^ 32 - 1 →
-        StandsFor own commissions before world.old counts → StandsFor own commissions (before ++ text.now ∷ []) world.new after) }
-    ensures lines { IfOk result (λ after. after.lines ≡ min (counts.lines + 1) (2 ^ 32 - 1)) }
+// Hears what one more line tells, and counts the line.
+fn hear_told(world: &mut World, counts: Counts, told: Told) -> Result<Counts, Memory>
+    ensures { IfOk result (λ after. (own : Address) (commissions : List Commissioned) (before : List (List ℕ)) (text : List ℕ) → length before < 2 ^ 32 - 1 → told_of text ≡ told →
+        StandsFor own commissions before world.old counts → StandsFor own commissions (before ++ text ∷ []) world.new after) }
 {
     let counts = Counts {
         lines: counts.lines.saturating_add(1),
         ..counts
     };
-    match tell(text) {
+    match told {
         Told::Bad => Ok(Counts {
             bad: counts.bad.saturating_add(1),
             ..counts
@@ -74,19 +73,23 @@ fn hear_line(world: &mut World, counts: Counts, text: &[u8]) -> Result<Counts, M
     }
 }
 
-// Hears all lines of a text: none where there are more than a receiver may have.
-pub(crate) fn hear_lines(world: &mut World, text: &[u8]) -> Result<Option<Counts>, Memory>
-    ensures heard { IfOk result (λ heard. IfSome heard (λ counts. (own : Address) (commissions : List Commissioned) →
-        world.old ≡ world_of own commissions [] → StandsFor own commissions (lines text.now) world.new counts)) }
-    ensures cut { IfOk result (λ heard. IfNone heard (LINES_MAX < length (lines text.now))) }
+// What the next line tells, or how the receiver ended.
+fn next_told<S: Source>(lines: &mut Lines<S>) -> Result<Told, Ended>
+    requires { lines.old.done ≡ false }
+    ensures told { IfOk result (λ told. IsTrue S.tells → TellsNext told (given S.taken lines.old) (given S.taken lines.new)) }
+    ensures goes_on { OnOk result ((lines.new.line ≡ lines.old.line + 1) × (lines.new.done ≡ false)) }
+    ensures ended { IfErr result (λ ended. IsTrue S.tells →
+        (given S.taken lines.new ≡ given S.taken lines.old) × IsEnding ended (S.taken lines.new.source) (S.left lines.new.source) (given S.taken lines.new)) }
+    ensures cause { IfErr result (λ ended. ended ≡ Ended.ReadFault → Rose (S.faults lines.old.source) (S.faults lines.new.source)) }
+    ensures later { S.faults lines.old.source ≤ S.faults lines.new.source }
+    ensures bytes { IsTrue S.tells →
+        S.taken lines.new.source ++ S.left lines.new.source ≡ S.taken lines.old.source ++ S.left lines.old.source }
 {
-    let mut counts = no_counts();
-    let mut rest = TextLines::of_text(text);
-    while let Some(line) = rest.next() {
-        if counts.lines == LINES_MAX {
-            return Ok(None);
-        }
-        counts = hear_line(world, counts, line)?;
+    match lines.next() {
+        Ok(Next::Line(line)) => Ok(tell(&line)),
+        Ok(Next::Bad(_)) => Ok(Told::Bad),
+        Ok(Next::End) => Err(Ended::End),
+        Ok(Next::Cut) => Err(Ended::Cut),
+        Err(_) => Err(Ended::ReadFault),
     }
-    Ok(Some(counts))
 }

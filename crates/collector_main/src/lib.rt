@@ -3,6 +3,7 @@
 
 mod hearing;
 mod report;
+mod source_bytes;
 mod told;
 
 pub use told::{Told, tell};

@@ -1,9 +1,9 @@
 //! What a line tells the collector.
-ghost use Rattle.std.specs.Prelude.{◌≡◌, List, ℕ};
-ghost use Rattle.collector_main.specs.Told.{framed_a, told_by, told_of};
+ghost use Rattle.std.specs.Prelude.{◌≡◌};
+ghost use Rattle.collector_main.specs.Told.{framed_a, told_by};
 
 use frame_formats::{Telegram, decode_a};
-use line_reader::{Line, LineFormat, read_line};
+use line_reader::{Line, LineFormat};
 use meter_address::Address;
 use meter_slots::{Event, Format};
 
@@ -37,7 +37,8 @@ fn tell_frame_a(at: u64, bytes: &[u8]) -> Told
     }
 }
 
-fn tell_line(line: &Line) -> Told
+/// What a line tells.
+pub fn tell(line: &Line) -> Told
     ensures { result ≡ told_by line.now }
 {
     match line {
@@ -47,16 +48,5 @@ fn tell_line(line: &Line) -> Told
             bytes,
         } => tell_frame_a(*at, bytes.bytes()),
         _ => Told::Bad,
-    }
-}
-
-/// What a line's text tells.
-#[tactic(auto, unfolding(crate::specs::Told::told_of))]
-pub fn tell(text: &[u8]) -> Told
-    ensures { result ≡ told_of text.now }
-{
-    match read_line(text) {
-        Ok(line) => tell_line(&line),
-        Err(_) => Told::Bad,
     }
 }

@@ -1,9 +1,11 @@
 -- Numbers by their digits: how large they are, and one digit more.
-use Rattle.std.proofs.Common.{◌≡◌, ℕ, suc, ◌+◌, ◌-◌, ◌*◌, ◌/◌, ◌%◌, ◌^◌, ◌<◌, ◌≤◌, List, [], ◌∷◌, length, get_or, drop, map, refl, ap, ◌∙◌, inl, inr, arith}
+use Rattle.std.proofs.Common.{◌≡◌, ℕ, suc, ◌+◌, ◌-◌, ◌*◌, ◌/◌, ◌%◌, ◌^◌, ◌<◌, ◌≤◌, List, [], ◌∷◌, ◌++◌, reverse, length, get_or, drop, map, refl, ap, ◌∙◌, inl, inr, arith}
 use Rattle.std.proofs.Math.Nat.{pow-le-pow_right, pow-le-pow_left, pow-zero, pow-succ', mul-le-mul_left}
 use Rattle.std.proofs.lemmas.Bool.{cases_lt}
-use Rattle.std.proofs.lemmas.List.{drop_more, length-drop, length-map, get_or-map, get_or_past}
+use Rattle.std.proofs.lemmas.List.{drop_more, reverse-append, length-drop, length-map, get_or-map, get_or_past}
 use Rattle.std.proofs.lemmas.Nat.{mul-le}
+use Rattle.std.specs.Int.Digits.{number_from_digits}
+use Rattle.std.proofs.lemmas.Int.Digits.{number_push}
 use Rattle.dif_vif.specs.Numbers.{low_first}
 
 one_more : (base digit number power : ℕ) → digit < base → number < power → digit + base * number < base * power
@@ -19,12 +21,14 @@ low_first-below base (x ∷ xs) below =
 pub low_first-few : (base most : ℕ) (xs : List ℕ) → 0 < base → length xs ≤ most → ((i : ℕ) → get_or xs i 0 < base) → low_first base xs < base ^ most
 low_first-few base most xs some few below = omega (arith, low_first-below base xs below, pow-le-pow_right some few)
 
--- one digit more, from the back
-pub low_first-step : (base : ℕ) (xs : List ℕ) (left number : ℕ) → 0 < left → left ≤ length xs → number ≡ low_first base (drop left xs) → number * base + get_or xs (left - 1) 0 ≡ low_first base (drop (left - 1) xs)
-low_first-step base xs left number some within is =
+-- one element more, from the back
+pub drop-before : (xs : List ℕ) (left : ℕ) → 0 < left → left ≤ length xs → drop (left - 1) xs ≡ get_or xs (left - 1) 0 ∷ drop left xs
+drop-before xs left some within =
     let back : left - 1 + 1 ≡ left = omega arith in
-    let first : drop (left - 1) xs ≡ get_or xs (left - 1) 0 ∷ drop left xs = drop_more xs (left - 1) 0 (omega arith) ∙ ap (λ (k : ℕ). get_or xs (left - 1) 0 ∷ drop k xs) back in
-    rw (first, ← is) (omega arith)
+    drop_more xs (left - 1) 0 (omega arith) ∙ ap (λ (k : ℕ). get_or xs (left - 1) 0 ∷ drop k xs) back
+
+pub low_first-step : (base : ℕ) (xs : List ℕ) (left number : ℕ) → 0 < left → left ≤ length xs → number ≡ low_first base (drop left xs) → number * base + get_or xs (left - 1) 0 ≡ low_first base (drop (left - 1) xs)
+low_first-step base xs left number some within is = rw (drop-before xs left some within, ← is) (omega arith)
 
 -- ---- the digits of extensions
 
@@ -51,3 +55,12 @@ low_first-by_one base [] = refl
 low_first-by_one base (x ∷ xs) =
     let same : x / 1 ≡ x = omega arith in
     rw (same, low_first-by_one base xs) refl
+
+-- ---- digits in reverse
+
+pub low_first-reverse : (base : ℕ) (digits : List ℕ) → low_first base digits ≡ number_from_digits base (reverse digits)
+low_first-reverse base [] = refl
+low_first-reverse base (digit ∷ digits) =
+    let turned : reverse (digit ∷ digits) ≡ reverse digits ++ digit ∷ [] = reverse-append (digit ∷ []) digits in
+    let pushed : number_from_digits base (reverse digits ++ digit ∷ []) ≡ number_from_digits base (reverse digits) * base + digit = number_push base (reverse digits) digit in
+    rw (turned, pushed, ← low_first-reverse base digits) (omega arith)

@@ -6,3 +6,6 @@ pub mod Again
 pub mod Spans
 pub mod Listings
 pub mod Lowest
+pub mod Stopping
+pub mod Stopped
+pub mod Endings

@@ -11,6 +11,7 @@ use Rattle.dif_vif.specs.Reading.{record_at, span_at, next_of}
 use Rattle.dif_vif.specs.Listing.{IsEnding, IsListing, Listing}
 use Rattle.dif_vif.proofs.Steps.{ok_is}
 use Rattle.dif_vif.proofs.Again.{record_again}
+use Rattle.dif_vif.proofs.Endings.{ends_found, ends_only}
 use Rattle.dif_vif.proofs.Spans.{span_not_filler, span_again, next_found, next_only, next_refused, LiesWithin-from_span}
 
 -- no record begins another one
@@ -57,7 +58,7 @@ by_next bytes from (Some span) further n =
 
 by_answer : (bytes : List ℕ) (from : ℕ) (r : Result (Option RecordSpan) RecordFault) → from ≤ length bytes → ((at : ℕ) → at ≤ length bytes → from < at → Listing bytes at) → next_of bytes from ≡ r → Listing bytes from
 by_answer bytes from (Ok next) le further e = by_next bytes from next further (next_found bytes from next le e)
-by_answer bytes from (Err fault) le further e = record { spans = []; ending = Some fault; listed = (next_refused bytes from fault le e, e) }
+by_answer bytes from (Err fault) le further e = record { spans = []; ending = Some fault; listed = (next_refused bytes from fault le e, ends_found bytes from fault le e) }
 
 listing_in : (left : ℕ) (bytes : List ℕ) (from : ℕ) → from ≤ length bytes → length bytes - from < left → Listing bytes from
 listing_in zero bytes from le few = absurd (omega arith)
@@ -75,7 +76,7 @@ answer_of_ending (Some fault) = Err fault
 ending_is : (bytes : List ℕ) (from : ℕ) (ending : Option RecordFault) → IsEnding bytes from ending → next_of bytes from ≡ answer_of_ending ending
 unfolding answer_of_ending
 ending_is bytes from None is = next_only bytes from None is.ordered is
-ending_is bytes from (Some fault) is = is.1
+ending_is bytes from (Some fault) is = ends_only bytes from fault is.1
 
 next_is : (bytes : List ℕ) (from : ℕ) (span : RecordSpan) → IsNext bytes from (Some span) → next_of bytes from ≡ Ok (Some span)
 next_is bytes from span n = next_only bytes from (Some span) (omega (arith, n.0.ordered, n.0.within)) n

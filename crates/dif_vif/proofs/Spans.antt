@@ -15,7 +15,7 @@ use Rattle.dif_vif.proofs.Takes.{record_takes}
 use Rattle.dif_vif.proofs.Again.{record_again, not_special}
 
 -- the byte at a place inside, and what is left from there
-rest_at : (bytes : List ℕ) (start : ℕ) → start < length bytes → drop start bytes ≡ get_or bytes start 0 ∷ drop (start + 1) bytes
+pub rest_at : (bytes : List ℕ) (start : ℕ) → start < length bytes → drop start bytes ≡ get_or bytes start 0 ∷ drop (start + 1) bytes
 rest_at bytes start lt = drop_more bytes start 0 lt
 
 -- no record begins with the DIF of manufacturer data or with a filler
@@ -59,18 +59,18 @@ is_maker dif e =
       | inr a ↦ inr (eqb-true _ _ a)
     ]
 
-maker_is : (dif : ℕ) → ((dif ≡ 0x0f) ⊎ (dif ≡ 0x1f)) → begins_maker dif ≡ true
+pub maker_is : (dif : ℕ) → ((dif ≡ 0x0f) ⊎ (dif ≡ 0x1f)) → begins_maker dif ≡ true
 maker_is dif (inl a) = or_left _ (eqb dif 0x1f) (eq-eqb dif 0x0f a)
 maker_is dif (inr a) = or_right (eqb dif 0x0f) _ (eq-eqb dif 0x1f a)
 
 no_maker : (dif : ℕ) → (dif % 16 ≡ 15 → ⊥) → begins_maker dif ≡ false
 no_maker dif not_15 = or_from (eqb dif 0x0f) (eqb dif 0x1f) (ne_eqb dif 0x0f (λ e. not_15 (omega arith))) (ne_eqb dif 0x1f (λ e. not_15 (omega arith)))
 
-span_at-maker : (len start dif : ℕ) (rest : List ℕ) → begins_maker dif ≡ true → span_at len start (dif ∷ rest) ≡ Ok (maker_span start dif len)
+pub span_at-maker : (len start dif : ℕ) (rest : List ℕ) → begins_maker dif ≡ true → span_at len start (dif ∷ rest) ≡ Ok (maker_span start dif len)
 unfolding span_at
 span_at-maker len start dif rest e = rw e refl
 
-span_at-record : (len start dif : ℕ) (rest : List ℕ) → begins_maker dif ≡ false → span_at len start (dif ∷ rest) ≡ (record_at start (dif ∷ rest) >>= λ found. Ok (span_of start found.0))
+pub span_at-record : (len start dif : ℕ) (rest : List ℕ) → begins_maker dif ≡ false → span_at len start (dif ∷ rest) ≡ (record_at start (dif ∷ rest) >>= λ found. Ok (span_of start found.0))
 unfolding span_at
 span_at-record len start dif rest e = rw e refl
 
@@ -108,11 +108,11 @@ next_of-end : (bytes : List ℕ) (from : ℕ) → length bytes ≤ from → next
 unfolding next_at
 next_of-end bytes from le = rw (drop_all from bytes le) refl
 
-next_of-filler : (bytes : List ℕ) (from : ℕ) → from < length bytes → get_or bytes from 0 ≡ 0x2f → next_of bytes from ≡ next_of bytes (from + 1)
+pub next_of-filler : (bytes : List ℕ) (from : ℕ) → from < length bytes → get_or bytes from 0 ≡ 0x2f → next_of bytes from ≡ next_of bytes (from + 1)
 unfolding next_at
 next_of-filler bytes from lt filler = rw (rest_at bytes from lt, eq-eqb (get_or bytes from 0) 0x2f filler) refl
 
-next_of-span : (bytes : List ℕ) (from : ℕ) → from < length bytes → (get_or bytes from 0 ≡ 0x2f → ⊥) → next_of bytes from ≡ (span_at (length bytes) from (drop from bytes) >>= λ span. Ok (Some span))
+pub next_of-span : (bytes : List ℕ) (from : ℕ) → from < length bytes → (get_or bytes from 0 ≡ 0x2f → ⊥) → next_of bytes from ≡ (span_at (length bytes) from (drop from bytes) >>= λ span. Ok (Some span))
 unfolding next_at
 next_of-span bytes from lt other = rw (rest_at bytes from lt, ne_eqb (get_or bytes from 0) 0x2f other) refl
 

@@ -11,7 +11,7 @@ use Rattle.dif_vif.specs.Reading.{◌>>=◌, byte_at, bytes_at, chain_len, chain
 use Rattle.dif_vif.proofs.Chains.{chain_done, chain_missing, chain_full, chain_more}
 use Rattle.dif_vif.proofs.Steps.{bind_ok, guard_ok, guard_ok_if, chosen, ok_is, some_is, field_some}
 
-byte_takes : (start : ℕ) (bytes : List ℕ) (x : ℕ × List ℕ) → byte_at start bytes ≡ Ok x → bytes ≡ x.0 ∷ x.1
+pub byte_takes : (start : ℕ) (bytes : List ℕ) (x : ℕ × List ℕ) → byte_at start bytes ≡ Ok x → bytes ≡ x.0 ∷ x.1
 unfolding byte_at
 byte_takes start [] x e = absurd cc
 byte_takes start (byte ∷ rest) x e = subst (λ (y : ℕ × List ℕ). byte ∷ rest ≡ y.0 ∷ y.1) (ok_is (byte, rest) x e) refl
@@ -70,11 +70,11 @@ chain_takes start byte bytes x e =
 
 -- ---- the data information block
 
-record IsPlainDif (dif : ℕ) : Type 0 where
-  not_special : dif % 16 ≡ 15 → ⊥
-  not_selection : dif % 16 ≡ 8 → ⊥
+pub record IsPlainDif (dif : ℕ) : Type 0 where
+  pub not_special : dif % 16 ≡ 15 → ⊥
+  pub not_selection : dif % 16 ≡ 8 → ⊥
 
-dif_takes : (start : ℕ) (bytes : List ℕ) (x : ℕ × List ℕ) → dif_at start bytes ≡ Ok x → (bytes ≡ x.0 ∷ x.1) × IsPlainDif x.0
+pub dif_takes : (start : ℕ) (bytes : List ℕ) (x : ℕ × List ℕ) → dif_at start bytes ≡ Ok x → (bytes ≡ x.0 ∷ x.1) × IsPlainDif x.0
 unfolding dif_at
 dif_takes start bytes x e =
     let a = bind_ok (byte_at start bytes) (λ dif. cond (eqb (dif.0 % 16) 15) (Err (Special dif.0)) (cond (eqb (dif.0 % 16) 8) (Err (Selection start)) (Ok dif))) x e in
@@ -82,13 +82,13 @@ dif_takes start bytes x e =
     let h = guard_ok (eqb (a.0.0 % 16) 8) (Selection start) (Ok a.0) x g.1 in
     subst (λ (y : ℕ × List ℕ). (bytes ≡ y.0 ∷ y.1) × IsPlainDif y.0) (ok_is a.0 x h.1) (byte_takes start bytes a.0 a.1, record { not_special = eqb-false _ _ g.0; not_selection = eqb-false _ _ h.0 })
 
-record IsDibPart (bytes : List ℕ) (b : Dib) (rest : List ℕ) : Type 0 where
-  parts : bytes ≡ dib_spelling b ++ rest
-  plain : IsPlainDif b.dif
-  chain : IsChain b.dif b.difes
-  few : length b.difes ≤ 10
+pub record IsDibPart (bytes : List ℕ) (b : Dib) (rest : List ℕ) : Type 0 where
+  pub parts : bytes ≡ dib_spelling b ++ rest
+  pub plain : IsPlainDif b.dif
+  pub chain : IsChain b.dif b.difes
+  pub few : length b.difes ≤ 10
 
-dib_takes : (start : ℕ) (bytes : List ℕ) (x : Dib × List ℕ) → dib_at start bytes ≡ Ok x → IsDibPart bytes x.0 x.1
+pub dib_takes : (start : ℕ) (bytes : List ℕ) (x : Dib × List ℕ) → dib_at start bytes ≡ Ok x → IsDibPart bytes x.0 x.1
 unfolding dib_at
 dib_takes start bytes x e =
     let a = bind_ok (dif_at start bytes) (λ dif. chain_at start dif.0 dif.1 >>= λ difes. Ok (record { dif = dif.0; difes = difes.0 }, difes.1)) x e in
@@ -105,7 +105,7 @@ dib_takes start bytes x e =
 
 -- ---- the value information block
 
-text_takes : (start vif : ℕ) (bytes : List ℕ) (x : List ℕ × List ℕ) → text_at start vif bytes ≡ Ok x → (bytes ≡ x.0 ++ x.1) × IsPlainText vif x.0
+pub text_takes : (start vif : ℕ) (bytes : List ℕ) (x : List ℕ × List ℕ) → text_at start vif bytes ≡ Ok x → (bytes ≡ x.0 ++ x.1) × IsPlainText vif x.0
 unfolding text_at
 text_takes start vif bytes x e =
     elim (chosen (eqb (vif % 128) 0x7c) (byte_at start bytes >>= λ count. bytes_at start count.0 count.1 >>= λ letters. Ok (count.0 ∷ letters.0, letters.1)) (Ok ([], bytes)) (Ok x) e) [
@@ -121,13 +121,13 @@ text_takes start vif bytes x e =
           subst (λ (y : List ℕ × List ℕ). (bytes ≡ y.0 ++ y.1) × IsPlainText vif y.0) (ok_is made x h.1) (refl, eqb-false _ _ h.0)
     ]
 
-record IsVibPart (bytes : List ℕ) (b : Vib) (rest : List ℕ) : Type 0 where
-  parts : bytes ≡ vib_spelling b ++ rest
-  text : IsPlainText b.vif b.text
-  chain : IsChain b.vif b.vifes
-  few : length b.vifes ≤ 10
+pub record IsVibPart (bytes : List ℕ) (b : Vib) (rest : List ℕ) : Type 0 where
+  pub parts : bytes ≡ vib_spelling b ++ rest
+  pub text : IsPlainText b.vif b.text
+  pub chain : IsChain b.vif b.vifes
+  pub few : length b.vifes ≤ 10
 
-vib_takes : (start : ℕ) (bytes : List ℕ) (x : Vib × List ℕ) → vib_at start bytes ≡ Ok x → IsVibPart bytes x.0 x.1
+pub vib_takes : (start : ℕ) (bytes : List ℕ) (x : Vib × List ℕ) → vib_at start bytes ≡ Ok x → IsVibPart bytes x.0 x.1
 unfolding vib_at
 vib_takes start bytes x e =
     let a = bind_ok (byte_at start bytes) (λ vif. text_at start vif.0 vif.1 >>= λ text. chain_at start vif.0 text.1 >>= λ vifes. Ok (record { vif = vif.0; text = text.0; vifes = vifes.0 }, vifes.1)) x e in
@@ -146,11 +146,11 @@ vib_takes start bytes x e =
 
 -- ---- the data
 
-record IsLvarPart (dif : ℕ) (bytes : List ℕ) (lvar : Option ℕ) (rest : List ℕ) : Type 0 where
-  parts : bytes ≡ option_to_list lvar ++ rest
-  wide : is_some (data_width dif lvar) ≡ true
+pub record IsLvarPart (dif : ℕ) (bytes : List ℕ) (lvar : Option ℕ) (rest : List ℕ) : Type 0 where
+  pub parts : bytes ≡ option_to_list lvar ++ rest
+  pub wide : is_some (data_width dif lvar) ≡ true
 
-lvar_takes : (start dif : ℕ) (bytes : List ℕ) (x : Option ℕ × List ℕ) → IsPlainDif dif → lvar_at start dif bytes ≡ Ok x → IsLvarPart dif bytes x.0 x.1
+pub lvar_takes : (start dif : ℕ) (bytes : List ℕ) (x : Option ℕ × List ℕ) → IsPlainDif dif → lvar_at start dif bytes ≡ Ok x → IsLvarPart dif bytes x.0 x.1
 unfolding lvar_at
 lvar_takes start dif bytes x plain e =
     elim (chosen (eqb (dif % 16) 13) (byte_at start bytes >>= λ lvar. cond (is_some (lvar_width lvar.0)) (Ok (Some lvar.0, lvar.1)) (Err (Lvar lvar.0))) (Ok (None, bytes)) (Ok x) e) [

@@ -1,14 +1,14 @@
 -- The records of a whole payload, and how their listing ends.
-use Rattle.std.specs.Prelude.{◌≡◌, ℕ, List, [], ◌∷◌, length, Option, Some, None, Err}
+use Rattle.std.specs.Prelude.{ℕ, List, [], ◌∷◌, length, Option, Some, None}
 use Rattle.dif_vif.specs.declared.fault.RecordFault.{RecordFault}
 use Rattle.dif_vif.specs.declared.span.RecordSpan.{RecordSpan}
 use Rattle.dif_vif.specs.Spans.{AreFillers, IsNext, NoneBegins}
-use Rattle.dif_vif.specs.Reading.{next_of}
+use Rattle.dif_vif.specs.Stops.{EndsBy}
 
 -- A listing ends with the payload, or with the first fault at a place where no record begins.
 abbrev pub IsEnding : List ℕ → ℕ → Option RecordFault → Type 0
 IsEnding bytes from None = AreFillers bytes from (length bytes)
-IsEnding bytes from (Some fault) = NoneBegins bytes from × (next_of bytes from ≡ Err fault)
+IsEnding bytes from (Some fault) = NoneBegins bytes from × EndsBy bytes from fault
 
 -- From a place on the payload is joined of fillers and these spans, one behind the other, up to the ending.
 abbrev pub IsListing : List ℕ → ℕ → List RecordSpan → Option RecordFault → Type 0

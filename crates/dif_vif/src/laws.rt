@@ -1,8 +1,10 @@
 //! What holds of all records and payloads.
 
-ghost use Rattle.std.specs.Prelude.{◌≡◌, ◌++◌, List, ℕ, Option};
+ghost use Rattle.std.specs.Prelude.{◌≡◌, ◌++◌, List, ℕ, Option, reverse};
+ghost use Rattle.std.specs.Int.Digits.{number_from_digits};
 ghost use Rattle.dif_vif.specs.declared.fault.RecordFault.{RecordFault};
 ghost use Rattle.dif_vif.specs.declared.span.RecordSpan.{RecordSpan};
+ghost use Rattle.dif_vif.specs.Numbers.{low_first};
 ghost use Rattle.dif_vif.specs.Spelling.{DataRecord, IsRecord, spelling};
 ghost use Rattle.dif_vif.specs.Spans.{IsSpanOf};
 ghost use Rattle.dif_vif.specs.Listing.{IsListing, Listing};
@@ -24,4 +26,10 @@ pub fn one_listing()
     ensures some { (bytes : List ℕ) → Listing bytes 0 }
     ensures only { (bytes : List ℕ) (ss ts : List RecordSpan) (e f : Option RecordFault)
         → IsListing bytes 0 ss e → IsListing bytes 0 ts f → (ss ≡ ts) × (e ≡ f) }
+{}
+
+/// Digits that stand lowest first are a number's digits in reverse.
+pub fn digits_in_reverse()
+    ensures { (base : ℕ) (digits : List ℕ)
+        → low_first base digits ≡ number_from_digits base (reverse digits) }
 {}

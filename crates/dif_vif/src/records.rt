@@ -1,10 +1,12 @@
 //! The records of a payload, one after another.
 
-ghost use Rattle.std.specs.Prelude.{◌≡◌, ◌+◌, ◌^◌, ◌<◌, ◌≤◌, length, drop, Option, ◌↔◌, Ok, IsErr, IfOk, IfSome};
+ghost use Rattle.std.specs.Prelude.{◌≡◌, ◌+◌, ◌^◌, ◌<◌, ◌≤◌, length, drop, Option, ◌↔◌, Ok, Err, IsErr, IfOk, IfSome};
 ghost use Rattle.dif_vif.specs.declared.span.RecordSpan.{RecordSpan};
 ghost use Rattle.dif_vif.specs.Spelling.{IsRecord, spelling};
 ghost use Rattle.dif_vif.specs.Spans.{span_of, maker_span, LiesWithin, IsNext, NoneBegins};
+ghost use Rattle.dif_vif.specs.Stops.{EndsBy};
 ghost use Rattle.dif_vif.specs.Reading.{span_at, next_of};
+ghost use Rattle.dif_vif.specs.declared.fault.RecordFault.{RecordFault};
 ghost use Rattle.dif_vif.specs.Views.{data_record};
 
 use crate::fault::RecordFault;
@@ -108,7 +110,9 @@ pub fn next_record(bytes: &[u8], from: usize) -> Result<Option<RecordSpan>, Reco
     ensures only { (next : Option RecordSpan) → IsNext bytes.now from next → result ≡ Ok next }
     // A fault comes exactly where no record begins after the fillers.
     ensures refused { IsErr result ↔ NoneBegins bytes.now from }
-    // Which fault it is.
+    // Each fault comes exactly where its cause stands after the fillers.
+    ensures cause { (fault : RecordFault) → (result ≡ Err fault) ↔ EndsBy bytes.now from fault }
+    // All of it as a function that reads from left to right.
     ensures exact { result ≡ next_of bytes.now from }
     // A span begins no earlier, and its places are inside the bytes.
     ensures onward { IfOk result (λ next. IfSome next (λ span. from ≤ span.start)) }

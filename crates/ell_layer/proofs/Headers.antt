@@ -16,9 +16,6 @@ made control acc len = record { access = access_in control; acc = acc; len = len
 abbrev read : Ell → Result Ell EllFault
 read e = Ok e
 
-ok_is : (x y : Ell) → read x ≡ read y → x ≡ y
-ok_is x y e = cc
-
 -- a test that came out one way
 chosen : {A : Type 0} (b : Bool) (x y z : A) → cond b x y ≡ z → ((b ≡ true) × (x ≡ z)) ⊎ ((b ≡ false) × (y ≡ z))
 chosen true x y z e = inl (refl, e)

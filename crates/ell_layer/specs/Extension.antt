@@ -19,7 +19,7 @@ pub record IsLong (header : List ℕ) (e : Ell) : Type 0 where
   pub bytes : header ≡ 0x8E ∷ control ∷ e.acc ∷ address
   pub access : e.access ≡ access_in control
 
--- the bytes begin with a spelling of the header, which has e.len bytes
+-- the bytes begin with a header that says e, of e.len bytes
 pub record BeginsWithEll (bytes : List ℕ) (e : Ell) : Type 0 where
   pub header : List ℕ
   pub rest : List ℕ

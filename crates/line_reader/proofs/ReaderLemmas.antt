@@ -37,6 +37,13 @@ pub given_before : (start line : ℕ) (taken held : List ℕ) → IsReader start
 given_before start line taken held reader few few_lines =
     given_is start line taken held held taken reader few few_lines (sym (take-append-drop start taken) ∙ ap (λ x. take start taken ++ x) (sym reader.behind))
 
+-- the same lines, whatever follows
+pub given_ahead : (start line : ℕ) (taken held left : List ℕ) → IsReader start line taken held → start ≤ BYTES_MAX → line ≤ LINES_MAX → take line (all_lines taken) ≡ take line (all_lines (taken ++ left))
+given_ahead start line taken held left reader few few_lines =
+    given_before start line taken held reader few few_lines
+    ∙ sym (given_is start line taken held (held ++ left) (taken ++ left) reader few few_lines
+    (ap (λ x. x ++ left) (sym (take-append-drop start taken) ∙ ap (λ x. take start taken ++ x) (sym reader.behind)) ∙ append_assoc (take start taken) held left))
+
 gives : (said : Result Line BadLine) (old new : List (List ℕ)) → GivesLine said old new → Gives (Ok (next_of said)) old new
 gives (Ok line) old new more = more
 gives (Err bad) old new more = more
@@ -91,6 +98,12 @@ module _ {start line most : ℕ} {taken held added taken' : List ℕ} (s : IsSea
   pub same_lines : take line (all_lines taken') ≡ take line (all_lines taken)
   same_lines =
       given_is start line taken held read taken' s.reader s.few_bytes s.few_lines whole ∙ sym (given_before start line taken held s.reader s.few_bytes s.few_lines)
+
+  -- and the same of all bytes
+  pub same_of_all : (left' : List ℕ) → take line (all_lines taken') ≡ take line (all_lines (taken' ++ left'))
+  same_of_all left' =
+      given_is start line taken held read taken' s.reader s.few_bytes s.few_lines whole
+      ∙ sym (given_is start line taken held (read ++ left') (taken' ++ left') s.reader s.few_bytes s.few_lines (ap (λ x. x ++ left') whole ∙ append_assoc before read left'))
 
   -- a line with its newline
   module _ (held' rest : List ℕ) (given_up count : ℕ) (part : IsRestOfLine read held' given_up) (found : BeginsWithLine read (given_up + count)) (rest_is : rest ≡ drop count held') where

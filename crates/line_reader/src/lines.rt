@@ -91,9 +91,9 @@ impl<S: Source> Model for Lines<S> {
 }
 
 impl<S: Source> Lines<S> {
-    ghost use Rattle.std.specs.Prelude.{◌≡◌, ◌≤◌, ◌+◌, ◌++◌, [], false, not, Ok, IsTrue, OnErr, if◌then◌else◌};
+    ghost use Rattle.std.specs.Prelude.{◌≡◌, ◌≤◌, ◌+◌, ◌++◌, [], take, false, not, Ok, IsTrue, OnErr, if◌then◌else◌};
     ghost use Rattle.outer_io.specs.Faults.{Rose};
-    ghost use Rattle.line_reader.specs.Lines.{whole_lines};
+    ghost use Rattle.line_reader.specs.Lines.{whole_lines, all_lines};
     ghost use Rattle.line_reader.specs.Reader.{given, gives_line, Gives, IsAtEnd, IsPastLimit};
 
     /// The lines of a source of which nothing was taken yet.
@@ -121,6 +121,10 @@ impl<S: Source> Lines<S> {
         ensures lines { IsTrue S.tells → Gives result (given S.taken self.old) (given S.taken self.new) }
         ensures number { self.new.line ≡ self.old.line + (if gives_line result then 1 else 0) }
         ensures done { self.new.done ≡ not (gives_line result) }
+
+        // How the source cuts its bytes into pieces makes no difference.
+        ensures pieces { IsTrue S.tells → given S.taken self.new
+            ≡ take self.new.line (all_lines (S.taken self.new.source ++ S.left self.new.source)) }
 
         // The source is at its end exactly where no byte is left, and cut exactly where it has one behind a limit.
         ensures end { result ≡ Ok Next.End → IsTrue S.tells →

@@ -2,9 +2,9 @@
 use Rattle.std.proofs.Common.{◌≡◌, ℕ, zero, suc, ◌+◌, ◌-◌, ◌*◌, ◌/◌, ◌%◌, ◌^◌, ◌<◌, ◌≤◌, Bool, true, false, leb, List, [], ◌∷◌, length, get_or, take, drop, Some, None, refl, sym, ap, ◌∙◌, arith}
 use Rattle.std.specs.List.{list_all}
 use Rattle.std.proofs.lemmas.Bool.{leb-true, lt-leb, le-leb, and_parts, and_from, and_left, and_right, cond-true, cond-false}
-use Rattle.std.proofs.lemmas.List.{drop_more, get_or-take, length-take, length-drop, drop_all, take_all}
+use Rattle.std.proofs.lemmas.List.{get_or-take, length-take, length-drop, drop_all, take_all}
 use Rattle.dif_vif.specs.Numbers.{low_first}
-use Rattle.dif_vif.proofs.Digits.{low_first-few, low_first-step}
+use Rattle.dif_vif.proofs.Digits.{drop-before, low_first-few, low_first-step}
 use Rattle.record_values.specs.Values.{digits_of, decimal_of}
 
 -- a digit of a decimal number
@@ -49,9 +49,7 @@ not_all (digit ∷ digits) (suc i) within large = and_right (is_decimal digit) (
 
 pub all_more : (digits : List ℕ) (left : ℕ) → 0 < left → left ≤ length digits → get_or digits (left - 1) 0 ≤ 9 → list_all is_decimal (drop left digits) ≡ true → list_all is_decimal (drop (left - 1) digits) ≡ true
 all_more digits left some within small all =
-    let back : left - 1 + 1 ≡ left = omega arith in
-    let first : drop (left - 1) digits ≡ get_or digits (left - 1) 0 ∷ drop left digits = drop_more digits (left - 1) 0 (omega arith) ∙ ap (λ (k : ℕ). get_or digits (left - 1) 0 ∷ drop k digits) back in
-    rw first (and_from _ _ (le-leb (get_or digits (left - 1) 0) 9 small) all)
+    rw (drop-before digits left some within) (and_from _ _ (le-leb (get_or digits (left - 1) 0) 9 small) all)
 
 -- ---- the loop over the first digits
 

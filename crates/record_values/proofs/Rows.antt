@@ -1,10 +1,10 @@
 -- The rows of the tables ascend, so that no code is in two of them.
-use Rattle.std.proofs.Common.{◌≡◌, ℕ, zero, suc, ◌+◌, ◌<◌, ◌≤◌, Bool, true, false, cond, leb, ◌&&◌, List, [], ◌∷◌, Option, Some, None, sym, ap, subst, ◌∙◌, arith}
+use Rattle.std.proofs.Common.{◌≡◌, ℕ, zero, suc, ◌+◌, ◌≤◌, Bool, true, leb, ◌&&◌, List, [], ◌∷◌, Some, sym, ap, subst, ◌∙◌, arith}
 use Rattle.std.specs.Prelude.{slice_get}
 use Rattle.std.proofs.lemmas.Bool.{leb-true, le-leb, lt-leb, and_parts, and_from, and_right, cond-true, cond-false}
 use Rattle.std.proofs.lemmas.Option.{same_Some}
 use Rattle.record_values.specs.declared.unit_tables.UnitRow.{UnitRow}
-use Rattle.record_values.specs.Units.{unit_in, unit_by, EachRowCounts}
+use Rattle.record_values.specs.Units.{unit_by, EachRowCounts}
 
 -- each row begins at a code or after it, and the next ones after its last
 abbrev pub ascends : ℕ → List UnitRow → Bool

@@ -79,21 +79,21 @@ after_fb =
 -- the unit of a code by its row
 abbrev pub unit_by : UnitRow → ℕ → ℕ → ℕ → Unit
 unit_by r code modifiers_at modifiers =
-  record { quantity = r.quantity; name = r.name; exponent = r.least +ℤ pos (code - r.first); modifiers_at = modifiers_at; modifiers = modifiers }
+    record { quantity = r.quantity; name = r.name; exponent = r.least +ℤ pos (code - r.first); modifiers_at = modifiers_at; modifiers = modifiers }
 
 -- the unit of a code by a table: unknown where no row has it
 abbrev pub unit_in : List UnitRow → ℕ → ℕ → ℕ → Unit
 unit_in [] code modifiers_at modifiers = record { quantity = Unknown; name = NoUnit; exponent = pos 0; modifiers_at = modifiers_at; modifiers = modifiers }
 unit_in (r ∷ rows) code modifiers_at modifiers =
-  if nat_le r.first code && nat_le code r.last
-  then unit_by r code modifiers_at modifiers
-  else unit_in rows code modifiers_at modifiers
+    if nat_le r.first code && nat_le code r.last
+    then unit_by r code modifiers_at modifiers
+    else unit_in rows code modifiers_at modifiers
 
 -- Each code of each row has the unit of that row, whatever rows stand before it.
 abbrev pub EachRowCounts : List UnitRow → Type 0
 EachRowCounts rows =
-  (place : ℕ) (r : UnitRow) (code modifiers_at modifiers : ℕ) → slice_get rows place ≡ Some r → r.first ≤ code → code ≤ r.last
-  → unit_in rows code modifiers_at modifiers ≡ unit_by r code modifiers_at modifiers
+    (place : ℕ) (r : UnitRow) (code modifiers_at modifiers : ℕ) → slice_get rows place ≡ Some r → r.first ≤ code → code ≤ r.last
+    → unit_in rows code modifiers_at modifiers ≡ unit_by r code modifiers_at modifiers
 
 -- The exponents of a row are small.
 abbrev pub is_scaled : UnitRow → Bool

@@ -7,5 +7,4 @@ pub fn each_row_counts()
     ensures primary { EachRowCounts primary }
     ensures after_fd { EachRowCounts after_fd }
     ensures after_fb { EachRowCounts after_fb }
-{
-}
+{}

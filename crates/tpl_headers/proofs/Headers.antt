@@ -1,18 +1,15 @@
 -- What is read is spelled so, and what is spelled so is read.
-use Rattle.std.proofs.Common.{◌≡◌, ℕ, suc, ◌+◌, ◌^◌, ◌<◌, Bool, true, false, cond, eqb, ◌||◌, ◌⊎◌, List, [], ◌∷◌, ◌++◌, length, get_or, Option, Some, None, option_map, is_some, Result, Ok, Err, refl, sym, ap, subst, ◌∙◌, append_assoc, arith, inl, inr}
-use Rattle.std.specs.Prelude.{IfOk, IfSome, ok_or, option_and_then}
-use Rattle.std.proofs.lemmas.Bool.{eqb-true}
+use Rattle.std.proofs.Common.{◌≡◌, ℕ, ◌+◌, ◌^◌, ◌<◌, true, false, eqb, ◌||◌, ◌⊎◌, List, [], ◌∷◌, ◌++◌, length, Option, Some, None, option_map, is_some, Result, Ok, Err, refl, sym, ap, subst, ◌∙◌, append_assoc, arith, inl, inr}
+use Rattle.std.specs.Prelude.{IfOk, IfSome, ok_or}
 use Rattle.std.proofs.lemmas.Bool.Decides.{nat_tests}
 use Rattle.std.proofs.lemmas.List.{length-append}
 use Rattle.std.proofs.lemmas.Option.{option_and_then_some}
 use Rattle.meter_address.specs.declared.address.Address.{Address}
 use Rattle.tpl_headers.specs.declared.header.Tpl.{Tpl}
 use Rattle.tpl_headers.specs.declared.header.TplFault.{TplFault}
-use Rattle.tpl_headers.specs.declared.header.TplFault.TheVariants.{Truncated, Unbuilt}
-use Rattle.tpl_headers.specs.declared.tail.Tail.{Tail}
 use Rattle.tpl_headers.specs.Configuration.{mode_of}
-use Rattle.tpl_headers.specs.Header.{IsShortCi, IsLongCi, cfe_bytes, tail_bytes, header_order, tpl_bytes, address_bytes, HasItsAddress, HasItsExtension, IsHeader, BeginsWithTpl, tail_at, address_at, with_tail, short_at, long_at, tpl_at}
-use Rattle.tpl_headers.proofs.Parts.{IsBytes, IsBytes-rest, chosen, map_some, TakesTail, tail_takes, tail_again, TakesAddress, address_takes, address_again, length-header_order}
+use Rattle.tpl_headers.specs.Header.{IsShortCi, IsLongCi, cfe_bytes, tail_bytes, header_order, tpl_bytes, HasItsAddress, HasItsExtension, IsHeader, BeginsWithTpl, tail_at, address_at, with_tail, short_at, long_at, tpl_at}
+use Rattle.tpl_headers.proofs.Parts.{IsBytes, IsBytes-rest, chosen, map_some, tail_takes, tail_again, address_takes, address_again, length-header_order}
 
 -- one of two numbers
 either_is : (x a b : ℕ) → (eqb x a || eqb x b) ≡ true → (x ≡ a) ⊎ (x ≡ b)
@@ -117,9 +114,6 @@ is_only bytes r h t begins = h ∙ ap tpl_at begins.parts ∙ again begins.rest 
 pub is_found : (bytes : List ℕ) (r : Result Tpl TplFault) → IsBytes bytes → r ≡ tpl_at bytes → IfOk r (λ t. BeginsWithTpl bytes t)
 is_found bytes (Ok t) fits h = takes bytes t fits (sym h)
 is_found bytes (Err f) fits h = tt
-
-length-spelling : (address : Option Address) (ci acc status cf : ℕ) (cfe : Option ℕ) → length (ci ∷ (address_bytes address ++ tail_bytes acc status cf cfe)) ≡ 1 + length (address_bytes address) + 4 + length (cfe_bytes cfe)
-length-spelling address ci acc status cf cfe = omega (arith, length-append (address_bytes address) (tail_bytes acc status cf cfe))
 
 -- a header that was written is read back
 pub written_again : (text rest : List ℕ) (t : Tpl) (n : ℕ) → text ≡ tpl_bytes t → n ≡ length (tpl_bytes t) → HasItsAddress t.ci t.address → HasItsExtension t.cf t.cfe

@@ -1,5 +1,5 @@
 -- The transport header (EN 13757-7, OMS Volume 2).
-use Rattle.std.specs.Prelude.{ℕ, ◌≡◌, ◌+◌, ◌<◌, ◌^◌, ◌⊎◌, List, [], ◌∷◌, ◌++◌, length, take, drop, Option, Some, None, option_map, option_and_then, is_some, ok_or, IfSome, Result, Ok, Err, ◌==◌, ◌||◌, if◌then◌else◌}
+use Rattle.std.specs.Prelude.{ℕ, ◌≡◌, ◌+◌, ◌<◌, ◌^◌, ◌⊎◌, List, [], ◌∷◌, ◌++◌, length, take, drop, Option, Some, None, option_map, option_and_then, is_some, ok_or, IfSome, Result, Err, ◌==◌, ◌||◌, if◌then◌else◌}
 use Rattle.std.specs.Int.{w16, w64, to_le_bytes, from_le_bytes, from_be_bytes}
 use Rattle.meter_address.specs.declared.address.Address.{Address}
 use Rattle.meter_address.specs.Address.{bytes_of}
@@ -46,7 +46,7 @@ HasItsAddress ci (Some a) = IsLongCi ci
 abbrev pub HasItsExtension : ℕ → Option ℕ → Type 0
 HasItsExtension cf cfe = is_some cfe ≡ (mode_of cf == 7)
 
--- what has a tpl_bytes
+-- what can be written as a header
 pub record IsHeader (t : Tpl) : Type 0 where
   pub address : HasItsAddress t.ci t.address
   pub extension : HasItsExtension t.cf t.cfe
@@ -54,7 +54,7 @@ pub record IsHeader (t : Tpl) : Type 0 where
   pub cf : t.cf < 2 ^ 16
   pub len : t.len ≡ length (tpl_bytes t)
 
--- the bytes begin with the tpl_bytes of the header
+-- the bytes begin with those of the header
 pub record BeginsWithTpl (bytes : List ℕ) (t : Tpl) : Type 0 where
   pub is_header : IsHeader t
   pub rest : List ℕ
@@ -84,6 +84,7 @@ address_at _ = None
 abbrev pub with_tail : ℕ → Option Address → ℕ → Tail → Tpl
 with_tail ci address len t = record { ci = ci; address = address; acc = t.acc; status = t.status; cf = t.cf; cfe = t.cfe; len = len + (4 + length (cfe_bytes t.cfe)) }
 
+-- a header without an address, and one with an address, behind their CI
 unfoldable pub short_at : ℕ → List ℕ → Option Tpl
 short_at ci rest = option_map (with_tail ci None 1) (tail_at rest)
 

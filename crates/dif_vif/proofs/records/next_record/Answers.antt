@@ -1,6 +1,7 @@
 use Rattle.std.proofs.Common.{◌∙◌}
 use Rattle.dif_vif.proofs.Spans.{next_only, found_is, onward_if_ok, within_if_ok}
 use Rattle.dif_vif.proofs.Listings.{refused_iff}
+use Rattle.dif_vif.proofs.Endings.{cause_is}
 use Rattle.dif_vif.proofs.records.next_record.Goals as goal
 
 pub returns-clause-found : goal.returns-clause-found
@@ -17,3 +18,6 @@ returns-clause-onward c = onward_if_ok c.args.bytes.now c.args.from c.next_span.
 
 pub returns-clause-within : goal.returns-clause-within
 returns-clause-within c = within_if_ok c.args.bytes.now c.args.from c.next_span.result c.requires c.next_span.ensures
+
+pub returns-clause-cause : goal.returns-clause-cause
+returns-clause-cause c = λ fault. cause_is c.args.bytes.now c.args.from c.next_span.result fault c.requires c.next_span.ensures

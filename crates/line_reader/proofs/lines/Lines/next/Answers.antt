@@ -1,6 +1,6 @@
-use Rattle.std.proofs.Common.{◌∙◌, ap, arith}
+use Rattle.std.proofs.Common.{◌+◌, ◌∙◌, ap, arith}
 use Rattle.line_reader.proofs.NewlineLemmas.{newlines-take}
-use Rattle.line_reader.proofs.ReaderLemmas.{search_from, room_after, same_lines, next_reader, line_gives, last_line, last_gives, at_end, whole_given, past_limit, last_end}
+use Rattle.line_reader.proofs.ReaderLemmas.{search_from, same_of_all, given_ahead, room_after, same_lines, next_reader, line_gives, last_line, last_gives, at_end, whole_given, past_limit, last_end}
 use Rattle.line_reader.proofs.lines.Lines.next.Goals as goal
 
 pub returns-then-self-clause-end : goal.returns-then-self-clause-end
@@ -86,3 +86,24 @@ returns-in-Fault-clause-fault g c = λ told.
     let found = c.in-Fault.ensures.searches told in
     let s = search_from c.self.inside.start c.self.inside.line c.most_bytes-most.result _ _ _ _ _ _ c.self.invariant told (ap (λ r. r.done) c.self.view_is ∙ c.requires) c.if-self.false c.most_bytes-most.ensures.line c.most_bytes-most.ensures.none found.moves in
     whole_given s (newlines-take c.most_bytes-most.result _ found.finds.0)
+
+pub returns-in-Limit-clause-pieces : goal.returns-in-Limit-clause-pieces
+returns-in-Limit-clause-pieces g c = λ told.
+    let found = c.in-Limit.ensures.searches told in
+    let s = search_from c.self.inside.start c.self.inside.line c.most_bytes-most.result _ _ _ _ _ _ c.self.invariant told (ap (λ r. r.done) c.self.view_is ∙ c.requires) c.if-self.false c.most_bytes-most.ensures.line c.most_bytes-most.ensures.none found.moves in
+    same_of_all s _
+
+pub returns-in-Fault-clause-pieces : goal.returns-in-Fault-clause-pieces
+returns-in-Fault-clause-pieces g c = λ told.
+    let found = c.in-Fault.ensures.searches told in
+    let s = search_from c.self.inside.start c.self.inside.line c.most_bytes-most.result _ _ _ _ _ _ c.self.invariant told (ap (λ r. r.done) c.self.view_is ∙ c.requires) c.if-self.false c.most_bytes-most.ensures.line c.most_bytes-most.ensures.none found.moves in
+    same_of_all s _
+
+pub returns-in-Newline-clause-pieces : goal.returns-in-Newline-clause-pieces
+returns-in-Newline-clause-pieces g c = λ told.
+    let found = c.in-Newline.ensures.searches told in
+    let s = search_from c.self.inside.start c.self.inside.line c.most_bytes-most.result _ _ _ _ _ _ c.self.invariant told (ap (λ r. r.done) c.self.view_is ∙ c.requires) c.if-self.false c.most_bytes-most.ensures.line c.most_bytes-most.ensures.none found.moves in
+    let fits = c.in-Newline.ensures.fits in
+    let few_bytes = c.self.invariant.few_bytes in
+    let room = room_after c.self.inside.start c.self.inside.line c.most_bytes-most.result c.most_bytes-most.ensures.line c.most_bytes-most.ensures.none (omega arith) in
+    given_ahead (c.self.inside.start + (c.in-Newline.given_up + c.in-Newline.count)) (c.self.inside.line + 1) _ c.take_line-next.new.held _ (next_reader s _ _ c.in-Newline.given_up c.in-Newline.count found.finds.0 found.finds.1 c.take_line-next.ensures.rest) (omega arith) (omega arith)

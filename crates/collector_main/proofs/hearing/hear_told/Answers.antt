@@ -4,30 +4,24 @@ use Rattle.meter_slots.specs.declared.step.Step.{Step}
 use Rattle.collector_main.specs.declared.told.Told.TheVariants as told
 use Rattle.collector_main.specs.Session.{Unframed, Bad, steps_of}
 use Rattle.collector_main.proofs.LineCounts.{no_step, one_step, are_few, counted, told_class, counts_landed}
-use Rattle.collector_main.proofs.hearing.hear_line.Goals as goal
+use Rattle.collector_main.proofs.hearing.hear_told.Goals as goal
 
 pub returns-in-Bad-clause-heard : goal.returns-in-Bad-clause-heard
-returns-in-Bad-clause-heard c own cs before few stands =
-    let text = c.args.text.now in
-    let tells = sym c.tell.ensures ∙ c.in-Bad.is in
+returns-in-Bad-clause-heard c own cs before text few tells stands =
     let all = are_few cs before c.args.counts stands.counts_are in
     let class = told_class cs text told.Bad tells in
     no_step own cs before text told.Bad c.args.world.now c.args.counts _ stands tells refl
     (counted cs before text Bad c.args.counts _ stands.counts_are class (omega (arith, c.saturating_add.ensures)) (omega arith) (omega arith) (omega arith) (omega (arith, c.saturating_add-in-Bad.ensures)))
 
 pub returns-in-Unframed-clause-heard : goal.returns-in-Unframed-clause-heard
-returns-in-Unframed-clause-heard c own cs before few stands =
-    let text = c.args.text.now in
-    let tells = sym c.tell.ensures ∙ c.in-Unframed.is in
+returns-in-Unframed-clause-heard c own cs before text few tells stands =
     let all = are_few cs before c.args.counts stands.counts_are in
     let class = told_class cs text told.Unframed tells in
     no_step own cs before text told.Unframed c.args.world.now c.args.counts _ stands tells refl
     (counted cs before text Unframed c.args.counts _ stands.counts_are class (omega (arith, c.saturating_add.ensures)) (omega arith) (omega arith) (omega (arith, c.saturating_add-in-Unframed.ensures)) (omega arith))
 
 pub returns-in_ok-landed-in-Event-clause-heard : goal.returns-in_ok-landed-in-Event-clause-heard
-returns-in_ok-landed-in-Event-clause-heard c own cs before few stands =
-    let text = c.args.text.now in
-    let tells = sym c.tell.ensures ∙ c.in-Event.is in
+returns-in_ok-landed-in-Event-clause-heard c own cs before text few tells stands =
     let all = are_few cs before c.args.counts stands.counts_are in
     let next = ap (λ (l : ℕ). let n : Counts = record c.args.counts { lines = l } in n) c.saturating_add.ensures in
     let step : Step = record { source = 1; line = c.saturating_add.result; address = c.in-Event.address; event = c.in-Event.event } in
