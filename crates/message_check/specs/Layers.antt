@@ -9,6 +9,7 @@ use Rattle.afl_layer.specs.declared.header.Afl.{Afl}
 use Rattle.afl_layer.specs.Header as fragmentation
 use Rattle.tpl_headers.specs.declared.header.Tpl.{Tpl}
 use Rattle.tpl_headers.specs.Header as transport
+use Rattle.message_check.specs.Steps.{◌>>=◌}
 use Rattle.message_check.specs.declared.headers.Layers.{Layers}
 use Rattle.message_check.specs.declared.refusal.LayerFault.{LayerFault}
 use Rattle.message_check.specs.declared.refusal.LayerFault.TheVariants as faults
@@ -55,11 +56,6 @@ abbrev pub ContentAtBody : Type 0
 ContentAtBody = (t : List ℕ) (l : Layers) (h : IsLayers t l) → drop l.body t ≡ h.content
 
 -- ---- reading from left to right, with the first fault
-
-infixl 10 ◌>>=◌
-abbrev pub ◌>>=◌ : {A B : Type 0} → Result A LayerFault → (A → Result B LayerFault) → Result B LayerFault
-(Ok x) >>= f = f x
-(Err e) >>= f = Err e
 
 abbrev pub extension_len : Option Ell → ℕ
 extension_len None = 0

@@ -1,3 +1,4 @@
+pub mod Steps
 pub mod Layers
 pub mod Target
 pub mod Opening
