@@ -1,2 +1,4 @@
+pub mod Journals
+pub mod Pieces
 pub mod Places
 pub mod Worlds

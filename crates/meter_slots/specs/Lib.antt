@@ -1,3 +1,5 @@
 pub mod Directory
+pub mod Hearing
 pub mod Journal
+pub mod Keeping
 pub mod World

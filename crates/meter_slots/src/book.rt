@@ -1,77 +1,157 @@
 //! A slot's book.
-ghost use Rattle.std.specs.Prelude.{◌≡◌, List};
-ghost use Rattle.meter_address.specs.Commission.{Commissioned};
-ghost use Rattle.meter_slots.specs.Journal.{refusal, is_uplink, outcome};
+ghost use Rattle.std.specs.Prelude.{◌≡◌, ◌≤◌, ◌<◌, ◌++◌, ◌∷◌, [], ℕ, List, length, min, drop, take, vec_len, vec_capacity};
+ghost use Rattle.meter_address.specs.Commission.{most_last};
+ghost use Rattle.afl_fragments.specs.Held.{Told, StandsFor, held_bytes};
+ghost use Rattle.meter_slots.specs.Journal.{answer, stored, told_by, reading_of, reading_at};
+ghost use Rattle.meter_slots.specs.Keeping.{last_after, FitsMode, found_as, room_for, room_behind, OpenedFits, OpenedHasRoom};
 
-use crate::entry::{Entry, Event, LayerFault, Outcome, Reason};
-use frame_formats::Telegram;
+use crate::entry::{Entry, Event, Outcome};
+use crate::hearing::{answer_to, hear};
+use crate::reading::{Bytes, Reading};
+use afl_fragments::Parts;
+use afl_layer::{SCRATCH_MAX, Scratch};
+use message_check::Opened;
 use meter_address::{Address, Commission};
 use outer_io::Memory;
 use std::alloc::Global;
 use std::marker::Model;
-use tpl_headers::TplFault;
 
 /// The slot of one commissioned meter: the collector's own address, the commission that it was made with, and its journal.
 #[derive(Drop)]
 pub struct SlotBook {
+    alloc: Global,
     own: Address,
-    commission: Commission,
+    opening: Commission,
+    last: Option<u32>,
+    parts: Parts,
     entries: Vec<Entry>,
+    readings: Vec<Reading>,
 }
 
 impl Model for SlotBook {
-    ghost use Rattle.meter_slots.specs.Journal.{Book, Legal};
+    ghost use Rattle.meter_slots.specs.Journal.{Book};
+    ghost use Rattle.meter_slots.specs.Keeping.{Keeps};
 
     ghost Value = { Book };
 
-    ghost view = { λ b. record { own = b.own; commission = b.commission; journal = b.entries.items } };
+    ghost view = { λ b. record { own = b.own; commission = b.opening; journal = b.entries.items } };
 
-    ghost invariant = { λ b. Legal b.commission b.own b.entries.items };
+    ghost invariant = { λ b. Keeps b.opening b.own b.entries.items b.last b.parts b.readings.items };
 }
 
-// Whether the C field is that of an uplink: SND-NR, SND-IR, ACC-NR, ACC-DMD or RSP-UD.
-fn has_uplink_control(control: u8) -> bool
-    ensures { result ≡ is_uplink control }
-{
-    matches!(
-        control,
-        0x44 | 0x46 | 0x47 | 0x48 | 0x08 | 0x18 | 0x28 | 0x38
-    )
+// What an event is answered, and the message that is stored with it.
+#[derive(Clone, Copy)]
+struct Served {
+    outcome: Outcome,
+    opened: Option<Opened>,
 }
 
-// The first refusal of a telegram.
-fn refuse(telegram: &Telegram) -> Reason
-    ensures { result ≡ refusal telegram.now }
-{
-    let control = telegram.control();
-    if !has_uplink_control(control) {
-        return Reason::NotUplink(control);
-    }
-    let unbuilt = TplFault::Unbuilt(telegram.layers_bytes()[0]);
-    Reason::BadLayers(LayerFault::Tpl(unbuilt))
-}
-
-#[tactic(auto, unfolding(crate::specs::Journal::outcome))]
-fn answer(event: &Event) -> Outcome
-    ensures { (c : Commissioned) (own : Address) (earlier : List Entry) → result ≡ outcome c own earlier event.now }
+// How many bytes the payload of what an event stores has at most.
+fn room_needed(parts: &Parts, event: &Event) -> usize
+    ensures { result ≡ room_for event.now parts.now }
 {
     match event {
-        Event::Hear { telegram, .. } => Outcome::Refused(refuse(telegram)),
+        Event::Hear { telegram, .. } => {
+            parts.held_bytes().min(SCRATCH_MAX) + telegram.bytes().len()
+        }
+        Event::Tick => 0,
     }
+}
+
+// Answers an event. What it stores stands in `message` then.
+fn serve(
+    opening: &Commission,
+    last: Option<u32>,
+    parts: &mut Parts,
+    event: &Event,
+    message: &mut Scratch,
+) -> Served
+    ensures outcome { (told : List Told) → StandsFor parts.old told → result.outcome ≡ answer opening.now (record { last = last; told = told }) event.now }
+    ensures stored { (told : List Told) → StandsFor parts.old told → found_as message.new result.opened ≡ stored opening.now (record { last = last; told = told }) event.now }
+    ensures parts { (told : List Told) → StandsFor parts.old told → StandsFor parts.new (told_by opening.now event.now result.outcome ++ told) }
+    ensures fits { OpenedFits opening.now.mode message.new (room_behind event.now parts.old) result.opened }
+    ensures number { FitsMode opening.now.mode result.outcome }
+{
+    match event {
+        Event::Hear { telegram, .. } => {
+            let verdict = hear(opening, last, parts, telegram, message);
+            Served {
+                outcome: answer_to(&verdict),
+                opened: verdict.unwrap_or(None),
+            }
+        }
+        Event::Tick => {
+            parts.tick();
+            Served {
+                outcome: Outcome::Ticked,
+                opened: None,
+            }
+        }
+    }
+}
+
+// The last number after an outcome.
+fn counted(last: Option<u32>, outcome: &Outcome) -> Option<u32>
+    ensures { result ≡ last_after last outcome.now }
+{
+    match outcome {
+        Outcome::Stored { counter } => Some(*counter),
+        _ => last,
+    }
+}
+
+// The bytes, in room that was taken before.
+fn fill(mut room: Vec<u8>, bytes: &[u8]) -> Vec<u8>
+    requires empty { room.items ≡ [] }
+    requires fits { length bytes.now ≤ vec_capacity room }
+    ensures { result.items ≡ bytes.now }
+{
+    for byte in bytes {
+        room.push_reserved(*byte);
+    }
+    room
+}
+
+// Adds the reading of what is stored.
+fn note(
+    readings: &mut Vec<Reading>,
+    room: Vec<u8>,
+    event: &Event,
+    opened: Option<Opened>,
+    message: &Scratch,
+)
+    requires place { vec_len readings.old < vec_capacity readings.old }
+    requires empty { room.items ≡ [] }
+    requires within { OpenedHasRoom message.now (vec_capacity room) opened }
+    ensures { readings.new.items ≡ readings.old.items ++ reading_of event.now (found_as message.now opened) }
+{
+    let (Event::Hear { at, .. }, Some(opened)) = (event, opened) else {
+        return;
+    };
+    let (_, payload) = message.bytes().split_at(opened.from);
+    readings.push_reserved(Reading {
+        at: *at,
+        counter: opened.counter,
+        payload: Bytes::from_vec(fill(room, payload)),
+    });
 }
 
 impl SlotBook {
     ghost use Rattle.std.specs.Prelude.{◌≡◌, [], ◌∷◌, ◌++◌, reverse, IfOk, OnErr, ℕ, List};
-    ghost use Rattle.meter_slots.specs.Journal.{Book, Legal, outcome};
+    ghost use Rattle.meter_slots.specs.Journal.{Book, Legal, outcome, readings, last_counter};
 
     /// A slot with an empty journal.
     pub fn new(alloc: Global, own: Address, commission: Commission) -> Self
         ensures { result ≡ record { own = own; commission = commission; journal = [] } }
     {
         SlotBook {
+            alloc,
             own,
-            commission,
+            opening: commission,
+            last: commission.last,
+            parts: Parts::new(),
             entries: Vec::new(alloc),
+            readings: Vec::new(alloc),
         }
     }
 
@@ -83,27 +163,60 @@ impl SlotBook {
         self.entries.as_slice()
     }
 
+    /// What was stored, the first reading first.
+    pub fn readings(&self) -> &[Reading]
+        ensures { result.now ≡ readings self.now.commission self.now.journal }
+    {
+        self.readings.as_slice()
+    }
+
     /// The commission that the slot was made with.
     pub fn opening(&self) -> Commission
         ensures { result ≡ self.now.commission }
     {
-        self.commission
+        self.opening
+    }
+
+    /// The commission as it would be written now.
+    pub fn commission(&self) -> Commission
+        ensures { result ≡ record self.now.commission { last = last_counter self.now.commission (reverse self.now.journal) } }
+    {
+        Commission {
+            address: self.opening.address,
+            mode: self.opening.mode,
+            key: self.opening.key,
+            last: self.last,
+            down: self.opening.down,
+            ids: self.opening.ids,
+        }
     }
 
     /// One step: what an event is answered, and its entry at the end of the journal. For want of memory nothing changes.
     pub fn step(&mut self, source: u32, line: u32, event: Event) -> Result<Outcome, Memory>
         ensures outcome { IfOk result (λ answer. answer ≡ outcome self.old.commission self.old.own (reverse self.old.journal) event) }
         ensures journal { IfOk result (λ answer. self.new ≡ record self.old { journal = self.old.journal ++ record { source = source; line = line; event = event; outcome = answer } ∷ [] }) }
+        ensures legal { Legal self.new.commission self.new.own self.new.journal }
         ensures err { OnErr result (self.new ≡ self.old) }
     {
         self.entries.reserve(1)?;
-        let outcome = answer(&event);
+        self.readings.reserve(1)?;
+        let room = Vec::with_capacity(self.alloc, room_needed(&self.parts, &event))?;
+        let mut message = Scratch::new();
+        let served = serve(
+            &self.opening,
+            self.last,
+            &mut self.parts,
+            &event,
+            &mut message,
+        );
+        self.last = counted(self.last, &served.outcome);
+        note(&mut self.readings, room, &event, served.opened, &message);
         self.entries.push_reserved(Entry {
             source,
             line,
             event,
-            outcome,
+            outcome: served.outcome,
         });
-        Ok(outcome)
+        Ok(served.outcome)
     }
 }

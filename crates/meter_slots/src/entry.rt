@@ -1,6 +1,6 @@
 //! What a slot hears and what it answers.
 use frame_formats::Telegram;
-use tpl_headers::TplFault;
+use message_check::Reason;
 
 /// The frame format in which a telegram was heard (EN 13757-4).
 #[derive(Clone, Copy, Debug, PartialEq, Eq)]
@@ -23,28 +23,23 @@ pub enum Event {
         /// The telegram, without CRCs.
         telegram: Telegram,
     },
-}
-
-/// The first layer of a telegram that can't be read.
-#[derive(Clone, Copy, Debug, PartialEq, Eq)]
-pub enum LayerFault {
-    /// The transport header.
-    Tpl(TplFault),
-}
-
-/// Why a slot refuses an event: the first of these that applies.
-#[derive(Clone, Copy, Debug, PartialEq, Eq)]
-pub enum Reason {
-    /// The C field isn't that of an uplink.
-    NotUplink(u8),
-    /// A layer of the telegram can't be read.
-    BadLayers(LayerFault),
+    /// A tick of the meter's clock: fragments grow old.
+    Tick,
 }
 
 /// What a slot answers.
 #[derive(Clone, Copy, Debug, PartialEq, Eq)]
 pub enum Outcome {
-    /// The event is refused, and nothing but the journal changes.
+    /// A message is stored as a reading.
+    Stored {
+        /// The message counter in mode 7, the access number in mode 5.
+        counter: u32,
+    },
+    /// A fragment is held, and no message is whole yet.
+    PartKept,
+    /// The tick is taken.
+    Ticked,
+    /// The event is refused. Nothing but the journal changes, and the fragments that are held.
     Refused(Reason),
 }
 

@@ -1,0 +1,90 @@
+-- Words of private contracts: what a slot keeps beside its journal, and what its steps answer.
+use Rattle.std.specs.Prelude.{ℕ, ◌≡◌, ◌+◌, ◌≤◌, min, true, List, [], ◌++◌, length, reverse, Option, Some, None, option_map, Result, Ok, Err}
+use Rattle.std.specs.Option.{ForSome}
+use Rattle.meter_address.specs.declared.address.Address.{Address}
+use Rattle.meter_address.specs.declared.commission.Mode.{Mode}
+use Rattle.meter_address.specs.Commission.{Commissioned, most_last}
+use Rattle.afl_layer.specs.declared.header.Afl.{Afl}
+use Rattle.afl_layer.specs.declared.header.Auth.{Auth}
+use Rattle.afl_fragments.specs.declared.places.HeldPart.{HeldPart}
+use Rattle.afl_fragments.specs.Fragment.{is_fragment, IsFragment}
+use Rattle.afl_fragments.specs.Held.{StandsFor, Message, held_bytes}
+use Rattle.message_check.specs.Opening.{Found}
+use Rattle.message_check.specs.Answers.{found_in}
+use Rattle.message_check.specs.declared.opening.Opened.{Opened}
+use Rattle.message_check.specs.declared.refusal.Reason.{Reason}
+use Rattle.meter_slots.specs.Journal.{Legal, last_counter, told, readings}
+use Rattle.meter_slots.specs.declared.entry.Entry.{Entry}
+use Rattle.meter_slots.specs.declared.entry.Event.{Event}
+use Rattle.meter_slots.specs.declared.entry.Event.TheVariants.{Hear, Tick}
+use Rattle.meter_slots.specs.declared.entry.Outcome.{Outcome}
+use Rattle.meter_slots.specs.declared.entry.Outcome.TheVariants.{Stored}
+use Rattle.meter_slots.specs.declared.reading.Reading.{Reading}
+
+-- what a slot keeps is what its journal comes to
+pub record Keeps (c : Commissioned) (own : Address) (journal : List Entry) (last : Option ℕ) (parts : List HeldPart) (kept : List Reading) : Type 0 where
+  pub legal : Legal c own journal
+  pub last_is : last ≡ last_counter c (reverse journal)
+  pub last_fits : ForSome last (λ n. n ≤ most_last c.mode)
+  pub parts_are : StandsFor parts (told c (reverse journal))
+  pub kept_is : kept ≡ readings c journal
+
+-- the last number after an outcome
+abbrev pub last_after : Option ℕ → Outcome → Option ℕ
+last_after last (Stored counter) = Some counter
+last_after last _ = last
+
+-- what is stored is a number of the meter's mode
+abbrev pub FitsMode : Mode → Outcome → Type 0
+FitsMode mode (Stored counter) = counter ≤ most_last mode
+FitsMode mode _ = Unit {0}
+
+-- a fragment's header has a number, and its piece fits into a fragment
+pub record IsPiece (a : Afl) (bytes : List ℕ) : Type 0 where
+  pub fragment : IsFragment a
+  pub most : length bytes ≤ 242
+
+abbrev pub PieceFits : Option Afl → List ℕ → Type 0
+PieceFits None bytes = Unit {0}
+PieceFits (Some a) bytes = is_fragment a ≡ true → IsPiece a bytes
+
+-- a fragment has one of sixteen numbers
+abbrev pub IsCounted : Option Afl → Type 0
+IsCounted None = Unit {0}
+IsCounted (Some a) = is_fragment a ≡ true → a.fid ≤ 16
+
+-- the message in a buffer, with the fields that authenticate it
+abbrev pub message_as : List ℕ → Option Auth → Option Message
+message_as bytes auth = option_map (λ a. record { auth = a; bytes = bytes }) auth
+
+-- what is found in a buffer
+abbrev pub found_as : List ℕ → Option Opened → Option Found
+found_as bytes opened = option_map (found_in bytes) opened
+
+abbrev pub verdict_as : List ℕ → Result (Option Opened) Reason → Result (Option Found) Reason
+verdict_as bytes (Ok opened) = Ok (found_as bytes opened)
+verdict_as bytes (Err reason) = Err reason
+
+-- how many bytes an event brings at most, with those of the fragments that are held
+abbrev pub room_behind : Event → List HeldPart → ℕ
+room_behind (Hear format at t) parts = held_bytes parts + length t
+room_behind Tick parts = 0
+
+-- so much room is enough for the payload of what an event stores, since a message has at most 4,096 bytes
+abbrev pub room_for : Event → List HeldPart → ℕ
+room_for (Hear format at t) parts = min (held_bytes parts) 4096 + length t
+room_for Tick parts = 0
+
+-- what is opened stands in the buffer, is a number of the meter's mode, and has no more bytes than the room
+abbrev pub OpenedFits : Mode → List ℕ → ℕ → Option Opened → Type 0
+OpenedFits mode bytes room None = Unit {0}
+OpenedFits mode bytes room (Some o) = (o.from ≤ length bytes) × (o.counter ≤ most_last mode) × (length bytes ≤ room)
+
+abbrev pub VerdictFits : Mode → List ℕ → ℕ → Result (Option Opened) Reason → Type 0
+VerdictFits mode bytes room (Ok opened) = OpenedFits mode bytes room opened
+VerdictFits mode bytes room (Err reason) = Unit {0}
+
+-- what is opened stands in the buffer, and there is room for it
+abbrev pub OpenedHasRoom : List ℕ → ℕ → Option Opened → Type 0
+OpenedHasRoom bytes room None = Unit {0}
+OpenedHasRoom bytes room (Some o) = (o.from ≤ length bytes) × (min (length bytes) 4096 ≤ room)

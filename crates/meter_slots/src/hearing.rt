@@ -1,0 +1,275 @@
+//! Hearing a telegram: its refusals, the message that it brings, and the verdict on that message.
+ghost use Rattle.std.specs.Prelude.{◌≡◌, ◌+◌, ◌≤◌, ◌<◌, ◌^◌, ◌++◌, ◌∷◌, [], ℕ, List, length, drop, Some, Ok, Err, IfOk, IfErr, OnOk, OnSome};
+ghost use Rattle.meter_address.specs.Commission.{most_last};
+ghost use Rattle.afl_fragments.specs.Fragment.{is_fragment};
+ghost use Rattle.afl_fragments.specs.Held.{Told, Piece, StandsFor, assembled, held, held_bytes};
+ghost use Rattle.message_check.specs.Answers.{found_in};
+ghost use Rattle.message_check.specs.Layers.{IsLayers, layers_of};
+ghost use Rattle.meter_slots.specs.Hearing.{is_uplink, uplink_passed, layers_passed, number_passed, fragment_passed, received, auth_in, content_of, message_in, brought};
+ghost use Rattle.meter_slots.specs.Journal.{settled, told_by_content, told_by_received, judged_in, judged, heard};
+ghost use Rattle.meter_slots.specs.Keeping.{IsCounted, PieceFits, message_as, verdict_as, VerdictFits};
+
+use crate::entry::Outcome;
+use afl_fragments::{PARTS_MAX, Part, Parts};
+use afl_layer::{Afl, Auth, Scratch};
+use frame_formats::Telegram;
+use message_check::{Layers, Opened, Reason, layers, open5, open7};
+use meter_address::{Commission, Mode};
+
+/// What a telegram comes to: a message that is opened and to be stored, a fragment that is kept, or a refusal.
+pub(crate) type Verdict = Result<Option<Opened>, Reason>;
+
+// Whether the C field is that of an uplink: SND-NR, SND-IR, ACC-NR, ACC-DMD or RSP-UD.
+fn has_uplink_control(control: u8) -> bool
+    ensures { result ≡ is_uplink control }
+{
+    matches!(
+        control,
+        0x44 | 0x46 | 0x47 | 0x48 | 0x08 | 0x18 | 0x28 | 0x38
+    )
+}
+
+fn check_uplink(control: u8) -> Result<(), Reason>
+    ensures { result ≡ uplink_passed control }
+{
+    if has_uplink_control(control) {
+        Ok(())
+    } else {
+        Err(Reason::NotUplink(control))
+    }
+}
+
+// Whether a fragment's header may come to a meter of this mode.
+fn check_number(mode: Mode, fid: u8) -> Result<(), Reason>
+    ensures exact { result ≡ number_passed mode fid }
+    ensures counted { OnOk result (fid ≤ PARTS_MAX) }
+{
+    match mode {
+        Mode::Five => Err(Reason::PartInMode5),
+        Mode::Seven => {
+            if fid > PARTS_MAX {
+                Err(Reason::TooManyParts(fid))
+            } else {
+                Ok(())
+            }
+        }
+    }
+}
+
+// Whether a piece of a message follows the header.
+fn precedes_piece(afl: Afl) -> bool
+    ensures { result ≡ is_fragment afl }
+{
+    afl.more || 2 <= afl.fid
+}
+
+fn check_fragment(mode: Mode, afl: Option<Afl>) -> Result<(), Reason>
+    ensures exact { result ≡ fragment_passed mode afl }
+    ensures counted { OnOk result (IsCounted afl) }
+{
+    match afl {
+        Some(afl) if precedes_piece(afl) => check_number(mode, afl.fid),
+        _ => Ok(()),
+    }
+}
+
+// The layers of a telegram.
+fn read_layers(telegram: &Telegram) -> Result<Layers, Reason>
+    ensures exact { result ≡ layers_passed (layers_of telegram.now) }
+    ensures within { IfOk result (λ l. l.body ≤ length telegram.now) }
+    ensures found { IfOk result (λ l. IsLayers telegram.now l) }
+{
+    match layers(telegram) {
+        Ok(layers) => Ok(layers),
+        Err(fault) => Err(Reason::BadLayers(fault)),
+    }
+}
+
+// The layers of a telegram to a meter of this mode, or the first refusal.
+#[tactic(auto, unfolding(crate::specs::Hearing::received))]
+fn receive(mode: Mode, telegram: &Telegram) -> Result<Layers, Reason>
+    ensures exact { result ≡ received mode telegram.now }
+    ensures within { IfOk result (λ l. l.body ≤ length telegram.now) }
+    ensures found { IfOk result (λ l. IsLayers telegram.now l) }
+    ensures counted { IfOk result (λ l. IsCounted l.afl) }
+{
+    check_uplink(telegram.control())?;
+    let layers = read_layers(telegram)?;
+    check_fragment(mode, layers.afl)?;
+    Ok(layers)
+}
+
+// What stands behind the layers.
+#[tactic(auto, using(crate::proofs::Pieces::piece_fits))]
+fn bytes_behind<'a>(telegram: &'a Telegram, layers: &Layers) -> &'a [u8]
+    requires found { IsLayers telegram.now layers.now }
+    requires within { layers.now.body ≤ length telegram.now }
+    ensures bytes { result.now ≡ drop layers.now.body telegram.now }
+    ensures most { length result.now ≤ length telegram.now }
+    ensures few { length telegram.now ≤ 256 }
+    ensures piece { PieceFits layers.now.afl (drop layers.now.body telegram.now) }
+{
+    let (_, rest) = telegram.bytes().split_at(layers.body);
+    rest
+}
+
+// The fields that authenticate a whole message.
+fn auth_of(afl: Option<Afl>) -> Auth
+    ensures { result ≡ auth_in afl }
+{
+    match afl {
+        None => Auth {
+            mcl: None,
+            mcr: None,
+            ml: None,
+            mac: None,
+        },
+        Some(afl) => Auth {
+            mcl: afl.mcl,
+            mcr: afl.mcr,
+            ml: afl.ml,
+            mac: afl.mac,
+        },
+    }
+}
+
+// Checks a message and decrypts it in place, and compares its number with the last one.
+#[tactic(auto, unfolding(message_check::specs::Opening::opened5_after, message_check::specs::Opening::opened7_after))]
+fn open(
+    mode: Mode,
+    commission: &Commission,
+    last: Option<u32>,
+    auth: &Auth,
+    message: &mut Scratch,
+) -> Result<Opened, Reason>
+    requires { commission.now.mode ≡ mode }
+    ensures opened { IfOk result (λ o. judged_in mode commission.now last (record { auth = auth.now; bytes = message.old }) ≡ Ok (found_in message.new o)) }
+    ensures refused { IfErr result (λ r. judged_in mode commission.now last (record { auth = auth.now; bytes = message.old }) ≡ Err r) }
+    ensures within { IfOk result (λ o. o.from ≤ length message.new) }
+    ensures number { IfOk result (λ o. o.counter ≤ most_last mode) }
+    ensures len { OnOk result (length message.new ≡ length message.old) }
+{
+    match mode {
+        Mode::Five => open5(commission, last, message),
+        Mode::Seven => open7(commission, last, auth, message),
+    }
+}
+
+// The verdict on the message, where there is one.
+fn judge(
+    opening: &Commission,
+    last: Option<u32>,
+    auth: Option<Auth>,
+    message: &mut Scratch,
+) -> Verdict
+    ensures verdict { verdict_as message.new result ≡ judged opening.now last (Ok (message_as message.old auth)) }
+    ensures fits { (room : ℕ) → OnSome auth (length message.old ≤ room) → VerdictFits opening.now.mode message.new room result }
+{
+    let Some(auth) = auth else {
+        return Ok(None);
+    };
+    match open(opening.mode, opening, last, &auth, message) {
+        Err(reason) => Err(reason),
+        Ok(opened) => Ok(Some(opened)),
+    }
+}
+
+// What a verdict answers.
+pub(crate) fn answer_to(verdict: &Verdict) -> Outcome
+    ensures { (bytes : List ℕ) → result ≡ heard (verdict_as bytes verdict.now) }
+{
+    match verdict {
+        Err(reason) => Outcome::Refused(*reason),
+        Ok(None) => Outcome::PartKept,
+        Ok(Some(opened)) => Outcome::Stored {
+            counter: opened.counter,
+        },
+    }
+}
+
+// Gives the fragments up where their message is to be stored.
+fn settle(parts: &mut Parts, verdict: &Verdict)
+    ensures { (bytes : List ℕ) (told : List Told) → StandsFor parts.old told → StandsFor parts.new (settled (heard (verdict_as bytes verdict.now)) ++ told) }
+{
+    if let Ok(Some(_)) = verdict {
+        parts.clear();
+    }
+}
+
+// Hears a fragment.
+fn hear_part(
+    opening: &Commission,
+    last: Option<u32>,
+    parts: &mut Parts,
+    part: Part,
+    message: &mut Scratch,
+) -> Verdict
+    requires { part.afl.fid ≤ PARTS_MAX }
+    ensures verdict { (told : List Told) → StandsFor parts.old told → verdict_as message.new result ≡ judged opening.now last (Ok (assembled (held (Piece part ∷ told)))) }
+    ensures parts { (told : List Told) → StandsFor parts.old told → StandsFor parts.new (settled (heard (verdict_as message.new result)) ++ Piece part ∷ told) }
+    ensures fits { VerdictFits opening.now.mode message.new (held_bytes parts.old + length part.bytes) result }
+{
+    parts.hold(part);
+    let auth = parts.whole(message);
+    let verdict = judge(opening, last, auth, message);
+    settle(parts, &verdict);
+    verdict
+}
+
+// Hears a whole message.
+fn hear_whole(
+    opening: &Commission,
+    last: Option<u32>,
+    auth: Auth,
+    bytes: &[u8],
+    message: &mut Scratch,
+) -> Verdict
+    requires { length bytes.now ≤ 256 }
+    ensures verdict { verdict_as message.new result ≡ judged opening.now last (Ok (Some (record { auth = auth; bytes = bytes.now }))) }
+    ensures fits { VerdictFits opening.now.mode message.new (length bytes.now) result }
+{
+    message.clear();
+    message.extend(bytes);
+    judge(opening, last, Some(auth), message)
+}
+
+// Hears what stands behind the layers.
+fn hear_content(
+    opening: &Commission,
+    last: Option<u32>,
+    parts: &mut Parts,
+    afl: Option<Afl>,
+    bytes: &[u8],
+    message: &mut Scratch,
+) -> Verdict
+    requires few { length bytes.now ≤ 256 }
+    requires piece { PieceFits afl bytes.now }
+    requires counted { IsCounted afl }
+    ensures verdict { (told : List Told) → StandsFor parts.old told → verdict_as message.new result ≡ judged opening.now last (Ok (message_in told (content_of afl bytes.now))) }
+    ensures parts { (told : List Told) → StandsFor parts.old told → StandsFor parts.new (told_by_content (content_of afl bytes.now) (heard (verdict_as message.new result)) ++ told) }
+    ensures fits { VerdictFits opening.now.mode message.new (held_bytes parts.old + length bytes.now) result }
+{
+    match afl {
+        Some(afl) if precedes_piece(afl) => {
+            hear_part(opening, last, parts, Part::new(afl, bytes), message)
+        }
+        afl => hear_whole(opening, last, auth_of(afl), bytes, message),
+    }
+}
+
+/// Hears a telegram: the message that is to be stored stands in `message` then.
+pub(crate) fn hear(
+    opening: &Commission,
+    last: Option<u32>,
+    parts: &mut Parts,
+    telegram: &Telegram,
+    message: &mut Scratch,
+) -> Verdict
+    ensures verdict { (told : List Told) → StandsFor parts.old told → verdict_as message.new result ≡ judged opening.now last (brought told telegram.now (received opening.now.mode telegram.now)) }
+    ensures parts { (told : List Told) → StandsFor parts.old told → StandsFor parts.new (told_by_received telegram.now (received opening.now.mode telegram.now) (heard (verdict_as message.new result)) ++ told) }
+    ensures fits { VerdictFits opening.now.mode message.new (held_bytes parts.old + length telegram.now) result }
+{
+    let layers = receive(opening.mode, telegram)?;
+    let bytes = bytes_behind(telegram, &layers);
+    hear_content(opening, last, parts, layers.afl, bytes, message)
+}

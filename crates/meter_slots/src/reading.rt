@@ -1,0 +1,45 @@
+//! What a meter's messages say.
+use std::marker::Model;
+
+/// Bytes that are kept.
+#[derive(Drop)]
+pub struct Bytes {
+    bytes: Vec<u8>,
+}
+
+impl Model for Bytes {
+    ghost use Rattle.std.specs.Prelude.{ℕ, List};
+
+    ghost Value = { List ℕ };
+
+    ghost view = { λ b. b.bytes.items };
+}
+
+impl Bytes {
+    ghost use Rattle.std.specs.Prelude.{◌≡◌};
+
+    // These bytes, kept.
+    pub(crate) fn from_vec(bytes: Vec<u8>) -> Bytes
+        ensures { result ≡ bytes.items }
+    {
+        Bytes { bytes }
+    }
+
+    /// The bytes.
+    pub fn bytes(&self) -> &[u8]
+        ensures { result.now ≡ self.now }
+    {
+        self.bytes.as_slice()
+    }
+}
+
+/// The reading of a stored message.
+#[derive(Drop)]
+pub struct Reading {
+    /// The moment at which it was heard, or at which its last fragment was, in the receiver's own unit.
+    pub at: u64,
+    /// The message counter in mode 7, the access number in mode 5.
+    pub counter: u32,
+    /// What the message says: its decrypted blocks and the plain rest (EN 13757-3 data records).
+    pub payload: Bytes,
+}
