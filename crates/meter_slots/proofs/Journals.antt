@@ -9,6 +9,14 @@ use Rattle.meter_address.specs.declared.address.Address.{Address}
 use Rattle.meter_address.specs.declared.commission.Mode.{Mode}
 use Rattle.meter_address.specs.declared.commission.Mode.TheVariants.{Five, Seven}
 use Rattle.meter_address.specs.Commission.{Commissioned, most_last}
+use Rattle.ell_layer.specs.declared.access.Access.{Access}
+use Rattle.command_queue.specs.declared.command.Command.{Command}
+use Rattle.command_queue.specs.declared.command.NoSuch.{NoSuch}
+use Rattle.command_queue.specs.declared.command.QueueFault.{QueueFault}
+use Rattle.command_queue.specs.declared.command.QueueFault.TheVariants.{Full, IdsSpent}
+use Rattle.command_queue.specs.Pending.{put_answer, take_answer}
+use Rattle.access_window.specs.Orders.{Orders}
+use Rattle.access_window.specs.Moves.{opening}
 use Rattle.afl_fragments.specs.declared.places.HeldPart.{HeldPart}
 use Rattle.afl_fragments.specs.Held.{Told, Message, StandsFor, held, held_bytes}
 use Rattle.message_check.specs.Steps.{◌>>=◌}
@@ -18,12 +26,12 @@ use Rattle.message_check.specs.declared.refusal.Reason.{Reason}
 use Rattle.message_check.specs.declared.refusal.Reason.TheVariants.{Stale, SameAccess}
 use Rattle.meter_slots.specs.declared.entry.Entry.{Entry}
 use Rattle.meter_slots.specs.declared.entry.Event.{Event}
-use Rattle.meter_slots.specs.declared.entry.Event.TheVariants.{Hear, Tick}
+use Rattle.meter_slots.specs.declared.entry.Event.TheVariants.{Hear, Tick, Put, Cancel}
 use Rattle.meter_slots.specs.declared.entry.Outcome.{Outcome}
-use Rattle.meter_slots.specs.declared.entry.Outcome.TheVariants.{Stored, PartKept, Ticked, Refused}
+use Rattle.meter_slots.specs.declared.entry.Outcome.TheVariants.{Stored, PartKept, Ticked, Queued, Cancelled, Refused}
 use Rattle.meter_slots.specs.declared.reading.Reading.{Reading}
 use Rattle.meter_slots.specs.Hearing.{received, brought}
-use Rattle.meter_slots.specs.Journal.{told, told_by, opened_in, compared, genuine_in, genuine, counters, greater, greatest, last_of, last_counter, standing, stored_or_refused, judged, verdict, heard, answer, outcome, stored, reading_of, readings_back, readings}
+use Rattle.meter_slots.specs.Journal.{told, told_by, opened_in, compared, genuine_in, genuine, counters, greater, greatest, last_of, last_counter, Standing, standing, stored_or_refused, judged, verdict, access_at, orders_after, orders, heard, queued, cancelled, answer, outcome, stored, reading_of, readings_back, readings}
 use Rattle.meter_slots.specs.Keeping.{Keeps, last_after, FitsMode, room_behind, room_for, OpenedFits, OpenedHasRoom}
 
 -- ---- the last number
@@ -80,18 +88,29 @@ judged_last c (Err reason) ns floor = refl
 judged_last c (Ok None) ns floor = refl
 judged_last c (Ok (Some m)) ns floor = opened_last c.mode (opened_in c.mode c m) ns floor
 
-heard_last : (last : Option ℕ) (v : Result (Option Found) Reason) → last_by last v ≡ last_after last (heard v)
-heard_last last (Err reason) = refl
-heard_last last (Ok None) = refl
-heard_last last (Ok (Some f)) = refl
+heard_last : (k : Orders) (access : Access) (response : Bool) (last : Option ℕ) (v : Result (Option Found) Reason) → last_by last v ≡ last_after last (heard k access response v)
+heard_last k access response last (Err reason) = refl
+heard_last k access response last (Ok None) = refl
+heard_last k access response last (Ok (Some f)) = refl
+
+queued_last : (last : Option ℕ) (r : Result ℕ QueueFault) → last ≡ last_after last (queued r)
+queued_last last (Ok id) = refl
+queued_last last (Err Full) = refl
+queued_last last (Err IdsSpent) = refl
+
+cancelled_last : (last : Option ℕ) (id : ℕ) (r : Result Command NoSuch) → last ≡ last_after last (cancelled id r)
+cancelled_last last id (Ok command) = refl
+cancelled_last last id (Err missing) = refl
 
 answer_last : (c : Commissioned) (earlier : List Entry) (event : Event) → last_of c.mode ((counter_in (genuine c earlier event) ++ counters c earlier) ++ option_to_list c.last)
     ≡ last_after (last_counter c earlier) (answer c (standing c earlier) event)
 unfolding last_counter
 answer_last c earlier (Hear format at t) =
     judged_last c (brought (told c earlier) t (received c.mode t)) (counters c earlier) (option_to_list c.last)
-    ∙ heard_last (last_counter c earlier) (verdict c (standing c earlier) t)
+    ∙ heard_last (orders c earlier) _ _ (last_counter c earlier) (verdict c (last_counter c earlier) (told c earlier) t)
 answer_last c earlier Tick = refl
+answer_last c earlier (Put payload) = queued_last (last_counter c earlier) (put_answer (orders c earlier).queue)
+answer_last c earlier (Cancel id) = cancelled_last (last_counter c earlier) id (take_answer id (orders c earlier).queue)
 
 -- the last number after one more entry
 pub last_counter-cons : (c : Commissioned) (own : Address) (earlier : List Entry) (x : Entry) → x.outcome ≡ outcome c own earlier x.event
@@ -100,9 +119,11 @@ unfolding last_counter outcome
 last_counter-cons c own earlier x h = answer_last c earlier x.event ∙ ap (last_after (last_counter c earlier)) (sym h)
 
 pub last_after_fits : (mode : Mode) (last : Option ℕ) (o : Outcome) → ForSome last (λ n. n ≤ most_last mode) → FitsMode mode o → ForSome (last_after last o) (λ n. n ≤ most_last mode)
-last_after_fits mode last (Stored counter) h f = λ n e. let same : counter ≡ n = cc e in rw (sym same) f
+last_after_fits mode last (Stored counter confirmed sent) h f = λ n e. let same : counter ≡ n = cc e in rw (sym same) f
 last_after_fits mode last PartKept h f = h
-last_after_fits mode last Ticked h f = h
+last_after_fits mode last (Ticked expired) h f = h
+last_after_fits mode last (Queued id) h f = h
+last_after_fits mode last (Cancelled id) h f = h
 last_after_fits mode last (Refused reason) h f = h
 
 -- ---- a journal and one more entry
@@ -115,7 +136,7 @@ told-cons : (c : Commissioned) (earlier : List Entry) (x : Entry) → told c (x 
 unfolding told
 told-cons c earlier x = refl
 
-pub readings-append : (c : Commissioned) (journal : List Entry) (x : Entry) → readings c (journal ++ x ∷ []) ≡ readings c journal ++ reading_of x.event (stored c (standing c (reverse journal)) x.event)
+pub readings-append : (c : Commissioned) (journal : List Entry) (x : Entry) → readings c (journal ++ x ∷ []) ≡ readings c journal ++ reading_of x.event (stored c (last_counter c (reverse journal)) (told c (reverse journal)) x.event)
 unfolding readings
 readings-append c journal x = ap (readings_back c) (back journal x)
 
@@ -127,35 +148,48 @@ floor_last Seven (Some n) = refl
 
 -- ---- what is kept
 
-pub empty_kept : (c : Commissioned) (own : Address) (parts : List HeldPart) → ForSome c.last (λ n. n ≤ most_last c.mode) → StandsFor parts [] → Keeps c own [] c.last parts []
+pub empty_kept : (c : Commissioned) (own : Address) (parts : List HeldPart) → ForSome c.last (λ n. n ≤ most_last c.mode) → StandsFor parts [] → Keeps c own [] c.last parts (opening c.ids c.down) []
 unfolding last_counter readings told
-empty_kept c own parts fits h = record { legal = tt; last_is = floor_last c.mode c.last; last_fits = fits; parts_are = h; kept_is = refl }
+empty_kept c own parts fits h = record { legal = tt; last_is = floor_last c.mode c.last; last_fits = fits; parts_are = h; commands_are = refl; kept_is = refl }
+
+-- what is kept is what the entries come to
+kept_standing : (c : Commissioned) (own : Address) (journal : List Entry) (last : Option ℕ) (parts : List HeldPart) (commands : Orders) (kept : List Reading)
+    → Keeps c own journal last parts commands kept → record { last = last; told = told c (reverse journal); orders = commands } ≡ standing c (reverse journal)
+kept_standing c own journal last parts commands kept k =
+    let earlier = reverse journal in
+    ap (λ l. record { last = l; told = told c earlier; orders = commands }) k.last_is
+    ∙ ap (λ o. record { last = last_counter c earlier; told = told c earlier; orders = o }) k.commands_are
 
 -- what the kept state answers is what the journal answers
-pub answer_kept : (c : Commissioned) (own : Address) (journal : List Entry) (last : Option ℕ) (parts : List HeldPart) (kept : List Reading) (event : Event) (given : Outcome)
-    → Keeps c own journal last parts kept
-    → ((t : List Told) → StandsFor parts t → given ≡ answer c (record { last = last; told = t }) event)
+pub answer_kept : (c : Commissioned) (own : Address) (journal : List Entry) (last : Option ℕ) (parts : List HeldPart) (commands : Orders) (kept : List Reading) (event : Event) (given : Outcome)
+    → Keeps c own journal last parts commands kept
+    → ((t : List Told) → StandsFor parts t → given ≡ answer c (record { last = last; told = t; orders = commands }) event)
     → given ≡ outcome c own (reverse journal) event
 unfolding outcome
-answer_kept c own journal last parts kept event given k answered =
-    answered (told c (reverse journal)) k.parts_are ∙ ap (λ l. answer c (record { last = l; told = told c (reverse journal) }) event) k.last_is
+answer_kept c own journal last parts commands kept event given k answered =
+    answered (told c (reverse journal)) k.parts_are ∙ ap (λ (s : Standing). answer c s event) (kept_standing c own journal last parts commands kept k)
 
 -- what is kept after one more entry
-pub kept_after : (c : Commissioned) (own : Address) (journal : List Entry) (last : Option ℕ) (parts : List HeldPart) (kept : List Reading) (x : Entry) (found : Option Found) (after : List HeldPart)
-    → Keeps c own journal last parts kept
+pub kept_after : (c : Commissioned) (own : Address) (journal : List Entry) (last : Option ℕ) (parts : List HeldPart) (commands : Orders) (kept : List Reading) (x : Entry) (found : Option Found) (parts' : List HeldPart) (commands' : Orders)
+    → Keeps c own journal last parts commands kept
     → x.outcome ≡ outcome c own (reverse journal) x.event
     → FitsMode c.mode x.outcome
-    → ((t : List Told) → StandsFor parts t → found ≡ stored c (record { last = last; told = t }) x.event)
-    → ((t : List Told) → StandsFor parts t → StandsFor after (told_by c x.event x.outcome ++ t))
-    → Keeps c own (journal ++ x ∷ []) (last_after last x.outcome) after (kept ++ reading_of x.event found)
-kept_after c own journal last parts kept x found after k h fits finds tells =
+    → ((t : List Told) → StandsFor parts t → found ≡ stored c last t x.event)
+    → ((t : List Told) → StandsFor parts t → StandsFor parts' (told_by c x.event x.outcome ++ t))
+    → ((t : List Told) → StandsFor parts t → commands' ≡ orders_after commands (access_at c last t x.event) x.event x.outcome)
+    → Keeps c own (journal ++ x ∷ []) (last_after last x.outcome) parts' commands' (kept ++ reading_of x.event found)
+kept_after c own journal last parts commands kept x found parts' commands' k h fits finds tells moves =
     let earlier = reverse journal in
+    let fragments = told c earlier in
     record {
       legal = rw (back journal x) (h, k.legal);
       last_is = rw (back journal x, last_counter-cons c own earlier x h) (ap (λ l. last_after l x.outcome) k.last_is);
       last_fits = last_after_fits c.mode last x.outcome k.last_fits fits;
-      parts_are = rw (back journal x, told-cons c earlier x) (tells (told c earlier) k.parts_are);
+      parts_are = rw (back journal x, told-cons c earlier x) (tells fragments k.parts_are);
+      commands_are = rw (back journal x) (moves fragments k.parts_are
+          ∙ ap (λ o. orders_after o (access_at c last fragments x.event) x.event x.outcome) k.commands_are
+          ∙ ap (λ l. orders_after (orders c earlier) (access_at c l fragments x.event) x.event x.outcome) k.last_is);
       kept_is = rw (readings-append c journal x) (ap (λ rs. rs ++ reading_of x.event found) k.kept_is
-          ∙ ap (λ f. readings c journal ++ reading_of x.event f) (finds (told c earlier) k.parts_are
-          ∙ ap (λ l. stored c (record { last = l; told = told c earlier }) x.event) k.last_is));
+          ∙ ap (λ f. readings c journal ++ reading_of x.event f) (finds fragments k.parts_are
+          ∙ ap (λ l. stored c l fragments x.event) k.last_is));
     }

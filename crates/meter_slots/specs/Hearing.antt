@@ -18,6 +18,10 @@ use Rattle.message_check.specs.declared.refusal.Reason.TheVariants.{NotUplink, B
 abbrev pub is_uplink : ℕ → Bool
 is_uplink c = c == 0x44 || c == 0x46 || c == 0x47 || c == 0x48 || c == 0x08 || c == 0x18 || c == 0x28 || c == 0x38
 
+-- the C fields of responses: the four of RSP-UD
+abbrev pub is_response : ℕ → Bool
+is_response c = c == 0x08 || c == 0x18 || c == 0x28 || c == 0x38
+
 -- ---- the first refusals, in their order
 
 -- another C field

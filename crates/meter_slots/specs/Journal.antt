@@ -1,44 +1,59 @@
 -- What a slot's journal means. Of a list of entries here the latest stands first, so that the tail of a list is what came before its head.
-use Rattle.std.specs.Prelude.{ℕ, ◌≡◌, max, List, [], ◌∷◌, ◌++◌, reverse, Option, Some, None, option_to_list, option_map, Result, Ok, Err}
+use Rattle.std.specs.Prelude.{ℕ, ◌≡◌, max, Bool, List, [], ◌∷◌, ◌++◌, reverse, slice_index, Option, Some, None, option_to_list, option_map, Result, Ok, Err}
 use Rattle.std.specs.List.{flat_map}
 use Rattle.std.specs.Result.{result_ok}
 use Rattle.meter_address.specs.declared.address.Address.{Address}
 use Rattle.meter_address.specs.declared.commission.Mode.{Mode}
 use Rattle.meter_address.specs.declared.commission.Mode.TheVariants.{Five, Seven}
 use Rattle.meter_address.specs.Commission.{Commissioned}
+use Rattle.ell_layer.specs.declared.access.Access.{Access}
+use Rattle.ell_layer.specs.declared.access.Access.TheVariants as access
+use Rattle.ell_layer.specs.declared.extension.Ell.{Ell}
+use Rattle.command_queue.specs.declared.command.Command.{Command}
+use Rattle.command_queue.specs.declared.command.NoSuch.{NoSuch as Missing}
+use Rattle.command_queue.specs.declared.command.QueueFault.{QueueFault}
+use Rattle.command_queue.specs.declared.command.QueueFault.TheVariants as queue
+use Rattle.command_queue.specs.Pending.{put_answer, take_answer}
+use Rattle.access_window.specs.Orders.{Orders, after_put, after_cancel, expired, after_tick, confirmed, sent_at, after_stored}
+use Rattle.access_window.specs.Moves.{opening}
 use Rattle.afl_fragments.specs.Held.{Told, Piece, Clear, Message}
 use Rattle.afl_fragments.specs.Held as fragments
 use Rattle.message_check.specs.Steps.{◌>>=◌}
 use Rattle.message_check.specs.Opening.{Found, opened5, opened7, compared5, compared7}
 use Rattle.message_check.specs.declared.headers.Layers.{Layers}
 use Rattle.message_check.specs.declared.refusal.Reason.{Reason}
-use Rattle.meter_slots.specs.Hearing.{Content, Whole, Part, content_behind, received, brought}
+use Rattle.message_check.specs.declared.refusal.Reason.TheVariants.{QueueFull, IdsSpent, NoSuch}
+use Rattle.meter_slots.specs.Hearing.{Content, Whole, Part, content_behind, is_response, received, brought}
 use Rattle.meter_slots.specs.declared.entry.Entry.{Entry}
 use Rattle.meter_slots.specs.declared.entry.Event.{Event}
-use Rattle.meter_slots.specs.declared.entry.Event.TheVariants.{Hear, Tick}
+use Rattle.meter_slots.specs.declared.entry.Event.TheVariants.{Hear, Tick, Put, Cancel}
 use Rattle.meter_slots.specs.declared.entry.Outcome.{Outcome}
-use Rattle.meter_slots.specs.declared.entry.Outcome.TheVariants.{Stored, PartKept, Ticked, Refused}
+use Rattle.meter_slots.specs.declared.entry.Outcome.TheVariants.{Stored, PartKept, Ticked, Queued, Cancelled, Refused}
+use Rattle.meter_slots.specs.declared.entry.Sent.{Sent}
 use Rattle.meter_slots.specs.declared.reading.Reading.{Reading}
 
 -- ---- fragments
 
 -- once a message that fragments made is stored, they are given up
 abbrev pub settled : Outcome → List Told
-settled (Stored counter) = Clear ∷ []
+settled (Stored counter confirmed sent) = Clear ∷ []
 settled _ = []
 
-abbrev pub told_by_content : Content → Outcome → List Told
-told_by_content (Whole message) outcome = []
-told_by_content (Part part) outcome = settled outcome ++ Piece part ∷ []
+-- what comes of content, after which these were told
+abbrev pub told_with : Content → List Told → List Told
+told_with (Whole message) later = []
+told_with (Part part) later = later ++ Piece part ∷ []
 
-abbrev pub told_by_received : List ℕ → Result Layers Reason → Outcome → List Told
-told_by_received t (Err reason) outcome = []
-told_by_received t (Ok l) outcome = told_by_content (content_behind t l) outcome
+abbrev pub told_by_received : List ℕ → Result Layers Reason → List Told → List Told
+told_by_received t (Err reason) later = []
+told_by_received t (Ok l) later = told_with (content_behind t l) later
 
--- what an entry tells of fragments: a fragment that isn't refused before it is looked at, a tick, the storing of what they made
+-- what an entry tells of fragments: a fragment that isn't refused before it is looked at, the storing of what fragments made, a tick
 abbrev pub told_by : Commissioned → Event → Outcome → List Told
-told_by c (Hear format at t) outcome = told_by_received t (received c.mode t) outcome
+told_by c (Hear format at t) outcome = told_by_received t (received c.mode t) (settled outcome)
 told_by c Tick outcome = fragments.Tick ∷ []
+told_by c (Put payload) outcome = []
+told_by c (Cancel id) outcome = []
 
 unfoldable pub told : Commissioned → List Entry → List Told
 told c earlier = flat_map (λ x. told_by c x.event x.outcome) earlier
@@ -62,7 +77,7 @@ genuine_in c _ = None
 -- what a telegram's message says, where it brings one that is checked (mode 5) or genuine (mode 7)
 abbrev pub genuine : Commissioned → List Entry → Event → Option Found
 genuine c earlier (Hear format at t) = genuine_in c (brought (told c earlier) t (received c.mode t))
-genuine c earlier Tick = None
+genuine c earlier _ = None
 
 -- the counters (mode 7) or access numbers (mode 5) of all genuine messages, stored or not
 abbrev pub counters : Commissioned → List Entry → List ℕ
@@ -92,15 +107,7 @@ last_of Seven ns = greatest ns
 unfoldable pub last_counter : Commissioned → List Entry → Option ℕ
 last_counter c earlier = last_of c.mode (counters c earlier ++ option_to_list c.last)
 
--- ---- outcomes
-
--- what some entries come to: the last number, and what was told of fragments
-pub record Standing : Type 0 where
-  pub last : Option ℕ
-  pub told : List Told
-
-abbrev pub standing : Commissioned → List Entry → Standing
-standing c earlier = record { last = last_counter c earlier; told = told c earlier }
+-- ---- verdicts
 
 abbrev pub stored_or_refused : Result Found Reason → Result (Option Found) Reason
 stored_or_refused (Ok f) = Ok (Some f)
@@ -116,18 +123,80 @@ judged c last (Err reason) = Err reason
 judged c last (Ok None) = Ok None
 judged c last (Ok (Some m)) = stored_or_refused (judged_in c.mode c last m)
 
-abbrev pub verdict : Commissioned → Standing → List ℕ → Result (Option Found) Reason
-verdict c s t = judged c s.last (brought s.told t (received c.mode t))
+-- the same of a telegram, with the last number and what was told of fragments
+abbrev pub verdict : Commissioned → Option ℕ → List Told → List ℕ → Result (Option Found) Reason
+verdict c last told t = judged c last (brought told t (received c.mode t))
 
-abbrev pub heard : Result (Option Found) Reason → Outcome
-heard (Err reason) = Refused reason
-heard (Ok None) = PartKept
-heard (Ok (Some f)) = Stored f.counter
+-- ---- commands
+
+-- when the meter listens: as the extended link layer says, where there is one; else as the message says
+abbrev pub access_by : Option Ell → Access → Access
+access_by None access = access
+access_by (Some e) access = e.access
+
+-- the same of a telegram whose message is stored
+abbrev pub access_of : Result Layers Reason → Result (Option Found) Reason → Access
+access_of (Ok l) (Ok (Some f)) = access_by l.ell f.access
+access_of _ _ = access.None
+
+abbrev pub access_at : Commissioned → Option ℕ → List Told → Event → Access
+access_at c last told (Hear format at t) = access_of (received c.mode t) (verdict c last told t)
+access_at c last told _ = access.None
+
+-- a stored message moves the commands
+abbrev pub orders_heard : Orders → Access → Bool → Outcome → Orders
+orders_heard k access response (Stored counter confirmed sent) = after_stored k access response
+orders_heard k access response _ = k
+
+-- how an entry moves the commands
+abbrev pub orders_after : Orders → Access → Event → Outcome → Orders
+orders_after k access (Hear format at t) outcome = orders_heard k access (is_response (slice_index t 1)) outcome
+orders_after k access Tick outcome = after_tick k
+orders_after k access (Put payload) outcome = after_put k payload
+orders_after k access (Cancel id) outcome = after_cancel k id
+
+-- the commands that wait, the window, and the last counter of a downlink
+abbrev pub orders : Commissioned → List Entry → Orders
+orders c [] = opening c.ids c.down
+orders c (x ∷ earlier) = orders_after (orders c earlier) (access_at c (last_counter c earlier) (told c earlier) x.event) x.event x.outcome
+
+-- ---- outcomes
+
+-- what some entries come to: the last number, what was told of fragments, and the commands
+pub record Standing : Type 0 where
+  pub last : Option ℕ
+  pub told : List Told
+  pub orders : Orders
+
+abbrev pub standing : Commissioned → List Entry → Standing
+standing c earlier = record { last = last_counter c earlier; told = told c earlier; orders = orders c earlier }
+
+-- a command is sent with this counter
+abbrev pub sent_with : ℕ → Command → Sent
+sent_with down command = record { id = command.id; down = down }
+
+-- what is answered to a verdict: a stored message may confirm a command, and one may be sent, with the counter that follows
+abbrev pub heard : Orders → Access → Bool → Result (Option Found) Reason → Outcome
+heard k access response (Err reason) = Refused reason
+heard k access response (Ok None) = PartKept
+heard k access response (Ok (Some f)) =
+    Stored f.counter (confirmed k response) (option_map (sent_with (after_stored k access response).down) (sent_at k access response))
+
+abbrev pub queued : Result ℕ QueueFault → Outcome
+queued (Ok id) = Queued id
+queued (Err queue.Full) = Refused QueueFull
+queued (Err queue.IdsSpent) = Refused IdsSpent
+
+abbrev pub cancelled : ℕ → Result Command Missing → Outcome
+cancelled id (Ok command) = Cancelled id
+cancelled id (Err missing) = Refused (NoSuch id)
 
 -- what an event is answered
 abbrev pub answer : Commissioned → Standing → Event → Outcome
-answer c s (Hear format at t) = heard (verdict c s t)
-answer c s Tick = Ticked
+answer c s (Hear format at t) = heard s.orders (access_at c s.last s.told (Hear format at t)) (is_response (slice_index t 1)) (verdict c s.last s.told t)
+answer c s Tick = Ticked (expired s.orders)
+answer c s (Put payload) = queued (put_answer s.orders.queue)
+answer c s (Cancel id) = cancelled id (take_answer id s.orders.queue)
 
 -- what an event is answered after the earlier entries
 unfoldable pub outcome : Commissioned → Address → List Entry → Event → Outcome
@@ -149,9 +218,9 @@ stored_in (Ok found) = found
 stored_in (Err reason) = None
 
 -- what an event stores
-abbrev pub stored : Commissioned → Standing → Event → Option Found
-stored c s (Hear format at t) = stored_in (verdict c s t)
-stored c s Tick = None
+abbrev pub stored : Commissioned → Option ℕ → List Told → Event → Option Found
+stored c last told (Hear format at t) = stored_in (verdict c last told t)
+stored c last told _ = None
 
 -- the reading of what is stored: its moment, its counter and its payload
 abbrev pub reading_at : ℕ → Option Found → List Reading
@@ -160,11 +229,11 @@ reading_at at (Some f) = record { at = at; counter = f.counter; payload = f.payl
 
 abbrev pub reading_of : Event → Option Found → List Reading
 reading_of (Hear format at t) found = reading_at at found
-reading_of Tick found = []
+reading_of _ found = []
 
 abbrev pub readings_back : Commissioned → List Entry → List Reading
 readings_back c [] = []
-readings_back c (x ∷ earlier) = readings_back c earlier ++ reading_of x.event (stored c (standing c earlier) x.event)
+readings_back c (x ∷ earlier) = readings_back c earlier ++ reading_of x.event (stored c (last_counter c earlier) (told c earlier) x.event)
 
 -- the readings of a journal, the oldest first
 unfoldable pub readings : Commissioned → List Entry → List Reading

@@ -1,43 +1,50 @@
 -- Words of private contracts: what a slot keeps beside its journal, and what its steps answer.
-use Rattle.std.specs.Prelude.{ℕ, ◌≡◌, ◌+◌, ◌≤◌, min, true, List, [], ◌++◌, length, reverse, Option, Some, None, option_map, Result, Ok, Err}
+use Rattle.std.specs.Prelude.{ℕ, ◌≡◌, ◌+◌, ◌≤◌, min, true, List, [], ◌∷◌, length, reverse, Option, Some, None, option_map, Result, Ok, Err}
 use Rattle.std.specs.Option.{ForSome}
 use Rattle.meter_address.specs.declared.address.Address.{Address}
 use Rattle.meter_address.specs.declared.commission.Mode.{Mode}
 use Rattle.meter_address.specs.Commission.{Commissioned, most_last}
 use Rattle.afl_layer.specs.declared.header.Afl.{Afl}
 use Rattle.afl_layer.specs.declared.header.Auth.{Auth}
+use Rattle.access_window.specs.Orders.{Orders}
 use Rattle.afl_fragments.specs.declared.places.HeldPart.{HeldPart}
 use Rattle.afl_fragments.specs.Fragment.{is_fragment, IsFragment}
-use Rattle.afl_fragments.specs.Held.{StandsFor, Message, held_bytes}
+use Rattle.afl_fragments.specs.Held.{Told, Clear, StandsFor, Message, held_bytes}
 use Rattle.message_check.specs.Opening.{Found}
 use Rattle.message_check.specs.Answers.{found_in}
 use Rattle.message_check.specs.declared.opening.Opened.{Opened}
 use Rattle.message_check.specs.declared.refusal.Reason.{Reason}
-use Rattle.meter_slots.specs.Journal.{Legal, last_counter, told, readings}
+use Rattle.meter_slots.specs.Journal.{Legal, last_counter, told, orders, readings}
 use Rattle.meter_slots.specs.declared.entry.Entry.{Entry}
 use Rattle.meter_slots.specs.declared.entry.Event.{Event}
-use Rattle.meter_slots.specs.declared.entry.Event.TheVariants.{Hear, Tick}
+use Rattle.meter_slots.specs.declared.entry.Event.TheVariants.{Hear}
 use Rattle.meter_slots.specs.declared.entry.Outcome.{Outcome}
 use Rattle.meter_slots.specs.declared.entry.Outcome.TheVariants.{Stored}
 use Rattle.meter_slots.specs.declared.reading.Reading.{Reading}
 
 -- what a slot keeps is what its journal comes to
-pub record Keeps (c : Commissioned) (own : Address) (journal : List Entry) (last : Option ℕ) (parts : List HeldPart) (kept : List Reading) : Type 0 where
+pub record Keeps (c : Commissioned) (own : Address) (journal : List Entry) (last : Option ℕ) (parts : List HeldPart) (commands : Orders) (kept : List Reading) : Type 0 where
   pub legal : Legal c own journal
   pub last_is : last ≡ last_counter c (reverse journal)
   pub last_fits : ForSome last (λ n. n ≤ most_last c.mode)
   pub parts_are : StandsFor parts (told c (reverse journal))
+  pub commands_are : commands ≡ orders c (reverse journal)
   pub kept_is : kept ≡ readings c journal
 
 -- the last number after an outcome
 abbrev pub last_after : Option ℕ → Outcome → Option ℕ
-last_after last (Stored counter) = Some counter
+last_after last (Stored counter confirmed sent) = Some counter
 last_after last _ = last
 
 -- what is stored is a number of the meter's mode
 abbrev pub FitsMode : Mode → Outcome → Type 0
-FitsMode mode (Stored counter) = counter ≤ most_last mode
+FitsMode mode (Stored counter confirmed sent) = counter ≤ most_last mode
 FitsMode mode _ = Unit {0}
+
+-- once a message that fragments made is stored, they are given up
+abbrev pub settled_by : Result (Option Found) Reason → List Told
+settled_by (Ok (Some f)) = Clear ∷ []
+settled_by _ = []
 
 -- a fragment's header has a number, and its piece fits into a fragment
 pub record IsPiece (a : Afl) (bytes : List ℕ) : Type 0 where
@@ -68,12 +75,12 @@ verdict_as bytes (Err reason) = Err reason
 -- how many bytes an event brings at most, with those of the fragments that are held
 abbrev pub room_behind : Event → List HeldPart → ℕ
 room_behind (Hear format at t) parts = held_bytes parts + length t
-room_behind Tick parts = 0
+room_behind _ parts = 0
 
 -- so much room is enough for the payload of what an event stores, since a message has at most 4,096 bytes
 abbrev pub room_for : Event → List HeldPart → ℕ
 room_for (Hear format at t) parts = min (held_bytes parts) 4096 + length t
-room_for Tick parts = 0
+room_for _ parts = 0
 
 -- what is opened stands in the buffer, is a number of the meter's mode, and has no more bytes than the room
 abbrev pub OpenedFits : Mode → List ℕ → ℕ → Option Opened → Type 0

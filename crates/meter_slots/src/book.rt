@@ -2,14 +2,17 @@
 ghost use Rattle.std.specs.Prelude.{◌≡◌, ◌≤◌, ◌<◌, ◌++◌, ◌∷◌, [], ℕ, List, length, min, drop, take, vec_len, vec_capacity};
 ghost use Rattle.meter_address.specs.Commission.{most_last};
 ghost use Rattle.afl_fragments.specs.Held.{Told, StandsFor, held_bytes};
-ghost use Rattle.meter_slots.specs.Journal.{answer, stored, told_by, reading_of, reading_at};
+ghost use Rattle.meter_slots.specs.Journal.{answer, stored, told_by, access_at, orders_after, reading_of};
 ghost use Rattle.meter_slots.specs.Keeping.{last_after, FitsMode, found_as, room_for, room_behind, OpenedFits, OpenedHasRoom};
 
+use crate::commands::Commands;
 use crate::entry::{Entry, Event, Outcome};
-use crate::hearing::{answer_to, hear};
+use crate::hearing::{has_response_control, hear};
 use crate::reading::{Bytes, Reading};
+use access_window::Window;
 use afl_fragments::Parts;
 use afl_layer::{SCRATCH_MAX, Scratch};
+use command_queue::Queue;
 use message_check::Opened;
 use meter_address::{Address, Commission};
 use outer_io::Memory;
@@ -24,6 +27,7 @@ pub struct SlotBook {
     opening: Commission,
     last: Option<u32>,
     parts: Parts,
+    commands: Commands,
     entries: Vec<Entry>,
     readings: Vec<Reading>,
 }
@@ -36,7 +40,7 @@ impl Model for SlotBook {
 
     ghost view = { λ b. record { own = b.own; commission = b.opening; journal = b.entries.items } };
 
-    ghost invariant = { λ b. Keeps b.opening b.own b.entries.items b.last b.parts b.readings.items };
+    ghost invariant = { λ b. Keeps b.opening b.own b.entries.items b.last b.parts b.commands b.readings.items };
 }
 
 // What an event is answered, and the message that is stored with it.
@@ -54,7 +58,17 @@ fn room_needed(parts: &Parts, event: &Event) -> usize
         Event::Hear { telegram, .. } => {
             parts.held_bytes().min(SCRATCH_MAX) + telegram.bytes().len()
         }
-        Event::Tick => 0,
+        _ => 0,
+    }
+}
+
+// An answer with which nothing is stored.
+fn plain(outcome: Outcome) -> Served
+    ensures { result ≡ record { outcome = outcome; opened = None } }
+{
+    Served {
+        outcome,
+        opened: None,
     }
 }
 
@@ -63,30 +77,32 @@ fn serve(
     opening: &Commission,
     last: Option<u32>,
     parts: &mut Parts,
+    commands: &mut Commands,
     event: &Event,
     message: &mut Scratch,
 ) -> Served
-    ensures outcome { (told : List Told) → StandsFor parts.old told → result.outcome ≡ answer opening.now (record { last = last; told = told }) event.now }
-    ensures stored { (told : List Told) → StandsFor parts.old told → found_as message.new result.opened ≡ stored opening.now (record { last = last; told = told }) event.now }
+    ensures outcome { (told : List Told) → StandsFor parts.old told → result.outcome ≡ answer opening.now (record { last = last; told = told; orders = commands.old }) event.now }
+    ensures stored { (told : List Told) → StandsFor parts.old told → found_as message.new result.opened ≡ stored opening.now last told event.now }
     ensures parts { (told : List Told) → StandsFor parts.old told → StandsFor parts.new (told_by opening.now event.now result.outcome ++ told) }
+    ensures commands { (told : List Told) → StandsFor parts.old told → commands.new ≡ orders_after commands.old (access_at opening.now last told event.now) event.now result.outcome }
     ensures fits { OpenedFits opening.now.mode message.new (room_behind event.now parts.old) result.opened }
     ensures number { FitsMode opening.now.mode result.outcome }
 {
     match event {
         Event::Hear { telegram, .. } => {
-            let verdict = hear(opening, last, parts, telegram, message);
+            let heard = hear(opening, last, parts, telegram, message);
+            let response = has_response_control(telegram.control());
             Served {
-                outcome: answer_to(&verdict),
-                opened: verdict.unwrap_or(None),
+                outcome: commands.hear(&heard.verdict, heard.access, response),
+                opened: heard.verdict.unwrap_or(None),
             }
         }
         Event::Tick => {
             parts.tick();
-            Served {
-                outcome: Outcome::Ticked,
-                opened: None,
-            }
+            plain(commands.tick())
         }
+        Event::Put(payload) => plain(commands.put(payload)),
+        Event::Cancel(id) => plain(commands.cancel(*id)),
     }
 }
 
@@ -95,7 +111,7 @@ fn counted(last: Option<u32>, outcome: &Outcome) -> Option<u32>
     ensures { result ≡ last_after last outcome.now }
 {
     match outcome {
-        Outcome::Stored { counter } => Some(*counter),
+        Outcome::Stored { counter, .. } => Some(*counter),
         _ => last,
     }
 }
@@ -138,7 +154,7 @@ fn note(
 
 impl SlotBook {
     ghost use Rattle.std.specs.Prelude.{◌≡◌, [], ◌∷◌, ◌++◌, reverse, IfOk, OnErr, ℕ, List};
-    ghost use Rattle.meter_slots.specs.Journal.{Book, Legal, outcome, readings, last_counter};
+    ghost use Rattle.meter_slots.specs.Journal.{Book, Legal, outcome, readings, last_counter, orders};
 
     /// A slot with an empty journal.
     pub fn new(alloc: Global, own: Address, commission: Commission) -> Self
@@ -150,6 +166,7 @@ impl SlotBook {
             opening: commission,
             last: commission.last,
             parts: Parts::new(),
+            commands: Commands::new(commission.ids, commission.down),
             entries: Vec::new(alloc),
             readings: Vec::new(alloc),
         }
@@ -179,16 +196,31 @@ impl SlotBook {
 
     /// The commission as it would be written now.
     pub fn commission(&self) -> Commission
-        ensures { result ≡ record self.now.commission { last = last_counter self.now.commission (reverse self.now.journal) } }
+        ensures { let earlier = reverse self.now.journal in let k = orders self.now.commission earlier in
+            result ≡ record self.now.commission { last = last_counter self.now.commission earlier; down = k.down; ids = k.queue.ids } }
     {
         Commission {
             address: self.opening.address,
             mode: self.opening.mode,
             key: self.opening.key,
             last: self.last,
-            down: self.opening.down,
-            ids: self.opening.ids,
+            down: self.commands.down(),
+            ids: self.commands.queue().ids(),
         }
+    }
+
+    /// The commands that wait.
+    pub fn queue(&self) -> &Queue
+        ensures { result.now ≡ (orders self.now.commission (reverse self.now.journal)).queue }
+    {
+        self.commands.queue()
+    }
+
+    /// Whether a command was sent and waits for the meter's response.
+    pub fn window(&self) -> Window
+        ensures { result ≡ (orders self.now.commission (reverse self.now.journal)).window }
+    {
+        self.commands.window()
     }
 
     /// One step: what an event is answered, and its entry at the end of the journal. For want of memory nothing changes.
@@ -206,6 +238,7 @@ impl SlotBook {
             &self.opening,
             self.last,
             &mut self.parts,
+            &mut self.commands,
             &event,
             &mut message,
         );

@@ -5,13 +5,14 @@ ghost use Rattle.afl_fragments.specs.Fragment.{is_fragment};
 ghost use Rattle.afl_fragments.specs.Held.{Told, Piece, StandsFor, assembled, held, held_bytes};
 ghost use Rattle.message_check.specs.Answers.{found_in};
 ghost use Rattle.message_check.specs.Layers.{IsLayers, layers_of};
-ghost use Rattle.meter_slots.specs.Hearing.{is_uplink, uplink_passed, layers_passed, number_passed, fragment_passed, received, auth_in, content_of, message_in, brought};
-ghost use Rattle.meter_slots.specs.Journal.{settled, told_by_content, told_by_received, judged_in, judged, heard};
-ghost use Rattle.meter_slots.specs.Keeping.{IsCounted, PieceFits, message_as, verdict_as, VerdictFits};
+ghost use Rattle.message_check.specs.declared.headers.Layers.{Layers};
+ghost use Rattle.meter_slots.specs.Hearing.{is_uplink, is_response, uplink_passed, layers_passed, number_passed, fragment_passed, received, auth_in, content_of, message_in, brought};
+ghost use Rattle.meter_slots.specs.Journal.{told_with, told_by_received, access_of, judged_in, judged};
+ghost use Rattle.meter_slots.specs.Keeping.{IsCounted, PieceFits, settled_by, message_as, verdict_as, VerdictFits};
 
-use crate::entry::Outcome;
 use afl_fragments::{PARTS_MAX, Part, Parts};
 use afl_layer::{Afl, Auth, Scratch};
+use ell_layer::{Access, Ell};
 use frame_formats::Telegram;
 use message_check::{Layers, Opened, Reason, layers, open5, open7};
 use meter_address::{Commission, Mode};
@@ -27,6 +28,13 @@ fn has_uplink_control(control: u8) -> bool
         control,
         0x44 | 0x46 | 0x47 | 0x48 | 0x08 | 0x18 | 0x28 | 0x38
     )
+}
+
+/// Whether the C field is that of a response: RSP-UD.
+pub(crate) fn has_response_control(control: u8) -> bool
+    ensures { result ≡ is_response control }
+{
+    matches!(control, 0x08 | 0x18 | 0x28 | 0x38)
 }
 
 fn check_uplink(control: u8) -> Result<(), Reason>
@@ -174,22 +182,9 @@ fn judge(
     }
 }
 
-// What a verdict answers.
-pub(crate) fn answer_to(verdict: &Verdict) -> Outcome
-    ensures { (bytes : List ℕ) → result ≡ heard (verdict_as bytes verdict.now) }
-{
-    match verdict {
-        Err(reason) => Outcome::Refused(*reason),
-        Ok(None) => Outcome::PartKept,
-        Ok(Some(opened)) => Outcome::Stored {
-            counter: opened.counter,
-        },
-    }
-}
-
 // Gives the fragments up where their message is to be stored.
 fn settle(parts: &mut Parts, verdict: &Verdict)
-    ensures { (bytes : List ℕ) (told : List Told) → StandsFor parts.old told → StandsFor parts.new (settled (heard (verdict_as bytes verdict.now)) ++ told) }
+    ensures { (bytes : List ℕ) (told : List Told) → StandsFor parts.old told → StandsFor parts.new (settled_by (verdict_as bytes verdict.now) ++ told) }
 {
     if let Ok(Some(_)) = verdict {
         parts.clear();
@@ -206,7 +201,7 @@ fn hear_part(
 ) -> Verdict
     requires { part.afl.fid ≤ PARTS_MAX }
     ensures verdict { (told : List Told) → StandsFor parts.old told → verdict_as message.new result ≡ judged opening.now last (Ok (assembled (held (Piece part ∷ told)))) }
-    ensures parts { (told : List Told) → StandsFor parts.old told → StandsFor parts.new (settled (heard (verdict_as message.new result)) ++ Piece part ∷ told) }
+    ensures parts { (told : List Told) → StandsFor parts.old told → StandsFor parts.new (settled_by (verdict_as message.new result) ++ Piece part ∷ told) }
     ensures fits { VerdictFits opening.now.mode message.new (held_bytes parts.old + length part.bytes) result }
 {
     parts.hold(part);
@@ -246,7 +241,7 @@ fn hear_content(
     requires piece { PieceFits afl bytes.now }
     requires counted { IsCounted afl }
     ensures verdict { (told : List Told) → StandsFor parts.old told → verdict_as message.new result ≡ judged opening.now last (Ok (message_in told (content_of afl bytes.now))) }
-    ensures parts { (told : List Told) → StandsFor parts.old told → StandsFor parts.new (told_by_content (content_of afl bytes.now) (heard (verdict_as message.new result)) ++ told) }
+    ensures parts { (told : List Told) → StandsFor parts.old told → StandsFor parts.new (told_with (content_of afl bytes.now) (settled_by (verdict_as message.new result)) ++ told) }
     ensures fits { VerdictFits opening.now.mode message.new (held_bytes parts.old + length bytes.now) result }
 {
     match afl {
@@ -257,6 +252,24 @@ fn hear_content(
     }
 }
 
+// When the meter listens after its message: as the extended link layer says, where there is one.
+fn access_after(ell: Option<Ell>, verdict: &Verdict) -> Access
+    ensures { (bytes : List ℕ) (l : Layers) → l.ell ≡ ell → result ≡ access_of (Ok l) (verdict_as bytes verdict.now) }
+{
+    match (verdict, ell) {
+        (Ok(Some(opened)), None) => opened.access,
+        (Ok(Some(_)), Some(ell)) => ell.access,
+        _ => Access::None,
+    }
+}
+
+/// What was heard: the verdict, and when the meter listens after a message that is to be stored.
+#[derive(Clone, Copy)]
+pub(crate) struct Heard {
+    pub(crate) verdict: Verdict,
+    pub(crate) access: Access,
+}
+
 /// Hears a telegram: the message that is to be stored stands in `message` then.
 pub(crate) fn hear(
     opening: &Commission,
@@ -264,12 +277,24 @@ pub(crate) fn hear(
     parts: &mut Parts,
     telegram: &Telegram,
     message: &mut Scratch,
-) -> Verdict
-    ensures verdict { (told : List Told) → StandsFor parts.old told → verdict_as message.new result ≡ judged opening.now last (brought told telegram.now (received opening.now.mode telegram.now)) }
-    ensures parts { (told : List Told) → StandsFor parts.old told → StandsFor parts.new (told_by_received telegram.now (received opening.now.mode telegram.now) (heard (verdict_as message.new result)) ++ told) }
-    ensures fits { VerdictFits opening.now.mode message.new (held_bytes parts.old + length telegram.now) result }
+) -> Heard
+    ensures verdict { (told : List Told) → StandsFor parts.old told → verdict_as message.new result.verdict ≡ judged opening.now last (brought told telegram.now (received opening.now.mode telegram.now)) }
+    ensures access { result.access ≡ access_of (received opening.now.mode telegram.now) (verdict_as message.new result.verdict) }
+    ensures parts { (told : List Told) → StandsFor parts.old told → StandsFor parts.new (told_by_received telegram.now (received opening.now.mode telegram.now) (settled_by (verdict_as message.new result.verdict)) ++ told) }
+    ensures fits { VerdictFits opening.now.mode message.new (held_bytes parts.old + length telegram.now) result.verdict }
 {
-    let layers = receive(opening.mode, telegram)?;
-    let bytes = bytes_behind(telegram, &layers);
-    hear_content(opening, last, parts, layers.afl, bytes, message)
+    match receive(opening.mode, telegram) {
+        Err(reason) => Heard {
+            verdict: Err(reason),
+            access: Access::None,
+        },
+        Ok(layers) => {
+            let bytes = bytes_behind(telegram, &layers);
+            let verdict = hear_content(opening, last, parts, layers.afl, bytes, message);
+            Heard {
+                verdict,
+                access: access_after(layers.ell, &verdict),
+            }
+        }
+    }
 }

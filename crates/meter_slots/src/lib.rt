@@ -2,6 +2,7 @@
 #![tactic(auto)]
 
 mod book;
+mod commands;
 mod counts;
 mod directory;
 mod entry;
@@ -13,7 +14,7 @@ mod world;
 pub use book::SlotBook;
 pub use counts::{Counts, Ended};
 pub use directory::Directory;
-pub use entry::{Entry, Event, Format, Outcome};
+pub use entry::{Entry, Event, Format, Outcome, Sent};
 pub use message_check::{LayerFault, Reason};
 pub use reading::{Bytes, Reading};
 pub use step::{Landed, Step};

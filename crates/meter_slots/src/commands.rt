@@ -1,0 +1,139 @@
+//! The commands of a meter: the queue, the window, and the counter of the downlinks.
+ghost use Rattle.std.specs.Prelude.{◌≡◌, Option, IfSome, is_some, option_map};
+ghost use Rattle.command_queue.specs.declared.command.Command.{Command};
+ghost use Rattle.access_window.specs.Orders.{IsOldestAfterTry};
+ghost use Rattle.meter_slots.specs.Journal.{sent_with};
+
+use crate::entry::{Outcome, Sent};
+use crate::hearing::Verdict;
+use access_window::Window;
+use command_queue::{Queue, QueueFault};
+use ell_layer::Access;
+use message_check::Reason;
+use meter_address::Payload;
+use std::marker::Model;
+
+/// The commands that wait, the window in which one of them waits for a response, and the last counter of a downlink.
+#[derive(Drop)]
+pub(crate) struct Commands {
+    queue: Queue,
+    window: Window,
+    down: u32,
+}
+
+impl Model for Commands {
+    ghost use Rattle.access_window.specs.Orders.{Orders, orders_of, Agrees};
+
+    ghost Value = { Orders };
+
+    ghost view = { λ c. orders_of c.queue c.window c.down };
+
+    ghost invariant = { λ c. Agrees c.window c.queue };
+}
+
+// The command that is sent now: the oldest one.
+fn sent_now(queue: &Queue, send: bool, down: u32) -> Option<Sent>
+    ensures { (sent : Option Command) → send ≡ is_some sent → IfSome sent (IsOldestAfterTry queue.now) → result ≡ option_map (sent_with down) sent }
+{
+    if !send {
+        return None;
+    }
+    let oldest = queue.at(0)?;
+    Some(Sent {
+        id: oldest.id,
+        down,
+    })
+}
+
+impl Commands {
+    ghost use Rattle.std.specs.Prelude.{◌≡◌, ℕ, List, option_map};
+    ghost use Rattle.command_queue.specs.Pending.{put_answer, take_answer};
+    ghost use Rattle.access_window.specs.Orders.{after_put, after_cancel, expired, after_tick};
+    ghost use Rattle.access_window.specs.Moves.{opening};
+    ghost use Rattle.meter_slots.specs.Journal.{heard, queued, cancelled, orders_heard, settled};
+    ghost use Rattle.meter_slots.specs.Keeping.{verdict_as, settled_by};
+
+    // No command waits yet.
+    pub(crate) fn new(ids: u32, down: u32) -> Commands
+        ensures { result ≡ opening ids down }
+    {
+        Commands {
+            queue: Queue::new(ids),
+            window: Window::Idle,
+            down,
+        }
+    }
+
+    pub(crate) fn queue(&self) -> &Queue
+        ensures { result.now ≡ self.now.queue }
+    {
+        &self.queue
+    }
+
+    pub(crate) fn window(&self) -> Window
+        ensures { result ≡ self.now.window }
+    {
+        self.window
+    }
+
+    pub(crate) fn down(&self) -> u32
+        ensures { result ≡ self.now.down }
+    {
+        self.down
+    }
+
+    // A command with this payload is to be sent.
+    #[tactic(auto, using(access_window::proofs::Agreement::agrees_put))]
+    pub(crate) fn put(&mut self, payload: &Payload) -> Outcome
+        ensures outcome { result ≡ queued (put_answer self.old.queue) }
+        ensures after { self.new ≡ after_put self.old payload.now }
+    {
+        match self.queue.put(payload.copied()) {
+            Ok(id) => Outcome::Queued(id),
+            Err(QueueFault::Full) => Outcome::Refused(Reason::QueueFull),
+            Err(QueueFault::IdsSpent) => Outcome::Refused(Reason::IdsSpent),
+        }
+    }
+
+    // The command with this id isn't to be sent any more.
+    pub(crate) fn cancel(&mut self, id: u32) -> Outcome
+        ensures outcome { result ≡ cancelled id (take_answer id self.old.queue) }
+        ensures after { self.new ≡ after_cancel self.old id }
+    {
+        match self.window.cancel(&mut self.queue, id) {
+            Ok(_) => Outcome::Cancelled(id),
+            Err(_) => Outcome::Refused(Reason::NoSuch(id)),
+        }
+    }
+
+    // The window closes.
+    pub(crate) fn tick(&mut self) -> Outcome
+        ensures outcome { result ≡ Outcome.Ticked (expired self.old) }
+        ensures after { self.new ≡ after_tick self.old }
+    {
+        let expired = self.window.tick(&mut self.queue);
+        Outcome::Ticked { expired }
+    }
+
+    // A message was judged: one that is stored moves the commands.
+    pub(crate) fn hear(&mut self, verdict: &Verdict, access: Access, response: bool) -> Outcome
+        ensures outcome { (bytes : List ℕ) → result ≡ heard self.old access response (verdict_as bytes verdict.now) }
+        ensures after { self.new ≡ orders_heard self.old access response result }
+        ensures settled { (bytes : List ℕ) → settled result ≡ settled_by (verdict_as bytes verdict.now) }
+    {
+        match verdict {
+            Err(reason) => Outcome::Refused(*reason),
+            Ok(None) => Outcome::PartKept,
+            Ok(Some(opened)) => {
+                let moved = self
+                    .window
+                    .uplink(&mut self.queue, access, response, &mut self.down);
+                Outcome::Stored {
+                    counter: opened.counter,
+                    confirmed: moved.confirmed,
+                    sent: sent_now(&self.queue, moved.send, self.down),
+                }
+            }
+        }
+    }
+}
