@@ -156,30 +156,10 @@ counts_landed own cs lines text steps s landed n k m is few tells lands next mad
         let all = kept in
         counted cs lines text Strange n m is class (omega (arith, l)) (omega (arith, o)) (omega (arith, t)) (omega (arith, u)) (omega (arith, b))
 
--- ---- the first lines
+-- ---- before the first line
 
--- what is left begins with the next element
-pub record IsNext {X : Type 0} (xs : List X) (n : ℕ) (x : X) (more : List X) : Type 0 where
-  pub within : n < length xs
-  pub front : take (n + 1) xs ≡ take n xs ++ x ∷ []
-  pub back : drop (n + 1) xs ≡ more
-
-pub is_next : {X : Type 0} (xs : List X) (n : ℕ) (x : X) (more : List X) → drop n xs ≡ x ∷ more → IsNext xs n x more
-is_next xs n x more h =
-    let within : n < length xs = omega (arith, ap length h, length-drop n xs) in
-    let both = sym (drop-cons xs n x within) ∙ h in
-    let same : get_or xs n x ≡ x = cc in
-    let rest : drop (suc n) xs ≡ more = cc in
-    let one : suc n ≡ n + 1 = omega arith in
-    record {
-      within = within;
-      front = take_more xs n x within ∙ ap (λ y. take n xs ++ y ∷ []) same;
-      back = ap (λ m. drop m xs) (sym one) ∙ rest;
-    }
-
-pub stands_first : (own : Address) (cs : List Commissioned) (all : List (List ℕ)) (world : WorldView) (n : Counts) → world ≡ world_of own cs [] → n ≡ record { lines = 0; own = 0; strangers = 0; unframed = 0; bad = 0 } → StandsFor own cs (take n.lines all) world n
+pub stands_first : (own : Address) (cs : List Commissioned) (all : List (List ℕ)) (k : ℕ) (world : WorldView) (n : Counts) → k ≡ 0 → world ≡ world_of own cs [] → n ≡ record { lines = 0; own = 0; strangers = 0; unframed = 0; bad = 0 } → StandsFor own cs (take k all) world n
 unfolding steps_of counts_of
-stands_first own cs all world n fresh none =
+stands_first own cs all k world n at_start fresh none =
     let first : StandsFor own cs [] world n = record { world_is = fresh; counts_are = none } in
-    let zero : n.lines ≡ 0 = ap (λ (m : Counts). m.lines) none in
-    subst (λ k. StandsFor own cs (take k all) world n) (sym zero) first
+    subst (λ m. StandsFor own cs (take m all) world n) (sym at_start) first

@@ -93,3 +93,35 @@ fn next_told<S: Source>(lines: &mut Lines<S>) -> Result<Told, Ended>
         Err(_) => Err(Ended::ReadFault),
     }
 }
+
+// What hearing a receiver came to.
+#[derive(Clone, Copy)]
+pub(crate) struct Heard {
+    pub(crate) counts: Counts,
+    pub(crate) ended: Ended,
+}
+
+// Hears the lines of a receiver until it ends.
+pub(crate) fn hear_receiver<S: Source>(
+    world: &mut World,
+    lines: &mut Lines<S>,
+) -> Result<Heard, Memory>
+    requires fresh { lines.old.line ≡ 0 }
+    requires goes_on { lines.old.done ≡ false }
+    ensures heard { IfOk result (λ heard. IsTrue S.tells → (own : Address) (commissions : List Commissioned) → world.old ≡ world_of own commissions [] →
+        StandsFor own commissions (given S.taken lines.new) world.new heard.counts) }
+    ensures ended { IfOk result (λ heard. IsTrue S.tells →
+        IsEnding heard.ended (S.taken lines.new.source) (S.left lines.new.source) (given S.taken lines.new)) }
+    ensures cause { IfOk result (λ heard. heard.ended ≡ Ended.ReadFault → Rose (S.faults lines.old.source) (S.faults lines.new.source)) }
+    ensures bytes { IfOk result (λ heard. IsTrue S.tells →
+        S.taken lines.new.source ++ S.left lines.new.source ≡ S.taken lines.old.source ++ S.left lines.old.source) }
+{
+    let mut counts = no_counts();
+    'lines: loop {
+        let _few = lines.line();
+        match next_told(lines) {
+            Ok(told) => counts = hear_told(world, counts, told)?,
+            Err(ended) => return Ok(Heard { counts, ended }),
+        }
+    }
+}

@@ -1,0 +1,2 @@
+pub mod Downlink
+pub mod Sent

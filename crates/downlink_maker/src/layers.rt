@@ -1,0 +1,63 @@
+//! The layers in front of a downlink's message.
+ghost use Rattle.std.specs.Prelude.{◌≡◌, ◌≤◌};
+ghost use Rattle.downlink_maker.specs.Downlink.{identification_of, link_bytes, authentication_bytes, header_bytes};
+
+use afl_layer::{Afl, write_afl};
+use meter_address::Address;
+
+// MCL of a whole message with a counter and a MAC: AES-CMAC-128, cut to eight bytes.
+pub(crate) const MESSAGE_CONTROL: u8 = 0x25;
+
+// The identification of an address: four bytes as sent.
+pub(crate) fn identification(address: Address) -> [u8; 4]
+    ensures { result ≡ identification_of address }
+{
+    let [_, _, i, j, k, l, ..] = address.to_bytes();
+    [i, j, k, l]
+}
+
+// The link layer: L, C, M and A.
+pub(crate) fn link_layer(own: Address, blocks: u8) -> [u8; 10]
+    requires { blocks ≤ 6 }
+    ensures { result ≡ link_bytes own blocks }
+{
+    let mut link = [0; 10];
+    link[0] = 40 + 16 * blocks;
+    link[1] = 0x43;
+    link[2..].copy_from_slice(&own.to_bytes());
+    link
+}
+
+// The authentication and fragmentation layer.
+pub(crate) fn authentication_layer(down: u32, mac: [u8; 8]) -> [u8; 17]
+    ensures { result ≡ authentication_bytes down mac }
+{
+    let afl = Afl {
+        more: false,
+        fid: 0,
+        mcl: Some(MESSAGE_CONTROL),
+        ki: None,
+        mcr: Some(down),
+        mac: Some(mac),
+        ml: None,
+        len: 17,
+    };
+    let mut written = [0; 21];
+    let len = write_afl(&afl, &mut written);
+    let mut layer = [0; 17];
+    layer.copy_from_slice(&written[..len]);
+    layer
+}
+
+// The transport header.
+pub(crate) fn transport_header(meter: Address, down: u32, blocks: u8) -> [u8; 14]
+    requires { blocks ≤ 6 }
+    ensures { result ≡ header_bytes meter down blocks }
+{
+    let [m0, m1, i0, i1, i2, i3, version, device] = meter.to_bytes();
+    let access = (down % 256) as u8;
+    let [c0, c1] = (0x0700 + 16 * u16::from(blocks)).to_le_bytes();
+    [
+        0x5B, i0, i1, i2, i3, m0, m1, version, device, access, 0x00, c0, c1, 0x10,
+    ]
+}
