@@ -5,6 +5,7 @@ mod command_words;
 mod hearing;
 mod receiver;
 mod report;
+mod session;
 mod source_bytes;
 mod status;
 mod told;
