@@ -120,6 +120,7 @@ impl<S: Source> Lines<S> {
         // A line or a bad line is the next of the source's lines, and says what is answered.
         ensures lines { IsTrue S.tells → Gives result (given S.taken self.old) (given S.taken self.new) }
         ensures number { self.new.line ≡ self.old.line + (if gives_line result then 1 else 0) }
+        ensures few { self.new.line ≤ LINES_MAX }
         ensures done { self.new.done ≡ not (gives_line result) }
 
         // How the source cuts its bytes into pieces makes no difference.
