@@ -69,9 +69,12 @@ fn take_line(held: &mut Held, given_up: usize, count: usize) -> Next
 #[derive(Drop)]
 pub struct Lines<S: Source> {
     source: S,
+    // What was read behind the lines that were given.
     held: Held,
+    // How many bytes the lines that were given have, with their ends.
     start: usize,
     line: u32,
+    // Whether an unfinished last line was given.
     ended: bool,
     done: bool,
 }
