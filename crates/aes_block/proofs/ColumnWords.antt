@@ -10,8 +10,8 @@ use Rattle.aes_block.proofs.Cipher.{byte_at}
 use Rattle.aes_block.proofs.ByteTables.{substitute-lt}
 use Rattle.std.specs.List.{range_with_len}
 use Rattle.aes_block.specs.Field.{substitute, inverse_substitute}
-use Rattle.aes_block.specs.Block.{IsBlock, add, column_product, mix, mix_polynomial, inverse_mix_polynomial, shift_rows, sub_bytes, inverse_shift_rows, inverse_sub_bytes}
-use Rattle.aes_block.specs.Words.{word, row, column, words_of, one_byte, mixed_substitute, inverse_mixed}
+use Rattle.aes_block.specs.Block.{IsBlock, add, column_product, mix, mix_polynomial, inverse_mix_polynomial, shift_rows, sub_bytes, inverse_shift_rows, inverse_sub_bytes, column}
+use Rattle.aes_block.specs.Words.{word, row, words_of, one_byte, mixed_substitute, inverse_mixed}
 
 -- a word of four bytes
 word-4 : (a b c d : ℕ) → word (a ∷ b ∷ c ∷ d ∷ []) ≡ ((a * 2 ^ 8 + b) * 2 ^ 8 + c) * 2 ^ 8 + d

@@ -7,6 +7,7 @@ pub mod Lists
 pub mod Mixing
 pub mod Columns
 pub mod Cipher
+pub mod Schedule
 pub mod ColumnWords
 pub mod RoundWords
 pub mod WordTables

@@ -10,9 +10,9 @@ use Rattle.aes_block.proofs.Mixing.{AreBytes-4}
 use Rattle.aes_block.proofs.ByteTables.{substitute-lt}
 use Rattle.aes_block.proofs.Cipher.{byte_at, power_of_x-lt}
 use Rattle.aes_block.specs.Field.{substitute}
-use Rattle.aes_block.specs.Block.{IsBlock, add, power_of_x, next_round_key, round_key}
+use Rattle.aes_block.specs.Block.{IsBlock, add, power_of_x, next_round_key, round_key, column}
 use Rattle.aes_block.proofs.ColumnWords.{IsColumn, word-add, IsColumn-column, word_bytes}
-use Rattle.aes_block.specs.Words.{word, column, words_of, round_words, first_key, AreExpanded}
+use Rattle.aes_block.specs.Words.{word, words_of, round_words, first_key, AreExpanded}
 
 -- ---- the next round key
 pub next_words_are : (b : List ℕ) (n : ℕ) → IsBlock b →

@@ -9,6 +9,10 @@ pub record IsBlock (s : List ℕ) : Type 0 where
   pub count : length s ≡ 16
   pub bytes : All (λ b. b < 256) s
 
+-- column c of a block (3.5)
+abbrev pub column : List ℕ → ℕ → List ℕ
+column s c = slice_index s (4 * c) ∷ slice_index s (4 * c + 1) ∷ slice_index s (4 * c + 2) ∷ slice_index s (4 * c + 3) ∷ []
+
 -- the sum of two lists of elements, place by place; of a block and a round key (5.1.4)
 abbrev pub add : List ℕ → List ℕ → List ℕ
 add (x ∷ xs) (y ∷ ys) = bit_xor x y ∷ add xs ys
@@ -16,10 +20,11 @@ add _ _ = []
 
 -- ---- the steps of a round, and the steps back
 
--- each element substituted (5.1.1, 5.3.2)
+-- each element substituted (5.1.1)
 abbrev pub sub_bytes : List ℕ → List ℕ
 sub_bytes s = map substitute s
 
+-- each element's substitution taken back (5.3.2)
 abbrev pub inverse_sub_bytes : List ℕ → List ℕ
 inverse_sub_bytes s = map inverse_substitute s
 
@@ -58,13 +63,15 @@ mix m _ = []
 abbrev pub mix_polynomial : List ℕ
 mix_polynomial = 0x02 ∷ 0x01 ∷ 0x01 ∷ 0x03 ∷ []
 
+-- each column times it
+abbrev pub mix_columns : List ℕ → List ℕ
+mix_columns s = mix mix_polynomial s
+
 -- 11 x^3 + 13 x^2 + 9 x + 14 (5.3.3)
 abbrev pub inverse_mix_polynomial : List ℕ
 inverse_mix_polynomial = 0x0E ∷ 0x09 ∷ 0x0D ∷ 0x0B ∷ []
 
-abbrev pub mix_columns : List ℕ → List ℕ
-mix_columns s = mix mix_polynomial s
-
+-- each column times it
 abbrev pub inverse_mix_columns : List ℕ → List ℕ
 inverse_mix_columns s = mix inverse_mix_polynomial s
 
@@ -94,6 +101,10 @@ next_round_key n k = chained (turned_word n (drop 12 k)) k
 unfoldable pub round_key : List ℕ → ℕ → List ℕ
 round_key key zero = key
 round_key key (suc n) = next_round_key n (round_key key n)
+
+-- word i of the key schedule: a column of a round key
+abbrev pub schedule_word : List ℕ → ℕ → List ℕ
+schedule_word key i = column (round_key key (i / 4)) (i % 4)
 
 -- ---- the cipher (5.1) and the inverse cipher (5.3)
 

@@ -1,4 +1,4 @@
--- The field GF(2^8) and the substitution of its elements (FIPS 197, sections 4 and 5.1.1). A number stands for
+-- The field GF(2^8) and the substitution of its elements (FIPS 197 of 2001, sections 4 and 5.1.1). A number stands for
 -- the polynomial over two elements that has its bits as coefficients, bit i at x^i: the sum of two polynomials is
 -- `bit_xor` of their numbers, and x^i times one is 2^i times its number. A byte is an element of the field.
 use Rattle.std.specs.Prelude.{ℕ, zero, suc, ◌+◌, ◌*◌, ◌/◌, ◌%◌, ◌^◌, ◌==◌, if◌then◌else◌, bit_xor, sum_by}
@@ -28,7 +28,7 @@ unfoldable pub inverse_up_to : ℕ → ℕ → ℕ
 inverse_up_to zero a = 0
 inverse_up_to (suc n) a = if product a (suc n) == 1 then suc n else inverse_up_to n a
 
--- the inverse in the field, and 0 for 0 (4.4)
+-- the inverse in the field (4.2), and 0 for 0
 unfoldable pub inverse : ℕ → ℕ
 inverse a = inverse_up_to 255 a
 

@@ -1,7 +1,7 @@
 -- What holds of the definitions themselves.
-use Rattle.std.specs.Prelude.{◌≡◌, ℕ, ◌<◌, List, bit_xor}
+use Rattle.std.specs.Prelude.{◌≡◌, ℕ, ◌+◌, ◌/◌, ◌%◌, ◌<◌, ◌==◌, List, bit_xor, if◌then◌else◌}
 use Rattle.aes_block.specs.Field.{modulus, polynomial_product, product, inverse, substitute, inverse_substitute}
-use Rattle.aes_block.specs.Block.{IsBlock, add, sub_bytes, inverse_sub_bytes, shift_rows, inverse_shift_rows, mix_columns, inverse_mix_columns, encrypt, decrypt}
+use Rattle.aes_block.specs.Block.{IsBlock, add, turned_word, schedule_word, sub_bytes, inverse_sub_bytes, shift_rows, inverse_shift_rows, mix_columns, inverse_mix_columns, encrypt, decrypt}
 
 -- r is what is left of the polynomial p: an element that differs from p by a multiple of the modulus
 pub record IsRemainder (p r : ℕ) : Type 0 where
@@ -29,8 +29,16 @@ pub record AreInverseBijections (f g : ℕ → ℕ) : Type 0 where
   pub forth_and_back : (b : ℕ) → b < 256 → g (f b) ≡ b
   pub back_and_forth : (b : ℕ) → b < 256 → f (g b) ≡ b
 
+-- so are the two substitutions
 abbrev pub SubstitutionIsABijection : Type 0
 SubstitutionIsABijection = AreInverseBijections substitute inverse_substitute
+
+-- each word of the key schedule from word 4 on is the one four places before it, added to the one before it, which
+-- is turned first where a round key begins
+abbrev pub ScheduleIsTheStandards : Type 0
+ScheduleIsTheStandards = (key : List ℕ) → IsBlock key → (i : ℕ) →
+    schedule_word key (i + 4)
+    ≡ add (schedule_word key i) (if i % 4 == 0 then turned_word (i / 4) (schedule_word key (i + 3)) else schedule_word key (i + 3))
 
 -- each step of a round, and its step back, undo each other on the block s; adding the round key k undoes itself
 pub record StepsAreUndone (s k : List ℕ) : Type 0 where

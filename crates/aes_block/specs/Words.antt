@@ -1,9 +1,9 @@
--- Blocks as four words of 32 bits: a column is a word, its first row highest.
-use Rattle.std.specs.Prelude.{◌≡◌, ℕ, zero, suc, ◌+◌, ◌*◌, List, [], ◌∷◌, ◌++◌, take, slice_index, slice_set}
+-- Blocks as four words of 32 bits: a column is a word (FIPS 197, section 3.5), its first row highest.
+use Rattle.std.specs.Prelude.{◌≡◌, ℕ, zero, suc, List, [], ◌∷◌, ◌++◌, take, slice_index, slice_set}
 use Rattle.std.specs.List.{flat_map}
 use Rattle.std.specs.Int.{w32, from_be_bytes, to_be_bytes}
 use Rattle.aes_block.specs.Field.{substitute}
-use Rattle.aes_block.specs.Block.{IsBlock, column_product, mix_polynomial, inverse_mix_polynomial, round_key}
+use Rattle.aes_block.specs.Block.{IsBlock, column, column_product, mix_polynomial, inverse_mix_polynomial, round_key}
 
 -- the word of a column
 unfoldable pub word : List ℕ → ℕ
@@ -13,9 +13,9 @@ word column = from_be_bytes w32 column
 abbrev pub row : ℕ → ℕ → ℕ
 row w r = slice_index (to_be_bytes w32 w) r
 
--- column c of a block
-abbrev pub column : List ℕ → ℕ → List ℕ
-column b c = slice_index b (4 * c) ∷ slice_index b (4 * c + 1) ∷ slice_index b (4 * c + 2) ∷ slice_index b (4 * c + 3) ∷ []
+-- four bytes through f, one row of each of four words
+abbrev pub rows : (ℕ → ℕ) → ℕ → ℕ → ℕ → ℕ → List ℕ
+rows f a b c d = f (row a 0) ∷ f (row b 1) ∷ f (row c 2) ∷ f (row d 3) ∷ []
 
 -- the four words of a block
 abbrev pub words_of : List ℕ → List ℕ

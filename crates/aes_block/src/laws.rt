@@ -1,13 +1,13 @@
 //! What holds of the definitions themselves, for every element, block and key: each function's contract is a law.
 
-ghost use Rattle.aes_block.specs.Laws.{ProductIsRemainder, InverseIsTheInverse, SubstitutionIsABijection, EachStepIsUndone, DecryptionUndoesEncryption};
+ghost use Rattle.aes_block.specs.Laws.{ProductIsRemainder, InverseIsTheInverse, SubstitutionIsABijection, ScheduleIsTheStandards, EachStepIsUndone, DecryptionUndoesEncryption};
 
 /// A product in the field is what is left of the product of the polynomials (FIPS 197, section 4.2).
 pub fn product_is_remainder()
     ensures { ProductIsRemainder }
 {}
 
-/// Each element other than 0 has one inverse, and `inverse` is it (FIPS 197, section 4.4).
+/// Each element other than 0 has one inverse, and `inverse` is it (FIPS 197, section 4.2).
 pub fn inverse_is_the_inverse()
     ensures { InverseIsTheInverse }
 {}
@@ -16,6 +16,11 @@ pub fn inverse_is_the_inverse()
 /// 5.1.1 and 5.3.2).
 pub fn substitution_is_a_bijection()
     ensures { SubstitutionIsABijection }
+{}
+
+/// The words of the round keys follow the standard's recurrence (FIPS 197, section 5.2).
+pub fn schedule_is_the_standards()
+    ensures { ScheduleIsTheStandards }
 {}
 
 /// Each step of a round and its inverse undo each other (FIPS 197, section 5.3).

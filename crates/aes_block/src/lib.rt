@@ -87,8 +87,8 @@ impl Keys {
         ensures { block.new ≡ decrypt self.now block.old }
     {
         let mut state = self.add_round_key(loaded(block), 10);
-        for n in 0..9 {
-            state = inverse_mixed_words(self.add_round_key(inverse_round(state), 9 - n));
+        for done in 0..9 {
+            state = inverse_mixed_words(self.add_round_key(inverse_round(state), 9 - done));
         }
         *block = stored(self.add_round_key(inverse_round(state), 0));
     }

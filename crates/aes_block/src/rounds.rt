@@ -1,15 +1,16 @@
 // The steps of the rounds on the four words of a block, and the step from one round key to the next.
 
-ghost use Rattle.std.specs.Prelude.{◌≡◌, ◌<◌, ◌∷◌, [], ℕ, List};
+ghost use Rattle.std.specs.Prelude.{◌≡◌, ◌<◌, ℕ, List};
+ghost use Rattle.std.specs.Int.{w32, to_be_bytes};
 ghost use Rattle.aes_block.specs.Field.{substitute, inverse_substitute};
 ghost use Rattle.aes_block.specs.Block.{sub_bytes, inverse_sub_bytes, shift_rows, inverse_shift_rows, column_product, mix_columns, inverse_mix_columns, mix_polynomial, inverse_mix_polynomial, power_of_x, next_round_key};
-ghost use Rattle.aes_block.specs.Words.{word, row, AreWordsOf};
+ghost use Rattle.aes_block.specs.Words.{word, rows, AreWordsOf};
 
 use crate::tables::{inverse_mixture, inverse_substituted, mixed_substitution, substituted};
 
 // The substituted bytes of four words, one row of each, as a mixed column.
 fn mixed_word(a: u32, b: u32, c: u32, d: u32) -> u32
-    ensures { result ≡ word (column_product mix_polynomial (substitute (row a 0) ∷ substitute (row b 1) ∷ substitute (row c 2) ∷ substitute (row d 3) ∷ [])) }
+    ensures { result ≡ word (column_product mix_polynomial (rows substitute a b c d)) }
 {
     mixed_substitution(0, a.to_be_bytes()[0])
         ^ mixed_substitution(1, b.to_be_bytes()[1])
@@ -19,7 +20,7 @@ fn mixed_word(a: u32, b: u32, c: u32, d: u32) -> u32
 
 // The same as a column that isn't mixed.
 fn substituted_word(a: u32, b: u32, c: u32, d: u32) -> u32
-    ensures { result ≡ word (substitute (row a 0) ∷ substitute (row b 1) ∷ substitute (row c 2) ∷ substitute (row d 3) ∷ []) }
+    ensures { result ≡ word (rows substitute a b c d) }
 {
     u32::from_be_bytes([
         substituted(a.to_be_bytes()[0]),
@@ -31,7 +32,7 @@ fn substituted_word(a: u32, b: u32, c: u32, d: u32) -> u32
 
 // The bytes of four words, one row of each, with the substitution taken back.
 fn inverse_substituted_word(a: u32, b: u32, c: u32, d: u32) -> u32
-    ensures { result ≡ word (inverse_substitute (row a 0) ∷ inverse_substitute (row b 1) ∷ inverse_substitute (row c 2) ∷ inverse_substitute (row d 3) ∷ []) }
+    ensures { result ≡ word (rows inverse_substitute a b c d) }
 {
     u32::from_be_bytes([
         inverse_substituted(a.to_be_bytes()[0]),
@@ -43,13 +44,13 @@ fn inverse_substituted_word(a: u32, b: u32, c: u32, d: u32) -> u32
 
 // A column mixed back.
 fn inverse_mixed_word(column: u32) -> u32
-    ensures { result ≡ word (column_product inverse_mix_polynomial (row column 0 ∷ row column 1 ∷ row column 2 ∷ row column 3 ∷ [])) }
+    ensures { result ≡ word (column_product inverse_mix_polynomial (to_be_bytes w32 column)) }
 {
     let [a, b, c, d] = column.to_be_bytes();
     inverse_mixture(0, a) ^ inverse_mixture(1, b) ^ inverse_mixture(2, c) ^ inverse_mixture(3, d)
 }
 
-// A round up to its round key.
+/// A round up to its round key.
 pub fn forward_round(s: [u32; 4]) -> [u32; 4]
     ensures { (b : List ℕ) → AreWordsOf s b → AreWordsOf result (mix_columns (shift_rows (sub_bytes b))) }
 {
@@ -61,7 +62,7 @@ pub fn forward_round(s: [u32; 4]) -> [u32; 4]
     ]
 }
 
-// The last round, which doesn't mix, up to its round key.
+/// The last round, which doesn't mix, up to its round key.
 pub fn last_round(s: [u32; 4]) -> [u32; 4]
     ensures { (b : List ℕ) → AreWordsOf s b → AreWordsOf result (shift_rows (sub_bytes b)) }
 {
@@ -73,7 +74,7 @@ pub fn last_round(s: [u32; 4]) -> [u32; 4]
     ]
 }
 
-// A round of the inverse cipher up to its round key.
+/// A round of the inverse cipher up to its round key.
 pub fn inverse_round(s: [u32; 4]) -> [u32; 4]
     ensures { (b : List ℕ) → AreWordsOf s b → AreWordsOf result (inverse_sub_bytes (inverse_shift_rows b)) }
 {
@@ -85,7 +86,7 @@ pub fn inverse_round(s: [u32; 4]) -> [u32; 4]
     ]
 }
 
-// The columns mixed back.
+/// The columns mixed back.
 pub fn inverse_mixed_words(s: [u32; 4]) -> [u32; 4]
     ensures { (b : List ℕ) → AreWordsOf s b → AreWordsOf result (inverse_mix_columns b) }
 {
@@ -97,7 +98,7 @@ pub fn inverse_mixed_words(s: [u32; 4]) -> [u32; 4]
     ]
 }
 
-// The words of a block.
+/// The words of a block.
 pub fn loaded(block: &[u8; 16]) -> [u32; 4]
     ensures { AreWordsOf result block.now }
 {
@@ -110,7 +111,7 @@ pub fn loaded(block: &[u8; 16]) -> [u32; 4]
     ]
 }
 
-// The block of four words.
+/// The block of four words.
 pub fn stored(s: [u32; 4]) -> [u8; 16]
     ensures { (b : List ℕ) → AreWordsOf s b → result ≡ b }
 {
@@ -134,7 +135,7 @@ fn round_constant(n: usize) -> u8
     ROUND_CONSTANTS[n]
 }
 
-// The words of the round key after round key n.
+/// The words of the round key after round key n.
 pub fn next_words(k: [u32; 4], n: usize) -> [u32; 4]
     requires { n < 10 }
     ensures { (b : List ℕ) → AreWordsOf k b → AreWordsOf result (next_round_key n b) }

@@ -7,7 +7,7 @@ use Rattle.ell_layer.specs.declared.extension.Ell.{Ell}
 use Rattle.ell_layer.specs.declared.extension.EllFault.{EllFault}
 use Rattle.ell_layer.specs.declared.extension.EllFault.TheVariants.{Truncated}
 use Rattle.ell_layer.specs.Access.{access_in}
-use Rattle.ell_layer.specs.Extension.{Begins, header_len, ◌>>=◌, extension_at}
+use Rattle.ell_layer.specs.Extension.{BeginsWithEll, header_len, ◌>>=◌, ell_at}
 
 -- the header with this control and access number
 abbrev made : ℕ → ℕ → ℕ → Ell
@@ -15,9 +15,6 @@ made control acc len = record { access = access_in control; acc = acc; len = len
 
 abbrev read : Ell → Result Ell EllFault
 read e = Ok e
-
-ok_is : (x y : Ell) → read x ≡ read y → x ≡ y
-ok_is x y e = cc
 
 -- a test that came out one way
 chosen : {A : Type 0} (b : Bool) (x y z : A) → cond b x y ≡ z → ((b ≡ true) × (x ≡ z)) ⊎ ((b ≡ false) × (y ≡ z))
@@ -45,12 +42,12 @@ ci_of ci n rest e =
           ]
     ]
 
-short_takes : (bytes : List ℕ) (e : Ell) → 3 ≤ length bytes → made (get_or bytes 1 0) (get_or bytes 2 0) 3 ≡ e → get_or bytes 0 0 ≡ 0x8C → Begins bytes e
+short_takes : (bytes : List ℕ) (e : Ell) → 3 ≤ length bytes → made (get_or bytes 1 0) (get_or bytes 2 0) 3 ≡ e → get_or bytes 0 0 ≡ 0x8C → BeginsWithEll bytes e
 short_takes [] e long same ci = absurd (omega arith)
 short_takes (a ∷ []) e long same ci = absurd (omega arith)
 short_takes (a ∷ b ∷ []) e long same ci = absurd (omega arith)
 short_takes (a ∷ b ∷ c ∷ rest) e long same ci =
-    subst (Begins (a ∷ b ∷ c ∷ rest)) same (record {
+    subst (BeginsWithEll (a ∷ b ∷ c ∷ rest)) same (record {
       header = a ∷ b ∷ c ∷ [];
       rest = rest;
       parts = refl;
@@ -58,13 +55,13 @@ short_takes (a ∷ b ∷ c ∷ rest) e long same ci =
       spelt = inl (record { control = b; bytes = ap (λ (x : ℕ). x ∷ b ∷ c ∷ []) ci; access = refl });
     })
 
-long_takes : (bytes : List ℕ) (e : Ell) → 11 ≤ length bytes → made (get_or bytes 1 0) (get_or bytes 2 0) 11 ≡ e → get_or bytes 0 0 ≡ 0x8E → Begins bytes e
+long_takes : (bytes : List ℕ) (e : Ell) → 11 ≤ length bytes → made (get_or bytes 1 0) (get_or bytes 2 0) 11 ≡ e → get_or bytes 0 0 ≡ 0x8E → BeginsWithEll bytes e
 long_takes [] e long same ci = absurd (omega arith)
 long_takes (a ∷ []) e long same ci = absurd (omega arith)
 long_takes (a ∷ b ∷ []) e long same ci = absurd (omega arith)
 long_takes (a ∷ b ∷ c ∷ rest) e long same ci =
     let eight : length (take 8 rest) ≡ 8 = omega (arith, length-take 8 rest) in
-    subst (Begins (a ∷ b ∷ c ∷ rest)) same (record {
+    subst (BeginsWithEll (a ∷ b ∷ c ∷ rest)) same (record {
       header = a ∷ b ∷ c ∷ take 8 rest;
       rest = drop 8 rest;
       parts = ap (λ (x : List ℕ). a ∷ b ∷ c ∷ x) (sym (take-append-drop 8 rest));
@@ -73,8 +70,8 @@ long_takes (a ∷ b ∷ c ∷ rest) e long same ci =
     })
 
 -- what is read is spelled so
-takes : (bytes : List ℕ) (e : Ell) → extension_at bytes ≡ Ok e → Begins bytes e
-unfolding extension_at header_len
+pub takes : (bytes : List ℕ) (e : Ell) → ell_at bytes ≡ Ok e → BeginsWithEll bytes e
+unfolding ell_at header_len
 takes [] e h = absurd cc
 takes (ci ∷ rest) e h =
     let bytes : List ℕ = ci ∷ rest in
@@ -89,31 +86,31 @@ takes (ci ∷ rest) e h =
 is_made : (e : Ell) (control n : ℕ) → e.access ≡ access_in control → e.len ≡ n → e ≡ made control e.acc n
 is_made e control n access len = rw (← access, ← len) refl
 
-short_again : (control acc : ℕ) (rest : List ℕ) → extension_at (0x8C ∷ control ∷ acc ∷ rest) ≡ Ok (made control acc 3)
-unfolding extension_at header_len
+short_again : (control acc : ℕ) (rest : List ℕ) → ell_at (0x8C ∷ control ∷ acc ∷ rest) ≡ Ok (made control acc 3)
+unfolding ell_at header_len
 short_again control acc rest = rw (le-ltb (length (0x8C ∷ control ∷ acc ∷ rest)) 3 (omega arith)) refl
 
-long_again : (control acc : ℕ) (rest : List ℕ) → 8 ≤ length rest → extension_at (0x8E ∷ control ∷ acc ∷ rest) ≡ Ok (made control acc 11)
-unfolding extension_at header_len
+long_again : (control acc : ℕ) (rest : List ℕ) → 8 ≤ length rest → ell_at (0x8E ∷ control ∷ acc ∷ rest) ≡ Ok (made control acc 11)
+unfolding ell_at header_len
 long_again control acc rest long = rw (le-ltb (length (0x8E ∷ control ∷ acc ∷ rest)) 11 (omega arith)) refl
 
 -- what is spelled so is read
-again : (bytes : List ℕ) (e : Ell) → Begins bytes e → extension_at bytes ≡ Ok e
+pub again : (bytes : List ℕ) (e : Ell) → BeginsWithEll bytes e → ell_at bytes ≡ Ok e
 again bytes e h =
     elim h.spelt [
       | inl short ↦
           let whole : bytes ≡ 0x8C ∷ short.control ∷ e.acc ∷ h.rest = h.parts ∙ ap (λ (x : List ℕ). x ++ h.rest) short.bytes in
           let len : e.len ≡ 3 = h.len ∙ ap length short.bytes in
-          ap extension_at whole ∙ short_again short.control e.acc h.rest ∙ ap read (sym (is_made e short.control 3 short.access len))
+          ap ell_at whole ∙ short_again short.control e.acc h.rest ∙ ap read (sym (is_made e short.control 3 short.access len))
       | inr long ↦
           let whole : bytes ≡ 0x8E ∷ long.control ∷ e.acc ∷ (long.address ++ h.rest) = h.parts ∙ ap (λ (x : List ℕ). x ++ h.rest) long.bytes in
           let len : e.len ≡ 11 = h.len ∙ ap length long.bytes ∙ ap (λ (n : ℕ). suc (suc (suc n))) long.eight in
-          ap extension_at whole ∙ long_again long.control e.acc (long.address ++ h.rest) (omega (arith, length-append long.address h.rest, long.eight)) ∙ ap read (sym (is_made e long.control 11 long.access len))
+          ap ell_at whole ∙ long_again long.control e.acc (long.address ++ h.rest) (omega (arith, length-append long.address h.rest, long.eight)) ∙ ap read (sym (is_made e long.control 11 long.access len))
     ]
 
-pub is_found : (bytes : List ℕ) (r : Result Ell EllFault) → r ≡ extension_at bytes → IfOk r (λ e. Begins bytes e)
+pub is_found : (bytes : List ℕ) (r : Result Ell EllFault) → r ≡ ell_at bytes → IfOk r (λ e. BeginsWithEll bytes e)
 is_found bytes (Ok e) h = takes bytes e (sym h)
 is_found bytes (Err f) h = tt
 
-pub is_only : (bytes : List ℕ) (r : Result Ell EllFault) → r ≡ extension_at bytes → (e : Ell) → Begins bytes e → r ≡ Ok e
+pub is_only : (bytes : List ℕ) (r : Result Ell EllFault) → r ≡ ell_at bytes → (e : Ell) → BeginsWithEll bytes e → r ≡ Ok e
 is_only bytes r h e begins = h ∙ again bytes e begins

@@ -19,8 +19,8 @@ pub record IsLong (header : List ℕ) (e : Ell) : Type 0 where
   pub bytes : header ≡ 0x8E ∷ control ∷ e.acc ∷ address
   pub access : e.access ≡ access_in control
 
--- the bytes begin with a spelling of the header, which has e.len bytes
-pub record Begins (bytes : List ℕ) (e : Ell) : Type 0 where
+-- the bytes begin with a header that says e, of e.len bytes
+pub record BeginsWithEll (bytes : List ℕ) (e : Ell) : Type 0 where
   pub header : List ℕ
   pub rest : List ℕ
   pub parts : bytes ≡ header ++ rest
@@ -39,7 +39,7 @@ abbrev pub ◌>>=◌ : {A B : Type 0} → Result A EllFault → (A → Result B 
 (Err e) >>= f = Err e
 
 -- the header with which the bytes begin, or the first fault
-unfoldable pub extension_at : List ℕ → Result Ell EllFault
-extension_at bytes = do
+unfoldable pub ell_at : List ℕ → Result Ell EllFault
+ell_at bytes = do
   len ← header_len bytes
   if nat_lt (length bytes) len then Err (Truncated (length bytes)) else Ok (record { access = access_in (slice_index bytes 1); acc = slice_index bytes 2; len = len })

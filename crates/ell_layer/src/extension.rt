@@ -1,6 +1,6 @@
 //! The header of the extended link layer.
 ghost use Rattle.std.specs.Prelude.{◌≡◌, ◌≤◌, Ok, IfOk};
-ghost use Rattle.ell_layer.specs.Extension.{Begins, header_len, extension_at};
+ghost use Rattle.ell_layer.specs.Extension.{BeginsWithEll, header_len, ell_at};
 ghost use Rattle.ell_layer.specs.declared.extension.Ell.{Ell};
 
 use crate::access::Access;
@@ -40,9 +40,9 @@ fn len_of_header(bytes: &[u8]) -> Result<usize, EllFault>
 }
 
 // The header with which the bytes begin, or the first fault.
-#[tactic(auto, unfolding(crate::specs::Extension::extension_at))]
+#[tactic(auto, unfolding(crate::specs::Extension::ell_at))]
 fn extension(bytes: &[u8]) -> Result<Ell, EllFault>
-    ensures { result ≡ extension_at bytes.now }
+    ensures { result ≡ ell_at bytes.now }
 {
     let len = len_of_header(bytes)?;
     if bytes.len() < len {
@@ -58,11 +58,11 @@ fn extension(bytes: &[u8]) -> Result<Ell, EllFault>
 /// The header of the extended link layer with which the bytes begin.
 pub fn read_ell(bytes: &[u8]) -> Result<Ell, EllFault>
     // What is read is spelled so, and what is spelled so is read.
-    ensures found { IfOk result (λ e. Begins bytes.now e) }
-    ensures only { (e : Ell) → Begins bytes.now e → result ≡ Ok e }
+    ensures found { IfOk result (λ e. BeginsWithEll bytes.now e) }
+    ensures only { (e : Ell) → BeginsWithEll bytes.now e → result ≡ Ok e }
 
     // A fault is the first that the bytes show.
-    ensures exact { result ≡ extension_at bytes.now }
+    ensures exact { result ≡ ell_at bytes.now }
 {
     extension(bytes)
 }

@@ -4,7 +4,7 @@ use Rattle.std.proofs.lemmas.List.{take_at, get_or_at, take-append-drop, length-
 use Rattle.std.proofs.lemmas.Bool.{eqb-true}
 use Rattle.std.specs.List.{flat_map, concat}
 use Rattle.frame_formats.specs.declared.fault.FrameFault.{FrameFault}
-use Rattle.frame_formats.specs.Crc.{crc_of, IsBytes, IsCrc}
+use Rattle.frame_formats.specs.Crc.{crc_of, IsBytes}
 use Rattle.frame_formats.specs.Frames.{AreChecked}
 use Rattle.frame_formats.specs.Decoding.{◌>>=◌, with_crc, block_of}
 use Rattle.frame_formats.proofs.Division.{is_crc, same_crc}
@@ -22,6 +22,10 @@ bytes-drop (suc n) (b ∷ l) all = bytes-drop n l all.1
 pub bytes-append : (k l : List ℕ) → IsBytes (k ++ l) → IsBytes k × IsBytes l
 bytes-append [] l all = (tt, all)
 bytes-append (b ∷ k) l all = let rest = bytes-append k l all.1 in ((all.0, rest.0), rest.1)
+
+pub bytes_joined : (k l : List ℕ) → IsBytes k → IsBytes l → IsBytes (k ++ l)
+bytes_joined [] l ks ls = ls
+bytes_joined (b ∷ k) l ks ls = (ks.0, bytes_joined k l ks.1 ls)
 
 pub byte_at : (l : List ℕ) (i : ℕ) → IsBytes l → get_or l i 0 < 256
 byte_at [] i all = omega arith
@@ -56,11 +60,7 @@ content_bytes [] all = tt
 content_bytes (b ∷ blocks) all =
     let parts = bytes-append (with_crc b) (flat_map with_crc blocks) all
     in let here = bytes-append b (crc_of b / 256 ∷ crc_of b % 256 ∷ []) parts.0
-    in joined b (concat blocks) here.0 (content_bytes blocks parts.1)
-  where
-    joined : (k l : List ℕ) → IsBytes k → IsBytes l → IsBytes (k ++ l)
-    joined [] l ks ls = ls
-    joined (b ∷ k) l ks ls = (ks.0, joined k l ks.1 ls)
+    in bytes_joined b (concat blocks) here.0 (content_bytes blocks parts.1)
 
 -- a guard that was passed
 guard_ok : (b : Bool) (x y : List ℕ) (e : FrameFault) → cond b (Ok x) (Err e) ≡ Ok y → (b ≡ true) × (x ≡ y)

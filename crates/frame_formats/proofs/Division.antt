@@ -1,5 +1,5 @@
 -- Long division leaves a remainder, and there is one remainder.
-use Rattle.std.proofs.Common.{◌≡◌, ℕ, zero, suc, ◌+◌, ◌-◌, ◌*◌, ◌/◌, ◌%◌, ◌^◌, ◌<◌, ◌≤◌, List, [], ◌∷◌, ◌++◌, length, Bool, true, false, cond, refl, sym, ◌∙◌, ap, subst, arith, bit_xor, fold, get_or, take, pow_pos, pow-add, add-one, nat_lt, ◌⊎◌, inl, inr, lt-ltb, le-ltb}
+use Rattle.std.proofs.Common.{◌≡◌, ℕ, zero, suc, ◌+◌, ◌-◌, ◌*◌, ◌/◌, ◌%◌, ◌^◌, ◌<◌, ◌≤◌, List, [], ◌∷◌, ◌++◌, length, Bool, true, false, cond, refl, sym, ◌∙◌, ap, subst, arith, bit_xor, fold, get_or, take, pow_pos, pow-add, add-one, inl, inr, lt-ltb, le-ltb}
 use Rattle.std.proofs.Math.Nat.{mul_assoc, pow-suc}
 use Rattle.std.proofs.Math.Seq.{take-suc}
 use Rattle.std.proofs.lemmas.List.{take_all}
@@ -8,7 +8,7 @@ use Rattle.std.proofs.lemmas.Nat.{xor_comm, xor_lt}
 use Rattle.std.proofs.lemmas.Bool.{cases_lt}
 use Rattle.std.specs.Int.Bits.{xor_assoc, xor_self, xor_zero_l, xor_zero_r, xor_shifted}
 use Rattle.frame_formats.specs.Crc.{product, generator, polynomial, remainder, IsMultiple, HasRemainder, IsBytes, IsCrc, crc_of, OneCrc}
-use Rattle.frame_formats.proofs.Multiples.{none, itself, twice, sum, middle, scaled, doubled_sum}
+use Rattle.frame_formats.proofs.Multiples.{none, itself, twice, sum, middle, scaled}
 
 -- two polynomials differ by a multiple
 pub record Near (a b : ℕ) : Type 0 where

@@ -1,8 +1,14 @@
 pub mod Multiples
 pub mod Division
 pub mod Table
+pub mod Chain
 pub mod Pieces
+pub mod Answered
 pub mod Reading
 pub mod Checked
 pub mod RelationA
 pub mod Writing
+pub mod RelationB
+pub mod FirstWrong
+pub mod FirstFault
+pub mod FrameLaws

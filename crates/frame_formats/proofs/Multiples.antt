@@ -1,5 +1,5 @@
 -- Multiples of the generator, and their sums.
-use Rattle.std.proofs.Common.{◌≡◌, ℕ, zero, suc, ◌+◌, ◌-◌, ◌*◌, ◌/◌, ◌^◌, ◌<◌, ◌≤◌, List, [], ◌∷◌, ◌++◌, length, Bool, true, false, cond, refl, sym, ◌∙◌, ap, arith, length-append, bit_xor, pow_pos, replicate}
+use Rattle.std.proofs.Common.{◌≡◌, ℕ, zero, suc, ◌-◌, ◌*◌, ◌^◌, List, [], ◌∷◌, ◌++◌, length, Bool, true, false, cond, refl, sym, ◌∙◌, ap, arith, length-append, bit_xor, pow_pos, replicate}
 use Rattle.std.proofs.Math.Nat.{add-zero, mul_assoc, pow-suc}
 use Rattle.std.proofs.lemmas.Nat.{xor_comm, xor_block}
 use Rattle.std.specs.Int.Bits.{xor_assoc, xor_self, xor_zero_l, xor_zero_r}

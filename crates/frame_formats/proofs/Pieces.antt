@@ -1,5 +1,6 @@
 -- Pieces, and the blocks that are read from them.
-use Rattle.std.proofs.Common.{◌≡◌, ℕ, zero, suc, ◌+◌, ◌-◌, ◌*◌, ◌/◌, ◌%◌, ◌<◌, ◌≤◌, List, [], ◌∷◌, ◌++◌, length, take, drop, Result, Ok, Err, refl, sym, ◌∙◌, ap, arith, append_assoc}
+use Rattle.std.proofs.Common.{◌≡◌, ℕ, zero, suc, ◌+◌, List, [], ◌∷◌, ◌++◌, length, take, drop, min, Result, Ok, Err, refl, ◌∙◌, ap, append_assoc}
+use Rattle.std.proofs.lemmas.List.{take_min, drop_min}
 use Rattle.frame_formats.specs.declared.fault.FrameFault.{FrameFault}
 use Rattle.frame_formats.specs.Decoding.{◌>>=◌, block_of, content_of, cut}
 
@@ -29,3 +30,15 @@ first_fault n piece pieces e is = ap (λ r. r >>= λ b. (content_of (n + 1) piec
 pub nothing_read : (n : ℕ) → content_of n [] ≡ Ok []
 unfolding content_of
 nothing_read n = refl
+
+pub cut_more : (k size : ℕ) (bytes : List ℕ) → cut (suc k) size bytes ≡ take size bytes ∷ cut k size (drop size bytes)
+unfolding cut
+cut_more k size bytes = refl
+
+pub cut_none : (size : ℕ) (bytes : List ℕ) → cut zero size bytes ≡ []
+unfolding cut
+cut_none size bytes = refl
+
+-- the next piece, however many bytes are left
+pub front_min : (m n : ℕ) (bytes : List ℕ) → m ≡ min n (length bytes) → (take m bytes ≡ take n bytes) × (drop m bytes ≡ drop n bytes)
+front_min m n bytes is = (ap (λ k. take k bytes) is ∙ take_min n bytes, ap (λ k. drop k bytes) is ∙ drop_min n bytes)

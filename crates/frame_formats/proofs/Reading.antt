@@ -1,11 +1,10 @@
 -- Reading the blocks of format A in a loop.
-use Rattle.std.proofs.Common.{◌≡◌, ℕ, zero, suc, ◌+◌, ◌-◌, ◌*◌, ◌/◌, ◌<◌, ◌≤◌, List, [], ◌∷◌, ◌++◌, length, take, drop, Result, Ok, Err, refl, sym, ◌∙◌, ap, arith, length-drop, append-nil, min, ◌⊎◌, inl, inr}
-use Rattle.std.proofs.lemmas.Bool.{cases_lt}
+use Rattle.std.proofs.Common.{◌≡◌, ℕ, suc, ◌+◌, ◌-◌, ◌*◌, ◌/◌, ◌<◌, ◌≤◌, List, [], ◌++◌, length, take, drop, Result, Ok, Err, sym, ◌∙◌, ap, arith, length-drop, append-nil, min}
 use Rattle.std.proofs.lemmas.List.{take_all, drop_all}
 use borrow.Rule.Slice.PartMut.{put_mid}
 use Rattle.frame_formats.specs.declared.fault.FrameFault.{FrameFault}
 use Rattle.frame_formats.specs.Decoding.{block_of, content_of, cut, pieces_a}
-use Rattle.frame_formats.proofs.Pieces.{with_front, more_front, first_read, first_fault, nothing_read}
+use Rattle.frame_formats.proofs.Pieces.{with_front, more_front, first_read, first_fault, nothing_read, cut_more, cut_none, front_min}
 
 -- the blocks so far, and what reading the rest gives, are what reading all gives
 pub record IsSoFar (want : Result (List ℕ) FrameFault) (into rest : List ℕ) (len number : ℕ) : Type 0 where
@@ -14,28 +13,10 @@ pub record IsSoFar (want : Result (List ℕ) FrameFault) (into rest : List ℕ) 
   pub left : length rest ≡ length into - len + 2 * ((length into - len + 15) / 16)
   pub read : with_front (take len into) (content_of number (cut ((length into - len + 15) / 16) 18 rest)) ≡ want
 
-cut_more : (k : ℕ) (bytes : List ℕ) → cut (suc k) 18 bytes ≡ take 18 bytes ∷ cut k 18 (drop 18 bytes)
-unfolding cut
-cut_more k bytes = refl
-
-cut_none : (bytes : List ℕ) → cut zero 18 bytes ≡ []
-unfolding cut
-cut_none bytes = refl
-
--- the next block and its CRC, however many bytes are left
-next_piece : (rest : List ℕ) (left size : ℕ) → length rest ≡ left + 2 * ((left + 15) / 16) → size ≡ min left 16 → 0 < left → (take (size + 2) rest ≡ take 18 rest) × (drop (size + 2) rest ≡ drop 18 rest)
-next_piece rest left size whole is some = elim (cases_lt left 16) [
-  | inl low ↦ (
-    let all : length rest ≤ size + 2 = omega arith in let all18 : length rest ≤ 18 = omega arith in take_all (size + 2) rest all ∙ sym (take_all 18 rest all18),
-    let all : length rest ≤ size + 2 = omega arith in let all18 : length rest ≤ 18 = omega arith in drop_all (size + 2) rest all ∙ sym (drop_all 18 rest all18),
-  )
-  | inr high ↦ let same : size + 2 ≡ 18 = omega arith in (ap (λ n. take n rest) same, ap (λ n. drop n rest) same)
-]
-
 pub step : (want : Result (List ℕ) FrameFault) (into rest into' block piece after : List ℕ) (len number size : ℕ) → IsSoFar want into rest len number → len < length into → size ≡ min (length into - len) 16
     → piece ≡ take (size + 2) rest → after ≡ drop (size + 2) rest → block_of number piece ≡ Ok block → length into' ≡ length into → take (len + size) into' ≡ take len into ++ block → IsSoFar want into' after (len + size) (number + 1)
 step want into rest into' block piece after len number size so more is front behind found same put =
-    let p : (take (size + 2) rest ≡ take 18 rest) × (drop (size + 2) rest ≡ drop 18 rest) = next_piece rest (length into - len) size so.left is (omega arith)
+    let p : (take (size + 2) rest ≡ take 18 rest) × (drop (size + 2) rest ≡ drop 18 rest) = front_min (size + 2) 18 rest (omega (arith, so.left))
     in let k : ℕ = (length into' - (len + size) + 15) / 16
     in let counts : (length into - len + 15) / 16 ≡ suc k = omega arith
     in let here : block_of number (take 18 rest) ≡ Ok block = ap (block_of number) (sym (front ∙ p.0)) ∙ found
@@ -47,7 +28,7 @@ step want into rest into' block piece after len number size so more is front beh
           ap (λ x. with_front x (content_of (number + 1) (cut k 18 after))) put ∙ more_front (take len into) block (content_of (number + 1) (cut k 18 after))
           ∙ ap (λ x. with_front (take len into) (with_front block (content_of (number + 1) (cut k 18 x)))) (behind ∙ p.1)
           ∙ ap (with_front (take len into)) (sym (first_read number (take 18 rest) block (cut k 18 (drop 18 rest)) here))
-          ∙ ap (λ x. with_front (take len into) (content_of number x)) (sym (cut_more k rest))
+          ∙ ap (λ x. with_front (take len into) (content_of number x)) (sym (cut_more k 18 rest))
           ∙ ap (λ k. with_front (take len into) (content_of number (cut k 18 rest))) (sym counts)
           ∙ so.read;
     }
@@ -55,17 +36,17 @@ step want into rest into' block piece after len number size so more is front beh
 pub fault : (want : Result (List ℕ) FrameFault) (into rest piece : List ℕ) (len number size : ℕ) (e : FrameFault) → IsSoFar want into rest len number → len < length into → size ≡ min (length into - len) 16
     → piece ≡ take (size + 2) rest → block_of number piece ≡ Err e → want ≡ Err e
 fault want into rest piece len number size e so more is front found =
-    let p : (take (size + 2) rest ≡ take 18 rest) × (drop (size + 2) rest ≡ drop 18 rest) = next_piece rest (length into - len) size so.left is (omega arith)
+    let p : (take (size + 2) rest ≡ take 18 rest) × (drop (size + 2) rest ≡ drop 18 rest) = front_min (size + 2) 18 rest (omega (arith, so.left))
     in let k : ℕ = (length into - len - 1) / 16
     in let counts : (length into - len + 15) / 16 ≡ suc k = omega arith
     in let here : block_of number (take 18 rest) ≡ Err e = ap (block_of number) (sym (front ∙ p.0)) ∙ found
-    in sym so.read ∙ ap (λ k. with_front (take len into) (content_of number (cut k 18 rest))) counts ∙ ap (λ x. with_front (take len into) (content_of number x)) (cut_more k rest)
+    in sym so.read ∙ ap (λ k. with_front (take len into) (content_of number (cut k 18 rest))) counts ∙ ap (λ x. with_front (take len into) (content_of number x)) (cut_more k 18 rest)
     ∙ ap (with_front (take len into)) (first_fault number (take 18 rest) (cut k 18 (drop 18 rest)) e here)
 
 pub finished : (want : Result (List ℕ) FrameFault) (into rest : List ℕ) (len number : ℕ) → IsSoFar want into rest len number → length into ≤ len → want ≡ Ok into
 finished want into rest len number so end =
     let none : (length into - len + 15) / 16 ≡ 0 = omega arith
-    in sym so.read ∙ ap (λ k. with_front (take len into) (content_of number (cut k 18 rest))) none ∙ ap (λ x. with_front (take len into) (content_of number x)) (cut_none rest)
+    in sym so.read ∙ ap (λ k. with_front (take len into) (content_of number (cut k 18 rest))) none ∙ ap (λ x. with_front (take len into) (content_of number x)) (cut_none 18 rest)
     ∙ ap (with_front (take len into)) (nothing_read number) ∙ ap Ok (append-nil (take len into) ∙ take_all len into end)
 
 -- all of a frame, from its first block and the others

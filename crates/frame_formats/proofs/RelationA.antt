@@ -1,15 +1,14 @@
 -- Format A: what is decoded is a frame of its telegram, and each frame is decoded.
-use Rattle.std.proofs.Common.{◌≡◌, ℕ, zero, suc, ◌+◌, ◌-◌, ◌*◌, ◌/◌, ◌%◌, ◌<◌, ◌≤◌, List, [], ◌∷◌, ◌++◌, length, take, drop, get_or, Bool, true, false, cond, eqb, ltb, Result, Ok, Err, refl, sym, ◌∙◌, ap, subst, arith, length-append, length-drop, append-nil, eq-eqb}
+use Rattle.std.proofs.Common.{◌≡◌, ℕ, zero, suc, ◌+◌, ◌-◌, ◌*◌, ◌/◌, ◌%◌, ◌<◌, ◌≤◌, List, [], ◌∷◌, ◌++◌, length, take, drop, get_or, true, false, eqb, ltb, Ok, refl, sym, ◌∙◌, ap, arith, length-append, length-drop, append-nil, eq-eqb}
 use Rattle.std.proofs.lemmas.List.{take_all, drop_all, take_at, drop_at, take-append-drop, length-take, get_or_append_left}
 use Rattle.std.proofs.lemmas.Bool.{eqb-true, le-ltb, ltb-false, ne_eqb}
 use Rattle.std.specs.List.{flat_map, concat}
-use Rattle.std.specs.Prelude.{MatchResult, OnOk, IsOk}
-use Rattle.frame_formats.specs.declared.fault.FrameFault.{FrameFault}
 use Rattle.frame_formats.specs.declared.fault.FrameFault.TheVariants as faults
 use Rattle.frame_formats.specs.Crc.{crc_of, IsBytes}
-use Rattle.frame_formats.specs.Frames.{AreSixteens, AreChecked, IsTelegram, FrameA}
-use Rattle.frame_formats.specs.Decoding.{◌>>=◌, with_crc, frame_len, cut, pieces_a, content_of, block_of, decoded_a}
-use Rattle.frame_formats.proofs.Pieces.{with_front, first_read, nothing_read}
+use Rattle.frame_formats.specs.Frames.{AreSixteens, FrameA}
+use Rattle.frame_formats.specs.Decoding.{with_crc, frame_len, cut, pieces_a, content_of, block_of, decoded_a}
+use Rattle.frame_formats.proofs.Chain.{chain_ok, chain_passed}
+use Rattle.frame_formats.proofs.Pieces.{with_front, first_read, nothing_read, cut_none}
 use Rattle.frame_formats.proofs.Checked.{bytes-take, bytes-drop, bytes_same, byte_at, checked_is, is_checked, checked_same, content_bytes, block_found, block_again, length-with_crc, bind_ok}
 
 join_blocks : (b : List ℕ) (bs : List (List ℕ)) → length b ≡ 16 → AreSixteens bs → AreSixteens (b ∷ bs)
@@ -49,33 +48,20 @@ blocks_found (suc (suc k)) n left bytes t all some is whole read =
       omega (arith, ap length one.4, length-append one.0 one.1, piece.1, length-take 18 bytes, rest.4),
     )
 
--- an if-chain that came to its last test
-chain_ok : (a b c : Bool) (e f g : FrameFault) (x : Result (List ℕ) FrameFault) (z : List ℕ) → cond a (Err e) (cond b (Err f) (cond c x (Err g))) ≡ Ok z → (b ≡ false) × (c ≡ true) × (x ≡ Ok z)
-chain_ok true b c e f g x z is = cc
-chain_ok false true c e f g x z is = cc
-chain_ok false false true e f g x z is = (refl, refl, is)
-chain_ok false false false e f g x z is = cc
-
-chain_again : (a b c : Bool) (e f g : FrameFault) (x : Result (List ℕ) FrameFault) → a ≡ false → b ≡ false → c ≡ true → cond a (Err e) (cond b (Err f) (cond c x (Err g))) ≡ x
-chain_again true b c e f g x p q r = cc
-chain_again false true c e f g x p q r = cc
-chain_again false false true e f g x p q r = refl
-chain_again false false false e f g x p q r = cc
-
 decoded_ok : (bytes t : List ℕ) → decoded_a bytes ≡ Ok t → (10 ≤ get_or bytes 0 0) × (length bytes ≡ frame_len (get_or bytes 0 0)) × (content_of 1 (pieces_a bytes) ≡ Ok t)
 unfolding decoded_a
 decoded_ok bytes t is =
     let l : ℕ = get_or bytes 0 0
-    in let all : (ltb l 10 ≡ false) × (eqb (length bytes) (frame_len l) ≡ true) × (content_of 1 (pieces_a bytes) ≡ Ok t) =
-    chain_ok (eqb (length bytes) 0) (ltb l 10) (eqb (length bytes) (frame_len l)) faults.Empty (faults.Short l) (faults.Length (frame_len l) (length bytes)) (content_of 1 (pieces_a bytes)) t is
-    in (ltb-false _ _ all.0, eqb-true _ _ all.1, all.2)
+    in let all : (ltb l 10 ≡ false) × (false ≡ false) × (eqb (length bytes) (frame_len l) ≡ true) × (content_of 1 (pieces_a bytes) ≡ Ok t) =
+    chain_ok (eqb (length bytes) 0) (ltb l 10) false (eqb (length bytes) (frame_len l)) faults.Empty (faults.Short l) faults.Empty (faults.Length (frame_len l) (length bytes)) (content_of 1 (pieces_a bytes)) t is
+    in (ltb-false _ _ all.0, eqb-true _ _ all.2, all.3)
 
 decoded_again : (bytes : List ℕ) → 10 ≤ get_or bytes 0 0 → length bytes ≡ frame_len (get_or bytes 0 0) → decoded_a bytes ≡ content_of 1 (pieces_a bytes)
 unfolding decoded_a
 decoded_again bytes least whole =
     let l : ℕ = get_or bytes 0 0
-    in chain_again (eqb (length bytes) 0) (ltb l 10) (eqb (length bytes) (frame_len l)) faults.Empty (faults.Short l) (faults.Length (frame_len l) (length bytes)) (content_of 1 (pieces_a bytes))
-    (ne_eqb _ _ (λ e. absurd (omega arith))) (le-ltb _ _ least) (eq-eqb _ _ whole)
+    in chain_passed (eqb (length bytes) 0) (ltb l 10) false (eqb (length bytes) (frame_len l)) faults.Empty (faults.Short l) faults.Empty (faults.Length (frame_len l) (length bytes)) (content_of 1 (pieces_a bytes))
+    (ne_eqb _ _ (λ e. absurd (omega arith))) (le-ltb _ _ least) refl (eq-eqb _ _ whole)
 
 -- a telegram begins as its frame does
 same_head : (t bytes first more check rest : List ℕ) → t ≡ first ++ more → bytes ≡ first ++ check ++ rest → 0 < length first → get_or t 0 0 ≡ get_or bytes 0 0
@@ -106,7 +92,7 @@ telegram_found bytes t l all is least len read =
 pub found : (bytes t : List ℕ) → IsBytes bytes → decoded_a bytes ≡ Ok t → FrameA bytes t
 found bytes t all is = let ok = decoded_ok bytes t is in telegram_found bytes t (get_or bytes 0 0) all refl ok.0 ok.1 ok.2
 
-blocks_len : (blocks : List (List ℕ)) → AreSixteens blocks → (length blocks ≡ (length (concat blocks) + 15) / 16) × (length (flat_map with_crc blocks) ≡ length (concat blocks) + 2 * length blocks) × (0 < length (concat blocks))
+pub blocks_len : (blocks : List (List ℕ)) → AreSixteens blocks → (length blocks ≡ (length (concat blocks) + 15) / 16) × (length (flat_map with_crc blocks) ≡ length (concat blocks) + 2 * length blocks) × (0 < length (concat blocks))
 blocks_len [] are = absurd are
 blocks_len (b ∷ []) are = (omega (arith, length-append b []), omega (arith, length-append b [], length-append (with_crc b) [], length-with_crc b), omega (arith, length-append b []))
 blocks_len (b ∷ c ∷ bs) are =
@@ -124,15 +110,11 @@ one_again k n b rest bytes others front back read =
     first_read n (take 18 bytes) b (cut k 18 (drop 18 bytes)) (ap (block_of n) front ∙ block_again n b)
     ∙ ap (with_front b) (ap (λ x. content_of (n + 1) (cut k 18 x)) back ∙ read)
 
-cut_none : (bytes : List ℕ) → cut zero 18 bytes ≡ []
-unfolding cut
-cut_none bytes = refl
-
 blocks_again : (blocks : List (List ℕ)) (n : ℕ) → AreSixteens blocks → content_of n (cut (length blocks) 18 (flat_map with_crc blocks)) ≡ Ok (concat blocks)
 blocks_again [] n are = absurd are
 blocks_again (b ∷ []) n are =
     let short : length (with_crc b ++ []) ≤ 18 = omega (arith, length-append (with_crc b) [], length-with_crc b, are.1)
-    in one_again zero n b [] (with_crc b ++ []) [] (take_all 18 _ short ∙ append-nil (with_crc b)) (drop_all 18 _ short) (ap (content_of (n + 1)) (cut_none []) ∙ nothing_read (n + 1))
+    in one_again zero n b [] (with_crc b ++ []) [] (take_all 18 _ short ∙ append-nil (with_crc b)) (drop_all 18 _ short) (ap (content_of (n + 1)) (cut_none 18 []) ∙ nothing_read (n + 1))
 blocks_again (b ∷ c ∷ bs) n are =
     let size : length (with_crc b) ≡ 18 = omega (arith, length-with_crc b, are.0)
     in one_again (length (c ∷ bs)) n b (flat_map with_crc (c ∷ bs)) (with_crc b ++ flat_map with_crc (c ∷ bs)) (concat (c ∷ bs)) (take_at (with_crc b) _ 18 size) (drop_at (with_crc b) _ 18 size) (blocks_again (c ∷ bs) (n + 1) are.1)
@@ -153,12 +135,3 @@ only bytes t all is =
     ∙ first_read 1 (take 12 bytes) is.first (cut ((length bytes - 12 + 17) / 18) 18 (drop 12 bytes)) (ap (block_of 1) front ∙ block_again 1 is.first)
     ∙ ap (with_front is.first) (ap (λ k. content_of 2 (cut k 18 (drop 12 bytes))) count ∙ ap (λ x. content_of 2 (cut (length is.others) 18 x)) back ∙ blocks_again is.others 2 is.sixteens)
     ∙ ap Ok (sym is.content)
-
--- what the code answers, by the relation
-pub found_by : (bytes new : List ℕ) (r : Result (Unit {0}) FrameFault) → IsBytes bytes → MatchResult r (λ _. decoded_a bytes ≡ Ok new) (λ e. decoded_a bytes ≡ Err e) → OnOk r (FrameA bytes new)
-found_by bytes new (Ok u) all is = found bytes new all is
-found_by bytes new (Err e) all is = tt
-
-pub only_by : (bytes new t : List ℕ) (r : Result (Unit {0}) FrameFault) → IsBytes bytes → MatchResult r (λ _. decoded_a bytes ≡ Ok new) (λ e. decoded_a bytes ≡ Err e) → FrameA bytes t → IsOk r × (new ≡ t)
-only_by bytes new t (Ok u) all is frame = let h : Ok new ≡ Ok t = sym is ∙ only bytes t all frame in (refl, cc)
-only_by bytes new t (Err e) all is frame = let h : Err e ≡ Ok t = sym is ∙ only bytes t all frame in cc

@@ -1,32 +1,23 @@
 -- Writing the blocks of a telegram.
-use Rattle.std.proofs.Common.{◌≡◌, ℕ, zero, suc, ◌+◌, ◌-◌, ◌*◌, ◌/◌, ◌<◌, ◌≤◌, List, [], ◌∷◌, ◌++◌, length, take, drop, get_or, Bool, true, false, eqb, refl, sym, ◌∙◌, ap, arith, append_assoc, append-nil, length-append, length-drop, min, ◌⊎◌, inl, inr}
-use Rattle.std.proofs.lemmas.List.{take_all, drop_all, take-append-drop, length-take}
+use Rattle.std.proofs.Common.{◌≡◌, ℕ, zero, suc, ◌+◌, ◌-◌, ◌/◌, ◌<◌, ◌≤◌, List, [], ◌∷◌, ◌++◌, length, take, drop, false, eqb, sym, ◌∙◌, ap, arith, append_assoc, append-nil, length-drop, min, inl, inr}
+use Rattle.std.proofs.lemmas.List.{take_all, take-append-drop, length-take}
 use Rattle.std.proofs.lemmas.Bool.{cases_lt, eqb-false}
 use Rattle.std.specs.List.{flat_map, concat}
 use Rattle.frame_formats.specs.Crc.{IsBytes}
 use Rattle.frame_formats.specs.Frames.{AreSixteens, FrameA, IsTelegram}
 use Rattle.frame_formats.specs.Decoding.{with_crc, cut, frame_a}
+use Rattle.frame_formats.proofs.Pieces.{front_min}
 use Rattle.frame_formats.proofs.Checked.{bytes_same, is_checked}
 
 -- the blocks behind the first, each with its CRC
 abbrev pub others_with_crc : List ℕ → List ℕ
 others_with_crc rest = flat_map with_crc (cut ((length rest + 15) / 16) 16 rest)
 
--- the next block, however many bytes are left
-next_block : (rest : List ℕ) (size : ℕ) → size ≡ min (length rest) 16 → (take size rest ≡ take 16 rest) × (drop size rest ≡ drop 16 rest)
-next_block rest size is = elim (cases_lt (length rest) 16) [
-  | inl low ↦ (
-    let all : length rest ≤ size = omega arith in let all16 : length rest ≤ 16 = omega arith in take_all size rest all ∙ sym (take_all 16 rest all16),
-    let all : length rest ≤ size = omega arith in let all16 : length rest ≤ 16 = omega arith in drop_all size rest all ∙ sym (drop_all 16 rest all16),
-  )
-  | inr high ↦ let same : size ≡ 16 = omega arith in (ap (λ n. take n rest) same, ap (λ n. drop n rest) same)
-]
-
 pub one_more : (out out' rest block after : List ℕ) (end end' size : ℕ) → size ≡ min (length rest) 16 → 0 < length rest → block ≡ take size rest → after ≡ drop size rest → take end' out' ≡ take end out ++ with_crc block
     → take end' out' ++ others_with_crc after ≡ take end out ++ others_with_crc rest
 unfolding cut
 one_more out out' rest block after end end' size is some front back put =
-    let p : (take size rest ≡ take 16 rest) × (drop size rest ≡ drop 16 rest) = next_block rest size is
+    let p : (take size rest ≡ take 16 rest) × (drop size rest ≡ drop 16 rest) = front_min size 16 rest (omega arith)
     in let count : (length rest + 15) / 16 ≡ suc ((length after + 15) / 16) = omega (arith, ap length back, length-drop size rest)
     in ap (λ x. x ++ others_with_crc after) put ∙ append_assoc (take end out) (with_crc block) (others_with_crc after)
     ∙ ap (λ x. take end out ++ (with_crc x ++ others_with_crc after)) (front ∙ p.0)

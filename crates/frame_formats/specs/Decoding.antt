@@ -1,5 +1,5 @@
 -- What a decoder answers: the telegram of a frame, or the first fault. And the frame that an encoder writes.
-use Rattle.std.specs.Prelude.{ℕ, zero, suc, ◌≡◌, ◌+◌, ◌-◌, ◌*◌, ◌/◌, ◌%◌, ◌<◌, ◌≤◌, ◌||◌, List, [], ◌∷◌, ◌++◌, length, take, drop, slice_index, Result, Ok, Err, nat_lt, nat_eq, if◌then◌else◌}
+use Rattle.std.specs.Prelude.{ℕ, zero, suc, ◌+◌, ◌-◌, ◌*◌, ◌/◌, ◌%◌, ◌||◌, List, [], ◌∷◌, ◌++◌, length, take, drop, slice_index, Result, Ok, Err, nat_lt, nat_eq, if◌then◌else◌}
 use Rattle.std.specs.List.{flat_map}
 use Rattle.frame_formats.specs.Crc.{crc_of}
 use Rattle.frame_formats.specs.declared.fault.FrameFault.{FrameFault}
@@ -55,6 +55,12 @@ pieces_b bytes = if nat_lt (length bytes) 129 then bytes ∷ [] else take 128 by
 abbrev pub counted : List ℕ → List ℕ
 counted sent = (length sent - 1) ∷ drop 1 sent
 
+-- the telegram of so many bytes as their L says, or the first fault
+unfoldable pub telegram_b : List ℕ → Result (List ℕ) FrameFault
+telegram_b bytes = do
+  sent ← content_of 1 (pieces_b bytes)
+  Ok (counted sent)
+
 -- the telegram of a frame of format B, or the first fault
 unfoldable pub decoded_b : List ℕ → Result (List ℕ) FrameFault
 decoded_b bytes =
@@ -62,7 +68,7 @@ decoded_b bytes =
     if nat_eq (length bytes) 0 then Err faults.Empty
     else if nat_lt l 12 then Err (faults.Short l)
     else if nat_eq l 128 || nat_eq l 129 then Err (faults.Gap l)
-    else if nat_eq (length bytes) (l + 1) then (content_of 1 (pieces_b bytes) >>= λ sent. Ok (counted sent))
+    else if nat_eq (length bytes) (l + 1) then telegram_b bytes
     else Err (faults.Length (l + 1) (length bytes))
 
 -- a block, followed by its CRC, high byte first

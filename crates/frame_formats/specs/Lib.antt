@@ -1,4 +1,5 @@
 pub mod Crc
 pub mod Frames
 pub mod Decoding
+pub mod Faults
 pub mod Laws

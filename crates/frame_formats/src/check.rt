@@ -1,6 +1,6 @@
 //! The CRC of a block.
 ghost use Rattle.std.specs.Prelude.{◌≡◌, ◌+◌, ◌*◌, ◌^◌, ◌<◌, ℕ};
-ghost use Rattle.frame_formats.specs.Crc.{IsCrc, HasRemainder, OneCrc, crc_of, remainder};
+ghost use Rattle.frame_formats.specs.Crc.{IsCrc, HasRemainder, crc_of, remainder};
 
 // The remainder of each byte times x^16.
 const REMAINDERS: [u16; 256] = [
@@ -55,8 +55,3 @@ pub fn crc(bytes: &[u8]) -> u16
     }
     !register
 }
-
-/// Every block of bytes has one CRC.
-pub fn one_crc()
-    ensures { OneCrc }
-{}

@@ -1,7 +1,9 @@
 //! Format A: a block of 10 bytes, then blocks of 16, each with its CRC.
-ghost use Rattle.std.specs.Prelude.{◌≡◌, ◌≤◌, ◌<◌, ◌+◌, ◌-◌, ◌*◌, ◌/◌, ◌++◌, List, ℕ, length, take, slice_index, Ok, Err, IsOk, OnOk, OnErr, MatchResult};
+ghost use Rattle.std.specs.Prelude.{◌≡◌, ◌≤◌, ◌<◌, ◌+◌, ◌-◌, ◌*◌, ◌/◌, ◌++◌, List, ℕ, length, take, slice_index, Ok, Err, IsOk, OnOk, OnErr, IfErr, MatchResult};
 ghost use Rattle.std.specs.List.{flat_map};
 ghost use Rattle.frame_formats.specs.Frames.{FrameA};
+ghost use Rattle.frame_formats.specs.declared.fault.FrameFault.{FrameFault};
+ghost use Rattle.frame_formats.specs.Faults.{FaultA};
 ghost use Rattle.frame_formats.specs.Decoding.{cut, content_of, frame_len, pieces_a, decoded_a, frame_a, with_crc};
 
 use crate::blocks::{checked_block, put, put_with_crc};
@@ -97,9 +99,13 @@ pub fn decode_a(bytes: &[u8], out: &mut Telegram) -> Result<(), FrameFault>
     ensures found { OnOk result (FrameA bytes.now out.new) }
     ensures only { (t : List ℕ) → FrameA bytes.now t → IsOk result × (out.new ≡ t) }
 
-    // A fault is the first that the bytes show.
-    ensures exact { MatchResult result (λ _. decoded_a bytes.now ≡ Ok out.new) (λ e. decoded_a bytes.now ≡ Err e) }
+    // A fault is the first that the bytes show, and the first that they show is answered.
+    ensures fault { IfErr result (FaultA bytes.now) }
+    ensures each_fault { (fault : FrameFault) → FaultA bytes.now fault → result ≡ Err fault }
     ensures err { OnErr result (out.new ≡ out.old) }
+
+    // Both as one function of the bytes.
+    ensures exact { MatchResult result (λ _. decoded_a bytes.now ≡ Ok out.new) (λ e. decoded_a bytes.now ≡ Err e) }
 {
     decode(bytes, out)
 }

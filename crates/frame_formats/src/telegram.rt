@@ -16,7 +16,7 @@ fn front_of(bytes: &[u8], len: usize) -> &[u8]
 
 /// The bytes of a telegram, L, C, M, A, CI and all that follows, without CRCs: 11 to 256 bytes, of which the first, L,
 /// counts those behind it.
-#[derive(Drop)]
+#[derive(Debug, Drop)]
 pub struct Telegram {
     pub(crate) bytes: [u8; 256],
     pub(crate) len: u16,

@@ -1,6 +1,7 @@
 //! The address of a meter.
 ghost use Rattle.std.specs.Prelude.{◌≡◌, ◌<◌, ◌≤◌, ◌+◌, ◌^◌, ◌↔◌, ℕ, List, Ok, Err, IfOk, IfSome, IsTrue};
 ghost use Rattle.std.specs.Int.{w64, from_be_bytes};
+ghost use Rattle.meter_address.specs.Letters.{AreLetters, is_letter, letters_of_number};
 ghost use Rattle.hex.specs.declared.error.FromHexError.TheVariants.{InvalidHexCharacter};
 
 use hex::FromHexError;
@@ -23,7 +24,7 @@ pub enum AddressFault {
 impl Address {
     ghost use Rattle.meter_address.specs.Address.{bytes_of, text_of, address_of, Spells, IsFault};
     ghost use Rattle.std.specs.Result.{result_ok};
-    ghost use Rattle.meter_address.specs.Letters.{manufacturer_of, AreLetters};
+    ghost use Rattle.meter_address.specs.Letters.{manufacturer_of, letters_of, AreLetters};
 
     /// The address with these bytes.
     #[tactic(auto, unfolding(crate::specs::Address::bytes_of))]
@@ -45,21 +46,14 @@ impl Address {
 
     /// The three letters of the manufacturer (EN 13757-3): none where bit 15 of M is set, or one of its three groups
     /// of five bits isn't 1 to 26.
-    #[tactic(auto, unfolding(crate::specs::Address::bytes_of))]
+    #[tactic(auto, unfolding(crate::specs::Address::bytes_of, crate::specs::Letters::letters_of))]
     pub fn letters(self) -> Option<[u8; 3]>
         ensures found { IfSome result (λ letters. AreLetters letters (manufacturer_of self)) }
         ensures only { (letters : List ℕ) → AreLetters letters (manufacturer_of self) → result ≡ Some letters }
+        ensures exact { result ≡ letters_of self }
     {
         let [low, high, ..] = self.to_bytes();
-        let manufacturer = u16::from_le_bytes([low, high]);
-        let first = manufacturer / 1024;
-        let second = manufacturer / 32 % 32;
-        let third = manufacturer % 32;
-        if is_letter(first) && is_letter(second) && is_letter(third) {
-            Some([capital(first), capital(second), capital(third)])
-        } else {
-            None
-        }
+        letters_of_manufacturer(u16::from_le_bytes([low, high]))
     }
 
     /// The address of a text: sixteen hexadecimal digits of either case.
@@ -100,9 +94,31 @@ fn fault_of(refusal: FromHexError) -> AddressFault
     }
 }
 
+// The three letters of M.
+fn letters_of_manufacturer(manufacturer: u16) -> Option<[u8; 3]>
+    ensures found { IfSome result (λ letters. AreLetters letters manufacturer) }
+    ensures only { (letters : List ℕ) → AreLetters letters manufacturer → result ≡ Some letters }
+    ensures exact { result ≡ letters_of_number manufacturer }
+{
+    let first = manufacturer / 1024;
+    let second = manufacturer / 32 % 32;
+    let third = manufacturer % 32;
+    if !is_letter_group(first) {
+        return None;
+    }
+    if !is_letter_group(second) {
+        return None;
+    }
+    if !is_letter_group(third) {
+        return None;
+    }
+    Some([capital(first), capital(second), capital(third)])
+}
+
 // Whether a group of five bits stands for a letter. With bit 15 of M set the first group is above 26.
-fn is_letter(group: u16) -> bool
-    ensures { IsTrue result ↔ ((1 ≤ group) × (group ≤ 26)) }
+fn is_letter_group(group: u16) -> bool
+    ensures fact { IsTrue result ↔ ((1 ≤ group) × (group ≤ 26)) }
+    ensures exact { result ≡ is_letter group }
 {
     1 <= group && group <= 26
 }

@@ -1,4 +1,7 @@
 //! What is commissioned of a meter.
+ghost use Rattle.std.specs.Prelude.{◌≡◌};
+ghost use Rattle.meter_address.specs.Commission.{most_last};
+
 use crate::address::Address;
 use std::marker::Model;
 
@@ -9,6 +12,18 @@ pub enum Mode {
     Five,
     /// Mode 7: AES-128-CBC and a CMAC, under keys derived from the meter's key.
     Seven,
+}
+
+impl Mode {
+    /// The greatest `last` of a meter of this mode: an access number has one byte, a counter has four.
+    pub fn most_last(self) -> u32
+        ensures { result ≡ most_last self }
+    {
+        match self {
+            Mode::Five => 255,
+            Mode::Seven => u32::MAX,
+        }
+    }
 }
 
 /// What is known of a meter when it is commissioned, or when it is written to the next roster.

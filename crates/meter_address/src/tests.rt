@@ -49,26 +49,45 @@ fn letters(rt: HostRuntime) {
 #[test]
 fn payloads(rt: HostRuntime) {
     let bytes = [7u8; 95];
+    let Some(filled) = Payload::new(&bytes[..94]) else {
+        return;
+    };
     for (len, fits) in [(0, false), (1, true), (94, true), (95, false)] {
         let payload = Payload::new(&bytes[..len]);
         assert_eq!(rt; payload.is_some(), fits);
         if let Some(payload) = payload {
             assert_eq!(rt; payload.bytes(), &bytes[..len]);
-            assert_eq!(rt; payload.copied().bytes(), &bytes[..len]);
+            assert_eq!(rt; payload.copied(), payload);
+            assert_eq!(rt; payload == filled, len == 94);
         }
     }
 }
 
-#[test]
-fn commission_of_a_meter(rt: HostRuntime) {
-    let commission = Commission {
+fn commission(mode: Mode, last: Option<u32>) -> Option<Commission> {
+    if last.is_some_and(|last| last > mode.most_last()) {
+        return None;
+    }
+    Some(Commission {
         address: Address(0x9315_7856_3412_3303),
-        mode: Mode::Five,
+        mode,
         key: [7; 16],
-        last: Some(255),
+        last,
         down: 0,
         ids: 0,
-    };
-    let same = commission;
-    assert_eq!(rt; commission, same);
+    })
+}
+
+#[test]
+fn commissions(rt: HostRuntime) {
+    let cases = [
+        (Mode::Five, Some(255), true),
+        (Mode::Five, Some(256), false),
+        (Mode::Seven, Some(u32::MAX), true),
+        (Mode::Five, None, true),
+    ];
+    for (mode, last, fits) in cases {
+        let made = commission(mode, last);
+        assert_eq!(rt; made.is_some(), fits);
+        assert_eq!(rt; made.map(|made| made.last), fits.then_some(last));
+    }
 }

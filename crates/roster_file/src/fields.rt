@@ -36,11 +36,7 @@ fn read_last(mode: Mode, text: &[u8]) -> Option<Option<u32>>
     if text == b"-".as_slice() {
         return Some(None);
     }
-    let most = match mode {
-        Mode::Five => u64::from(u8::MAX),
-        Mode::Seven => u64::from(u32::MAX),
-    };
-    match read_number(text, most) {
+    match read_number(text, u64::from(mode.most_last())) {
         Some(last) => Some(Some(last as u32)),
         None => None,
     }

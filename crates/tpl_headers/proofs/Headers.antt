@@ -1,18 +1,15 @@
 -- What is read is spelled so, and what is spelled so is read.
-use Rattle.std.proofs.Common.{◌≡◌, ℕ, suc, ◌+◌, ◌^◌, ◌<◌, Bool, true, false, cond, eqb, ◌||◌, ◌⊎◌, List, [], ◌∷◌, ◌++◌, length, get_or, Option, Some, None, option_map, is_some, Result, Ok, Err, refl, sym, ap, subst, ◌∙◌, append_assoc, arith, inl, inr}
-use Rattle.std.specs.Prelude.{IfOk, IfSome, ok_or, option_and_then}
-use Rattle.std.proofs.lemmas.Bool.{eqb-true}
+use Rattle.std.proofs.Common.{◌≡◌, ℕ, ◌+◌, ◌^◌, ◌<◌, true, false, eqb, ◌||◌, ◌⊎◌, List, [], ◌∷◌, ◌++◌, length, Option, Some, None, option_map, is_some, Result, Ok, Err, refl, sym, ap, subst, ◌∙◌, append_assoc, arith, inl, inr}
+use Rattle.std.specs.Prelude.{IfOk, IfSome, ok_or}
 use Rattle.std.proofs.lemmas.Bool.Decides.{nat_tests}
 use Rattle.std.proofs.lemmas.List.{length-append}
 use Rattle.std.proofs.lemmas.Option.{option_and_then_some}
 use Rattle.meter_address.specs.declared.address.Address.{Address}
 use Rattle.tpl_headers.specs.declared.header.Tpl.{Tpl}
 use Rattle.tpl_headers.specs.declared.header.TplFault.{TplFault}
-use Rattle.tpl_headers.specs.declared.header.TplFault.TheVariants.{Truncated, Unbuilt}
-use Rattle.tpl_headers.specs.declared.tail.Tail.{Tail}
 use Rattle.tpl_headers.specs.Configuration.{mode_of}
-use Rattle.tpl_headers.specs.Header.{IsShortCi, IsLongCi, extension_bytes, tail_bytes, header_order, spelling, address_bytes, HasItsAddress, HasItsExtension, IsHeader, Begins, tail_at, address_at, with_tail, short_at, long_at, header_at}
-use Rattle.tpl_headers.proofs.Parts.{IsBytes, IsBytes-rest, chosen, map_some, TakesTail, tail_takes, tail_again, TakesAddress, address_takes, address_again, length-header_order}
+use Rattle.tpl_headers.specs.Header.{IsShortCi, IsLongCi, cfe_bytes, tail_bytes, header_order, tpl_bytes, HasItsAddress, HasItsExtension, IsHeader, BeginsWithTpl, tail_at, address_at, with_tail, short_at, long_at, tpl_at}
+use Rattle.tpl_headers.proofs.Parts.{IsBytes, IsBytes-rest, chosen, map_some, tail_takes, tail_again, address_takes, address_again, length-header_order}
 
 -- one of two numbers
 either_is : (x a b : ℕ) → (eqb x a || eqb x b) ≡ true → (x ≡ a) ⊎ (x ≡ b)
@@ -22,19 +19,19 @@ ok_or_ok : (o : Option Tpl) (f : TplFault) (t : Tpl) → ok_or o f ≡ Ok t → 
 ok_or_ok (Some x) f t e = let same : x ≡ t = cc in ap Some same
 ok_or_ok None f t e = absurd cc
 
-short_takes : (ci : ℕ) (rest : List ℕ) (t : Tpl) → IsShortCi ci → IsBytes rest → short_at ci rest ≡ Some t → Begins (ci ∷ rest) t
+short_takes : (ci : ℕ) (rest : List ℕ) (t : Tpl) → IsShortCi ci → IsBytes rest → short_at ci rest ≡ Some t → BeginsWithTpl (ci ∷ rest) t
 unfolding short_at
 short_takes ci rest t short fits e =
     let read = map_some (with_tail ci None 1) (tail_at rest) t e in
     let tail = tail_takes rest read.0 fits read.1 in
-    let made : Begins (ci ∷ rest) (with_tail ci None 1 read.0) = record {
+    let made : BeginsWithTpl (ci ∷ rest) (with_tail ci None 1 read.0) = record {
       is_header = record { address = short; extension = tail.extension; number = tt; cf = tail.cf; len = omega arith };
       rest = tail.rest;
       parts = ap (λ (x : List ℕ). ci ∷ x) tail.parts;
     } in
-    subst (Begins (ci ∷ rest)) read.2 made
+    subst (BeginsWithTpl (ci ∷ rest)) read.2 made
 
-long_takes : (ci : ℕ) (rest : List ℕ) (t : Tpl) → IsLongCi ci → IsBytes rest → long_at ci rest ≡ Some t → Begins (ci ∷ rest) t
+long_takes : (ci : ℕ) (rest : List ℕ) (t : Tpl) → IsLongCi ci → IsBytes rest → long_at ci rest ≡ Some t → BeginsWithTpl (ci ∷ rest) t
 unfolding long_at
 long_takes ci rest t long fits e =
     option_and_then_some (λ x. option_map (with_tail ci (Some x.0) 9) (tail_at x.1)) (address_at rest) t e (λ x first second.
@@ -42,7 +39,7 @@ long_takes ci rest t long fits e =
     let address = address_takes rest x.0 x.1 fits first in
     let tail = tail_takes x.1 read.0 address.rest_fits read.1 in
     let tail_text : List ℕ = tail_bytes read.0.acc read.0.status read.0.cf read.0.cfe in
-    let made : Begins (ci ∷ rest) (with_tail ci (Some x.0) 9 read.0) = record {
+    let made : BeginsWithTpl (ci ∷ rest) (with_tail ci (Some x.0) 9 read.0) = record {
       is_header = record {
         address = long;
         extension = tail.extension;
@@ -53,11 +50,11 @@ long_takes ci rest t long fits e =
       rest = tail.rest;
       parts = ap (λ (y : List ℕ). ci ∷ y) (address.parts ∙ ap (λ (y : List ℕ). address.eight ++ y) tail.parts ∙ sym (append_assoc address.eight tail_text tail.rest) ∙ ap (λ (y : List ℕ). (y ++ tail_text) ++ tail.rest) address.order);
     } in
-    subst (Begins (ci ∷ rest)) read.2 made)
+    subst (BeginsWithTpl (ci ∷ rest)) read.2 made)
 
 -- what is read is spelled so
-takes : (bytes : List ℕ) (t : Tpl) → IsBytes bytes → header_at bytes ≡ Ok t → Begins bytes t
-unfolding header_at
+pub takes : (bytes : List ℕ) (t : Tpl) → IsBytes bytes → tpl_at bytes ≡ Ok t → BeginsWithTpl bytes t
+unfolding tpl_at
 takes [] t fits e = absurd cc
 takes (ci ∷ rest) t fits e =
     let rest_fits = IsBytes-rest ci rest fits in
@@ -78,53 +75,50 @@ short_test : (ci : ℕ) → IsLongCi ci → (eqb ci 0x7A || eqb ci 0x8A) ≡ fal
 short_test ci (inl e) = rw e refl
 short_test ci (inr e) = rw e refl
 
-short_ok : (ci : ℕ) (rest : List ℕ) (t : Tpl) → IsShortCi ci → short_at ci rest ≡ Some t → header_at (ci ∷ rest) ≡ Ok t
-unfolding header_at
+short_ok : (ci : ℕ) (rest : List ℕ) (t : Tpl) → IsShortCi ci → short_at ci rest ≡ Some t → tpl_at (ci ∷ rest) ≡ Ok t
+unfolding tpl_at
 short_ok ci rest t short read = rw (either_true ci 0x7A 0x8A short, read) refl
 
-long_ok : (ci : ℕ) (rest : List ℕ) (t : Tpl) → IsLongCi ci → long_at ci rest ≡ Some t → header_at (ci ∷ rest) ≡ Ok t
-unfolding header_at
+long_ok : (ci : ℕ) (rest : List ℕ) (t : Tpl) → IsLongCi ci → long_at ci rest ≡ Some t → tpl_at (ci ∷ rest) ≡ Ok t
+unfolding tpl_at
 long_ok ci rest t long read = rw (short_test ci long, either_true ci 0x72 0x8B long, read) refl
 
-short_again : (ci acc status cf len : ℕ) (cfe : Option ℕ) (rest : List ℕ) → cf < 2 ^ 16 → is_some cfe ≡ eqb (mode_of cf) 7 → len ≡ 1 + (4 + length (extension_bytes cfe))
+short_again : (ci acc status cf len : ℕ) (cfe : Option ℕ) (rest : List ℕ) → cf < 2 ^ 16 → is_some cfe ≡ eqb (mode_of cf) 7 → len ≡ 1 + (4 + length (cfe_bytes cfe))
     → short_at ci (tail_bytes acc status cf cfe ++ rest) ≡ Some (record { ci = ci; address = None; acc = acc; status = status; cf = cf; cfe = cfe; len = len })
 unfolding short_at
 short_again ci acc status cf len cfe rest fits mode same = rw (tail_again acc status cf cfe rest fits mode, same) refl
 
 long_again : (ci acc status cf len : ℕ) (a : Address) (cfe : Option ℕ) (rest : List ℕ) → a.0 < 2 ^ 64 → cf < 2 ^ 16 → is_some cfe ≡ eqb (mode_of cf) 7
-    → len ≡ 9 + (4 + length (extension_bytes cfe))
+    → len ≡ 9 + (4 + length (cfe_bytes cfe))
     → long_at ci (header_order a ++ (tail_bytes acc status cf cfe ++ rest)) ≡ Some (record { ci = ci; address = Some a; acc = acc; status = status; cf = cf; cfe = cfe; len = len })
 unfolding long_at
 long_again ci acc status cf len a cfe rest number fits mode same =
     rw (address_again a (tail_bytes acc status cf cfe ++ rest) number, tail_again acc status cf cfe rest fits mode, same) refl
 
 again_at : (rest : List ℕ) (address : Option Address) (ci acc status cf len : ℕ) (cfe : Option ℕ)
-    → (let t : Tpl = record { ci = ci; address = address; acc = acc; status = status; cf = cf; cfe = cfe; len = len } in IsHeader t → header_at (spelling t ++ rest) ≡ Ok t)
+    → (let t : Tpl = record { ci = ci; address = address; acc = acc; status = status; cf = cf; cfe = cfe; len = len } in IsHeader t → tpl_at (tpl_bytes t ++ rest) ≡ Ok t)
 again_at rest None ci acc status cf len cfe h =
     short_ok ci _ _ h.address (short_again ci acc status cf len cfe rest h.cf h.extension (h.len ∙ omega arith))
 again_at rest (Some a) ci acc status cf len cfe h =
-    let counted : len ≡ 9 + (4 + length (extension_bytes cfe)) = h.len ∙ omega (arith, length-append (header_order a) (tail_bytes acc status cf cfe), length-header_order a) in
-    ap (λ (x : List ℕ). header_at (ci ∷ x)) (append_assoc (header_order a) (tail_bytes acc status cf cfe) rest)
+    let counted : len ≡ 9 + (4 + length (cfe_bytes cfe)) = h.len ∙ omega (arith, length-append (header_order a) (tail_bytes acc status cf cfe), length-header_order a) in
+    ap (λ (x : List ℕ). tpl_at (ci ∷ x)) (append_assoc (header_order a) (tail_bytes acc status cf cfe) rest)
     ∙ long_ok ci _ _ h.address (long_again ci acc status cf len a cfe rest h.number h.cf h.extension counted)
 
 -- a spelt header is read, whatever follows it
-pub again : (rest : List ℕ) (t : Tpl) → IsHeader t → header_at (spelling t ++ rest) ≡ Ok t
+pub again : (rest : List ℕ) (t : Tpl) → IsHeader t → tpl_at (tpl_bytes t ++ rest) ≡ Ok t
 again rest t h = again_at rest t.address t.ci t.acc t.status t.cf t.len t.cfe h
 
-pub is_only : (bytes : List ℕ) (r : Result Tpl TplFault) → r ≡ header_at bytes → (t : Tpl) → Begins bytes t → r ≡ Ok t
-is_only bytes r h t begins = h ∙ ap header_at begins.parts ∙ again begins.rest t begins.is_header
+pub is_only : (bytes : List ℕ) (r : Result Tpl TplFault) → r ≡ tpl_at bytes → (t : Tpl) → BeginsWithTpl bytes t → r ≡ Ok t
+is_only bytes r h t begins = h ∙ ap tpl_at begins.parts ∙ again begins.rest t begins.is_header
 
-pub is_found : (bytes : List ℕ) (r : Result Tpl TplFault) → IsBytes bytes → r ≡ header_at bytes → IfOk r (λ t. Begins bytes t)
+pub is_found : (bytes : List ℕ) (r : Result Tpl TplFault) → IsBytes bytes → r ≡ tpl_at bytes → IfOk r (λ t. BeginsWithTpl bytes t)
 is_found bytes (Ok t) fits h = takes bytes t fits (sym h)
 is_found bytes (Err f) fits h = tt
 
-length-spelling : (address : Option Address) (ci acc status cf : ℕ) (cfe : Option ℕ) → length (ci ∷ (address_bytes address ++ tail_bytes acc status cf cfe)) ≡ 1 + length (address_bytes address) + 4 + length (extension_bytes cfe)
-length-spelling address ci acc status cf cfe = omega (arith, length-append (address_bytes address) (tail_bytes acc status cf cfe))
-
 -- a header that was written is read back
-pub written_again : (text rest : List ℕ) (t : Tpl) (n : ℕ) → text ≡ spelling t → n ≡ length (spelling t) → HasItsAddress t.ci t.address → HasItsExtension t.cf t.cfe
+pub written_again : (text rest : List ℕ) (t : Tpl) (n : ℕ) → text ≡ tpl_bytes t → n ≡ length (tpl_bytes t) → HasItsAddress t.ci t.address → HasItsExtension t.cf t.cfe
     → IfSome t.address (λ a. a.0 < 2 ^ 64) → t.cf < 2 ^ 16
-    → header_at (text ++ rest) ≡ Ok (record t { len = n })
+    → tpl_at (text ++ rest) ≡ Ok (record t { len = n })
 written_again text rest t n written len address extension number cf =
-    ap (λ (x : List ℕ). header_at (x ++ rest)) written
+    ap (λ (x : List ℕ). tpl_at (x ++ rest)) written
     ∙ again rest (record t { len = n }) (record { address = address; extension = extension; number = number; cf = cf; len = len })

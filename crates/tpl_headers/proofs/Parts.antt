@@ -1,7 +1,6 @@
 -- The parts of a header: what is read of each is spelled so, and what is spelled so is read.
-use Rattle.std.proofs.Common.{◌≡◌, ℕ, zero, suc, ◌+◌, ◌^◌, ◌<◌, Bool, true, false, cond, eqb, ◌||◌, ◌⊎◌, List, [], ◌∷◌, ◌++◌, length, get_or, take, drop, Option, Some, None, option_map, is_some, refl, sym, ap, subst, ◌∙◌, append_assoc, arith, inl, inr}
-use Rattle.std.specs.Int.{w16, w64, to_le_bytes, from_le_bytes, from_be_bytes}
-use Rattle.std.proofs.lemmas.Bool.{eqb-true}
+use Rattle.std.proofs.Common.{◌≡◌, ℕ, zero, suc, ◌^◌, ◌<◌, Bool, true, false, cond, eqb, ◌⊎◌, List, [], ◌∷◌, ◌++◌, length, get_or, take, drop, Option, Some, None, option_map, is_some, refl, sym, ap, subst, ◌∙◌, arith, inl, inr}
+use Rattle.std.specs.Int.{w16, w64, from_le_bytes, from_be_bytes}
 use Rattle.std.proofs.lemmas.Option.{some_pair_parts}
 use Rattle.std.proofs.lemmas.Nat.{le_bytes_2, from_le_bytes-to_le_bytes_2}
 use Rattle.meter_address.specs.declared.address.Address.{Address}
@@ -9,7 +8,7 @@ use Rattle.meter_address.specs.Address.{bytes_of}
 use Rattle.meter_address.proofs.Texts.{IsBytes-eight, bytes_of-made, length-bytes_of, from_be_bytes-bytes_of}
 use Rattle.tpl_headers.specs.declared.tail.Tail.{Tail}
 use Rattle.tpl_headers.specs.Configuration.{mode_of}
-use Rattle.tpl_headers.specs.Header.{extension_bytes, tail_bytes, header_order, extension_at, tail_at, address_at}
+use Rattle.tpl_headers.specs.Header.{cfe_bytes, tail_bytes, header_order, cfe_at, tail_at, address_at}
 
 abbrev pub IsBytes : List ℕ → Type 0
 IsBytes bytes = (i : ℕ) → get_or bytes i 0 < 256
@@ -33,9 +32,9 @@ map_some f None y e = absurd cc
 
 -- ---- the extension
 
-pub extension_takes : (cf : ℕ) (bytes : List ℕ) (cfe : Option ℕ) → extension_at cf bytes ≡ Some cfe
-    → (rest : List ℕ) × (bytes ≡ extension_bytes cfe ++ rest) × (is_some cfe ≡ eqb (mode_of cf) 7)
-unfolding extension_at
+pub extension_takes : (cf : ℕ) (bytes : List ℕ) (cfe : Option ℕ) → cfe_at cf bytes ≡ Some cfe
+    → (rest : List ℕ) × (bytes ≡ cfe_bytes cfe ++ rest) × (is_some cfe ≡ eqb (mode_of cf) 7)
+unfolding cfe_at
 extension_takes cf [] cfe e =
     elim (chosen (eqb (mode_of cf) 7) _ _ _ e) [
       | inl seven ↦ absurd (cc seven.1)
@@ -47,8 +46,8 @@ extension_takes cf (b ∷ bytes) cfe e =
       | inr other ↦ let nothing : None ≡ cfe = cc other.1 in (b ∷ bytes, rw (← nothing) refl, rw (← nothing) (sym other.0))
     ]
 
-pub extension_again : (cf : ℕ) (cfe : Option ℕ) (rest : List ℕ) → is_some cfe ≡ eqb (mode_of cf) 7 → extension_at cf (extension_bytes cfe ++ rest) ≡ Some cfe
-unfolding extension_at
+pub extension_again : (cf : ℕ) (cfe : Option ℕ) (rest : List ℕ) → is_some cfe ≡ eqb (mode_of cf) 7 → cfe_at cf (cfe_bytes cfe ++ rest) ≡ Some cfe
+unfolding cfe_at
 extension_again cf None [] mode = rw (← mode) refl
 extension_again cf None (b ∷ rest) mode = rw (← mode) refl
 extension_again cf (Some cfe) rest mode = rw (← mode) refl
@@ -73,27 +72,27 @@ tail_takes (a ∷ s ∷ []) t fits e = absurd cc
 tail_takes (a ∷ s ∷ l ∷ []) t fits e = absurd cc
 tail_takes (a ∷ s ∷ l ∷ h ∷ rest) t fits e =
     let cf : ℕ = from_le_bytes w16 (l ∷ h ∷ []) in
-    let read = map_some (tail_with a s cf) (extension_at cf rest) t e in
+    let read = map_some (tail_with a s cf) (cfe_at cf rest) t e in
     let extension = extension_takes cf rest read.0 read.1 in
     let two = le_bytes_2 (l ∷ h ∷ []) cf refl (IsBytes-two l h (fits 2) (fits 3)) refl in
     let made : TakesTail (a ∷ s ∷ l ∷ h ∷ rest) (tail_with a s cf read.0) = record {
       rest = extension.0;
-      parts = ap (λ (x : List ℕ). a ∷ s ∷ l ∷ h ∷ x) extension.1 ∙ ap (λ (x : List ℕ). a ∷ s ∷ (x ++ extension_bytes read.0) ++ extension.0) (sym two);
+      parts = ap (λ (x : List ℕ). a ∷ s ∷ l ∷ h ∷ x) extension.1 ∙ ap (λ (x : List ℕ). a ∷ s ∷ (x ++ cfe_bytes read.0) ++ extension.0) (sym two);
       cf = omega (arith, fits 2, fits 3);
       extension = extension.2;
     } in
     subst (TakesTail (a ∷ s ∷ l ∷ h ∷ rest)) read.2 made
 
-tail_parts : (acc status low high cf : ℕ) (cfe : Option ℕ) (rest : List ℕ) → from_le_bytes w16 (low ∷ high ∷ []) ≡ cf → extension_at cf rest ≡ Some cfe
+tail_parts : (acc status low high cf : ℕ) (cfe : Option ℕ) (rest : List ℕ) → from_le_bytes w16 (low ∷ high ∷ []) ≡ cf → cfe_at cf rest ≡ Some cfe
     → tail_at (acc ∷ status ∷ low ∷ high ∷ rest) ≡ Some (tail_with acc status cf cfe)
 unfolding tail_at
 tail_parts acc status low high cf cfe rest number read =
-    ap (λ (n : ℕ). option_map (tail_with acc status n) (extension_at n rest)) number ∙ ap (option_map (tail_with acc status cf)) read
+    ap (λ (n : ℕ). option_map (tail_with acc status n) (cfe_at n rest)) number ∙ ap (option_map (tail_with acc status cf)) read
 
 pub tail_again : (acc status cf : ℕ) (cfe : Option ℕ) (rest : List ℕ) → cf < 2 ^ 16 → is_some cfe ≡ eqb (mode_of cf) 7
     → tail_at (tail_bytes acc status cf cfe ++ rest) ≡ Some (tail_with acc status cf cfe)
 tail_again acc status cf cfe rest fits mode =
-    tail_parts acc status _ _ cf cfe (extension_bytes cfe ++ rest) (from_le_bytes-to_le_bytes_2 cf fits) (extension_again cf cfe rest mode)
+    tail_parts acc status _ _ cf cfe (cfe_bytes cfe ++ rest) (from_le_bytes-to_le_bytes_2 cf fits) (extension_again cf cfe rest mode)
 
 -- ---- the address
 

@@ -1,5 +1,5 @@
 -- The transport header (EN 13757-7, OMS Volume 2).
-use Rattle.std.specs.Prelude.{ℕ, ◌≡◌, ◌+◌, ◌<◌, ◌^◌, ◌⊎◌, List, [], ◌∷◌, ◌++◌, length, take, drop, Option, Some, None, option_map, option_and_then, is_some, ok_or, IfSome, Result, Ok, Err, ◌==◌, ◌||◌, if◌then◌else◌}
+use Rattle.std.specs.Prelude.{ℕ, ◌≡◌, ◌+◌, ◌<◌, ◌^◌, ◌⊎◌, List, [], ◌∷◌, ◌++◌, length, take, drop, Option, Some, None, option_map, option_and_then, is_some, ok_or, IfSome, Result, Err, ◌==◌, ◌||◌, if◌then◌else◌}
 use Rattle.std.specs.Int.{w16, w64, to_le_bytes, from_le_bytes, from_be_bytes}
 use Rattle.meter_address.specs.declared.address.Address.{Address}
 use Rattle.meter_address.specs.Address.{bytes_of}
@@ -17,23 +17,13 @@ abbrev pub IsLongCi : ℕ → Type 0
 IsLongCi ci = (ci ≡ 0x72) ⊎ (ci ≡ 0x8B)
 
 -- the extension of the configuration field, where there is one
-abbrev pub extension_bytes : Option ℕ → List ℕ
-extension_bytes None = []
-extension_bytes (Some cfe) = cfe ∷ []
+abbrev pub cfe_bytes : Option ℕ → List ℕ
+cfe_bytes None = []
+cfe_bytes (Some cfe) = cfe ∷ []
 
 -- what every header ends with: access number, status, configuration field with its low byte first, its extension
 abbrev pub tail_bytes : ℕ → ℕ → ℕ → Option ℕ → List ℕ
-tail_bytes acc status cf cfe = acc ∷ status ∷ to_le_bytes w16 cf ++ extension_bytes cfe
-
--- the eight bytes of an address in a header: identification, M, version and type, where the link layer has M first
-pub record IsInHeaderOrder (eight : List ℕ) (a : Address) : Type 0 where
-  pub manufacturer : List ℕ
-  pub identification : List ℕ
-  pub kind : List ℕ
-  pub two : length manufacturer ≡ 2
-  pub four : length identification ≡ 4
-  pub link : bytes_of a ≡ manufacturer ++ (identification ++ kind)
-  pub header : eight ≡ identification ++ (manufacturer ++ kind)
+tail_bytes acc status cf cfe = acc ∷ status ∷ to_le_bytes w16 cf ++ cfe_bytes cfe
 
 -- an address as a header has it: identification, M, version and type, where the link layer has M first
 abbrev pub header_order : Address → List ℕ
@@ -44,8 +34,8 @@ address_bytes None = []
 address_bytes (Some a) = header_order a
 
 -- the bytes of a header
-abbrev pub spelling : Tpl → List ℕ
-spelling t = t.ci ∷ (address_bytes t.address ++ tail_bytes t.acc t.status t.cf t.cfe)
+abbrev pub tpl_bytes : Tpl → List ℕ
+tpl_bytes t = t.ci ∷ (address_bytes t.address ++ tail_bytes t.acc t.status t.cf t.cfe)
 
 -- a header has an address exactly where its CI is that of a long header
 abbrev pub HasItsAddress : ℕ → Option Address → Type 0
@@ -56,32 +46,32 @@ HasItsAddress ci (Some a) = IsLongCi ci
 abbrev pub HasItsExtension : ℕ → Option ℕ → Type 0
 HasItsExtension cf cfe = is_some cfe ≡ (mode_of cf == 7)
 
--- what has a spelling
+-- what can be written as a header
 pub record IsHeader (t : Tpl) : Type 0 where
   pub address : HasItsAddress t.ci t.address
   pub extension : HasItsExtension t.cf t.cfe
   pub number : IfSome t.address (λ a. a.0 < 2 ^ 64)
   pub cf : t.cf < 2 ^ 16
-  pub len : t.len ≡ length (spelling t)
+  pub len : t.len ≡ length (tpl_bytes t)
 
--- the bytes begin with the spelling of the header
-pub record Begins (bytes : List ℕ) (t : Tpl) : Type 0 where
+-- the bytes begin with those of the header
+pub record BeginsWithTpl (bytes : List ℕ) (t : Tpl) : Type 0 where
   pub is_header : IsHeader t
   pub rest : List ℕ
-  pub parts : bytes ≡ spelling t ++ rest
+  pub parts : bytes ≡ tpl_bytes t ++ rest
 
 -- ---- reading from left to right, with the first fault
 
 -- the extension that stands behind a configuration field, none where it is cut off
-unfoldable pub extension_at : ℕ → List ℕ → Option (Option ℕ)
-extension_at cf [] = if mode_of cf == 7 then None else Some None
-extension_at cf (cfe ∷ rest) = if mode_of cf == 7 then Some (Some cfe) else Some None
+unfoldable pub cfe_at : ℕ → List ℕ → Option (Option ℕ)
+cfe_at cf [] = if mode_of cf == 7 then None else Some None
+cfe_at cf (cfe ∷ rest) = if mode_of cf == 7 then Some (Some cfe) else Some None
 
 -- the tail with which the bytes begin, none where it is cut off
 unfoldable pub tail_at : List ℕ → Option Tail
 tail_at (acc ∷ status ∷ low ∷ high ∷ rest) =
     let cf : ℕ = from_le_bytes w16 (low ∷ high ∷ []) in
-    option_map (λ cfe. record { acc = acc; status = status; cf = cf; cfe = cfe }) (extension_at cf rest)
+    option_map (λ cfe. record { acc = acc; status = status; cf = cf; cfe = cfe }) (cfe_at cf rest)
 tail_at _ = None
 
 -- the address in header order with which the bytes begin, and what follows, none where it is cut off
@@ -92,8 +82,9 @@ address_at _ = None
 
 -- a header with this tail, where the CI and the address have that many bytes
 abbrev pub with_tail : ℕ → Option Address → ℕ → Tail → Tpl
-with_tail ci address len t = record { ci = ci; address = address; acc = t.acc; status = t.status; cf = t.cf; cfe = t.cfe; len = len + (4 + length (extension_bytes t.cfe)) }
+with_tail ci address len t = record { ci = ci; address = address; acc = t.acc; status = t.status; cf = t.cf; cfe = t.cfe; len = len + (4 + length (cfe_bytes t.cfe)) }
 
+-- a header without an address, and one with an address, behind their CI
 unfoldable pub short_at : ℕ → List ℕ → Option Tpl
 short_at ci rest = option_map (with_tail ci None 1) (tail_at rest)
 
@@ -101,9 +92,9 @@ unfoldable pub long_at : ℕ → List ℕ → Option Tpl
 long_at ci rest = option_and_then (λ x. option_map (with_tail ci (Some x.0) 9) (tail_at x.1)) (address_at rest)
 
 -- the header with which the bytes begin, or the first fault
-unfoldable pub header_at : List ℕ → Result Tpl TplFault
-header_at [] = Err (Truncated 0)
-header_at (ci ∷ rest) =
+unfoldable pub tpl_at : List ℕ → Result Tpl TplFault
+tpl_at [] = Err (Truncated 0)
+tpl_at (ci ∷ rest) =
     if ci == 0x7A || ci == 0x8A then ok_or (short_at ci rest) (Truncated (1 + length rest))
     else if ci == 0x72 || ci == 0x8B then ok_or (long_at ci rest) (Truncated (1 + length rest))
     else Err (Unbuilt ci)

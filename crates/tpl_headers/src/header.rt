@@ -1,7 +1,7 @@
 //! Reading a transport header.
 ghost use Rattle.std.specs.Prelude.{◌≡◌, ◌+◌, ◌<◌, length, Ok, IfOk, option_map};
-ghost use Rattle.tpl_headers.specs.Configuration.{mode_of, blocks_of, derivation_of};
-ghost use Rattle.tpl_headers.specs.Header.{Begins, address_at, short_at, long_at, header_at, extension_bytes, with_tail};
+ghost use Rattle.tpl_headers.specs.Configuration.{mode_of, blocks_of, derivation_of, is_bidirectional, is_accessible};
+ghost use Rattle.tpl_headers.specs.Header.{BeginsWithTpl, address_at, short_at, long_at, tpl_at, cfe_bytes, with_tail};
 ghost use Rattle.tpl_headers.specs.declared.header.Tpl.{Tpl};
 
 use crate::tail::{Tail, mode, read_tail};
@@ -51,6 +51,20 @@ impl Tpl {
         (self.cf >> 4 & 0xF) as u8
     }
 
+    /// B, bit 15 of the configuration field. In mode 5 it says with A when the meter listens.
+    pub fn is_bidirectional(&self) -> bool
+        ensures { result ≡ is_bidirectional self.now.cf }
+    {
+        self.cf >> 15 & 1 == 1
+    }
+
+    /// A, bit 14 of the configuration field. In mode 5 it says with B when the meter listens.
+    pub fn is_accessible(&self) -> bool
+        ensures { result ≡ is_accessible self.now.cf }
+    {
+        self.cf >> 14 & 1 == 1
+    }
+
     /// Which derivation gives the keys of a message of mode 7: 1 is CMAC.
     pub fn derivation(&self) -> Option<u8>
         ensures { result ≡ option_map derivation_of self.now.cfe }
@@ -61,7 +75,7 @@ impl Tpl {
 
 // How many bytes an extension has.
 fn extension_len(cfe: Option<u8>) -> usize
-    ensures { result ≡ length (extension_bytes cfe) }
+    ensures { result ≡ length (cfe_bytes cfe) }
 {
     match cfe {
         None => 0,
@@ -117,9 +131,9 @@ fn read_long(ci: u8, rest: &[u8]) -> Option<Tpl>
 }
 
 // The header with which the bytes begin, or the first fault.
-#[tactic(auto, unfolding(crate::specs::Header::header_at))]
+#[tactic(auto, unfolding(crate::specs::Header::tpl_at))]
 fn read_header(bytes: &[u8]) -> Result<Tpl, TplFault>
-    ensures { result ≡ header_at bytes.now }
+    ensures { result ≡ tpl_at bytes.now }
 {
     let fault = TplFault::Truncated(bytes.len());
     match bytes {
@@ -133,11 +147,11 @@ fn read_header(bytes: &[u8]) -> Result<Tpl, TplFault>
 /// The transport header with which the bytes begin.
 pub fn read_tpl(bytes: &[u8]) -> Result<Tpl, TplFault>
     // What is read is spelled so, and what is spelled so is read.
-    ensures found { IfOk result (λ t. Begins bytes.now t) }
-    ensures only { (t : Tpl) → Begins bytes.now t → result ≡ Ok t }
+    ensures found { IfOk result (λ t. BeginsWithTpl bytes.now t) }
+    ensures only { (t : Tpl) → BeginsWithTpl bytes.now t → result ≡ Ok t }
 
     // A fault is the first that the bytes show.
-    ensures exact { result ≡ header_at bytes.now }
+    ensures exact { result ≡ tpl_at bytes.now }
 {
     read_header(bytes)
 }

@@ -1,7 +1,7 @@
 //! What every transport header ends with.
 ghost use Rattle.std.specs.Prelude.{◌≡◌, option_map};
 ghost use Rattle.tpl_headers.specs.Configuration.{mode_of};
-ghost use Rattle.tpl_headers.specs.Header.{extension_at, tail_at};
+ghost use Rattle.tpl_headers.specs.Header.{cfe_at, tail_at};
 
 // What stands behind the CI and the address.
 #[derive(Clone, Copy)]
@@ -20,9 +20,9 @@ pub(crate) fn mode(cf: u16) -> u8
 }
 
 // The extension behind a configuration field, none where it is cut off.
-#[tactic(auto, unfolding(crate::specs::Header::extension_at))]
+#[tactic(auto, unfolding(crate::specs::Header::cfe_at))]
 fn read_extension(cf: u16, bytes: &[u8]) -> Option<Option<u8>>
-    ensures { result ≡ extension_at cf bytes.now }
+    ensures { result ≡ cfe_at cf bytes.now }
 {
     if mode(cf) != 7 {
         return Some(None);

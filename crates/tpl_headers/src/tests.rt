@@ -49,13 +49,15 @@ fn headers(rt: HostRuntime) {
 
 #[test]
 fn written_header(rt: HostRuntime) {
-    let long = tpl(
-        0x72,
-        Some(Address(0x9315_7856_3412_3303)),
-        0x0720,
-        Some(0x10),
-        0,
-    );
+    let long = Tpl {
+        ci: 0x72,
+        address: Some(Address(0x9315_7856_3412_3303)),
+        acc: 0x2A,
+        status: 0x10,
+        cf: 0x0720,
+        cfe: Some(0x10),
+        len: 0,
+    };
     let mut out = [0xFF; 14];
     assert_eq!(rt; write_tpl(&long, &mut out), 14);
     assert_eq!(rt; out, LONG);
@@ -65,6 +67,9 @@ fn written_header(rt: HostRuntime) {
 fn configuration(rt: HostRuntime) {
     let gas = tpl(0x7A, None, 0x0520, None, 5);
     assert_eq!(rt; (gas.mode(), gas.blocks(), gas.derivation()), (5, 2, None));
+    assert!(rt; !gas.is_bidirectional() && !gas.is_accessible());
+    let open = tpl(0x7A, None, 0x8520, None, 5);
+    assert!(rt; open.is_bidirectional() && !open.is_accessible());
     let heat = tpl(0x7A, None, 0xE7F0, Some(0x2F), 6);
     assert_eq!(rt;
         (heat.mode(), heat.blocks(), heat.derivation()),

@@ -1,6 +1,6 @@
 //! Writing a transport header.
 ghost use Rattle.std.specs.Prelude.{◌≡◌, ◌+◌, ◌≤◌, ◌<◌, ◌^◌, IfSome, ◌++◌, [], ◌∷◌, ℕ, List, Option, Some, None, length, take, Ok};
-ghost use Rattle.tpl_headers.specs.Header.{HasItsAddress, HasItsExtension, header_order, address_bytes, extension_bytes, spelling, header_at};
+ghost use Rattle.tpl_headers.specs.Header.{HasItsAddress, HasItsExtension, header_order, address_bytes, cfe_bytes, tpl_bytes, tpl_at};
 
 use crate::header::Tpl;
 use meter_address::Address;
@@ -45,9 +45,9 @@ fn put_address(out: &mut [u8], at: usize, address: Option<Address>) -> usize
 // Writes the extension of the configuration field, where there is one.
 fn put_extension(out: &mut [u8], at: usize, cfe: Option<u8>) -> usize
     requires { at + 1 ≤ length out.old }
-    ensures end { result ≡ at + length (extension_bytes cfe) }
+    ensures end { result ≡ at + length (cfe_bytes cfe) }
     ensures most { result ≤ at + 1 }
-    ensures written { take result out.new ≡ take at out.old ++ extension_bytes cfe }
+    ensures written { take result out.new ≡ take at out.old ++ cfe_bytes cfe }
 {
     match cfe {
         None => at,
@@ -60,8 +60,8 @@ fn put_header(tpl: &Tpl, out: &mut [u8]) -> usize
     requires { length out.old ≡ 14 }
     ensures number { IfSome tpl.now.address (λ a. a.0 < 2 ^ 64) }
     ensures cf { tpl.now.cf < 2 ^ 16 }
-    ensures len { result ≡ length (spelling tpl.now) }
-    ensures spelt { take result out.new ≡ spelling tpl.now }
+    ensures len { result ≡ length (tpl_bytes tpl.now) }
+    ensures spelt { take result out.new ≡ tpl_bytes tpl.now }
 {
     let cf = tpl.cf.to_le_bytes();
     let end = put(out, 0, &[tpl.ci]);
@@ -75,11 +75,11 @@ fn put_header(tpl: &Tpl, out: &mut [u8]) -> usize
 pub fn write_tpl(tpl: &Tpl, out: &mut [u8; 14]) -> usize
     requires address { HasItsAddress tpl.now.ci tpl.now.address }
     requires extension { HasItsExtension tpl.now.cf tpl.now.cfe }
-    ensures len { result ≡ length (spelling tpl.now) }
-    ensures spelt { take result out.new ≡ spelling tpl.now }
+    ensures len { result ≡ length (tpl_bytes tpl.now) }
+    ensures spelt { take result out.new ≡ tpl_bytes tpl.now }
 
     // What is written is read back, whatever follows it.
-    ensures again { (rest : List ℕ) → header_at (take result out.new ++ rest) ≡ Ok (record tpl.now { len = result }) }
+    ensures again { (rest : List ℕ) → tpl_at (take result out.new ++ rest) ≡ Ok (record tpl.now { len = result }) }
 {
     put_header(tpl, out)
 }

@@ -1,9 +1,9 @@
 use Rattle.std.proofs.Common.{◌≡◌, ℕ, List, [], ◌∷◌, get_or, bit_xor, ap, ap₂, ◌∙◌, arith}
 use Rattle.std.specs.Int.{w32, from_be_bytes}
 use Rattle.aes_block.specs.Field.{substitute}
-use Rattle.aes_block.specs.Block.{power_of_x}
+use Rattle.aes_block.specs.Block.{power_of_x, column}
 use Rattle.aes_block.proofs.Cipher.{IsBlock-next_round_key}
-use Rattle.aes_block.specs.Words.{word, column}
+use Rattle.aes_block.specs.Words.{word}
 use Rattle.aes_block.proofs.ColumnWords.{bytes_at}
 use Rattle.aes_block.proofs.RoundWords.{next_words_are}
 use Rattle.aes_block.proofs.rounds.next_words.Goals as goal

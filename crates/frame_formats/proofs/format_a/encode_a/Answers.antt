@@ -1,8 +1,6 @@
-use Rattle.std.proofs.Common.{◌≡◌, ◌∙◌, ap, sym, subst, List, ℕ, ◌++◌, take, drop, arith}
+use Rattle.std.proofs.Common.{◌≡◌, ◌∙◌, ap, sym, subst, List, ℕ, ◌++◌, take, drop}
 use Rattle.frame_formats.specs.Crc.{IsBytes}
 use Rattle.frame_formats.specs.Frames.{FrameA}
-use Rattle.frame_formats.proofs.Division.{each_byte}
-use Rattle.frame_formats.proofs.Checked.{bytes_same}
 use Rattle.frame_formats.proofs.Writing.{frame_is, is_frame, others_with_crc}
 use Rattle.frame_formats.proofs.format_a.encode_a.Goals as goal
 

@@ -1,5 +1,5 @@
 use Rattle.std.proofs.Common.{arith, ◌∙◌, sym, ◌<◌, length}
-use Rattle.std.proofs.lemmas.Bool.{eqb-true, eqb-false, cases_lt}
+use Rattle.std.proofs.lemmas.Bool.{eqb-true}
 use Rattle.frame_formats.proofs.Writing.{one_more, all_written, some_left}
 use Rattle.frame_formats.proofs.format_a.put_others.Goals as goal
 

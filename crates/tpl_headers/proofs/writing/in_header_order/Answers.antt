@@ -1,5 +1,3 @@
-use Rattle.std.proofs.Common.{sym, ap, ◌∙◌}
-use Rattle.meter_address.proofs.Texts.{length-bytes_of}
 use Rattle.tpl_headers.proofs.Parts.{in_order_is}
 use Rattle.tpl_headers.proofs.writing.in_header_order.Goals as goal
 

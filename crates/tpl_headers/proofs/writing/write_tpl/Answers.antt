@@ -1,4 +1,3 @@
-use Rattle.std.proofs.Common.{rules, arith}
 use Rattle.tpl_headers.proofs.Headers.{written_again}
 use Rattle.tpl_headers.proofs.writing.write_tpl.Goals as goal
 

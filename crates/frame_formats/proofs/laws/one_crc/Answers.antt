@@ -1,5 +1,5 @@
 use Rattle.frame_formats.proofs.Division.{one_crc}
-use Rattle.frame_formats.proofs.check.one_crc.Goals as goal
+use Rattle.frame_formats.proofs.laws.one_crc.Goals as goal
 
 pub returns : goal.returns
 returns c = one_crc

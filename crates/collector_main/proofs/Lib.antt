@@ -1,0 +1,3 @@
+pub mod LineCounts
+pub mod Tellings
+pub mod Texts

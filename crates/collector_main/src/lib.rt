@@ -1,0 +1,15 @@
+//! The collector: its command words, a session of one receiver, and the top call.
+#![tactic(auto)]
+
+mod command_words;
+mod hearing;
+mod receiver;
+mod report;
+mod source_bytes;
+mod status;
+mod told;
+
+pub use command_words::{Plan, WordsFault, words};
+pub use receiver::Receiver;
+pub use status::Status;
+pub use told::{Told, tell};

@@ -1,0 +1,83 @@
+-- The commands that wait to be sent to a meter.
+use Rattle.std.specs.Prelude.{ℕ, ◌≡◌, ◌+◌, ◌-◌, ◌^◌, ◌<◌, ◌≤◌, Bool, not, ◌==◌, nat_le, if◌then◌else◌, List, [], ◌∷◌, ◌++◌, length, filter, find, is_some, Result, Ok, Err, ok_or}
+use Rattle.command_queue.specs.declared.command.Command.{Command}
+use Rattle.command_queue.specs.declared.command.QueueFault.{QueueFault}
+use Rattle.command_queue.specs.declared.command.QueueFault.TheVariants.{Full, IdsSpent}
+use Rattle.command_queue.specs.declared.command.NoSuch.{NoSuch}
+use Rattle.command_queue.specs.declared.command.TheConstants.{TRIES_MAX}
+use Rattle.command_queue.specs.declared.queue.TheConstants.{QUEUE_MAX}
+
+-- the last id that was given, and the commands that wait, the oldest one first
+pub record Pending : Type 0 where
+  pub ids : ℕ
+  pub commands : List Command
+
+-- ---- what holds of every queue
+
+-- the ids rise above a number from the oldest command to the newest, and none is above the last id that was given
+abbrev pub IdsRise : ℕ → List Command → ℕ → Type 0
+IdsRise above [] last = above ≤ last
+IdsRise above (c ∷ cs) last = (above < c.id) × IdsRise c.id cs last
+
+-- no command was sent yet
+abbrev pub AreUntried : List Command → Type 0
+AreUntried [] = Unit {0}
+AreUntried (c ∷ cs) = (c.tries ≡ 0) × AreUntried cs
+
+-- the oldest command was sent at most three times, and no other was sent yet
+abbrev pub OnlyOldestTried : List Command → Type 0
+OnlyOldestTried [] = Unit {0}
+OnlyOldestTried (c ∷ cs) = (c.tries ≤ TRIES_MAX) × AreUntried cs
+
+-- what holds of every queue
+pub record IsSound (q : Pending) : Type 0 where
+  pub few : length q.commands ≤ QUEUE_MAX
+  pub rising : IdsRise 0 q.commands q.ids
+  pub tries : OnlyOldestTried q.commands
+
+-- ---- putting, taking and trying
+
+-- a command with this id
+abbrev pub has_id : ℕ → Command → Bool
+has_id id c = c.id == id
+
+-- whether a command with this id waits
+unfoldable pub is_pending : ℕ → Pending → Bool
+is_pending id q = is_some (find (has_id id) q.commands)
+
+-- the id of the next command, or why there is none: a full queue comes first, then the last id
+unfoldable pub put_answer : Pending → Result ℕ QueueFault
+put_answer q = if nat_le QUEUE_MAX (length q.commands) then Err Full else if q.ids == 2 ^ 32 - 1 then Err IdsSpent else Ok (q.ids + 1)
+
+abbrev pub with_command_by : Pending → List ℕ → Result ℕ QueueFault → Pending
+with_command_by q payload (Err fault) = q
+with_command_by q payload (Ok id) = record { ids = id; commands = q.commands ++ record { id = id; tries = 0; payload = payload } ∷ [] }
+
+-- the queue after a command with this payload was put: it is the newest, unless it was refused
+unfoldable pub with_command : Pending → List ℕ → Pending
+with_command q payload = with_command_by q payload (put_answer q)
+
+-- no command with this id waits
+abbrev pub no_such : ℕ → NoSuch
+no_such id = record { 0 = id }
+
+-- the command with this id, or that there is none
+unfoldable pub take_answer : ℕ → Pending → Result Command NoSuch
+take_answer id q = ok_or (find (has_id id) q.commands) (no_such id)
+
+-- the queue without the command with this id
+unfoldable pub without_command : ℕ → Pending → Pending
+without_command id q = record q { commands = filter (λ c. not (has_id id c)) q.commands }
+
+-- a command waits, and the oldest one was sent fewer than three times
+abbrev pub HasTryLeft : List Command → Type 0
+HasTryLeft [] = ⊥
+HasTryLeft (c ∷ cs) = c.tries < TRIES_MAX
+
+abbrev pub one_try_more : List Command → List Command
+one_try_more [] = []
+one_try_more (c ∷ cs) = record c { tries = c.tries + 1 } ∷ cs
+
+-- the queue after its oldest command was sent once more
+unfoldable pub with_try : Pending → Pending
+with_try q = record q { commands = one_try_more q.commands }

@@ -1,0 +1,156 @@
+//! The queue of the commands that wait.
+ghost use Rattle.std.specs.Prelude.{◌≡◌};
+ghost use Rattle.command_queue.specs.Pending.{HasTryLeft, one_try_more};
+
+use crate::command::{Command, NoSuch, QueueFault};
+use arrayvec::ArrayVec;
+use meter_address::Payload;
+use std::default::MadeWith;
+use std::marker::Model;
+
+/// How many commands a queue has at most.
+pub const QUEUE_MAX: usize = 8;
+
+// What stands in a place that no command has.
+#[derive(Clone, Copy)]
+struct Blank;
+
+impl MadeWith<Blank> for Command {
+    fn made_with(_: Blank) -> Self {
+        Command {
+            id: 0,
+            tries: 0,
+            payload: Payload::new(&[0]).unwrap(),
+        }
+    }
+}
+
+/// The commands that wait to be sent to a meter, the oldest one first, in eight fixed places.
+#[derive(Drop)]
+pub struct Queue {
+    commands: ArrayVec<Command, QUEUE_MAX, Blank>,
+    ids: u32,
+}
+
+impl Model for Queue {
+    ghost use Rattle.command_queue.specs.Pending.{Pending, IsSound};
+
+    ghost Value = { Pending };
+
+    ghost view = { λ q. record { ids = q.ids; commands = q.commands.items } };
+
+    ghost invariant = { λ q. IsSound (record { ids = q.ids; commands = q.commands.items }) };
+}
+
+impl Queue {
+    ghost use Rattle.std.specs.Prelude.{◌≡◌, ◌≢◌, ◌<◌, ◌≤◌, ◌+◌, ◌-◌, ◌^◌, ◌↔◌, [], length, slice_get, All, Err, IsNone, IfSome, IfNone, OnErr};
+    ghost use Rattle.std.specs.List.{HoldsAt};
+    ghost use Rattle.std.specs.Option.{option_copied};
+    ghost use Rattle.command_queue.specs.Pending.{IsSound, HasTryLeft, no_such, put_answer, with_command, take_answer, without_command, with_try};
+
+    /// No command waits yet; `ids` is the last id that was given.
+    pub fn new(ids: u32) -> Queue
+        ensures { result ≡ record { ids = ids; commands = [] } }
+    {
+        Queue {
+            commands: ArrayVec::new_in(Blank),
+            ids,
+        }
+    }
+
+    /// Puts a command at the end of the queue and answers its id.
+    #[tactic(auto, unfolding(crate::specs::Pending::put_answer, crate::specs::Pending::with_command))]
+    pub fn put(&mut self, payload: Payload) -> Result<u32, QueueFault>
+        ensures answer { result ≡ put_answer self.old }
+        ensures after { self.new ≡ with_command self.old payload }
+
+        // A full queue is named first, and a refusal leaves the queue as it was.
+        ensures full { (result ≡ Err QueueFault.Full) ↔ (length self.old.commands ≡ QUEUE_MAX) }
+        ensures ids_spent { (result ≡ Err QueueFault.IdsSpent)
+            ↔ ((length self.old.commands < QUEUE_MAX) × (self.old.ids ≡ 2 ^ 32 - 1)) }
+        ensures refused { OnErr result (self.new ≡ self.old) }
+    {
+        if self.commands.is_full() {
+            return Err(QueueFault::Full);
+        }
+        if self.ids == u32::MAX {
+            return Err(QueueFault::IdsSpent);
+        }
+        self.ids += 1;
+        let id = self.ids;
+        self.commands.push(Command {
+            id,
+            tries: 0,
+            payload,
+        });
+        Ok(id)
+    }
+
+    // Where the command with this id stands.
+    fn place_of(&self, id: u32) -> Option<usize>
+        ensures found { IfSome result (λ place. HoldsAt (λ c. c.id ≡ id) self.now.commands place) }
+        ensures within { IfSome result (λ place. place < length self.now.commands) }
+        ensures none { IfNone result (All (λ c. c.id ≢ id) self.now.commands) }
+    {
+        self.commands.as_slice().iter().position(|c| c.id == id)
+    }
+
+    /// Takes the command with this id out of the queue.
+    pub fn take(&mut self, id: u32) -> Result<Command, NoSuch>
+        ensures answer { result ≡ take_answer id self.old }
+        ensures after { self.new ≡ without_command id self.old }
+        ensures was_sound { IsSound self.old }
+
+        // Without such a command the queue stays as it was.
+        ensures no_such { (result ≡ Err (no_such id)) ↔ All (λ c. c.id ≢ id) self.old.commands }
+        ensures refused { OnErr result (self.new ≡ self.old) }
+    {
+        let Some(place) = self.place_of(id) else {
+            return Err(NoSuch(id));
+        };
+        Ok(self.commands.remove(place))
+    }
+
+    /// How many commands wait.
+    pub fn pending(&self) -> usize
+        ensures count { result ≡ length self.now.commands }
+        ensures sound { IsSound self.now }
+    {
+        self.commands.len()
+    }
+
+    /// The command at a place, the oldest one first: none exactly where the place isn't below `pending`.
+    pub fn at(&self, place: usize) -> Option<&Command>
+        ensures command { option_copied result ≡ slice_get self.now.commands place }
+        ensures none { IsNone result ↔ (length self.now.commands ≤ place) }
+        ensures sound { IsSound self.now }
+    {
+        self.commands.as_slice().get(place)
+    }
+
+    /// The last id that was given.
+    pub fn ids(&self) -> u32
+        ensures { result ≡ self.now.ids }
+    {
+        self.ids
+    }
+
+    /// Notes that the oldest command was sent once more.
+    #[tactic(auto, unfolding(crate::specs::Pending::with_try))]
+    pub fn count_try(&mut self)
+        requires { HasTryLeft self.old.commands }
+        ensures { self.new ≡ with_try self.old }
+    {
+        count_first(self.commands.as_mut_slice());
+    }
+}
+
+// The first command was sent once more.
+fn count_first(commands: &mut [Command])
+    requires { HasTryLeft commands.old }
+    ensures { commands.new ≡ one_try_more commands.old }
+{
+    if let Some(oldest) = commands.first_mut() {
+        oldest.tries += 1;
+    }
+}

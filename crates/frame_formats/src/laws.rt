@@ -1,0 +1,23 @@
+//! What holds of frames as such. These functions do nothing: each one's contract is a law.
+ghost use Rattle.frame_formats.specs.Crc.{OneCrc};
+ghost use Rattle.frame_formats.specs.Laws.{OneTelegramA, OneTelegramB, OneFrameA};
+
+/// Every block of bytes has one CRC.
+pub fn one_crc()
+    ensures { OneCrc }
+{}
+
+/// Bytes are a frame of format A of at most one telegram.
+pub fn one_telegram_a()
+    ensures { OneTelegramA }
+{}
+
+/// Bytes are a frame of format B of at most one telegram.
+pub fn one_telegram_b()
+    ensures { OneTelegramB }
+{}
+
+/// A telegram has one frame of format A, which is read back.
+pub fn one_frame_a()
+    ensures { OneFrameA }
+{}

@@ -1,0 +1,4 @@
+pub mod Layers
+pub mod Target
+pub mod Opening
+pub mod Answers

@@ -1,0 +1,120 @@
+//! Messages of security mode 5 (OMS Volume 2): AES-128-CBC under the meter's key, checked by two bytes.
+ghost use Rattle.std.specs.Prelude.{◌≡◌, ◌+◌, ◌*◌, ◌<◌, ◌≤◌, [], ◌++◌, length, drop, replicate, Ok, Err, IfOk, IfErr, OnErr};
+ghost use Rattle.meter_address.specs.Address.{bytes_of};
+ghost use Rattle.tpl_headers.specs.Configuration.{blocks_of};
+ghost use Rattle.message_check.specs.Opening.{initialization_vector, access_in_configuration, decrypted5, rest_of, some_passed, check_bytes_passed, access_number_passed, opened5_after};
+ghost use Rattle.message_check.specs.Answers.{found_in};
+
+use crate::opening::{Opened, check_blocks, decrypt, emptied_if_refused, read_header_for};
+use crate::refusal::Reason;
+use afl_layer::Scratch;
+use ell_layer::Access;
+use meter_address::{Address, Commission, Mode};
+use tpl_headers::Tpl;
+
+// What CBC begins with: the meter's address, and eight times the access number.
+fn first_block(address: Address, acc: u8) -> [u8; 16]
+    ensures { result ≡ initialization_vector address acc }
+{
+    let mut iv = [acc; 16];
+    iv[..8].copy_from_slice(&address.to_bytes());
+    iv
+}
+
+// When the meter listens, as the configuration field says.
+fn access_of_configuration(cf: u16) -> Access
+    ensures { result ≡ access_in_configuration cf }
+{
+    Access::from_bits(cf >> 15 & 1 == 1, cf >> 14 & 1 == 1)
+}
+
+// Whether some block is encrypted.
+fn check_some_block(tpl: &Tpl) -> Result<(), Reason>
+    ensures exact { result ≡ some_passed tpl.now.cf }
+    ensures some { IfOk result (λ _. 0 < blocks_of tpl.now.cf) }
+{
+    if tpl.blocks() == 0 {
+        return Err(Reason::Unchecked);
+    }
+    Ok(())
+}
+
+// Whether the decrypted bytes begin with the two check bytes.
+fn check_bytes(decrypted: &[u8]) -> Result<(), Reason>
+    requires { 2 ≤ length decrypted.now }
+    ensures { result ≡ check_bytes_passed decrypted.now }
+{
+    let two = [decrypted[0], decrypted[1]];
+    if two != [0x2F, 0x2F] {
+        return Err(Reason::CheckBytes(two));
+    }
+    Ok(())
+}
+
+// Whether the access number isn't the last one.
+fn check_access_number(last: Option<u32>, acc: u8) -> Result<(), Reason>
+    ensures { result ≡ access_number_passed last acc }
+{
+    match last {
+        Some(last) if last == u32::from(acc) => Err(Reason::SameAccess(acc)),
+        _ => Ok(()),
+    }
+}
+
+// Decrypts the blocks behind the header in place.
+#[tactic(auto, unfolding(crate::specs::Opening::decrypted5))]
+fn decrypt_for(commission: &Commission, tpl: &Tpl, message: &mut [u8])
+    requires { tpl.now.len + 16 * blocks_of tpl.now.cf ≤ length message.old }
+    ensures payload { drop tpl.now.len message.new ≡ decrypted5 commission.now tpl.now message.old ++ rest_of tpl.now message.old }
+    ensures long { length (decrypted5 commission.now tpl.now message.old) ≡ 16 * blocks_of tpl.now.cf }
+{
+    let iv = first_block(commission.address, tpl.acc);
+    decrypt(&commission.key, &iv, tpl, message);
+}
+
+// What a message says after another, or the first refusal.
+#[tactic(auto, unfolding(crate::specs::Opening::opened5, crate::specs::Opening::compared5, crate::specs::Opening::opened5_after))]
+fn open_message(
+    commission: &Commission,
+    last: Option<u32>,
+    message: &mut [u8],
+) -> Result<Opened, Reason>
+    ensures opened { IfOk result (λ o. opened5_after last commission.now message.old ≡ Ok (found_in message.new o)) }
+    ensures within { IfOk result (λ o. o.from ≤ length message.new) }
+    ensures refused { IfErr result (λ r. opened5_after last commission.now message.old ≡ Err r) }
+{
+    let tpl = read_header_for(commission.address, 5, message)?;
+    check_blocks(&tpl, message)?;
+    check_some_block(&tpl)?;
+    decrypt_for(commission, &tpl, message);
+    let (_, payload) = message.split_at(tpl.len);
+    check_bytes(payload)?;
+    check_access_number(last, tpl.acc)?;
+    Ok(Opened {
+        counter: u32::from(tpl.acc),
+        from: tpl.len,
+        access: access_of_configuration(tpl.cf),
+    })
+}
+
+/// Checks a message of security mode 5, which begins with its transport header, and decrypts it in place under the
+/// meter's key. `last` is the meter's last stored access number. A refusal is the first that applies of `BadMessage`,
+/// `OtherAddress`, `Mode`, `ShortBlocks`, `Unchecked`, `CheckBytes` and `SameAccess`.
+pub fn open5(
+    commission: &Commission,
+    last: Option<u32>,
+    message: &mut Scratch,
+) -> Result<Opened, Reason>
+    requires { commission.now.mode ≡ Mode.Five }
+
+    // The payload is what the message has become, from the place `from` on.
+    ensures opened { IfOk result (λ o. opened5_after last commission.now message.old ≡ Ok (found_in message.new o)) }
+    ensures within { IfOk result (λ o. o.from ≤ length message.new) }
+
+    // A refused message is emptied.
+    ensures refused { IfErr result (λ r. opened5_after last commission.now message.old ≡ Err r) }
+    ensures emptied { OnErr result (message.new ≡ []) }
+{
+    let answer = open_message(commission, last, message.bytes_mut());
+    emptied_if_refused(answer, message)
+}

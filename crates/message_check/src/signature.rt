@@ -1,0 +1,110 @@
+//! What authenticates a message of security mode 7, and its MAC (EN 13757-7, OMS Volume 2).
+ghost use Rattle.std.specs.Prelude.{◌≡◌, ◌++◌, ℕ, List, take};
+ghost use Rattle.cbc_cmac.specs.Fed.{StandsFor};
+ghost use Rattle.cbc_cmac.specs.Mac.{cmac};
+ghost use Rattle.message_check.specs.Opening.{identification_of, control_passed, signature_of, length_bytes, mac_input, mac_of, mac_passed};
+
+use crate::refusal::Reason;
+use aes_block::Keys;
+use afl_layer::Auth;
+use cbc_cmac::Cmac;
+use key_derivation::{KeyUse, derive};
+use meter_address::{Address, Commission};
+
+// The parts of a message's authentication, all that have to be there.
+#[derive(Clone, Copy)]
+pub(crate) struct Signature {
+    // MCL, the message control.
+    pub mcl: u8,
+    // MCR, the message counter.
+    pub counter: u32,
+    // ML, the length of the message.
+    pub ml: Option<u16>,
+    // The MAC of the message, cut to eight bytes.
+    pub mac: [u8; 8],
+}
+
+// Whether the message control names AES-CMAC-128, cut to eight bytes.
+fn check_control(mcl: u8) -> Result<(), Reason>
+    ensures { result ≡ control_passed mcl }
+{
+    if mcl & 0xF == 5 {
+        Ok(())
+    } else {
+        Err(Reason::NoAuth)
+    }
+}
+
+// The parts of the authentication, where all that have to be are there.
+#[tactic(auto, unfolding(crate::specs::Opening::signature_of))]
+pub(crate) fn read_signature(auth: &Auth) -> Result<Signature, Reason>
+    ensures { result ≡ signature_of auth.now }
+{
+    let mcl = auth.mcl.ok_or(Reason::NoAuth)?;
+    let counter = auth.mcr.ok_or(Reason::NoAuth)?;
+    let mac = auth.mac.ok_or(Reason::NoAuth)?;
+    check_control(mcl)?;
+    Ok(Signature {
+        mcl,
+        counter,
+        ml: auth.ml,
+        mac,
+    })
+}
+
+// The identification in an address: four bytes as sent.
+pub(crate) fn identification(address: Address) -> [u8; 4]
+    ensures { result ≡ identification_of address }
+{
+    let [_, _, i, j, k, l, ..] = address.to_bytes();
+    [i, j, k, l]
+}
+
+// Takes in the message length, where it is there.
+fn update_with_length(mac: &mut Cmac, ml: Option<u16>)
+    ensures { (key message : List ℕ) → StandsFor mac.old key message → StandsFor mac.new key (message ++ length_bytes ml) }
+{
+    if let Some(ml) = ml {
+        mac.update(&ml.to_le_bytes());
+    }
+}
+
+// The CMAC of what authenticates a message.
+fn cmac_of_message(key: &[u8; 16], signature: &Signature, message: &[u8]) -> [u8; 16]
+    ensures { result ≡ cmac key.now (mac_input signature.now message.now) }
+{
+    let mut mac = Cmac::new(&Keys::new(key));
+    mac.update(&[signature.mcl]);
+    mac.update(&signature.counter.to_le_bytes());
+    update_with_length(&mut mac, signature.ml);
+    mac.update(message);
+    mac.finish()
+}
+
+// The MAC of a message: the first eight bytes of its CMAC under the derived MAC key.
+#[tactic(auto, unfolding(crate::specs::Opening::mac_of))]
+fn mac_of_message(commission: &Commission, signature: &Signature, message: &[u8]) -> [u8; 8]
+    ensures { result ≡ mac_of commission.now signature.now message.now }
+{
+    let id = identification(commission.address);
+    let key = derive(&commission.key, KeyUse::MeterMac, signature.counter, id);
+    let whole = cmac_of_message(&key, signature, message);
+    let mut mac = [0; 8];
+    mac.copy_from_slice(&whole[..8]);
+    mac
+}
+
+// Whether the MAC is that of the message.
+pub(crate) fn check_mac(
+    commission: &Commission,
+    signature: &Signature,
+    message: &[u8],
+) -> Result<(), Reason>
+    ensures { result ≡ mac_passed commission.now signature.now message.now }
+{
+    if mac_of_message(commission, signature, message) == signature.mac {
+        Ok(())
+    } else {
+        Err(Reason::BadMac)
+    }
+}

@@ -1,0 +1,241 @@
+-- What one step changes of a world.
+use Rattle.std.proofs.Common.{◌≡◌, ℕ, zero, suc, ◌<◌, ◌≤◌, ◌==◌, Bool, true, false, not, ◌||◌, cond, List, [], ◌∷◌, ◌++◌, length, get_or, set, reverse, map, filter, Option, Some, None, refl, ap, sym, ◌∙◌, arith, subst}
+use Rattle.std.specs.Prelude.{position, slice_get}
+use Rattle.std.specs.List.{list_any, position_or_len}
+use Rattle.std.proofs.lemmas.Bool.Decides.{nat_tests}
+use Rattle.std.proofs.lemmas.List.{reverse-append, reverse-reverse, map-append, append-nil, length-map}
+use Rattle.std.proofs.Math.ListN.{get_or-map}
+use Rattle.std.proofs.lemmas.List.Elements.{filter-append}
+use Rattle.std.proofs.lemmas.List.Quantifiers.{position-Some}
+use Rattle.std.proofs.lemmas.List.Sums.{prefix_len_passes}
+use Rattle.meter_address.specs.declared.address.Address.{Address}
+use Rattle.meter_address.specs.declared.commission.Mode.TheVariants.{Seven}
+use Rattle.meter_address.specs.Commission.{Commissioned}
+use Rattle.stranger_ring.specs.declared.strangers.Heard.{Heard}
+use Rattle.meter_slots.specs.declared.entry.Entry.{Entry}
+use Rattle.meter_slots.specs.declared.entry.Outcome.{Outcome}
+use Rattle.meter_slots.specs.declared.step.Landed.TheVariants.{Slot, Stranger}
+use Rattle.meter_slots.specs.declared.step.Step.{Step}
+use Rattle.meter_slots.specs.Directory.{AreApart}
+use Rattle.meter_slots.specs.Journal.{Book, outcome}
+use Rattle.meter_slots.specs.World.{Call, call_of, judged_journal, journal_of, is_for, calls_of, slot_of, is_commissioned, heard_of, strangers_of, WorldView, world_of, Lands, fresh_book, outcome_at, stepped_book, address_of_book, IsOrdered}
+
+same_number : (a b : ℕ) → a ≡ b → (a == b) ≡ true
+same_number a b h = grind (arith, nat_tests)
+
+eqb_swap : (a b : ℕ) → (a == b) ≡ (b == a)
+eqb_swap a b = grind (arith, nat_tests)
+
+-- ---- the slot of a meter after one more step
+
+abbrev has_number : ℕ → Book → Bool
+has_number n b = b.commission.address.0 == n
+
+-- a slot after any step
+abbrev stepped : Step → Book → Book
+stepped s b = cond (has_number s.address.0 b) (stepped_book s b) b
+
+pub journal_of-push : (c : Commissioned) (own : Address) (calls : List Call) (s : Call)
+    → journal_of c own (calls ++ s ∷ []) ≡ journal_of c own calls ++ record { source = s.source; line = s.line; event = s.event; outcome = outcome c own (reverse (journal_of c own calls)) s.event } ∷ []
+journal_of-push c own calls s =
+    let before = judged_journal c own (reverse calls) in
+    ap (λ cs. reverse (judged_journal c own cs)) (reverse-append calls (s ∷ []))
+    ∙ reverse-append (record { source = s.source; line = s.line; event = s.event; outcome = outcome c own before s.event } ∷ []) before
+    ∙ ap (λ (e : List Entry). reverse before ++ record { source = s.source; line = s.line; event = s.event; outcome = outcome c own e s.event } ∷ []) (sym (reverse-reverse before))
+
+slot_cond : (b : Bool) (own : Address) (c : Commissioned) (steps : List Step) (s : Step)
+    → record { own = own; commission = c; journal = journal_of c own (map call_of (filter (is_for c.address) steps ++ cond b (s ∷ []) [])) } ≡ cond b (stepped_book s (slot_of own steps c)) (slot_of own steps c)
+slot_cond true own c steps s =
+    ap (λ j. record { own = own; commission = c; journal = j })
+    (ap (journal_of c own) (map-append call_of (filter (is_for c.address) steps) (s ∷ [])) ∙ journal_of-push c own (calls_of c.address steps) (call_of s))
+slot_cond false own c steps s = ap (λ xs. record { own = own; commission = c; journal = journal_of c own (map call_of xs) }) (append-nil (filter (is_for c.address) steps))
+
+slot_of-push : (own : Address) (c : Commissioned) (steps : List Step) (s : Step) → slot_of own (steps ++ s ∷ []) c ≡ stepped s (slot_of own steps c)
+slot_of-push own c steps s =
+    ap (λ xs. record { own = own; commission = c; journal = journal_of c own (map call_of xs) }) (filter-append (is_for c.address) steps (s ∷ []))
+    ∙ slot_cond (is_for c.address s) own c steps s ∙ ap (λ b. cond b (stepped_book s (slot_of own steps c)) (slot_of own steps c)) (eqb_swap s.address.0 c.address.0)
+
+slots-push : (own : Address) (cs : List Commissioned) (steps : List Step) (s : Step) → map (slot_of own (steps ++ s ∷ [])) cs ≡ map (stepped s) (map (slot_of own steps) cs)
+slots-push own [] steps s = refl
+slots-push own (c ∷ cs) steps s =
+    ap (λ b. b ∷ map (slot_of own (steps ++ s ∷ [])) cs) (slot_of-push own c steps s) ∙ ap (λ bs. stepped s (slot_of own steps c) ∷ bs) (slots-push own cs steps s)
+
+-- ---- a step at the one place
+
+abbrev Lacks : ℕ → List Book → Type 0
+Lacks n bs = list_any (has_number n) bs ≡ false
+
+or_false : (x y : Bool) → (x || y) ≡ false → (x ≡ false) × (y ≡ false)
+or_false true y h = absurd cc
+or_false false y h = (refl, h)
+
+any-map : (n : ℕ) (bs : List Book) → list_any (λ a. a.0 == n) (map address_of_book bs) ≡ list_any (has_number n) bs
+any-map n [] = refl
+any-map n (b ∷ bs) = ap (λ t. has_number n b || t) (any-map n bs)
+
+stepped_lacks : (s : Step) (bs : List Book) → Lacks s.address.0 bs → map (stepped s) bs ≡ bs
+stepped_lacks s [] h = refl
+stepped_lacks s (b ∷ bs) h =
+    let parts = or_false (has_number s.address.0 b) (list_any (has_number s.address.0) bs) h in
+    ap (λ t. cond t (stepped_book s b) b ∷ map (stepped s) bs) parts.0 ∙ ap (λ xs. b ∷ xs) (stepped_lacks s bs parts.1)
+
+lacks_at : (n : ℕ) (bs : List Book) (place : ℕ) (d : Book) → Lacks n bs → place < length bs → has_number n (get_or bs place d) ≡ false
+lacks_at n [] place d h l = absurd (omega arith)
+lacks_at n (b ∷ bs) zero d h l = (or_false (has_number n b) (list_any (has_number n) bs) h).0
+lacks_at n (b ∷ bs) (suc place) d h l = lacks_at n bs place d (or_false (has_number n b) (list_any (has_number n) bs) h).1 (omega arith)
+
+other_number : (x b s : ℕ) → (x == b) ≡ false → x ≡ s → (b == s) ≡ false
+other_number x b s h e = grind (arith, nat_tests)
+
+set_stepped : (bs : List Book) (place : ℕ) (s : Step) (d : Book) → AreApart (map address_of_book bs) → place < length bs → (get_or bs place d).commission.address.0 ≡ s.address.0
+    → set bs place (stepped_book s (get_or bs place d)) ≡ map (stepped s) bs
+set_stepped [] place s d a h e = absurd (omega arith)
+set_stepped (b ∷ bs) zero s d a h e =
+    let lacks : Lacks s.address.0 bs = subst (λ n. Lacks n bs) e (sym (any-map b.commission.address.0 bs) ∙ a.0) in
+    ap (λ bs'. stepped_book s b ∷ bs') (sym (stepped_lacks s bs lacks)) ∙ ap (λ t. cond t (stepped_book s b) b ∷ map (stepped s) bs) (sym (same_number b.commission.address.0 s.address.0 e))
+set_stepped (b ∷ bs) (suc place) s d a h e =
+    let lacks : Lacks b.commission.address.0 bs = sym (any-map b.commission.address.0 bs) ∙ a.0 in
+    let differs = other_number (get_or bs place d).commission.address.0 b.commission.address.0 s.address.0 (lacks_at b.commission.address.0 bs place d lacks (omega arith)) e in
+    ap (λ bs'. b ∷ bs') (set_stepped bs place s d a.1 (omega arith) e) ∙ ap (λ t. cond t (stepped_book s b) b ∷ map (stepped s) bs) (sym differs)
+
+-- ---- the addresses stay
+
+stepped_address : (t : Bool) (s : Step) (b : Book) → address_of_book (cond t (stepped_book s b) b) ≡ address_of_book b
+stepped_address true s b = refl
+stepped_address false s b = refl
+
+addresses_stay : (s : Step) (bs : List Book) → map address_of_book (map (stepped s) bs) ≡ map address_of_book bs
+addresses_stay s [] = refl
+addresses_stay s (b ∷ bs) =
+    ap (λ a. a ∷ map address_of_book (map (stepped s) bs)) (stepped_address (has_number s.address.0 b) s b) ∙ ap (λ xs. b.commission.address ∷ xs) (addresses_stay s bs)
+
+-- ---- the place that the directory gives
+
+none_if : (b : Bool) (n : ℕ) → cond b (Some n) None ≡ None → b ≡ false
+none_if true n h = absurd cc
+none_if false n h = refl
+
+not_true : (b : Bool) → not b ≡ true → b ≡ false
+not_true true h = absurd cc
+not_true false h = refl
+
+none_any : (p : Address → Bool) (xs : List Address) (d : Address) → ((k : ℕ) → k < length xs → p (get_or xs k d) ≡ false) → list_any p xs ≡ false
+none_any p [] d h = refl
+none_any p (x ∷ xs) d h = ap (λ t. t || list_any p xs) (h 0 (omega arith)) ∙ none_any p xs d (λ k l. h (suc k) (omega arith))
+
+some_address : Address
+some_address = record { 0 = 0 }
+
+pub none_found : (bs : List Book) (directory : List Address) (n : ℕ) → IsOrdered bs directory → position (λ a. a.0 == n) directory ≡ None → Lacks n bs
+none_found bs directory n ordered h =
+    let p : Address → Bool = λ a. a.0 == n in
+    let past : length directory ≤ position_or_len p directory = let test = none_if _ _ h in grind (arith, nat_tests) in
+    let none : list_any p directory ≡ false = none_any p directory some_address (λ k within. not_true _ (prefix_len_passes (λ a. not (p a)) directory k some_address (omega arith))) in
+    sym (any-map n bs) ∙ ap (list_any p) (sym ordered.places) ∙ none
+
+pub found_at : (bs : List Book) (directory : List Address) (n place : ℕ) (d : Book) → IsOrdered bs directory → position (λ a. a.0 == n) directory ≡ Some place
+    → (place < length bs) × ((get_or bs place d).commission.address.0 ≡ n)
+found_at bs directory n place d ordered h =
+    let found = position-Some (λ a. a.0 == n) directory place (address_of_book d) h in
+    let within : place < length bs = omega (arith, ap length ordered.places, length-map bs address_of_book, found.0) in
+    let same : (get_or bs place d).commission.address.0 ≡ (get_or directory place (address_of_book d)).0 =
+    ap (λ (a : Address). a.0) (sym (get_or-map address_of_book bs place d) ∙ ap (λ xs. get_or xs place (address_of_book d)) (sym ordered.places)) in
+    (within, same ∙ is_same (get_or directory place (address_of_book d)).0 n found.1)
+  where
+    is_same : (a b : ℕ) → (a == b) ≡ true → a ≡ b
+    is_same a b h = grind (arith, nat_tests)
+
+-- ---- the order is kept
+
+pub ordered_step : (bs new : List Book) (directory : List Address) (place : ℕ) (s : Step) (d : Book) → IsOrdered bs directory → place < length bs → (get_or bs place d).commission.address.0 ≡ s.address.0
+    → new ≡ set bs place (stepped_book s (get_or bs place d)) → IsOrdered new directory
+ordered_step bs new directory place s d ordered within same made =
+    let apart : AreApart (map address_of_book bs) = subst AreApart ordered.places ordered.apart in
+    record {
+      places = ordered.places ∙ sym (addresses_stay s bs) ∙ ap (map address_of_book) (sym (made ∙ set_stepped bs place s d apart within same));
+      apart = ordered.apart;
+    }
+
+pub ordered_fresh : (own : Address) (cs : List Commissioned) → AreApart (map (λ c. c.address) cs) → IsOrdered (map (fresh_book own) cs) (map (λ c. c.address) cs)
+ordered_fresh own cs apart = record { places = same cs; apart = apart }
+  where
+    same : (cs : List Commissioned) → map (λ c. c.address) cs ≡ map address_of_book (map (fresh_book own) cs)
+    same [] = refl
+    same (c ∷ cs) = ap (λ xs. c.address ∷ xs) (same cs)
+
+-- ---- strangers
+
+any_slot : (n : ℕ) (own : Address) (cs : List Commissioned) (steps : List Step) → list_any (has_number n) (map (slot_of own steps) cs) ≡ list_any (λ c. c.address.0 == n) cs
+any_slot n own [] steps = refl
+any_slot n own (c ∷ cs) steps = ap (λ t. (c.address.0 == n) || t) (any_slot n own cs steps)
+
+any_at : (n : ℕ) (bs : List Book) (place : ℕ) (d : Book) → place < length bs → (get_or bs place d).commission.address.0 ≡ n → list_any (has_number n) bs ≡ true
+any_at n [] place d h e = absurd (omega arith)
+any_at n (b ∷ bs) zero d h e = ap (λ t. t || list_any (has_number n) bs) (same_number b.commission.address.0 n e)
+any_at n (b ∷ bs) (suc place) d h e = ap (λ t. has_number n b || t) (any_at n bs place d (omega arith) e) ∙ or_true (has_number n b)
+  where
+    or_true : (x : Bool) → (x || true) ≡ true
+    or_true true = refl
+    or_true false = refl
+
+strangers-push : (cs : List Commissioned) (steps : List Step) (s : Step) (t : Bool) → is_commissioned cs s ≡ t → strangers_of cs (steps ++ s ∷ []) ≡ strangers_of cs steps ++ cond t [] (heard_of s ∷ [])
+strangers-push cs steps s t h =
+    let strange : Step → Bool = λ x. not (is_commissioned cs x) in
+    ap (map heard_of) (filter-append strange steps (s ∷ [])) ∙ map-append heard_of (filter strange steps) (filter strange (s ∷ []))
+    ∙ ap (λ xs. map heard_of (filter strange steps) ++ xs) (last_one t h)
+  where
+    last_one : (t : Bool) → is_commissioned cs s ≡ t → map heard_of (filter (λ x. not (is_commissioned cs x)) (s ∷ [])) ≡ cond t [] (heard_of s ∷ [])
+    last_one true e = ap (λ u. map heard_of (cond (not u) (s ∷ []) [])) e
+    last_one false e = ap (λ u. map heard_of (cond (not u) (s ∷ []) [])) e
+
+-- ---- a world after one more step
+
+pub world_fresh : (own : Address) (cs : List Commissioned) → record { slots = map (fresh_book own) cs; strangers = [] } ≡ world_of own cs []
+unfolding world_of
+world_fresh own cs = refl
+
+pub world_strange : (own : Address) (cs : List Commissioned) (steps : List Step) (s : Step) (w : WorldView) → w ≡ world_of own cs steps → Lacks s.address.0 w.slots
+    → record { slots = w.slots; strangers = w.strangers ++ heard_of s ∷ [] } ≡ world_of own cs (steps ++ s ∷ [])
+unfolding world_of
+world_strange own cs steps s w e h =
+    let slots = map (slot_of own steps) cs in
+    let none : Lacks s.address.0 slots = sym (ap (λ (v : WorldView). list_any (has_number s.address.0) v.slots) e) ∙ h in
+    let no_commission : is_commissioned cs s ≡ false = sym (any_slot s.address.0 own cs steps) ∙ none in
+    ap (λ (v : WorldView). record { slots = v.slots; strangers = v.strangers ++ heard_of s ∷ [] }) e
+    ∙ ap (λ bs. record { slots = bs; strangers = strangers_of cs steps ++ heard_of s ∷ [] }) (sym (slots-push own cs steps s ∙ stepped_lacks s slots none))
+    ∙ ap (λ ts. record { slots = map (slot_of own (steps ++ s ∷ [])) cs; strangers = ts }) (sym (strangers-push cs steps s false no_commission))
+
+pub world_own : (own : Address) (cs : List Commissioned) (steps : List Step) (s : Step) (w : WorldView) (place : ℕ) (d : Book) → w ≡ world_of own cs steps → AreApart (map address_of_book w.slots) → place < length w.slots
+    → (get_or w.slots place d).commission.address.0 ≡ s.address.0 → record { slots = set w.slots place (stepped_book s (get_or w.slots place d)); strangers = w.strangers } ≡ world_of own cs (steps ++ s ∷ [])
+unfolding world_of
+world_own own cs steps s w place d e a h same =
+    let slots = map (slot_of own steps) cs in
+    let any : list_any (has_number s.address.0) slots ≡ true = sym (ap (λ (v : WorldView). list_any (has_number s.address.0) v.slots) e) ∙ any_at s.address.0 w.slots place d h same in
+    let commissioned : is_commissioned cs s ≡ true = sym (any_slot s.address.0 own cs steps) ∙ any in
+    ap (λ bs. record { slots = bs; strangers = w.strangers }) (set_stepped w.slots place s d a h same)
+    ∙ ap (λ (v : WorldView). record { slots = map (stepped s) v.slots; strangers = v.strangers }) e
+    ∙ ap (λ bs. record { slots = bs; strangers = strangers_of cs steps }) (sym (slots-push own cs steps s))
+    ∙ ap (λ ts. record { slots = map (slot_of own (steps ++ s ∷ [])) cs; strangers = ts }) (sym (strangers-push cs steps s true commissioned ∙ append-nil (strangers_of cs steps)))
+
+-- ---- where a step lands
+
+pub landed_strange : (own : Address) (cs : List Commissioned) (steps : List Step) (s : Step) (w : WorldView) → w ≡ world_of own cs steps → Lacks s.address.0 w.slots → Lands own cs steps s Stranger
+unfolding world_of
+landed_strange own cs steps s w e h = sym (any_slot s.address.0 own cs steps) ∙ sym (ap (λ (v : WorldView). list_any (has_number s.address.0) v.slots) e) ∙ h
+
+landed_at : (own : Address) (cs : List Commissioned) (steps : List Step) (s : Step) (place : ℕ) (d : Book) (given : Outcome) → place < length (map (slot_of own steps) cs)
+    → (get_or (map (slot_of own steps) cs) place d).commission.address.0 ≡ s.address.0 → given ≡ outcome_at (get_or (map (slot_of own steps) cs) place d) s → Lands own cs steps s (Slot place given)
+landed_at own [] steps s place d given l a h = absurd (omega arith)
+landed_at own (c ∷ cs) steps s zero d given l a h = (c, refl, a, h)
+landed_at own (c ∷ cs) steps s (suc place) d given l a h = landed_at own cs steps s place d given (omega arith) a h
+
+pub landed_own : (own : Address) (cs : List Commissioned) (steps : List Step) (s : Step) (w : WorldView) (place : ℕ) (d : Book) (given : Outcome) → w ≡ world_of own cs steps → place < length w.slots
+    → (get_or w.slots place d).commission.address.0 ≡ s.address.0 → given ≡ outcome_at (get_or w.slots place d) s → Lands own cs steps s (Slot place given)
+unfolding world_of
+landed_own own cs steps s w place d given e l a h =
+    let P : List Book → Type 0 = λ bs. place < length bs → (get_or bs place d).commission.address.0 ≡ s.address.0 → given ≡ outcome_at (get_or bs place d) s → Lands own cs steps s (Slot place given) in
+    subst P (sym (ap (λ (v : WorldView). v.slots) e)) (landed_at own cs steps s place d given) l a h
+
+-- some slot, where a read of a list asks for a default
+abbrev pub any_book : Book
+any_book = record { own = record { 0 = 0 }; commission = record { address = record { 0 = 0 }; mode = Seven; key = []; last = None; down = 0; ids = 0 }; journal = [] }

@@ -1,0 +1,98 @@
+-- Many slots, and the strangers that none of them is for.
+use Rattle.std.specs.Prelude.{◌≡◌, ℕ, Bool, false, not, ◌==◌, if◌then◌else◌, List, [], ◌∷◌, ◌++◌, reverse, map, filter, Some, slice_get}
+use Rattle.std.specs.List.{list_any}
+use Rattle.meter_address.specs.declared.address.Address.{Address}
+use Rattle.meter_address.specs.Commission.{Commissioned}
+use Rattle.stranger_ring.specs.declared.strangers.Heard.{Heard}
+use Rattle.meter_slots.specs.declared.entry.Entry.{Entry}
+use Rattle.meter_slots.specs.declared.entry.Event.{Event}
+use Rattle.meter_slots.specs.declared.entry.Outcome.{Outcome}
+use Rattle.meter_slots.specs.declared.step.Step.{Step}
+use Rattle.meter_slots.specs.declared.step.Landed.{Landed}
+use Rattle.meter_slots.specs.declared.step.Landed.TheVariants.{Slot, Stranger}
+use Rattle.meter_slots.specs.Directory.{AreApart}
+use Rattle.meter_slots.specs.Journal.{Book, outcome}
+
+-- ---- the journal of a meter's own steps
+
+-- what is asked of a slot, without the answer
+pub record Call : Type 0 where
+  pub source : ℕ
+  pub line : ℕ
+  pub event : Event
+
+abbrev pub call_of : Step → Call
+call_of s = record { source = s.source; line = s.line; event = s.event }
+
+-- the journal of some calls; of both lists the latest stands first
+abbrev pub judged_journal : Commissioned → Address → List Call → List Entry
+judged_journal c own [] = []
+judged_journal c own (s ∷ earlier) =
+    record { source = s.source; line = s.line; event = s.event; outcome = outcome c own (judged_journal c own earlier) s.event } ∷ judged_journal c own earlier
+
+-- the one journal of some calls, the oldest first
+abbrev pub journal_of : Commissioned → Address → List Call → List Entry
+journal_of c own calls = reverse (judged_journal c own (reverse calls))
+
+abbrev pub is_for : Address → Step → Bool
+is_for address s = s.address.0 == address.0
+
+-- the calls of one meter
+abbrev pub calls_of : Address → List Step → List Call
+calls_of address steps = map call_of (filter (is_for address) steps)
+
+-- the slot of a meter after its own steps, whatever stands between them
+abbrev pub slot_of : Address → List Step → Commissioned → Book
+slot_of own steps c = record { own = own; commission = c; journal = journal_of c own (calls_of c.address steps) }
+
+-- ---- the world
+
+-- whether some commission has the address of a step
+abbrev pub is_commissioned : List Commissioned → Step → Bool
+is_commissioned commissions s = list_any (λ c. c.address.0 == s.address.0) commissions
+
+abbrev pub heard_of : Step → Heard
+heard_of s = record { source = s.source; line = s.line; address = s.address }
+
+-- the strangers' lines among some steps
+abbrev pub strangers_of : List Commissioned → List Step → List Heard
+strangers_of commissions steps = map heard_of (filter (λ s. not (is_commissioned commissions s)) steps)
+
+-- what contracts see of a world
+pub record WorldView : Type 0 where
+  pub slots : List Book
+  pub strangers : List Heard
+
+-- the world after some steps: each slot after its own, and the others with the strangers
+unfoldable pub world_of : Address → List Commissioned → List Step → WorldView
+world_of own commissions steps = record { slots = map (slot_of own steps) commissions; strangers = strangers_of commissions steps }
+
+-- where a step lands after others: in the slot of the commission with its address, or with the strangers
+abbrev pub Lands : Address → List Commissioned → List Step → Step → Landed → Type 0
+Lands own commissions steps s (Slot place given) =
+    (c : Commissioned) × (slice_get commissions place ≡ Some c) × (c.address.0 ≡ s.address.0) × (given ≡ outcome c own (reverse (slot_of own steps c).journal) s.event)
+Lands own commissions steps s Stranger = is_commissioned commissions s ≡ false
+
+-- ---- words of private contracts
+
+abbrev pub fresh_book : Address → Commissioned → Book
+fresh_book own c = record { own = own; commission = c; journal = [] }
+
+abbrev pub outcome_at : Book → Step → Outcome
+outcome_at b s = outcome b.commission b.own (reverse b.journal) s.event
+
+-- a slot after one of its own steps
+abbrev pub stepped_book : Step → Book → Book
+stepped_book s b = record {
+  own = b.own;
+  commission = b.commission;
+  journal = b.journal ++ record { source = s.source; line = s.line; event = s.event; outcome = outcome_at b s } ∷ [];
+}
+
+abbrev pub address_of_book : Book → Address
+address_of_book b = b.commission.address
+
+-- the directory has the addresses of the slots, which differ
+pub record IsOrdered (slots : List Book) (directory : List Address) : Type 0 where
+  pub places : directory ≡ map address_of_book slots
+  pub apart : AreApart directory

@@ -1,0 +1,129 @@
+//! All slots, and the strangers that none of them is for.
+ghost use Rattle.std.specs.Prelude.{◌≡◌, ◌<◌, List, map, length, vec_len, IfOk, OnErr, slice_index_or, slice_set, reverse};
+ghost use Rattle.meter_address.specs.declared.address.Address.{Address};
+ghost use Rattle.meter_slots.specs.Journal.{Book};
+ghost use Rattle.meter_slots.specs.World.{fresh_book, outcome_at, stepped_book};
+
+use crate::book::SlotBook;
+use crate::directory::Directory;
+use crate::entry::Outcome;
+use crate::step::{Landed, Step};
+use meter_address::{Address, Commission};
+use outer_io::Memory;
+use std::alloc::Global;
+use std::marker::Model;
+use stranger_ring::Strangers;
+
+/// The slots of all commissioned meters, and the book of strangers.
+#[derive(Drop)]
+pub struct World {
+    slots: Vec<SlotBook>,
+    directory: Directory,
+    strangers: Strangers,
+}
+
+impl Model for World {
+    ghost use Rattle.meter_slots.specs.World.{WorldView, IsOrdered};
+
+    ghost Value = { WorldView };
+
+    ghost view = { λ w. record { slots = w.slots.items; strangers = w.strangers } };
+
+    ghost invariant = { λ w. IsOrdered w.slots.items w.directory };
+}
+
+// The slots before any step.
+fn fresh_books(
+    alloc: Global,
+    own: Address,
+    commissions: &[Commission],
+) -> Result<Vec<SlotBook>, Memory>
+    ensures { IfOk result (λ slots. slots.items ≡ map (fresh_book own) commissions.now) }
+{
+    let slots = commissions
+        .iter()
+        .map(|c| SlotBook::new(alloc, own, *c))
+        .collect(alloc)?;
+    Ok(slots)
+}
+
+// The addresses of commissions.
+fn addresses_of(alloc: Global, commissions: &[Commission]) -> Result<Vec<Address>, Memory>
+    ensures { IfOk result (λ addresses. addresses.items ≡ map (λ c. c.address) commissions.now) }
+{
+    let addresses = commissions.iter().map(|c| c.address).collect(alloc)?;
+    Ok(addresses)
+}
+
+// One step of the slot at a place.
+fn step_at(slots: &mut Vec<SlotBook>, place: usize, step: Step) -> Result<Outcome, Memory>
+    requires { place < vec_len slots.old }
+    ensures outcome { IfOk result (λ given. (b : Book) → given ≡ outcome_at (slice_index_or slots.old.items place b) step) }
+    ensures ok { IfOk result (λ _. (b : Book) → slots.new.items ≡ slice_set slots.old.items place (stepped_book step (slice_index_or slots.old.items place b))) }
+    ensures err { OnErr result (slots.new.items ≡ slots.old.items) }
+{
+    let slot = &mut slots[place];
+    slot.step(step.source, step.line, step.event)
+}
+
+impl World {
+    ghost use Rattle.std.specs.Prelude.{◌≡◌, ◌<◌, ◌^◌, [], ◌∷◌, ◌++◌, List, map, length, slice_get, option_copied, IfOk, OnErr};
+    ghost use Rattle.meter_address.specs.Commission.{Commissioned};
+    ghost use Rattle.meter_slots.specs.Directory.{AreApart};
+    ghost use Rattle.meter_slots.specs.declared.step.Step.{Step};
+    ghost use Rattle.meter_slots.specs.World.{world_of, Lands};
+
+    /// A slot for each commission, in their order. Their addresses differ.
+    pub fn new(alloc: Global, own: Address, commissions: Vec<Commission>) -> Result<World, Memory>
+        requires apart { AreApart (map (λ c. c.address) commissions.items) }
+        requires few { length commissions.items < 2 ^ 32 }
+        ensures { IfOk result (λ world. world ≡ world_of own commissions.items []) }
+    {
+        let addresses = addresses_of(alloc, commissions.as_slice())?;
+        Ok(World {
+            slots: fresh_books(alloc, own, commissions.as_slice())?,
+            directory: Directory::new(alloc, addresses.as_slice())?,
+            strangers: Strangers::new(alloc)?,
+        })
+    }
+
+    /// One step of the slot that it is for, or a stranger's. For want of memory nothing changes.
+    pub fn step(&mut self, step: Step) -> Result<Landed, Memory>
+        // A world that stands for some steps then stands for these and this one.
+        ensures ok { IfOk result (λ _. (own : Address) (commissions : List Commissioned) (steps : List Step) → self.old ≡ world_of own commissions steps → self.new ≡ world_of own commissions (steps ++ step ∷ [])) }
+        ensures landed { IfOk result (λ landed. (own : Address) (commissions : List Commissioned) (steps : List Step) → self.old ≡ world_of own commissions steps → Lands own commissions steps step landed) }
+        ensures err { OnErr result (self.new ≡ self.old) }
+    {
+        match self.directory.find(step.address) {
+            None => {
+                self.strangers.note(step.source, step.line, step.address)?;
+                Ok(Landed::Stranger)
+            }
+            Some(place) => {
+                let outcome = step_at(&mut self.slots, place as usize, step)?;
+                Ok(Landed::Slot(place, outcome))
+            }
+        }
+    }
+
+    /// The slots, in the order of the commissions.
+    pub fn slots(&self) -> &[SlotBook]
+        ensures { result.now ≡ self.now.slots }
+    {
+        self.slots.as_slice()
+    }
+
+    /// The slot at a place of the commissions: none exactly where there is no such place.
+    pub fn slot(&self, place: usize) -> Option<&SlotBook>
+        ensures { option_copied result ≡ slice_get self.now.slots place }
+    {
+        self.slots.get(place)
+    }
+
+    /// The strangers.
+    pub fn strangers(&self) -> &Strangers
+        ensures { result.now ≡ self.now.strangers }
+    {
+        &self.strangers
+    }
+}

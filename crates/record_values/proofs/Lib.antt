@@ -1,0 +1,5 @@
+pub mod UnitCases
+pub mod Decimal
+pub mod Whole
+pub mod ValueCases
+pub mod Rows

@@ -1,0 +1,16 @@
+//! What a data record says: its quantity, its unit and its value (EN 13757-3, clause 6 and annex A).
+#![tactic(auto)]
+
+mod dates;
+mod digits;
+mod laws;
+mod unit_tables;
+mod units;
+mod values;
+
+pub use laws::each_row_counts;
+pub use units::{Quantity, Unit, UnitName, unit_of};
+pub use values::{Value, value_of};
+
+#[cfg(test)]
+mod tests;

@@ -1,0 +1,95 @@
+//! The book of strangers.
+use circular_buffer::HeapCircularBuffer;
+use meter_address::Address;
+use outer_io::Memory;
+use std::alloc::Global;
+use std::marker::Model;
+
+/// How many of the last strangers the ring has.
+pub const RING_MAX: usize = 64;
+
+/// A line of a stranger: its receiver, its number there, and the address.
+#[derive(Clone, Copy, Debug, PartialEq, Eq)]
+pub struct Heard {
+    /// The receiver, from 1.
+    pub source: u32,
+    /// The number of the line, from 1.
+    pub line: u32,
+    /// The stranger.
+    pub address: Address,
+}
+
+/// All lines of strangers in the order in which they came, and a ring of the last 64 addresses.
+#[derive(Drop)]
+pub struct Strangers {
+    heard: Vec<Heard>,
+    ring: HeapCircularBuffer<Address>,
+}
+
+impl Model for Strangers {
+    ghost use Rattle.std.specs.Prelude.{◌≡◌, List};
+    ghost use Rattle.circular_buffer.specs.Buffer.{buffer};
+    ghost use Rattle.stranger_ring.specs.declared.strangers.Heard.{Heard};
+    ghost use Rattle.stranger_ring.specs.declared.strangers.TheConstants.{RING_MAX};
+    ghost use Rattle.stranger_ring.specs.Ring.{ring_of};
+
+    ghost Value = { List Heard };
+
+    ghost view = { λ s. s.heard.items };
+
+    ghost invariant = { λ s. s.ring ≡ buffer (ring_of s.heard.items) RING_MAX };
+}
+
+impl Strangers {
+    ghost use Rattle.std.specs.Prelude.{◌≡◌, [], ◌∷◌, ◌++◌, length, slice_get, IfOk, OnOk, OnErr};
+    ghost use Rattle.stranger_ring.specs.Ring.{ring_of};
+
+    /// No stranger yet.
+    pub fn new(alloc: Global) -> Result<Strangers, Memory>
+        ensures { IfOk result (λ strangers. strangers ≡ []) }
+    {
+        match HeapCircularBuffer::with_capacity(alloc, RING_MAX) {
+            Ok(ring) => Ok(Strangers {
+                heard: Vec::new(alloc),
+                ring,
+            }),
+            Err(_) => Err(Memory),
+        }
+    }
+
+    /// Notes a line of a stranger. Where the ring is full its oldest address is overwritten. For want of memory nothing changes.
+    pub fn note(&mut self, source: u32, line: u32, address: Address) -> Result<(), Memory>
+        ensures ok { OnOk result (self.new ≡ self.old ++ record { source = source; line = line; address = address } ∷ []) }
+        ensures err { OnErr result (self.new ≡ self.old) }
+    {
+        self.heard.reserve(1)?;
+        self.heard.push_reserved(Heard {
+            source,
+            line,
+            address,
+        });
+        self.ring.push_back(address);
+        Ok(())
+    }
+
+    /// All lines of strangers, the first one first.
+    pub fn heard(&self) -> &[Heard]
+        ensures { result.now ≡ self.now }
+    {
+        self.heard.as_slice()
+    }
+
+    /// How many addresses the ring has: all, or 64 where there are more.
+    pub fn ring_len(&self) -> usize
+        ensures { result ≡ length (ring_of self.now) }
+    {
+        self.ring.len()
+    }
+
+    /// The address at a place of the ring, the oldest one first: none exactly where there is no such place.
+    pub fn ring_at(&self, place: usize) -> Option<Address>
+        ensures { result ≡ slice_get (ring_of self.now) place }
+    {
+        self.ring.get(place).copied()
+    }
+}
