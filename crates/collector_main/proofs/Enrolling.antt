@@ -75,6 +75,7 @@ owned_stands (e ∷ entries) end r h = by_own (at_line e.0 (own_of e.1)) h
         let stands : CanStand meters = all_stand [] meters entries (record { apart = tt; few = omega arith }) is in
         let made_of : Enrolled = record { own = own; meters = meters } in
         let same : made_of ≡ r = cc in subst (λ (x : Enrolled). CanStand x.meters) same stands
+
     by_own : (o : Result Address RosterFault) → (o >>= λ own. with_own own (meters_of [] entries)) ≡ Ok r → CanStand r.meters
     by_own (Err fault) made = absurd cc
     by_own (Ok own) made = with_meters own (meters_of [] entries) refl made

@@ -3,6 +3,7 @@
 
 mod command_words;
 mod hearing;
+mod message;
 mod receiver;
 mod report;
 mod session;
