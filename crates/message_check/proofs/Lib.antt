@@ -1,2 +1,3 @@
 pub mod StepLaws
 pub mod LayerLaws
+pub mod OpeningLaws
