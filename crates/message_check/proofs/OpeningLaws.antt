@@ -20,33 +20,33 @@ use Rattle.tpl_headers.proofs.Headers.{is_found, is_only}
 use Rattle.message_check.specs.declared.signature.Signature.{Signature}
 use Rattle.message_check.specs.declared.refusal.Reason.{Reason}
 use Rattle.message_check.specs.declared.refusal.Reason.TheVariants.{OtherAddress, BadMac, CheckBytes, BadMessage}
-use Rattle.message_check.specs.Opening.{Found, encrypted_of, rest_of, access_in_configuration, decrypted5, decrypted7, mac_of, IsSecured, Checked5, Genuine7, Passed, header_in, address_passed, mode_passed, header_for, blocks_passed, some_passed, check_bytes_passed, opened5, part_there, control_passed, signature_of, derivation_in, derivation_passed, mac_passed, opened7, CheckedAreOpened, GenuineAreOpened}
+use Rattle.message_check.specs.Opening.{Found, encrypted_of, rest_of, access_in_configuration, decrypted5, decrypted7, mac_of, IsFor, IsSecured, Checked5, Genuine7, Passed, header_in, address_passed, mode_passed, header_for, blocks_passed, some_passed, check_bytes_passed, opened5, part_there, control_passed, signature_of, derivation_in, derivation_passed, mac_passed, opened7, CheckedAreOpened, GenuineAreOpened}
 use Rattle.message_check.specs.Steps.{◌>>=◌}
 use Rattle.message_check.proofs.StepLaws.{bind_ok, map_both_ok}
 
-abbrev passed : Passed
+abbrev pub passed : Passed
 passed = Ok tt
 
-abbrev found : Found → Result Found Reason
+abbrev pub found : Found → Result Found Reason
 found f = Ok f
 
 -- ---- single checks
 
-if_passed : (b : Bool) (e : Reason) → cond b passed (Err e) ≡ passed → b ≡ true
+pub if_passed : (b : Bool) (e : Reason) → cond b passed (Err e) ≡ passed → b ≡ true
 if_passed true e h = refl
 if_passed false e h = absurd cc
 
-unless_passed : (b : Bool) (e : Reason) → cond b (Err e) passed ≡ passed → b ≡ false
+pub unless_passed : (b : Bool) (e : Reason) → cond b (Err e) passed ≡ passed → b ≡ false
 unless_passed true e h = absurd cc
 unless_passed false e h = refl
 
-address_is : (a : Address) (named : Option Address) → address_passed a named ≡ passed → IfSome named (λ n. n ≡ a)
+pub address_is : (a : Address) (named : Option Address) → address_passed a named ≡ passed → IfSome named (λ n. n ≡ a)
 address_is a None h = tt
 address_is a (Some n) h =
     let same : n.0 ≡ a.0 = eqb-true _ _ (if_passed (eqb n.0 a.0) (OtherAddress n) h) in
     ap (λ (x : ℕ). let b : Address = record { 0 = x } in b) same
 
-is_address : (a : Address) (named : Option Address) → IfSome named (λ n. n ≡ a) → address_passed a named ≡ passed
+pub is_address : (a : Address) (named : Option Address) → IfSome named (λ n. n ≡ a) → address_passed a named ≡ passed
 is_address a None h = refl
 is_address a (Some n) h = rw (eq-eqb n.0 a.0 (ap (λ (x : Address). x.0) h)) refl
 
@@ -61,63 +61,71 @@ check_bytes_are (a ∷ b ∷ content) h =
     let same : two ≡ 0x2F ∷ 0x2F ∷ [] = (bytes_eq-Decides two (0x2F ∷ 0x2F ∷ [])).0 (if_passed (bytes_eq two (0x2F ∷ 0x2F ∷ [])) (CheckBytes two) h) in
     (content, ap (λ (x : List ℕ). x ++ content) same)
 
-part_is : {A : Type 0} (o : Option A) (x : A) → part_there o ≡ Ok x → o ≡ Some x
+pub part_is : {A : Type 0} (o : Option A) (x : A) → part_there o ≡ Ok x → o ≡ Some x
 part_is (Some y) x h = let same : y ≡ x = cc in ap Some same
 part_is None x h = absurd cc
 
-derivation_is : (o : Option ℕ) → unwrap_or o 0 ≡ 1 → o ≡ Some 1
+pub derivation_is : (o : Option ℕ) → unwrap_or o 0 ≡ 1 → o ≡ Some 1
 derivation_is (Some d) h = ap Some h
 derivation_is None h = absurd cc
 
 -- ---- the header, the blocks and the rest
 
-record Read (a : Address) (mode : ℕ) (m : List ℕ) (h : Tpl) (encrypted rest : List ℕ) : Type 0 where
+pub record Read (a : Address) (mode : ℕ) (m : List ℕ) (h : Tpl) (encrypted rest : List ℕ) : Type 0 where
   pub header : header_for a mode m ≡ Ok h
   pub blocks : blocks_passed h m ≡ passed
   pub encrypted_is : encrypted_of h m ≡ encrypted
   pub rest_is : rest_of h m ≡ rest
 
-rest_at : (m : List ℕ) (h : Tpl) (b : Begins m h) → drop h.len m ≡ b.rest
+pub rest_at : (m : List ℕ) (h : Tpl) (b : Begins m h) → drop h.len m ≡ b.rest
 rest_at m h b = ap (drop h.len) b.parts ∙ drop_at (spelling h) b.rest h.len (sym b.is_header.len)
 
 parts_at : (m : List ℕ) (h : Tpl) (b : Begins m h) (n : ℕ) → b.rest ≡ take n (drop h.len m) ++ drop n (drop h.len m)
 parts_at m h b n = sym (rest_at m h b) ∙ sym (take-append-drop n (drop h.len m))
 
-secured : (a : Address) (mode : ℕ) (m : List ℕ) (h : Tpl) → IsBytes m → header_for a mode m ≡ Ok h → blocks_passed h m ≡ passed
-    → IsSecured a mode m h (encrypted_of h m) (rest_of h m)
+pub for_is : (a : Address) (mode : ℕ) (m : List ℕ) (h : Tpl) → IsBytes m → header_for a mode m ≡ Ok h → IsFor a mode m h
 unfolding header_for
-secured a mode m h fits e enough =
+for_is a mode m h fits e =
     let read = bind_ok (header_in m) _ h e in
     let address = bind_ok (address_passed a read.0.address) _ h read.2 in
     let in_mode = bind_ok (mode_passed mode read.0.cf) _ h address.2 in
     let same : read.0 ≡ h = cc in_mode.2 in
     let made = map_both_ok (λ (x : Tpl). x) BadMessage (header_at m) read.0 read.1 in
-    let is : header_at m ≡ Ok h = made.1 ∙ ap Ok (made.2 ∙ same) in
-    let begins : Begins m h = is_found m (Ok h) (λ i. byte_at m i fits) (sym is) in
+    let is : header_at m ≡ Ok h = made.1 ∙ ap Ok (made.2 ∙ same) in record {
+      begins = is_found m (Ok h) (λ i. byte_at m i fits) (sym is);
+      meter = address_is a h.address (ap (λ (x : Tpl). address_passed a x.address) (sym same) ∙ address.1);
+      in_mode = eqb-true _ _ (if_passed _ _ (ap (λ (x : Tpl). mode_passed mode x.cf) (sym same) ∙ in_mode.1));
+    }
+
+pub is_for : (a : Address) (mode : ℕ) (m : List ℕ) (h : Tpl) → IsFor a mode m h → header_for a mode m ≡ Ok h
+unfolding header_for
+is_for a mode m h s = rw (is_only m (header_at m) refl h s.begins, is_address a h.address s.meter, eq-eqb _ _ s.in_mode) refl
+
+pub secured : (a : Address) (mode : ℕ) (m : List ℕ) (h : Tpl) → IsBytes m → header_for a mode m ≡ Ok h → blocks_passed h m ≡ passed
+    → IsSecured a mode m h (encrypted_of h m) (rest_of h m)
+secured a mode m h fits e enough =
+    let header : IsFor a mode m h = for_is a mode m h fits e in
     let n : ℕ = 16 * blocks_of h.cf in
     let long : n ≤ length m - h.len = ltb-false _ _ (unless_passed _ _ enough) in
     record {
-      header = begins;
-      meter = address_is a h.address (ap (λ (x : Tpl). address_passed a x.address) (sym same) ∙ address.1);
-      in_mode = eqb-true _ _ (if_passed _ _ (ap (λ (x : Tpl). mode_passed mode x.cf) (sym same) ∙ in_mode.1));
-      parts = parts_at m h begins n;
+      header = header;
+      parts = parts_at m h header.begins n;
       blocks = length-take-le n (drop h.len m) (omega (arith, length-drop h.len m));
     }
 
-read_again : (a : Address) (mode : ℕ) (m : List ℕ) (h : Tpl) (encrypted rest : List ℕ) → IsSecured a mode m h encrypted rest → Read a mode m h encrypted rest
-unfolding header_for
+pub read_again : (a : Address) (mode : ℕ) (m : List ℕ) (h : Tpl) (encrypted rest : List ℕ) → IsSecured a mode m h encrypted rest → Read a mode m h encrypted rest
 read_again a mode m h encrypted rest s =
     let n : ℕ = 16 * blocks_of h.cf in
-    let behind : drop h.len m ≡ encrypted ++ rest = rest_at m h s.header ∙ s.parts in
+    let behind : drop h.len m ≡ encrypted ++ rest = rest_at m h s.header.begins ∙ s.parts in
     let long : n ≤ length m - h.len = omega (arith, length-drop h.len m, ap length behind, length-append encrypted rest, s.blocks) in
     record {
-      header = rw (is_only m (header_at m) refl h s.header, is_address a h.address s.meter, eq-eqb _ _ s.in_mode) refl;
+      header = is_for a mode m h s.header;
       blocks = rw (le-ltb (length m - h.len) n long) refl;
       encrypted_is = ap (take n) behind ∙ take_at encrypted rest n s.blocks;
       rest_is = ap (drop n) behind ∙ drop_at encrypted rest n s.blocks;
     }
 
-not_zero : (n : ℕ) → 0 < n → eqb n 0 ≡ false
+pub not_zero : (n : ℕ) → 0 < n → eqb n 0 ≡ false
 not_zero n h = grind (arith, nat_tests)
 
 -- ---- mode 5
@@ -173,14 +181,14 @@ checked_are_opened c m f fits = (checked5 c m f fits, opened5_again c m f)
 
 -- ---- mode 7
 
-record Signed (auth : Auth) (s : Signature) : Type 0 where
+pub record Signed (auth : Auth) (s : Signature) : Type 0 where
   pub mcl : auth.mcl ≡ Some s.mcl
   pub counter : auth.mcr ≡ Some s.counter
   pub mac : auth.mac ≡ Some s.mac
   pub ml : auth.ml ≡ s.ml
   pub by_cmac : s.mcl % 16 ≡ 5
 
-signed : (auth : Auth) (s : Signature) → signature_of auth ≡ Ok s → Signed auth s
+pub signed : (auth : Auth) (s : Signature) → signature_of auth ≡ Ok s → Signed auth s
 unfolding signature_of
 signed auth s e =
     let mcl = bind_ok (part_there auth.mcl) _ s e in
@@ -226,7 +234,7 @@ genuine7 c auth m f fits e =
       payload = refl;
     })
 
-signature_again : (auth : Auth) (mcl counter : ℕ) (mac : List ℕ) → auth.mcl ≡ Some mcl → auth.mcr ≡ Some counter → auth.mac ≡ Some mac → mcl % 16 ≡ 5
+pub signature_again : (auth : Auth) (mcl counter : ℕ) (mac : List ℕ) → auth.mcl ≡ Some mcl → auth.mcr ≡ Some counter → auth.mac ≡ Some mac → mcl % 16 ≡ 5
     → signature_of auth ≡ Ok (record { mcl = mcl; counter = counter; ml = auth.ml; mac = mac })
 unfolding signature_of
 signature_again auth mcl counter mac e1 e2 e3 control = rw (e1, e2, e3, eq-eqb _ _ control) refl
