@@ -22,21 +22,14 @@ use Rattle.tpl_headers.proofs.Parts.{chosen}
 use Rattle.message_check.specs.declared.headers.Layers.{Layers}
 use Rattle.message_check.specs.declared.refusal.LayerFault.{LayerFault}
 use Rattle.message_check.specs.declared.refusal.LayerFault.TheVariants as faults
-use Rattle.message_check.specs.Layers.{has_piece, ExtensionThen, FragmentationThen, IsContent, IsLayers, OneReading, ContentAtBody, ◌>>=◌, extension_len, fragmentation_len, extension_in, fragmentation_in, header_in, layers_of}
+use Rattle.message_check.proofs.StepLaws.{bind_ok, map_both_ok}
+use Rattle.message_check.specs.Layers.{has_piece, ExtensionThen, FragmentationThen, IsContent, IsLayers, OneReading, ContentAtBody, extension_len, fragmentation_len, extension_in, fragmentation_in, header_in, layers_of}
 
 abbrev read : Layers → Result Layers LayerFault
 read l = Ok l
 
 ok_is : (l m : Layers) → read l ≡ read m → l ≡ m
 ok_is l m e = cc
-
-bind_ok : {A B : Type 0} (r : Result A LayerFault) (f : A → Result B LayerFault) (y : B) → (r >>= f) ≡ Ok y → (x : A) × (r ≡ Ok x) × (f x ≡ Ok y)
-bind_ok (Ok x) f y e = (x, refl, e)
-bind_ok (Err d) f y e = absurd cc
-
-map_both_ok : {A B E F : Type 0} (f : A → B) (g : E → F) (r : Result A E) (y : B) → result_map_both f g r ≡ Ok y → (x : A) × (r ≡ Ok x) × (f x ≡ y)
-map_both_ok f g (Ok x) y e = (x, refl, cc)
-map_both_ok f g (Err d) y e = absurd cc
 
 -- ---- lengths and places of the parts
 

@@ -1,7 +1,7 @@
 -- The layers of a telegram above the link (EN 13757-4, EN 13757-7): from place 10 on an extension of the link layer, an
 -- authentication and fragmentation layer, each where it is there, and then a fragment's piece of a message, or a transport
 -- header with its body.
-use Rattle.std.specs.Prelude.{ℕ, ◌≡◌, ◌+◌, Bool, true, false, ◌&&◌, ◌||◌, ◌==◌, nat_le, if◌then◌else◌, List, [], ◌∷◌, length, drop, Option, Some, None, Result, Ok, Err}
+use Rattle.std.specs.Prelude.{ℕ, ◌≡◌, ◌+◌, Bool, true, false, ◌&&◌, ◌||◌, ◌==◌, nat_le, if◌then◌else◌, List, [], ◌∷◌, length, drop, Option, Some, None, Result, Ok}
 use Rattle.std.specs.Result.{result_map_both}
 use Rattle.ell_layer.specs.declared.extension.Ell.{Ell}
 use Rattle.ell_layer.specs.Extension as extension
@@ -9,6 +9,7 @@ use Rattle.afl_layer.specs.declared.header.Afl.{Afl}
 use Rattle.afl_layer.specs.Header as fragmentation
 use Rattle.tpl_headers.specs.declared.header.Tpl.{Tpl}
 use Rattle.tpl_headers.specs.Header as transport
+use Rattle.message_check.specs.Steps.{◌>>=◌}
 use Rattle.message_check.specs.declared.headers.Layers.{Layers}
 use Rattle.message_check.specs.declared.refusal.LayerFault.{LayerFault}
 use Rattle.message_check.specs.declared.refusal.LayerFault.TheVariants as faults
@@ -55,11 +56,6 @@ abbrev pub ContentAtBody : Type 0
 ContentAtBody = (t : List ℕ) (l : Layers) (h : IsLayers t l) → drop l.body t ≡ h.content
 
 -- ---- reading from left to right, with the first fault
-
-infixl 10 ◌>>=◌
-abbrev pub ◌>>=◌ : {A B : Type 0} → Result A LayerFault → (A → Result B LayerFault) → Result B LayerFault
-(Ok x) >>= f = f x
-(Err e) >>= f = Err e
 
 abbrev pub extension_len : Option Ell → ℕ
 extension_len None = 0

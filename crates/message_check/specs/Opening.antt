@@ -1,9 +1,10 @@
 -- What a message says to the slot of a meter once it is checked and decrypted, or the first refusal (OMS Volume 2, EN 13757-7).
 -- A message is the bytes from the CI of its transport header on.
-use Rattle.std.specs.Prelude.{ℕ, ◌≡◌, ◌+◌, ◌-◌, ◌*◌, ◌%◌, ◌<◌, ◌==◌, nat_lt, if◌then◌else◌, List, [], ◌∷◌, ◌++◌, length, take, drop, slice_index, replicate, Option, Some, None, IfSome, ok_or, option_map, unwrap_or, Result, Ok, Err}
+use Rattle.std.specs.Prelude.{ℕ, ◌≡◌, ◌-◌, ◌*◌, ◌%◌, ◌<◌, ◌==◌, ◌↔◌, nat_lt, if◌then◌else◌, List, [], ◌∷◌, ◌++◌, length, take, drop, slice_index, replicate, Option, Some, None, IfSome, ok_or, option_map, unwrap_or, Result, Ok, Err}
 use Rattle.std.specs.Result.{result_map_both}
 use Rattle.std.specs.Str.{bytes_eq}
 use Rattle.std.specs.Int.{bit_at, w16, w32, to_le_bytes}
+use Rattle.frame_formats.specs.Crc.{IsBytes}
 use Rattle.meter_address.specs.declared.address.Address.{Address}
 use Rattle.meter_address.specs.Address.{bytes_of}
 use Rattle.meter_address.specs.Commission.{Commissioned}
@@ -18,6 +19,7 @@ use Rattle.cbc_cmac.specs.Cbc.{cbc_decrypted}
 use Rattle.cbc_cmac.specs.Mac.{zeros, cmac}
 use Rattle.key_derivation.specs.declared.KeyUse.TheVariants.{MeterCipher, MeterMac}
 use Rattle.key_derivation.specs.Derivation.{derived}
+use Rattle.message_check.specs.Steps.{◌>>=◌}
 use Rattle.message_check.specs.declared.signature.Signature.{Signature}
 use Rattle.message_check.specs.declared.refusal.Reason.{Reason}
 use Rattle.message_check.specs.declared.refusal.Reason.TheVariants.{BadMessage, OtherAddress, Mode, NoAuth, Kdf, ShortBlocks, Unchecked, BadMac, Stale, CheckBytes, SameAccess}
@@ -50,12 +52,70 @@ access_in_configuration cf = access_of (bit_at cf 15 == 1) (bit_at cf 14 == 1)
 unfoldable pub decrypted5 : Commissioned → Tpl → List ℕ → List ℕ
 decrypted5 c h m = cbc_decrypted c.key (initialization_vector c.address h.acc) (encrypted_of h m)
 
--- ---- the refusals, in their order
+-- the identification of a meter's address: four bytes as sent
+abbrev pub identification_of : Address → List ℕ
+identification_of a = take 4 (drop 2 (bytes_of a))
 
-infixl 10 ◌>>=◌
-abbrev pub ◌>>=◌ : {A B : Type 0} → Result A Reason → (A → Result B Reason) → Result B Reason
-(Ok x) >>= f = f x
-(Err e) >>= f = Err e
+-- the message length as sent, where it is there
+abbrev pub length_bytes : Option ℕ → List ℕ
+length_bytes None = []
+length_bytes (Some ml) = to_le_bytes w16 ml
+
+-- mode 7: what the MAC is taken over: message control, message counter and message length as sent, and the whole message as sent
+abbrev pub mac_input : ℕ → ℕ → Option ℕ → List ℕ → List ℕ
+mac_input mcl counter ml m = mcl ∷ [] ++ to_le_bytes w32 counter ++ length_bytes ml ++ m
+
+-- mode 7: the MAC of a message: the first eight bytes of its CMAC under the derived MAC key
+unfoldable pub mac_of : Commissioned → ℕ → ℕ → Option ℕ → List ℕ → List ℕ
+mac_of c mcl counter ml m = take 8 (cmac (derived c.key MeterMac counter (identification_of c.address)) (mac_input mcl counter ml m))
+
+-- mode 7: the blocks, decrypted under the derived cipher key; CBC begins with zeros
+unfoldable pub decrypted7 : Commissioned → ℕ → Tpl → List ℕ → List ℕ
+decrypted7 c counter h m = cbc_decrypted (derived c.key MeterCipher counter (identification_of c.address)) zeros (encrypted_of h m)
+
+-- ---- messages in the standard's words
+
+-- the header of a message to this meter in this security mode: it names no other meter
+pub record IsFor (a : Address) (mode : ℕ) (m : List ℕ) (h : Tpl) : Type 0 where
+  pub begins : Begins m h
+  pub meter : IfSome h.address (λ named. named ≡ a)
+  pub in_mode : mode_of h.cf ≡ mode
+
+-- a message to this meter in this security mode: the header, the encrypted blocks that it says, a plain rest
+pub record IsSecured (a : Address) (mode : ℕ) (m : List ℕ) (h : Tpl) (encrypted rest : List ℕ) : Type 0 where
+  pub header : IsFor a mode m h
+  pub parts : header.begins.rest ≡ encrypted ++ rest
+  pub blocks : length encrypted ≡ 16 * blocks_of h.cf
+
+-- a message of mode 5 that was checked: decrypted, its blocks begin with 2F 2F
+pub record Checked5 (c : Commissioned) (m : List ℕ) (f : Found) : Type 0 where
+  pub header : Tpl
+  pub encrypted : List ℕ
+  pub content : List ℕ
+  pub rest : List ℕ
+  pub message : IsSecured c.address 5 m header encrypted rest
+  pub some : 0 < blocks_of header.cf
+  pub decrypted : cbc_decrypted c.key (initialization_vector c.address header.acc) encrypted ≡ 0x2F ∷ 0x2F ∷ content
+  pub counter : f.counter ≡ header.acc
+  pub access : f.access ≡ access_in_configuration header.cf
+  pub payload : f.payload ≡ 0x2F ∷ 0x2F ∷ (content ++ rest)
+
+-- a genuine message of mode 7: its MAC, by AES-CMAC-128 cut to eight bytes, is that of its bytes as they were sent
+pub record Genuine7 (c : Commissioned) (auth : Auth) (m : List ℕ) (f : Found) : Type 0 where
+  pub header : Tpl
+  pub encrypted : List ℕ
+  pub rest : List ℕ
+  pub message : IsSecured c.address 7 m header encrypted rest
+  pub derivation : option_map derivation_of header.cfe ≡ Some 1
+  pub mcl : ℕ
+  pub control : auth.mcl ≡ Some mcl
+  pub by_cmac : mcl % 16 ≡ 5
+  pub counter : auth.mcr ≡ Some f.counter
+  pub mac : auth.mac ≡ Some (mac_of c mcl f.counter auth.ml m)
+  pub access : f.access ≡ access.None
+  pub payload : f.payload ≡ cbc_decrypted (derived c.key MeterCipher f.counter (identification_of c.address)) zeros encrypted ++ rest
+
+-- ---- the refusals, in their order
 
 -- a check that says nothing but whether it is passed
 abbrev pub Passed : Type 0
@@ -126,10 +186,6 @@ opened5_after last c m = do
 
 -- ---- mode 7
 
--- the identification of a meter's address: four bytes as sent
-abbrev pub identification_of : Address → List ℕ
-identification_of a = take 4 (drop 2 (bytes_of a))
-
 -- a part of the authentication that has to be there
 abbrev pub part_there : {A : Type 0} → Option A → Result A Reason
 part_there o = ok_or o NoAuth
@@ -155,26 +211,9 @@ derivation_in h = unwrap_or (option_map derivation_of h.cfe) 0
 abbrev pub derivation_passed : Tpl → Passed
 derivation_passed h = if derivation_in h == 1 then Ok tt else Err (Kdf (derivation_in h))
 
--- the message length as sent, where it is there
-abbrev pub length_bytes : Option ℕ → List ℕ
-length_bytes None = []
-length_bytes (Some ml) = to_le_bytes w16 ml
-
--- what the MAC is taken over: message control, message counter and message length as sent, and the whole message as sent
-abbrev pub mac_input : Signature → List ℕ → List ℕ
-mac_input s m = s.mcl ∷ [] ++ to_le_bytes w32 s.counter ++ length_bytes s.ml ++ m
-
--- the MAC of a message: the first eight bytes of its CMAC under the derived MAC key
-unfoldable pub mac_of : Commissioned → Signature → List ℕ → List ℕ
-mac_of c s m = take 8 (cmac (derived c.key MeterMac s.counter (identification_of c.address)) (mac_input s m))
-
 -- another MAC than that of the message
 abbrev pub mac_passed : Commissioned → Signature → List ℕ → Passed
-mac_passed c s m = if bytes_eq (mac_of c s m) s.mac then Ok tt else Err BadMac
-
--- the blocks, decrypted under the derived cipher key; CBC begins with zeros
-unfoldable pub decrypted7 : Commissioned → ℕ → Tpl → List ℕ → List ℕ
-decrypted7 c counter h m = cbc_decrypted (derived c.key MeterCipher counter (identification_of c.address)) zeros (encrypted_of h m)
+mac_passed c s m = if bytes_eq (mac_of c s.mcl s.counter s.ml m) s.mac then Ok tt else Err BadMac
 
 -- a counter that isn't above the last one
 abbrev pub counter_passed : Option ℕ → ℕ → Passed
@@ -202,3 +241,13 @@ unfoldable pub opened7_after : Option ℕ → Commissioned → Auth → List ℕ
 opened7_after last c auth m = do
   f ← opened7 c auth m
   compared7 last f
+
+-- ---- laws
+
+-- what is opened in mode 5 are the checked messages, and they say what they are opened to
+abbrev pub CheckedAreOpened : Type 0
+CheckedAreOpened = (c : Commissioned) (m : List ℕ) (f : Found) → IsBytes m → (opened5 c m ≡ Ok f) ↔ Checked5 c m f
+
+-- what is opened in mode 7 are the genuine messages, and they say what they are opened to
+abbrev pub GenuineAreOpened : Type 0
+GenuineAreOpened = (c : Commissioned) (auth : Auth) (m : List ℕ) (f : Found) → IsBytes m → (opened7 c auth m ≡ Ok f) ↔ Genuine7 c auth m f

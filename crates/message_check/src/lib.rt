@@ -20,3 +20,5 @@ pub use reading::layers;
 pub use refusal::{LayerFault, Reason};
 
 pub mod laws;
+#[cfg(test)]
+mod tests;

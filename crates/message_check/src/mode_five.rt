@@ -1,9 +1,9 @@
 //! Messages of security mode 5 (OMS Volume 2): AES-128-CBC under the meter's key, checked by two bytes.
-ghost use Rattle.std.specs.Prelude.{◌≡◌, ◌+◌, ◌*◌, ◌<◌, ◌≤◌, [], ◌++◌, length, drop, replicate, Ok, Err, IfOk, IfErr, OnErr};
+ghost use Rattle.std.specs.Prelude.{◌≡◌, ◌+◌, ◌*◌, ◌<◌, ◌≤◌, [], ◌++◌, length, drop, replicate, Ok, Err, IfOk, IfErr, OnOk, OnErr};
 ghost use Rattle.meter_address.specs.Address.{bytes_of};
 ghost use Rattle.tpl_headers.specs.Configuration.{blocks_of};
 ghost use Rattle.message_check.specs.Opening.{initialization_vector, access_in_configuration, decrypted5, rest_of, some_passed, check_bytes_passed, access_number_passed, opened5_after};
-ghost use Rattle.message_check.specs.Answers.{found_in};
+ghost use Rattle.message_check.specs.Opened.{found_in};
 
 use crate::opening::{Opened, check_blocks, decrypt, emptied_if_refused, read_header_for};
 use crate::refusal::Reason;
@@ -110,6 +110,7 @@ pub fn open5(
     // The payload is what the message has become, from the place `from` on.
     ensures opened { IfOk result (λ o. opened5_after last commission.now message.old ≡ Ok (found_in message.new o)) }
     ensures within { IfOk result (λ o. o.from ≤ length message.new) }
+    ensures same_len { OnOk result (length message.new ≡ length message.old) }
 
     // A refused message is emptied.
     ensures refused { IfErr result (λ r. opened5_after last commission.now message.old ≡ Err r) }

@@ -1,8 +1,8 @@
 //! Messages of security mode 7 (OMS Volume 2): AES-128-CBC and a CMAC, under keys derived from the meter's key.
-ghost use Rattle.std.specs.Prelude.{◌≡◌, ◌+◌, ◌*◌, ◌≤◌, [], ◌++◌, length, drop, Ok, Err, IfOk, IfErr, OnErr};
+ghost use Rattle.std.specs.Prelude.{◌≡◌, ◌+◌, ◌*◌, ◌≤◌, [], ◌++◌, length, drop, Ok, Err, IfOk, IfErr, OnOk, OnErr};
 ghost use Rattle.tpl_headers.specs.Configuration.{blocks_of};
 ghost use Rattle.message_check.specs.Opening.{decrypted7, rest_of, derivation_passed, counter_passed, opened7_after};
-ghost use Rattle.message_check.specs.Answers.{found_in};
+ghost use Rattle.message_check.specs.Opened.{found_in};
 
 use crate::opening::{Opened, check_blocks, decrypt, emptied_if_refused, read_header_for};
 use crate::refusal::Reason;
@@ -86,6 +86,7 @@ pub fn open7(
     // The payload is what the message has become, from the place `from` on.
     ensures opened { IfOk result (λ o. opened7_after last commission.now auth.now message.old ≡ Ok (found_in message.new o)) }
     ensures within { IfOk result (λ o. o.from ≤ length message.new) }
+    ensures same_len { OnOk result (length message.new ≡ length message.old) }
 
     // A refused message is emptied.
     ensures refused { IfErr result (λ r. opened7_after last commission.now auth.now message.old ≡ Err r) }

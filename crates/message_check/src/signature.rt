@@ -71,7 +71,7 @@ fn update_with_length(mac: &mut Cmac, ml: Option<u16>)
 
 // The CMAC of what authenticates a message.
 fn cmac_of_message(key: &[u8; 16], signature: &Signature, message: &[u8]) -> [u8; 16]
-    ensures { result ≡ cmac key.now (mac_input signature.now message.now) }
+    ensures { result ≡ cmac key.now (mac_input signature.now.mcl signature.now.counter signature.now.ml message.now) }
 {
     let mut mac = Cmac::new(&Keys::new(key));
     mac.update(&[signature.mcl]);
@@ -84,7 +84,7 @@ fn cmac_of_message(key: &[u8; 16], signature: &Signature, message: &[u8]) -> [u8
 // The MAC of a message: the first eight bytes of its CMAC under the derived MAC key.
 #[tactic(auto, unfolding(crate::specs::Opening::mac_of))]
 fn mac_of_message(commission: &Commission, signature: &Signature, message: &[u8]) -> [u8; 8]
-    ensures { result ≡ mac_of commission.now signature.now message.now }
+    ensures { result ≡ mac_of commission.now signature.now.mcl signature.now.counter signature.now.ml message.now }
 {
     let id = identification(commission.address);
     let key = derive(&commission.key, KeyUse::MeterMac, signature.counter, id);
