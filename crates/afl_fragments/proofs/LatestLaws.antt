@@ -7,7 +7,7 @@ use Rattle.std.proofs.lemmas.List.Sums.{sum_by-cons}
 use Rattle.afl_fragments.specs.Fragment.{Fragment}
 use Rattle.afl_fragments.specs.declared.places.HeldPart.{HeldPart}
 use Rattle.afl_fragments.specs.Held.{Told, Piece, Tick, Clear, since, is_counted, is_fid, latest_each, held, piece_at}
-use Rattle.afl_fragments.specs.Latest.{is_piece_of, is_tick, is_clear, IsLatest}
+use Rattle.afl_fragments.specs.Laws.{is_piece_of, is_tick, is_clear, IsLatest}
 
 -- ---- a look-up among the latest ones
 

@@ -1,6 +1,6 @@
 -- A message is no longer than all that is held, and a fragment adds no more than its bytes.
 use Rattle.std.proofs.Common.{◌≡◌, ℕ, zero, suc, ◌+◌, ◌≤◌, ◌<◌, ◌==◌, Bool, true, false, not, cond, List, [], ◌∷◌, ◌++◌, length, filter, Option, Some, None, refl, ap, sym, ◌∙◌, arith, ◌-◌, length-append}
-use Rattle.std.specs.Prelude.{find, sum_by, option_map, OnSome}
+use Rattle.std.specs.Prelude.{find, option_map, OnSome}
 use Rattle.std.specs.List.{flat_map}
 use Rattle.std.proofs.lemmas.Bool.Decides.{nat_tests}
 use Rattle.std.proofs.lemmas.List.{flat_map_more}
