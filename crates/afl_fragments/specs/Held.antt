@@ -24,6 +24,7 @@ since n (Piece part ∷ told) = if is_counted part then record { ticks = n; part
 since n (Tick ∷ told) = if n == 0 then since 1 told else []
 since n (Clear ∷ told) = []
 
+-- it has this number
 abbrev pub is_fid : ℕ → HeldPart → Bool
 is_fid fid h = h.part.afl.fid == fid
 

@@ -5,16 +5,19 @@ use Rattle.afl_fragments.specs.Fragment.{Fragment}
 use Rattle.afl_fragments.specs.declared.places.HeldPart.{HeldPart}
 use Rattle.afl_fragments.specs.Held.{Told, Piece, Tick, Clear, piece_at, last_end, Message, joined}
 
+-- a fragment with this number
 abbrev pub is_piece_of : ℕ → Told → Bool
 is_piece_of fid (Piece part) = part.afl.fid == fid
 is_piece_of fid Tick = false
 is_piece_of fid Clear = false
 
+-- a tick
 abbrev pub is_tick : Told → Bool
 is_tick (Piece part) = false
 is_tick Tick = true
 is_tick Clear = false
 
+-- a clearing
 abbrev pub is_clear : Told → Bool
 is_clear (Piece part) = false
 is_clear Tick = false

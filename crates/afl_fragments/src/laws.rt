@@ -12,8 +12,8 @@ pub fn held_is_latest()
         → (option_map (λ h. h.part) (piece_at fid (held told)) ≡ Some part) ↔ IsLatest fid told part }
 {}
 
-/// A message is made exactly where the end that was heard last and all fragments with smaller numbers are held, and it is
-/// these fragments joined.
+/// A message is made exactly where an end is held and, for the end that was heard last, all fragments with smaller numbers,
+/// each with more to follow. It is these fragments joined.
 pub fn message_is_joined()
     ensures { (hs : List HeldPart) (m : Message) → (assembled hs ≡ Some m) ↔ IsMessage hs m }
 {}
