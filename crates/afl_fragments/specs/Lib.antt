@@ -1,0 +1,4 @@
+pub mod Fragment
+pub mod Held
+pub mod Laws
+pub mod Places

@@ -1,0 +1,15 @@
+//! The fragments of a meter's message that are held, and the message that they make.
+#![tactic(auto)]
+
+mod laws;
+mod part;
+mod parts;
+mod places;
+
+pub use laws::{held_is_latest, message_is_joined};
+pub use part::{PART_MAX, Part};
+pub use parts::{Held, Parts};
+pub use places::PARTS_MAX;
+
+#[cfg(test)]
+mod tests;
