@@ -44,12 +44,12 @@ extension_then_rest bytes (Some e) rest h = ap (drop e.len) h.0.parts ∙ drop_a
 fragmentation_then_len : (bytes : List ℕ) (afl : Option Afl) (rest : List ℕ) → FragmentationThen bytes afl rest → fragmentation_len afl + length rest ≡ length bytes
 fragmentation_then_len bytes None rest h = omega (arith, ap length h)
 fragmentation_then_len bytes (Some a) rest h =
-    omega (arith, ap length h.0.parts, length-append (fragmentation.spelling h.0.fcl a) h.0.rest, h.0.len, ap length h.1)
+    omega (arith, ap length h.0.parts, length-append (fragmentation.afl_bytes h.0.fcl a) h.0.rest, h.0.len, ap length h.1)
 
 fragmentation_then_rest : (bytes : List ℕ) (afl : Option Afl) (rest : List ℕ) → FragmentationThen bytes afl rest → drop (fragmentation_len afl) bytes ≡ rest
 fragmentation_then_rest bytes None rest h = h
 fragmentation_then_rest bytes (Some a) rest h =
-    ap (drop a.len) h.0.parts ∙ drop_at (fragmentation.spelling h.0.fcl a) h.0.rest a.len (sym h.0.len) ∙ h.1
+    ap (drop a.len) h.0.parts ∙ drop_at (fragmentation.afl_bytes h.0.fcl a) h.0.rest a.len (sym h.0.len) ∙ h.1
 
 -- ---- what is read is a reading
 
@@ -61,8 +61,8 @@ extension_found (ci ∷ rest) ell e =
     let bytes : List ℕ = ci ∷ rest in
     elim (chosen (nat_le 0x8C ci && nat_le ci 0x8F) _ _ _ e) [
       | inl some ↦
-          let made = map_both_ok Some faults.Ell (extension.extension_at bytes) ell some.1 in
-          let begins : extension.Begins bytes made.0 = extension_laws.is_found bytes (Ok made.0) (sym made.1) in
+          let made = map_both_ok Some faults.Ell (extension.ell_at bytes) ell some.1 in
+          let begins : extension.BeginsWithEll bytes made.0 = extension_laws.is_found bytes (Ok made.0) (sym made.1) in
           let then : ExtensionThen bytes (Some made.0) (drop made.0.len bytes) =
           (begins, sym (extension_then_rest bytes (Some made.0) begins.rest (begins, refl))) in
           subst (λ (x : Option Ell). ExtensionThen bytes x (drop (extension_len x) bytes)) made.2 then
@@ -79,8 +79,8 @@ fragmentation_found (ci ∷ rest) afl fits e =
     let bytes : List ℕ = ci ∷ rest in
     elim (chosen (eqb ci 0x90) _ _ _ e) [
       | inl some ↦
-          let made = map_both_ok Some faults.Afl (fragmentation.header_at bytes) afl some.1 in
-          let begins : fragmentation.Begins bytes made.0 =
+          let made = map_both_ok Some faults.Afl (fragmentation.afl_at bytes) afl some.1 in
+          let begins : fragmentation.BeginsWithAfl bytes made.0 =
           fragmentation_laws.is_found bytes (Ok made.0) (ap Some (eqb-true ci 0x90 some.0)) fits (sym made.1) in
           let then : FragmentationThen bytes (Some made.0) (drop made.0.len bytes) =
           (begins, sym (fragmentation_then_rest bytes (Some made.0) begins.rest (begins, refl))) in
@@ -97,7 +97,7 @@ header_found afl bytes tpl fits e =
           let none : None ≡ tpl = cc piece.1 in
           subst (IsContent bytes afl) none piece.0
       | inr whole ↦
-          let made = map_both_ok Some faults.Tpl (transport.header_at bytes) tpl whole.1 in
+          let made = map_both_ok Some faults.Tpl (transport.tpl_at bytes) tpl whole.1 in
           let content : IsContent bytes afl (Some made.0) = (whole.0, transport_laws.is_found bytes (Ok made.0) fits (sym made.1)) in
           subst (IsContent bytes afl) made.2 content
     ]
@@ -167,25 +167,25 @@ extension_again : (bytes : List ℕ) (ell : Option Ell) (rest : List ℕ) → Ex
 extension_again bytes None rest then none = ap extension_in then ∙ none
 extension_again bytes (Some e) rest then none =
     let begins = then.0 in
-    let P : List ℕ → Type 0 = λ x. extension_in x ≡ result_map_both Some faults.Ell (extension.extension_at x) in
+    let P : List ℕ → Type 0 = λ x. extension_in x ≡ result_map_both Some faults.Ell (extension.ell_at x) in
     let tried : P bytes =
     elim begins.spelt [
       | inl short ↦ subst P (sym (begins.parts ∙ ap (λ (x : List ℕ). x ++ begins.rest) short.bytes)) refl
       | inr long ↦ subst P (sym (begins.parts ∙ ap (λ (x : List ℕ). x ++ begins.rest) long.bytes)) refl
     ] in
-    tried ∙ ap (result_map_both Some faults.Ell) (extension_laws.is_only bytes (extension.extension_at bytes) refl e begins)
+    tried ∙ ap (result_map_both Some faults.Ell) (extension_laws.is_only bytes (extension.ell_at bytes) refl e begins)
 
 fragmentation_again : (bytes : List ℕ) (afl : Option Afl) (content : List ℕ) (tpl : Option Tpl) → FragmentationThen bytes afl content → IsContent content afl tpl
     → fragmentation_in bytes ≡ Ok afl
 fragmentation_again bytes None content tpl then message = ap fragmentation_in then ∙ (message_ci content tpl message).1
 fragmentation_again bytes (Some a) content tpl then message =
-    let P : List ℕ → Type 0 = λ x. fragmentation_in x ≡ result_map_both Some faults.Afl (fragmentation.header_at x) in
+    let P : List ℕ → Type 0 = λ x. fragmentation_in x ≡ result_map_both Some faults.Afl (fragmentation.afl_at x) in
     let tried : P bytes = subst P (sym then.0.parts) refl in
-    tried ∙ ap (result_map_both Some faults.Afl) (fragmentation_laws.is_only bytes (fragmentation.header_at bytes) refl a then.0)
+    tried ∙ ap (result_map_both Some faults.Afl) (fragmentation_laws.is_only bytes (fragmentation.afl_at bytes) refl a then.0)
 
 header_again : (afl : Option Afl) (content : List ℕ) (tpl : Option Tpl) → IsContent content afl tpl → header_in afl content ≡ Ok tpl
 header_again afl content None h = rw h refl
-header_again afl content (Some t) h = rw (h.0, transport_laws.is_only content (transport.header_at content) refl t h.1) refl
+header_again afl content (Some t) h = rw (h.0, transport_laws.is_only content (transport.tpl_at content) refl t h.1) refl
 
 -- where the parts of a reading stand
 record Places (t : List ℕ) (l : Layers) (after content : List ℕ) : Type 0 where

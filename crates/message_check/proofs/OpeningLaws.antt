@@ -15,7 +15,7 @@ use Rattle.ell_layer.specs.declared.access.Access.TheVariants as access
 use Rattle.afl_layer.specs.declared.header.Auth.{Auth}
 use Rattle.tpl_headers.specs.declared.header.Tpl.{Tpl}
 use Rattle.tpl_headers.specs.Configuration.{blocks_of, derivation_of}
-use Rattle.tpl_headers.specs.Header.{Begins, header_at, spelling}
+use Rattle.tpl_headers.specs.Header.{BeginsWithTpl, tpl_at, tpl_bytes}
 use Rattle.tpl_headers.proofs.Headers.{is_found, is_only}
 use Rattle.message_check.specs.declared.signature.Signature.{Signature}
 use Rattle.message_check.specs.declared.refusal.Reason.{Reason}
@@ -77,10 +77,10 @@ pub record Read (a : Address) (mode : ℕ) (m : List ℕ) (h : Tpl) (encrypted r
   pub encrypted_is : encrypted_of h m ≡ encrypted
   pub rest_is : rest_of h m ≡ rest
 
-pub rest_at : (m : List ℕ) (h : Tpl) (b : Begins m h) → drop h.len m ≡ b.rest
-rest_at m h b = ap (drop h.len) b.parts ∙ drop_at (spelling h) b.rest h.len (sym b.is_header.len)
+pub rest_at : (m : List ℕ) (h : Tpl) (b : BeginsWithTpl m h) → drop h.len m ≡ b.rest
+rest_at m h b = ap (drop h.len) b.parts ∙ drop_at (tpl_bytes h) b.rest h.len (sym b.is_header.len)
 
-parts_at : (m : List ℕ) (h : Tpl) (b : Begins m h) (n : ℕ) → b.rest ≡ take n (drop h.len m) ++ drop n (drop h.len m)
+parts_at : (m : List ℕ) (h : Tpl) (b : BeginsWithTpl m h) (n : ℕ) → b.rest ≡ take n (drop h.len m) ++ drop n (drop h.len m)
 parts_at m h b n = sym (rest_at m h b) ∙ sym (take-append-drop n (drop h.len m))
 
 pub for_is : (a : Address) (mode : ℕ) (m : List ℕ) (h : Tpl) → IsBytes m → header_for a mode m ≡ Ok h → IsFor a mode m h
@@ -90,8 +90,8 @@ for_is a mode m h fits e =
     let address = bind_ok (address_passed a read.0.address) _ h read.2 in
     let in_mode = bind_ok (mode_passed mode read.0.cf) _ h address.2 in
     let same : read.0 ≡ h = cc in_mode.2 in
-    let made = map_both_ok (λ (x : Tpl). x) BadMessage (header_at m) read.0 read.1 in
-    let is : header_at m ≡ Ok h = made.1 ∙ ap Ok (made.2 ∙ same) in record {
+    let made = map_both_ok (λ (x : Tpl). x) BadMessage (tpl_at m) read.0 read.1 in
+    let is : tpl_at m ≡ Ok h = made.1 ∙ ap Ok (made.2 ∙ same) in record {
       begins = is_found m (Ok h) (λ i. byte_at m i fits) (sym is);
       meter = address_is a h.address (ap (λ (x : Tpl). address_passed a x.address) (sym same) ∙ address.1);
       in_mode = eqb-true _ _ (if_passed _ _ (ap (λ (x : Tpl). mode_passed mode x.cf) (sym same) ∙ in_mode.1));
@@ -99,7 +99,7 @@ for_is a mode m h fits e =
 
 pub is_for : (a : Address) (mode : ℕ) (m : List ℕ) (h : Tpl) → IsFor a mode m h → header_for a mode m ≡ Ok h
 unfolding header_for
-is_for a mode m h s = rw (is_only m (header_at m) refl h s.begins, is_address a h.address s.meter, eq-eqb _ _ s.in_mode) refl
+is_for a mode m h s = rw (is_only m (tpl_at m) refl h s.begins, is_address a h.address s.meter, eq-eqb _ _ s.in_mode) refl
 
 pub secured : (a : Address) (mode : ℕ) (m : List ℕ) (h : Tpl) → IsBytes m → header_for a mode m ≡ Ok h → blocks_passed h m ≡ passed
     → IsSecured a mode m h (encrypted_of h m) (rest_of h m)

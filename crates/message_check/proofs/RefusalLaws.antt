@@ -12,7 +12,7 @@ use Rattle.meter_address.specs.declared.address.Address.{Address}
 use Rattle.meter_address.specs.Commission.{Commissioned}
 use Rattle.tpl_headers.specs.declared.header.Tpl.{Tpl}
 use Rattle.tpl_headers.specs.Configuration.{mode_of, blocks_of}
-use Rattle.tpl_headers.specs.Header.{Begins, header_at, spelling}
+use Rattle.tpl_headers.specs.Header.{BeginsWithTpl, tpl_at, tpl_bytes}
 use Rattle.tpl_headers.proofs.Headers.{is_found, is_only}
 use Rattle.message_check.specs.declared.refusal.Reason.{Reason}
 use Rattle.message_check.specs.declared.refusal.Reason.TheVariants.{BadMessage, OtherAddress, Mode, ShortBlocks, Unchecked, CheckBytes, SameAccess}
@@ -61,13 +61,13 @@ unfolding header_for
 header_refused a mode m r fits e =
     elim (bind_err (header_in m) _ r e) [
       | inl none ↦
-          let fault = map_both_err (λ (x : Tpl). x) BadMessage (header_at m) r none in
+          let fault = map_both_err (λ (x : Tpl). x) BadMessage (tpl_at m) r none in
           subst (HeaderRefusal a mode m) fault.2 fault.1
       | inr read ↦
           let h : Tpl = read.0 in
-          let made = map_both_ok (λ (x : Tpl). x) BadMessage (header_at m) h read.1 in
-          let is : header_at m ≡ Ok h = made.1 ∙ ap Ok made.2 in
-          let begins : Begins m h = is_found m (Ok h) (λ i. byte_at m i fits) (sym is) in
+          let made = map_both_ok (λ (x : Tpl). x) BadMessage (tpl_at m) h read.1 in
+          let is : tpl_at m ≡ Ok h = made.1 ∙ ap Ok made.2 in
+          let begins : BeginsWithTpl m h = is_found m (Ok h) (λ i. byte_at m i fits) (sym is) in
           elim (bind_err (address_passed a h.address) _ r read.2) [
             | inl other ↦
                 let o = address_refused a h.address r other in
@@ -94,16 +94,16 @@ pub header_refuses : (a : Address) (mode : ℕ) (m : List ℕ) (r : Reason) → 
 unfolding header_for
 header_refuses a mode m (BadMessage f) h = rw h refl
 header_refuses a mode m (OtherAddress n) h =
-    rw (is_only m (header_at m) refl h.0 h.1, h.2, addresses_differ n a h.3) refl
+    rw (is_only m (tpl_at m) refl h.0 h.1, h.2, addresses_differ n a h.3) refl
 header_refuses a mode m (Mode n wanted) h =
     let test : eqb (mode_of h.0.cf) mode ≡ false = differ _ _ (λ same. h.5 (h.3 ∙ same ∙ sym h.4)) in
-    rw (is_only m (header_at m) refl h.0 h.1, is_address a h.0.address h.2, test) (ap₂ (λ (x y : ℕ). refused (Mode x y)) (sym h.3) (sym h.4))
+    rw (is_only m (tpl_at m) refl h.0 h.1, is_address a h.0.address h.2, test) (ap₂ (λ (x y : ℕ). refused (Mode x y)) (sym h.3) (sym h.4))
 header_refuses a mode m r h = absurd h
 
 -- ---- the blocks
 
-len_within : (m : List ℕ) (h : Tpl) → Begins m h → h.len ≤ length m
-len_within m h b = omega (arith, ap length b.parts, length-append (spelling h) b.rest, b.is_header.len)
+len_within : (m : List ℕ) (h : Tpl) → BeginsWithTpl m h → h.len ≤ length m
+len_within m h b = omega (arith, ap length b.parts, length-append (tpl_bytes h) b.rest, b.is_header.len)
 
 pub record ShortBy (m : List ℕ) (h : Tpl) (r : Reason) : Type 0 where
   pub want : ℕ
@@ -111,7 +111,7 @@ pub record ShortBy (m : List ℕ) (h : Tpl) (r : Reason) : Type 0 where
   pub short : IsShort m h want have
   pub reason : ShortBlocks want have ≡ r
 
-pub blocks_refused : (m : List ℕ) (h : Tpl) (r : Reason) → Begins m h → blocks_passed h m ≡ Err r → ShortBy m h r
+pub blocks_refused : (m : List ℕ) (h : Tpl) (r : Reason) → BeginsWithTpl m h → blocks_passed h m ≡ Err r → ShortBy m h r
 blocks_refused m h r b e =
     let test = unless_refused _ (ShortBlocks (16 * blocks_of h.cf) (length m - h.len)) r e in
     let within = len_within m h b in record {

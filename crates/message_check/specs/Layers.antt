@@ -26,17 +26,17 @@ has_piece (Some a) = is_fragment a
 -- the bytes begin with an extension of the link layer, where there is one, and the rest follows
 abbrev pub ExtensionThen : List ℕ → Option Ell → List ℕ → Type 0
 ExtensionThen bytes None rest = bytes ≡ rest
-ExtensionThen bytes (Some e) rest = (begins : extension.Begins bytes e) × (begins.rest ≡ rest)
+ExtensionThen bytes (Some e) rest = (begins : extension.BeginsWithEll bytes e) × (begins.rest ≡ rest)
 
 -- the bytes begin with an authentication and fragmentation layer, where there is one, and the rest follows
 abbrev pub FragmentationThen : List ℕ → Option Afl → List ℕ → Type 0
 FragmentationThen bytes None rest = bytes ≡ rest
-FragmentationThen bytes (Some a) rest = (begins : fragmentation.Begins bytes a) × (begins.rest ≡ rest)
+FragmentationThen bytes (Some a) rest = (begins : fragmentation.BeginsWithAfl bytes a) × (begins.rest ≡ rest)
 
 -- the bytes are a fragment's piece, or begin with the transport header of a message
 abbrev pub IsContent : List ℕ → Option Afl → Option Tpl → Type 0
 IsContent bytes afl None = has_piece afl ≡ true
-IsContent bytes afl (Some t) = (has_piece afl ≡ false) × transport.Begins bytes t
+IsContent bytes afl (Some t) = (has_piece afl ≡ false) × transport.BeginsWithTpl bytes t
 
 -- a telegram has these layers
 pub record IsLayers (t : List ℕ) (l : Layers) : Type 0 where
@@ -68,16 +68,16 @@ fragmentation_len (Some a) = a.len
 -- the extension of the link layer, where the bytes begin with one of its four CIs
 abbrev pub extension_in : List ℕ → Result (Option Ell) LayerFault
 extension_in [] = Ok None
-extension_in (ci ∷ rest) = if nat_le 0x8C ci && nat_le ci 0x8F then result_map_both Some faults.Ell (extension.extension_at (ci ∷ rest)) else Ok None
+extension_in (ci ∷ rest) = if nat_le 0x8C ci && nat_le ci 0x8F then result_map_both Some faults.Ell (extension.ell_at (ci ∷ rest)) else Ok None
 
 -- the header of the authentication and fragmentation layer, where the bytes begin with its CI
 abbrev pub fragmentation_in : List ℕ → Result (Option Afl) LayerFault
 fragmentation_in [] = Ok None
-fragmentation_in (ci ∷ rest) = if ci == 0x90 then result_map_both Some faults.Afl (fragmentation.header_at (ci ∷ rest)) else Ok None
+fragmentation_in (ci ∷ rest) = if ci == 0x90 then result_map_both Some faults.Afl (fragmentation.afl_at (ci ∷ rest)) else Ok None
 
 -- the transport header, where no piece of a message stands in its place
 abbrev pub header_in : Option Afl → List ℕ → Result (Option Tpl) LayerFault
-header_in afl bytes = if has_piece afl then Ok None else result_map_both Some faults.Tpl (transport.header_at bytes)
+header_in afl bytes = if has_piece afl then Ok None else result_map_both Some faults.Tpl (transport.tpl_at bytes)
 
 -- the layers of a telegram, or the fault of the first that can't be read
 unfoldable pub layers_of : List ℕ → Result Layers LayerFault

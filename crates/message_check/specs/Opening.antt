@@ -14,7 +14,7 @@ use Rattle.ell_layer.specs.Access.{access_of}
 use Rattle.afl_layer.specs.declared.header.Auth.{Auth}
 use Rattle.tpl_headers.specs.declared.header.Tpl.{Tpl}
 use Rattle.tpl_headers.specs.Configuration.{mode_of, blocks_of, derivation_of}
-use Rattle.tpl_headers.specs.Header.{Begins, header_at}
+use Rattle.tpl_headers.specs.Header.{BeginsWithTpl, tpl_at}
 use Rattle.cbc_cmac.specs.Cbc.{cbc_decrypted}
 use Rattle.cbc_cmac.specs.Mac.{zeros, cmac}
 use Rattle.key_derivation.specs.declared.KeyUse.TheVariants.{MeterCipher, MeterMac}
@@ -77,7 +77,7 @@ decrypted7 c counter h m = cbc_decrypted (derived c.key MeterCipher counter (ide
 
 -- the header of a message to this meter in this security mode: it names no other meter
 pub record IsFor (a : Address) (mode : ℕ) (m : List ℕ) (h : Tpl) : Type 0 where
-  pub begins : Begins m h
+  pub begins : BeginsWithTpl m h
   pub meter : IfSome h.address (λ named. named ≡ a)
   pub in_mode : mode_of h.cf ≡ mode
 
@@ -123,7 +123,7 @@ Passed = Result (Unit {0}) Reason
 
 -- no transport header
 abbrev pub header_in : List ℕ → Result Tpl Reason
-header_in m = result_map_both (λ h. h) BadMessage (header_at m)
+header_in m = result_map_both (λ h. h) BadMessage (tpl_at m)
 
 -- another meter's address in a long header
 abbrev pub address_passed : Address → Option Address → Passed

@@ -1,5 +1,5 @@
 //! Messages of security mode 5 (OMS Volume 2): AES-128-CBC under the meter's key, checked by two bytes.
-ghost use Rattle.std.specs.Prelude.{◌≡◌, ◌+◌, ◌*◌, ◌<◌, ◌≤◌, [], ◌++◌, length, drop, replicate, Ok, Err, IfOk, IfErr, OnOk, OnErr};
+ghost use Rattle.std.specs.Prelude.{◌≡◌, ◌+◌, ◌*◌, ◌^◌, ◌<◌, ◌≤◌, [], ◌++◌, length, drop, replicate, Ok, Err, IfOk, IfErr, OnOk, OnErr};
 ghost use Rattle.meter_address.specs.Address.{bytes_of};
 ghost use Rattle.tpl_headers.specs.Configuration.{blocks_of};
 ghost use Rattle.message_check.specs.Opening.{initialization_vector, access_in_configuration, decrypted5, rest_of, some_passed, check_bytes_passed, access_number_passed, opened5_after};
@@ -81,6 +81,7 @@ fn open_message(
 ) -> Result<Opened, Reason>
     ensures opened { IfOk result (λ o. opened5_after last commission.now message.old ≡ Ok (found_in message.new o)) }
     ensures within { IfOk result (λ o. o.from ≤ length message.new) }
+    ensures number { IfOk result (λ o. o.counter < 2 ^ 8) }
     ensures refused { IfErr result (λ r. opened5_after last commission.now message.old ≡ Err r) }
 {
     let tpl = read_header_for(commission.address, 5, message)?;
@@ -111,6 +112,9 @@ pub fn open5(
     ensures opened { IfOk result (λ o. opened5_after last commission.now message.old ≡ Ok (found_in message.new o)) }
     ensures within { IfOk result (λ o. o.from ≤ length message.new) }
     ensures same_len { OnOk result (length message.new ≡ length message.old) }
+
+    // An access number is one byte.
+    ensures number { IfOk result (λ o. o.counter < 2 ^ 8) }
 
     // A refused message is emptied.
     ensures refused { IfErr result (λ r. opened5_after last commission.now message.old ≡ Err r) }
