@@ -16,6 +16,7 @@ pub data Move : Type 0 where
 abbrev pub opening : (ids down : ℕ) → Orders
 opening ids down = orders_of (record { ids = ids; commands = [] }) Idle down
 
+-- the orders after this
 abbrev pub after : Orders → Move → Orders
 after k (Put payload) = after_put k payload
 after k (Cancel id) = after_cancel k id
@@ -34,6 +35,7 @@ pub record Sent : Type 0 where
   pub id : ℕ
   pub down : ℕ
 
+-- a downlink, where one is sent, before those that come later
 abbrev pub with_sent : Option Command → ℕ → List Sent → List Sent
 with_sent None down later = later
 with_sent (Some c) down later = record { id = c.id; down = down } ∷ later

@@ -14,6 +14,7 @@ pub record Orders : Type 0 where
   pub window : Window
   pub down : ℕ
 
+-- these three together
 abbrev pub orders_of : Pending → Window → ℕ → Orders
 orders_of queue window down = record { queue = queue; window = window; down = down }
 
@@ -25,11 +26,13 @@ AgreesWith Idle (oldest ∷ others) = oldest.tries < TRIES_MAX
 AgreesWith (Waiting id) [] = ⊥
 AgreesWith (Waiting id) (oldest ∷ others) = (oldest.id ≡ id) × (1 ≤ oldest.tries) × (oldest.tries ≤ TRIES_MAX)
 
+-- the same of the whole queue
 abbrev pub Agrees : Window → Pending → Type 0
 Agrees window queue = AgreesWith window queue.commands
 
 -- ---- a new command, and a cancelled one
 
+-- a new command changes the queue alone
 abbrev pub after_put : Orders → List ℕ → Orders
 after_put k payload = record k { queue = with_command k.queue payload }
 
@@ -58,6 +61,7 @@ spent_id (Some c) = if nat_le TRIES_MAX c.tries then Some c.id else None
 unfoldable pub expired : Orders → Option ℕ
 expired k = spent_id (awaited_in k.window k.queue.commands)
 
+-- the queue without a command that is named
 abbrev pub queue_less : Option ℕ → Pending → Pending
 queue_less None queue = queue
 queue_less (Some id) queue = without_command id queue
@@ -77,6 +81,7 @@ awaited_id (Waiting id) = Some id
 unfoldable pub confirmed : Orders → Bool → Option ℕ
 confirmed k response = if response then awaited_id k.window else None
 
+-- the orders after this command was confirmed
 abbrev pub confirmed_orders : Orders → Option ℕ → Orders
 confirmed_orders k None = k
 confirmed_orders k (Some id) = record k { queue = without_command id k.queue; window = Idle }
@@ -102,11 +107,12 @@ oldest_where_idle Idle (oldest ∷ others) = Some oldest
 unfoldable pub sent : Orders → Access → Option Command
 sent k access = if is_open access && nat_lt k.down (2 ^ 32 - 1) then oldest_where_idle k.window k.queue.commands else None
 
+-- the orders after this command was sent: its tries and the counter rise by one, and the window waits for it
 abbrev pub sent_orders : Orders → Option Command → Orders
 sent_orders k None = k
 sent_orders k (Some c) = record { queue = with_try k.queue; window = Waiting c.id; down = k.down + 1 }
 
--- with a command that is sent its tries and the counter rise by one, and the window waits for it
+-- the orders after what is sent at this access
 unfoldable pub after_sent : Orders → Access → Orders
 after_sent k access = sent_orders k (sent k access)
 
@@ -114,9 +120,10 @@ after_sent k access = sent_orders k (sent k access)
 abbrev pub IsOldestAfterTry : Pending → Command → Type 0
 IsOldestAfterTry queue c = slice_get queue.commands 0 ≡ Some (record c { tries = c.tries + 1 })
 
--- a stored message first confirms, and what is left then may be sent
+-- the command that is sent at a stored message, after what it confirms was removed
 abbrev pub sent_at : Orders → Access → Bool → Option Command
 sent_at k access response = sent (after_confirmed k response) access
 
+-- the orders after a stored message
 abbrev pub after_stored : Orders → Access → Bool → Orders
 after_stored k access response = after_sent (after_confirmed k response) access

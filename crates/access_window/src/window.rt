@@ -28,9 +28,10 @@ impl Window {
     ghost use Rattle.command_queue.specs.Pending.{take_answer, no_such};
     ghost use Rattle.access_window.specs.Orders.{orders_of, Agrees, window_without, after_cancel, expired, after_tick, confirmed, after_confirmed, sent, after_sent, sent_at, after_stored, IsOldestAfterTry};
 
-    /// A message of the meter was stored, with this access. A response (`response`) confirms the command for which the window
-    /// waits, and removes it. Then, while the window is idle, the oldest command is sent where the meter listens now and `down`
-    /// isn't at its end: its tries and `down` rise by one, and the window waits for it.
+    /// A message of the meter was stored, with this access. `response` says whether its C field is that of a response (RSP-UD of
+    /// EN 13757-4): this confirms the command for which the window waits, and removes it. Then, while the window is idle, the
+    /// oldest command is sent where the meter listens now and `down`, the last counter of a downlink, isn't at its end: its
+    /// tries and `down` rise by one, and the window waits for it.
     pub fn uplink(
         &mut self,
         queue: &mut Queue,

@@ -1,10 +1,11 @@
 -- What is held after one more fragment, a tick and a clearing.
 use Rattle.std.proofs.Common.{◌≡◌, ℕ, zero, suc, ◌+◌, ◌<◌, ◌≤◌, Bool, true, false, not, cond, List, [], ◌∷◌, ◌++◌, length, get_or, set, take, drop, map, filter, refl, ap, sym, ◌∙◌, arith, add-one}
-use Rattle.std.specs.Prelude.{nat_le}
+use Rattle.std.specs.Prelude.{find, ◌==◌, Some}
+use Rattle.std.proofs.lemmas.Bool.{le-leb, lt-leb}
 use Rattle.std.proofs.lemmas.Bool.Decides.{nat_tests}
 use Rattle.afl_fragments.specs.Fragment.{Fragment}
 use Rattle.afl_fragments.specs.declared.places.HeldPart.{HeldPart}
-use Rattle.afl_fragments.specs.Held.{Told, Piece, Tick, Clear, since, is_counted, is_fid, latest_each, held}
+use Rattle.afl_fragments.specs.Held.{Told, Piece, Tick, Clear, since, is_counted, is_fid, others, latest_each, held}
 use Rattle.afl_fragments.specs.Places.{held_with, older, is_fresh, aged}
 
 -- the first i of a list, aged, and the rest
@@ -42,14 +43,24 @@ map-cond : (b : Bool) (h : HeldPart) (hs : List HeldPart) → cond b (older h �
 map-cond true h hs = refl
 map-cond false h hs = refl
 
--- the others
-abbrev others : ℕ → List HeldPart → List HeldPart
-others fid hs = filter (λ g. not (is_fid fid g)) hs
-
 others-older : (fid : ℕ) (hs : List HeldPart) → others fid (map older hs) ≡ map older (others fid hs)
 others-older fid [] = refl
 others-older fid (h ∷ hs) =
     ap (λ gs. cond (not (is_fid fid h)) (older h ∷ gs) gs) (others-older fid hs) ∙ map-cond (not (is_fid fid h)) h (others fid hs)
+
+-- ---- a look-up
+
+neither : (x g f : ℕ) → (x == g) ≡ true → (g == f) ≡ false → (x == f) ≡ false
+neither x g f a b = grind (arith, nat_tests)
+
+find_cond : (f : ℕ) (b : Bool) (x : HeldPart) (xs : List HeldPart) → (b ≡ true → is_fid f x ≡ false) → find (is_fid f) (cond (not b) (x ∷ xs) xs) ≡ cond (is_fid f x) (Some x) (find (is_fid f) xs)
+find_cond f true x xs h = ap (λ t. cond t (Some x) (find (is_fid f) xs)) (sym (h refl))
+find_cond f false x xs h = refl
+
+-- without a number, each other one is found as before
+pub find-others : (f g : ℕ) (xs : List HeldPart) → (g == f) ≡ false → find (is_fid f) (others g xs) ≡ find (is_fid f) xs
+find-others f g [] e = refl
+find-others f g (x ∷ xs) e = find_cond f (is_fid g x) x (others g xs) (λ t. neither x.part.afl.fid g f t e) ∙ ap (cond (is_fid f x) (Some x)) (find-others f g xs e)
 
 -- ---- a tick
 
@@ -86,22 +97,16 @@ held-tick told = latest_each-tick told
 
 -- ---- a fragment, a clearing
 
-counted : (fid : ℕ) → fid ≤ 16 → nat_le fid 16 ≡ true
-counted fid h = grind (arith, nat_tests)
-
-uncounted : (fid : ℕ) → 16 < fid → nat_le fid 16 ≡ false
-uncounted fid h = grind (arith, nat_tests)
-
 abbrev held_if : Bool → Fragment → List Told → List HeldPart
 held_if b part told = latest_each (cond b (heard 0 part ∷ since 0 told) (since 0 told))
 
 pub held-piece : (part : Fragment) (told : List Told) → part.afl.fid ≤ 16 → held (Piece part ∷ told) ≡ held_with part (held told)
 unfolding held
-held-piece part told h = ap (λ b. held_if b part told) (counted part.afl.fid h)
+held-piece part told h = ap (λ b. held_if b part told) (le-leb part.afl.fid 16 h)
 
 pub held-too_many : (part : Fragment) (told : List Told) → 16 < part.afl.fid → held (Piece part ∷ told) ≡ held told
 unfolding held
-held-too_many part told h = ap (λ b. held_if b part told) (uncounted part.afl.fid h)
+held-too_many part told h = ap (λ b. held_if b part told) (lt-leb part.afl.fid 16 h)
 
 pub held-clear : (told : List Told) → held (Clear ∷ told) ≡ []
 unfolding held

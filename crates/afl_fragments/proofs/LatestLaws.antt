@@ -1,33 +1,22 @@
 -- A fragment is held exactly where it is the latest.
-use Rattle.std.proofs.Common.{◌≡◌, ℕ, ◌+◌, ◌≤◌, ◌==◌, Bool, true, false, not, ◌||◌, cond, List, [], ◌∷◌, ◌++◌, filter, Option, Some, refl, ap, sym, ◌∙◌, arith, subst}
+use Rattle.std.proofs.Common.{◌≡◌, ℕ, ◌+◌, ◌≤◌, ◌==◌, Bool, true, false, ◌||◌, cond, List, [], ◌∷◌, ◌++◌, Option, Some, refl, ap, sym, ◌∙◌, arith, subst}
 use Rattle.std.specs.Prelude.{find, count_by, option_map, nat_le}
 use Rattle.std.specs.List.{list_any}
+use Rattle.std.proofs.lemmas.Bool.{eqb-true, eq-eqb, le-leb}
 use Rattle.std.proofs.lemmas.Bool.Decides.{nat_tests}
 use Rattle.std.proofs.lemmas.List.Sums.{sum_by-cons}
 use Rattle.afl_fragments.specs.Fragment.{Fragment}
 use Rattle.afl_fragments.specs.declared.places.HeldPart.{HeldPart}
-use Rattle.afl_fragments.specs.Held.{Told, Piece, Tick, Clear, since, is_counted, is_fid, latest_each, held, piece_at}
-use Rattle.afl_fragments.specs.Latest.{is_piece_of, is_tick, is_clear, IsLatest}
+use Rattle.afl_fragments.specs.Held.{Told, Piece, Tick, Clear, since, is_counted, is_fid, others, latest_each, held, piece_at}
+use Rattle.afl_fragments.proofs.Holding.{find-others}
+use Rattle.afl_fragments.specs.Laws.{is_piece_of, is_tick, is_clear, IsLatest}
 
 -- ---- a look-up among the latest ones
 
-neither : (x h f : ℕ) → (x == h) ≡ true → (h == f) ≡ false → (x == f) ≡ false
-neither x h f a b = grind (arith, nat_tests)
-
-find_cond : (f : ℕ) (b : Bool) (x : HeldPart) (xs : List HeldPart) → (b ≡ true → is_fid f x ≡ false) → find (is_fid f) (cond (not b) (x ∷ xs) xs) ≡ cond (is_fid f x) (Some x) (find (is_fid f) xs)
-find_cond f true x xs h = ap (λ t. cond t (Some x) (find (is_fid f) xs)) (sym (h refl))
-find_cond f false x xs h = refl
-
-find_others : (f : ℕ) (h : HeldPart) (xs : List HeldPart) → is_fid f h ≡ false → find (is_fid f) (filter (λ g. not (is_fid h.part.afl.fid g)) xs) ≡ find (is_fid f) xs
-find_others f h [] e = refl
-find_others f h (x ∷ xs) e =
-    find_cond f (is_fid h.part.afl.fid x) x (filter (λ g. not (is_fid h.part.afl.fid g)) xs) (λ t. neither x.part.afl.fid h.part.afl.fid f t e)
-    ∙ ap (cond (is_fid f x) (Some x)) (find_others f h xs e)
-
 find_latest_cond : (f : ℕ) (h : HeldPart) (hs : List HeldPart) (b : Bool) → is_fid f h ≡ b → find (is_fid f) (latest_each hs) ≡ find (is_fid f) hs
-    → cond b (Some h) (find (is_fid f) (filter (λ g. not (is_fid h.part.afl.fid g)) (latest_each hs))) ≡ cond b (Some h) (find (is_fid f) hs)
+    → cond b (Some h) (find (is_fid f) (others h.part.afl.fid (latest_each hs))) ≡ cond b (Some h) (find (is_fid f) hs)
 find_latest_cond f h hs true e k = refl
-find_latest_cond f h hs false e k = find_others f h (latest_each hs) e ∙ k
+find_latest_cond f h hs false e k = find-others f h.part.afl.fid (latest_each hs) e ∙ k
 
 find_latest : (f : ℕ) (hs : List HeldPart) → find (is_fid f) (latest_each hs) ≡ find (is_fid f) hs
 find_latest f [] = refl
@@ -94,15 +83,12 @@ within fid f t e = grind (arith, nat_tests)
 beyond : (fid f : ℕ) → nat_le fid 16 ≡ false → f ≤ 16 → (fid == f) ≡ false
 beyond fid f t e = grind (arith, nat_tests)
 
-same : (fid f : ℕ) → (fid == f) ≡ true → fid ≡ f
-same fid f e = grind (arith, nat_tests)
-
 found_with_last : (counted here : Bool) (n f : ℕ) (p part : Fragment) (told : List Told) → is_counted p ≡ counted → (p.afl.fid == f) ≡ here → n ≤ 1 → (found_part n f told ≡ Some part → WasLast n f told part)
     → found_with counted here n f p told ≡ Some part → WasLast n f (Piece p ∷ told) part
 found_with_last true true n f p part told c e l rest h =
     let is : p ≡ part = cc in
     subst (WasLast n f (Piece p ∷ told)) is
-    (record { later = []; earlier = told; heard = refl; number = same p.afl.fid f e; counted = within p.afl.fid f c (same p.afl.fid f e); latest = refl; uncleared = refl; ticks = omega arith })
+    (record { later = []; earlier = told; heard = refl; number = eqb-true p.afl.fid f e; counted = within p.afl.fid f c (eqb-true p.afl.fid f e); latest = refl; uncleared = refl; ticks = omega arith })
 found_with_last true false n f p part told c e l rest h = after_piece n f p part told e (rest h)
 found_with_last false here n f p part told c e l rest h =
     let last = rest h in
@@ -147,15 +133,9 @@ skip_piece : (n f : ℕ) (p part : Fragment) (told : List Told) → (p.afl.fid =
 skip_piece n f p part told e h =
     found_piece n f p told ∙ ap (λ b. found_with (is_counted p) b n f p told) e ∙ passed (is_counted p) n f p part told h
 
-counts : (fid f : ℕ) → fid ≡ f → f ≤ 16 → nat_le fid 16 ≡ true
-counts fid f e l = grind (arith, nat_tests)
-
-tests : (fid f : ℕ) → fid ≡ f → (fid == f) ≡ true
-tests fid f e = grind (arith, nat_tests)
-
 here_piece : (n f : ℕ) (part : Fragment) (told : List Told) → part.afl.fid ≡ f → f ≤ 16 → found_part n f (Piece part ∷ told) ≡ Some part
 here_piece n f part told e l =
-    found_piece n f part told ∙ ap (λ b. found_with b (part.afl.fid == f) n f part told) (counts part.afl.fid f e l) ∙ ap (λ b. found_with true b n f part told) (tests part.afl.fid f e)
+    found_piece n f part told ∙ ap (λ b. found_with b (part.afl.fid == f) n f part told) (le-leb part.afl.fid 16 (omega arith)) ∙ ap (λ b. found_with true b n f part told) (eq-eqb part.afl.fid f e)
 
 last_one : (f : ℕ) (later earlier : List Told) (part : Fragment) → part.afl.fid ≡ f → f ≤ 16 → list_any (is_piece_of f) later ≡ false → list_any is_clear later ≡ false → count_by is_tick later + 1 ≤ 1 → found_part 1 f (later ++ Piece part ∷ earlier) ≡ Some part
 last_one f [] earlier part e m l u t = here_piece 1 f part earlier e m

@@ -1,5 +1,6 @@
 pub mod FrontLaws
 pub mod Holding
 pub mod LatestLaws
+pub mod MessageLaws
 pub mod PlaceLaws
 pub mod Room

@@ -2,12 +2,13 @@
 use Rattle.std.proofs.Common.{◌≡◌, ◌≢◌, ℕ, zero, suc, ◌+◌, ◌<◌, ◌≤◌, eqb, Bool, true, false, not, ◌||◌, cond, List, [], ◌∷◌, length, set, map, filter, refl, ap, sym, ◌∙◌, arith, get_or-set_same, get_or-set_other}
 use Rattle.std.specs.List.{list_any, IsDistinct, AllByRecursion}
 use Rattle.std.specs.Prelude.{find, Option, Some, None, IfSome, option_map}
+use Rattle.std.proofs.lemmas.Bool.{eqb-true}
 use Rattle.std.proofs.lemmas.Bool.Decides.{nat_tests}
 use Rattle.std.proofs.lemmas.List.{length-set, length-map}
 use Rattle.std.proofs.lemmas.Map.Steps.{length-le_from_distinct_below}
 use Rattle.afl_fragments.specs.Fragment.{Fragment}
 use Rattle.afl_fragments.specs.declared.places.HeldPart.{HeldPart}
-use Rattle.afl_fragments.specs.Held.{is_fid, piece_at, is_end, last_end}
+use Rattle.afl_fragments.specs.Held.{is_fid, others, piece_at, is_end, last_end}
 use Rattle.afl_fragments.specs.Places.{no_held, at_place, held_in, is_in, held_with, older, is_fresh, aged, IsPlace, AreOrdered}
 
 not_place : (i place : ℕ) → eqb place i ≡ false → i ≢ place
@@ -19,13 +20,10 @@ flipped i place h = grind (arith, nat_tests)
 same_tests : (i place f : ℕ) → f ≡ i + 1 → eqb f (place + 1) ≡ eqb i place
 same_tests i place f h = grind (arith, nat_tests)
 
-same_place : (i place : ℕ) → eqb i place ≡ true → i ≡ place
-same_place i place h = grind (arith, nat_tests)
-
 -- ---- lists of places
 
-abbrev others : ℕ → List ℕ → List ℕ
-others place order = filter (λ i. not (eqb i place)) order
+abbrev other_places : ℕ → List ℕ → List ℕ
+other_places place order = filter (λ i. not (eqb i place)) order
 
 each_cond : (P : ℕ → Type 0) (b : Bool) (i : ℕ) (is : List ℕ) → P i → AllByRecursion P is → AllByRecursion P (cond b (i ∷ is) is)
 each_cond P true i is h k = (h, k)
@@ -40,9 +38,9 @@ other_cond true i place is e h = h
 other_cond false i place is e h = (flipped i place e, h)
 
 -- none of the others is the place
-others_differ : (place : ℕ) (is : List ℕ) → AllByRecursion (λ j. eqb place j ≡ false) (others place is)
+others_differ : (place : ℕ) (is : List ℕ) → AllByRecursion (λ j. eqb place j ≡ false) (other_places place is)
 others_differ place [] = tt
-others_differ place (i ∷ is) = other_cond (eqb i place) i place (others place is) refl (others_differ place is)
+others_differ place (i ∷ is) = other_cond (eqb i place) i place (other_places place is) refl (others_differ place is)
 
 distinct_cond : (b : Bool) (i : ℕ) (is : List ℕ) → AllByRecursion (λ j. eqb i j ≡ false) is → IsDistinct eqb is → IsDistinct eqb (cond b (i ∷ is) is)
 unfolding IsDistinct
@@ -55,7 +53,7 @@ distinct_filter f [] h = tt
 distinct_filter f (i ∷ is) h = distinct_cond (f i) i (filter f is) (each_filter (λ j. eqb i j ≡ false) f is h.0) (distinct_filter f is h.1)
 
 -- the place first, and then the others
-distinct_first : (place : ℕ) (order : List ℕ) → IsDistinct eqb order → IsDistinct eqb (place ∷ others place order)
+distinct_first : (place : ℕ) (order : List ℕ) → IsDistinct eqb order → IsDistinct eqb (place ∷ other_places place order)
 unfolding IsDistinct
 distinct_first place order h = (others_differ place order, distinct_filter (λ i. not (eqb i place)) order h)
 
@@ -92,11 +90,11 @@ held_in-cond places true i order = refl
 held_in-cond places false i order = refl
 
 -- leaving a place out is leaving its fragment out
-held_in-others : (places : List HeldPart) (place : ℕ) (order : List ℕ) → AllByRecursion (IsPlace places) order → held_in places (others place order) ≡ filter (λ g. not (is_fid (place + 1) g)) (held_in places order)
+held_in-others : (places : List HeldPart) (place : ℕ) (order : List ℕ) → AllByRecursion (IsPlace places) order → held_in places (other_places place order) ≡ others (place + 1) (held_in places order)
 held_in-others places place [] a = refl
 held_in-others places place (i ∷ order) a =
-    held_in-cond places (not (eqb i place)) i (others place order)
-    ∙ ap (λ b. cond (not b) (at_place places i ∷ held_in places (others place order)) (held_in places (others place order))) (sym (same_tests i place (at_place places i).part.afl.fid a.0.1))
+    held_in-cond places (not (eqb i place)) i (other_places place order)
+    ∙ ap (λ b. cond (not b) (at_place places i ∷ held_in places (other_places place order)) (held_in places (other_places place order))) (sym (same_tests i place (at_place places i).part.afl.fid a.0.1))
     ∙ ap (λ gs. cond (not (is_fid (place + 1) (at_place places i))) (at_place places i ∷ gs) gs) (held_in-others places place order a.1)
 
 abbrev heard : Fragment → HeldPart
@@ -104,20 +102,20 @@ heard part = record { ticks = 0; part = part }
 
 -- the fragment is held in its place, heard last
 pub placed : (places : List HeldPart) (order : List ℕ) (place : ℕ) (part : Fragment) → AreOrdered places order → place < 16 → part.afl.fid ≡ place + 1
-    → held_in (set places place (heard part)) (place ∷ others place order) ≡ held_with part (held_in places order)
+    → held_in (set places place (heard part)) (place ∷ other_places place order) ≡ held_with part (held_in places order)
 placed places order place part a m e =
     let l : place < length places = omega (arith, a.long) in
-    let kept : held_in (set places place (heard part)) (others place order) ≡ filter (λ g. not (is_fid part.afl.fid g)) (held_in places order) =
-    held_in-set places place (heard part) (others place order) (others_differ place order) ∙ held_in-others places place order a.each
-    ∙ ap (λ f. filter (λ g. not (is_fid f g)) (held_in places order)) (sym e) in
-    ap (λ g. g ∷ held_in (set places place (heard part)) (others place order)) (at_set_same places place (heard part) l) ∙ ap (λ gs. heard part ∷ gs) kept
+    let kept : held_in (set places place (heard part)) (other_places place order) ≡ others part.afl.fid (held_in places order) =
+    held_in-set places place (heard part) (other_places place order) (others_differ place order) ∙ held_in-others places place order a.each
+    ∙ ap (λ f. others f (held_in places order)) (sym e) in
+    ap (λ g. g ∷ held_in (set places place (heard part)) (other_places place order)) (at_set_same places place (heard part) l) ∙ ap (λ gs. heard part ∷ gs) kept
 
 still_place : (places : List HeldPart) (place : ℕ) (h : HeldPart) (order : List ℕ) → AllByRecursion (IsPlace places) order → AllByRecursion (λ i. eqb place i ≡ false) order → AllByRecursion (IsPlace (set places place h)) order
 still_place places place h [] a d = tt
 still_place places place h (i ∷ order) a d = ((a.0.0, ap (λ g. g.part.afl.fid) (at_set_other places place i h d.0) ∙ a.0.1), still_place places place h order a.1 d.1)
 
 pub placed_ordered : (places : List HeldPart) (order : List ℕ) (place : ℕ) (part : Fragment) → AreOrdered places order → place < 16 → part.afl.fid ≡ place + 1
-    → AreOrdered (set places place (heard part)) (place ∷ others place order)
+    → AreOrdered (set places place (heard part)) (place ∷ other_places place order)
 placed_ordered places order place part a m e =
     let l : place < length places = omega (arith, a.long) in
     record {
@@ -125,14 +123,14 @@ placed_ordered places order place part a m e =
       distinct = distinct_first place order a.distinct;
       each = (
         (m, ap (λ g. g.part.afl.fid) (at_set_same places place (heard part) l) ∙ e),
-        still_place places place (heard part) (others place order) (each_filter (IsPlace places) (λ i. not (eqb i place)) order a.each) (others_differ place order),
+        still_place places place (heard part) (other_places place order) (each_filter (IsPlace places) (λ i. not (eqb i place)) order a.each) (others_differ place order),
       );
     }
 
 -- there is room for one more place
-pub others_few : (places : List HeldPart) (order : List ℕ) (place : ℕ) (part : Fragment) → AreOrdered places order → place < 16 → part.afl.fid ≡ place + 1 → length (others place order) < 16
+pub others_few : (places : List HeldPart) (order : List ℕ) (place : ℕ) (part : Fragment) → AreOrdered places order → place < 16 → part.afl.fid ≡ place + 1 → length (other_places place order) < 16
 others_few places order place part a m e =
-    omega (arith, few_places (set places place (heard part)) (place ∷ others place order) (placed_ordered places order place part a m e))
+    omega (arith, few_places (set places place (heard part)) (place ∷ other_places place order) (placed_ordered places order place part a m e))
 
 -- ---- a tick
 
@@ -175,7 +173,7 @@ aged_ordered places order a = record {
 -- ---- a look at a place
 
 find_place_cond : (places : List HeldPart) (i place : ℕ) (b c : Bool) → eqb i place ≡ b → cond b (Some (at_place places i)) (cond c (Some (at_place places place)) None) ≡ cond (b || c) (Some (at_place places place)) None
-find_place_cond places i place true c h = ap (λ j. Some (at_place places j)) (same_place i place h)
+find_place_cond places i place true c h = ap (λ j. Some (at_place places j)) (eqb-true i place h)
 find_place_cond places i place false c h = refl
 
 -- the fragment of a number stands in the number's place, if that is in use

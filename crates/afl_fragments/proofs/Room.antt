@@ -1,22 +1,21 @@
 -- A message is no longer than all that is held, and a fragment adds no more than its bytes.
-use Rattle.std.proofs.Common.{◌≡◌, ℕ, zero, suc, ◌+◌, ◌≤◌, ◌<◌, ◌==◌, Bool, true, false, not, cond, List, [], ◌∷◌, ◌++◌, length, filter, Option, Some, None, refl, ap, sym, ◌∙◌, arith, ◌-◌, length-append}
-use Rattle.std.specs.Prelude.{find, sum_by, option_map, OnSome}
+use Rattle.std.proofs.Common.{◌≡◌, ℕ, zero, suc, ◌+◌, ◌≤◌, ◌<◌, ◌==◌, Bool, true, false, not, cond, List, [], ◌∷◌, ◌++◌, length, Option, Some, None, refl, ap, sym, ◌∙◌, arith, ◌-◌, length-append}
+use Rattle.std.specs.Prelude.{find, option_map, OnSome}
 use Rattle.std.specs.List.{flat_map}
+use Rattle.std.proofs.lemmas.Bool.{eq-eqb}
 use Rattle.std.proofs.lemmas.Bool.Decides.{nat_tests}
 use Rattle.std.proofs.lemmas.List.{flat_map_more}
 use Rattle.std.proofs.lemmas.List.Sums.{sum_by-cons}
 use Rattle.afl_layer.specs.declared.header.Auth.{Auth}
 use Rattle.afl_fragments.specs.Fragment.{Fragment}
 use Rattle.afl_fragments.specs.declared.places.HeldPart.{HeldPart}
-use Rattle.afl_fragments.specs.Held.{is_fid, is_end, piece_at, last_end, with_more, front, Message, joined, ended_by, assembled, held_bytes}
+use Rattle.afl_fragments.specs.Held.{is_fid, others, is_end, piece_at, last_end, with_more, front, Message, joined, message_with, ended_by, assembled, held_bytes}
 use Rattle.afl_fragments.specs.Places.{held_with}
+use Rattle.afl_fragments.proofs.Holding.{find-others}
 
 -- how many bytes a fragment adds
 abbrev weight : HeldPart → ℕ
 weight h = length h.part.bytes
-
-abbrev others : ℕ → List HeldPart → List HeldPart
-others f hs = filter (λ g. not (is_fid f g)) hs
 
 fewer_cond : (b : Bool) (x : HeldPart) (xs ys : List HeldPart) → held_bytes ys ≤ held_bytes xs → held_bytes (cond b (x ∷ ys) ys) ≤ held_bytes (x ∷ xs)
 fewer_cond true x xs ys l = omega (arith, l, sum_by-cons weight x xs, sum_by-cons weight x ys)
@@ -40,23 +39,13 @@ without : (f : ℕ) (xs : List HeldPart) (h : HeldPart) → find (is_fid f) xs �
 without f [] h e = absurd cc
 without f (x ∷ xs) h e = without_cond (is_fid f x) f x h xs (λ _ k. without f xs h k) (fewer f xs) e
 
--- the other numbers stay
-differs : (x f g : ℕ) → (x == f) ≡ true → g < f → (x == g) ≡ false
-differs x f g e l = grind (arith, nat_tests)
-
-find_other_cond : (b : Bool) (f g : ℕ) (x : HeldPart) (xs : List HeldPart) → (b ≡ true → is_fid g x ≡ false) → find (is_fid g) (others f xs) ≡ find (is_fid g) xs
-    → find (is_fid g) (cond (not b) (x ∷ others f xs) (others f xs)) ≡ find (is_fid g) (x ∷ xs)
-find_other_cond true f g x xs d k = k ∙ ap (λ t. cond t (Some x) (find (is_fid g) xs)) (sym (d refl))
-find_other_cond false f g x xs d k = ap (cond (is_fid g x) (Some x)) k
-
-find_other : (f g : ℕ) (xs : List HeldPart) → g < f → find (is_fid g) (others f xs) ≡ find (is_fid g) xs
-find_other f g [] l = refl
-find_other f g (x ∷ xs) l = find_other_cond (is_fid f x) f g x xs (λ e. differs x.part.afl.fid f g e l) (find_other f g xs l)
+apart : (f n : ℕ) → n < f → (f == n) ≡ false
+apart f n l = grind (arith, nat_tests)
 
 front_others : (n f : ℕ) (hs : List HeldPart) → n < f → front n (others f hs) ≡ front n hs
 front_others zero f hs l = refl
 front_others (suc n) f hs l =
-    ap (λ o. with_more o (piece_at (suc n) (others f hs))) (front_others n f hs (omega arith)) ∙ ap (with_more (front n hs)) (find_other f (suc n) hs l)
+    ap (λ o. with_more o (piece_at (suc n) (others f hs))) (front_others n f hs (omega arith)) ∙ ap (with_more (front n hs)) (find-others (suc n) f hs (apart f (suc n) l))
 
 -- ---- the bytes of a message
 
@@ -87,16 +76,13 @@ member_cond : (b : Bool) (x h : HeldPart) (xs ys : List HeldPart) → weight h +
 member_cond true x h xs ys l = omega (arith, l, sum_by-cons weight x xs, sum_by-cons weight x ys)
 member_cond false x h xs ys l = omega (arith, l, sum_by-cons weight x xs)
 
-itself : (n : ℕ) → (n == n) ≡ true
-itself n = grind (arith, nat_tests)
-
 found_less : (q : HeldPart → Bool) (xs : List HeldPart) (h : HeldPart) → find q xs ≡ Some h → weight h + held_bytes (others h.part.afl.fid xs) ≤ held_bytes xs
 found_less q [] h e = absurd cc
 found_less q (x ∷ xs) h e = either (q x) (λ k. found_less q xs h k) e
   where
     first : x ≡ h → weight h + held_bytes (others h.part.afl.fid (x ∷ xs)) ≤ held_bytes (x ∷ xs)
     first s =
-        let same : (x.part.afl.fid == h.part.afl.fid) ≡ true = ap (λ g. x.part.afl.fid == g.part.afl.fid) (sym s) ∙ itself x.part.afl.fid in
+        let same : (x.part.afl.fid == h.part.afl.fid) ≡ true = ap (λ g. x.part.afl.fid == g.part.afl.fid) (sym s) ∙ eq-eqb x.part.afl.fid x.part.afl.fid refl in
         rw same (omega (arith, fewer h.part.afl.fid xs, sum_by-cons weight x xs, ap weight s))
 
     either : (b : Bool) → (find q xs ≡ Some h → weight h + held_bytes (others h.part.afl.fid xs) ≤ held_bytes xs) → cond b (Some x) (find q xs) ≡ Some h → weight h + held_bytes (others h.part.afl.fid (x ∷ xs)) ≤ held_bytes (x ∷ xs)
@@ -123,6 +109,6 @@ assembled_room hs m e = from_end (last_end hs) refl e
     from_end None l k = absurd cc
     from_end (Some h) l k = whole h (front (h.part.afl.fid - 1) hs) refl l k
 
-pub whole_room : (o : Option Auth) (bytes : List ℕ) (hs : List HeldPart) → option_map (λ auth. record { auth = auth; bytes = bytes }) o ≡ assembled hs → OnSome o (length bytes ≤ held_bytes hs)
+pub whole_room : (o : Option Auth) (bytes : List ℕ) (hs : List HeldPart) → message_with o bytes ≡ assembled hs → OnSome o (length bytes ≤ held_bytes hs)
 whole_room None bytes hs e = tt
 whole_room (Some auth) bytes hs e = assembled_room hs _ (sym e)

@@ -24,13 +24,18 @@ since n (Piece part ∷ told) = if is_counted part then record { ticks = n; part
 since n (Tick ∷ told) = if n == 0 then since 1 told else []
 since n (Clear ∷ told) = []
 
+-- it has this number
 abbrev pub is_fid : ℕ → HeldPart → Bool
 is_fid fid h = h.part.afl.fid == fid
+
+-- those with other numbers
+abbrev pub others : ℕ → List HeldPart → List HeldPart
+others fid hs = filter (λ h. not (is_fid fid h)) hs
 
 -- of each number the latest fragment
 abbrev pub latest_each : List HeldPart → List HeldPart
 latest_each [] = []
-latest_each (h ∷ hs) = h ∷ filter (λ g. not (is_fid h.part.afl.fid g)) (latest_each hs)
+latest_each (h ∷ hs) = h ∷ others h.part.afl.fid (latest_each hs)
 
 -- the fragments that are held, latest first
 unfoldable pub held : List Told → List HeldPart
@@ -73,6 +78,10 @@ front (suc n) hs = with_more (front n hs) (piece_at (suc n) hs)
 pub record Message : Type 0 where
   pub auth : Auth
   pub bytes : List ℕ
+
+-- the message with these bytes, if there are fields that authenticate it
+abbrev pub message_with : Option Auth → List ℕ → Option Message
+message_with auth bytes = option_map (λ a. record { auth = a; bytes = bytes }) auth
 
 -- the message control, the counter and the message length stand in the first fragment, and the MAC in the last
 abbrev pub auth_of : Fragment → Fragment → Auth

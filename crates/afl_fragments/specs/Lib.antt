@@ -1,4 +1,4 @@
 pub mod Fragment
 pub mod Held
-pub mod Latest
+pub mod Laws
 pub mod Places

@@ -1,9 +1,9 @@
 -- Fragments in sixteen fixed places: words of the code's own contracts.
-use Rattle.std.specs.Prelude.{◌≡◌, ℕ, ◌+◌, ◌<◌, ◌&&◌, ◌==◌, not, Bool, true, eqb, List, [], ◌∷◌, filter, map, length, slice_index_or, None}
+use Rattle.std.specs.Prelude.{◌≡◌, ℕ, ◌+◌, ◌<◌, ◌&&◌, ◌==◌, Bool, true, eqb, List, [], ◌∷◌, filter, map, length, slice_index_or, None}
 use Rattle.std.specs.List.{list_any, IsDistinct, AllByRecursion}
 use Rattle.afl_fragments.specs.Fragment.{Fragment}
 use Rattle.afl_fragments.specs.declared.places.HeldPart.{HeldPart}
-use Rattle.afl_fragments.specs.Held.{is_fid}
+use Rattle.afl_fragments.specs.Held.{others}
 
 -- what is read past the places
 abbrev pub no_held : HeldPart
@@ -40,7 +40,7 @@ parts_in hs = map (λ h. h.part) hs
 
 -- what is held after one more fragment
 abbrev pub held_with : Fragment → List HeldPart → List HeldPart
-held_with part hs = record { ticks = 0; part = part } ∷ filter (λ g. not (is_fid part.afl.fid g)) hs
+held_with part hs = record { ticks = 0; part = part } ∷ others part.afl.fid hs
 
 abbrev pub is_fresh : HeldPart → Bool
 is_fresh h = h.ticks == 0

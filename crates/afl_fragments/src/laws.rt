@@ -1,12 +1,19 @@
 //! Laws of the fragments that are held.
 ghost use Rattle.std.specs.Prelude.{◌≡◌, ◌↔◌, ℕ, List, Some, option_map};
 ghost use Rattle.afl_fragments.specs.Fragment.{Fragment};
-ghost use Rattle.afl_fragments.specs.Held.{Told, held, piece_at};
-ghost use Rattle.afl_fragments.specs.Latest.{IsLatest};
+ghost use Rattle.afl_fragments.specs.declared.places.HeldPart.{HeldPart};
+ghost use Rattle.afl_fragments.specs.Held.{Told, held, piece_at, Message, assembled};
+ghost use Rattle.afl_fragments.specs.Laws.{IsLatest, IsMessage};
 
 /// A fragment is held exactly where it is the latest that was heard with its number, no message that fragments made was
 /// stored after it, and at most one tick came after it.
 pub fn held_is_latest()
     ensures { (told : List Told) (fid : ℕ) (part : Fragment)
         → (option_map (λ h. h.part) (piece_at fid (held told)) ≡ Some part) ↔ IsLatest fid told part }
+{}
+
+/// A message is made exactly where an end is held and, for the end that was heard last, all fragments with smaller numbers,
+/// each with more to follow. It is these fragments joined.
+pub fn message_is_joined()
+    ensures { (hs : List HeldPart) (m : Message) → (assembled hs ≡ Some m) ↔ IsMessage hs m }
 {}

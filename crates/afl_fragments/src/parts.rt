@@ -1,6 +1,6 @@
 //! The fragments that are held.
-ghost use Rattle.std.specs.Prelude.{◌≡◌, ◌≤◌, ◌<◌, ◌+◌, ◌↔◌, List, [], ◌∷◌, length, option_map, IfNone, OnSome};
-ghost use Rattle.afl_fragments.specs.Held.{Told, Piece, Tick, Clear, StandsFor, assembled, held_bytes};
+ghost use Rattle.std.specs.Prelude.{◌≡◌, ◌≤◌, ◌<◌, ◌+◌, ◌↔◌, List, [], ◌∷◌, length, IfNone, OnSome};
+ghost use Rattle.afl_fragments.specs.Held.{Told, Piece, Tick, Clear, StandsFor, message_with, assembled, held_bytes};
 
 use crate::part::Part;
 use crate::places::{
@@ -87,7 +87,7 @@ impl Parts {
     /// Puts the message together that the fragments make, and answers the fields that authenticate it. None where they
     /// make none.
     pub fn whole(&self, out: &mut Scratch) -> Option<Auth>
-        ensures message { option_map (λ auth. record { auth = auth; bytes = out.new }) result ≡ assembled self.now }
+        ensures message { message_with result out.new ≡ assembled self.now }
         ensures unchanged { IfNone result (out.new ≡ out.old) }
         ensures room { OnSome result (length out.new ≤ held_bytes self.now) }
     {

@@ -1,7 +1,7 @@
 //! Places for fragments: one for each number, and which of them are in use.
-ghost use Rattle.std.specs.Prelude.{◌≡◌, ◌≤◌, ◌<◌, ◌+◌, ◌*◌, ◌++◌, ◌∷◌, length, filter, map, not, eqb, find, take, option_map, IfSome, IfNone, Some, None, if◌then◌else◌};
+ghost use Rattle.std.specs.Prelude.{◌≡◌, ◌≤◌, ◌<◌, ◌+◌, ◌*◌, ◌++◌, ◌∷◌, length, filter, map, not, eqb, find, take, IfSome, IfNone, Some, None, if◌then◌else◌};
 ghost use Rattle.std.specs.List.{flat_map};
-ghost use Rattle.afl_fragments.specs.Held.{is_end, front, auth_of, assembled, held_bytes};
+ghost use Rattle.afl_fragments.specs.Held.{is_end, front, auth_of, message_with, assembled, held_bytes};
 ghost use Rattle.afl_fragments.specs.Places.{at_place, held_in, held_with, is_in, is_led, is_fresh, older, parts_in, IsPlace, AreOrdered};
 
 use crate::part::{PART_MAX, Part};
@@ -160,8 +160,7 @@ fn auth_between(first: &Part, last: &Part) -> Auth
 // Puts the message together that the fragments make.
 pub(crate) fn assemble(places: &[HeldPart; PLACES], order: &[u8], out: &mut Scratch) -> Option<Auth>
     requires { AreOrdered places.now order.now }
-    ensures message { option_map (λ auth. record { auth = auth; bytes = out.new }) result
-        ≡ assembled (held_in places.now order.now) }
+    ensures message { message_with result out.new ≡ assembled (held_in places.now order.now) }
     ensures unchanged { IfNone result (out.new ≡ out.old) }
 {
     let end = find_end(places, order)?;

@@ -150,4 +150,5 @@ fn fragments(rt: HostRuntime) {
     assert_eq!(rt; part.afl(), SECOND);
     assert_eq!(rt; part.bytes(), [20, 21, 22].as_slice());
     held_is_latest();
+    message_is_joined();
 }

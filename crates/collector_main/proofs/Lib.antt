@@ -1,3 +1,5 @@
+pub mod Enrolling
 pub mod LineCounts
+pub mod Reports
 pub mod Tellings
 pub mod Texts

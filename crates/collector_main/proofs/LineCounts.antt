@@ -136,6 +136,7 @@ counts_landed own cs lines text steps s landed n k m is few tells lands next mad
   where
     kept : AreFew n (length lines)
     kept = are_few cs lines n is
+
     by_landed : (l : Landed) → Lands own cs steps s l → m ≡ landed_counts k l → m ≡ counts_of cs (lines ++ text ∷ [])
     by_landed (Slot place outcome) h e =
         let class : class_of cs text ≡ Own = told_class cs text (told.Event s.address s.event) tells ∙ landed_class own cs steps s (Slot place outcome) h in

@@ -1,6 +1,7 @@
 pub mod Hearing
 pub mod Receiver
 pub mod Report
+pub mod Rosters
 pub mod Session
 pub mod Statuses
 pub mod Told

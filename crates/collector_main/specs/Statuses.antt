@@ -1,13 +1,15 @@
 -- What each status says of a session.
-use Rattle.std.specs.Prelude.{ℕ, ◌≡◌, ◌⊎◌, List, [], Option, Some, None, Result, Ok, Err}
+use Rattle.std.specs.Prelude.{ℕ, ◌≡◌, ◌⊎◌, Bool, true, List, [], Option, Some, None, Result, Ok, Err, IsTrue}
 use Rattle.outer_io.specs.Faults.{Rose}
 use Rattle.outer_io.specs.Bytes.{AppendsFront}
+use Rattle.line_reader.specs.Lines.{is_over}
 use Rattle.line_reader.specs.Reader.{IsAtEnd}
 use Rattle.meter_slots.specs.declared.counts.Ended.{Ended}
 use Rattle.meter_slots.specs.declared.counts.Ended.TheVariants as ends
 use Rattle.meter_slots.specs.World.{world_of}
-use Rattle.roster_file.specs.Roster.{Enrolled}
+use Rattle.roster_file.specs.Roster.{Enrolled, roster_of}
 use Rattle.roster_file.specs.declared.roster.RosterFault.{RosterFault}
+use Rattle.roster_file.specs.declared.roster.RosterFault.TheVariants.{Line}
 use Rattle.collector_main.specs.declared.status.Status.{Status}
 use Rattle.collector_main.specs.declared.status.Status.TheVariants as statuses
 use Rattle.collector_main.specs.Hearing.{IsEnding}
@@ -56,3 +58,36 @@ pub record IsWhole (roster : Result Enrolled RosterFault) (taken left : List ℕ
   pub roster_is : roster ≡ Ok enrolled
   pub ending : IsAtEnd taken left lines
   pub report : written ≡ hear_text enrolled lines ends.End
+
+-- ---- the causes
+
+-- each status that is a fault has its cause: bytes of the roster, bytes of the receiver, or a count of faults that rose in this call
+abbrev pub IsCaused : Bool → (roster : List ℕ) → (roster_before roster_now : ℕ) → (taken : List ℕ) → (source_before source_now : ℕ) → (report_before report_now : ℕ) → Status → Type 0
+IsCaused tells roster rb rn taken sb sn kb kn statuses.Done = Unit {0}
+IsCaused tells roster rb rn taken sb sn kb kn (statuses.Words fault) = ⊥
+IsCaused tells roster rb rn taken sb sn kb kn statuses.ReadRoster = Rose rb rn
+IsCaused tells roster rb rn taken sb sn kb kn (statuses.Roster line cause) = IsTrue tells → roster_of roster ≡ Err (Line line cause)
+IsCaused tells roster rb rn taken sb sn kb kn (statuses.Read w) = (w ≡ 1) × Rose sb sn
+IsCaused tells roster rb rn taken sb sn kb kn (statuses.Cut w) = (w ≡ 1) × (IsTrue tells → is_over taken ≡ true)
+IsCaused tells roster rb rn taken sb sn kb kn (statuses.Write which) = (which ≡ 3) × Rose kb kn
+IsCaused tells roster rb rn taken sb sn kb kn statuses.Memory = Unit {0}
+
+-- no receiver was read
+abbrev pub IsUnread : Status → Type 0
+IsUnread statuses.ReadRoster = Unit {0}
+IsUnread (statuses.Roster line cause) = Unit {0}
+IsUnread _ = ⊥
+
+-- ---- words of private contracts
+
+-- a status of a receiver that was heard
+abbrev pub IsHeardStatus : Status → Type 0
+IsHeardStatus statuses.Done = Unit {0}
+IsHeardStatus (statuses.Read w) = Unit {0}
+IsHeardStatus (statuses.Cut w) = Unit {0}
+IsHeardStatus _ = ⊥
+
+-- the status after a failed write of the report
+abbrev pub after_failed_write : Status → Status
+after_failed_write statuses.Done = statuses.Write 3
+after_failed_write status = status

@@ -1,5 +1,5 @@
 //! Hearing the lines of one receiver.
-ghost use Rattle.std.specs.Prelude.{◌≡◌, ◌+◌, ◌-◌, ◌<◌, ◌≤◌, ◌^◌, ◌∷◌, ◌++◌, List, ℕ, [], false, length, IsTrue, IfOk, IfErr, OnOk, MatchResult};
+ghost use Rattle.std.specs.Prelude.{◌≡◌, ◌≢◌, ◌+◌, ◌-◌, ◌<◌, ◌≤◌, ◌^◌, ◌∷◌, ◌++◌, List, ℕ, [], false, length, IsTrue, IfOk, IfErr, OnOk, MatchResult};
 ghost use Rattle.outer_io.specs.Faults.{Rose};
 ghost use Rattle.line_reader.specs.Reader.{given};
 ghost use Rattle.meter_address.specs.declared.address.Address.{Address};
@@ -80,6 +80,7 @@ fn next_told<S: Source>(lines: &mut Lines<S>) -> Result<Told, Ended>
     ensures goes_on { OnOk result ((lines.new.line ≡ lines.old.line + 1) × (lines.new.done ≡ false)) }
     ensures ended { IfErr result (λ ended. IsTrue S.tells →
         (given S.taken lines.new ≡ given S.taken lines.old) × IsEnding ended (S.taken lines.new.source) (S.left lines.new.source) (given S.taken lines.new)) }
+    ensures never { IfErr result (λ ended. (ended ≢ Ended.TxFault) × (ended ≢ Ended.Memory)) }
     ensures cause { IfErr result (λ ended. ended ≡ Ended.ReadFault → Rose (S.faults lines.old.source) (S.faults lines.new.source)) }
     ensures later { S.faults lines.old.source ≤ S.faults lines.new.source }
     ensures bytes { IsTrue S.tells →
@@ -112,6 +113,7 @@ pub(crate) fn hear_receiver<S: Source>(
         StandsFor own commissions (given S.taken lines.new) world.new heard.counts) }
     ensures ended { IfOk result (λ heard. IsTrue S.tells →
         IsEnding heard.ended (S.taken lines.new.source) (S.left lines.new.source) (given S.taken lines.new)) }
+    ensures never { IfOk result (λ heard. (heard.ended ≢ Ended.TxFault) × (heard.ended ≢ Ended.Memory)) }
     ensures cause { IfOk result (λ heard. heard.ended ≡ Ended.ReadFault → Rose (S.faults lines.old.source) (S.faults lines.new.source)) }
     ensures bytes { IfOk result (λ heard. IsTrue S.tells →
         S.taken lines.new.source ++ S.left lines.new.source ≡ S.taken lines.old.source ++ S.left lines.old.source) }

@@ -49,6 +49,7 @@ is_pending id q = is_some (find (has_id id) q.commands)
 unfoldable pub put_answer : Pending → Result ℕ QueueFault
 put_answer q = if nat_le QUEUE_MAX (length q.commands) then Err Full else if q.ids == 2 ^ 32 - 1 then Err IdsSpent else Ok (q.ids + 1)
 
+-- a refused command changes nothing, and an accepted one stands last, under its id and with no try
 abbrev pub with_command_by : Pending → List ℕ → Result ℕ QueueFault → Pending
 with_command_by q payload (Err fault) = q
 with_command_by q payload (Ok id) = record { ids = id; commands = q.commands ++ record { id = id; tries = 0; payload = payload } ∷ [] }
@@ -74,6 +75,7 @@ abbrev pub HasTryLeft : List Command → Type 0
 HasTryLeft [] = ⊥
 HasTryLeft (c ∷ cs) = c.tries < TRIES_MAX
 
+-- the commands after the oldest one was sent once more
 abbrev pub one_try_more : List Command → List Command
 one_try_more [] = []
 one_try_more (c ∷ cs) = record c { tries = c.tries + 1 } ∷ cs

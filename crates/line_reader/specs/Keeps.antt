@@ -23,6 +23,7 @@ pub record IsLast (line : ℕ) (taken left : List ℕ) : Type 0 where
   pub within : is_over taken ≡ false
   pub counted : length (lines taken) ≡ line
 
+-- the limits, and what a source that tells its bytes shows of the lines given, unless no more is given
 pub record Keeps (tells : Bool) (start line : ℕ) (ended done : Bool) (taken left held : List ℕ) : Type 0 where
   pub few_lines : line ≤ LINES_MAX
   pub few_bytes : start ≤ BYTES_MAX

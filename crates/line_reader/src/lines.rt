@@ -69,9 +69,12 @@ fn take_line(held: &mut Held, given_up: usize, count: usize) -> Next
 #[derive(Drop)]
 pub struct Lines<S: Source> {
     source: S,
+    // What was read behind the lines that were given.
     held: Held,
+    // How many bytes the lines that were given have, with their ends.
     start: usize,
     line: u32,
+    // Whether an unfinished last line was given.
     ended: bool,
     done: bool,
 }
@@ -120,6 +123,7 @@ impl<S: Source> Lines<S> {
         // A line or a bad line is the next of the source's lines, and says what is answered.
         ensures lines { IsTrue S.tells → Gives result (given S.taken self.old) (given S.taken self.new) }
         ensures number { self.new.line ≡ self.old.line + (if gives_line result then 1 else 0) }
+        ensures few { self.new.line ≤ LINES_MAX }
         ensures done { self.new.done ≡ not (gives_line result) }
 
         // How the source cuts its bytes into pieces makes no difference.

@@ -1,2 +1,5 @@
 pub mod StepLaws
 pub mod LayerLaws
+pub mod OpeningLaws
+pub mod RefusalLaws
+pub mod RefusalLaws7

@@ -1,7 +1,7 @@
 -- The layers of a telegram above the link (EN 13757-4, EN 13757-7): from place 10 on an extension of the link layer, an
 -- authentication and fragmentation layer, each where it is there, and then a fragment's piece of a message, or a transport
 -- header with its body.
-use Rattle.std.specs.Prelude.{ℕ, ◌≡◌, ◌+◌, Bool, true, false, ◌&&◌, ◌||◌, ◌==◌, nat_le, if◌then◌else◌, List, [], ◌∷◌, length, drop, Option, Some, None, Result, Ok, Err}
+use Rattle.std.specs.Prelude.{ℕ, ◌≡◌, ◌+◌, Bool, true, false, ◌&&◌, ◌||◌, ◌==◌, nat_le, if◌then◌else◌, List, [], ◌∷◌, length, drop, Option, Some, None, Result, Ok}
 use Rattle.std.specs.Result.{result_map_both}
 use Rattle.ell_layer.specs.declared.extension.Ell.{Ell}
 use Rattle.ell_layer.specs.Extension as extension

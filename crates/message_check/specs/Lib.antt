@@ -2,4 +2,5 @@ pub mod Steps
 pub mod Layers
 pub mod Target
 pub mod Opening
-pub mod Answers
+pub mod Refusals
+pub mod Opened

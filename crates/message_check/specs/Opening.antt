@@ -1,6 +1,6 @@
 -- What a message says to the slot of a meter once it is checked and decrypted, or the first refusal (OMS Volume 2, EN 13757-7).
 -- A message is the bytes from the CI of its transport header on.
-use Rattle.std.specs.Prelude.{ℕ, ◌≡◌, ◌+◌, ◌-◌, ◌*◌, ◌%◌, ◌<◌, ◌==◌, ◌↔◌, nat_lt, if◌then◌else◌, List, [], ◌∷◌, ◌++◌, length, take, drop, slice_index, replicate, Option, Some, None, IfSome, ok_or, option_map, unwrap_or, Result, Ok, Err}
+use Rattle.std.specs.Prelude.{ℕ, ◌≡◌, ◌-◌, ◌*◌, ◌%◌, ◌<◌, ◌==◌, ◌↔◌, nat_lt, if◌then◌else◌, List, [], ◌∷◌, ◌++◌, length, take, drop, slice_index, replicate, Option, Some, None, IfSome, ok_or, option_map, unwrap_or, Result, Ok, Err}
 use Rattle.std.specs.Result.{result_map_both}
 use Rattle.std.specs.Str.{bytes_eq}
 use Rattle.std.specs.Int.{bit_at, w16, w32, to_le_bytes}
@@ -75,12 +75,16 @@ decrypted7 c counter h m = cbc_decrypted (derived c.key MeterCipher counter (ide
 
 -- ---- messages in the standard's words
 
--- the bytes are a message to this meter in this security mode: a header, the encrypted blocks that it says, a plain rest
-pub record IsSecured (a : Address) (mode : ℕ) (m : List ℕ) (h : Tpl) (encrypted rest : List ℕ) : Type 0 where
-  pub header : BeginsWithTpl m h
+-- the header of a message to this meter in this security mode: it names no other meter
+pub record IsFor (a : Address) (mode : ℕ) (m : List ℕ) (h : Tpl) : Type 0 where
+  pub begins : BeginsWithTpl m h
   pub meter : IfSome h.address (λ named. named ≡ a)
   pub in_mode : mode_of h.cf ≡ mode
-  pub parts : header.rest ≡ encrypted ++ rest
+
+-- a message to this meter in this security mode: the header, the encrypted blocks that it says, a plain rest
+pub record IsSecured (a : Address) (mode : ℕ) (m : List ℕ) (h : Tpl) (encrypted rest : List ℕ) : Type 0 where
+  pub header : IsFor a mode m h
+  pub parts : header.begins.rest ≡ encrypted ++ rest
   pub blocks : length encrypted ≡ 16 * blocks_of h.cf
 
 -- a message of mode 5 that was checked: decrypted, its blocks begin with 2F 2F

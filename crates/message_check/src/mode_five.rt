@@ -3,7 +3,7 @@ ghost use Rattle.std.specs.Prelude.{◌≡◌, ◌+◌, ◌*◌, ◌^◌, ◌<�
 ghost use Rattle.meter_address.specs.Address.{bytes_of};
 ghost use Rattle.tpl_headers.specs.Configuration.{blocks_of};
 ghost use Rattle.message_check.specs.Opening.{initialization_vector, access_in_configuration, decrypted5, rest_of, some_passed, check_bytes_passed, access_number_passed, opened5_after};
-ghost use Rattle.message_check.specs.Answers.{found_in};
+ghost use Rattle.message_check.specs.Opened.{found_in};
 
 use crate::opening::{Opened, check_blocks, decrypt, emptied_if_refused, read_header_for};
 use crate::refusal::Reason;
@@ -82,7 +82,6 @@ fn open_message(
     ensures opened { IfOk result (λ o. opened5_after last commission.now message.old ≡ Ok (found_in message.new o)) }
     ensures within { IfOk result (λ o. o.from ≤ length message.new) }
     ensures number { IfOk result (λ o. o.counter < 2 ^ 8) }
-    ensures len { length message.new ≡ length message.old }
     ensures refused { IfErr result (λ r. opened5_after last commission.now message.old ≡ Err r) }
 {
     let tpl = read_header_for(commission.address, 5, message)?;
@@ -112,6 +111,10 @@ pub fn open5(
     // The payload is what the message has become, from the place `from` on.
     ensures opened { IfOk result (λ o. opened5_after last commission.now message.old ≡ Ok (found_in message.new o)) }
     ensures within { IfOk result (λ o. o.from ≤ length message.new) }
+    ensures same_len { OnOk result (length message.new ≡ length message.old) }
+
+    // An access number is one byte.
+    ensures number { IfOk result (λ o. o.counter < 2 ^ 8) }
 
     // An access number is one byte, and a message that is opened keeps its length.
     ensures number { IfOk result (λ o. o.counter < 2 ^ 8) }

@@ -2,7 +2,7 @@
 ghost use Rattle.std.specs.Prelude.{◌≡◌, ◌+◌, ◌*◌, ◌≤◌, [], ◌++◌, length, drop, Ok, Err, IfOk, IfErr, OnOk, OnErr};
 ghost use Rattle.tpl_headers.specs.Configuration.{blocks_of};
 ghost use Rattle.message_check.specs.Opening.{decrypted7, rest_of, derivation_passed, counter_passed, opened7_after};
-ghost use Rattle.message_check.specs.Answers.{found_in};
+ghost use Rattle.message_check.specs.Opened.{found_in};
 
 use crate::opening::{Opened, check_blocks, decrypt, emptied_if_refused, read_header_for};
 use crate::refusal::Reason;
@@ -87,6 +87,7 @@ pub fn open7(
     // The payload is what the message has become, from the place `from` on.
     ensures opened { IfOk result (λ o. opened7_after last commission.now auth.now message.old ≡ Ok (found_in message.new o)) }
     ensures within { IfOk result (λ o. o.from ≤ length message.new) }
+    ensures same_len { OnOk result (length message.new ≡ length message.old) }
 
     // A message that is opened keeps its length.
     ensures len { OnOk result (length message.new ≡ length message.old) }

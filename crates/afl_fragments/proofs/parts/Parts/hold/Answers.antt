@@ -1,5 +1,4 @@
 use Rattle.std.proofs.Common.{ap, sym, ◌∙◌, arith}
-use Rattle.afl_fragments.specs.Held.{held_bytes}
 use Rattle.afl_fragments.specs.Places.{held_with}
 use Rattle.afl_fragments.proofs.Holding.{held-piece, held-too_many}
 use Rattle.afl_fragments.proofs.Room.{held_with_room}

@@ -1,4 +1,4 @@
--- What is answered of an opened message.
+-- What contracts see of an opened message.
 use Rattle.std.specs.Prelude.{List, ℕ, drop}
 use Rattle.message_check.specs.declared.opening.Opened.{Opened}
 use Rattle.message_check.specs.Opening.{Found}
