@@ -2,4 +2,5 @@ pub mod Directory
 pub mod Hearing
 pub mod Journal
 pub mod Keeping
+pub mod Telling
 pub mod World

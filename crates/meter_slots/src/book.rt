@@ -44,7 +44,7 @@ impl Model for SlotBook {
 }
 
 // What an event is answered, and the message that is stored with it.
-#[derive(Clone, Copy)]
+#[derive(Drop)]
 struct Served {
     outcome: Outcome,
     opened: Option<Opened>,
@@ -74,6 +74,7 @@ fn plain(outcome: Outcome) -> Served
 
 // Answers an event. What it stores stands in `message` then.
 fn serve(
+    own: Address,
     opening: &Commission,
     last: Option<u32>,
     parts: &mut Parts,
@@ -81,7 +82,7 @@ fn serve(
     event: &Event,
     message: &mut Scratch,
 ) -> Served
-    ensures outcome { (told : List Told) → StandsFor parts.old told → result.outcome ≡ answer opening.now (record { last = last; told = told; orders = commands.old }) event.now }
+    ensures outcome { (told : List Told) → StandsFor parts.old told → result.outcome ≡ answer opening.now own (record { last = last; told = told; orders = commands.old }) event.now }
     ensures stored { (told : List Told) → StandsFor parts.old told → found_as message.new result.opened ≡ stored opening.now last told event.now }
     ensures parts { (told : List Told) → StandsFor parts.old told → StandsFor parts.new (told_by opening.now event.now result.outcome ++ told) }
     ensures commands { (told : List Told) → StandsFor parts.old told → commands.new ≡ orders_after commands.old (access_at opening.now last told event.now) event.now result.outcome }
@@ -93,7 +94,7 @@ fn serve(
             let heard = hear(opening, last, parts, telegram, message);
             let response = has_response_control(telegram.control());
             Served {
-                outcome: commands.hear(&heard.verdict, heard.access, response),
+                outcome: commands.hear(own, opening, &heard.verdict, heard.access, response),
                 opened: heard.verdict.unwrap_or(None),
             }
         }
@@ -235,6 +236,7 @@ impl SlotBook {
         let room = Vec::with_capacity(self.alloc, room_needed(&self.parts, &event))?;
         let mut message = Scratch::new();
         let served = serve(
+            self.own,
             &self.opening,
             self.last,
             &mut self.parts,
@@ -248,7 +250,7 @@ impl SlotBook {
             source,
             line,
             event,
-            outcome: served.outcome,
+            outcome: served.outcome.copied(),
         });
         Ok(served.outcome)
     }

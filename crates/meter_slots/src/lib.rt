@@ -9,13 +9,16 @@ mod entry;
 mod hearing;
 mod reading;
 mod step;
+mod telling;
 mod world;
 
 pub use book::SlotBook;
 pub use counts::{Counts, Ended};
 pub use directory::Directory;
-pub use entry::{Entry, Event, Format, Outcome, Sent};
+pub use downlink_maker::Downlink;
+pub use entry::{Entry, Event, Format, Outcome};
 pub use message_check::{LayerFault, Reason};
 pub use reading::{Bytes, Reading};
 pub use step::{Landed, Step};
+pub use telling::event_of;
 pub use world::World;

@@ -9,7 +9,7 @@ invariant_of-self-2 c =
     let b = c.self.inside in
     let given = c.serve-served.result.outcome in
     let x : Entry = record { source = c.args.source; line = c.args.line; event = c.args.event; outcome = given } in
-    rw (c.push_reserved.ensures.items, c.counted-self-inside.ensures, c.note.ensures, c.reserve.ensures.items, c.reserve-2.ensures.items)
+    rw (c.push_reserved.ensures.items, c.counted-self-inside.ensures, c.note.ensures, c.reserve.ensures.items, c.reserve-2.ensures.items, c.copied.ensures)
     (kept_after b.opening b.own b.entries.items b.last b.parts b.commands b.readings.items x _ c.serve-served.new.parts c.serve-served.new.commands c.self.invariant
     (answer_kept b.opening b.own b.entries.items b.last b.parts b.commands b.readings.items c.args.event given c.self.invariant c.serve-served.ensures.outcome)
     c.serve-served.ensures.number c.serve-served.ensures.stored c.serve-served.ensures.parts c.serve-served.ensures.commands)
