@@ -50,7 +50,7 @@ last_by last (Ok (Some f)) = Some f.counter
 last_by last _ = last
 
 -- what is found, where a check is passed
-abbrev found_where : Passed → Found → Result Found Reason
+abbrev pub found_where : Passed → Found → Result Found Reason
 found_where passed f = passed >>= (λ _. Ok f)
 
 above_cases : (f : Found) (k : ℕ) (b : Bool) → nat_lt k f.counter ≡ b

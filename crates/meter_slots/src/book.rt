@@ -155,6 +155,7 @@ fn note(
 
 impl SlotBook {
     ghost use Rattle.std.specs.Prelude.{◌≡◌, [], ◌∷◌, ◌++◌, reverse, IfOk, OnErr, ℕ, List};
+    ghost use Rattle.meter_slots.specs.Laws.{IsRefused, IsLeft};
     ghost use Rattle.meter_slots.specs.Journal.{Book, Legal, outcome, readings, last_counter, orders};
 
     /// A slot with an empty journal.
@@ -229,6 +230,9 @@ impl SlotBook {
         ensures outcome { IfOk result (λ answer. answer ≡ outcome self.old.commission self.old.own (reverse self.old.journal) event) }
         ensures journal { IfOk result (λ answer. self.new ≡ record self.old { journal = self.old.journal ++ record { source = source; line = line; event = event; outcome = answer } ∷ [] }) }
         ensures legal { Legal self.new.commission self.new.own self.new.journal }
+
+        // A refusal leaves the last counter, the commands, their window and the readings as they were.
+        ensures refused { IfOk result (λ answer. IsRefused answer → IsLeft self.old self.new) }
         ensures err { OnErr result (self.new ≡ self.old) }
     {
         self.entries.reserve(1)?;

@@ -7,6 +7,7 @@ mod counts;
 mod directory;
 mod entry;
 mod hearing;
+pub mod laws;
 mod reading;
 mod step;
 mod telling;
