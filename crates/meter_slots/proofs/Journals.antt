@@ -1,5 +1,5 @@
 -- What one more entry changes.
-use Rattle.std.proofs.Common.{◌≡◌, ℕ, ◌+◌, ◌≤◌, max, min, Bool, true, false, cond, nat_lt, ◌==◌, List, [], ◌∷◌, ◌++◌, length, reverse, Option, Some, None, Result, Ok, Err, refl, ap, sym, ◌∙◌, arith}
+use Rattle.std.proofs.Common.{◌≡◌, ℕ, ◌≤◌, max, Bool, true, false, cond, nat_lt, ◌==◌, List, [], ◌∷◌, ◌++◌, reverse, Option, Some, None, Result, Ok, Err, refl, ap, sym, ◌∙◌, arith}
 use Rattle.std.specs.Prelude.{option_to_list, option_map}
 use Rattle.std.specs.Option.{ForSome}
 use Rattle.std.specs.Result.{result_ok}
@@ -18,10 +18,9 @@ use Rattle.command_queue.specs.Pending.{put_answer, take_answer}
 use Rattle.access_window.specs.Orders.{Orders}
 use Rattle.access_window.specs.Moves.{opening}
 use Rattle.afl_fragments.specs.declared.places.HeldPart.{HeldPart}
-use Rattle.afl_fragments.specs.Held.{Told, Message, StandsFor, held, held_bytes}
+use Rattle.afl_fragments.specs.Held.{Told, Message, StandsFor}
 use Rattle.message_check.specs.Steps.{◌>>=◌}
 use Rattle.message_check.specs.Opening.{Found, Passed, compared5, compared7}
-use Rattle.message_check.specs.declared.opening.Opened.{Opened}
 use Rattle.message_check.specs.declared.refusal.Reason.{Reason}
 use Rattle.message_check.specs.declared.refusal.Reason.TheVariants.{Stale, SameAccess}
 use Rattle.meter_slots.specs.declared.entry.Entry.{Entry}
@@ -32,7 +31,7 @@ use Rattle.meter_slots.specs.declared.entry.Outcome.TheVariants.{Stored, PartKep
 use Rattle.meter_slots.specs.declared.reading.Reading.{Reading}
 use Rattle.meter_slots.specs.Hearing.{received, brought}
 use Rattle.meter_slots.specs.Journal.{told, told_by, opened_in, compared, genuine_in, genuine, counters, greater, greatest, last_of, last_counter, Standing, standing, stored_or_refused, judged, verdict, access_at, orders_after, orders, heard, queued, cancelled, answer, outcome, stored, reading_of, readings_back, readings}
-use Rattle.meter_slots.specs.Keeping.{Keeps, last_after, FitsMode, room_behind, room_for, OpenedFits, OpenedHasRoom}
+use Rattle.meter_slots.specs.Keeping.{Keeps, last_after, FitsMode}
 
 -- ---- the last number
 
@@ -51,7 +50,7 @@ last_by last (Ok (Some f)) = Some f.counter
 last_by last _ = last
 
 -- what is found, where a check is passed
-abbrev found_where : Passed → Found → Result Found Reason
+abbrev pub found_where : Passed → Found → Result Found Reason
 found_where passed f = passed >>= (λ _. Ok f)
 
 above_cases : (f : Found) (k : ℕ) (b : Bool) → nat_lt k f.counter ≡ b
@@ -88,10 +87,10 @@ judged_last c (Err reason) ns floor = refl
 judged_last c (Ok None) ns floor = refl
 judged_last c (Ok (Some m)) ns floor = opened_last c.mode (opened_in c.mode c m) ns floor
 
-heard_last : (k : Orders) (access : Access) (response : Bool) (last : Option ℕ) (v : Result (Option Found) Reason) → last_by last v ≡ last_after last (heard k access response v)
-heard_last k access response last (Err reason) = refl
-heard_last k access response last (Ok None) = refl
-heard_last k access response last (Ok (Some f)) = refl
+heard_last : (own : Address) (c : Commissioned) (k : Orders) (access : Access) (response : Bool) (last : Option ℕ) (v : Result (Option Found) Reason) → last_by last v ≡ last_after last (heard own c k access response v)
+heard_last own c k access response last (Err reason) = refl
+heard_last own c k access response last (Ok None) = refl
+heard_last own c k access response last (Ok (Some f)) = refl
 
 queued_last : (last : Option ℕ) (r : Result ℕ QueueFault) → last ≡ last_after last (queued r)
 queued_last last (Ok id) = refl
@@ -102,21 +101,21 @@ cancelled_last : (last : Option ℕ) (id : ℕ) (r : Result Command NoSuch) → 
 cancelled_last last id (Ok command) = refl
 cancelled_last last id (Err missing) = refl
 
-answer_last : (c : Commissioned) (earlier : List Entry) (event : Event) → last_of c.mode ((counter_in (genuine c earlier event) ++ counters c earlier) ++ option_to_list c.last)
-    ≡ last_after (last_counter c earlier) (answer c (standing c earlier) event)
+answer_last : (c : Commissioned) (own : Address) (earlier : List Entry) (event : Event) → last_of c.mode ((counter_in (genuine c earlier event) ++ counters c earlier) ++ option_to_list c.last)
+    ≡ last_after (last_counter c earlier) (answer c own (standing c earlier) event)
 unfolding last_counter
-answer_last c earlier (Hear format at t) =
+answer_last c own earlier (Hear format at t) =
     judged_last c (brought (told c earlier) t (received c.mode t)) (counters c earlier) (option_to_list c.last)
-    ∙ heard_last (orders c earlier) _ _ (last_counter c earlier) (verdict c (last_counter c earlier) (told c earlier) t)
-answer_last c earlier Tick = refl
-answer_last c earlier (Put payload) = queued_last (last_counter c earlier) (put_answer (orders c earlier).queue)
-answer_last c earlier (Cancel id) = cancelled_last (last_counter c earlier) id (take_answer id (orders c earlier).queue)
+    ∙ heard_last own c (orders c earlier) _ _ (last_counter c earlier) (verdict c (last_counter c earlier) (told c earlier) t)
+answer_last c own earlier Tick = refl
+answer_last c own earlier (Put payload) = queued_last (last_counter c earlier) (put_answer (orders c earlier).queue)
+answer_last c own earlier (Cancel id) = cancelled_last (last_counter c earlier) id (take_answer id (orders c earlier).queue)
 
 -- the last number after one more entry
 pub last_counter-cons : (c : Commissioned) (own : Address) (earlier : List Entry) (x : Entry) → x.outcome ≡ outcome c own earlier x.event
     → last_counter c (x ∷ earlier) ≡ last_after (last_counter c earlier) x.outcome
 unfolding last_counter outcome
-last_counter-cons c own earlier x h = answer_last c earlier x.event ∙ ap (last_after (last_counter c earlier)) (sym h)
+last_counter-cons c own earlier x h = answer_last c own earlier x.event ∙ ap (last_after (last_counter c earlier)) (sym h)
 
 pub last_after_fits : (mode : Mode) (last : Option ℕ) (o : Outcome) → ForSome last (λ n. n ≤ most_last mode) → FitsMode mode o → ForSome (last_after last o) (λ n. n ≤ most_last mode)
 last_after_fits mode last (Stored counter confirmed sent) h f = λ n e. let same : counter ≡ n = cc e in rw (sym same) f
@@ -163,11 +162,11 @@ kept_standing c own journal last parts commands kept k =
 -- what the kept state answers is what the journal answers
 pub answer_kept : (c : Commissioned) (own : Address) (journal : List Entry) (last : Option ℕ) (parts : List HeldPart) (commands : Orders) (kept : List Reading) (event : Event) (given : Outcome)
     → Keeps c own journal last parts commands kept
-    → ((t : List Told) → StandsFor parts t → given ≡ answer c (record { last = last; told = t; orders = commands }) event)
+    → ((t : List Told) → StandsFor parts t → given ≡ answer c own (record { last = last; told = t; orders = commands }) event)
     → given ≡ outcome c own (reverse journal) event
 unfolding outcome
 answer_kept c own journal last parts commands kept event given k answered =
-    answered (told c (reverse journal)) k.parts_are ∙ ap (λ (s : Standing). answer c s event) (kept_standing c own journal last parts commands kept k)
+    answered (told c (reverse journal)) k.parts_are ∙ ap (λ (s : Standing). answer c own s event) (kept_standing c own journal last parts commands kept k)
 
 -- what is kept after one more entry
 pub kept_after : (c : Commissioned) (own : Address) (journal : List Entry) (last : Option ℕ) (parts : List HeldPart) (commands : Orders) (kept : List Reading) (x : Entry) (found : Option Found) (parts' : List HeldPart) (commands' : Orders)

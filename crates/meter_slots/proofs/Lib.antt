@@ -1,3 +1,4 @@
+pub mod JournalLaws
 pub mod Journals
 pub mod Pieces
 pub mod Places

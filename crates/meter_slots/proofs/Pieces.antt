@@ -1,5 +1,5 @@
 -- The piece of a message that stands behind a fragment's header.
-use Rattle.std.proofs.Common.{◌≡◌, ℕ, ◌+◌, ◌≤◌, List, length, drop, Option, Some, None, ap, arith}
+use Rattle.std.proofs.Common.{ℕ, ◌≤◌, List, length, drop, Option, Some, None, ap, arith}
 use Rattle.std.specs.Int.{w16, to_le_bytes}
 use Rattle.std.proofs.lemmas.List.{length-append, length-drop}
 use Rattle.ell_layer.specs.declared.extension.Ell.{Ell}
@@ -9,7 +9,7 @@ use Rattle.afl_layer.specs.Header.{afl_bytes}
 use Rattle.afl_layer.proofs.FieldLaws.{length-two}
 use Rattle.message_check.specs.declared.headers.Layers.{Layers}
 use Rattle.message_check.specs.Layers.{ExtensionThen, FragmentationThen, IsLayers}
-use Rattle.meter_slots.specs.Keeping.{IsPiece, PieceFits}
+use Rattle.meter_slots.specs.Keeping.{PieceFits}
 
 extension_is_no_longer : (bytes : List ℕ) (ell : Option Ell) (rest : List ℕ) → ExtensionThen bytes ell rest → length rest ≤ length bytes
 extension_is_no_longer bytes None rest h = omega (arith, ap length h)

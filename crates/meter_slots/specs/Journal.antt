@@ -29,7 +29,8 @@ use Rattle.meter_slots.specs.declared.entry.Event.{Event}
 use Rattle.meter_slots.specs.declared.entry.Event.TheVariants.{Hear, Tick, Put, Cancel}
 use Rattle.meter_slots.specs.declared.entry.Outcome.{Outcome}
 use Rattle.meter_slots.specs.declared.entry.Outcome.TheVariants.{Stored, PartKept, Ticked, Queued, Cancelled, Refused}
-use Rattle.meter_slots.specs.declared.entry.Sent.{Sent}
+use Rattle.downlink_maker.specs.Sent.{Sent}
+use Rattle.downlink_maker.specs.Downlink.{downlink}
 use Rattle.meter_slots.specs.declared.reading.Reading.{Reading}
 
 -- ---- fragments
@@ -171,16 +172,16 @@ pub record Standing : Type 0 where
 abbrev pub standing : Commissioned → List Entry → Standing
 standing c earlier = record { last = last_counter c earlier; told = told c earlier; orders = orders c earlier }
 
--- a command is sent with this counter
-abbrev pub sent_with : ℕ → Command → Sent
-sent_with down command = record { id = command.id; down = down }
+-- the downlink of a command under this counter
+abbrev pub downlink_with : Address → Commissioned → ℕ → Command → Sent
+downlink_with own c down command = record { bytes = downlink own c down command.payload; id = command.id; down = down }
 
 -- what is answered to a verdict: a stored message may confirm a command, and one may be sent, with the counter that follows
-abbrev pub heard : Orders → Access → Bool → Result (Option Found) Reason → Outcome
-heard k access response (Err reason) = Refused reason
-heard k access response (Ok None) = PartKept
-heard k access response (Ok (Some f)) =
-    Stored f.counter (confirmed k response) (option_map (sent_with (after_stored k access response).down) (sent_at k access response))
+abbrev pub heard : Address → Commissioned → Orders → Access → Bool → Result (Option Found) Reason → Outcome
+heard own c k access response (Err reason) = Refused reason
+heard own c k access response (Ok None) = PartKept
+heard own c k access response (Ok (Some f)) =
+    Stored f.counter (confirmed k response) (option_map (downlink_with own c (after_stored k access response).down) (sent_at k access response))
 
 abbrev pub queued : Result ℕ QueueFault → Outcome
 queued (Ok id) = Queued id
@@ -192,15 +193,15 @@ cancelled id (Ok command) = Cancelled id
 cancelled id (Err missing) = Refused (NoSuch id)
 
 -- what an event is answered
-abbrev pub answer : Commissioned → Standing → Event → Outcome
-answer c s (Hear format at t) = heard s.orders (access_at c s.last s.told (Hear format at t)) (is_response (slice_index t 1)) (verdict c s.last s.told t)
-answer c s Tick = Ticked (expired s.orders)
-answer c s (Put payload) = queued (put_answer s.orders.queue)
-answer c s (Cancel id) = cancelled id (take_answer id s.orders.queue)
+abbrev pub answer : Commissioned → Address → Standing → Event → Outcome
+answer c own s (Hear format at t) = heard own c s.orders (access_at c s.last s.told (Hear format at t)) (is_response (slice_index t 1)) (verdict c s.last s.told t)
+answer c own s Tick = Ticked (expired s.orders)
+answer c own s (Put payload) = queued (put_answer s.orders.queue)
+answer c own s (Cancel id) = cancelled id (take_answer id s.orders.queue)
 
 -- what an event is answered after the earlier entries
 unfoldable pub outcome : Commissioned → Address → List Entry → Event → Outcome
-outcome c own earlier event = answer c (standing c earlier) event
+outcome c own earlier event = answer c own (standing c earlier) event
 
 -- each entry has the outcome that those before it give
 abbrev pub IsJudged : Commissioned → Address → List Entry → Type 0

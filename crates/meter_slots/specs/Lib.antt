@@ -2,4 +2,6 @@ pub mod Directory
 pub mod Hearing
 pub mod Journal
 pub mod Keeping
+pub mod Laws
+pub mod Telling
 pub mod World

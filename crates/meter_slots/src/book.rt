@@ -44,7 +44,7 @@ impl Model for SlotBook {
 }
 
 // What an event is answered, and the message that is stored with it.
-#[derive(Clone, Copy)]
+#[derive(Drop)]
 struct Served {
     outcome: Outcome,
     opened: Option<Opened>,
@@ -74,6 +74,7 @@ fn plain(outcome: Outcome) -> Served
 
 // Answers an event. What it stores stands in `message` then.
 fn serve(
+    own: Address,
     opening: &Commission,
     last: Option<u32>,
     parts: &mut Parts,
@@ -81,7 +82,7 @@ fn serve(
     event: &Event,
     message: &mut Scratch,
 ) -> Served
-    ensures outcome { (told : List Told) → StandsFor parts.old told → result.outcome ≡ answer opening.now (record { last = last; told = told; orders = commands.old }) event.now }
+    ensures outcome { (told : List Told) → StandsFor parts.old told → result.outcome ≡ answer opening.now own (record { last = last; told = told; orders = commands.old }) event.now }
     ensures stored { (told : List Told) → StandsFor parts.old told → found_as message.new result.opened ≡ stored opening.now last told event.now }
     ensures parts { (told : List Told) → StandsFor parts.old told → StandsFor parts.new (told_by opening.now event.now result.outcome ++ told) }
     ensures commands { (told : List Told) → StandsFor parts.old told → commands.new ≡ orders_after commands.old (access_at opening.now last told event.now) event.now result.outcome }
@@ -93,7 +94,7 @@ fn serve(
             let heard = hear(opening, last, parts, telegram, message);
             let response = has_response_control(telegram.control());
             Served {
-                outcome: commands.hear(&heard.verdict, heard.access, response),
+                outcome: commands.hear(own, opening, &heard.verdict, heard.access, response),
                 opened: heard.verdict.unwrap_or(None),
             }
         }
@@ -154,6 +155,7 @@ fn note(
 
 impl SlotBook {
     ghost use Rattle.std.specs.Prelude.{◌≡◌, [], ◌∷◌, ◌++◌, reverse, IfOk, OnErr, ℕ, List};
+    ghost use Rattle.meter_slots.specs.Laws.{IsRefused, IsLeft};
     ghost use Rattle.meter_slots.specs.Journal.{Book, Legal, outcome, readings, last_counter, orders};
 
     /// A slot with an empty journal.
@@ -228,6 +230,9 @@ impl SlotBook {
         ensures outcome { IfOk result (λ answer. answer ≡ outcome self.old.commission self.old.own (reverse self.old.journal) event) }
         ensures journal { IfOk result (λ answer. self.new ≡ record self.old { journal = self.old.journal ++ record { source = source; line = line; event = event; outcome = answer } ∷ [] }) }
         ensures legal { Legal self.new.commission self.new.own self.new.journal }
+
+        // A refusal leaves the last counter, the commands, their window and the readings as they were.
+        ensures refused { IfOk result (λ answer. IsRefused answer → IsLeft self.old self.new) }
         ensures err { OnErr result (self.new ≡ self.old) }
     {
         self.entries.reserve(1)?;
@@ -235,6 +240,7 @@ impl SlotBook {
         let room = Vec::with_capacity(self.alloc, room_needed(&self.parts, &event))?;
         let mut message = Scratch::new();
         let served = serve(
+            self.own,
             &self.opening,
             self.last,
             &mut self.parts,
@@ -248,7 +254,7 @@ impl SlotBook {
             source,
             line,
             event,
-            outcome: served.outcome,
+            outcome: served.outcome.copied(),
         });
         Ok(served.outcome)
     }

@@ -2,15 +2,16 @@
 ghost use Rattle.std.specs.Prelude.{◌≡◌, Option, IfSome, is_some, option_map};
 ghost use Rattle.command_queue.specs.declared.command.Command.{Command};
 ghost use Rattle.access_window.specs.Orders.{IsOldestAfterTry};
-ghost use Rattle.meter_slots.specs.Journal.{sent_with};
+ghost use Rattle.meter_slots.specs.Journal.{downlink_with};
 
-use crate::entry::{Outcome, Sent};
+use crate::entry::Outcome;
 use crate::hearing::Verdict;
 use access_window::Window;
 use command_queue::{Queue, QueueFault};
+use downlink_maker::{Downlink, make_downlink};
 use ell_layer::Access;
 use message_check::Reason;
-use meter_address::Payload;
+use meter_address::{Address, Commission, Payload};
 use std::marker::Model;
 
 /// The commands that wait, the window in which one of them waits for a response, and the last counter of a downlink.
@@ -31,18 +32,21 @@ impl Model for Commands {
     ghost invariant = { λ c. Agrees c.window c.queue };
 }
 
-// The command that is sent now: the oldest one.
-fn sent_now(queue: &Queue, send: bool, down: u32) -> Option<Sent>
-    ensures { (sent : Option Command) → send ≡ is_some sent → IfSome sent (IsOldestAfterTry queue.now) → result ≡ option_map (sent_with down) sent }
+// The downlink of the command that is sent now: the oldest one.
+fn downlink_now(
+    own: Address,
+    commission: &Commission,
+    queue: &Queue,
+    send: bool,
+    down: u32,
+) -> Option<Downlink>
+    ensures { (sent : Option Command) → send ≡ is_some sent → IfSome sent (IsOldestAfterTry queue.now) → result ≡ option_map (downlink_with own commission.now down) sent }
 {
     if !send {
         return None;
     }
     let oldest = queue.at(0)?;
-    Some(Sent {
-        id: oldest.id,
-        down,
-    })
+    Some(make_downlink(own, commission, oldest.id, down, &oldest.payload))
 }
 
 impl Commands {
@@ -116,8 +120,15 @@ impl Commands {
     }
 
     // A message was judged: one that is stored moves the commands.
-    pub(crate) fn hear(&mut self, verdict: &Verdict, access: Access, response: bool) -> Outcome
-        ensures outcome { (bytes : List ℕ) → result ≡ heard self.old access response (verdict_as bytes verdict.now) }
+    pub(crate) fn hear(
+        &mut self,
+        own: Address,
+        commission: &Commission,
+        verdict: &Verdict,
+        access: Access,
+        response: bool,
+    ) -> Outcome
+        ensures outcome { (bytes : List ℕ) → result ≡ heard own commission.now self.old access response (verdict_as bytes verdict.now) }
         ensures after { self.new ≡ orders_heard self.old access response result }
         ensures settled { (bytes : List ℕ) → settled result ≡ settled_by (verdict_as bytes verdict.now) }
     {
@@ -131,7 +142,7 @@ impl Commands {
                 Outcome::Stored {
                     counter: opened.counter,
                     confirmed: moved.confirmed,
-                    sent: sent_now(&self.queue, moved.send, self.down),
+                    sent: downlink_now(own, commission, &self.queue, moved.send, self.down),
                 }
             }
         }

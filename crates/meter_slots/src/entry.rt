@@ -1,4 +1,7 @@
 //! What a slot hears and what it answers.
+ghost use Rattle.std.specs.Prelude.{◌≡◌};
+
+use downlink_maker::Downlink;
 use frame_formats::Telegram;
 use message_check::Reason;
 use meter_address::Payload;
@@ -32,17 +35,8 @@ pub enum Event {
     Cancel(u32),
 }
 
-/// A command that is sent.
-#[derive(Clone, Copy, Debug, PartialEq, Eq)]
-pub struct Sent {
-    /// The id of the command.
-    pub id: u32,
-    /// The counter of the downlink.
-    pub down: u32,
-}
-
 /// What a slot answers.
-#[derive(Clone, Copy, Debug, PartialEq, Eq)]
+#[derive(Drop)]
 pub enum Outcome {
     /// A message is stored as a reading.
     Stored {
@@ -50,8 +44,8 @@ pub enum Outcome {
         counter: u32,
         /// The id of the command that it confirms.
         confirmed: Option<u32>,
-        /// The command that is sent, since the meter listens now.
-        sent: Option<Sent>,
+        /// The downlink that is sent with a command, since the meter listens now.
+        sent: Option<Downlink>,
     },
     /// A fragment is held, and no message is whole yet.
     PartKept,
@@ -66,6 +60,39 @@ pub enum Outcome {
     Cancelled(u32),
     /// The event is refused. Nothing but the journal changes, and the fragments that are held.
     Refused(Reason),
+}
+
+fn copied(sent: &Option<Downlink>) -> Option<Downlink>
+    ensures { result ≡ sent.now }
+{
+    match sent {
+        None => None,
+        Some(downlink) => Some(downlink.copied()),
+    }
+}
+
+impl Outcome {
+    /// The same outcome again.
+    pub fn copied(&self) -> Outcome
+        ensures { result ≡ self.now }
+    {
+        match self {
+            Outcome::Stored {
+                counter,
+                confirmed,
+                sent,
+            } => Outcome::Stored {
+                counter: *counter,
+                confirmed: *confirmed,
+                sent: copied(sent),
+            },
+            Outcome::PartKept => Outcome::PartKept,
+            Outcome::Ticked { expired } => Outcome::Ticked { expired: *expired },
+            Outcome::Queued(id) => Outcome::Queued(*id),
+            Outcome::Cancelled(id) => Outcome::Cancelled(*id),
+            Outcome::Refused(reason) => Outcome::Refused(*reason),
+        }
+    }
 }
 
 /// An event of a slot, with its answer.

@@ -1,6 +1,8 @@
-use Rattle.std.proofs.Common.{reverse, ap, ◌∙◌}
+use Rattle.std.proofs.Common.{◌≡◌, List, [], ◌∷◌, ◌++◌, reverse, refl, sym, ap, ◌∙◌, subst}
 use Rattle.meter_slots.specs.declared.entry.Entry.{Entry}
-use Rattle.meter_slots.specs.Journal.{outcome}
+use Rattle.meter_slots.specs.Journal.{Book, Legal, outcome}
+use Rattle.meter_slots.specs.Laws.{IsLeft}
+use Rattle.meter_slots.proofs.JournalLaws.{refused_left}
 use Rattle.meter_slots.proofs.Journals.{answer_kept, kept_after}
 use Rattle.meter_slots.proofs.book.SlotBook.step.Goals as goal
 
@@ -9,7 +11,7 @@ invariant_of-self-2 c =
     let b = c.self.inside in
     let given = c.serve-served.result.outcome in
     let x : Entry = record { source = c.args.source; line = c.args.line; event = c.args.event; outcome = given } in
-    rw (c.push_reserved.ensures.items, c.counted-self-inside.ensures, c.note.ensures, c.reserve.ensures.items, c.reserve-2.ensures.items)
+    rw (c.push_reserved.ensures.items, c.counted-self-inside.ensures, c.note.ensures, c.reserve.ensures.items, c.reserve-2.ensures.items, c.copied.ensures)
     (kept_after b.opening b.own b.entries.items b.last b.parts b.commands b.readings.items x _ c.serve-served.new.parts c.serve-served.new.commands c.self.invariant
     (answer_kept b.opening b.own b.entries.items b.last b.parts b.commands b.readings.items c.args.event given c.self.invariant c.serve-served.ensures.outcome)
     c.serve-served.ensures.number c.serve-served.ensures.stored c.serve-served.ensures.parts c.serve-served.ensures.commands)
@@ -22,3 +24,14 @@ returns-clause-outcome c =
 
 pub returns-clause-legal : goal.returns-clause-legal
 returns-clause-legal c = (invariant_of-self-2 c).legal
+
+pub returns-clause-refused : goal.returns-clause-refused
+returns-clause-refused c r =
+    let b = c.self.inside in
+    let x : Entry = record { source = c.args.source; line = c.args.line; event = c.args.event; outcome = c.serve-served.result.outcome } in
+    let made : c.push_reserved.new.self.items ≡ b.entries.items ++ x ∷ [] = rw (c.push_reserved.ensures.items, c.reserve.ensures.items, c.copied.ensures) refl in
+    let old : Book = record { own = b.own; commission = b.opening; journal = b.entries.items } in
+    let legal = subst (Legal b.opening b.own) made (invariant_of-self-2 c).legal in
+    let left = refused_left b.opening b.own b.entries.items x legal r in
+    subst (λ (v : Book). IsLeft v (record { own = b.own; commission = b.opening; journal = c.push_reserved.new.self.items })) c.self.view_is
+    (subst (λ (js : List Entry). IsLeft old (record { own = b.own; commission = b.opening; journal = js })) (sym made) left)

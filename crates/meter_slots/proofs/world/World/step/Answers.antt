@@ -1,4 +1,4 @@
-use Rattle.std.proofs.Common.{ap, sym, ◌∙◌, subst, map}
+use Rattle.std.proofs.Common.{ap, sym, ◌∙◌, subst}
 use Rattle.meter_slots.specs.Directory.{AreApart}
 use Rattle.meter_slots.specs.World.{WorldView}
 use Rattle.meter_slots.proofs.Worlds.{none_found, found_at, ordered_step, world_strange, world_own, landed_strange, landed_own, any_book}

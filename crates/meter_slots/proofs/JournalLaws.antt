@@ -1,0 +1,321 @@
+-- Proofs of the laws of journals.
+use Rattle.std.proofs.Common.{◌≡◌, ◌↔◌, ℕ, ◌<◌, max, Bool, true, false, cond, nat_lt, List, [], ◌∷◌, ◌++◌, reverse, map, Option, Some, None, Result, Ok, Err, refl, ap, sym, ◌∙◌, arith, subst}
+use Rattle.std.specs.Prelude.{option_to_list, option_map}
+use Rattle.std.specs.Result.{result_ok}
+use Rattle.std.specs.List.{cons_option}
+use Rattle.std.proofs.lemmas.List.Elements.{filter_map-append}
+use Rattle.std.proofs.lemmas.Bool.Decides.{nat_tests}
+use Rattle.std.proofs.lemmas.List.{reverse-append, reverse-reverse, append-nil, map-append, append_assoc}
+use Rattle.meter_address.specs.declared.address.Address.{Address}
+use Rattle.meter_address.specs.declared.commission.Mode.{Mode}
+use Rattle.meter_address.specs.declared.commission.Mode.TheVariants.{Five, Seven}
+use Rattle.meter_address.specs.Commission.{Commissioned}
+use Rattle.ell_layer.specs.declared.access.Access.{Access}
+use Rattle.command_queue.specs.declared.command.Command.{Command}
+use Rattle.command_queue.specs.declared.command.NoSuch.{NoSuch}
+use Rattle.command_queue.specs.declared.command.QueueFault.{QueueFault}
+use Rattle.command_queue.specs.declared.command.QueueFault.TheVariants.{Full, IdsSpent}
+use Rattle.command_queue.specs.Pending.{put_answer, take_answer, with_command, with_command_by}
+use Rattle.access_window.specs.Orders.{Orders, after_put, after_cancel}
+use Rattle.access_window.proofs.Agreement.{cancel_refused}
+use Rattle.afl_fragments.specs.Held.{Told, Message}
+use Rattle.message_check.specs.Steps.{◌>>=◌}
+use Rattle.message_check.specs.Opening.{Found, compared7}
+use Rattle.message_check.specs.declared.refusal.Reason.{Reason}
+use Rattle.message_check.specs.declared.refusal.Reason.TheVariants.{Stale}
+use Rattle.meter_slots.specs.declared.entry.Entry.{Entry}
+use Rattle.meter_slots.specs.declared.entry.Event.{Event}
+use Rattle.meter_slots.specs.declared.entry.Event.TheVariants.{Hear, Tick, Put, Cancel}
+use Rattle.meter_slots.specs.declared.entry.Outcome.{Outcome}
+use Rattle.meter_slots.specs.declared.entry.Outcome.TheVariants.{Stored, PartKept, Ticked, Queued, Cancelled, Refused}
+use Rattle.meter_slots.specs.Hearing.{received, brought}
+use Rattle.meter_slots.specs.Journal.{Book, Standing, standing, told, opened_in, compared, genuine_in, genuine, counters, greater, greatest, last_of, last_counter, stored_or_refused, judged, verdict, access_at, orders_heard, orders_after, orders, heard, queued, cancelled, answer, outcome, IsJudged, Legal, stored_in, stored, reading_at, reading_of, readings}
+use Rattle.meter_slots.specs.Keeping.{last_after}
+use Rattle.meter_slots.specs.World.{Call, judged_journal, journal_of}
+use Rattle.meter_slots.specs.Laws.{stored_counter, stored_counters, IsAbove, IsRising, AreBelow, IsRefused, IsLeft, call_in}
+use Rattle.meter_slots.proofs.Journals.{back, found_where, last_counter-cons, readings-append}
+
+-- ---- an entry in its place
+
+judged_rest : (c : Commissioned) (own : Address) (later earlier : List Entry) → IsJudged c own (later ++ earlier) → IsJudged c own earlier
+judged_rest c own [] earlier j = j
+judged_rest c own (x ∷ later) earlier j = judged_rest c own later earlier j.1
+
+front_back : {X : Type 0} (x : X) (xs : List X) → reverse (x ∷ xs) ≡ reverse xs ++ x ∷ []
+front_back x xs = reverse-append (x ∷ []) xs
+
+-- the entries of a journal from one of them back
+from_entry : (before : List Entry) (x : Entry) (after : List Entry) → reverse (before ++ x ∷ after) ≡ reverse after ++ x ∷ reverse before
+from_entry before x after = reverse-append before (x ∷ after) ∙ ap (λ xs. xs ++ reverse before) (front_back x after) ∙ append_assoc (reverse after) (x ∷ []) (reverse before)
+
+pub judged_at : (c : Commissioned) (own : Address) (before : List Entry) (x : Entry) (after : List Entry) → Legal c own (before ++ x ∷ after) → IsJudged c own (x ∷ reverse before)
+judged_at c own before x after j = judged_rest c own (reverse after) (x ∷ reverse before) (subst (IsJudged c own) (from_entry before x after) j)
+
+-- ---- a message is stored where it is genuine and above the last counter
+
+abbrev stored_by : Result (Option Found) Reason → Option ℕ
+stored_by (Ok (Some f)) = Some f.counter
+stored_by _ = None
+
+not_above : (m k n : ℕ) → nat_lt k m ≡ false → m ≡ n → k < n → ⊥
+not_above m k n h e l = grind (arith, nat_tests)
+
+is_above : (m k n : ℕ) → nat_lt k m ≡ true → m ≡ n → k < n
+is_above m k n h e = grind (arith, nat_tests)
+
+max_below : (x y n : ℕ) → x < n → y < n → max x y < n
+max_below x y n h k = omega arith
+
+below_left : (x y n : ℕ) → max x y < n → x < n
+below_left x y n h = omega arith
+
+below_right : (x y n : ℕ) → max x y < n → y < n
+below_right x y n h = omega arith
+
+test_stored : (f : Found) (k n : ℕ) (b : Bool) → nat_lt k f.counter ≡ b
+    → (stored_by (stored_or_refused (found_where (cond b (Ok tt) (Err (Stale f.counter k))) f)) ≡ Some n) ↔ ((Some f.counter ≡ Some n) × (k < n))
+test_stored f k n true h = (λ s. (s, is_above f.counter k n h (cc)), λ p. p.0)
+test_stored f k n false h = (λ s. cc, λ p. absurd (not_above f.counter k n h (cc (p.0)) p.1))
+
+compared_stored : (f : Found) (n : ℕ) (last : Option ℕ) → (stored_by (stored_or_refused (compared7 last f)) ≡ Some n) ↔ ((Some f.counter ≡ Some n) × IsAbove n last)
+unfolding compared7
+compared_stored f n None = (λ s. (s, tt), λ p. p.0)
+compared_stored f n (Some k) = test_stored f k n (nat_lt k f.counter) refl
+
+abbrev counter : Option Found → Option ℕ
+counter o = option_map (λ f. f.counter) o
+
+opened_stored : (mode : Mode) → mode ≡ Seven → (n : ℕ) (last : Option ℕ) (g : Result Found Reason)
+    → (stored_by (stored_or_refused (g >>= compared mode last)) ≡ Some n) ↔ ((counter (result_ok g) ≡ Some n) × IsAbove n last)
+opened_stored Five m n last g = absurd cc
+opened_stored Seven m n last (Err reason) = (λ s. cc, λ p. cc (p.0))
+opened_stored Seven m n last (Ok f) = compared_stored f n last
+
+judged_stored : (c : Commissioned) → c.mode ≡ Seven → (n : ℕ) (last : Option ℕ) (b : Result (Option Message) Reason)
+    → (stored_by (judged c last b) ≡ Some n) ↔ ((counter (genuine_in c b) ≡ Some n) × IsAbove n last)
+judged_stored c h n last (Err reason) = (λ s. cc, λ p. cc (p.0))
+judged_stored c h n last (Ok None) = (λ s. cc, λ p. cc (p.0))
+judged_stored c h n last (Ok (Some m)) = opened_stored c.mode h n last (opened_in c.mode c m)
+
+greater_above : (n x : ℕ) (o : Option ℕ) → IsAbove n (greater x o) ↔ ((x < n) × IsAbove n o)
+greater_above n x None = (λ h. (h, tt), λ p. p.0)
+greater_above n x (Some y) = (λ h. (below_left x y n h, below_right x y n h), λ p. max_below x y n p.0 p.1)
+
+-- above the greatest is above all
+greatest_above : (n : ℕ) (xs : List ℕ) → IsAbove n (greatest xs) ↔ AreBelow n xs
+greatest_above n [] = (λ h. tt, λ h. tt)
+greatest_above n (x ∷ xs) =
+    let g = greater_above n x (greatest xs) in
+    let rest = greatest_above n xs in
+    (λ h. ((g.0 h).0, rest.0 (g.0 h).1), λ p. g.1 (p.0, rest.1 p.1))
+
+heard_stored : (own : Address) (c : Commissioned) (k : Orders) (access : Access) (response : Bool) (v : Result (Option Found) Reason) → stored_counter (heard own c k access response v) ≡ stored_by v
+heard_stored own c k access response (Err reason) = refl
+heard_stored own c k access response (Ok None) = refl
+heard_stored own c k access response (Ok (Some f)) = refl
+
+queued_stored : (r : Result ℕ QueueFault) → stored_counter (queued r) ≡ None
+queued_stored (Ok id) = refl
+queued_stored (Err Full) = refl
+queued_stored (Err IdsSpent) = refl
+
+cancelled_stored : (id : ℕ) (r : Result Command NoSuch) → stored_counter (cancelled id r) ≡ None
+cancelled_stored id (Ok command) = refl
+cancelled_stored id (Err missing) = refl
+
+none_stored : (n : ℕ) (last o : Option ℕ) → o ≡ None → (o ≡ Some n) ↔ ((None ≡ Some n) × IsAbove n last)
+none_stored n last o h = (λ s. cc, λ p. cc (p.0))
+
+answer_stored : (c : Commissioned) (own : Address) (n : ℕ) (earlier : List Entry) (event : Event) → c.mode ≡ Seven
+    → (stored_counter (answer c own (standing c earlier) event) ≡ Some n) ↔ ((counter (genuine c earlier event) ≡ Some n) × IsAbove n (last_counter c earlier))
+answer_stored c own n earlier (Hear format at t) m =
+    rw heard_stored (judged_stored c m n (last_counter c earlier) (brought (told c earlier) t (received c.mode t)))
+answer_stored c own n earlier Tick m = none_stored n (last_counter c earlier) None refl
+answer_stored c own n earlier (Put payload) m = none_stored n (last_counter c earlier) _ (queued_stored (put_answer (orders c earlier).queue))
+answer_stored c own n earlier (Cancel id) m = none_stored n (last_counter c earlier) _ (cancelled_stored id (take_answer id (orders c earlier).queue))
+
+last_seven : (c : Commissioned) (earlier : List Entry) → c.mode ≡ Seven → last_counter c earlier ≡ greatest (counters c earlier ++ option_to_list c.last)
+unfolding last_counter
+last_seven c earlier m = ap (λ mode. last_of mode (counters c earlier ++ option_to_list c.last)) m
+
+-- an entry stores exactly what is genuine and above the last counter
+entry_stored : (c : Commissioned) (own : Address) (x : Entry) (earlier : List Entry) (n : ℕ) → c.mode ≡ Seven → IsJudged c own (x ∷ earlier)
+    → (stored_counter x.outcome ≡ Some n) ↔ ((counter (genuine c earlier x.event) ≡ Some n) × IsAbove n (last_counter c earlier))
+unfolding outcome
+entry_stored c own x earlier n m j = rw j.0 (answer_stored c own n earlier x.event m)
+
+pub entry_stored_exactly : (c : Commissioned) (own : Address) (x : Entry) (earlier : List Entry) (n : ℕ) → c.mode ≡ Seven → IsJudged c own (x ∷ earlier)
+    → (stored_counter x.outcome ≡ Some n) ↔ ((counter (genuine c earlier x.event) ≡ Some n) × AreBelow n (counters c earlier ++ option_to_list c.last))
+entry_stored_exactly c own x earlier n m j =
+    let both = entry_stored c own x earlier n m j in
+    let last = last_seven c earlier m in
+    let below = greatest_above n (counters c earlier ++ option_to_list c.last) in
+    (λ s. ((both.0 s).0, below.0 (subst (IsAbove n) last (both.0 s).1)), λ p. both.1 (p.0, subst (IsAbove n) (sym last) (below.1 p.1)))
+
+-- ---- stored counters rise
+
+abbrev end_of : Option ℕ → List ℕ → Option ℕ
+end_of floor [] = floor
+end_of floor (n ∷ ns) = end_of (Some n) ns
+
+IsRising-push : (floor : Option ℕ) (ns : List ℕ) (n : ℕ) → IsRising floor ns → IsAbove n (end_of floor ns) → IsRising floor (ns ++ n ∷ [])
+IsRising-push floor [] n r h = (h, tt)
+IsRising-push floor (k ∷ ns) n r h = (r.0, IsRising-push (Some k) ns n r.1 h)
+
+end_of-push : (floor : Option ℕ) (ns : List ℕ) (n : ℕ) → end_of floor (ns ++ n ∷ []) ≡ Some n
+end_of-push floor [] n = refl
+end_of-push floor (k ∷ ns) n = end_of-push (Some k) ns n
+
+-- the stored counters so far rise, and the last of them is the last counter
+record RisesTo (c : Commissioned) (earlier : List Entry) (ns : List ℕ) : Type 0 where
+  rises : IsRising c.last ns
+  ends : end_of c.last ns ≡ last_counter c earlier
+
+stored_last : (last : Option ℕ) (o : Outcome) (n : ℕ) → stored_counter o ≡ Some n → last_after last o ≡ Some n
+stored_last last (Stored m confirmed sent) n h = h
+stored_last last PartKept n h = cc
+stored_last last (Ticked expired) n h = cc
+stored_last last (Queued id) n h = cc
+stored_last last (Cancelled id) n h = cc
+stored_last last (Refused reason) n h = cc
+
+kept_last : (last : Option ℕ) (o : Outcome) → stored_counter o ≡ None → last_after last o ≡ last
+kept_last last (Stored m confirmed sent) h = cc
+kept_last last PartKept h = refl
+kept_last last (Ticked expired) h = refl
+kept_last last (Queued id) h = refl
+kept_last last (Cancelled id) h = refl
+kept_last last (Refused reason) h = refl
+
+rises_step : (c : Commissioned) (own : Address) (x : Entry) (earlier : List Entry) (ns : List ℕ) (s : Option ℕ) → c.mode ≡ Seven → IsJudged c own (x ∷ earlier)
+    → RisesTo c earlier ns → stored_counter x.outcome ≡ s → RisesTo c (x ∷ earlier) (ns ++ cons_option s [])
+rises_step c own x earlier ns None m j r h = record {
+  rises = rw append-nil r.rises;
+  ends = rw append-nil (r.ends ∙ sym (last_counter-cons c own earlier x j.0 ∙ kept_last (last_counter c earlier) x.outcome h));
+}
+rises_step c own x earlier ns (Some n) m j r h = record {
+  rises = IsRising-push c.last ns n r.rises (subst (IsAbove n) (sym r.ends) ((entry_stored c own x earlier n m j).0 h).1);
+  ends = end_of-push c.last ns n ∙ sym (last_counter-cons c own earlier x j.0 ∙ stored_last (last_counter c earlier) x.outcome n h);
+}
+
+stored_counters-reverse : (x : Entry) (earlier : List Entry) → stored_counters (reverse (x ∷ earlier)) ≡ stored_counters (reverse earlier) ++ cons_option (stored_counter x.outcome) []
+stored_counters-reverse x earlier =
+    ap stored_counters (front_back x earlier) ∙ filter_map-append (λ (y : Entry). stored_counter y.outcome) (reverse earlier) (x ∷ [])
+
+floor_seven : (c : Commissioned) → c.mode ≡ Seven → c.last ≡ last_counter c []
+floor_seven c m = alone c.last ∙ sym (last_seven c [] m)
+  where
+    alone : (o : Option ℕ) → o ≡ greatest (option_to_list o)
+    alone None = refl
+    alone (Some n) = refl
+
+rises_back : (c : Commissioned) (own : Address) (earlier : List Entry) → c.mode ≡ Seven → IsJudged c own earlier → RisesTo c earlier (stored_counters (reverse earlier))
+rises_back c own [] m j = record { rises = tt; ends = floor_seven c m }
+rises_back c own (x ∷ earlier) m j =
+    rw (stored_counters-reverse x earlier) (rises_step c own x earlier (stored_counters (reverse earlier)) (stored_counter x.outcome) m j (rises_back c own earlier m j.1) refl)
+
+pub stored_counters_rise : (c : Commissioned) (own : Address) (journal : List Entry) → c.mode ≡ Seven → Legal c own journal → IsRising c.last (stored_counters journal)
+stored_counters_rise c own journal m j =
+    subst (λ (xs : List Entry). IsRising c.last (stored_counters xs)) (reverse-reverse journal) (rises_back c own (reverse journal) m j).rises
+
+-- ---- a refusal leaves all as it was
+
+refused_last : (last : Option ℕ) (o : Outcome) → IsRefused o → last_after last o ≡ last
+refused_last last (Refused reason) r = refl
+refused_last last (Stored m confirmed sent) r = absurd r
+refused_last last PartKept r = absurd r
+refused_last last (Ticked expired) r = absurd r
+refused_last last (Queued id) r = absurd r
+refused_last last (Cancelled id) r = absurd r
+
+refused_verdict : (own : Address) (c : Commissioned) (k : Orders) (access : Access) (response : Bool) (at : ℕ) (v : Result (Option Found) Reason)
+    → IsRefused (heard own c k access response v) → reading_at at (stored_in v) ≡ []
+refused_verdict own c k access response at (Err reason) r = refl
+refused_verdict own c k access response at (Ok None) r = absurd r
+refused_verdict own c k access response at (Ok (Some f)) r = absurd r
+
+refused_reading : (c : Commissioned) (own : Address) (s : Standing) (event : Event) → IsRefused (answer c own s event) → reading_of event (stored c s.last s.told event) ≡ []
+refused_reading c own s (Hear format at t) r = refused_verdict own c s.orders _ _ at (verdict c s.last s.told t) r
+refused_reading c own s Tick r = refl
+refused_reading c own s (Put payload) r = refl
+refused_reading c own s (Cancel id) r = refl
+
+heard_refused : (k : Orders) (access : Access) (response : Bool) (o : Outcome) → IsRefused o → orders_heard k access response o ≡ k
+heard_refused k access response (Refused reason) r = refl
+heard_refused k access response (Stored m confirmed sent) r = absurd r
+heard_refused k access response PartKept r = absurd r
+heard_refused k access response (Ticked expired) r = absurd r
+heard_refused k access response (Queued id) r = absurd r
+heard_refused k access response (Cancelled id) r = absurd r
+
+put_refused : (k : Orders) (payload : List ℕ) (r : Result ℕ QueueFault) → IsRefused (queued r) → record k { queue = with_command_by k.queue payload r } ≡ k
+put_refused k payload (Ok id) r = absurd r
+put_refused k payload (Err fault) r = refl
+
+cancel_leaves : (k : Orders) (id : ℕ) (r : Result Command NoSuch) → take_answer id k.queue ≡ r → IsRefused (cancelled id r) → after_cancel k id ≡ k
+cancel_leaves k id (Ok command) h r = absurd r
+cancel_leaves k id (Err missing) h r = sym (cancel_refused id k missing h)
+
+answer_refused : (c : Commissioned) (own : Address) (s : Standing) (access : Access) (event : Event) (o : Outcome) → o ≡ answer c own s event → IsRefused o → orders_after s.orders access event o ≡ s.orders
+unfolding with_command
+answer_refused c own s access (Hear format at t) o e r = heard_refused s.orders access _ o r
+answer_refused c own s access Tick o e r = absurd (subst IsRefused e r)
+answer_refused c own s access (Put payload) o e r = put_refused s.orders payload (put_answer s.orders.queue) (subst IsRefused e r)
+answer_refused c own s access (Cancel id) o e r = cancel_leaves s.orders id (take_answer id s.orders.queue) refl (subst IsRefused e r)
+
+left_last : (c : Commissioned) (own : Address) (journal : List Entry) (x : Entry) → Legal c own (journal ++ x ∷ []) → IsRefused x.outcome
+    → last_counter c (reverse (journal ++ x ∷ [])) ≡ last_counter c (reverse journal)
+left_last c own journal x j r =
+    let earlier = reverse journal in
+    let h = subst (IsJudged c own) (back journal x) j in
+    ap (last_counter c) (back journal x) ∙ last_counter-cons c own earlier x h.0 ∙ refused_last (last_counter c earlier) x.outcome r
+
+left_orders : (c : Commissioned) (own : Address) (journal : List Entry) (x : Entry) → Legal c own (journal ++ x ∷ []) → IsRefused x.outcome
+    → orders c (reverse (journal ++ x ∷ [])) ≡ orders c (reverse journal)
+unfolding outcome
+left_orders c own journal x j r =
+    let earlier = reverse journal in
+    let h = subst (IsJudged c own) (back journal x) j in
+    ap (orders c) (back journal x) ∙ answer_refused c own (standing c earlier) (access_at c (last_counter c earlier) (told c earlier) x.event) x.event x.outcome h.0 r
+
+left_readings : (c : Commissioned) (own : Address) (journal : List Entry) (x : Entry) → Legal c own (journal ++ x ∷ []) → IsRefused x.outcome
+    → readings c (journal ++ x ∷ []) ≡ readings c journal
+unfolding outcome
+left_readings c own journal x j r =
+    let s = standing c (reverse journal) in
+    let h = subst (IsJudged c own) (back journal x) j in
+    readings-append c journal x ∙ ap (λ rs. readings c journal ++ rs) (refused_reading c own s x.event (subst IsRefused h.0 r)) ∙ append-nil (readings c journal)
+
+pub refused_left : (c : Commissioned) (own : Address) (journal : List Entry) (x : Entry) → Legal c own (journal ++ x ∷ []) → IsRefused x.outcome
+    → IsLeft (record { own = own; commission = c; journal = journal }) (record { own = own; commission = c; journal = journal ++ x ∷ [] })
+refused_left c own journal x j r = record {
+  last = left_last c own journal x j r;
+  orders = left_orders c own journal x j r;
+  readings = left_readings c own journal x j r;
+}
+
+-- ---- one journal
+
+one_journal_back : (c : Commissioned) (own : Address) (earlier : List Entry) → IsJudged c own earlier → earlier ≡ judged_journal c own (map call_in earlier)
+one_journal_back c own [] j = refl
+one_journal_back c own (x ∷ earlier) j =
+    let rest = one_journal_back c own earlier j.1 in
+    ap (λ o. record { source = x.source; line = x.line; event = x.event; outcome = o } ∷ earlier) j.0
+    ∙ ap (λ (e : List Entry). record { source = x.source; line = x.line; event = x.event; outcome = outcome c own e x.event } ∷ e) rest
+
+map-reverse : {X Y : Type 0} (f : X → Y) (xs : List X) → map f (reverse xs) ≡ reverse (map f xs)
+map-reverse f [] = refl
+map-reverse f (x ∷ xs) =
+    ap (map f) (front_back x xs) ∙ map-append f (reverse xs) (x ∷ []) ∙ ap (λ ys. ys ++ f x ∷ []) (map-reverse f xs) ∙ sym (front_back (f x) (map f xs))
+
+pub journal_is : (c : Commissioned) (own : Address) (journal : List Entry) → Legal c own journal → journal ≡ journal_of c own (map call_in journal)
+journal_is c own journal j =
+    sym (reverse-reverse journal) ∙ ap reverse (one_journal_back c own (reverse journal) j)
+    ∙ ap (λ calls. reverse (judged_journal c own calls)) (map-reverse call_in journal)
+
+judged_journal_judged : (c : Commissioned) (own : Address) (calls : List Call) → IsJudged c own (judged_journal c own calls)
+judged_journal_judged c own [] = tt
+judged_journal_judged c own (s ∷ calls) = (refl, judged_journal_judged c own calls)
+
+pub journal_of_legal : (c : Commissioned) (own : Address) (calls : List Call) → Legal c own (journal_of c own calls)
+journal_of_legal c own calls = subst (IsJudged c own) (sym (reverse-reverse (judged_journal c own (reverse calls)))) (judged_journal_judged c own (reverse calls))

@@ -1,0 +1,45 @@
+-- Words for laws of journals.
+use Rattle.std.specs.Prelude.{ℕ, ◌≡◌, ◌<◌, List, [], ◌∷◌, reverse, Option, Some, None, filter_map}
+use Rattle.meter_slots.specs.declared.entry.Entry.{Entry}
+use Rattle.meter_slots.specs.declared.entry.Outcome.{Outcome}
+use Rattle.meter_slots.specs.declared.entry.Outcome.TheVariants.{Stored, Refused}
+use Rattle.meter_slots.specs.Journal.{Book, last_counter, orders, readings}
+use Rattle.meter_slots.specs.World.{Call}
+
+-- the counter that an outcome stored
+abbrev pub stored_counter : Outcome → Option ℕ
+stored_counter (Stored counter confirmed sent) = Some counter
+stored_counter _ = None
+
+-- the stored counters of a journal
+abbrev pub stored_counters : List Entry → List ℕ
+stored_counters journal = filter_map (λ x. stored_counter x.outcome) journal
+
+-- above a floor, if there is one
+abbrev pub IsAbove : ℕ → Option ℕ → Type 0
+IsAbove n None = Unit {0}
+IsAbove n (Some k) = k < n
+
+-- each number is above the one before it, and the first one is above the floor
+abbrev pub IsRising : Option ℕ → List ℕ → Type 0
+IsRising floor [] = Unit {0}
+IsRising floor (n ∷ ns) = IsAbove n floor × IsRising (Some n) ns
+
+-- all of these are below a number
+abbrev pub AreBelow : ℕ → List ℕ → Type 0
+AreBelow n [] = Unit {0}
+AreBelow n (k ∷ ks) = (k < n) × AreBelow n ks
+
+abbrev pub IsRefused : Outcome → Type 0
+IsRefused (Refused reason) = Unit {0}
+IsRefused _ = ⊥
+
+-- the last counter, the commands with their window, and the readings are as they were
+pub record IsLeft (old new : Book) : Type 0 where
+  pub last : last_counter new.commission (reverse new.journal) ≡ last_counter old.commission (reverse old.journal)
+  pub orders : orders new.commission (reverse new.journal) ≡ orders old.commission (reverse old.journal)
+  pub readings : readings new.commission new.journal ≡ readings old.commission old.journal
+
+-- what was asked of a slot, without the answer
+abbrev pub call_in : Entry → Call
+call_in x = record { source = x.source; line = x.line; event = x.event }

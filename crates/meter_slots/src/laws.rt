@@ -1,0 +1,43 @@
+//! Laws of every journal: each function's contract is a law.
+ghost use Rattle.std.specs.Prelude.{◌≡◌, ◌↔◌, ℕ, List, ◌∷◌, ◌++◌, [], reverse, map, filter, Some, option_to_list, option_map};
+ghost use Rattle.meter_address.specs.declared.address.Address.{Address};
+ghost use Rattle.meter_address.specs.declared.commission.Mode.TheVariants.{Seven};
+ghost use Rattle.meter_address.specs.Commission.{Commissioned};
+ghost use Rattle.meter_slots.specs.declared.entry.Entry.{Entry};
+ghost use Rattle.meter_slots.specs.declared.step.Step.{Step};
+ghost use Rattle.meter_slots.specs.Journal.{Book, Legal, genuine, counters};
+ghost use Rattle.meter_slots.specs.World.{Call, journal_of, is_for, slot_of};
+ghost use Rattle.meter_slots.specs.Laws.{stored_counter, stored_counters, IsRising, AreBelow, IsRefused, IsLeft, call_in};
+
+/// In mode 7 the stored counters strictly rise, from above the commission's.
+pub fn counters_rise()
+    ensures { (c : Commissioned) (own : Address) (journal : List Entry) → c.mode ≡ Seven → Legal c own journal
+        → IsRising c.last (stored_counters journal) }
+{}
+
+/// In mode 7 a message is stored exactly where it is genuine and its counter is above those of all earlier genuine messages and
+/// the commission's.
+pub fn stored_exactly()
+    ensures { (c : Commissioned) (own : Address) (before : List Entry) (x : Entry) (after : List Entry) (n : ℕ) → c.mode ≡ Seven
+        → Legal c own (before ++ x ∷ after) → (stored_counter x.outcome ≡ Some n)
+        ↔ ((option_map (λ f. f.counter) (genuine c (reverse before) x.event) ≡ Some n) × AreBelow n (counters c (reverse before) ++ option_to_list c.last)) }
+{}
+
+/// A refusal leaves the last counter, the commands with their window, and the readings as they were.
+pub fn refused_leaves()
+    ensures { (c : Commissioned) (own : Address) (journal : List Entry) (x : Entry) → Legal c own (journal ++ x ∷ []) → IsRefused x.outcome
+        → IsLeft (record { own = own; commission = c; journal = journal }) (record { own = own; commission = c; journal = journal ++ x ∷ [] }) }
+{}
+
+/// Each list of calls has one legal journal.
+pub fn one_journal()
+    ensures legal { (c : Commissioned) (own : Address) (calls : List Call) → Legal c own (journal_of c own calls) }
+    ensures one { (c : Commissioned) (own : Address) (journal : List Entry) → Legal c own journal
+        → journal ≡ journal_of c own (map call_in journal) }
+{}
+
+/// Two lists of steps that agree on one meter's steps give that meter one slot.
+pub fn own_steps_alone()
+    ensures { (c : Commissioned) (own : Address) (xs ys : List Step) → filter (is_for c.address) xs ≡ filter (is_for c.address) ys
+        → slot_of own xs c ≡ slot_of own ys c }
+{}

@@ -1,0 +1,68 @@
+//! What a line tells of a meter.
+ghost use Rattle.std.specs.Prelude.{◌≡◌};
+ghost use Rattle.frame_formats.specs.Decoding.{decoded_a, decoded_b};
+ghost use Rattle.message_check.specs.Target.{target_of};
+ghost use Rattle.meter_slots.specs.Telling.{heard_in, event_of_line};
+
+use crate::entry::{Event, Format};
+use frame_formats::{FrameFault, Telegram, decode_a, decode_b};
+use line_reader::{Line, LineFormat};
+use message_check::target;
+use meter_address::Address;
+
+// A telegram that was heard, for its target.
+fn hear_telegram(format: Format, at: u64, telegram: Telegram) -> (Address, Event)
+    ensures { result ≡ (target_of telegram, Event.Hear format at telegram) }
+{
+    let address = target(&telegram);
+    let event = Event::Hear {
+        format,
+        at,
+        telegram,
+    };
+    (address, event)
+}
+
+// The telegram of a frame of format A.
+fn hear_format_a(at: u64, bytes: &[u8]) -> Result<(Address, Event), FrameFault>
+    ensures { result ≡ heard_in Format.A at (decoded_a bytes.now) }
+{
+    let mut telegram = Telegram::shortest();
+    match decode_a(bytes, &mut telegram) {
+        Ok(()) => Ok(hear_telegram(Format::A, at, telegram)),
+        Err(fault) => Err(fault),
+    }
+}
+
+// The telegram of a frame of format B.
+fn hear_format_b(at: u64, bytes: &[u8]) -> Result<(Address, Event), FrameFault>
+    ensures { result ≡ heard_in Format.B at (decoded_b bytes.now) }
+{
+    let mut telegram = Telegram::shortest();
+    match decode_b(bytes, &mut telegram) {
+        Ok(()) => Ok(hear_telegram(Format::B, at, telegram)),
+        Err(fault) => Err(fault),
+    }
+}
+
+/// The meter that a line is for, and what comes to it. A telegram is for its target. The error is why a line's bytes are no
+/// frame.
+pub fn event_of(line: &Line) -> Result<(Address, Event), FrameFault>
+    ensures { result ≡ event_of_line line.now }
+{
+    match line {
+        Line::Frame {
+            format: LineFormat::A,
+            at,
+            bytes,
+        } => hear_format_a(*at, bytes.bytes()),
+        Line::Frame {
+            format: LineFormat::B,
+            at,
+            bytes,
+        } => hear_format_b(*at, bytes.bytes()),
+        Line::Tick(address) => Ok((*address, Event::Tick)),
+        Line::Put(address, payload) => Ok((*address, Event::Put(payload.copied()))),
+        Line::Cancel(address, id) => Ok((*address, Event::Cancel(*id))),
+    }
+}
