@@ -1,4 +1,6 @@
 pub mod Hearing
+pub mod Outcomes
+pub mod Pieces
 pub mod Receiver
 pub mod Report
 pub mod Rosters

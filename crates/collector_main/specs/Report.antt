@@ -1,38 +1,27 @@
 -- The text of the report.
-use Rattle.std.specs.Prelude.{ℕ, ◌+◌, ◌-◌, ◌*◌, ◌/◌, ◌%◌, ◌&&◌, nat_le, List, [], ◌∷◌, ◌++◌, length, map, codes, Option, Some, None, if◌then◌else◌}
-use Rattle.std.specs.List.{flat_map, enumerate_from}
-use Rattle.std.specs.Fmt.{decimal}
-use Rattle.hex.specs.Hex.{encode_lower}
+use Rattle.std.specs.Prelude.{ℕ, ◌-◌, List, [], ◌∷◌, ◌++◌, length, drop, reverse, slice_get, codes, Option, Some, None}
+use Rattle.std.specs.List.{flat_map}
 use Rattle.meter_address.specs.declared.commission.Mode.{Mode}
 use Rattle.meter_address.specs.declared.commission.Mode.TheVariants.{Five, Seven}
 use Rattle.meter_address.specs.declared.address.Address.{Address}
-use Rattle.meter_address.specs.Address.{text_of}
-use Rattle.meter_address.specs.Commission.{Commissioned}
+use Rattle.meter_address.specs.Address.{bytes_of}
 use Rattle.meter_address.specs.Letters.{letters_of}
-use Rattle.tpl_headers.specs.declared.header.TplFault.{TplFault}
-use Rattle.tpl_headers.specs.declared.header.TplFault.TheVariants.{Truncated, Unbuilt}
+use Rattle.command_queue.specs.declared.command.Command.{Command}
+use Rattle.access_window.specs.Orders.{Orders}
 use Rattle.stranger_ring.specs.declared.strangers.Heard.{Heard}
+use Rattle.stranger_ring.specs.Ring.{ring_of}
 use Rattle.meter_slots.specs.declared.counts.Counts.{Counts}
 use Rattle.meter_slots.specs.declared.counts.Ended.{Ended}
 use Rattle.meter_slots.specs.declared.counts.Ended.TheVariants as ends
 use Rattle.meter_slots.specs.declared.entry.Entry.{Entry}
-use Rattle.meter_slots.specs.declared.entry.LayerFault.{LayerFault}
-use Rattle.meter_slots.specs.declared.entry.LayerFault.TheVariants.{Tpl}
 use Rattle.meter_slots.specs.declared.entry.Outcome.{Outcome}
-use Rattle.meter_slots.specs.declared.entry.Outcome.TheVariants.{Refused}
-use Rattle.meter_slots.specs.declared.entry.Reason.{Reason}
-use Rattle.meter_slots.specs.declared.entry.Reason.TheVariants.{NotUplink, BadLayers}
-use Rattle.meter_slots.specs.Journal.{Book}
+use Rattle.meter_slots.specs.declared.entry.Outcome.TheVariants.{Stored}
+use Rattle.meter_slots.specs.declared.reading.Reading.{Reading}
+use Rattle.meter_slots.specs.Journal.{Book, last_counter, orders, readings}
 use Rattle.meter_slots.specs.World.{WorldView}
-
--- a number, or a dash for none
-abbrev pub optional_text : Option ℕ → List ℕ
-optional_text None = codes "-"
-optional_text (Some n) = decimal n
-
--- a byte in two digits
-abbrev pub byte_text : ℕ → List ℕ
-byte_text b = encode_lower (b ∷ [])
+use Rattle.record_text.specs.RecordText.{records_text}
+use Rattle.collector_main.specs.Pieces.{optional_text, labelled, labelled_two, labelled_bytes, text_if}
+use Rattle.collector_main.specs.Outcomes.{outcome_text}
 
 -- ---- a receiver
 
@@ -42,10 +31,6 @@ ended_text ends.Cut = codes "cut"
 ended_text ends.ReadFault = codes "readfault"
 ended_text ends.TxFault = codes "txfault"
 ended_text ends.Memory = codes "memory"
-
--- a word and its number
-unfoldable pub labelled : List ℕ → ℕ → List ℕ
-labelled word n = word ++ decimal n
 
 unfoldable pub counts_text : Counts → List ℕ
 counts_text n =
@@ -64,38 +49,61 @@ abbrev pub mode_text : Mode → List ℕ
 mode_text Five = codes "5"
 mode_text Seven = codes "7"
 
-abbrev pub fault_text : LayerFault → List ℕ
-fault_text (Tpl (Truncated have)) = codes "tpl truncated " ++ decimal have
-fault_text (Tpl (Unbuilt ci)) = codes "tpl unbuilt " ++ byte_text ci
-
-abbrev pub reason_text : Reason → List ℕ
-reason_text (NotUplink c) = codes "uplink " ++ byte_text c
-reason_text (BadLayers fault) = codes "layers " ++ fault_text fault
-
-abbrev pub outcome_text : Outcome → List ℕ
-outcome_text (Refused reason) = codes "refused " ++ reason_text reason
-
-unfoldable pub step_text : Entry → List ℕ
-step_text e = codes "step " ++ decimal e.source ++ codes " " ++ decimal e.line ++ codes " " ++ outcome_text e.outcome ++ codes "\n"
-
 -- the address, the manufacturer's letters and the mode
-unfoldable pub commission_text : Commissioned → List ℕ
-commission_text c = codes "meter " ++ text_of c.address ++ codes " " ++ letters_text (letters_of c.address) ++ codes " mode " ++ mode_text c.mode
+unfoldable pub commission_text : Address → Mode → List ℕ
+commission_text a mode = labelled_bytes (codes "meter ") (bytes_of a) ++ codes " " ++ letters_text (letters_of a) ++ codes " mode " ++ mode_text mode
 
 -- the last counter, that of the downlinks, and how many steps and readings there are
-unfoldable pub numbers_text : Option ℕ → ℕ → ℕ → List ℕ
-numbers_text last down steps = codes " last " ++ optional_text last ++ labelled (codes " down ") down ++ labelled (codes " steps ") steps ++ codes " readings 0\n"
+unfoldable pub numbers_text : Option ℕ → ℕ → ℕ → ℕ → List ℕ
+numbers_text last down steps kept =
+    codes " last " ++ optional_text last ++ labelled (codes " down ") down ++ labelled (codes " steps ") steps ++ labelled (codes " readings ") kept ++ codes "\n"
+
+-- an entry, with the reading of what it stores
+unfoldable pub step_text : Option Reading → Entry → List ℕ
+step_text reading e = labelled_two (codes "step ") e.source e.line ++ codes " " ++ outcome_text reading e.outcome ++ codes "\n"
+
+-- the readings that are left for later entries: each stored message has one
+abbrev pub readings_after : Outcome → List Reading → List Reading
+readings_after (Stored counter confirmed sent) kept = drop 1 kept
+readings_after _ kept = kept
+
+-- a journal, with the readings of what it stores
+abbrev pub steps_text : List Reading → List Entry → List ℕ
+steps_text kept [] = []
+steps_text kept (e ∷ later) = step_text (slice_get kept 0) e ++ steps_text (readings_after e.outcome kept) later
+
+-- the records of the last reading
+unfoldable pub last_text : List Reading → List ℕ
+last_text kept = text_if (λ r. records_text r.payload) (slice_get kept (length kept - 1))
+
+-- a command that waits, and how often it was sent
+unfoldable pub pending_text : Command → List ℕ
+pending_text c = labelled_two (codes "pending ") c.id c.tries ++ codes "\n"
+
+-- what stands below the line of a meter
+unfoldable pub journal_text : List Reading → List Entry → List Command → List ℕ
+journal_text kept journal commands = steps_text kept journal ++ last_text kept ++ flat_map pending_text commands
+
+-- the commands after the journal
+abbrev pub orders_now : Book → Orders
+orders_now b = orders b.commission (reverse b.journal)
 
 unfoldable pub meter_text : Book → List ℕ
-meter_text b = commission_text b.commission ++ numbers_text b.commission.last b.commission.down (length b.journal) ++ flat_map step_text b.journal
+meter_text b =
+    commission_text b.commission.address b.commission.mode
+    ++ numbers_text (last_counter b.commission (reverse b.journal)) (orders_now b).down (length b.journal) (length (readings b.commission b.journal))
+    ++ journal_text (readings b.commission b.journal) b.journal (orders_now b).queue.commands
 
 -- ---- the strangers
 
-abbrev pub stranger_text : Heard → List ℕ
-stranger_text h = codes "stranger " ++ decimal h.source ++ codes " " ++ decimal h.line ++ codes "\n"
+unfoldable pub stranger_text : Heard → List ℕ
+stranger_text h = labelled_two (codes "stranger ") h.source h.line ++ codes "\n"
+
+unfoldable pub ring_text : Address → List ℕ
+ring_text a = labelled_bytes (codes "ring ") (bytes_of a) ++ codes "\n"
 
 unfoldable pub strangers_text : List Heard → List ℕ
-strangers_text heard = codes "strangers " ++ decimal (length heard) ++ codes "\n" ++ flat_map stranger_text heard
+strangers_text heard = labelled (codes "strangers ") (length heard) ++ codes "\n" ++ flat_map stranger_text heard ++ flat_map ring_text (ring_of heard)
 
 -- the report of a session of one receiver
 unfoldable pub report_text : Counts → Ended → WorldView → List ℕ

@@ -4,6 +4,8 @@
 mod command_words;
 mod hearing;
 mod message;
+mod outcomes;
+mod pieces;
 mod receiver;
 mod report;
 mod session;

@@ -1,33 +1,21 @@
 //! The text of the report.
-ghost use Rattle.std.specs.Prelude.{◌≡◌, ◌++◌, OnOk, IfOk};
+ghost use Rattle.std.specs.Prelude.{◌≡◌, ◌++◌, OnOk, IfOk, option_copied};
 ghost use Rattle.std.specs.List.{flat_map};
 ghost use Rattle.std.specs.String.{string_bytes};
-ghost use Rattle.hex.specs.Hex.{encode_lower};
 ghost use Rattle.meter_address.specs.Letters.{letters_of};
-ghost use Rattle.collector_main.specs.Report.{optional_text, letters_text, mode_text, ended_text, labelled, counts_text, receiver_text, fault_text, outcome_text, step_text, commission_text, numbers_text, meter_text, stranger_text, strangers_text, report_text};
+ghost use Rattle.stranger_ring.specs.Ring.{ring_of};
+ghost use Rattle.record_text.specs.RecordText.{records_text};
+ghost use Rattle.collector_main.specs.Pieces.{text_if};
+ghost use Rattle.collector_main.specs.Report.{ended_text, counts_text, receiver_text, letters_text, mode_text, commission_text, numbers_text, step_text, readings_after, steps_text, last_text, pending_text, journal_text, meter_text, stranger_text, ring_text, strangers_text, report_text};
 
-use meter_address::{Address, Commission, Mode};
-use meter_slots::{Counts, Ended, Entry, LayerFault, Outcome, Reason, SlotBook, World};
+use crate::outcomes::push_outcome;
+use crate::pieces::{push_labelled, push_labelled_bytes, push_labelled_two, push_optional};
+use command_queue::{Command, Queue};
+use meter_address::{Address, Mode};
+use meter_slots::{Counts, Ended, Entry, Outcome, Reading, SlotBook, World};
+use record_text::push_records;
 use std::alloc::{AllocError, Global};
-use std::fmt::Write;
 use stranger_ring::{Heard, Strangers};
-use tpl_headers::TplFault;
-
-fn push_bytes(alloc: Global, out: &mut String, bytes: &[u8]) -> Result<(), AllocError>
-    ensures { OnOk result (string_bytes out.new ≡ string_bytes out.old ++ encode_lower bytes.now) }
-{
-    let digits = hex::encode(alloc, bytes)?;
-    out.push_str(digits.as_str())
-}
-
-fn push_optional(out: &mut String, number: Option<u32>) -> Result<(), AllocError>
-    ensures { OnOk result (string_bytes out.new ≡ string_bytes out.old ++ optional_text number) }
-{
-    match number {
-        None => out.push_str("-"),
-        Some(number) => write!(out, "{number}"),
-    }
-}
 
 fn ended_word(ended: Ended) -> &'static str
     ensures { result.now ≡ ended_text ended }
@@ -41,22 +29,15 @@ fn ended_word(ended: Ended) -> &'static str
     }
 }
 
-#[tactic(auto, unfolding(crate::specs::Report::labelled))]
-fn push_labelled(out: &mut String, word: &str, number: usize) -> Result<(), AllocError>
-    ensures { OnOk result (string_bytes out.new ≡ string_bytes out.old ++ labelled word.now number) }
-{
-    write!(out, "{word}{number}")
-}
-
 #[tactic(auto, unfolding(crate::specs::Report::counts_text))]
 fn push_counts(out: &mut String, counts: Counts) -> Result<(), AllocError>
     ensures { OnOk result (string_bytes out.new ≡ string_bytes out.old ++ counts_text counts) }
 {
-    push_labelled(out, " lines ", counts.lines as usize)?;
-    push_labelled(out, " own ", counts.own as usize)?;
-    push_labelled(out, " strangers ", counts.strangers as usize)?;
-    push_labelled(out, " unframed ", counts.unframed as usize)?;
-    push_labelled(out, " bad ", counts.bad as usize)?;
+    push_labelled(out, " lines ", counts.lines as u64)?;
+    push_labelled(out, " own ", counts.own as u64)?;
+    push_labelled(out, " strangers ", counts.strangers as u64)?;
+    push_labelled(out, " unframed ", counts.unframed as u64)?;
+    push_labelled(out, " bad ", counts.bad as u64)?;
     Ok(())
 }
 
@@ -69,7 +50,7 @@ fn push_receiver(
 ) -> Result<(), AllocError>
     ensures { OnOk result (string_bytes out.new ≡ string_bytes out.old ++ receiver_text receiver counts ended) }
 {
-    push_labelled(out, "receiver ", receiver as usize)?;
+    push_labelled(out, "receiver ", u64::from(receiver))?;
     push_counts(out, counts)?;
     out.push_str(" ")?;
     out.push_str(ended_word(ended))?;
@@ -77,50 +58,108 @@ fn push_receiver(
     Ok(())
 }
 
-fn push_fault(alloc: Global, out: &mut String, fault: LayerFault) -> Result<(), AllocError>
-    ensures { OnOk result (string_bytes out.new ≡ string_bytes out.old ++ fault_text fault) }
-{
-    match fault {
-        LayerFault::Tpl(TplFault::Truncated(have)) => write!(out, "tpl truncated {have}"),
-        LayerFault::Tpl(TplFault::Unbuilt(ci)) => {
-            out.push_str("tpl unbuilt ")?;
-            push_bytes(alloc, out, &[ci])
-        }
-    }
-}
-
-fn push_outcome(alloc: Global, out: &mut String, outcome: Outcome) -> Result<(), AllocError>
-    ensures { OnOk result (string_bytes out.new ≡ string_bytes out.old ++ outcome_text outcome) }
-{
-    match outcome {
-        Outcome::Refused(Reason::NotUplink(control)) => {
-            out.push_str("refused uplink ")?;
-            push_bytes(alloc, out, &[control])
-        }
-        Outcome::Refused(Reason::BadLayers(fault)) => {
-            out.push_str("refused layers ")?;
-            push_fault(alloc, out, fault)
-        }
-    }
-}
-
 #[tactic(auto, unfolding(crate::specs::Report::step_text))]
-fn push_step(alloc: Global, out: &mut String, entry: &Entry) -> Result<(), AllocError>
-    ensures { OnOk result (string_bytes out.new ≡ string_bytes out.old ++ step_text entry.now) }
+fn push_step(
+    alloc: Global,
+    out: &mut String,
+    reading: Option<&Reading>,
+    entry: &Entry,
+) -> Result<(), AllocError>
+    ensures { OnOk result (string_bytes out.new ≡ string_bytes out.old ++ step_text (option_copied reading.entry) entry.now) }
 {
-    let source = entry.source;
-    let line = entry.line;
-    write!(out, "step {source} {line} ")?;
-    push_outcome(alloc, out, entry.outcome)?;
-    out.push_str("\n")
+    push_labelled_two(out, "step ", u64::from(entry.source), u64::from(entry.line))?;
+    out.push_str(" ")?;
+    push_outcome(alloc, out, reading, &entry.outcome)?;
+    out.push_str("\n")?;
+    Ok(())
 }
 
-fn push_steps(alloc: Global, out: &mut String, journal: &[Entry]) -> Result<(), AllocError>
-    ensures { OnOk result (string_bytes out.new ≡ string_bytes out.old ++ flat_map step_text journal.now) }
+// The readings that are left for later entries.
+fn readings_after<'a>(outcome: &Outcome, readings: &'a [Reading]) -> &'a [Reading]
+    ensures { result.now ≡ readings_after outcome.now readings.now }
 {
-    for entry in journal {
-        push_step(alloc, out, entry)?;
+    match (outcome, readings) {
+        (Outcome::Stored { .. }, [_, later @ ..]) => later,
+        _ => readings,
     }
+}
+
+fn push_steps(
+    alloc: Global,
+    out: &mut String,
+    readings: &[Reading],
+    journal: &[Entry],
+) -> Result<(), AllocError>
+    ensures { OnOk result (string_bytes out.new ≡ string_bytes out.old ++ steps_text readings.now journal.now) }
+{
+    let mut left = readings;
+    for entry in journal {
+        push_step(alloc, out, left.first(), entry)?;
+        left = readings_after(&entry.outcome, left);
+    }
+    Ok(())
+}
+
+fn push_records_of(
+    alloc: Global,
+    out: &mut String,
+    reading: Option<&Reading>,
+) -> Result<(), AllocError>
+    ensures { OnOk result (string_bytes out.new ≡ string_bytes out.old ++ text_if (λ r. records_text r.payload) (option_copied reading.entry)) }
+{
+    match reading {
+        None => out.push_str(""),
+        Some(reading) => push_records(alloc, out, reading.payload.bytes()),
+    }
+}
+
+#[tactic(auto, unfolding(crate::specs::Report::last_text))]
+fn push_last(alloc: Global, out: &mut String, readings: &[Reading]) -> Result<(), AllocError>
+    ensures { OnOk result (string_bytes out.new ≡ string_bytes out.old ++ last_text readings.now) }
+{
+    push_records_of(alloc, out, readings.get(readings.len().saturating_sub(1)))
+}
+
+#[tactic(auto, unfolding(crate::specs::Report::pending_text))]
+fn push_command(out: &mut String, command: &Command) -> Result<(), AllocError>
+    ensures { OnOk result (string_bytes out.new ≡ string_bytes out.old ++ pending_text command.now) }
+{
+    push_labelled_two(out, "pending ", u64::from(command.id), u64::from(command.tries))?;
+    out.push_str("\n")?;
+    Ok(())
+}
+
+fn push_command_if(out: &mut String, command: Option<&Command>) -> Result<(), AllocError>
+    ensures { OnOk result (string_bytes out.new ≡ string_bytes out.old ++ text_if pending_text (option_copied command.entry)) }
+{
+    match command {
+        None => out.push_str(""),
+        Some(command) => push_command(out, command),
+    }
+}
+
+fn push_pending(out: &mut String, queue: &Queue) -> Result<(), AllocError>
+    ensures { OnOk result (string_bytes out.new ≡ string_bytes out.old ++ flat_map pending_text queue.now.commands) }
+{
+    for place in 0..queue.pending() {
+        push_command_if(out, queue.at(place))?;
+    }
+    Ok(())
+}
+
+#[tactic(auto, unfolding(crate::specs::Report::journal_text))]
+fn push_journal(
+    alloc: Global,
+    out: &mut String,
+    readings: &[Reading],
+    journal: &[Entry],
+    queue: &Queue,
+) -> Result<(), AllocError>
+    ensures { OnOk result (string_bytes out.new ≡ string_bytes out.old ++ journal_text readings.now journal.now queue.now.commands) }
+{
+    push_steps(alloc, out, readings, journal)?;
+    push_last(alloc, out, readings)?;
+    push_pending(out, queue)?;
     Ok(())
 }
 
@@ -149,17 +188,17 @@ fn mode_digit(mode: Mode) -> &'static str
 fn push_commission(
     alloc: Global,
     out: &mut String,
-    commission: &Commission,
+    address: Address,
+    mode: Mode,
 ) -> Result<(), AllocError>
-    ensures { OnOk result (string_bytes out.new ≡ string_bytes out.old ++ commission_text commission.now) }
+    ensures { OnOk result (string_bytes out.new ≡ string_bytes out.old ++ commission_text address mode) }
 {
-    let address = commission.address;
-    out.push_str("meter ")?;
-    push_bytes(alloc, out, address.to_bytes().as_slice())?;
+    push_labelled_bytes(alloc, out, "meter ", &address.to_bytes())?;
     out.push_str(" ")?;
     push_letters(out, address)?;
     out.push_str(" mode ")?;
-    out.push_str(mode_digit(commission.mode))
+    out.push_str(mode_digit(mode))?;
+    Ok(())
 }
 
 #[tactic(auto, unfolding(crate::specs::Report::numbers_text))]
@@ -168,14 +207,16 @@ fn push_numbers(
     last: Option<u32>,
     down: u32,
     steps: usize,
+    readings: usize,
 ) -> Result<(), AllocError>
-    ensures { OnOk result (string_bytes out.new ≡ string_bytes out.old ++ numbers_text last down steps) }
+    ensures { OnOk result (string_bytes out.new ≡ string_bytes out.old ++ numbers_text last down steps readings) }
 {
     out.push_str(" last ")?;
     push_optional(out, last)?;
-    push_labelled(out, " down ", down as usize)?;
-    push_labelled(out, " steps ", steps)?;
-    out.push_str(" readings 0\n")?;
+    push_labelled(out, " down ", down as u64)?;
+    push_labelled(out, " steps ", steps as u64)?;
+    push_labelled(out, " readings ", readings as u64)?;
+    out.push_str("\n")?;
     Ok(())
 }
 
@@ -183,11 +224,12 @@ fn push_numbers(
 fn push_meter(alloc: Global, out: &mut String, slot: &SlotBook) -> Result<(), AllocError>
     ensures { OnOk result (string_bytes out.new ≡ string_bytes out.old ++ meter_text slot.now) }
 {
-    let commission = slot.opening();
+    let now = slot.commission();
     let journal = slot.journal();
-    push_commission(alloc, out, &commission)?;
-    push_numbers(out, commission.last, commission.down, journal.len())?;
-    push_steps(alloc, out, journal)?;
+    let readings = slot.readings();
+    push_commission(alloc, out, now.address, now.mode)?;
+    push_numbers(out, now.last, now.down, journal.len(), readings.len())?;
+    push_journal(alloc, out, readings, journal, slot.queue())?;
     Ok(())
 }
 
@@ -200,25 +242,69 @@ fn push_meters(alloc: Global, out: &mut String, slots: &[SlotBook]) -> Result<()
     Ok(())
 }
 
+#[tactic(auto, unfolding(crate::specs::Report::stranger_text))]
+fn push_stranger(out: &mut String, stranger: &Heard) -> Result<(), AllocError>
+    ensures { OnOk result (string_bytes out.new ≡ string_bytes out.old ++ stranger_text stranger.now) }
+{
+    push_labelled_two(out, "stranger ", u64::from(stranger.source), u64::from(stranger.line))?;
+    out.push_str("\n")?;
+    Ok(())
+}
+
 fn push_heard(out: &mut String, heard: &[Heard]) -> Result<(), AllocError>
     ensures { OnOk result (string_bytes out.new ≡ string_bytes out.old ++ flat_map stranger_text heard.now) }
 {
     for stranger in heard {
-        let source = stranger.source;
-        let line = stranger.line;
-        write!(out, "stranger {source} {line}\n")?;
+        push_stranger(out, stranger)?;
+    }
+    Ok(())
+}
+
+#[tactic(auto, unfolding(crate::specs::Report::ring_text))]
+fn push_address(alloc: Global, out: &mut String, address: Address) -> Result<(), AllocError>
+    ensures { OnOk result (string_bytes out.new ≡ string_bytes out.old ++ ring_text address) }
+{
+    push_labelled_bytes(alloc, out, "ring ", &address.to_bytes())?;
+    out.push_str("\n")?;
+    Ok(())
+}
+
+fn push_address_if(
+    alloc: Global,
+    out: &mut String,
+    address: Option<Address>,
+) -> Result<(), AllocError>
+    ensures { OnOk result (string_bytes out.new ≡ string_bytes out.old ++ text_if ring_text address) }
+{
+    match address {
+        None => out.push_str(""),
+        Some(address) => push_address(alloc, out, address),
+    }
+}
+
+fn push_ring(alloc: Global, out: &mut String, strangers: &Strangers) -> Result<(), AllocError>
+    ensures { OnOk result (string_bytes out.new ≡ string_bytes out.old ++ flat_map ring_text (ring_of strangers.now)) }
+{
+    for place in 0..strangers.ring_len() {
+        push_address_if(alloc, out, strangers.ring_at(place))?;
     }
     Ok(())
 }
 
 #[tactic(auto, unfolding(crate::specs::Report::strangers_text))]
-fn push_strangers(out: &mut String, strangers: &Strangers) -> Result<(), AllocError>
+fn push_strangers(
+    alloc: Global,
+    out: &mut String,
+    strangers: &Strangers,
+) -> Result<(), AllocError>
     ensures { OnOk result (string_bytes out.new ≡ string_bytes out.old ++ strangers_text strangers.now) }
 {
     let heard = strangers.heard();
-    let count = heard.len();
-    write!(out, "strangers {count}\n")?;
-    push_heard(out, heard)
+    push_labelled(out, "strangers ", heard.len() as u64)?;
+    out.push_str("\n")?;
+    push_heard(out, heard)?;
+    push_ring(alloc, out, strangers)?;
+    Ok(())
 }
 
 /// The report of a session of one receiver.
@@ -234,7 +320,7 @@ pub(crate) fn make_report(
     let mut out = String::from_str(alloc, "wmbus-report 1\n")?;
     push_receiver(&mut out, 1, counts, ended)?;
     push_meters(alloc, &mut out, world.slots())?;
-    push_strangers(&mut out, world.strangers())?;
+    push_strangers(alloc, &mut out, world.strangers())?;
     out.push_str("end\n")?;
     Ok(out)
 }

@@ -1,2 +1,3 @@
 pub mod Downlink
 pub mod Sent
+pub mod Laws

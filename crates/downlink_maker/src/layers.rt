@@ -1,6 +1,7 @@
 //! The layers in front of a downlink's message.
-ghost use Rattle.std.specs.Prelude.{◌≡◌, ◌≤◌};
-ghost use Rattle.downlink_maker.specs.Downlink.{identification_of, link_bytes, authentication_bytes, header_bytes};
+ghost use Rattle.std.specs.Prelude.{◌≡◌, ◌≤◌, ◌++◌, ℕ, List, Ok};
+ghost use Rattle.afl_layer.specs.Header.{afl_at};
+ghost use Rattle.downlink_maker.specs.Downlink.{identification_of, link_bytes, authentication_bytes, authentication_of, header_bytes};
 
 use afl_layer::{Afl, write_afl};
 use meter_address::Address;
@@ -30,7 +31,8 @@ pub(crate) fn link_layer(own: Address, blocks: u8) -> [u8; 10]
 
 // The authentication and fragmentation layer.
 pub(crate) fn authentication_layer(down: u32, mac: [u8; 8]) -> [u8; 17]
-    ensures { result ≡ authentication_bytes down mac }
+    ensures exact { result ≡ authentication_bytes down mac }
+    ensures again { (rest : List ℕ) → afl_at (result ++ rest) ≡ Ok (authentication_of down mac) }
 {
     let afl = Afl {
         more: false,

@@ -3,9 +3,14 @@
 #![tactic(auto)]
 
 mod downlink;
+mod laws;
 mod layers;
 mod making;
 mod message;
 
 pub use downlink::{DOWNLINK_MAX, Downlink};
+pub use laws::content_is_read_back;
 pub use making::make_downlink;
+
+#[cfg(test)]
+mod tests;

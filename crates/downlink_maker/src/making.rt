@@ -1,7 +1,8 @@
 //! Making a downlink.
-ghost use Rattle.std.specs.Prelude.{◌≡◌, ◌+◌, ◌*◌, ◌≤◌, ◌++◌, length, take};
+ghost use Rattle.std.specs.Prelude.{◌≡◌, ◌+◌, ◌*◌, ◌≤◌, ◌++◌, length, take, drop, Ok};
 ghost use Rattle.frame_formats.specs.Frames.{IsTelegram, FrameA};
-ghost use Rattle.downlink_maker.specs.Downlink.{telegram_to, downlink};
+ghost use Rattle.afl_layer.specs.Header.{afl_at};
+ghost use Rattle.downlink_maker.specs.Downlink.{telegram_to, downlink, mac_of, authentication_of};
 
 use crate::downlink::{DOWNLINK_MAX, Downlink};
 use crate::layers::{authentication_layer, link_layer, transport_header};
@@ -37,6 +38,7 @@ fn joined(link: &[u8], authentication: &[u8], header: &[u8], content: &[u8]) -> 
 fn telegram(own: Address, commission: &Commission, down: u32, payload: &Payload) -> Telegram
     ensures exact { result ≡ telegram_to own commission.now down payload.now }
     ensures most { length result ≤ 137 }
+    ensures authentication { afl_at (drop 10 result) ≡ Ok (authentication_of down (mac_of commission.now down payload.now)) }
 {
     let payload = payload.bytes();
     let blocks = block_count(payload);
@@ -59,6 +61,10 @@ pub fn make_downlink(
 ) -> Downlink
     ensures bytes { result.bytes ≡ downlink own commission.now down payload.now }
     ensures frame { FrameA result.bytes (telegram_to own commission.now down payload.now) }
+
+    // The layer behind the address is read back: the counter, and the MAC of the message.
+    ensures authentication { afl_at (drop 10 (telegram_to own commission.now down payload.now))
+        ≡ Ok (authentication_of down (mac_of commission.now down payload.now)) }
     ensures id { result.id ≡ id }
     ensures down { result.down ≡ down }
 {

@@ -116,10 +116,6 @@ pub fn open5(
     // An access number is one byte.
     ensures number { IfOk result (λ o. o.counter < 2 ^ 8) }
 
-    // An access number is one byte, and a message that is opened keeps its length.
-    ensures number { IfOk result (λ o. o.counter < 2 ^ 8) }
-    ensures len { OnOk result (length message.new ≡ length message.old) }
-
     // A refused message is emptied.
     ensures refused { IfErr result (λ r. opened5_after last commission.now message.old ≡ Err r) }
     ensures emptied { OnErr result (message.new ≡ []) }

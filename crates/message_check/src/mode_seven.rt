@@ -55,7 +55,6 @@ fn open_message(
 ) -> Result<Opened, Reason>
     ensures opened { IfOk result (λ o. opened7_after last commission.now auth.now message.old ≡ Ok (found_in message.new o)) }
     ensures within { IfOk result (λ o. o.from ≤ length message.new) }
-    ensures len { length message.new ≡ length message.old }
     ensures refused { IfErr result (λ r. opened7_after last commission.now auth.now message.old ≡ Err r) }
 {
     let tpl = read_header_for(commission.address, 7, message)?;
@@ -88,9 +87,6 @@ pub fn open7(
     ensures opened { IfOk result (λ o. opened7_after last commission.now auth.now message.old ≡ Ok (found_in message.new o)) }
     ensures within { IfOk result (λ o. o.from ≤ length message.new) }
     ensures same_len { OnOk result (length message.new ≡ length message.old) }
-
-    // A message that is opened keeps its length.
-    ensures len { OnOk result (length message.new ≡ length message.old) }
 
     // A refused message is emptied.
     ensures refused { IfErr result (λ r. opened7_after last commission.now auth.now message.old ≡ Err r) }

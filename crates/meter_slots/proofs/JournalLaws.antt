@@ -16,9 +16,9 @@ use Rattle.command_queue.specs.declared.command.NoSuch.{NoSuch}
 use Rattle.command_queue.specs.declared.command.QueueFault.{QueueFault}
 use Rattle.command_queue.specs.declared.command.QueueFault.TheVariants.{Full, IdsSpent}
 use Rattle.command_queue.specs.Pending.{put_answer, take_answer, with_command, with_command_by}
-use Rattle.access_window.specs.Orders.{Orders, after_put, after_cancel}
+use Rattle.access_window.specs.Orders.{Orders, after_cancel}
 use Rattle.access_window.proofs.Agreement.{cancel_refused}
-use Rattle.afl_fragments.specs.Held.{Told, Message}
+use Rattle.afl_fragments.specs.Held.{Message}
 use Rattle.message_check.specs.Steps.{◌>>=◌}
 use Rattle.message_check.specs.Opening.{Found, compared7}
 use Rattle.message_check.specs.declared.refusal.Reason.{Reason}
@@ -29,7 +29,7 @@ use Rattle.meter_slots.specs.declared.entry.Event.TheVariants.{Hear, Tick, Put, 
 use Rattle.meter_slots.specs.declared.entry.Outcome.{Outcome}
 use Rattle.meter_slots.specs.declared.entry.Outcome.TheVariants.{Stored, PartKept, Ticked, Queued, Cancelled, Refused}
 use Rattle.meter_slots.specs.Hearing.{received, brought}
-use Rattle.meter_slots.specs.Journal.{Book, Standing, standing, told, opened_in, compared, genuine_in, genuine, counters, greater, greatest, last_of, last_counter, stored_or_refused, judged, verdict, access_at, orders_heard, orders_after, orders, heard, queued, cancelled, answer, outcome, IsJudged, Legal, stored_in, stored, reading_at, reading_of, readings}
+use Rattle.meter_slots.specs.Journal.{Standing, standing, told, opened_in, compared, genuine_in, genuine, counters, greater, greatest, last_of, last_counter, stored_or_refused, judged, verdict, access_at, orders_heard, orders_after, orders, heard, queued, cancelled, answer, outcome, IsJudged, Legal, stored_in, stored, reading_at, reading_of, readings}
 use Rattle.meter_slots.specs.Keeping.{last_after}
 use Rattle.meter_slots.specs.World.{Call, judged_journal, journal_of}
 use Rattle.meter_slots.specs.Laws.{stored_counter, stored_counters, IsAbove, IsRising, AreBelow, IsRefused, IsLeft, call_in}

@@ -11,7 +11,7 @@ use Rattle.afl_fragments.specs.declared.places.HeldPart.{HeldPart}
 use Rattle.afl_fragments.specs.Fragment.{is_fragment, IsFragment}
 use Rattle.afl_fragments.specs.Held.{Told, Clear, StandsFor, Message, held_bytes}
 use Rattle.message_check.specs.Opening.{Found}
-use Rattle.message_check.specs.Answers.{found_in}
+use Rattle.message_check.specs.Opened.{found_in}
 use Rattle.message_check.specs.declared.opening.Opened.{Opened}
 use Rattle.message_check.specs.declared.refusal.Reason.{Reason}
 use Rattle.meter_slots.specs.Journal.{Legal, last_counter, told, orders, readings}

@@ -3,7 +3,7 @@ ghost use Rattle.std.specs.Prelude.{◌≡◌, ◌+◌, ◌≤◌, ◌<◌, ◌^
 ghost use Rattle.meter_address.specs.Commission.{most_last};
 ghost use Rattle.afl_fragments.specs.Fragment.{is_fragment};
 ghost use Rattle.afl_fragments.specs.Held.{Told, Piece, StandsFor, assembled, held, held_bytes};
-ghost use Rattle.message_check.specs.Answers.{found_in};
+ghost use Rattle.message_check.specs.Opened.{found_in};
 ghost use Rattle.message_check.specs.Layers.{IsLayers, layers_of};
 ghost use Rattle.message_check.specs.declared.headers.Layers.{Layers};
 ghost use Rattle.meter_slots.specs.Hearing.{is_uplink, is_response, uplink_passed, layers_passed, number_passed, fragment_passed, received, auth_in, content_of, message_in, brought};

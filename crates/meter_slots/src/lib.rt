@@ -23,3 +23,6 @@ pub use reading::{Bytes, Reading};
 pub use step::{Landed, Step};
 pub use telling::event_of;
 pub use world::World;
+
+#[cfg(test)]
+mod tests;

@@ -1,7 +1,17 @@
-use Rattle.std.proofs.Common.{◌∙◌, arith}
-use Rattle.downlink_maker.proofs.Rows.{afl_bytes-layer_of}
+use Rattle.std.proofs.Common.{◌≡◌, ℕ, List, ◌++◌, Ok, refl, ap, ◌∙◌, arith, length-append}
+use Rattle.afl_layer.specs.Header.{IsPlaced, afl_at}
+use Rattle.downlink_maker.specs.Downlink.{authentication_of}
+use Rattle.downlink_maker.proofs.Rows.{afl_bytes-authentication_of}
 use Rattle.downlink_maker.proofs.layers.authentication_layer.Goals as goal
 
-pub returns : goal.returns
-returns c =
-    c.copy_from_slice.ensures.after ∙ c.write_afl-len.ensures.spelt ∙ afl_bytes-layer_of c.args.down c.args.mac (omega arith)
+pub returns-clause-exact : goal.returns-clause-exact
+returns-clause-exact c =
+    c.copy_from_slice.ensures.after ∙ c.write_afl-len.ensures.spelt ∙ afl_bytes-authentication_of c.args.down c.args.mac (omega arith)
+
+pub returns-clause-again : goal.returns-clause-again
+returns-clause-again c =
+    let placed : IsPlaced (authentication_of c.args.down c.args.mac) = record { fields = refl; fid = refl } in
+    let count : c.write_afl-len.result ≡ 17 = omega (arith, length-append {A = ℕ}) in
+    λ rest. ap (λ (text : List ℕ). afl_at (text ++ rest)) c.copy_from_slice.ensures.after
+    ∙ c.write_afl-len.ensures.again placed rest
+    ∙ ap (λ (n : ℕ). Ok (record (authentication_of c.args.down c.args.mac) { len = n })) count

@@ -1,0 +1,306 @@
+use super::*;
+use access_window::Window;
+use line_reader::read_line;
+use meter_address::{Address, Commission, Mode};
+use std::process::Abort;
+use std::test::Fail;
+
+const GAS: u64 = 0x9315_7856_3412_3303;
+
+const GAS_KEY: u128 = 0x0102_0304_0506_0708_090a_0b0c_0d0e_0f11;
+
+const HEAT: u64 = 0x9315_0102_0304_0107;
+
+const HEAT_KEY: u128 = 0x0001_0203_0405_0607_0809_0a0b_0c0d_0e0f;
+
+// An outcome: a stored counter, the confirmed id and the counter of the downlink; a fragment; a tick and the expired id; an id.
+#[derive(Clone, Copy, Debug, PartialEq, Eq)]
+enum Answer {
+    Stored(u32, Option<u32>, Option<u32>),
+    Part,
+    Ticked(Option<u32>),
+    Queued(u32),
+    Cancelled(u32),
+    Refused(Reason),
+}
+
+fn down_of(sent: &Option<Downlink>) -> Option<u32> {
+    match sent {
+        None => None,
+        Some(downlink) => Some(downlink.down()),
+    }
+}
+
+fn shown(outcome: &Outcome) -> Answer {
+    match outcome {
+        Outcome::Stored {
+            counter,
+            confirmed,
+            sent,
+        } => Answer::Stored(*counter, *confirmed, down_of(sent)),
+        Outcome::PartKept => Answer::Part,
+        Outcome::Ticked { expired } => Answer::Ticked(*expired),
+        Outcome::Queued(id) => Answer::Queued(*id),
+        Outcome::Cancelled(id) => Answer::Cancelled(*id),
+        Outcome::Refused(reason) => Answer::Refused(*reason),
+    }
+}
+
+fn commission(address: u64, mode: Mode, key: u128) -> Commission {
+    Commission {
+        address: Address(address),
+        mode,
+        key: key.to_be_bytes(),
+        last: None,
+        down: 0,
+        ids: 0,
+    }
+}
+
+// Steps a slot by these lines, each for the slot's meter.
+fn step_all(
+    rt: &impl Abort,
+    slot: &mut SlotBook,
+    meter: u64,
+    lines: &[(&str, Answer)],
+) -> Result<(), Fail> {
+    for (text, wanted) in lines {
+        let line = read_line(text.as_bytes())?;
+        let (address, event) = event_of(&line)?;
+        assert_eq!(rt; address, Address(meter), "{text}");
+        let outcome = slot.step(1, 1, event)?;
+        assert_eq!(rt; shown(&outcome), *wanted, "{text}");
+    }
+    Ok(())
+}
+
+// The published telegram of the gas meter, the same message under other access numbers, and telegrams that are refused.
+const GAS_LINES: [(&str, Answer); 7] = [
+    (
+        "A 100 2e44931578563412330333637a2a0020055923c95aaa26d1b2e7493b2a8b013ec4a6f6d3529b520edff0ea6defc955b29d6d69ebf3ec8a",
+        Answer::Stored(42, None, None),
+    ),
+    (
+        "A 100 2e44931578563412330333637a2a0020055923c95aaa26d1b2e7493b2a8b013ec4a6f6d3529b520edff0ea6defc955b29d6d69ebf3ec8a",
+        Answer::Refused(Reason::SameAccess(42)),
+    ),
+    (
+        "A 100 2e44931578563412330333637a2b00200529163f2808666465b931e9067087f7d5077f79b2f2d901531d9b4f8562d3a45806088d6f504b",
+        Answer::Stored(43, None, None),
+    ),
+    (
+        "A 100 2e44931578563412330333637a2a0020055923c95aaa26d1b2e7493b2a8b013ec4a6f6d3529b520edff0ea6defc955b29d6d69ebf3ec8a",
+        Answer::Stored(42, None, None),
+    ),
+    (
+        "A 100 2e44931578563412330333637a2c0000054c9df9f6adb884af48011359c8db1f092280c646f748ea635596622bab589cdb20c07eda3342",
+        Answer::Refused(Reason::Unchecked),
+    ),
+    (
+        "A 100 2d4493157856341233037fd67a2c0020054c9df9f6adb884af480113f044db1f092280c646f748ea635596622bab589cdb20c07e199f",
+        Answer::Refused(Reason::ShortBlocks { want: 32, have: 31 }),
+    ),
+    (
+        "A 100 0e449315785634123303f33890021140003a30",
+        Answer::Refused(Reason::PartInMode5),
+    ),
+];
+
+// Messages of the heat meter with these counters, and telegrams that are refused.
+const COUNTER_LINES: [(&str, Answer); 10] = [
+    (
+        "A 100 30449315010203040107b178900f002c25060000007eab1dc0daecc2f08d107a0100100710f398085db061b2b55477854516c4272984d3f0ef",
+        Answer::Stored(6, None, None),
+    ),
+    (
+        "A 100 30449315010203040107b178900f002c250500000070e9657d1ed61163fb587a010010071079f0dc80708ec46fba58a2f74d0582fe3496c881",
+        Answer::Refused(Reason::Stale { got: 5, last: 6 }),
+    ),
+    (
+        "A 100 30449315010203040107b178900f002c25060000007eab1dc0daecc2f08d107a0100100710f398085db061b2b55477854516c4272984d3f0ef",
+        Answer::Refused(Reason::Stale { got: 6, last: 6 }),
+    ),
+    (
+        "A 100 30449315010203040107b178900f002c250500000071e9657d1ed61191c4587a010010071079f0dc80708ec46fba58a2f74d0582fe3496c881",
+        Answer::Refused(Reason::BadMac),
+    ),
+    (
+        "A 100 1f44931501020304010732277a010010071079f0dc80708ec46fbaf775154d0582fe3496c1fb",
+        Answer::Refused(Reason::NoAuth),
+    ),
+    (
+        "A 100 30449315010203040107b178900f002c25070000001fb358697bce564539277a0100100720ba3df578a536e48a8c95aec3223b5ce9991a48cd",
+        Answer::Refused(Reason::Kdf(2)),
+    ),
+    (
+        "A 100 3040931501020304010788f2900f002c25070000001369e83fd7d8bf7b86eb7a0100100710ba3df578a536e48a8cfbb4c3223b5ce9991a48cd",
+        Answer::Refused(Reason::NotUplink(0x40)),
+    ),
+    (
+        "A 100 30449315010203040107b178900f002c25070000001369e83fd7d8bf7b86eb7a0100100710ba3df578a536e48a8cfbb4c3223b5ce9991a48cd",
+        Answer::Stored(7, None, None),
+    ),
+    (
+        "A 100 30449315010203040107b178900f002c25ffffffff95fe6c414e63335beb9d7a01001007102b61a10355912f79aa1b4aab7471f9fd90a0b513",
+        Answer::Stored(4294967295, None, None),
+    ),
+    (
+        "A 100 30449315010203040107b178900f002c250800000044be55dccc54b537fbb57a0100100710e50cd21ef5cd1c2a5f0517710decfe5e405e6555",
+        Answer::Refused(Reason::Stale {
+            got: 8,
+            last: 4294967295,
+        }),
+    ),
+];
+
+// Messages of the heat meter in three fragments.
+const PART_LINES: [(&str, Answer); 18] = [
+    (
+        "A 100 1b449315010203040107dc6b900a030444be55dccc54b5b50decfe5ec2ed405eadfd",
+        Answer::Part,
+    ),
+    (
+        "A 100 1b449315010203040107dc6b900a030444be55dccc54b5b50decfe5ec2ed405eadfd",
+        Answer::Part,
+    ),
+    (
+        "A 100 1a449315010203040107e7f89007016825080000007a0100100710e5b7260cdc26",
+        Answer::Part,
+    ),
+    (
+        "A 100 1a449315010203040107e7f89007016825080000007a0100100710e5b7260cdc26",
+        Answer::Part,
+    ),
+    (
+        "A 100 15449315010203040107a4fc90020240d21ef5cd1c2a5f71ea94",
+        Answer::Stored(8, None, None),
+    ),
+    (
+        "A 100 15449315010203040107a4fc90020240d21ef5cd1c2a5f71ea94",
+        Answer::Part,
+    ),
+    (
+        "A 100 0e449315010203040107f72b90021140003a30",
+        Answer::Refused(Reason::TooManyParts(17)),
+    ),
+    ("T 9315010203040107", Answer::Ticked(None)),
+    ("T 9315010203040107", Answer::Ticked(None)),
+    (
+        "A 100 1a449315010203040107e7f89007016825090000007a0100100710d7cf0e6cff8b",
+        Answer::Part,
+    ),
+    (
+        "A 100 15449315010203040107a4fc90020240f2d4e79c0a245fad4d9d",
+        Answer::Part,
+    ),
+    (
+        "A 100 1b449315010203040107dc6b900a0304b4c8837383214e67bc76f499987ec653818e",
+        Answer::Refused(Reason::BadMac),
+    ),
+    (
+        "A 100 15449315010203040107a4fc90020240f3d4e79c0a245fadc069",
+        Answer::Stored(9, None, None),
+    ),
+    (
+        "A 100 1a449315010203040107e7f890070168250a0000007a0100100710b3b2d8cee1b6",
+        Answer::Part,
+    ),
+    (
+        "A 100 15449315010203040107a4fc90020240adc5d95580a19a97953a",
+        Answer::Part,
+    ),
+    ("T 9315010203040107", Answer::Ticked(None)),
+    ("T 9315010203040107", Answer::Ticked(None)),
+    (
+        "A 100 1b449315010203040107dc6b900a03044bbc5c724465f818d1ddc0d4aca1ee7ffbdb",
+        Answer::Part,
+    ),
+];
+
+// Commands for the heat meter, and its messages.
+const COMMAND_LINES: [(&str, Answer); 15] = [
+    ("Q 9315010203040107 01", Answer::Queued(1)),
+    (
+        "A 100 30449315010203040107b178900f002c2501000000bf60473154d1f007da447a0100100710adb77dfd4c277cf681f77dc583beeb00899da35d",
+        Answer::Stored(1, None, None),
+    ),
+    (
+        "A 100 33449315010203040107fdcd8c8001900f002c25020000007e57ee18f1f9f34dd5ec7a0100100710f382a1c03fa63b315a7246a96e7d5122289a82ce",
+        Answer::Stored(2, None, Some(1)),
+    ),
+    (
+        "A 100 33449315010203040107fdcd8c8401900f002c25030000005958d10fd65691eec7b17a01001007106c8980122f0020b07d776c183dbaefda5b429771",
+        Answer::Stored(3, None, None),
+    ),
+    ("T 9315010203040107", Answer::Ticked(None)),
+    (
+        "A 100 33449315010203040107fdcd8c8001900f002c250400000020c6b9ae3eac520e0ae67a01001007107df736f93c61b463da56a84d08eaf8a5a5a05f2c",
+        Answer::Stored(4, None, Some(2)),
+    ),
+    ("T 9315010203040107", Answer::Ticked(None)),
+    (
+        "A 100 33449315010203040107fdcd8c8001900f002c250500000070e9657d65b01ed611587a010010071079f0dc80708e67a3c46fbaf74d0582fe3496daaa",
+        Answer::Stored(5, None, Some(3)),
+    ),
+    ("T 9315010203040107", Answer::Ticked(Some(1))),
+    ("Q 9315010203040107 02", Answer::Queued(2)),
+    (
+        "A 100 33449315010203040107fdcd8c8401900f002c25060000007eab1dc0111cdaecc2107a0100100710f398085db0611c31b2b5544516c4272984d3a2d1",
+        Answer::Stored(6, None, Some(4)),
+    ),
+    (
+        "A 100 33089315010203040107685c8c0001900f002c25070000001369e83f0b6ed7d8bfeb7a0100100710ba3df578a53639bbe48a8cc3223b5ce9991aee26",
+        Answer::Stored(7, Some(2), None),
+    ),
+    ("X 9315010203040107 9", Answer::Refused(Reason::NoSuch(9))),
+    ("Q 9315010203040107 03", Answer::Queued(3)),
+    ("X 9315010203040107 3", Answer::Cancelled(3)),
+];
+
+#[test]
+fn messages_of_mode_5(rt: HostRuntime) -> Result<(), Fail> {
+    let meter = commission(GAS, Mode::Five, GAS_KEY);
+    let mut slot = SlotBook::new(rt.alloc(), Address(1), meter);
+    step_all(&rt, &mut slot, GAS, &GAS_LINES)?;
+    let readings = slot.readings();
+    assert_eq!(rt; readings.len(), 3);
+    let payload = hex::decode(
+        rt.alloc(),
+        "2f2f0c1427048502046d32371f1502fd1700002f2f2f2f2f2f2f2f2f2f2f2f2f",
+    )?;
+    assert_eq!(rt; readings[0].at, 100);
+    assert_eq!(rt; readings[0].payload.bytes(), payload.as_slice());
+    assert_eq!(rt; slot.commission().last, Some(42));
+    Ok(())
+}
+
+#[test]
+fn messages_of_mode_7(rt: HostRuntime) -> Result<(), Fail> {
+    let meter = commission(HEAT, Mode::Seven, HEAT_KEY);
+    let mut slot = SlotBook::new(rt.alloc(), Address(1), meter);
+    step_all(&rt, &mut slot, HEAT, &COUNTER_LINES)?;
+    assert_eq!(rt; slot.readings().len(), 3);
+    assert_eq!(rt; slot.journal().len(), COUNTER_LINES.len());
+    Ok(())
+}
+
+#[test]
+fn messages_in_fragments(rt: HostRuntime) -> Result<(), Fail> {
+    let meter = commission(HEAT, Mode::Seven, HEAT_KEY);
+    let mut slot = SlotBook::new(rt.alloc(), Address(1), meter);
+    step_all(&rt, &mut slot, HEAT, &PART_LINES)?;
+    assert_eq!(rt; slot.readings().len(), 2);
+    Ok(())
+}
+
+#[test]
+fn commands_of_a_meter(rt: HostRuntime) -> Result<(), Fail> {
+    let meter = commission(HEAT, Mode::Seven, HEAT_KEY);
+    let mut slot = SlotBook::new(rt.alloc(), Address(0x9315_0100_0000_0131), meter);
+    step_all(&rt, &mut slot, HEAT, &COMMAND_LINES)?;
+    assert_eq!(rt; slot.window(), Window::Idle);
+    assert_eq!(rt; slot.queue().pending(), 0);
+    let now = slot.commission();
+    assert_eq!(rt; (now.last, now.down, now.ids), (Some(7), 4, 3));
+    Ok(())
+}
