@@ -124,7 +124,12 @@ fn push_last(alloc: Global, out: &mut String, readings: &[Reading]) -> Result<()
 fn push_command(out: &mut String, command: &Command) -> Result<(), AllocError>
     ensures { OnOk result (string_bytes out.new ≡ string_bytes out.old ++ pending_text command.now) }
 {
-    push_labelled_two(out, "pending ", u64::from(command.id), u64::from(command.tries))?;
+    push_labelled_two(
+        out,
+        "pending ",
+        u64::from(command.id),
+        u64::from(command.tries),
+    )?;
     out.push_str("\n")?;
     Ok(())
 }
@@ -246,7 +251,12 @@ fn push_meters(alloc: Global, out: &mut String, slots: &[SlotBook]) -> Result<()
 fn push_stranger(out: &mut String, stranger: &Heard) -> Result<(), AllocError>
     ensures { OnOk result (string_bytes out.new ≡ string_bytes out.old ++ stranger_text stranger.now) }
 {
-    push_labelled_two(out, "stranger ", u64::from(stranger.source), u64::from(stranger.line))?;
+    push_labelled_two(
+        out,
+        "stranger ",
+        u64::from(stranger.source),
+        u64::from(stranger.line),
+    )?;
     out.push_str("\n")?;
     Ok(())
 }
@@ -292,11 +302,7 @@ fn push_ring(alloc: Global, out: &mut String, strangers: &Strangers) -> Result<(
 }
 
 #[tactic(auto, unfolding(crate::specs::Report::strangers_text))]
-fn push_strangers(
-    alloc: Global,
-    out: &mut String,
-    strangers: &Strangers,
-) -> Result<(), AllocError>
+fn push_strangers(alloc: Global, out: &mut String, strangers: &Strangers) -> Result<(), AllocError>
     ensures { OnOk result (string_bytes out.new ≡ string_bytes out.old ++ strangers_text strangers.now) }
 {
     let heard = strangers.heard();
