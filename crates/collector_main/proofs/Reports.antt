@@ -2,7 +2,7 @@
 use Rattle.std.proofs.Common.{◌≡◌, ℕ, List, Result, Ok, ap, subst, ◌∙◌}
 use Rattle.meter_slots.specs.declared.counts.Counts.{Counts}
 use Rattle.meter_slots.specs.declared.counts.Ended.{Ended}
-use Rattle.meter_slots.specs.World.{WorldView, world_of}
+use Rattle.meter_slots.specs.World.{WorldView}
 use Rattle.roster_file.specs.Roster.{Enrolled}
 use Rattle.roster_file.specs.declared.roster.RosterFault.{RosterFault}
 use Rattle.collector_main.specs.Report.{report_text}

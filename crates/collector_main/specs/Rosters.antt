@@ -1,5 +1,5 @@
 -- Words of private contracts: rosters that are read from a source.
-use Rattle.std.specs.Prelude.{ℕ, ◌≡◌, ◌<◌, ◌≤◌, ◌^◌, Bool, List, length, map, Err, IsTrue}
+use Rattle.std.specs.Prelude.{ℕ, ◌≡◌, ◌<◌, ◌^◌, Bool, List, length, map, Err, IsTrue}
 use Rattle.outer_io.specs.Faults.{Rose}
 use Rattle.meter_slots.specs.Directory.{AreApart}
 use Rattle.roster_file.specs.Roster.{Enrolled, roster_of}

@@ -20,3 +20,6 @@ pub use session::hear_session;
 pub use status::Status;
 pub use told::{Told, tell};
 pub use top::run;
+
+#[cfg(test)]
+mod tests;

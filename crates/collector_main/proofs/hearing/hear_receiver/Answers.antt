@@ -1,4 +1,4 @@
-use Rattle.std.proofs.Common.{◌≡◌, ◌-◌, ◌^◌, ◌<◌, ◌∙◌, sym, refl, subst, arith, length}
+use Rattle.std.proofs.Common.{◌-◌, ◌^◌, ◌<◌, ◌∙◌, sym, refl, subst, arith, length}
 use Rattle.std.proofs.lemmas.List.{length-take}
 use Rattle.line_reader.specs.Lines.{all_lines}
 use Rattle.line_reader.specs.Reader.{given}

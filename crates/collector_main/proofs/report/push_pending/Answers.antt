@@ -1,4 +1,3 @@
-use Rattle.std.proofs.Common.{◌≡◌}
 use Rattle.std.specs.String.{string_bytes}
 use Rattle.collector_main.specs.Report.{pending_text}
 use Rattle.collector_main.proofs.Texts.{one_more}

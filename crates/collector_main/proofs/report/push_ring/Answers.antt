@@ -1,4 +1,3 @@
-use Rattle.std.proofs.Common.{◌≡◌}
 use Rattle.std.specs.String.{string_bytes}
 use Rattle.stranger_ring.specs.Ring.{ring_of}
 use Rattle.collector_main.specs.Report.{ring_text}
