@@ -29,11 +29,21 @@ then {P} {takes} {p} {q} {r} {text} {more} first second = record { calls = recor
   calls = folds_then takes p q r first.calls.parts second.calls.parts first.calls.calls second.calls.calls;
   whole = joined first.calls.parts second.calls.parts text more first.calls.whole second.calls.whole } }
 
-pub three : {P : Type 0} {takes : P → List ℕ → P → Type 0} {p q r s : P} {a b c : List ℕ} → Puts takes p a q → Puts takes q b r → Puts takes r c s → Puts takes p (a ++ b ++ c) s
-three one two rest = then (then one two) rest
+-- a text in two pieces, and in more
+pub two_make : {P : Type 0} {takes : P → List ℕ → P → Type 0} {p q r : P} {a b : List ℕ} (whole : List ℕ) → Puts takes p a q → Puts takes q b r → whole ≡ a ++ b → Puts takes p whole r
+two_make whole one two e = rw e (then one two)
 
-pub four : {P : Type 0} {takes : P → List ℕ → P → Type 0} {p q r s t : P} {a b c d : List ℕ} → Puts takes p a q → Puts takes q b r → Puts takes r c s → Puts takes s d t → Puts takes p (a ++ b ++ c ++ d) t
-four one two three' rest = then (three one two three') rest
+pub three_make : {P : Type 0} {takes : P → List ℕ → P → Type 0} {p q r s : P} {a b c : List ℕ} (whole : List ℕ) → Puts takes p a q → Puts takes q b r → Puts takes r c s → whole ≡ a ++ b ++ c → Puts takes p whole s
+three_make whole one two three e = two_make whole (then one two) three e
 
-pub five : {P : Type 0} {takes : P → List ℕ → P → Type 0} {p q r s t u : P} {a b c d e : List ℕ} → Puts takes p a q → Puts takes q b r → Puts takes r c s → Puts takes s d t → Puts takes t e u → Puts takes p (a ++ b ++ c ++ d ++ e) u
-five one two three' four' rest = then (four one two three' four') rest
+pub four_make : {P : Type 0} {takes : P → List ℕ → P → Type 0} {p q r s t : P} {a b c d : List ℕ} (whole : List ℕ) → Puts takes p a q → Puts takes q b r → Puts takes r c s → Puts takes s d t
+    → whole ≡ a ++ b ++ c ++ d → Puts takes p whole t
+four_make whole one two three four e = three_make whole (then one two) three four e
+
+pub five_make : {P : Type 0} {takes : P → List ℕ → P → Type 0} {p q r s t u : P} {a b c d e : List ℕ} (whole : List ℕ) → Puts takes p a q → Puts takes q b r → Puts takes r c s → Puts takes s d t → Puts takes t e u
+    → whole ≡ a ++ b ++ c ++ d ++ e → Puts takes p whole u
+five_make whole one two three four five e = four_make whole (then one two) three four five e
+
+pub six_make : {P : Type 0} {takes : P → List ℕ → P → Type 0} {p q r s t u v : P} {a b c d e f : List ℕ} (whole : List ℕ) → Puts takes p a q → Puts takes q b r → Puts takes r c s → Puts takes s d t → Puts takes t e u → Puts takes u f v
+    → whole ≡ a ++ b ++ c ++ d ++ e ++ f → Puts takes p whole v
+six_make whole one two three four five six e = five_make whole (then one two) three four five six e

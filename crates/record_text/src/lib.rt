@@ -6,8 +6,8 @@ mod listing;
 mod value_text;
 mod words;
 
-pub use listing::push_records;
-pub use value_text::push_hex;
+pub use listing::put_records;
+pub use value_text::put_bytes;
 
 #[cfg(test)]
 mod tests;

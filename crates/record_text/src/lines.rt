@@ -1,16 +1,16 @@
 //! The line of a data record, of manufacturer data and of a fault.
 
-ghost use Rattle.std.specs.Prelude.{◌≡◌, ◌++◌, OnOk};
-ghost use Rattle.std.specs.String.{string_bytes};
+ghost use Rattle.std.specs.Prelude.{◌≡◌, ◌++◌};
+ghost use Rattle.std.specs.Fmt.{decimal};
+ghost use Rattle.paper.specs.Puts.{Puts};
 ghost use Rattle.dif_vif.specs.Spans.{IsSpanOf};
 ghost use Rattle.record_text.specs.Lines.{bytes_at, byte_text, spaced, place_text, unit_text, data_text, record_line, maker_line, span_line, worded, fault_text, fault_line};
 
-use crate::value_text::{push_hex, push_value};
+use crate::value_text::{put_bytes, put_value};
 use crate::words::{function_word, name_word, quantity_word};
 use dif_vif::{RecordFault, RecordSpan};
+use paper::{Paper, put_hex, put_number, put_signed, put_text};
 use record_values::{Unit, Value, unit_of, value_of};
-use std::alloc::{AllocError, Global};
-use std::fmt::Write;
 
 /// So many bytes from a place on, or those of them that there are.
 fn bytes_at(bytes: &[u8], place: usize, count: usize) -> &[u8]
@@ -21,145 +21,129 @@ fn bytes_at(bytes: &[u8], place: usize, count: usize) -> &[u8]
     found
 }
 
-fn push_byte(alloc: Global, out: &mut String, byte: u8) -> Result<(), AllocError>
-    ensures { OnOk result (string_bytes out.new ≡ string_bytes out.old ++ byte_text byte) }
+fn put_byte<P: Paper>(paper: &mut P, byte: u8)
+    ensures { Puts P.takes paper.old (byte_text byte) paper.new }
 {
-    let digits = hex::encode(alloc, &[byte])?;
-    out.push_str(digits.as_str())
+    put_hex(paper, &[byte]);
 }
 
-#[tactic(auto, unfolding(crate::specs::Lines::spaced))]
-fn push_spaced(out: &mut String, number: u64) -> Result<(), AllocError>
-    ensures { OnOk result (string_bytes out.new ≡ string_bytes out.old ++ spaced number) }
+#[tactic(auto, unfolding(crate::specs::Lines::spaced), using(paper::proofs::Calls::two_make))]
+fn put_spaced<P: Paper>(paper: &mut P, number: u64)
+    ensures { Puts P.takes paper.old (spaced number) paper.new }
 {
-    write!(out, " {number}")
+    put_text(paper, " ");
+    put_number(paper, number);
 }
 
-#[tactic(auto, unfolding(crate::specs::Lines::place_text))]
-fn push_place(out: &mut String, span: &RecordSpan) -> Result<(), AllocError>
-    ensures { OnOk result (string_bytes out.new ≡ string_bytes out.old ++ place_text span.now) }
+#[tactic(auto, unfolding(crate::specs::Lines::place_text), using(paper::proofs::Calls::four_make))]
+fn put_place<P: Paper>(paper: &mut P, span: &RecordSpan)
+    ensures { Puts P.takes paper.old (place_text span.now) paper.new }
 {
-    out.push_str(function_word(span.function))?;
-    push_spaced(out, span.storage)?;
-    push_spaced(out, u64::from(span.tariff))?;
-    push_spaced(out, u64::from(span.subunit))?;
-    Ok(())
+    put_text(paper, function_word(span.function));
+    put_spaced(paper, span.storage);
+    put_spaced(paper, u64::from(span.tariff));
+    put_spaced(paper, u64::from(span.subunit));
 }
 
-#[tactic(auto, unfolding(crate::specs::Lines::unit_text))]
-fn push_unit(out: &mut String, unit: Unit) -> Result<(), AllocError>
-    ensures { OnOk result (string_bytes out.new ≡ string_bytes out.old ++ unit_text unit) }
+#[tactic(auto, unfolding(crate::specs::Lines::unit_text), using(paper::proofs::Calls::six_make))]
+fn put_unit<P: Paper>(paper: &mut P, unit: Unit)
+    ensures { Puts P.takes paper.old (unit_text unit) paper.new }
 {
-    let quantity = quantity_word(unit.quantity);
-    let name = name_word(unit.name);
-    let exponent = unit.exponent;
-    write!(out, " {quantity} {name} {exponent}")
+    put_text(paper, " ");
+    put_text(paper, quantity_word(unit.quantity));
+    put_text(paper, " ");
+    put_text(paper, name_word(unit.name));
+    put_text(paper, " ");
+    put_signed(paper, i128::from(unit.exponent));
 }
 
-#[tactic(auto, unfolding(crate::specs::Lines::data_text))]
-fn push_data(
-    alloc: Global,
-    out: &mut String,
-    modifiers: &[u8],
-    value: Value,
-    sent: &[u8],
-) -> Result<(), AllocError>
-    ensures { OnOk result (string_bytes out.new ≡ string_bytes out.old ++ data_text modifiers.now value sent.now) }
+#[tactic(auto, unfolding(crate::specs::Lines::data_text), using(paper::proofs::Calls::six_make))]
+fn put_data<P: Paper>(paper: &mut P, modifiers: &[u8], value: Value, sent: &[u8])
+    ensures { Puts P.takes paper.old (data_text modifiers.now value sent.now) paper.new }
 {
-    out.push_str(" ")?;
-    push_hex(alloc, out, modifiers)?;
-    out.push_str(" ")?;
-    push_value(out, value)?;
-    out.push_str(" ")?;
-    push_hex(alloc, out, sent)?;
-    Ok(())
+    put_text(paper, " ");
+    put_bytes(paper, modifiers);
+    put_text(paper, " ");
+    put_value(paper, value);
+    put_text(paper, " ");
+    put_bytes(paper, sent);
 }
 
-#[tactic(auto, unfolding(crate::specs::Lines::record_line))]
-fn push_record(
-    alloc: Global,
-    out: &mut String,
-    bytes: &[u8],
-    span: &RecordSpan,
-) -> Result<(), AllocError>
+#[tactic(auto, unfolding(crate::specs::Lines::record_line), using(paper::proofs::Calls::five_make))]
+fn put_record<P: Paper>(paper: &mut P, bytes: &[u8], span: &RecordSpan)
     requires { IsSpanOf bytes.now span.now }
-    ensures { OnOk result (string_bytes out.new ≡ string_bytes out.old ++ record_line bytes.now span.now) }
+    ensures { Puts P.takes paper.old (record_line bytes.now span.now) paper.new }
 {
     let unit = unit_of(bytes, span);
     let value = value_of(bytes, span);
     let modifiers = bytes_at(bytes, unit.modifiers_at, unit.modifiers);
     let sent = bytes_at(bytes, span.data_at, span.data_len);
-    out.push_str("record ")?;
-    push_place(out, span)?;
-    push_unit(out, unit)?;
-    push_data(alloc, out, modifiers, value, sent)?;
-    out.push_str("\n")?;
-    Ok(())
+    put_text(paper, "record ");
+    put_place(paper, span);
+    put_unit(paper, unit);
+    put_data(paper, modifiers, value, sent);
+    put_text(paper, "\n");
 }
 
-#[tactic(auto, unfolding(crate::specs::Lines::maker_line))]
-fn push_maker(
-    alloc: Global,
-    out: &mut String,
-    bytes: &[u8],
-    span: &RecordSpan,
-) -> Result<(), AllocError>
-    ensures { OnOk result (string_bytes out.new ≡ string_bytes out.old ++ maker_line bytes.now span.now) }
+#[tactic(auto, unfolding(crate::specs::Lines::maker_line), using(paper::proofs::Calls::five_make))]
+fn put_maker<P: Paper>(paper: &mut P, bytes: &[u8], span: &RecordSpan)
+    ensures { Puts P.takes paper.old (maker_line bytes.now span.now) paper.new }
 {
     let sent = bytes_at(bytes, span.data_at, span.data_len);
-    out.push_str("maker ")?;
-    push_byte(alloc, out, span.dif)?;
-    out.push_str(" ")?;
-    push_hex(alloc, out, sent)?;
-    out.push_str("\n")?;
-    Ok(())
+    put_text(paper, "maker ");
+    put_byte(paper, span.dif);
+    put_text(paper, " ");
+    put_bytes(paper, sent);
+    put_text(paper, "\n");
 }
 
 /// The line of a span of these bytes.
-pub fn push_span(
-    alloc: Global,
-    out: &mut String,
-    bytes: &[u8],
-    span: &RecordSpan,
-) -> Result<(), AllocError>
+pub fn put_span<P: Paper>(paper: &mut P, bytes: &[u8], span: &RecordSpan)
     requires { IsSpanOf bytes.now span.now }
-    ensures { OnOk result (string_bytes out.new ≡ string_bytes out.old ++ span_line bytes.now span.now) }
+    ensures { Puts P.takes paper.old (span_line bytes.now span.now) paper.new }
 {
     if span.maker {
-        push_maker(alloc, out, bytes, span)
+        put_maker(paper, bytes, span)
     } else {
-        push_record(alloc, out, bytes, span)
+        put_record(paper, bytes, span)
     }
 }
 
-#[tactic(auto, unfolding(crate::specs::Lines::worded))]
-fn push_worded(alloc: Global, out: &mut String, word: &str, byte: u8) -> Result<(), AllocError>
-    ensures { OnOk result (string_bytes out.new ≡ string_bytes out.old ++ worded word.now byte) }
+#[tactic(auto, unfolding(crate::specs::Lines::worded), using(paper::proofs::Calls::two_make))]
+fn put_worded<P: Paper>(paper: &mut P, word: &str, byte: u8)
+    ensures { Puts P.takes paper.old (worded word.now byte) paper.new }
 {
-    out.push_str(word)?;
-    push_byte(alloc, out, byte)?;
-    Ok(())
+    put_text(paper, word);
+    put_byte(paper, byte);
 }
 
-fn push_fault_words(alloc: Global, out: &mut String, fault: RecordFault) -> Result<(), AllocError>
-    ensures { OnOk result (string_bytes out.new ≡ string_bytes out.old ++ fault_text fault) }
+// A word and a place.
+#[tactic(auto, using(paper::proofs::Calls::two_make))]
+fn put_placed<P: Paper>(paper: &mut P, word: &str, place: usize)
+    ensures { Puts P.takes paper.old (word.now ++ decimal place) paper.new }
+{
+    put_text(paper, word);
+    put_number(paper, place as u64);
+}
+
+fn put_fault_words<P: Paper>(paper: &mut P, fault: RecordFault)
+    ensures { Puts P.takes paper.old (fault_text fault) paper.new }
 {
     match fault {
-        RecordFault::Truncated(place) => write!(out, "truncated {place}"),
-        RecordFault::TooManyExtensions(place) => write!(out, "extensions {place}"),
-        RecordFault::Lvar(lvar) => push_worded(alloc, out, "lvar ", lvar),
-        RecordFault::Selection(place) => write!(out, "selection {place}"),
-        RecordFault::Special(dif) => push_worded(alloc, out, "special ", dif),
+        RecordFault::Truncated(place) => put_placed(paper, "truncated ", place),
+        RecordFault::TooManyExtensions(place) => put_placed(paper, "extensions ", place),
+        RecordFault::Lvar(lvar) => put_worded(paper, "lvar ", lvar),
+        RecordFault::Selection(place) => put_placed(paper, "selection ", place),
+        RecordFault::Special(dif) => put_worded(paper, "special ", dif),
     }
 }
 
 /// The line of a fault.
-#[tactic(auto, unfolding(crate::specs::Lines::fault_line))]
-pub fn push_fault(alloc: Global, out: &mut String, fault: RecordFault) -> Result<(), AllocError>
-    ensures { OnOk result (string_bytes out.new ≡ string_bytes out.old ++ fault_line fault) }
+#[tactic(auto, unfolding(crate::specs::Lines::fault_line), using(paper::proofs::Calls::three_make))]
+pub fn put_fault<P: Paper>(paper: &mut P, fault: RecordFault)
+    ensures { Puts P.takes paper.old (fault_line fault) paper.new }
 {
-    out.push_str("fault ")?;
-    push_fault_words(alloc, out, fault)?;
-    out.push_str("\n")?;
-    Ok(())
+    put_text(paper, "fault ");
+    put_fault_words(paper, fault);
+    put_text(paper, "\n");
 }

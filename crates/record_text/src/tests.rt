@@ -1,11 +1,30 @@
+ghost use Rattle.record_text.specs.RecordText.{records_text};
+
 use super::*;
-use std::alloc::{AllocError, Global};
+use outer_io::MemorySink;
+use paper::{Paper, Printed, write};
+use std::alloc::Global;
 use std::test::Fail;
 
-fn listing(alloc: Global, payload: &[u8]) -> Result<String, AllocError> {
-    let mut out = String::from_str(alloc, "")?;
-    push_records(alloc, &mut out, payload)?;
-    Ok(out)
+// The records of a payload.
+#[derive(Drop)]
+struct Records<'a> {
+    payload: &'a [u8],
+}
+
+impl Printed for Records<'_> {
+    ghost text = { λ r. records_text r.payload.now };
+
+    fn print<P: Paper>(&self, paper: &mut P) {
+        put_records(paper, self.payload);
+    }
+}
+
+// What is listed.
+fn listing(alloc: Global, payload: &[u8]) -> MemorySink {
+    let mut sink = MemorySink::steady(alloc);
+    let _failed = write(&mut sink, &Records { payload });
+    sink
 }
 
 #[test]
@@ -14,10 +33,10 @@ fn a_gas_meter_is_listed(rt: HostRuntime) -> Result<(), Fail> {
         0x2f, 0x2f, 0x0c, 0x14, 0x27, 0x04, 0x85, 0x02, 0x04, 0x6d, 0x32, 0x37, 0x1f, 0x15, 0x02,
         0xfd, 0x17, 0x00, 0x00, 0x2f, 0x2f, 0x2f,
     ];
-    let text = listing(rt.alloc(), &payload)?;
+    let text = listing(rt.alloc(), &payload);
     assert_eq!(rt;
-        text.as_str(),
-        "record instantaneous 0 0 0 volume m3 -2 - 2850427 27048502\nrecord instantaneous 0 0 0 datetime - 0 - 2008-05-31T23:50 32371f15\nrecord instantaneous 0 0 0 errorflags - 0 - 0 0000\n"
+        text.bytes(),
+        b"record instantaneous 0 0 0 volume m3 -2 - 2850427 27048502\nrecord instantaneous 0 0 0 datetime - 0 - 2008-05-31T23:50 32371f15\nrecord instantaneous 0 0 0 errorflags - 0 - 0 0000\n".as_slice()
     );
     Ok(())
 }
@@ -63,8 +82,8 @@ fn each_kind_of_line_is_written(rt: HostRuntime) -> Result<(), Fail> {
         ([0x84; 12].as_slice(), "fault extensions 0\n"),
     ];
     for (payload, want) in cases {
-        let text = listing(rt.alloc(), payload)?;
-        assert_eq!(rt; text.as_str(), want, "of {payload:?}");
+        let text = listing(rt.alloc(), payload);
+        assert_eq!(rt; text.bytes(), want.as_bytes(), "of {payload:?}");
     }
     Ok(())
 }
@@ -80,13 +99,13 @@ fn at_most_256_lines_are_written(rt: HostRuntime) -> Result<(), Fail> {
         (771, 256, "more\n"),
     ] {
         let (payload, _) = bytes.split_at(count);
-        let text = listing(rt.alloc(), payload)?;
+        let text = listing(rt.alloc(), payload);
         assert_eq!(rt;
-            text.len(),
+            text.bytes().len(),
             lines * line.len() + end.len(),
             "of {count} bytes"
         );
-        assert!(rt; text.as_str().ends_with(end), "of {count} bytes");
+        assert!(rt; text.bytes().ends_with(end.as_bytes()), "of {count} bytes");
     }
     Ok(())
 }

@@ -1,86 +1,79 @@
 //! The text of a value.
 
-ghost use Rattle.std.specs.Prelude.{◌≡◌, ◌++◌, OnOk};
-ghost use Rattle.std.specs.String.{string_bytes};
+ghost use Rattle.std.specs.Prelude.{◌≡◌, ◌++◌};
+ghost use Rattle.paper.specs.Puts.{Puts};
 ghost use Rattle.record_text.specs.Values.{hex_text, two_digits, four_digits, day_text, time_text, marked, value_text};
 
+use paper::{Paper, put_hex, put_number, put_signed, put_text};
 use record_values::Value;
-use std::alloc::{AllocError, Global};
-use std::fmt::Write;
 
 /// Bytes in hexadecimal, or a dash for none.
-pub fn push_hex(alloc: Global, out: &mut String, bytes: &[u8]) -> Result<(), AllocError>
-    ensures { OnOk result (string_bytes out.new ≡ string_bytes out.old ++ hex_text bytes.now) }
+pub fn put_bytes<P: Paper>(paper: &mut P, bytes: &[u8])
+    ensures { Puts P.takes paper.old (hex_text bytes.now) paper.new }
 {
     match bytes {
-        [] => out.push_str("-"),
-        [_, ..] => {
-            let digits = hex::encode(alloc, bytes)?;
-            out.push_str(digits.as_str())
-        }
+        [] => put_text(paper, "-"),
+        [_, ..] => put_hex(paper, bytes),
     }
 }
 
-#[tactic(auto, unfolding(crate::specs::Values::two_digits))]
-fn push_two(out: &mut String, number: u16) -> Result<(), AllocError>
-    ensures { OnOk result (string_bytes out.new ≡ string_bytes out.old ++ two_digits number) }
+#[tactic(auto, unfolding(crate::specs::Values::two_digits), using(paper::proofs::Calls::two_make))]
+fn put_two<P: Paper>(paper: &mut P, number: u16)
+    ensures { Puts P.takes paper.old (two_digits number) paper.new }
 {
-    let tens = number / 10 % 10;
-    let ones = number % 10;
-    write!(out, "{tens}{ones}")
+    put_number(paper, u64::from(number / 10 % 10));
+    put_number(paper, u64::from(number % 10));
 }
 
-#[tactic(auto, unfolding(crate::specs::Values::four_digits))]
-fn push_four(out: &mut String, number: u16) -> Result<(), AllocError>
-    ensures { OnOk result (string_bytes out.new ≡ string_bytes out.old ++ four_digits number) }
+#[tactic(auto, unfolding(crate::specs::Values::four_digits), using(paper::proofs::Calls::two_make))]
+fn put_four<P: Paper>(paper: &mut P, number: u16)
+    ensures { Puts P.takes paper.old (four_digits number) paper.new }
 {
-    push_two(out, number / 100)?;
-    push_two(out, number)?;
-    Ok(())
+    put_two(paper, number / 100);
+    put_two(paper, number);
 }
 
-#[tactic(auto, unfolding(crate::specs::Values::day_text))]
-fn push_day(out: &mut String, year: u16, month: u8, day: u8) -> Result<(), AllocError>
-    ensures { OnOk result (string_bytes out.new ≡ string_bytes out.old ++ day_text year month day) }
+#[tactic(auto, unfolding(crate::specs::Values::day_text), using(paper::proofs::Calls::five_make))]
+fn put_day<P: Paper>(paper: &mut P, year: u16, month: u8, day: u8)
+    ensures { Puts P.takes paper.old (day_text year month day) paper.new }
 {
-    push_four(out, year)?;
-    out.push_str("-")?;
-    push_two(out, u16::from(month))?;
-    out.push_str("-")?;
-    push_two(out, u16::from(day))?;
-    Ok(())
+    put_four(paper, year);
+    put_text(paper, "-");
+    put_two(paper, u16::from(month));
+    put_text(paper, "-");
+    put_two(paper, u16::from(day));
 }
 
-#[tactic(auto, unfolding(crate::specs::Values::time_text))]
-fn push_time(out: &mut String, hour: u8, minute: u8) -> Result<(), AllocError>
-    ensures { OnOk result (string_bytes out.new ≡ string_bytes out.old ++ time_text hour minute) }
+#[tactic(auto, unfolding(crate::specs::Values::time_text), using(paper::proofs::Calls::four_make))]
+fn put_time<P: Paper>(paper: &mut P, hour: u8, minute: u8)
+    ensures { Puts P.takes paper.old (time_text hour minute) paper.new }
 {
-    out.push_str("T")?;
-    push_two(out, u16::from(hour))?;
-    out.push_str(":")?;
-    push_two(out, u16::from(minute))?;
-    Ok(())
+    put_text(paper, "T");
+    put_two(paper, u16::from(hour));
+    put_text(paper, ":");
+    put_two(paper, u16::from(minute));
 }
 
-fn push_marked(out: &mut String, sign: &str, holds: bool) -> Result<(), AllocError>
-    ensures { OnOk result (string_bytes out.new ≡ string_bytes out.old ++ marked sign.now holds) }
+#[tactic(auto, using(paper::proofs::Calls::none))]
+fn put_marked<P: Paper>(paper: &mut P, sign: &str, holds: bool)
+    ensures { Puts P.takes paper.old (marked sign.now holds) paper.new }
 {
     if holds {
-        out.push_str(sign)?;
+        put_text(paper, sign);
     }
-    Ok(())
 }
 
 /// The value of a record.
-pub fn push_value(out: &mut String, value: Value) -> Result<(), AllocError>
-    ensures { OnOk result (string_bytes out.new ≡ string_bytes out.old ++ value_text value) }
+#[tactic(auto, using(paper::proofs::Calls::four_make))]
+pub fn put_value<P: Paper>(paper: &mut P, value: Value)
+    ensures { Puts P.takes paper.old (value_text value) paper.new }
 {
     match value {
-        Value::None => out.push_str("-"),
-        Value::Whole(number) => write!(out, "{number}"),
-        Value::Raw => out.push_str("raw"),
-        Value::Text => out.push_str("text"),
-        Value::Day { year, month, day } => push_day(out, year, month, day),
+        Value::None => put_text(paper, "-"),
+        Value::Whole(number) => put_signed(paper, number),
+        Value::Raw => put_text(paper, "raw"),
+        Value::Text => put_text(paper, "text"),
+        Value::Day { year, month, day } => put_day(paper, year, month, day),
         Value::Moment {
             year,
             month,
@@ -90,11 +83,10 @@ pub fn push_value(out: &mut String, value: Value) -> Result<(), AllocError>
             invalid,
             summer,
         } => {
-            push_day(out, year, month, day)?;
-            push_time(out, hour, minute)?;
-            push_marked(out, "!", invalid)?;
-            push_marked(out, "+", summer)?;
-            Ok(())
+            put_day(paper, year, month, day);
+            put_time(paper, hour, minute);
+            put_marked(paper, "!", invalid);
+            put_marked(paper, "+", summer);
         }
     }
 }
