@@ -1,5 +1,8 @@
 use super::*;
 use std::process::Abort;
+use std::test::Fail;
+
+mod rows;
 
 // Key, block and encrypted block: the examples of FIPS 197 (appendices B and C.1).
 const STANDARD: [[u128; 3]; 2] = [
@@ -39,83 +42,51 @@ const MODES: [[u128; 3]; 4] = [
     ],
 ];
 
-// Made with another implementation.
-const OTHERS: [[u128; 3]; 11] = [
-    [
-        0x00000000000000000000000000000000,
-        0x00000000000000000000000000000000,
-        0x66e94bd4ef8a2c3b884cfa59ca342b2e,
-    ],
-    [
-        0xffffffffffffffffffffffffffffffff,
-        0xffffffffffffffffffffffffffffffff,
-        0xbcbf217cb280cf30b2517052193ab979,
-    ],
-    [
-        0x000102030405060708090a0b0c0d0e0f,
-        0x55f15b70d91c0f7c6b34445293a3e7e2,
-        0x358accb95eb741d518b4078e286b26f9,
-    ],
-    [
-        0xd146ea789036883146a028f9562a240c,
-        0x00000000000000000000000000000000,
-        0x7e52b0536d310eac27c4f085036b86b4,
-    ],
-    [
-        0x9ea4dc0b5e326c7445174c434b2822eb,
-        0xffffffffffffffffffffffffffffffff,
-        0x55fa0ebfa5a97df3002b5821747be2f6,
-    ],
-    [
-        0xa231c35e6a72044b244ca8202827ed4b,
-        0x02c15a885e86396181fe946fdb0565a3,
-        0x4d4ff4a2951128d7123eac8c7a397f6a,
-    ],
-    [
-        0x6b05846b9c6cac1508f852597b5d9e33,
-        0x00000000000000000000000000000000,
-        0xdf0ade532bbedc85dd2f5c48a9c08836,
-    ],
-    [
-        0x2b264891e9c7f49296bdec959f975250,
-        0x50dc43d77228d851ca6d8650eb8a658a,
-        0x088bb575faefcea59f688be46554d70a,
-    ],
-    [
-        0xf78e7467dc17e202956331af24a7f9ff,
-        0xffffffffffffffffffffffffffffffff,
-        0xc958271b40d315a8b710b4b6bf46c63f,
-    ],
-    [
-        0x7bd11397027368aa0508796cc10e5906,
-        0x00000000000000000000000000000000,
-        0x428e62df4ddf6cb15eb5e63877acce81,
-    ],
-    [
-        0x8f090671ccbb6d4cad90246c997ca100,
-        0x1b0cee88a06466a11ed78a2afdf5353e,
-        0xc7f9115c1b464f07a8a1aaeb19ba1f51,
-    ],
-];
+// The block is encrypted as the row says, and decrypted again.
+fn expect_row(rt: &impl Abort, key: u128, plain: u128, secret: u128) {
+    let keys = Keys::new(&key.to_be_bytes());
+    let mut block = plain.to_be_bytes();
+    keys.encrypt(&mut block);
+    assert_eq!(rt; u128::from_be_bytes(block), secret, "under {key:032x}");
+    keys.decrypt(&mut block);
+    assert_eq!(rt; u128::from_be_bytes(block), plain, "under {key:032x}");
+}
 
-// Each row's block is encrypted as it says, and decrypted again.
-fn expect_rows(rt: &impl Abort, rows: &[[u128; 3]]) {
-    for row in rows {
-        let [key, plain, secret] = *row;
-        let keys = Keys::new(&key.to_be_bytes());
-        let mut block = plain.to_be_bytes();
-        keys.encrypt(&mut block);
-        assert_eq!(rt; u128::from_be_bytes(block), secret);
-        keys.decrypt(&mut block);
-        assert_eq!(rt; u128::from_be_bytes(block), plain);
+#[test]
+fn blocks_are_encrypted_and_decrypted_as_the_standards_say(rt: HostRuntime) {
+    for [key, plain, secret] in STANDARD {
+        expect_row(&rt, key, plain, secret);
+    }
+    for [key, plain, secret] in MODES {
+        expect_row(&rt, key, plain, secret);
     }
 }
 
 #[test]
-fn encrypts_and_decrypts_the_examples(rt: HostRuntime) {
-    expect_rows(&rt, &STANDARD);
-    expect_rows(&rt, &MODES);
-    expect_rows(&rt, &OTHERS);
+fn blocks_are_encrypted_and_decrypted_as_another_implementation_does(
+    rt: HostRuntime,
+) -> Result<(), Fail> {
+    let mut count: u32 = 0;
+    for row in rows::BLOCKS.lines() {
+        let mut fields = row.split(' ');
+        let (Some(key), Some(plain), Some(secret), None) = (
+            fields.next(),
+            fields.next(),
+            fields.next(),
+            fields.next(),
+        ) else {
+            panic!(rt; "a row of other fields: {row}");
+        };
+        expect_row(
+            &rt,
+            u128::from_str_radix(key, 16)?,
+            u128::from_str_radix(plain, 16)?,
+            u128::from_str_radix(secret, 16)?,
+        );
+        count = count.saturating_add(1);
+    }
+    assert_eq!(rt; count, 200);
+    Ok(())
 }
 
 #[test]
