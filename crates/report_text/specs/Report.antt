@@ -1,6 +1,6 @@
 -- The text of the report.
 use Rattle.std.specs.Prelude.{ℕ, ◌-◌, List, [], ◌∷◌, ◌++◌, length, drop, reverse, slice_get, codes, Option, Some, None}
-use Rattle.std.specs.List.{flat_map}
+use Rattle.std.specs.List.{flat_map, enumerate_from}
 use Rattle.meter_address.specs.declared.commission.Mode.{Mode}
 use Rattle.meter_address.specs.declared.commission.Mode.TheVariants.{Five, Seven}
 use Rattle.meter_address.specs.declared.address.Address.{Address}
@@ -18,10 +18,10 @@ use Rattle.meter_slots.specs.declared.entry.Outcome.{Outcome}
 use Rattle.meter_slots.specs.declared.entry.Outcome.TheVariants.{Stored}
 use Rattle.meter_slots.specs.declared.reading.Reading.{Reading}
 use Rattle.meter_slots.specs.Journal.{Book, last_counter, orders, readings}
-use Rattle.meter_slots.specs.World.{WorldView}
 use Rattle.record_text.specs.RecordText.{records_text}
-use Rattle.collector_main.specs.Pieces.{optional_text, labelled, labelled_two, labelled_bytes, text_if}
-use Rattle.collector_main.specs.Outcomes.{outcome_text}
+use Rattle.report_text.specs.declared.lent.ReceiverEnd.{ReceiverEnd}
+use Rattle.report_text.specs.Pieces.{optional_text, labelled, labelled_two, labelled_bytes, text_if}
+use Rattle.report_text.specs.Outcomes.{outcome_text}
 
 -- ---- a receiver
 
@@ -36,8 +36,9 @@ unfoldable pub counts_text : Counts → List ℕ
 counts_text n =
     labelled (codes " lines ") n.lines ++ labelled (codes " own ") n.own ++ labelled (codes " strangers ") n.strangers ++ labelled (codes " unframed ") n.unframed ++ labelled (codes " bad ") n.bad
 
-unfoldable pub receiver_text : ℕ → Counts → Ended → List ℕ
-receiver_text w n ended = labelled (codes "receiver ") w ++ counts_text n ++ codes " " ++ ended_text ended ++ codes "\n"
+-- a receiver's number, its counts, and how it ended
+unfoldable pub receiver_text : ℕ × ReceiverEnd → List ℕ
+receiver_text r = labelled (codes "receiver ") r.0 ++ counts_text r.1.counts ++ codes " " ++ ended_text r.1.ended ++ codes "\n"
 
 -- ---- a meter
 
@@ -105,7 +106,7 @@ ring_text a = labelled_bytes (codes "ring ") (bytes_of a) ++ codes "\n"
 unfoldable pub strangers_text : List Heard → List ℕ
 strangers_text heard = labelled (codes "strangers ") (length heard) ++ codes "\n" ++ flat_map stranger_text heard ++ flat_map ring_text (ring_of heard)
 
--- the report of a session of one receiver
-unfoldable pub report_text : Counts → Ended → WorldView → List ℕ
-report_text n ended world =
-    codes "wmbus-report 1\n" ++ receiver_text 1 n ended ++ flat_map meter_text world.slots ++ strangers_text world.strangers ++ codes "end\n"
+-- the report of a session: its receivers, which are numbered from 1, its slots, and its strangers
+unfoldable pub report_text : List ReceiverEnd → List Book → List Heard → List ℕ
+report_text ends slots heard =
+    codes "wmbus-report 1\n" ++ flat_map receiver_text (enumerate_from 1 ends) ++ flat_map meter_text slots ++ strangers_text heard ++ codes "end\n"

@@ -1,0 +1,184 @@
+//! The text of what a slot answers.
+ghost use Rattle.std.specs.Prelude.{◌≡◌, option_map, option_copied};
+ghost use Rattle.paper.specs.Puts.{Puts};
+ghost use Rattle.report_text.specs.Pieces.{text_if};
+ghost use Rattle.report_text.specs.Outcomes.{ell_fault_text, afl_fault_text, tpl_fault_text, layer_fault_text, message_fault_text, reason_text, reading_text, stored_text, refused_text, ticked_text, outcome_text};
+
+use crate::pieces::{put_labelled, put_labelled_bytes, put_labelled_if, put_labelled_two};
+use afl_layer::AflFault;
+use ell_layer::EllFault;
+use meter_slots::{Downlink, LayerFault, Outcome, Reading, Reason};
+use paper::{Paper, put_text};
+use record_text::put_bytes;
+use tpl_headers::TplFault;
+
+fn put_ell_fault<P: Paper>(paper: &mut P, fault: EllFault)
+    ensures { Puts P.takes paper.old (ell_fault_text fault) paper.new }
+{
+    match fault {
+        EllFault::Truncated(have) => put_labelled(paper, "ell truncated ", have as u64),
+        EllFault::Kind(ci) => put_labelled_bytes(paper, "ell kind ", &[ci]),
+    }
+}
+
+fn put_afl_fault<P: Paper>(paper: &mut P, fault: AflFault)
+    ensures { Puts P.takes paper.old (afl_fault_text fault) paper.new }
+{
+    match fault {
+        AflFault::Truncated(have) => put_labelled(paper, "afl truncated ", have as u64),
+        AflFault::AflLength { said, fields } => {
+            put_labelled_two(paper, "afl length ", u64::from(said), u64::from(fields))
+        }
+        AflFault::FieldPlace(fcl) => {
+            put_labelled_bytes(paper, "afl place ", &fcl.to_be_bytes())
+        }
+        AflFault::FidZero => put_text(paper, "afl fidzero"),
+    }
+}
+
+fn put_tpl_fault<P: Paper>(paper: &mut P, fault: TplFault)
+    ensures { Puts P.takes paper.old (tpl_fault_text fault) paper.new }
+{
+    match fault {
+        TplFault::Truncated(have) => put_labelled(paper, " truncated ", have as u64),
+        TplFault::Unbuilt(ci) => put_labelled_bytes(paper, " unbuilt ", &[ci]),
+    }
+}
+
+#[tactic(auto, unfolding(crate::specs::Outcomes::layer_fault_text), using(paper::proofs::Calls::two_make))]
+fn put_layer_fault<P: Paper>(paper: &mut P, fault: LayerFault)
+    ensures { Puts P.takes paper.old (layer_fault_text fault) paper.new }
+{
+    match fault {
+        LayerFault::Ell(fault) => {
+            put_text(paper, "layers ");
+            put_ell_fault(paper, fault)
+        }
+        LayerFault::Afl(fault) => {
+            put_text(paper, "layers ");
+            put_afl_fault(paper, fault)
+        }
+        LayerFault::Tpl(fault) => {
+            put_text(paper, "layers tpl");
+            put_tpl_fault(paper, fault)
+        }
+    }
+}
+
+#[tactic(auto, unfolding(crate::specs::Outcomes::message_fault_text), using(paper::proofs::Calls::two_make))]
+fn put_message_fault<P: Paper>(paper: &mut P, fault: TplFault)
+    ensures { Puts P.takes paper.old (message_fault_text fault) paper.new }
+{
+    put_text(paper, "message");
+    put_tpl_fault(paper, fault)
+}
+
+fn put_reason<P: Paper>(paper: &mut P, reason: Reason)
+    ensures { Puts P.takes paper.old (reason_text reason) paper.new }
+{
+    match reason {
+        Reason::NotUplink(control) => put_labelled_bytes(paper, "uplink ", &[control]),
+        Reason::BadLayers(fault) => put_layer_fault(paper, fault),
+        Reason::PartInMode5 => put_text(paper, "part5"),
+        Reason::TooManyParts(fid) => put_labelled(paper, "parts ", u64::from(fid)),
+        Reason::BadMessage(fault) => put_message_fault(paper, fault),
+        Reason::OtherAddress(address) => {
+            put_labelled_bytes(paper, "other ", &address.to_bytes())
+        }
+        Reason::Mode { found, wanted } => {
+            put_labelled_two(paper, "mode ", u64::from(found), u64::from(wanted))
+        }
+        Reason::NoAuth => put_text(paper, "noauth"),
+        Reason::Kdf(found) => put_labelled(paper, "kdf ", u64::from(found)),
+        Reason::ShortBlocks { want, have } => {
+            put_labelled_two(paper, "blocks ", want as u64, have as u64)
+        }
+        Reason::Unchecked => put_text(paper, "unchecked"),
+        Reason::BadMac => put_text(paper, "mac"),
+        Reason::Stale { got, last } => {
+            put_labelled_two(paper, "stale ", u64::from(got), u64::from(last))
+        }
+        Reason::CheckBytes(two) => put_labelled_bytes(paper, "check ", &two),
+        Reason::SameAccess(number) => put_labelled(paper, "access ", u64::from(number)),
+        Reason::QueueFull => put_text(paper, "queue"),
+        Reason::IdsSpent => put_text(paper, "ids"),
+        Reason::NoSuch(id) => put_labelled(paper, "nosuch ", u64::from(id)),
+    }
+}
+
+#[tactic(auto, unfolding(crate::specs::Outcomes::reading_text), using(paper::proofs::Calls::three_make))]
+fn put_reading<P: Paper>(paper: &mut P, reading: &Reading)
+    ensures { Puts P.takes paper.old (reading_text reading.now) paper.new }
+{
+    put_labelled(paper, " ", reading.at);
+    put_text(paper, " ");
+    put_bytes(paper, reading.payload.bytes());
+}
+
+#[tactic(auto, using(paper::proofs::Calls::none))]
+fn put_reading_if<P: Paper>(paper: &mut P, reading: Option<&Reading>)
+    ensures { Puts P.takes paper.old (text_if reading_text (option_copied reading.entry)) paper.new }
+{
+    match reading {
+        None => {}
+        Some(reading) => put_reading(paper, reading),
+    }
+}
+
+#[tactic(auto, unfolding(crate::specs::Outcomes::stored_text), using(paper::proofs::Calls::four_make))]
+fn put_stored<P: Paper>(paper: &mut P, counter: u32,
+    reading: Option<&Reading>,
+    confirmed: Option<u32>,
+    sent: Option<u32>)
+    ensures { Puts P.takes paper.old (stored_text counter (option_copied reading.entry) confirmed sent) paper.new }
+{
+    put_labelled(paper, "stored ", u64::from(counter));
+    put_reading_if(paper, reading);
+    put_labelled_if(paper, " confirmed ", confirmed);
+    put_labelled_if(paper, " sent ", sent);
+}
+
+#[tactic(auto, unfolding(crate::specs::Outcomes::refused_text), using(paper::proofs::Calls::two_make))]
+fn put_refused<P: Paper>(paper: &mut P, reason: Reason)
+    ensures { Puts P.takes paper.old (refused_text reason) paper.new }
+{
+    put_text(paper, "refused ");
+    put_reason(paper, reason)
+}
+
+#[tactic(auto, unfolding(crate::specs::Outcomes::ticked_text), using(paper::proofs::Calls::two_make))]
+fn put_ticked<P: Paper>(paper: &mut P, expired: Option<u32>)
+    ensures { Puts P.takes paper.old (ticked_text expired) paper.new }
+{
+    put_text(paper, "ticked");
+    put_labelled_if(paper, " expired ", expired)
+}
+
+// The counter of a downlink, where one is sent.
+fn counter_of(sent: &Option<Downlink>) -> Option<u32>
+    ensures { result ≡ option_map (λ s. s.down) sent.now }
+{
+    match sent {
+        None => None,
+        Some(downlink) => Some(downlink.down()),
+    }
+}
+
+// An outcome, with the reading of what is stored.
+pub(crate) fn put_outcome<P: Paper>(paper: &mut P, reading: Option<&Reading>,
+    outcome: &Outcome)
+    ensures { Puts P.takes paper.old (outcome_text (option_copied reading.entry) outcome.now) paper.new }
+{
+    match outcome {
+        Outcome::Stored {
+            counter,
+            confirmed,
+            sent,
+        } => put_stored(paper, *counter, reading, *confirmed, counter_of(sent)),
+        Outcome::PartKept => put_text(paper, "part"),
+        Outcome::Ticked { expired } => put_ticked(paper, *expired),
+        Outcome::Queued(id) => put_labelled(paper, "queued ", u64::from(*id)),
+        Outcome::Cancelled(id) => put_labelled(paper, "cancelled ", u64::from(*id)),
+        Outcome::Refused(reason) => put_refused(paper, *reason),
+    }
+}

@@ -1,0 +1,306 @@
+//! The text of the report.
+ghost use Rattle.std.specs.Prelude.{◌≡◌, ◌++◌, ◌≤◌, IsTrue, OnOk, OnErr, option_copied};
+ghost use Rattle.std.specs.List.{flat_map, enumerate_from};
+ghost use Rattle.outer_io.specs.Bytes.{AppendsFront};
+ghost use Rattle.outer_io.specs.Faults.{Rose};
+ghost use Rattle.paper.specs.Puts.{Puts};
+ghost use Rattle.meter_address.specs.Letters.{letters_of};
+ghost use Rattle.stranger_ring.specs.Ring.{ring_of};
+ghost use Rattle.record_text.specs.RecordText.{records_text};
+ghost use Rattle.report_text.specs.Pieces.{text_if};
+ghost use Rattle.report_text.specs.Report.{ended_text, counts_text, receiver_text, letters_text, mode_text, commission_text, numbers_text, step_text, readings_after, steps_text, last_text, pending_text, journal_text, meter_text, stranger_text, ring_text, strangers_text, report_text};
+
+use crate::outcomes::put_outcome;
+use crate::pieces::{put_labelled, put_labelled_bytes, put_labelled_two, put_optional};
+use crate::lent::{ReceiverEnd, Session};
+use command_queue::{Command, Queue};
+use meter_address::{Address, Mode};
+use meter_slots::{Counts, Ended, Entry, Outcome, Reading, SlotBook};
+use outer_io::{Failed, Sink};
+use paper::{Paper, Printed, put_text, write};
+use record_text::put_records;
+use stranger_ring::{Heard, Strangers};
+
+fn ended_word(ended: Ended) -> &'static str
+    ensures { result.now ≡ ended_text ended }
+{
+    match ended {
+        Ended::End => "end",
+        Ended::Cut => "cut",
+        Ended::ReadFault => "readfault",
+        Ended::TxFault => "txfault",
+        Ended::Memory => "memory",
+    }
+}
+
+#[tactic(auto, unfolding(crate::specs::Report::counts_text), using(paper::proofs::Calls::five_make))]
+fn put_counts<P: Paper>(paper: &mut P, counts: Counts)
+    ensures { Puts P.takes paper.old (counts_text counts) paper.new }
+{
+    put_labelled(paper, " lines ", counts.lines as u64);
+    put_labelled(paper, " own ", counts.own as u64);
+    put_labelled(paper, " strangers ", counts.strangers as u64);
+    put_labelled(paper, " unframed ", counts.unframed as u64);
+    put_labelled(paper, " bad ", counts.bad as u64);
+}
+
+#[tactic(auto, unfolding(crate::specs::Report::receiver_text), using(paper::proofs::Calls::five_make))]
+fn put_receiver<P: Paper>(paper: &mut P, number: u64, end: &ReceiverEnd)
+    ensures { Puts P.takes paper.old (receiver_text (number, end.now)) paper.new }
+{
+    put_labelled(paper, "receiver ", number);
+    put_counts(paper, end.counts);
+    put_text(paper, " ");
+    put_text(paper, ended_word(end.ended));
+    put_text(paper, "\n");
+}
+
+fn put_receivers<P: Paper>(paper: &mut P, ends: &[ReceiverEnd])
+    ensures { Puts P.takes paper.old (flat_map receiver_text (enumerate_from 1 ends.now)) paper.new }
+{
+    for (place, end) in ends.iter().enumerate() {
+        put_receiver(paper, place as u64 + 1, end);
+    }
+}
+
+#[tactic(auto, unfolding(crate::specs::Report::step_text), using(paper::proofs::Calls::four_make))]
+fn put_step<P: Paper>(paper: &mut P, reading: Option<&Reading>,
+    entry: &Entry)
+    ensures { Puts P.takes paper.old (step_text (option_copied reading.entry) entry.now) paper.new }
+{
+    put_labelled_two(paper, "step ", u64::from(entry.source), u64::from(entry.line));
+    put_text(paper, " ");
+    put_outcome(paper, reading, &entry.outcome);
+    put_text(paper, "\n");
+}
+
+// The readings that are left for later entries.
+fn readings_after<'a>(outcome: &Outcome, readings: &'a [Reading]) -> &'a [Reading]
+    ensures { result.now ≡ readings_after outcome.now readings.now }
+{
+    match (outcome, readings) {
+        (Outcome::Stored { .. }, [_, later @ ..]) => later,
+        _ => readings,
+    }
+}
+
+fn put_steps<P: Paper>(paper: &mut P, readings: &[Reading],
+    journal: &[Entry])
+    ensures { Puts P.takes paper.old (steps_text readings.now journal.now) paper.new }
+{
+    let mut left = readings;
+    for entry in journal {
+        put_step(paper, left.first(), entry);
+        left = readings_after(&entry.outcome, left);
+    }
+}
+
+#[tactic(auto, using(paper::proofs::Calls::none))]
+fn put_records_of<P: Paper>(paper: &mut P, reading: Option<&Reading>)
+    ensures { Puts P.takes paper.old (text_if (λ r. records_text r.payload) (option_copied reading.entry)) paper.new }
+{
+    match reading {
+        None => {}
+        Some(reading) => put_records(paper, reading.payload.bytes()),
+    }
+}
+
+#[tactic(auto, unfolding(crate::specs::Report::last_text))]
+fn put_last<P: Paper>(paper: &mut P, readings: &[Reading])
+    ensures { Puts P.takes paper.old (last_text readings.now) paper.new }
+{
+    put_records_of(paper, readings.get(readings.len().saturating_sub(1)))
+}
+
+#[tactic(auto, unfolding(crate::specs::Report::pending_text), using(paper::proofs::Calls::two_make))]
+fn put_command<P: Paper>(paper: &mut P, command: &Command)
+    ensures { Puts P.takes paper.old (pending_text command.now) paper.new }
+{
+    put_labelled_two(paper, "pending ",
+        u64::from(command.id),
+        u64::from(command.tries),
+    );
+    put_text(paper, "\n");
+}
+
+#[tactic(auto, using(paper::proofs::Calls::none))]
+fn put_command_if<P: Paper>(paper: &mut P, command: Option<&Command>)
+    ensures { Puts P.takes paper.old (text_if pending_text (option_copied command.entry)) paper.new }
+{
+    match command {
+        None => {}
+        Some(command) => put_command(paper, command),
+    }
+}
+
+fn put_pending<P: Paper>(paper: &mut P, queue: &Queue)
+    ensures { Puts P.takes paper.old (flat_map pending_text queue.now.commands) paper.new }
+{
+    for place in 0..queue.pending() {
+        put_command_if(paper, queue.at(place));
+    }
+}
+
+#[tactic(auto, unfolding(crate::specs::Report::journal_text), using(paper::proofs::Calls::three_make))]
+fn put_journal<P: Paper>(paper: &mut P, readings: &[Reading],
+    journal: &[Entry],
+    queue: &Queue)
+    ensures { Puts P.takes paper.old (journal_text readings.now journal.now queue.now.commands) paper.new }
+{
+    put_steps(paper, readings, journal);
+    put_last(paper, readings);
+    put_pending(paper, queue);
+}
+
+#[tactic(auto, using(paper::proofs::Calls::once))]
+fn put_letters<P: Paper>(paper: &mut P, address: Address)
+    ensures { Puts P.takes paper.old (letters_text (letters_of address)) paper.new }
+{
+    match address.letters() {
+        None => put_text(paper, "-"),
+        Some(letters) => paper.put(&letters),
+    }
+}
+
+fn mode_digit(mode: Mode) -> &'static str
+    ensures { result.now ≡ mode_text mode }
+{
+    match mode {
+        Mode::Five => "5",
+        Mode::Seven => "7",
+    }
+}
+
+#[tactic(auto, unfolding(crate::specs::Report::commission_text), using(paper::proofs::Calls::five_make))]
+fn put_commission<P: Paper>(paper: &mut P, address: Address,
+    mode: Mode)
+    ensures { Puts P.takes paper.old (commission_text address mode) paper.new }
+{
+    put_labelled_bytes(paper, "meter ", &address.to_bytes());
+    put_text(paper, " ");
+    put_letters(paper, address);
+    put_text(paper, " mode ");
+    put_text(paper, mode_digit(mode));
+}
+
+#[tactic(auto, unfolding(crate::specs::Report::numbers_text), using(paper::proofs::Calls::six_make))]
+fn put_numbers<P: Paper>(paper: &mut P, last: Option<u32>,
+    down: u32,
+    steps: usize,
+    readings: usize)
+    ensures { Puts P.takes paper.old (numbers_text last down steps readings) paper.new }
+{
+    put_text(paper, " last ");
+    put_optional(paper, last);
+    put_labelled(paper, " down ", down as u64);
+    put_labelled(paper, " steps ", steps as u64);
+    put_labelled(paper, " readings ", readings as u64);
+    put_text(paper, "\n");
+}
+
+#[tactic(auto, unfolding(crate::specs::Report::meter_text), using(paper::proofs::Calls::three_make))]
+fn put_meter<P: Paper>(paper: &mut P, slot: &SlotBook)
+    ensures { Puts P.takes paper.old (meter_text slot.now) paper.new }
+{
+    let now = slot.commission();
+    let journal = slot.journal();
+    let readings = slot.readings();
+    put_commission(paper, now.address, now.mode);
+    put_numbers(paper, now.last, now.down, journal.len(), readings.len());
+    put_journal(paper, readings, journal, slot.queue());
+}
+
+fn put_meters<P: Paper>(paper: &mut P, slots: &[SlotBook])
+    ensures { Puts P.takes paper.old (flat_map meter_text slots.now) paper.new }
+{
+    for slot in slots {
+        put_meter(paper, slot);
+    }
+}
+
+#[tactic(auto, unfolding(crate::specs::Report::stranger_text), using(paper::proofs::Calls::two_make))]
+fn put_stranger<P: Paper>(paper: &mut P, stranger: &Heard)
+    ensures { Puts P.takes paper.old (stranger_text stranger.now) paper.new }
+{
+    put_labelled_two(paper, "stranger ",
+        u64::from(stranger.source),
+        u64::from(stranger.line),
+    );
+    put_text(paper, "\n");
+}
+
+fn put_heard<P: Paper>(paper: &mut P, heard: &[Heard])
+    ensures { Puts P.takes paper.old (flat_map stranger_text heard.now) paper.new }
+{
+    for stranger in heard {
+        put_stranger(paper, stranger);
+    }
+}
+
+#[tactic(auto, unfolding(crate::specs::Report::ring_text), using(paper::proofs::Calls::two_make))]
+fn put_address<P: Paper>(paper: &mut P, address: Address)
+    ensures { Puts P.takes paper.old (ring_text address) paper.new }
+{
+    put_labelled_bytes(paper, "ring ", &address.to_bytes());
+    put_text(paper, "\n");
+}
+
+#[tactic(auto, using(paper::proofs::Calls::none))]
+fn put_address_if<P: Paper>(paper: &mut P, address: Option<Address>)
+    ensures { Puts P.takes paper.old (text_if ring_text address) paper.new }
+{
+    match address {
+        None => {}
+        Some(address) => put_address(paper, address),
+    }
+}
+
+fn put_ring<P: Paper>(paper: &mut P, strangers: &Strangers)
+    ensures { Puts P.takes paper.old (flat_map ring_text (ring_of strangers.now)) paper.new }
+{
+    for place in 0..strangers.ring_len() {
+        put_address_if(paper, strangers.ring_at(place));
+    }
+}
+
+#[tactic(auto, unfolding(crate::specs::Report::strangers_text), using(paper::proofs::Calls::four_make))]
+fn put_strangers<P: Paper>(paper: &mut P, strangers: &Strangers)
+    ensures { Puts P.takes paper.old (strangers_text strangers.now) paper.new }
+{
+    let heard = strangers.heard();
+    put_labelled(paper, "strangers ", heard.len() as u64);
+    put_text(paper, "\n");
+    put_heard(paper, heard);
+    put_ring(paper, strangers);
+}
+
+#[tactic(auto, unfolding(crate::specs::Report::report_text), using(paper::proofs::Calls::five_make))]
+fn put_report<P: Paper>(paper: &mut P, session: &Session<'_>)
+    ensures { Puts P.takes paper.old (report_text session.now.ends.now session.now.slots.now session.now.strangers.now) paper.new }
+{
+    put_text(paper, "wmbus-report 1\n");
+    put_receivers(paper, session.ends);
+    put_meters(paper, session.slots);
+    put_strangers(paper, session.strangers);
+    put_text(paper, "end\n");
+}
+
+impl Printed for Session<'_> {
+    ghost use Rattle.report_text.specs.Report.{report_text};
+
+    ghost text = { λ s. report_text s.ends.now s.slots.now s.strangers.now };
+
+    fn print<P: Paper>(&self, paper: &mut P) {
+        put_report(paper, self);
+    }
+}
+
+/// Writes the report of a session, in large pieces and without memory. On `Failed` some first bytes of it were written.
+pub fn report<K: Sink>(session: &Session<'_>, sink: &mut K) -> Result<(), Failed>
+    ensures ok { OnOk result (IsTrue K.tells → K.written sink.new ≡ K.written sink.old ++ report_text session.now.ends.now session.now.slots.now session.now.strangers.now) }
+    ensures err { OnErr result (IsTrue K.tells → AppendsFront (report_text session.now.ends.now session.now.slots.now session.now.strangers.now) (K.written sink.old) (K.written sink.new)) }
+    ensures later { K.faults sink.old ≤ K.faults sink.new }
+    ensures cause { OnErr result (Rose (K.faults sink.old) (K.faults sink.new)) }
+{
+    write(sink, session)
+}
