@@ -24,10 +24,13 @@ joined xs ys text more first second = rw (sym first) (rw (sym second) (concat-ap
 
 -- calls, and then more of them
 pub then : {P : Type 0} {takes : P → List ℕ → P → Type 0} {p q r : P} {text more : List ℕ} → Puts takes p text q → Puts takes q more r → Puts takes p (text ++ more) r
-then {P} {takes} {p} {q} {r} {text} {more} first second = record { calls = record {
-  parts = first.calls.parts ++ second.calls.parts;
-  calls = folds_then takes p q r first.calls.parts second.calls.parts first.calls.calls second.calls.calls;
-  whole = joined first.calls.parts second.calls.parts text more first.calls.whole second.calls.whole } }
+then {P} {takes} {p} {q} {r} {text} {more} first second = record {
+  calls = record {
+    parts = first.calls.parts ++ second.calls.parts;
+    calls = folds_then takes p q r first.calls.parts second.calls.parts first.calls.calls second.calls.calls;
+    whole = joined first.calls.parts second.calls.parts text more first.calls.whole second.calls.whole;
+  };
+}
 
 -- a text in two pieces, and in more
 pub two_make : {P : Type 0} {takes : P → List ℕ → P → Type 0} {p q r : P} {a b : List ℕ} (whole : List ℕ) → Puts takes p a q → Puts takes q b r → whole ≡ a ++ b → Puts takes p whole r

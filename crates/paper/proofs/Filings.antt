@@ -27,8 +27,10 @@ pub front_of_appended : (bytes old new : List ℕ) → AppendsFront bytes old ne
 front_of_appended bytes old new a = record { rest = take a.count bytes; joined = a.appended }
 
 pub appended_is_front : (bytes old new : List ℕ) → AppendsFront bytes old new → IsFrontOf new (old ++ bytes)
-appended_is_front bytes old new a = record { rest = drop a.count bytes;
-  joined = ap (λ t. old ++ t) (sym (take-append-drop a.count bytes)) ∙ sym (append_assoc old (take a.count bytes) (drop a.count bytes)) ∙ ap (λ t. t ++ drop a.count bytes) (sym a.appended) }
+appended_is_front bytes old new a = record {
+  rest = drop a.count bytes;
+  joined = ap (λ t. old ++ t) (sym (take-append-drop a.count bytes)) ∙ sym (append_assoc old (take a.count bytes) (drop a.count bytes)) ∙ ap (λ t. t ++ drop a.count bytes) (sym a.appended);
+}
 
 pub whole_is_front : (bytes old new : List ℕ) → new ≡ old ++ bytes → IsFrontOf new (old ++ bytes)
 whole_is_front bytes old new e = record { rest = []; joined = sym e ∙ sym (append-nil new) }
@@ -66,7 +68,8 @@ files_none tells a = record {
   whole = λ off. (off, λ t. sym (append-nil (a.written ++ a.page)));
   front = λ off on t. absurd (differ (sym off ∙ on));
   stuck = λ on. (on, λ t. refl);
-  cause = λ off on. absurd (differ (sym off ∙ on)) }
+  cause = λ off on. absurd (differ (sym off ∙ on));
+}
   where
     differ : false ≡ true → ⊥
     differ e = grind (arith, e)
@@ -89,7 +92,8 @@ files_then tells a b c x y one two = record {
   whole = λ off. let mid = (two.whole off).0 in ((one.whole mid).0, λ t. then_whole a.written a.page b.written b.page c.written c.page x y ((one.whole mid).1 t) ((two.whole off).1 t));
   front = front_by tells a b c x y b.failed refl one two;
   stuck = λ on. let mid = one.stuck on in let last = two.stuck mid.0 in (last.0, λ t. last.1 t ∙ mid.1 t);
-  cause = cause_by tells a b c x y b.failed refl one two }
+  cause = cause_by tells a b c x y b.failed refl one two;
+}
 
 -- the page given to the sink
 pub files_turn : (tells : Bool) (w p b w' e : List ℕ) (failed failed' : Bool) (f f' : ℕ) → b ≡ p → e ≡ [] → f ≤ f' → (IsTrue tells → IsFrontOf w w')
@@ -97,10 +101,13 @@ pub files_turn : (tells : Bool) (w p b w' e : List ℕ) (failed failed' : Bool) 
     → (failed ≡ true → (failed' ≡ true) × (IsTrue tells → w' ≡ w)) → (failed ≡ false → failed' ≡ true → Rose f f')
     → Files tells (record { written = w; page = p; failed = failed; faults = f }) [] (record { written = w'; page = e; failed = failed'; faults = f' })
 files_turn tells w p b w' e failed failed' f f' same empty later grows whole front stuck cause = record {
-  later = later; grows = grows;
+  later = later;
+  grows = grows;
   whole = λ off. ((whole off).0, λ t. ap (λ t. w' ++ t) empty ∙ ap (λ t. t ++ []) ((whole off).1 t ∙ ap (λ t. w ++ t) same));
   front = λ off on t. front_more w' (w ++ p) [] (front_same (w ++ b) (w ++ p) w' (ap (λ t. w ++ t) same) (front off t));
-  stuck = stuck; cause = cause }
+  stuck = stuck;
+  cause = cause;
+}
 
 calls_file : {P N : Type 0} (tells : Bool) (takes : P → List ℕ → P → Type 0) (name : P → N) (filed : P → Filed)
     → ((p : P) (text : List ℕ) (q : P) → takes p text q → (name q ≡ name p) × Files tells (filed p) text (filed q))
@@ -151,7 +158,8 @@ finished tells a b c text fresh empty one two emptied =
       err = λ on t. let front = all.front fresh on t in let grown = all.grows t in
           between a.written c.written text grown.rest front.rest grown.joined (sym (no_more a.written text a.page empty) ∙ front.joined);
       later = all.later;
-      cause = all.cause fresh }
+      cause = all.cause fresh;
+    }
 
 -- a text put on a fresh paper over a sink, and the paper finished
 pub print_finished : {P N : Type 0} (tells : Bool) (takes : P → List ℕ → P → Type 0) (name : P → N) (filed : P → Filed)

@@ -8,3 +8,6 @@ mod writing;
 
 pub use lent::{ReceiverEnd, Session};
 pub use writing::report;
+
+#[cfg(test)]
+mod tests;

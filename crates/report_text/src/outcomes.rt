@@ -29,9 +29,7 @@ fn put_afl_fault<P: Paper>(paper: &mut P, fault: AflFault)
         AflFault::AflLength { said, fields } => {
             put_labelled_two(paper, "afl length ", u64::from(said), u64::from(fields))
         }
-        AflFault::FieldPlace(fcl) => {
-            put_labelled_bytes(paper, "afl place ", &fcl.to_be_bytes())
-        }
+        AflFault::FieldPlace(fcl) => { put_labelled_bytes(paper, "afl place ", &fcl.to_be_bytes()) }
         AflFault::FidZero => put_text(paper, "afl fidzero"),
     }
 }
@@ -126,10 +124,13 @@ fn put_reading_if<P: Paper>(paper: &mut P, reading: Option<&Reading>)
 }
 
 #[tactic(auto, unfolding(crate::specs::Outcomes::stored_text), using(paper::proofs::Calls::four_make))]
-fn put_stored<P: Paper>(paper: &mut P, counter: u32,
+fn put_stored<P: Paper>(
+    paper: &mut P,
+    counter: u32,
     reading: Option<&Reading>,
     confirmed: Option<u32>,
-    sent: Option<u32>)
+    sent: Option<u32>,
+)
     ensures { Puts P.takes paper.old (stored_text counter (option_copied reading.entry) confirmed sent) paper.new }
 {
     put_labelled(paper, "stored ", u64::from(counter));
@@ -165,8 +166,7 @@ fn counter_of(sent: &Option<Downlink>) -> Option<u32>
 }
 
 // An outcome, with the reading of what is stored.
-pub(crate) fn put_outcome<P: Paper>(paper: &mut P, reading: Option<&Reading>,
-    outcome: &Outcome)
+pub(crate) fn put_outcome<P: Paper>(paper: &mut P, reading: Option<&Reading>, outcome: &Outcome)
     ensures { Puts P.takes paper.old (outcome_text (option_copied reading.entry) outcome.now) paper.new }
 {
     match outcome {

@@ -25,9 +25,7 @@ pub(crate) fn put_labelled<P: Paper>(paper: &mut P, word: &str, number: u64)
 
 // A word and its two numbers.
 #[tactic(auto, unfolding(crate::specs::Pieces::labelled_two), using(paper::proofs::Calls::four_make))]
-pub(crate) fn put_labelled_two<P: Paper>(paper: &mut P, word: &str,
-    first: u64,
-    second: u64)
+pub(crate) fn put_labelled_two<P: Paper>(paper: &mut P, word: &str, first: u64, second: u64)
     ensures { Puts P.takes paper.old (labelled_two word.now first second) paper.new }
 {
     put_text(paper, word);
@@ -38,8 +36,7 @@ pub(crate) fn put_labelled_two<P: Paper>(paper: &mut P, word: &str,
 
 // A word and its number, or nothing for none.
 #[tactic(auto, using(paper::proofs::Calls::none))]
-pub(crate) fn put_labelled_if<P: Paper>(paper: &mut P, word: &str,
-    number: Option<u32>)
+pub(crate) fn put_labelled_if<P: Paper>(paper: &mut P, word: &str, number: Option<u32>)
     ensures { Puts P.takes paper.old (labelled_if word.now number) paper.new }
 {
     match number {
@@ -50,8 +47,7 @@ pub(crate) fn put_labelled_if<P: Paper>(paper: &mut P, word: &str,
 
 // A word and bytes in hexadecimal.
 #[tactic(auto, unfolding(crate::specs::Pieces::labelled_bytes), using(paper::proofs::Calls::two_make))]
-pub(crate) fn put_labelled_bytes<P: Paper>(paper: &mut P, word: &str,
-    bytes: &[u8])
+pub(crate) fn put_labelled_bytes<P: Paper>(paper: &mut P, word: &str, bytes: &[u8])
     ensures { Puts P.takes paper.old (labelled_bytes word.now bytes.now) paper.new }
 {
     put_text(paper, word);

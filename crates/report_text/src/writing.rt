@@ -10,9 +10,9 @@ ghost use Rattle.record_text.specs.RecordText.{records_text};
 ghost use Rattle.report_text.specs.Pieces.{text_if};
 ghost use Rattle.report_text.specs.Report.{ended_text, counts_text, receiver_text, letters_text, mode_text, commission_text, numbers_text, step_text, readings_after, steps_text, last_text, pending_text, journal_text, meter_text, stranger_text, ring_text, strangers_text, report_text};
 
+use crate::lent::{ReceiverEnd, Session};
 use crate::outcomes::put_outcome;
 use crate::pieces::{put_labelled, put_labelled_bytes, put_labelled_two, put_optional};
-use crate::lent::{ReceiverEnd, Session};
 use command_queue::{Command, Queue};
 use meter_address::{Address, Mode};
 use meter_slots::{Counts, Ended, Entry, Outcome, Reading, SlotBook};
@@ -64,11 +64,15 @@ fn put_receivers<P: Paper>(paper: &mut P, ends: &[ReceiverEnd])
 }
 
 #[tactic(auto, unfolding(crate::specs::Report::step_text), using(paper::proofs::Calls::four_make))]
-fn put_step<P: Paper>(paper: &mut P, reading: Option<&Reading>,
-    entry: &Entry)
+fn put_step<P: Paper>(paper: &mut P, reading: Option<&Reading>, entry: &Entry)
     ensures { Puts P.takes paper.old (step_text (option_copied reading.entry) entry.now) paper.new }
 {
-    put_labelled_two(paper, "step ", u64::from(entry.source), u64::from(entry.line));
+    put_labelled_two(
+        paper,
+        "step ",
+        u64::from(entry.source),
+        u64::from(entry.line),
+    );
     put_text(paper, " ");
     put_outcome(paper, reading, &entry.outcome);
     put_text(paper, "\n");
@@ -85,8 +89,7 @@ fn readings_after<'a>(outcome: &Outcome, readings: &'a [Reading]) -> &'a [Readin
 }
 
 #[tactic(auto, using(paper::proofs::Calls::none, paper::proofs::Calls::then))]
-fn put_steps<P: Paper>(paper: &mut P, readings: &[Reading],
-    journal: &[Entry])
+fn put_steps<P: Paper>(paper: &mut P, readings: &[Reading], journal: &[Entry])
     ensures { Puts P.takes paper.old (steps_text readings.now journal.now) paper.new }
 {
     let mut left = readings;
@@ -117,7 +120,9 @@ fn put_last<P: Paper>(paper: &mut P, readings: &[Reading])
 fn put_command<P: Paper>(paper: &mut P, command: &Command)
     ensures { Puts P.takes paper.old (pending_text command.now) paper.new }
 {
-    put_labelled_two(paper, "pending ",
+    put_labelled_two(
+        paper,
+        "pending ",
         u64::from(command.id),
         u64::from(command.tries),
     );
@@ -144,9 +149,7 @@ fn put_pending<P: Paper>(paper: &mut P, queue: &Queue)
 }
 
 #[tactic(auto, unfolding(crate::specs::Report::journal_text), using(paper::proofs::Calls::three_make))]
-fn put_journal<P: Paper>(paper: &mut P, readings: &[Reading],
-    journal: &[Entry],
-    queue: &Queue)
+fn put_journal<P: Paper>(paper: &mut P, readings: &[Reading], journal: &[Entry], queue: &Queue)
     ensures { Puts P.takes paper.old (journal_text readings.now journal.now queue.now.commands) paper.new }
 {
     put_steps(paper, readings, journal);
@@ -174,8 +177,7 @@ fn mode_digit(mode: Mode) -> &'static str
 }
 
 #[tactic(auto, unfolding(crate::specs::Report::commission_text), using(paper::proofs::Calls::five_make))]
-fn put_commission<P: Paper>(paper: &mut P, address: Address,
-    mode: Mode)
+fn put_commission<P: Paper>(paper: &mut P, address: Address, mode: Mode)
     ensures { Puts P.takes paper.old (commission_text address mode) paper.new }
 {
     put_labelled_bytes(paper, "meter ", &address.to_bytes());
@@ -186,10 +188,7 @@ fn put_commission<P: Paper>(paper: &mut P, address: Address,
 }
 
 #[tactic(auto, unfolding(crate::specs::Report::numbers_text), using(paper::proofs::Calls::six_make))]
-fn put_numbers<P: Paper>(paper: &mut P, last: Option<u32>,
-    down: u32,
-    steps: usize,
-    readings: usize)
+fn put_numbers<P: Paper>(paper: &mut P, last: Option<u32>, down: u32, steps: usize, readings: usize)
     ensures { Puts P.takes paper.old (numbers_text last down steps readings) paper.new }
 {
     put_text(paper, " last ");
@@ -225,7 +224,9 @@ fn put_meters<P: Paper>(paper: &mut P, slots: &[SlotBook])
 fn put_stranger<P: Paper>(paper: &mut P, stranger: &Heard)
     ensures { Puts P.takes paper.old (stranger_text stranger.now) paper.new }
 {
-    put_labelled_two(paper, "stranger ",
+    put_labelled_two(
+        paper,
+        "stranger ",
         u64::from(stranger.source),
         u64::from(stranger.line),
     );
