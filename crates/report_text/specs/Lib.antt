@@ -1,3 +1,4 @@
+pub mod Orders
 pub mod Outcomes
 pub mod Pieces
 pub mod Report
