@@ -1,5 +1,5 @@
 -- The text of an outcome holds no newline.
-use Rattle.std.proofs.Common.{◌≡◌, ℕ, List, [], ◌∷◌, ◌++◌, Option, Some, None, refl}
+use Rattle.std.proofs.Common.{ℕ, [], ◌∷◌, Option, refl}
 use Rattle.std.specs.Prelude.{codes, option_map}
 use Rattle.std.specs.Int.{w16, to_be_bytes}
 use Rattle.meter_address.specs.Address.{bytes_of}
@@ -16,10 +16,9 @@ use Rattle.message_check.specs.declared.refusal.Reason.TheVariants.{NotUplink, B
 use Rattle.meter_slots.specs.declared.entry.Outcome.{Outcome}
 use Rattle.meter_slots.specs.declared.entry.Outcome.TheVariants.{Stored, PartKept, Ticked, Queued, Cancelled, Refused}
 use Rattle.meter_slots.specs.declared.reading.Reading.{Reading}
-use Rattle.record_text.specs.Values.{hex_text}
 use Rattle.report_text.specs.Outcomes.{ell_fault_text, afl_fault_text, tpl_fault_text, layer_fault_text, message_fault_text, reason_text, reading_text, stored_text, refused_text, ticked_text, outcome_text}
 use Rattle.report_text.proofs.LineWalks.{IsWithout, ◌⌢◌, literal}
-use Rattle.report_text.proofs.LinePieces.{number, hex_or_dash, worded_number, worded_two, worded_if, worded_bytes, piece_if}
+use Rattle.report_text.proofs.LinePieces.{hex_or_dash, worded_number, worded_two, worded_if, worded_bytes, piece_if}
 
 ell_fault : (fault : EllFault) → IsWithout 10 (ell_fault_text fault)
 ell_fault (ell.Truncated have) = worded_number (literal (codes "ell truncated ") refl) have

@@ -1,5 +1,5 @@
 -- The lines of records, which change no list of steps.
-use Rattle.std.proofs.Common.{◌≡◌, ℕ, zero, suc, ◌/◌, ◌%◌, ◌==◌, Bool, true, false, cond, List, [], ◌∷◌, ◌++◌, Option, Some, None, Result, Ok, Err, refl, arith}
+use Rattle.std.proofs.Common.{ℕ, zero, suc, ◌/◌, ◌%◌, ◌==◌, Bool, true, false, cond, List, [], ◌∷◌, Option, Some, None, Result, Ok, Err, refl, arith}
 use Rattle.std.specs.Prelude.{codes}
 use Rattle.dif_vif.specs.declared.fault.RecordFault.{RecordFault}
 use Rattle.dif_vif.specs.declared.fault.RecordFault.TheVariants.{Truncated, TooManyExtensions, Lvar, Selection, Special}
@@ -14,9 +14,9 @@ use Rattle.record_values.specs.declared.values.Value.{Value}
 use Rattle.record_values.specs.declared.values.Value.TheVariants as values
 use Rattle.record_values.specs.Units.{unit}
 use Rattle.record_values.specs.Values.{value}
-use Rattle.record_text.specs.Lines.{bytes_at, byte_text, spaced, place_text, unit_text, data_text, record_line, maker_line, span_line, worded, fault_text, fault_line}
+use Rattle.record_text.specs.Lines.{bytes_at, spaced, place_text, unit_text, data_text, record_line, maker_line, span_line, worded, fault_text, fault_line}
 use Rattle.record_text.specs.RecordText.{more_text, next_text, listed, records_text}
-use Rattle.record_text.specs.Values.{hex_text, two_digits, four_digits, day_text, time_text, marked, value_text}
+use Rattle.record_text.specs.Values.{two_digits, four_digits, day_text, time_text, marked, value_text}
 use Rattle.record_text.specs.Words.{function_text, quantity_text, name_text}
 use Rattle.report_text.specs.Orders.{with_line}
 use Rattle.report_text.proofs.LineWalks.{IsWithout, ◌⌢◌, literal, Passes, nothing, ◌⨾◌, one_line}
@@ -97,7 +97,7 @@ unfolding record_line with_line
 record_passes bytes span =
     let u = unit bytes span in
     one_line _ (literal (codes "record ") refl ⌢ place_is span ⌢ unit_is u
-        ⌢ data_is (bytes_at bytes u.modifiers_at u.modifiers) (value bytes span) (bytes_at bytes span.data_at span.data_len))
+    ⌢ data_is (bytes_at bytes u.modifiers_at u.modifiers) (value bytes span) (bytes_at bytes span.data_at span.data_len))
 
 maker_passes : (bytes : List ℕ) (span : RecordSpan) → Passes (maker_line bytes span)
 unfolding maker_line with_line

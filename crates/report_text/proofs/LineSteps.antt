@@ -1,17 +1,15 @@
 -- The lines of steps and of strangers.
-use Rattle.std.proofs.Common.{◌≡◌, ℕ, ◌+◌, ◌<◌, ◌^◌, ◌==◌, ◌&&◌, Bool, true, false, cond, List, [], ◌∷◌, ◌++◌, sym, refl, ap, ◌∙◌, append_assoc, arith, rules}
+use Rattle.std.proofs.Common.{◌≡◌, ℕ, ◌<◌, ◌^◌, ◌&&◌, true, List, [], ◌∷◌, ◌++◌, refl, ap, ◌∙◌, append_assoc, arith}
 use Rattle.std.specs.Prelude.{codes}
-use Rattle.std.specs.List.{list_all}
 use Rattle.std.specs.Fmt.{decimal}
 use Rattle.std.specs.Str.{all_ascii_digits}
 use Rattle.std.specs.Str.Parse.{digits_value}
 use Rattle.std.proofs.lemmas.Bool.{and_from, cond-true}
 use Rattle.std.proofs.lemmas.Str.Parse.{IsNumeralModel, numerals_by_value, tells_all_ascii_digits}
 use Rattle.std.proofs.lemmas.Fmt.{digits_decimal, digits_value-decimal}
-use Rattle.report_text.specs.Orders.{Told, pair_in, fields_in, with_steps, with_line}
+use Rattle.report_text.specs.Orders.{pair_in, fields_in, with_steps, with_line}
 use Rattle.report_text.specs.Pieces.{labelled_two}
-
-use Rattle.report_text.proofs.LineWalks.{IsWithout, ◌⌢◌, literal, differs, cut_first, cut_last, Tells, one_line, same_text, same_turn}
+use Rattle.report_text.proofs.LineWalks.{IsWithout, ◌⌢◌, literal, cut_first, cut_last, Tells, one_line, same_turn}
 use Rattle.report_text.proofs.LinePieces.{number, worded_two}
 
 own : IsNumeralModel (λ ds. all_ascii_digits ds ≡ true) (digits_value 10)
@@ -28,7 +26,7 @@ same_pair a b n m e f = λ i. one_pair (e i) (f i)
 pair_of_decimals : (word : List ℕ) (n m : ℕ) (more : List (List ℕ)) → n < 2 ^ 32 → m < 2 ^ 32 → pair_in (word ∷ decimal n ∷ decimal m ∷ more) ≡ one_pair n m
 pair_of_decimals word n m more small_n small_m =
     cond-true (all_ascii_digits (decimal n) && all_ascii_digits (decimal m)) (one_pair (digits_value 10 (decimal n)) (digits_value 10 (decimal m))) []
-        (and_from _ _ (digits_decimal own n (omega arith)) (digits_decimal own m (omega arith)))
+    (and_from _ _ (digits_decimal own n (omega arith)) (digits_decimal own m (omega arith)))
     ∙ same_pair _ _ n m (digits_value-decimal own n (omega arith)) (digits_value-decimal own m (omega arith))
 
 -- the pieces of such a line, bracketed to the right
@@ -49,7 +47,7 @@ fields_of_more : (word : List ℕ) (n m : ℕ) (o : List ℕ) → IsWithout 32 w
 fields_of_more word n m o h =
     cut_first 32 word (decimal n ++ 32 ∷ (decimal m ++ 32 ∷ o)) h.passed
     ∙ ap (λ fields. word ∷ fields) (cut_first 32 (decimal n) (decimal m ++ 32 ∷ o) (number n (omega arith)).passed
-        ∙ ap (λ fields. decimal n ∷ fields) (cut_first 32 (decimal m) o (number m (omega arith)).passed))
+    ∙ ap (λ fields. decimal n ∷ fields) (cut_first 32 (decimal m) o (number m (omega arith)).passed))
 
 pair_of_two : (word : List ℕ) (n m : ℕ) → IsWithout 32 word → n < 2 ^ 32 → m < 2 ^ 32 → pair_in (fields_in (word ++ codes " " ++ decimal n ++ codes " " ++ decimal m)) ≡ one_pair n m
 pair_of_two word n m h small_n small_m =
@@ -67,11 +65,11 @@ unfolding labelled_two with_line
 step_line n m o small_n small_m h =
     let pair = pair_of_more (codes "step") n m o (literal (codes "step") refl) small_n small_m in
     same_turn (with_steps (one_pair n m)) (λ t. ap (λ pairs. with_steps pairs t) pair)
-        (one_line (labelled_two (codes "step ") n m ++ codes " " ++ o) (worded_two (literal (codes "step ") refl) n m ⌢ literal (codes " ") refl ⌢ h))
+    (one_line (labelled_two (codes "step ") n m ++ codes " " ++ o) (worded_two (literal (codes "step ") refl) n m ⌢ literal (codes " ") refl ⌢ h))
 
 pub stranger_line : (n m : ℕ) → n < 2 ^ 32 → m < 2 ^ 32 → Tells (labelled_two (codes "stranger ") n m ++ codes "\n") (with_steps ((n, m) ∷ []))
 unfolding labelled_two with_line
 stranger_line n m small_n small_m =
     let pair = pair_of_two (codes "stranger") n m (literal (codes "stranger") refl) small_n small_m in
     same_turn (with_steps (one_pair n m)) (λ t. ap (λ pairs. with_steps pairs t) pair)
-        (one_line (labelled_two (codes "stranger ") n m) (worded_two (literal (codes "stranger ") refl) n m))
+    (one_line (labelled_two (codes "stranger ") n m) (worded_two (literal (codes "stranger ") refl) n m))

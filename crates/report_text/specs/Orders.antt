@@ -24,18 +24,20 @@ fields_in line = slice_split (λ b. b == 32) line
 abbrev pub begins : List ℕ → List ℕ → Bool
 begins word line = starts_with nat_eq line word
 
--- The two numbers behind the first word. Fields of anything but digits are passed over, and so is a line with too few fields.
+-- The two numbers behind the first word. A line with too few fields, or with another byte than digits in one of the two, is passed over.
 abbrev pub pair_in : List (List ℕ) → List (ℕ × ℕ)
 pair_in (word ∷ first ∷ second ∷ more) = if all_ascii_digits first && all_ascii_digits second then (digits_value 10 first, digits_value 10 second) ∷ [] else []
 pair_in _ = []
 
--- a heading of a meter has the steps that stand between it and the next heading
+-- a meter's heading opens its list: the steps between it and the next heading are its own
 abbrev pub meter_heading : Told → Told
 meter_heading below = record { above = []; meters = below.above ∷ below.meters; strangers = below.strangers }
 
+-- and so does the heading of the strangers
 abbrev pub strangers_heading : Told → Told
 strangers_heading below = record { above = []; meters = below.meters; strangers = below.above ++ below.strangers }
 
+-- steps are added to the list that a heading above them opens
 abbrev pub with_steps : List (ℕ × ℕ) → Told → Told
 with_steps pairs below = record { above = pairs ++ below.above; meters = below.meters; strangers = below.strangers }
 

@@ -8,7 +8,7 @@ use Rattle.report_text.specs.declared.lent.ReceiverEnd.{ReceiverEnd}
 use Rattle.report_text.specs.Orders.{Orders, orders}
 use Rattle.report_text.specs.Report.{report_text}
 
--- a receiver and a line, as the collector counts them
+-- the numbers of a receiver and of its line fit 32 bits, in which the collector counts them
 abbrev pub IsCounted : ℕ × ℕ → Type 0
 IsCounted pair = (pair.0 < 2 ^ 32) × (pair.1 < 2 ^ 32)
 
@@ -21,7 +21,7 @@ place_of_stranger h = (h.source, h.line)
 abbrev pub order_of : Book → List (ℕ × ℕ)
 order_of b = map place_of_step b.journal
 
--- the orders in which steps came
+-- the orders of which a report is made: the steps of each slot's journal, and the strangers' lines
 abbrev pub orders_of : List Book → List Heard → Orders
 orders_of slots heard = record { meters = map order_of slots; strangers = map place_of_stranger heard }
 
