@@ -2,4 +2,3 @@ pub mod Enrolling
 pub mod LineCounts
 pub mod Reports
 pub mod Tellings
-pub mod Texts

@@ -1,8 +1,5 @@
 pub mod Hearing
-pub mod Outcomes
-pub mod Pieces
 pub mod Receiver
-pub mod Report
 pub mod Rosters
 pub mod Session
 pub mod Statuses

@@ -1,19 +1,20 @@
 -- What each status says of a session.
-use Rattle.std.specs.Prelude.{ℕ, ◌≡◌, ◌⊎◌, Bool, true, List, [], Option, Some, None, Result, Ok, Err, IsTrue}
+use Rattle.std.specs.Prelude.{ℕ, ◌≡◌, ◌⊎◌, Bool, true, List, [], ◌∷◌, Option, Some, None, Result, Ok, Err, IsTrue}
 use Rattle.outer_io.specs.Faults.{Rose}
 use Rattle.outer_io.specs.Bytes.{AppendsFront}
 use Rattle.line_reader.specs.Lines.{is_over}
 use Rattle.line_reader.specs.Reader.{IsAtEnd}
 use Rattle.meter_slots.specs.declared.counts.Ended.{Ended}
 use Rattle.meter_slots.specs.declared.counts.Ended.TheVariants as ends
-use Rattle.meter_slots.specs.World.{world_of}
+use Rattle.meter_slots.specs.declared.counts.Counts.{Counts}
+use Rattle.meter_slots.specs.World.{WorldView, world_of}
+use Rattle.report_text.specs.Report.{report_text}
 use Rattle.roster_file.specs.Roster.{Enrolled, roster_of}
 use Rattle.roster_file.specs.declared.roster.RosterFault.{RosterFault}
 use Rattle.roster_file.specs.declared.roster.RosterFault.TheVariants.{Line}
 use Rattle.collector_main.specs.declared.status.Status.{Status}
 use Rattle.collector_main.specs.declared.status.Status.TheVariants as statuses
 use Rattle.collector_main.specs.Hearing.{IsEnding}
-use Rattle.collector_main.specs.Report.{report_text}
 use Rattle.collector_main.specs.Session.{steps_of, counts_of}
 
 -- the program's exit status
@@ -35,9 +36,13 @@ ended_of (statuses.Read w) = Some ends.ReadFault
 ended_of (statuses.Cut w) = Some ends.Cut
 ended_of _ = None
 
+-- the report of one receiver: its counts, how it ended, and the world after its lines
+abbrev pub one_text : Counts → Ended → WorldView → List ℕ
+one_text counts ended world = report_text (record { counts = counts; ended = ended } ∷ []) world.slots world.strangers
+
 -- the report of these lines, for the own address and the meters of a roster
 abbrev pub hear_text : Enrolled → List (List ℕ) → Ended → List ℕ
-hear_text r lines ended = report_text (counts_of r.meters lines) ended (world_of r.own r.meters (steps_of 1 lines))
+hear_text r lines ended = one_text (counts_of r.meters lines) ended (world_of r.own r.meters (steps_of 1 lines))
 
 -- a report has its whole text, or the count of its sink's faults rose and it has a front of the text
 abbrev pub IsWritten : List ℕ → List ℕ → ℕ → ℕ → Type 0

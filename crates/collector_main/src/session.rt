@@ -4,16 +4,17 @@ ghost use Rattle.outer_io.specs.Faults.{Rose};
 ghost use Rattle.roster_file.specs.Roster.{roster_of};
 ghost use Rattle.roster_file.specs.declared.roster.RosterFault.TheVariants as roster_faults;
 ghost use Rattle.roster_file.specs.declared.roster.LineCause.{LineCause};
+ghost use Rattle.report_text.specs.Report.{report_text};
 ghost use Rattle.collector_main.specs.Rosters.{IsEnrolled, IsRosterStatus, HearsAll};
-ghost use Rattle.collector_main.specs.Statuses.{IsSession, IsWhole, IsWritten, IsCaused, IsUnread, IsHeardStatus, ended_of, after_failed_write};
+ghost use Rattle.collector_main.specs.Statuses.{IsSession, IsWhole, IsWritten, IsCaused, IsUnread, IsHeardStatus, ended_of, one_text, after_failed_write};
 
 use crate::hearing::{Heard, hear_receiver};
 use crate::receiver::Receiver;
-use crate::report::make_report;
 use crate::source_bytes::{ReadError, read_all};
 use crate::status::Status;
 use meter_slots::{Ended, World};
-use outer_io::{Memory, Sink, Source, write_all};
+use outer_io::{Memory, Sink, Source};
+use report_text::{ReceiverEnd, Session, report};
 use roster_file::{LineCause, MOST_BYTES, Roster, RosterFault, read_roster};
 use std::alloc::Global;
 
@@ -39,7 +40,7 @@ fn load_roster<S: Source>(alloc: Global, source: &mut S) -> Result<Roster, Statu
 
 // The world after the receiver's lines, and what hearing them came to.
 #[derive(Drop)]
-struct Session {
+struct HeardWorld {
     world: World,
     heard: Heard,
 }
@@ -49,7 +50,7 @@ fn hear_world<S: Source, K: Sink>(
     alloc: Global,
     roster: Roster,
     receiver: &mut Receiver<S, K>,
-) -> Result<Session, Memory>
+) -> Result<HeardWorld, Memory>
     requires enrolled { IsEnrolled roster }
     requires fresh { receiver.old.fresh ≡ true }
     ensures heard { IfOk result (λ session. IsTrue S.tells → HearsAll roster session.heard.ended (S.taken receiver.new.source) (S.left receiver.new.source) session.world session.heard.counts) }
@@ -61,7 +62,7 @@ fn hear_world<S: Source, K: Sink>(
     let mut world = World::new(alloc, own, roster.into_meters())?;
     receiver.fresh = false;
     let heard = hear_receiver(&mut world, &mut receiver.lines)?;
-    Ok(Session { world, heard })
+    Ok(HeardWorld { world, heard })
 }
 
 // The status of a receiver that ended so, where the report has its whole text.
@@ -95,18 +96,39 @@ fn unwritten(status: Status) -> Status
 }
 
 // Writes the report, and answers the status or that of a failed write.
-fn finish<K: Sink>(report: &mut K, text: &str, status: Status) -> Status
-    requires empty { IsTrue K.tells → K.written report.old ≡ [] }
+fn finish<K: Sink>(sink: &mut K, session: &Session<'_>, status: Status) -> Status
+    requires empty { IsTrue K.tells → K.written sink.old ≡ [] }
     requires heard { IsHeardStatus status }
-    ensures status { (result ≡ status) ⊎ ((result ≡ after_failed_write status) × Rose (K.faults report.old) (K.faults report.new)) }
+    ensures status { (result ≡ status) ⊎ ((result ≡ after_failed_write status) × Rose (K.faults sink.old) (K.faults sink.new)) }
     ensures ended { ended_of result ≡ ended_of status }
-    ensures written { IsTrue K.tells → IsWritten text.now (K.written report.new) (K.faults report.old) (K.faults report.new) }
-    ensures done { result ≡ Status.Done → IsTrue K.tells → K.written report.new ≡ text.now }
+    ensures written { IsTrue K.tells → IsWritten (report_text session.now.ends.now session.now.slots.now session.now.strangers.now) (K.written sink.new) (K.faults sink.old) (K.faults sink.new) }
+    ensures done { result ≡ Status.Done → IsTrue K.tells → K.written sink.new ≡ report_text session.now.ends.now session.now.slots.now session.now.strangers.now }
 {
-    match write_all(report, text.as_bytes()) {
+    match report(session, sink) {
         Ok(()) => status,
         Err(_) => unwritten(status),
     }
+}
+
+// Writes the report of one receiver.
+fn finish_one<K: Sink>(sink: &mut K, heard: &HeardWorld, status: Status) -> Status
+    requires empty { IsTrue K.tells → K.written sink.old ≡ [] }
+    requires heard { IsHeardStatus status }
+    ensures status { (result ≡ status) ⊎ ((result ≡ after_failed_write status) × Rose (K.faults sink.old) (K.faults sink.new)) }
+    ensures ended { ended_of result ≡ ended_of status }
+    ensures written { IsTrue K.tells → IsWritten (one_text heard.now.heard.counts heard.now.heard.ended heard.now.world) (K.written sink.new) (K.faults sink.old) (K.faults sink.new) }
+    ensures done { result ≡ Status.Done → IsTrue K.tells → K.written sink.new ≡ one_text heard.now.heard.counts heard.now.heard.ended heard.now.world }
+{
+    let ends = [ReceiverEnd {
+        counts: heard.heard.counts,
+        ended: heard.heard.ended,
+    }];
+    let session = Session {
+        ends: &ends,
+        slots: heard.world.slots(),
+        strangers: heard.world.strangers(),
+    };
+    finish(sink, &session, status)
 }
 
 /// Hears all lines of one fresh receiver for the meters of a roster, and writes the report. It returns.
@@ -145,12 +167,8 @@ pub fn hear_session<S: Source, K: Sink>(
         Ok(roster) => roster,
         Err(status) => return status,
     };
-    let Ok(session) = hear_world(alloc, roster, receiver) else {
+    let Ok(heard) = hear_world(alloc, roster, receiver) else {
         return Status::Memory;
     };
-    let ended = session.heard.ended;
-    let Ok(text) = make_report(alloc, session.heard.counts, ended, &session.world) else {
-        return Status::Memory;
-    };
-    finish(report, text.as_str(), status_of(ended))
+    finish_one(report, &heard, status_of(heard.heard.ended))
 }

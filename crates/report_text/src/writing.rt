@@ -84,6 +84,7 @@ fn readings_after<'a>(outcome: &Outcome, readings: &'a [Reading]) -> &'a [Readin
     }
 }
 
+#[tactic(auto, using(paper::proofs::Calls::none, paper::proofs::Calls::then))]
 fn put_steps<P: Paper>(paper: &mut P, readings: &[Reading],
     journal: &[Entry])
     ensures { Puts P.takes paper.old (steps_text readings.now journal.now) paper.new }
@@ -133,6 +134,7 @@ fn put_command_if<P: Paper>(paper: &mut P, command: Option<&Command>)
     }
 }
 
+#[tactic(auto, using(paper::proofs::Calls::none))]
 fn put_pending<P: Paper>(paper: &mut P, queue: &Queue)
     ensures { Puts P.takes paper.old (flat_map pending_text queue.now.commands) paper.new }
 {
@@ -210,6 +212,7 @@ fn put_meter<P: Paper>(paper: &mut P, slot: &SlotBook)
     put_journal(paper, readings, journal, slot.queue());
 }
 
+#[tactic(auto, using(paper::proofs::Calls::none, paper::proofs::Calls::then))]
 fn put_meters<P: Paper>(paper: &mut P, slots: &[SlotBook])
     ensures { Puts P.takes paper.old (flat_map meter_text slots.now) paper.new }
 {
@@ -229,6 +232,7 @@ fn put_stranger<P: Paper>(paper: &mut P, stranger: &Heard)
     put_text(paper, "\n");
 }
 
+#[tactic(auto, using(paper::proofs::Calls::none, paper::proofs::Calls::then))]
 fn put_heard<P: Paper>(paper: &mut P, heard: &[Heard])
     ensures { Puts P.takes paper.old (flat_map stranger_text heard.now) paper.new }
 {
@@ -255,6 +259,7 @@ fn put_address_if<P: Paper>(paper: &mut P, address: Option<Address>)
     }
 }
 
+#[tactic(auto, using(paper::proofs::Calls::none))]
 fn put_ring<P: Paper>(paper: &mut P, strangers: &Strangers)
     ensures { Puts P.takes paper.old (flat_map ring_text (ring_of strangers.now)) paper.new }
 {

@@ -1,8 +1,8 @@
-use Rattle.std.proofs.Common.{◌≡◌, ◌++◌, take}
+use Rattle.std.proofs.Common.{take}
 use Rattle.std.specs.List.{flat_map}
-use Rattle.std.specs.String.{string_bytes}
+use Rattle.paper.specs.Puts.{Puts}
 use Rattle.report_text.specs.Report.{stranger_text}
 use Rattle.report_text.proofs.writing.put_heard.Given as goal
 
 abbrev pub invariant-loop-stranger : goal.invariant-loop-stranger
-invariant-loop-stranger l = string_bytes l.out ≡ string_bytes l.initial.out ++ flat_map stranger_text (take l.stranger-index l.heard)
+invariant-loop-stranger g l = Puts g.P.Paper.takes l.initial.paper (flat_map stranger_text (take l.stranger-index l.heard)) l.paper

@@ -1,10 +1,7 @@
-use Rattle.std.specs.String.{string_bytes}
 use Rattle.stranger_ring.specs.Ring.{ring_of}
 use Rattle.report_text.specs.Report.{ring_text}
 use Rattle.report_text.proofs.Texts.{one_more}
 use Rattle.report_text.proofs.writing.put_ring.Goals as goal
 
 pub loop-place-preserved : goal.loop-place-preserved
-loop-place-preserved c =
-    one_more ring_text (ring_of c.args.strangers.now) c.loop-place.place _ (string_bytes c.args.out.now) (string_bytes c.loop-place.out) (string_bytes c.put_address_if.new.out)
-    c.ring_at.ensures c.loop-place.invariant c.in_ok-put_address_if.ensures
+loop-place-preserved g c = one_more ring_text (ring_of c.args.strangers.now) c.loop-place.place _ c.ring_at.ensures c.loop-place.invariant c.put_address_if.ensures
