@@ -1,1 +1,8 @@
+pub mod LineExample
+pub mod LineOutcomes
+pub mod LinePieces
+pub mod LineRecords
+pub mod LineReport
+pub mod LineSteps
+pub mod LineWalks
 pub mod Texts

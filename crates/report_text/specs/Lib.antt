@@ -1,3 +1,5 @@
+pub mod Orders
+pub mod OrdersLaw
 pub mod Outcomes
 pub mod Pieces
 pub mod Report

@@ -1,0 +1,148 @@
+-- The lines of records, which change no list of steps.
+use Rattle.std.proofs.Common.{ℕ, zero, suc, ◌/◌, ◌%◌, ◌==◌, Bool, true, false, cond, List, [], ◌∷◌, Option, Some, None, Result, Ok, Err, refl, arith}
+use Rattle.std.specs.Prelude.{codes}
+use Rattle.dif_vif.specs.declared.fault.RecordFault.{RecordFault}
+use Rattle.dif_vif.specs.declared.fault.RecordFault.TheVariants.{Truncated, TooManyExtensions, Lvar, Selection, Special}
+use Rattle.dif_vif.specs.declared.span.RecordSpan.{RecordSpan}
+use Rattle.dif_vif.specs.Reading.{next_of}
+use Rattle.record_values.specs.declared.units.Quantity.{Quantity}
+use Rattle.record_values.specs.declared.units.Quantity.TheVariants as quantities
+use Rattle.record_values.specs.declared.units.Unit.{Unit as Measure}
+use Rattle.record_values.specs.declared.units.UnitName.{UnitName}
+use Rattle.record_values.specs.declared.units.UnitName.TheVariants as units
+use Rattle.record_values.specs.declared.values.Value.{Value}
+use Rattle.record_values.specs.declared.values.Value.TheVariants as values
+use Rattle.record_values.specs.Units.{unit}
+use Rattle.record_values.specs.Values.{value}
+use Rattle.record_text.specs.Lines.{bytes_at, spaced, place_text, unit_text, data_text, record_line, maker_line, span_line, worded, fault_text, fault_line}
+use Rattle.record_text.specs.RecordText.{more_text, next_text, listed, records_text}
+use Rattle.record_text.specs.Values.{two_digits, four_digits, day_text, time_text, marked, value_text}
+use Rattle.record_text.specs.Words.{function_text, quantity_text, name_text}
+use Rattle.report_text.specs.Orders.{with_line}
+use Rattle.report_text.proofs.LineWalks.{IsWithout, ◌⌢◌, literal, Passes, nothing, ◌⨾◌, one_line}
+use Rattle.report_text.proofs.LinePieces.{number, signed, hex, hex_or_dash}
+
+-- ---- words
+
+function_by : (first second third : Bool)
+    → IsWithout 10 (cond first (codes "instantaneous") (cond second (codes "maximum") (cond third (codes "minimum") (codes "error"))))
+function_by true _ _ = literal (codes "instantaneous") refl
+function_by false true _ = literal (codes "maximum") refl
+function_by false false true = literal (codes "minimum") refl
+function_by false false false = literal (codes "error") refl
+
+function_is : (function : ℕ) → IsWithout 10 (function_text function)
+function_is function = function_by (function == 0) (function == 1) (function == 2)
+
+quantity_is : (q : Quantity) → IsWithout 10 (quantity_text q)
+quantity_is quantities.Energy = record { passed = refl }
+quantity_is _ = record { passed = refl }
+
+name_is : (name : UnitName) → IsWithout 10 (name_text name)
+name_is units.WattHour = record { passed = refl }
+name_is _ = record { passed = refl }
+
+-- ---- values
+
+two_is : (n : ℕ) → IsWithout 10 (two_digits n)
+unfolding two_digits
+two_is n = number (n / 10 % 10) (omega arith) ⌢ number (n % 10) (omega arith)
+
+four_is : (n : ℕ) → IsWithout 10 (four_digits n)
+unfolding four_digits
+four_is n = two_is (n / 100) ⌢ two_is n
+
+day_is : (year month day : ℕ) → IsWithout 10 (day_text year month day)
+unfolding day_text
+day_is year month day = four_is year ⌢ literal (codes "-") refl ⌢ two_is month ⌢ literal (codes "-") refl ⌢ two_is day
+
+time_is : (hour minute : ℕ) → IsWithout 10 (time_text hour minute)
+unfolding time_text
+time_is hour minute = literal (codes "T") refl ⌢ two_is hour ⌢ literal (codes ":") refl ⌢ two_is minute
+
+marked_is : {sign : List ℕ} → IsWithout 10 sign → (holds : Bool) → IsWithout 10 (marked sign holds)
+marked_is h true = h
+marked_is h false = literal [] refl
+
+value_is : (v : Value) → IsWithout 10 (value_text v)
+value_is values.None = literal (codes "-") refl
+value_is (values.Whole n) = signed n
+value_is values.Raw = literal (codes "raw") refl
+value_is values.Text = literal (codes "text") refl
+value_is (values.Day year month day) = day_is year month day
+value_is (values.Moment year month day hour minute invalid summer) =
+    day_is year month day ⌢ time_is hour minute ⌢ marked_is (literal (codes "!") refl) invalid ⌢ marked_is (literal (codes "+") refl) summer
+
+-- ---- lines
+
+spaced_is : (n : ℕ) → IsWithout 10 (spaced n)
+unfolding spaced
+spaced_is n = literal (codes " ") refl ⌢ number n (omega arith)
+
+place_is : (span : RecordSpan) → IsWithout 10 (place_text span)
+unfolding place_text
+place_is span = function_is span.function ⌢ spaced_is span.storage ⌢ spaced_is span.tariff ⌢ spaced_is span.subunit
+
+unit_is : (u : Measure) → IsWithout 10 (unit_text u)
+unfolding unit_text
+unit_is u = literal (codes " ") refl ⌢ quantity_is u.quantity ⌢ literal (codes " ") refl ⌢ name_is u.name ⌢ literal (codes " ") refl ⌢ signed u.exponent
+
+data_is : (modifiers : List ℕ) (v : Value) (sent : List ℕ) → IsWithout 10 (data_text modifiers v sent)
+unfolding data_text
+data_is modifiers v sent =
+    literal (codes " ") refl ⌢ hex_or_dash modifiers ⌢ literal (codes " ") refl ⌢ value_is v ⌢ literal (codes " ") refl ⌢ hex_or_dash sent
+
+record_passes : (bytes : List ℕ) (span : RecordSpan) → Passes (record_line bytes span)
+unfolding record_line with_line
+record_passes bytes span =
+    let u = unit bytes span in
+    one_line _ (literal (codes "record ") refl ⌢ place_is span ⌢ unit_is u
+    ⌢ data_is (bytes_at bytes u.modifiers_at u.modifiers) (value bytes span) (bytes_at bytes span.data_at span.data_len))
+
+maker_passes : (bytes : List ℕ) (span : RecordSpan) → Passes (maker_line bytes span)
+unfolding maker_line with_line
+maker_passes bytes span =
+    one_line _ (literal (codes "maker ") refl ⌢ hex (span.dif ∷ []) ⌢ literal (codes " ") refl ⌢ hex_or_dash (bytes_at bytes span.data_at span.data_len))
+
+one_of : (maker : Bool) {a b : List ℕ} → Passes a → Passes b → Passes (cond maker a b)
+one_of true x y = x
+one_of false x y = y
+
+span_passes : (bytes : List ℕ) (span : RecordSpan) → Passes (span_line bytes span)
+span_passes bytes span = one_of span.maker (maker_passes bytes span) (record_passes bytes span)
+
+worded_is : {word : List ℕ} → IsWithout 10 word → (byte : ℕ) → IsWithout 10 (worded word byte)
+unfolding worded
+worded_is h byte = h ⌢ hex (byte ∷ [])
+
+fault_is : (fault : RecordFault) → IsWithout 10 (fault_text fault)
+fault_is (Truncated place) = literal (codes "truncated ") refl ⌢ number place (omega arith)
+fault_is (TooManyExtensions place) = literal (codes "extensions ") refl ⌢ number place (omega arith)
+fault_is (Lvar lvar) = worded_is (literal (codes "lvar ") refl) lvar
+fault_is (Selection place) = literal (codes "selection ") refl ⌢ number place (omega arith)
+fault_is (Special dif) = worded_is (literal (codes "special ") refl) dif
+
+fault_passes : (fault : RecordFault) → Passes (fault_line fault)
+unfolding fault_line with_line
+fault_passes fault = one_line _ (literal (codes "fault ") refl ⌢ fault_is fault)
+
+-- ---- listings
+
+more_passes : (next : Result (Option RecordSpan) RecordFault) → Passes (more_text next)
+unfolding with_line
+more_passes (Ok None) = nothing
+more_passes (Ok (Some span)) = one_line (codes "more") (literal (codes "more") refl)
+more_passes (Err fault) = one_line (codes "more") (literal (codes "more") refl)
+
+next_passes : (rest : ℕ → List ℕ) → ((from : ℕ) → Passes (rest from)) → (payload : List ℕ) (next : Result (Option RecordSpan) RecordFault) → Passes (next_text rest payload next)
+next_passes rest h payload (Ok None) = nothing
+next_passes rest h payload (Ok (Some span)) = span_passes payload span ⨾ h span.end
+next_passes rest h payload (Err fault) = fault_passes fault
+
+listed_passes : (n : ℕ) (payload : List ℕ) (from : ℕ) → Passes (listed n payload from)
+unfolding listed
+listed_passes zero payload from = more_passes (next_of payload from)
+listed_passes (suc n) payload from = next_passes (listed n payload) (listed_passes n payload) payload (next_of payload from)
+
+pub records_pass : (payload : List ℕ) → Passes (records_text payload)
+records_pass payload = listed_passes 256 payload 0

@@ -1,0 +1,72 @@
+-- Going through the lines of a text, piece by piece.
+use Rattle.std.proofs.Common.{◌≡◌, ℕ, zero, suc, ◌==◌, Bool, true, not, List, [], ◌∷◌, ◌++◌, get_or, ap, ◌∙◌, refl, append_assoc}
+use Rattle.std.specs.Prelude.{codes}
+use Rattle.std.specs.List.{list_all, slice_split, onto_first}
+use Rattle.std.proofs.lemmas.Bool.{and_parts, and_from, not-true, eq-eqb, ne_eqb}
+use Rattle.std.proofs.lemmas.List.Folds.{list_all-append}
+use Rattle.std.proofs.lemmas.List.Splits.{slice_split-cons_yes, slice_split-cons_no}
+use Rattle.report_text.specs.Orders.{Told, lines_in, told, with_line}
+
+-- ---- texts without a separator
+
+abbrev pub differs : ℕ → ℕ → Bool
+differs separator b = not (b == separator)
+
+pub record IsWithout (separator : ℕ) (text : List ℕ) : Type 0 where
+  pub passed : list_all (differs separator) text ≡ true
+
+infixl 40 ◌⌢◌
+pub ◌⌢◌ : {s : ℕ} {a b : List ℕ} → IsWithout s a → IsWithout s b → IsWithout s (a ++ b)
+◌⌢◌ {s} {a} {b} x y = record { passed = list_all-append (differs s) a b ∙ and_from _ _ x.passed y.passed }
+
+pub literal : {s : ℕ} (text : List ℕ) → list_all (differs s) text ≡ true → IsWithout s text
+literal text h = record { passed = h }
+
+pub byte_differs : (s b : ℕ) → (b ≡ s → ⊥) → differs s b ≡ true
+byte_differs s b h = ap not (ne_eqb b s h)
+
+-- a byte of a table, or zero, which stands for those past its end
+pub found_differs : (s : ℕ) (table : List ℕ) (i : ℕ) → list_all (differs s) table ≡ true → differs s 0 ≡ true → differs s (get_or table i 0) ≡ true
+found_differs s [] i h k = k
+found_differs s (x ∷ xs) zero h k = (and_parts _ _ h).0
+found_differs s (x ∷ xs) (suc i) h k = found_differs s xs i (and_parts _ _ h).1 k
+
+-- ---- cuts
+
+-- the first part ends at the first separator
+pub cut_first : (s : ℕ) (part rest : List ℕ) → list_all (differs s) part ≡ true → slice_split (λ b. b == s) (part ++ s ∷ rest) ≡ part ∷ slice_split (λ b. b == s) rest
+cut_first s [] rest h = slice_split-cons_yes (λ b. b == s) s rest (eq-eqb s s refl)
+cut_first s (x ∷ part) rest h =
+    slice_split-cons_no (λ b. b == s) x (part ++ s ∷ rest) (not-true _ (and_parts _ _ h).0) ∙ ap (onto_first x) (cut_first s part rest (and_parts _ _ h).1)
+
+-- a text without a separator is the last part
+pub cut_last : (s : ℕ) (part : List ℕ) → list_all (differs s) part ≡ true → slice_split (λ b. b == s) part ≡ part ∷ []
+cut_last s [] h = refl
+cut_last s (x ∷ part) h = slice_split-cons_no (λ b. b == s) x part (not-true _ (and_parts _ _ h).0) ∙ ap (onto_first x) (cut_last s part (and_parts _ _ h).1)
+
+-- ---- walks
+
+-- The lines of a text, with what the lines below tell: a text of whole lines.
+pub record Tells (text : List ℕ) (turn : Told → Told) : Type 0 where
+  pub at : (rest : List ℕ) → told (lines_in (text ++ rest)) ≡ turn (told (lines_in rest))
+
+-- it changes no list, whatever stands below
+abbrev pub Passes : List ℕ → Type 0
+Passes text = Tells text (λ t. t)
+
+pub nothing : Passes []
+nothing = record { at = λ rest. refl }
+
+infixl 30 ◌⨾◌
+pub ◌⨾◌ : {a b : List ℕ} {f g : Told → Told} → Tells a f → Tells b g → Tells (a ++ b) (λ t. f (g t))
+◌⨾◌ {a} {b} {f} {g} x y = record { at = λ rest. ap (λ t. told (lines_in t)) (append_assoc a b rest) ∙ x.at (b ++ rest) ∙ ap f (y.at rest) }
+
+pub one_line : (line : List ℕ) → IsWithout 10 line → Tells (line ++ codes "\n") (with_line line)
+one_line line h = record { at = λ rest. ap (λ t. told (lines_in t)) (append_assoc line (codes "\n") rest) ∙ ap told (cut_first 10 line rest h.passed) }
+
+-- another spelling of a text or of a turn
+pub same_text : {a : List ℕ} {f : Told → Told} (b : List ℕ) → b ≡ a → Tells a f → Tells b f
+same_text b e x = record { at = λ rest. ap (λ t. told (lines_in (t ++ rest))) e ∙ x.at rest }
+
+pub same_turn : {a : List ℕ} {f : Told → Told} (g : Told → Told) → ((t : Told) → f t ≡ g t) → Tells a f → Tells a g
+same_turn g e x = record { at = λ rest. x.at rest ∙ e (told (lines_in rest)) }
