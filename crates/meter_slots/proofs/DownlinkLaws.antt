@@ -48,7 +48,7 @@ unfolding after_sent after_confirmed
 stored_counts own c k access response =
     let j = confirmed_orders k (confirmed k response) in
     subst (λ (d : ℕ). Counts d (sent_orders j (sent j access)).down (option_map (λ downlink. downlink.down) (option_map (downlink_with own c (sent_orders j (sent j access)).down) (sent j access))))
-        (confirmed_down k (confirmed k response)) (command_counts own c j (sent j access))
+    (confirmed_down k (confirmed k response)) (command_counts own c j (sent j access))
 
 heard_counts : (own : Address) (c : Commissioned) (k : Orders) (access : Access) (response : Bool) (v : Result (Option Found) Reason)
     → Counts k.down (orders_heard k access response (heard own c k access response v)).down (sent_counter (heard own c k access response v))
@@ -83,8 +83,8 @@ tick_down k = refl
 
 answer_counts : (c : Commissioned) (own : Address) (earlier : List Entry) (event : Event)
     → Counts (orders c earlier).down
-        (orders_after (orders c earlier) (access_at c (last_counter c earlier) (told c earlier) event) event (answer c own (standing c earlier) event)).down
-        (sent_counter (answer c own (standing c earlier) event))
+    (orders_after (orders c earlier) (access_at c (last_counter c earlier) (told c earlier) event) event (answer c own (standing c earlier) event)).down
+    (sent_counter (answer c own (standing c earlier) event))
 answer_counts c own earlier (Hear format at t) =
     heard_counts own c (orders c earlier) _ _ (verdict c (last_counter c earlier) (told c earlier) t)
 answer_counts c own earlier Tick = tick_down (orders c earlier)
@@ -122,7 +122,7 @@ rises_back : (c : Commissioned) (own : Address) (earlier : List Entry) → IsJud
 rises_back c own [] j = record { rises = tt; ends = refl }
 rises_back c own (x ∷ earlier) j =
     rw (sent_counters-reverse x earlier)
-        (rises_step c x earlier (sent_counters (reverse earlier)) (sent_counter x.outcome) (entry_counts c own x earlier j) (rises_back c own earlier j.1))
+    (rises_step c x earlier (sent_counters (reverse earlier)) (sent_counter x.outcome) (entry_counts c own x earlier j) (rises_back c own earlier j.1))
 
 pub downlink_counters_rise : (c : Commissioned) (own : Address) (journal : List Entry) → Legal c own journal → IsRising (Some c.down) (sent_counters journal)
 downlink_counters_rise c own journal j =
