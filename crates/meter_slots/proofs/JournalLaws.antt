@@ -41,7 +41,7 @@ judged_rest : (c : Commissioned) (own : Address) (later earlier : List Entry) �
 judged_rest c own [] earlier j = j
 judged_rest c own (x ∷ later) earlier j = judged_rest c own later earlier j.1
 
-front_back : {X : Type 0} (x : X) (xs : List X) → reverse (x ∷ xs) ≡ reverse xs ++ x ∷ []
+pub front_back : {X : Type 0} (x : X) (xs : List X) → reverse (x ∷ xs) ≡ reverse xs ++ x ∷ []
 front_back x xs = reverse-append (x ∷ []) xs
 
 -- the entries of a journal from one of them back
@@ -154,15 +154,15 @@ entry_stored_exactly c own x earlier n m j =
 
 -- ---- stored counters rise
 
-abbrev end_of : Option ℕ → List ℕ → Option ℕ
+abbrev pub end_of : Option ℕ → List ℕ → Option ℕ
 end_of floor [] = floor
 end_of floor (n ∷ ns) = end_of (Some n) ns
 
-IsRising-push : (floor : Option ℕ) (ns : List ℕ) (n : ℕ) → IsRising floor ns → IsAbove n (end_of floor ns) → IsRising floor (ns ++ n ∷ [])
+pub IsRising-push : (floor : Option ℕ) (ns : List ℕ) (n : ℕ) → IsRising floor ns → IsAbove n (end_of floor ns) → IsRising floor (ns ++ n ∷ [])
 IsRising-push floor [] n r h = (h, tt)
 IsRising-push floor (k ∷ ns) n r h = (r.0, IsRising-push (Some k) ns n r.1 h)
 
-end_of-push : (floor : Option ℕ) (ns : List ℕ) (n : ℕ) → end_of floor (ns ++ n ∷ []) ≡ Some n
+pub end_of-push : (floor : Option ℕ) (ns : List ℕ) (n : ℕ) → end_of floor (ns ++ n ∷ []) ≡ Some n
 end_of-push floor [] n = refl
 end_of-push floor (k ∷ ns) n = end_of-push (Some k) ns n
 

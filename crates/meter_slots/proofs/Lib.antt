@@ -1,3 +1,4 @@
+pub mod DownlinkLaws
 pub mod JournalLaws
 pub mod Journals
 pub mod Pieces

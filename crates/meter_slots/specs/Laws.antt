@@ -1,5 +1,5 @@
 -- Words for laws of journals.
-use Rattle.std.specs.Prelude.{ℕ, ◌≡◌, ◌<◌, List, [], ◌∷◌, reverse, Option, Some, None, filter_map}
+use Rattle.std.specs.Prelude.{ℕ, ◌≡◌, ◌<◌, List, [], ◌∷◌, reverse, Option, Some, None, option_map, filter_map}
 use Rattle.meter_slots.specs.declared.entry.Entry.{Entry}
 use Rattle.meter_slots.specs.declared.entry.Outcome.{Outcome}
 use Rattle.meter_slots.specs.declared.entry.Outcome.TheVariants.{Stored, Refused}
@@ -14,6 +14,15 @@ stored_counter _ = None
 -- the stored counters of a journal
 abbrev pub stored_counters : List Entry → List ℕ
 stored_counters journal = filter_map (λ x. stored_counter x.outcome) journal
+
+-- the counter of the downlink that an outcome sent
+abbrev pub sent_counter : Outcome → Option ℕ
+sent_counter (Stored counter confirmed sent) = option_map (λ downlink. downlink.down) sent
+sent_counter _ = None
+
+-- the counters of the downlinks that a journal sent
+abbrev pub sent_counters : List Entry → List ℕ
+sent_counters journal = filter_map (λ x. sent_counter x.outcome) journal
 
 -- above a floor, if there is one
 abbrev pub IsAbove : ℕ → Option ℕ → Type 0

@@ -7,12 +7,18 @@ ghost use Rattle.meter_slots.specs.declared.entry.Entry.{Entry};
 ghost use Rattle.meter_slots.specs.declared.step.Step.{Step};
 ghost use Rattle.meter_slots.specs.Journal.{Book, Legal, genuine, counters};
 ghost use Rattle.meter_slots.specs.World.{Call, journal_of, is_for, slot_of};
-ghost use Rattle.meter_slots.specs.Laws.{stored_counter, stored_counters, IsRising, AreBelow, IsRefused, IsLeft, call_in};
+ghost use Rattle.meter_slots.specs.Laws.{stored_counter, stored_counters, sent_counters, IsRising, AreBelow, IsRefused, IsLeft, call_in};
 
 /// In mode 7 the stored counters strictly rise, from above the commission's.
 pub fn counters_rise()
     ensures { (c : Commissioned) (own : Address) (journal : List Entry) → c.mode ≡ Seven → Legal c own journal
         → IsRising c.last (stored_counters journal) }
+{}
+
+/// The counters of the downlinks that are sent strictly rise, from above the commission's.
+pub fn sent_counters_rise()
+    ensures { (c : Commissioned) (own : Address) (journal : List Entry) → Legal c own journal
+        → IsRising (Some c.down) (sent_counters journal) }
 {}
 
 /// In mode 7 a message is stored exactly where it is genuine and its counter is above those of all earlier genuine messages and

@@ -13,6 +13,10 @@ const HEAT: u64 = 0x9315_0102_0304_0107;
 
 const HEAT_KEY: u128 = 0x0001_0203_0405_0607_0809_0a0b_0c0d_0e0f;
 
+const WATER: u64 = 0x2d2c_0968_0610_0507;
+
+const WATER_KEY: u128 = 0x2e7a_00ef_b31b_75e9_81bc_8fb5_37f2_3e13;
+
 // An outcome: a stored counter, the confirmed id and the counter of the downlink; a fragment; a tick and the expired id; an id.
 #[derive(Clone, Copy, Debug, PartialEq, Eq)]
 enum Answer {
@@ -217,6 +221,40 @@ const PART_LINES: [(&str, Answer); 18] = [
     ),
 ];
 
+// Messages of the water meter, as another implementation answers them. The second is heard under another link address, and its
+// long header names the water meter. The last is made of fragments under the water meter's link address, and its long header
+// names another meter.
+const ADDRESS_LINES: [(&str, Answer); 7] = [
+    (
+        "A 244 30442d2c096806100507244d900f012c2502000000708fb461c5f9ca5cfec38adb7f108710edb295a2a12d5781a8be4bdff8d3010f098394d7",
+        Answer::Stored(2, None, None),
+    ),
+    (
+        "A 259 554693150887013a030265ea8ec06d2d2cdf71291101049011003c2535fb2e0100007fc281fd92c5bc6bcddb7209211e6806102d2c0507f318200710e8b47fbd9512a5459a88fbacf82f5103cd1a60e03784d6a9a8de5082f2446e0d09dfb508d708",
+        Answer::Stored(302, None, None),
+    ),
+    (
+        "A 263 18442d2c09680610050705eb900901f8051a0000001e008b096806e471",
+        Answer::Part,
+    ),
+    (
+        "A 263 32482d2c09680610050719f58c896b900a02046f5e568bc5bf8e4b1033222d2c0507dd8e10071fc2410ca71eff18c510f99b35253bc7bd2bb422a0",
+        Answer::Refused(Reason::Stale { got: 26, last: 302 }),
+    ),
+    (
+        "B 266 1a442d2c096806100507900901f8051a0000001e008b096806c61a",
+        Answer::Refused(Reason::Stale { got: 26, last: 302 }),
+    ),
+    (
+        "A 266 3d442d2c096806100507106f900f002c252f010000045cf94042f7de60b3b772096806102d2c0507faec1f071040f3bf44d7ff01387b9006047b822d26c0c00cf0ffe9765d735451",
+        Answer::Stored(303, None, None),
+    ),
+    (
+        "A 288 27282d2c0968061005071c8f900a0204df98578d305e7b020710e994711a0d64dae23ce773f508252f856c1eb9a4",
+        Answer::Refused(Reason::OtherAddress(Address(0x10e9_0968_0607_940d))),
+    ),
+];
+
 // Commands for the heat meter, and its messages.
 const COMMAND_LINES: [(&str, Answer); 15] = [
     ("Q 9315010203040107 01", Answer::Queued(1)),
@@ -290,6 +328,17 @@ fn messages_in_fragments(rt: HostRuntime) -> Result<(), Fail> {
     let mut slot = SlotBook::new(rt.alloc(), Address(1), meter);
     step_all(&rt, &mut slot, HEAT, &PART_LINES)?;
     assert_eq!(rt; slot.readings().len(), 2);
+    Ok(())
+}
+
+// A telegram is for the meter that its long header names; a fragment has no header, and is for the meter with its link address.
+#[test]
+fn an_assembled_message_with_another_address_is_refused(rt: HostRuntime) -> Result<(), Fail> {
+    let meter = commission(WATER, Mode::Seven, WATER_KEY);
+    let mut slot = SlotBook::new(rt.alloc(), Address(1), meter);
+    step_all(&rt, &mut slot, WATER, &ADDRESS_LINES)?;
+    assert_eq!(rt; slot.readings().len(), 3);
+    assert_eq!(rt; slot.commission().last, Some(303));
     Ok(())
 }
 
