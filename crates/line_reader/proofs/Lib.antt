@@ -1,3 +1,4 @@
+pub mod DigitLemmas
 pub mod HeldLemmas
 pub mod LinesLemmas
 pub mod NewlineLemmas
