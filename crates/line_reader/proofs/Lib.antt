@@ -4,3 +4,4 @@ pub mod LinesLemmas
 pub mod NewlineLemmas
 pub mod ReaderLemmas
 pub mod SearchLemmas
+pub mod TextLemmas

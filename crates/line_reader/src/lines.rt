@@ -3,6 +3,7 @@ ghost use Rattle.std.specs.Prelude.{◌≡◌, ◌≤◌, ◌<◌, ◌-◌, ℕ,
 ghost use Rattle.std.specs.Str.Lines.{lines};
 ghost use Rattle.line_reader.specs.Grammar.{line_of};
 ghost use Rattle.line_reader.specs.Reader.{next_of, gives_line};
+ghost use Rattle.line_reader.specs.Reading.{line_text};
 
 use crate::grammar::read_line;
 use crate::held::Held;
@@ -10,7 +11,6 @@ use crate::line::BadLine;
 use crate::next::{Next, ReadFault};
 use crate::search::{Ending, find_end};
 use outer_io::Source;
-use plain_text::TextLines;
 use std::marker::Model;
 
 /// The most lines of a source.
@@ -32,13 +32,24 @@ fn most_bytes(start: usize, line: u32) -> usize
     }
 }
 
+// The bytes of a line without its newline and one carriage return in front of that. An unfinished line has neither.
+fn without_end(bytes: &[u8]) -> &[u8]
+    ensures { result.now ≡ line_text bytes.now }
+{
+    match bytes {
+        [line @ .., b'\r', b'\n'] => line,
+        [line @ .., b'\n'] => line,
+        _ => bytes,
+    }
+}
+
 // What the one line of these bytes says.
+#[tactic(auto, using(crate::proofs::TextLemmas::text_of_one_line))]
 fn said(bytes: &[u8]) -> Next
     ensures line { gives_line (Ok result) ≡ true }
     ensures says { (text : List ℕ) → lines bytes.now ≡ text ∷ [] → result ≡ next_of (line_of text) }
 {
-    let text = TextLines::of_text(bytes).next().unwrap_or(&[]);
-    match read_line(text) {
+    match read_line(without_end(bytes)) {
         Ok(line) => Next::Line(line),
         Err(bad) => Next::Bad(bad),
     }
