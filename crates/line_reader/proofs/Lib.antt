@@ -1,5 +1,7 @@
+pub mod DigitLemmas
 pub mod HeldLemmas
 pub mod LinesLemmas
 pub mod NewlineLemmas
 pub mod ReaderLemmas
 pub mod SearchLemmas
+pub mod TextLemmas

@@ -4,7 +4,7 @@ use Rattle.std.specs.Prelude.{position}
 use Rattle.std.specs.List.{position_or_len}
 use Rattle.std.proofs.lemmas.Bool.Decides.{nat_tests}
 use Rattle.std.proofs.lemmas.List.{take-append-drop, take-append-le, take_all, drop_more, length-take, length-append}
-use Rattle.std.proofs.lemmas.List.Sums.{sum_by-append, prefix_len_stops}
+use Rattle.std.proofs.lemmas.List.Sums.{sum_by-append, prefix_len_stops, fails_before_first}
 use Rattle.line_reader.specs.Newlines.{newlines}
 use Rattle.line_reader.specs.Reading.{BeginsWithLine}
 
@@ -57,6 +57,11 @@ pub no_place : (xs : List ℕ) → position is_newline xs ≡ None → newlines 
 no_place xs none =
     let past : length xs ≤ position_or_len is_newline xs = let test = none_if _ _ none in grind (arith, nat_tests) in
     ap newlines (sym (take_all (position_or_len is_newline xs) xs past)) ∙ front_alone xs
+
+pub no_newline_at : (xs : List ℕ) (k : ℕ) → position is_newline xs ≡ None → k < length xs → is_newline (get_or xs k 0) ≡ false
+no_newline_at xs k none within =
+    let past : length xs ≤ position_or_len is_newline xs = let test = none_if _ _ none in grind (arith, nat_tests) in
+    fails_before_first is_newline xs k 0 (omega arith)
 
 pub first_place : (xs : List ℕ) (i : ℕ) → position is_newline xs ≡ Some i → BeginsWithLine xs (i + 1)
 first_place xs i found =

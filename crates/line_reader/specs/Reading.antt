@@ -1,5 +1,6 @@
 -- Words of private contracts: what a read did, and what stands at the front of bytes.
-use Rattle.std.specs.Prelude.{ℕ, ◌≡◌, ◌+◌, List, ◌∷◌, ◌++◌, length}
+use Rattle.std.specs.Prelude.{ℕ, ◌≡◌, ◌==◌, ◌+◌, ◌-◌, List, ◌∷◌, ◌++◌, length, take, slice_index, if◌then◌else◌}
+use Rattle.std.specs.Str.Lines.{strip_carriage_return}
 use Rattle.outer_io.specs.Bytes.{Moves}
 use Rattle.line_reader.specs.Newlines.{newlines}
 
@@ -14,3 +15,7 @@ pub record BeginsWithLine (bytes : List ℕ) (count : ℕ) : Type 0 where
   pub cut : bytes ≡ front ++ 10 ∷ rest
   pub alone : newlines front ≡ 0
   pub long : count ≡ length front + 1
+
+-- the bytes of a line without its end, if it has one
+abbrev pub line_text : List ℕ → List ℕ
+line_text bytes = if slice_index bytes (length bytes - 1) == 10 then strip_carriage_return (take (length bytes - 1) bytes) else bytes

@@ -1,4 +1,5 @@
 //! The bytes of a frame, as a receiver gave them.
+use crate::digits::decode;
 use std::marker::Model;
 
 /// The most bytes that a line can give.
@@ -32,13 +33,14 @@ impl FrameBytes {
         requires { length digits.now ≤ 2 * FRAME_MAX }
         ensures { result ≡ result_ok (decode_of digits.now) }
     {
+        if digits.len() % 2 != 0 {
+            return None;
+        }
         let mut bytes = [0; FRAME_MAX];
         let len = digits.len() / 2;
         let (room, _) = bytes.split_at_mut(len);
-        match hex::decode_to_slice(digits, room) {
-            Ok(()) => Some(FrameBytes { bytes, len }),
-            Err(_) => None,
-        }
+        decode(digits, room)?;
+        Some(FrameBytes { bytes, len })
     }
 
     /// The bytes.

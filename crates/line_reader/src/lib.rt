@@ -1,6 +1,7 @@
 //! The lines of a receiver: what it heard, and what its operator says.
 #![tactic(auto)]
 
+mod digits;
 mod frame;
 mod grammar;
 mod held;

@@ -3,6 +3,7 @@ ghost use Rattle.std.specs.Prelude.{◌≡◌, ◌≤◌, ◌<◌, ◌-◌, ℕ,
 ghost use Rattle.std.specs.Str.Lines.{lines};
 ghost use Rattle.line_reader.specs.Grammar.{line_of};
 ghost use Rattle.line_reader.specs.Reader.{next_of, gives_line};
+ghost use Rattle.line_reader.specs.Reading.{line_text};
 
 use crate::grammar::read_line;
 use crate::held::Held;
@@ -10,7 +11,6 @@ use crate::line::BadLine;
 use crate::next::{Next, ReadFault};
 use crate::search::{Ending, find_end};
 use outer_io::Source;
-use plain_text::TextLines;
 use std::marker::Model;
 
 /// The most lines of a source.
@@ -32,35 +32,34 @@ fn most_bytes(start: usize, line: u32) -> usize
     }
 }
 
-// What the one line of these bytes says.
-fn said(bytes: &[u8]) -> Next
-    ensures line { gives_line (Ok result) ≡ true }
-    ensures says { (text : List ℕ) → lines bytes.now ≡ text ∷ [] → result ≡ next_of (line_of text) }
+// The bytes of a line without its newline and one carriage return in front of that. An unfinished line has neither.
+fn without_end(bytes: &[u8]) -> &[u8]
+    ensures { result.now ≡ line_text bytes.now }
 {
-    let text = TextLines::of_text(bytes).next().unwrap_or(&[]);
-    match read_line(text) {
-        Ok(line) => Next::Line(line),
-        Err(bad) => Next::Bad(bad),
+    match bytes {
+        [line @ .., b'\r', b'\n'] => line,
+        [line @ .., b'\n'] => line,
+        _ => bytes,
     }
 }
 
-// Takes the first bytes, a line of which some bytes may have been given up before.
-fn take_line(held: &mut Held, given_up: usize, count: usize) -> Next
-    requires { count ≤ length held.old }
-    ensures rest { held.new ≡ drop count held.old }
+// What a line says that the first held bytes are, of which some may have been given up before.
+fn said(held: &Held, given_up: usize, count: usize) -> Next
+    requires { count ≤ length held.now }
     ensures line { gives_line (Ok result) ≡ true }
     ensures long { 0 < given_up → result ≡ Next.Bad BadLine.TooLong }
-    ensures says { given_up ≡ 0 → (text : List ℕ) → lines (take count held.old) ≡ text ∷ [] →
+    ensures says { given_up ≡ 0 → (text : List ℕ) → lines (take count held.now) ≡ text ∷ [] →
         result ≡ next_of (line_of text) }
 {
+    if given_up > 0 {
+        return Next::Bad(BadLine::TooLong);
+    }
     let (bytes, _) = held.bytes().split_at(count);
-    let next = if given_up > 0 {
-        Next::Bad(BadLine::TooLong)
-    } else {
-        said(bytes)
+    let line = match read_line(without_end(bytes)) {
+        Ok(line) => line,
+        Err(bad) => return Next::Bad(bad),
     };
-    held.advance(count);
-    next
+    Next::Line(line)
 }
 
 /// The lines of a source, one after another, bad ones too. They are numbered from 1.
@@ -152,7 +151,8 @@ impl<S: Source> Lines<S> {
         let most = most_bytes(self.start, self.line);
         match find_end(&mut self.source, &mut self.held, most) {
             Ending::Newline { given_up, count } => {
-                let next = take_line(&mut self.held, given_up, count);
+                let next = said(&self.held, given_up, count);
+                self.held.advance(count);
                 self.start += given_up + count;
                 self.line += 1;
                 Ok(next)
@@ -163,7 +163,8 @@ impl<S: Source> Lines<S> {
                     self.done = true;
                     return Ok(Next::End);
                 }
-                let next = take_line(&mut self.held, given_up, count);
+                let next = said(&self.held, given_up, count);
+                self.held.advance(count);
                 self.start += given_up + count;
                 self.line += 1;
                 self.ended = true;

@@ -7,6 +7,7 @@ ghost use Rattle.line_reader.specs.Search.{FitsIn, Searches};
 
 use crate::grammar::LINE_MAX;
 use crate::held::Held;
+use memchr::memchr;
 use outer_io::Source;
 
 /// What ends a line, or what stands in the way. The first bytes of a line that is too long aren't held any more.
@@ -23,10 +24,11 @@ pub(crate) enum Ending {
 }
 
 // The place of the first newline.
+#[tactic(auto, using(plain_text::proofs::Cuts::place_of_first))]
 fn newline_place(bytes: &[u8]) -> Option<usize>
     ensures { result ≡ position (λ b. b == 10) bytes.now }
 {
-    bytes.iter().position(|byte| *byte == b'\n')
+    memchr(b'\n', bytes)
 }
 
 // How many bytes the line has that begins these bytes, its newline included, where they are at most `most`.

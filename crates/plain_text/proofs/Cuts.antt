@@ -1,12 +1,30 @@
 -- A list that is cut at the first element which passes a test.
-use Rattle.std.proofs.Common.{◌≡◌, ℕ, suc, ◌<◌, ◌≤◌, ◌+◌, ◌==◌, List, [], ◌∷◌, length, take, drop, get_or, Bool, true, false, not, cond, Option, Some, None, refl, ap, sym, ◌∙◌, arith, nat_lt}
+use Rattle.std.proofs.Common.{◌≡◌, ℕ, suc, ◌<◌, ◌≤◌, ◌+◌, ◌==◌, List, [], ◌∷◌, length, take, drop, Bool, true, false, not, cond, Option, Some, None, refl, ap, sym, ◌∙◌, arith}
 use Rattle.std.specs.Prelude.{position}
-use Rattle.std.specs.List.{slice_split, onto_first, position_or_len, All, AllByRecursion}
+use Rattle.std.specs.List.{slice_split, onto_first, position_or_len, AllByRecursion}
 use Rattle.std.specs.Str.Lines.{lines, lines_of_parts, strip_carriage_return}
+use Rattle.memchr.specs.Find.{IsFirstByte, is_byte}
 use Rattle.std.proofs.lemmas.Bool.Decides.{nat_tests}
 use Rattle.std.proofs.lemmas.List.{drop-drop}
-use Rattle.std.proofs.lemmas.List.Sums.{prefix_len_passes, count_by-le-length}
+use Rattle.std.proofs.lemmas.List.Sums.{prefix_len_passes, position_or_len_is, count_by-le-length}
 use Rattle.std.proofs.lemmas.List.Splits.{slice_split_none, slice_split_first, length-slice_split}
+
+is_false : (b : Bool) → ¬ (b ≡ true) → b ≡ false
+is_false true h = absurd (h refl)
+is_false false h = refl
+
+place_if : (p : ℕ → Bool) (xs : List ℕ) (i : ℕ) → position_or_len p xs ≡ i → i < length xs → Some i ≡ position p xs
+place_if p xs i is within = rw is (grind (arith, nat_tests))
+
+-- what a search for the first separator found
+pub place_of_first : (separator : ℕ) (xs : List ℕ) (r : Option ℕ) → IsFirstByte (is_byte separator) xs r → r ≡ position (λ b. b == separator) xs
+place_of_first separator xs None h =
+    let past : position_or_len (λ b. b == separator) xs ≡ length xs = position_or_len_is _ xs (length xs) 0 (omega arith) (λ k within. is_false _ (h k (omega arith) within)) (λ within. absurd (omega arith)) in
+    rw past (grind (arith, nat_tests))
+place_of_first separator xs (Some i) h =
+    let before = h.0 in
+    let at : position_or_len (λ b. b == separator) xs ≡ i = position_or_len_is _ xs i 0 (omega arith) (λ k below. is_false _ (before.before k (omega arith) below)) (λ _. h.1) in
+    place_if _ xs i at before.high
 
 not_true : (b : Bool) → not b ≡ true → b ≡ false
 not_true true h = absurd cc

@@ -4,13 +4,15 @@ ghost use Rattle.std.specs.Str.Lines.{strip_carriage_return};
 ghost use Rattle.std.specs.Iterator.{YieldsFirstBy, item_count};
 ghost use Rattle.plain_text.specs.Cuts.{IsLastPart, IsNextPart};
 
+use memchr::memchr;
 use std::marker::Model;
 
 // The place of the first separator.
+#[tactic(auto, using(crate::proofs::Cuts::place_of_first))]
 fn first_place(text: &[u8], separator: u8) -> Option<usize>
     ensures { result ≡ position (λ b. b == separator) text.now }
 {
-    text.iter().position(|byte| *byte == separator)
+    memchr(separator, text)
 }
 
 // The part before the first separator and what stands behind it, or the whole text where there is no separator.

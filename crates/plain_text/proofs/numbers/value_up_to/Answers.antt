@@ -1,4 +1,3 @@
-use Rattle.std.proofs.Common.{◌∙◌, sym, refl}
 use Rattle.plain_text.proofs.Plain.{taken, too_large}
 use Rattle.plain_text.proofs.numbers.value_up_to.Goals as goal
 

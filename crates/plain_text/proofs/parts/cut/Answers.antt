@@ -1,6 +1,5 @@
-use Rattle.std.proofs.Common.{refl, ap, ◌∙◌, take, drop, ◌∷◌, sym}
-use Rattle.std.specs.List.{slice_split}
-use Rattle.plain_text.proofs.Cuts.{cut_none, cut_at, next_part}
+use Rattle.std.proofs.Common.{refl, ◌∙◌, sym}
+use Rattle.plain_text.proofs.Cuts.{cut_none, next_part}
 use Rattle.plain_text.proofs.parts.cut.Goals as goal
 
 pub returns-in_default : goal.returns-in_default

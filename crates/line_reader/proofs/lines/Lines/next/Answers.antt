@@ -18,7 +18,7 @@ invariant_of-self-in-Newline g c =
       reader = λ told not_done not_ended.
           let found = c.in-Newline.ensures.searches told in
           let s = search_from c.self.inside.start c.self.inside.line c.most_bytes-most.result _ _ _ _ _ _ c.self.invariant told (ap (λ r. r.done) c.self.view_is ∙ c.requires) c.if-self.false c.most_bytes-most.ensures.line c.most_bytes-most.ensures.none found.moves in
-          next_reader s _ _ c.in-Newline.given_up c.in-Newline.count found.finds.0 found.finds.1 c.take_line-next.ensures.rest;
+          next_reader s _ _ c.in-Newline.given_up c.in-Newline.count found.finds.0 found.finds.1 c.advance.ensures;
       last = λ told not_done ended. let not_ended = c.if-self.false in absurd (cc);
     }
 
@@ -51,7 +51,7 @@ returns-in-Newline-clause-lines g c = λ told.
     let fits = c.in-Newline.ensures.fits in
     let few_bytes = c.self.invariant.few_bytes in
     let room = room_after c.self.inside.start c.self.inside.line c.most_bytes-most.result c.most_bytes-most.ensures.line c.most_bytes-most.ensures.none (omega arith) in
-    let gives = line_gives s _ _ c.in-Newline.given_up c.in-Newline.count found.finds.0 found.finds.1 c.take_line-next.ensures.rest c.take_line-next.result fits.0 room.0 (omega arith) c.take_line-next.ensures.long c.take_line-next.ensures.says in
+    let gives = line_gives s _ _ c.in-Newline.given_up c.in-Newline.count found.finds.0 found.finds.1 c.advance.ensures c.said-next.result fits.0 room.0 (omega arith) c.said-next.ensures.long c.said-next.ensures.says in
     rw (← c.self.view_is) gives
 
 pub returns-else-given_up-count-eq0-clause-lines : goal.returns-else-given_up-count-eq0-clause-lines
@@ -60,7 +60,7 @@ returns-else-given_up-count-eq0-clause-lines g c = λ told.
     let s = search_from c.self.inside.start c.self.inside.line c.most_bytes-most.result _ _ _ _ _ _ c.self.invariant told (ap (λ r. r.done) c.self.view_is ∙ c.requires) c.if-self.false c.most_bytes-most.ensures.line c.most_bytes-most.ensures.none found.moves in
     let fits = c.in-Source.ensures.fits in
     let count = c.len-count.ensures in
-    let gives = last_gives s _ _ c.in-Source.given_up found.finds.0 found.finds.1 found.finds.2 (omega arith) fits c.take_line-next-in-Source.result c.take_line-next-in-Source.ensures.long (rw (← count) c.take_line-next-in-Source.ensures.says) in
+    let gives = last_gives s _ _ c.in-Source.given_up found.finds.0 found.finds.1 found.finds.2 (omega arith) fits c.said-next-in-Source.result c.said-next-in-Source.ensures.long (rw (← count) c.said-next-in-Source.ensures.says) in
     rw (← c.self.view_is) gives
 
 pub returns-in-Limit-clause-lines : goal.returns-in-Limit-clause-lines
@@ -106,4 +106,4 @@ returns-in-Newline-clause-pieces g c = λ told.
     let fits = c.in-Newline.ensures.fits in
     let few_bytes = c.self.invariant.few_bytes in
     let room = room_after c.self.inside.start c.self.inside.line c.most_bytes-most.result c.most_bytes-most.ensures.line c.most_bytes-most.ensures.none (omega arith) in
-    given_ahead (c.self.inside.start + (c.in-Newline.given_up + c.in-Newline.count)) (c.self.inside.line + 1) _ c.take_line-next.new.held _ (next_reader s _ _ c.in-Newline.given_up c.in-Newline.count found.finds.0 found.finds.1 c.take_line-next.ensures.rest) (omega arith) (omega arith)
+    given_ahead (c.self.inside.start + (c.in-Newline.given_up + c.in-Newline.count)) (c.self.inside.line + 1) _ c.advance.new.self _ (next_reader s _ _ c.in-Newline.given_up c.in-Newline.count found.finds.0 found.finds.1 c.advance.ensures) (omega arith) (omega arith)

@@ -1,4 +1,4 @@
-use Rattle.std.proofs.Common.{◌≡◌, ◌∷◌, ◌∙◌, sym, ap, length, rules}
+use Rattle.std.proofs.Common.{◌∷◌, ◌∙◌, sym, ap, length, rules}
 use Rattle.std.specs.Str.Lines.{lines}
 use Rattle.std.proofs.lemmas.Option.{MatchOption-at_some}
 use Rattle.plain_text.proofs.Cuts.{lines_cut}
