@@ -9,7 +9,7 @@ use crate::refusal::Reason;
 use crate::signature::{check_mac, identification, read_signature};
 use afl_layer::{Auth, Scratch};
 use ell_layer::Access;
-use key_derivation::{KeyUse, derive};
+use key_derivation::{KeyUse, MeterKey};
 use meter_address::{Commission, Mode};
 use tpl_headers::Tpl;
 
@@ -36,23 +36,32 @@ fn check_counter(last: Option<u32>, got: u32) -> Result<(), Reason>
 
 // Decrypts the blocks behind the header in place.
 #[tactic(auto, unfolding(crate::specs::Opening::decrypted7))]
-fn decrypt_for(commission: &Commission, counter: u32, tpl: &Tpl, message: &mut [u8])
-    requires { tpl.now.len + 16 * blocks_of tpl.now.cf ≤ length message.old }
+fn decrypt_for(
+    meter_key: &MeterKey,
+    commission: &Commission,
+    counter: u32,
+    tpl: &Tpl,
+    message: &mut [u8],
+)
+    requires key { meter_key.now ≡ commission.now.key }
+    requires blocks { tpl.now.len + 16 * blocks_of tpl.now.cf ≤ length message.old }
     ensures payload { drop tpl.now.len message.new ≡ decrypted7 commission.now counter tpl.now message.old ++ rest_of tpl.now message.old }
 {
     let id = identification(commission.address);
-    let key = derive(&commission.key, KeyUse::MeterCipher, counter, id);
+    let key = meter_key.derive(KeyUse::MeterCipher, counter, id);
     decrypt(&key, &[0; 16], tpl, message);
 }
 
 // What a message says after another, or the first refusal.
 #[tactic(auto, unfolding(crate::specs::Opening::opened7, crate::specs::Opening::compared7, crate::specs::Opening::opened7_after))]
 fn open_message(
+    meter_key: &MeterKey,
     commission: &Commission,
     last: Option<u32>,
     auth: &Auth,
     message: &mut [u8],
 ) -> Result<Opened, Reason>
+    requires { meter_key.now ≡ commission.now.key }
     ensures opened { IfOk result (λ o. opened7_after last commission.now auth.now message.old ≡ Ok (found_in message.new o)) }
     ensures within { IfOk result (λ o. o.from ≤ length message.new) }
     ensures refused { IfErr result (λ r. opened7_after last commission.now auth.now message.old ≡ Err r) }
@@ -61,14 +70,39 @@ fn open_message(
     let signature = read_signature(auth)?;
     check_derivation(&tpl)?;
     check_blocks(&tpl, message)?;
-    check_mac(commission, &signature, message)?;
+    check_mac(meter_key, commission, &signature, message)?;
     check_counter(last, signature.counter)?;
-    decrypt_for(commission, signature.counter, &tpl, message);
+    decrypt_for(meter_key, commission, signature.counter, &tpl, message);
     Ok(Opened {
         counter: signature.counter,
         from: tpl.len,
         access: Access::None,
     })
+}
+
+/// The same as `open7`, with the meter's key made ready beforehand: where many messages of a meter are opened, this saves
+/// making it ready for each.
+pub fn open7_with_key(
+    meter_key: &MeterKey,
+    commission: &Commission,
+    last: Option<u32>,
+    auth: &Auth,
+    message: &mut Scratch,
+) -> Result<Opened, Reason>
+    requires key { meter_key.now ≡ commission.now.key }
+    requires mode { commission.now.mode ≡ Mode.Seven }
+
+    // The payload is what the message has become, from the place `from` on.
+    ensures opened { IfOk result (λ o. opened7_after last commission.now auth.now message.old ≡ Ok (found_in message.new o)) }
+    ensures within { IfOk result (λ o. o.from ≤ length message.new) }
+    ensures same_len { OnOk result (length message.new ≡ length message.old) }
+
+    // A refused message is emptied.
+    ensures refused { IfErr result (λ r. opened7_after last commission.now auth.now message.old ≡ Err r) }
+    ensures emptied { OnErr result (message.new ≡ []) }
+{
+    let answer = open_message(meter_key, commission, last, auth, message.bytes_mut());
+    emptied_if_refused(answer, message)
 }
 
 /// Checks a message of security mode 7, which begins with its transport header, and decrypts it in place under the
@@ -92,6 +126,6 @@ pub fn open7(
     ensures refused { IfErr result (λ r. opened7_after last commission.now auth.now message.old ≡ Err r) }
     ensures emptied { OnErr result (message.new ≡ []) }
 {
-    let answer = open_message(commission, last, auth, message.bytes_mut());
-    emptied_if_refused(answer, message)
+    let meter_key = MeterKey::new(&commission.key);
+    open7_with_key(&meter_key, commission, last, auth, message)
 }

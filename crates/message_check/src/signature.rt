@@ -8,7 +8,7 @@ use crate::refusal::Reason;
 use aes_block::Keys;
 use afl_layer::Auth;
 use cbc_cmac::Cmac;
-use key_derivation::{KeyUse, derive};
+use key_derivation::{KeyUse, MeterKey};
 use meter_address::{Address, Commission};
 
 // The parts of a message's authentication, all that have to be there.
@@ -83,11 +83,17 @@ fn cmac_of_message(key: &[u8; 16], signature: &Signature, message: &[u8]) -> [u8
 
 // The MAC of a message: the first eight bytes of its CMAC under the derived MAC key.
 #[tactic(auto, unfolding(crate::specs::Opening::mac_of))]
-fn mac_of_message(commission: &Commission, signature: &Signature, message: &[u8]) -> [u8; 8]
+fn mac_of_message(
+    meter_key: &MeterKey,
+    commission: &Commission,
+    signature: &Signature,
+    message: &[u8],
+) -> [u8; 8]
+    requires { meter_key.now ≡ commission.now.key }
     ensures { result ≡ mac_of commission.now signature.now.mcl signature.now.counter signature.now.ml message.now }
 {
     let id = identification(commission.address);
-    let key = derive(&commission.key, KeyUse::MeterMac, signature.counter, id);
+    let key = meter_key.derive(KeyUse::MeterMac, signature.counter, id);
     let whole = cmac_of_message(&key, signature, message);
     let mut mac = [0; 8];
     mac.copy_from_slice(&whole[..8]);
@@ -96,13 +102,15 @@ fn mac_of_message(commission: &Commission, signature: &Signature, message: &[u8]
 
 // Whether the MAC is that of the message.
 pub(crate) fn check_mac(
+    meter_key: &MeterKey,
     commission: &Commission,
     signature: &Signature,
     message: &[u8],
 ) -> Result<(), Reason>
+    requires { meter_key.now ≡ commission.now.key }
     ensures { result ≡ mac_passed commission.now signature.now message.now }
 {
-    if mac_of_message(commission, signature, message) == signature.mac {
+    if mac_of_message(meter_key, commission, signature, message) == signature.mac {
         Ok(())
     } else {
         Err(Reason::BadMac)

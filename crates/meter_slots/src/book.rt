@@ -8,6 +8,7 @@ ghost use Rattle.meter_slots.specs.Keeping.{last_after, FitsMode, found_as, room
 use crate::commands::Commands;
 use crate::entry::{Entry, Event, Outcome};
 use crate::hearing::{has_response_control, hear};
+use crate::keyed::KeyedCommission;
 use crate::reading::{Bytes, Reading};
 use access_window::Window;
 use afl_fragments::Parts;
@@ -24,7 +25,7 @@ use std::marker::Model;
 pub struct SlotBook {
     alloc: Global,
     own: Address,
-    opening: Commission,
+    opening: KeyedCommission,
     last: Option<u32>,
     parts: Parts,
     commands: Commands,
@@ -75,7 +76,7 @@ fn plain(outcome: Outcome) -> Served
 // Answers an event. What it stores stands in `message` then.
 fn serve(
     own: Address,
-    opening: &Commission,
+    opening: &KeyedCommission,
     last: Option<u32>,
     parts: &mut Parts,
     commands: &mut Commands,
@@ -91,10 +92,11 @@ fn serve(
 {
     match event {
         Event::Hear { telegram, .. } => {
+            let commission = opening.commission();
             let heard = hear(opening, last, parts, telegram, message);
             let response = has_response_control(telegram.control());
             Served {
-                outcome: commands.hear(own, opening, &heard.verdict, heard.access, response),
+                outcome: commands.hear(own, commission, &heard.verdict, heard.access, response),
                 opened: heard.verdict.unwrap_or(None),
             }
         }
@@ -165,7 +167,7 @@ impl SlotBook {
         SlotBook {
             alloc,
             own,
-            opening: commission,
+            opening: KeyedCommission::new(commission),
             last: commission.last,
             parts: Parts::new(),
             commands: Commands::new(commission.ids, commission.down),
@@ -193,7 +195,7 @@ impl SlotBook {
     pub fn opening(&self) -> Commission
         ensures { result ≡ self.now.commission }
     {
-        self.opening
+        *self.opening.commission()
     }
 
     /// The commission as it would be written now.
@@ -201,10 +203,11 @@ impl SlotBook {
         ensures { let earlier = reverse self.now.journal in let k = orders self.now.commission earlier in
             result ≡ record self.now.commission { last = last_counter self.now.commission earlier; down = k.down; ids = k.queue.ids } }
     {
+        let opening = self.opening.commission();
         Commission {
-            address: self.opening.address,
-            mode: self.opening.mode,
-            key: self.opening.key,
+            address: opening.address,
+            mode: opening.mode,
+            key: opening.key,
             last: self.last,
             down: self.commands.down(),
             ids: self.commands.queue().ids(),

@@ -10,12 +10,13 @@ ghost use Rattle.meter_slots.specs.Hearing.{is_uplink, is_response, uplink_passe
 ghost use Rattle.meter_slots.specs.Journal.{told_with, told_by_received, access_of, judged_in, judged};
 ghost use Rattle.meter_slots.specs.Keeping.{IsCounted, PieceFits, settled_by, message_as, verdict_as, VerdictFits};
 
+use crate::keyed::KeyedCommission;
 use afl_fragments::{PARTS_MAX, Part, Parts};
 use afl_layer::{Afl, Auth, Scratch};
 use ell_layer::{Access, Ell};
 use frame_formats::Telegram;
-use message_check::{Layers, Opened, Reason, layers, open5, open7};
-use meter_address::{Commission, Mode};
+use message_check::{Layers, Opened, Reason, layers, open5, open7_with_key};
+use meter_address::Mode;
 
 /// What a telegram comes to: a message that is opened and to be stored, a fragment that is kept, or a refusal.
 pub(crate) type Verdict = Result<Option<Opened>, Reason>;
@@ -145,27 +146,27 @@ fn auth_of(afl: Option<Afl>) -> Auth
 #[tactic(auto, unfolding(message_check::specs::Opening::opened5_after, message_check::specs::Opening::opened7_after))]
 fn open(
     mode: Mode,
-    commission: &Commission,
+    opening: &KeyedCommission,
     last: Option<u32>,
     auth: &Auth,
     message: &mut Scratch,
 ) -> Result<Opened, Reason>
-    requires { commission.now.mode ≡ mode }
-    ensures opened { IfOk result (λ o. judged_in mode commission.now last (record { auth = auth.now; bytes = message.old }) ≡ Ok (found_in message.new o)) }
-    ensures refused { IfErr result (λ r. judged_in mode commission.now last (record { auth = auth.now; bytes = message.old }) ≡ Err r) }
+    requires { opening.now.mode ≡ mode }
+    ensures opened { IfOk result (λ o. judged_in mode opening.now last (record { auth = auth.now; bytes = message.old }) ≡ Ok (found_in message.new o)) }
+    ensures refused { IfErr result (λ r. judged_in mode opening.now last (record { auth = auth.now; bytes = message.old }) ≡ Err r) }
     ensures within { IfOk result (λ o. o.from ≤ length message.new) }
     ensures number { IfOk result (λ o. o.counter ≤ most_last mode) }
     ensures len { OnOk result (length message.new ≡ length message.old) }
 {
     match mode {
-        Mode::Five => open5(commission, last, message),
-        Mode::Seven => open7(commission, last, auth, message),
+        Mode::Five => open5(opening.commission(), last, message),
+        Mode::Seven => open7_with_key(opening.key(), opening.commission(), last, auth, message),
     }
 }
 
 // The verdict on the message, where there is one.
 fn judge(
-    opening: &Commission,
+    opening: &KeyedCommission,
     last: Option<u32>,
     auth: Option<Auth>,
     message: &mut Scratch,
@@ -176,7 +177,7 @@ fn judge(
     let Some(auth) = auth else {
         return Ok(None);
     };
-    match open(opening.mode, opening, last, &auth, message) {
+    match open(opening.mode(), opening, last, &auth, message) {
         Err(reason) => Err(reason),
         Ok(opened) => Ok(Some(opened)),
     }
@@ -193,7 +194,7 @@ fn settle(parts: &mut Parts, verdict: &Verdict)
 
 // Hears a fragment.
 fn hear_part(
-    opening: &Commission,
+    opening: &KeyedCommission,
     last: Option<u32>,
     parts: &mut Parts,
     part: Part,
@@ -213,7 +214,7 @@ fn hear_part(
 
 // Hears a whole message.
 fn hear_whole(
-    opening: &Commission,
+    opening: &KeyedCommission,
     last: Option<u32>,
     auth: Auth,
     bytes: &[u8],
@@ -230,7 +231,7 @@ fn hear_whole(
 
 // Hears what stands behind the layers.
 fn hear_content(
-    opening: &Commission,
+    opening: &KeyedCommission,
     last: Option<u32>,
     parts: &mut Parts,
     afl: Option<Afl>,
@@ -272,7 +273,7 @@ pub(crate) struct Heard {
 
 /// Hears a telegram: the message that is to be stored stands in `message` then.
 pub(crate) fn hear(
-    opening: &Commission,
+    opening: &KeyedCommission,
     last: Option<u32>,
     parts: &mut Parts,
     telegram: &Telegram,
@@ -283,7 +284,7 @@ pub(crate) fn hear(
     ensures parts { (told : List Told) → StandsFor parts.old told → StandsFor parts.new (told_by_received telegram.now (received opening.now.mode telegram.now) (settled_by (verdict_as message.new result.verdict)) ++ told) }
     ensures fits { VerdictFits opening.now.mode message.new (held_bytes parts.old + length telegram.now) result.verdict }
 {
-    match receive(opening.mode, telegram) {
+    match receive(opening.mode(), telegram) {
         Err(reason) => Heard {
             verdict: Err(reason),
             access: Access::None,

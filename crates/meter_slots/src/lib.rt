@@ -7,6 +7,7 @@ mod counts;
 mod directory;
 mod entry;
 mod hearing;
+mod keyed;
 pub mod laws;
 mod reading;
 mod step;

@@ -17,7 +17,7 @@ returns c key message h =
     let chain : List ℕ = c.self.inside.chain in
     let buffer : List ℕ = c.self.inside.buffer in
     let used : ℕ = c.self.inside.used in
-    let whole : length buffer ≡ 16 = c.self.told.1 in
+    let whole : length buffer ≡ 16 = c.self.told.2 in
     let count : length (take used buffer) ≡ used = length-take-le used buffer (omega arith) in
     let fits : length c.args.self.now.last ≡ used = sym (ap (λ fed. length fed.last) c.self.view_is) ∙ count in
     let old : StandsFor (record { key = keys; chained = chain; last = take used buffer }) key message =
@@ -36,5 +36,5 @@ returns c key message h =
           ∙ ap (λ x. take used buffer ++ x) same) in
           rw w.self-inside-is
           (same_fed key (message ++ bytes) refl refl last
-          (taken_with_room _ key message bytes old (omega (arith, c.requires.fits, c.self.invariant))))
+          (taken_with_room _ key message bytes old (omega (arith, c.requires.fits, c.self.invariant.within))))
     ]
