@@ -1,0 +1,49 @@
+"""Messages of security mode 7 (OMS Volume 2), for scripts that make sessions. Needs the package cryptography."""
+from cryptography.hazmat.primitives.ciphers import Cipher, algorithms, modes
+from cryptography.hazmat.primitives.cmac import CMAC
+
+METER_CIPHER, METER_MAC = 0x00, 0x01
+MCL = 0x25
+
+
+def cmac(key, message):
+    mac = CMAC(algorithms.AES(key))
+    mac.update(message)
+    return mac.finalize()
+
+
+def derived(key, constant, counter, address):
+    return cmac(key, bytes([constant]) + counter.to_bytes(4, "little") + address[2:6] + bytes([7]) * 7)
+
+
+def message(key, address, counter, payload):
+    """The transport header and the payload, all of it encrypted, and the MAC over it."""
+    plain = payload + b"\x2f" * (-len(payload) % 16)
+    cipher = Cipher(algorithms.AES(derived(key, METER_CIPHER, counter, address)), modes.CBC(bytes(16))).encryptor()
+    text = bytes([0x7A, counter % 256, 0, len(plain) // 16 << 4, 7, 0x10]) + cipher.update(plain)
+    mac = cmac(derived(key, METER_MAC, counter, address), bytes([MCL]) + counter.to_bytes(4, "little") + text)[:8]
+    return text, mac
+
+
+def telegram(control, address, body):
+    return bytes([9 + len(body), control]) + address + body
+
+
+def whole(key, address, counter, payload, control=0x44, access=None):
+    """A telegram with a whole message, and with an extended link layer where `access` is its CC."""
+    text, mac = message(key, address, counter, payload)
+    ell = b"" if access is None else bytes([0x8C, access, counter % 256])
+    return telegram(control, address, ell + bytes.fromhex("900f002c") + bytes([MCL]) + counter.to_bytes(4, "little") + mac + text)
+
+
+def fragments(key, address, counter, payload, count):
+    """The telegrams of a message in so many fragments."""
+    text, mac = message(key, address, counter, payload)
+    size = -(-len(text) // count)
+    made = []
+    for fid in range(1, count + 1):
+        fields = bytes([MCL]) + counter.to_bytes(4, "little") if fid == 1 else mac if fid == count else b""
+        control = fid | (0 if fid == count else 0x4000) | (0x2800 if fid == 1 else 0x0400 if fid == count else 0)
+        afl = bytes([0x90, 2 + len(fields)]) + control.to_bytes(2, "little") + fields
+        made.append(telegram(0x44, address, afl + text[(fid - 1) * size:fid * size]))
+    return made
