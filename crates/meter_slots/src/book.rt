@@ -238,10 +238,26 @@ impl SlotBook {
         ensures refused { IfOk result (λ answer. IsRefused answer → IsLeft self.old self.new) }
         ensures err { OnErr result (self.new ≡ self.old) }
     {
+        self.step_in(source, line, event, &mut Scratch::new())
+    }
+
+    /// The same step, with a buffer that is lent for its message. What stands in the buffer before makes no difference.
+    pub(crate) fn step_in(
+        &mut self,
+        source: u32,
+        line: u32,
+        event: Event,
+        message: &mut Scratch,
+    ) -> Result<Outcome, Memory>
+        ensures outcome { IfOk result (λ answer. answer ≡ outcome self.old.commission self.old.own (reverse self.old.journal) event) }
+        ensures journal { IfOk result (λ answer. self.new ≡ record self.old { journal = self.old.journal ++ record { source = source; line = line; event = event; outcome = answer } ∷ [] }) }
+        ensures legal { Legal self.new.commission self.new.own self.new.journal }
+        ensures refused { IfOk result (λ answer. IsRefused answer → IsLeft self.old self.new) }
+        ensures err { OnErr result (self.new ≡ self.old) }
+    {
         self.entries.reserve(1)?;
         self.readings.reserve(1)?;
         let room = Vec::with_capacity(self.alloc, room_needed(&self.parts, &event))?;
-        let mut message = Scratch::new();
         let served = serve(
             self.own,
             &self.opening,
@@ -249,10 +265,10 @@ impl SlotBook {
             &mut self.parts,
             &mut self.commands,
             &event,
-            &mut message,
+            message,
         );
         self.last = counted(self.last, &served.outcome);
-        note(&mut self.readings, room, &event, served.opened, &message);
+        note(&mut self.readings, room, &event, served.opened, message);
         self.entries.push_reserved(Entry {
             source,
             line,

@@ -8,6 +8,7 @@ use crate::book::SlotBook;
 use crate::directory::Directory;
 use crate::entry::Outcome;
 use crate::step::{Landed, Step};
+use afl_layer::Scratch;
 use meter_address::{Address, Commission};
 use outer_io::Memory;
 use std::alloc::Global;
@@ -20,6 +21,8 @@ pub struct World {
     slots: Vec<SlotBook>,
     directory: Directory,
     strangers: Strangers,
+    // Room for the message of a step.
+    message: Scratch,
 }
 
 impl Model for World {
@@ -56,14 +59,19 @@ fn addresses_of(alloc: Global, commissions: &[Commission]) -> Result<Vec<Address
 }
 
 // One step of the slot at a place.
-fn step_at(slots: &mut Vec<SlotBook>, place: usize, step: Step) -> Result<Outcome, Memory>
+fn step_at(
+    slots: &mut Vec<SlotBook>,
+    place: usize,
+    step: Step,
+    message: &mut Scratch,
+) -> Result<Outcome, Memory>
     requires { place < vec_len slots.old }
     ensures outcome { IfOk result (λ given. (b : Book) → given ≡ outcome_at (slice_index_or slots.old.items place b) step) }
     ensures ok { IfOk result (λ _. (b : Book) → slots.new.items ≡ slice_set slots.old.items place (stepped_book step (slice_index_or slots.old.items place b))) }
     ensures err { OnErr result (slots.new.items ≡ slots.old.items) }
 {
     let slot = &mut slots[place];
-    slot.step(step.source, step.line, step.event)
+    slot.step_in(step.source, step.line, step.event, message)
 }
 
 impl World {
@@ -84,6 +92,7 @@ impl World {
             slots: fresh_books(alloc, own, commissions.as_slice())?,
             directory: Directory::new(alloc, addresses.as_slice())?,
             strangers: Strangers::new(alloc)?,
+            message: Scratch::new(),
         })
     }
 
@@ -100,7 +109,7 @@ impl World {
                 Ok(Landed::Stranger)
             }
             Some(place) => {
-                let outcome = step_at(&mut self.slots, place as usize, step)?;
+                let outcome = step_at(&mut self.slots, place as usize, step, &mut self.message)?;
                 Ok(Landed::Slot(place, outcome))
             }
         }

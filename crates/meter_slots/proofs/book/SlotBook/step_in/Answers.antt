@@ -4,7 +4,7 @@ use Rattle.meter_slots.specs.Journal.{Book, Legal, outcome}
 use Rattle.meter_slots.specs.Laws.{IsLeft}
 use Rattle.meter_slots.proofs.JournalLaws.{refused_left}
 use Rattle.meter_slots.proofs.Journals.{answer_kept, kept_after}
-use Rattle.meter_slots.proofs.book.SlotBook.step.Goals as goal
+use Rattle.meter_slots.proofs.book.SlotBook.step_in.Goals as goal
 
 pub invariant_of-self-2 : goal.invariant_of-self-2
 invariant_of-self-2 c =
