@@ -13,7 +13,7 @@ const GAS: &[u8] =
 const EMPTY_REPORT: &[u8] =
     b"wmbus-report 1\nreceiver 1 lines 0 own 0 strangers 0 unframed 0 bad 0 end\nmeter 9315785634123303 ELS mode 5 last - down 0 steps 0 readings 0\nstrangers 0\nend\n";
 
-// Row 1's frame with two bytes exchanged, with a faulty CRC, two lines that are none, and the frame itself.
+// The gas meter's frame with two bytes exchanged, with a faulty CRC, two lines that are none, and the frame itself.
 const LINES: &[u8] =
     b"A 100 2e44931578563412336330337a2a0020055923c95aaa26d1b2e7493b2a8b013ec4a6f6d3529b520edff0ea6defc955b29d6d69ebf3ec8a\nA 1\nC 1 00\nA 100 2e44931578563412330333637a2a0020055923c95aaa26d1b2e7493b2a8b013ec4a6f6d3529b520edff0ea6defc955b29d6d69ebf3ec8a\n";
 

@@ -7,7 +7,6 @@ mod sink_paper;
 mod whole;
 
 pub use pieces::{Paper, Printed, put_hex, put_number, put_signed, put_text};
-pub use sink_paper::SinkPaper;
 pub use whole::write;
 
 #[cfg(test)]

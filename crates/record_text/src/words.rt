@@ -5,6 +5,7 @@ ghost use Rattle.record_text.specs.Words.{function_text, quantity_text, name_tex
 
 use record_values::{Quantity, UnitName};
 
+/// The word of a function: instantaneous, maximum, minimum, or `error` (EN 13757-3, DIF).
 pub fn function_word(function: u8) -> &'static str
     ensures { result.now ≡ function_text function }
 {
@@ -16,6 +17,7 @@ pub fn function_word(function: u8) -> &'static str
     }
 }
 
+/// The word of a quantity.
 pub fn quantity_word(quantity: Quantity) -> &'static str
     ensures { result.now ≡ quantity_text quantity }
 {
@@ -52,6 +54,7 @@ pub fn quantity_word(quantity: Quantity) -> &'static str
     }
 }
 
+/// The sign of a unit, or a dash for none.
 pub fn name_word(name: UnitName) -> &'static str
     ensures { result.now ≡ name_text name }
 {
