@@ -6,7 +6,7 @@
 #![tactic(auto)]
 
 ghost use Rattle.std.specs.Prelude.{◌≡◌, ◌+◌, ◌<◌, ℕ, List};
-ghost use Rattle.aes_block.specs.Block.{add, round_key, encrypt, decrypt};
+ghost use Rattle.aes_block.specs.Block.{add, sub_bytes, inverse_sub_bytes, shift_rows, inverse_shift_rows, mix_columns, inverse_mix_columns, round_key, encrypt, decrypt};
 ghost use Rattle.aes_block.specs.Words.{AreWordsOf};
 
 use rounds::{
@@ -71,14 +71,39 @@ impl Keys {
         ]
     }
 
+    // Round n, which isn't the last. The rounds of a block stand one by one below: in a loop LLVM would keep the four
+    // words in one vector, and take it apart again for each look-up.
+    fn round(&self, words: [u32; 4], n: usize) -> [u32; 4]
+        requires { n < 11 }
+        ensures { (b : List ℕ) →
+            AreWordsOf words b → AreWordsOf result (add (mix_columns (shift_rows (sub_bytes b))) (round_key self.now n)) }
+    {
+        self.add_round_key(forward_round(words), n)
+    }
+
+    // The inverse cipher's round with round key n, which isn't its last round.
+    fn round_back(&self, words: [u32; 4], n: usize) -> [u32; 4]
+        requires { n < 11 }
+        ensures { (b : List ℕ) →
+            AreWordsOf words b → AreWordsOf result (inverse_mix_columns (add (inverse_sub_bytes (inverse_shift_rows b)) (round_key self.now n))) }
+    {
+        inverse_mixed_words(self.add_round_key(inverse_round(words), n))
+    }
+
     /// Encrypts a block in place (FIPS 197, section 5.1).
     pub fn encrypt(&self, block: &mut [u8; 16])
         ensures { block.new ≡ encrypt self.now block.old }
     {
-        let mut state = self.add_round_key(loaded(block), 0);
-        for n in 0..9 {
-            state = self.add_round_key(forward_round(state), n + 1);
-        }
+        let state = self.add_round_key(loaded(block), 0);
+        let state = self.round(state, 1);
+        let state = self.round(state, 2);
+        let state = self.round(state, 3);
+        let state = self.round(state, 4);
+        let state = self.round(state, 5);
+        let state = self.round(state, 6);
+        let state = self.round(state, 7);
+        let state = self.round(state, 8);
+        let state = self.round(state, 9);
         *block = stored(self.add_round_key(last_round(state), 10));
     }
 
@@ -86,10 +111,16 @@ impl Keys {
     pub fn decrypt(&self, block: &mut [u8; 16])
         ensures { block.new ≡ decrypt self.now block.old }
     {
-        let mut state = self.add_round_key(loaded(block), 10);
-        for done in 0..9 {
-            state = inverse_mixed_words(self.add_round_key(inverse_round(state), 9 - done));
-        }
+        let state = self.add_round_key(loaded(block), 10);
+        let state = self.round_back(state, 9);
+        let state = self.round_back(state, 8);
+        let state = self.round_back(state, 7);
+        let state = self.round_back(state, 6);
+        let state = self.round_back(state, 5);
+        let state = self.round_back(state, 4);
+        let state = self.round_back(state, 3);
+        let state = self.round_back(state, 2);
+        let state = self.round_back(state, 1);
         *block = stored(self.add_round_key(inverse_round(state), 0));
     }
 }

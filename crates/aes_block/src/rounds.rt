@@ -115,13 +115,12 @@ pub fn loaded(block: &[u8; 16]) -> [u32; 4]
 pub fn stored(s: [u32; 4]) -> [u8; 16]
     ensures { (b : List ℕ) → AreWordsOf s b → result ≡ b }
 {
-    let [b0, b1, b2, b3] = s[0].to_be_bytes();
-    let [b4, b5, b6, b7] = s[1].to_be_bytes();
-    let [b8, b9, b10, b11] = s[2].to_be_bytes();
-    let [b12, b13, b14, b15] = s[3].to_be_bytes();
-    [
-        b0, b1, b2, b3, b4, b5, b6, b7, b8, b9, b10, b11, b12, b13, b14, b15,
-    ]
+    let mut block = [0; 16];
+    block[..4].copy_from_slice(&s[0].to_be_bytes());
+    block[4..8].copy_from_slice(&s[1].to_be_bytes());
+    block[8..12].copy_from_slice(&s[2].to_be_bytes());
+    block[12..].copy_from_slice(&s[3].to_be_bytes());
+    block
 }
 
 // x^n in the field, for n from 0 on (FIPS 197, section 5.2).

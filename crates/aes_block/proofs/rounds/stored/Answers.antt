@@ -1,6 +1,13 @@
-use Rattle.std.proofs.Common.{[], ◌∷◌, get_or, ◌∙◌}
+use Rattle.std.proofs.Common.{[], ◌∷◌, ◌++◌, ◌∙◌}
+use borrow.Rule.Slice.PartMut.{put_mid}
 use Rattle.aes_block.proofs.ColumnWords.{stored}
 use Rattle.aes_block.proofs.rounds.stored.Goals as goal
 
 pub returns : goal.returns
-returns c b h = (λ i. get_or (c.to_be_bytes.ensures i) 0 0 ∷ get_or (c.to_be_bytes.ensures i) 1 0 ∷ get_or (c.to_be_bytes.ensures i) 2 0 ∷ get_or (c.to_be_bytes.ensures i) 3 0 ∷ get_or (c.to_be_bytes-2.ensures i) 0 0 ∷ get_or (c.to_be_bytes-2.ensures i) 1 0 ∷ get_or (c.to_be_bytes-2.ensures i) 2 0 ∷ get_or (c.to_be_bytes-2.ensures i) 3 0 ∷ get_or (c.to_be_bytes-3.ensures i) 0 0 ∷ get_or (c.to_be_bytes-3.ensures i) 1 0 ∷ get_or (c.to_be_bytes-3.ensures i) 2 0 ∷ get_or (c.to_be_bytes-3.ensures i) 3 0 ∷ get_or (c.to_be_bytes-4.ensures i) 0 0 ∷ get_or (c.to_be_bytes-4.ensures i) 1 0 ∷ get_or (c.to_be_bytes-4.ensures i) 2 0 ∷ get_or (c.to_be_bytes-4.ensures i) 3 0 ∷ []) ∙ stored b c.args.s h.block h.words
+returns c b h =
+    let first = c.copy_from_slice.ensures.after ∙ c.to_be_bytes.ensures in
+    let second = c.copy_from_slice-2.ensures.after ∙ c.to_be_bytes-2.ensures in
+    let third = c.copy_from_slice-3.ensures.after ∙ c.to_be_bytes-3.ensures in
+    let fourth = c.copy_from_slice-4.ensures.after ∙ c.to_be_bytes-4.ensures in
+    (λ i. put_mid 12 4 (put_mid 8 4 (put_mid 4 4 (first i ++ 0 ∷ 0 ∷ 0 ∷ 0 ∷ 0 ∷ 0 ∷ 0 ∷ 0 ∷ 0 ∷ 0 ∷ 0 ∷ 0 ∷ []) (second i)) (third i)) (fourth i))
+    ∙ stored b c.args.s h.block h.words

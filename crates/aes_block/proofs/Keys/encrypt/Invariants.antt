@@ -1,6 +1,0 @@
-use Rattle.aes_block.specs.Block.{state_after}
-use Rattle.aes_block.specs.Words.{AreWordsOf}
-use Rattle.aes_block.proofs.Keys.encrypt.Given as goal
-
-abbrev pub invariant-loop-n : goal.invariant-loop-n
-invariant-loop-n l = AreWordsOf l.state (state_after l.n l.fn.self l.fn.block)
