@@ -81,7 +81,9 @@ impl Keys {
         self.add_round_key(forward_round(words), n)
     }
 
-    // The inverse cipher's round with round key n, which isn't its last round.
+    // The inverse cipher's round with round key n, which isn't its last round. It is large, and LLVM doesn't inline it by
+    // itself; then the words of a block go through memory at each round.
+    #[inline(always)]
     fn round_back(&self, words: [u32; 4], n: usize) -> [u32; 4]
         requires { n < 11 }
         ensures { (b : List ℕ) →

@@ -57,6 +57,10 @@ is_misplaced more fid mcl ki mcr mac ml = (more && mac) || (nat_le 2 fid && ((mc
 abbrev pub is_uncounted : Bool → ℕ → Bool
 is_uncounted more fid = more && fid == 0
 
+-- a header is that of a fragment where more fragments follow (MF = 1) or its number FID is at least 2; every other is that of a whole message
+abbrev pub is_fragment : Afl → Bool
+is_fragment a = a.more || nat_le 2 a.fid
+
 -- FCL of a header: a bit for MF and for each field that is there, and FID. The bits that aren't used are 0
 unfoldable pub fcl_of : Afl → ℕ
 fcl_of a = where_so a.more (2 ^ 14) + (where_so (is_some a.mcl) (2 ^ 13) + (where_so (is_some a.ml) (2 ^ 12) + (where_so (is_some a.mcr) (2 ^ 11) + (where_so (is_some a.mac) (2 ^ 10) + (where_so (is_some a.ki) (2 ^ 9) + a.fid)))))

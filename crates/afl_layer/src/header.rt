@@ -27,6 +27,17 @@ pub struct Afl {
     pub len: usize,
 }
 
+impl Afl {
+    ghost use Rattle.afl_layer.specs.Fields.{is_fragment};
+
+    /// Whether the header is that of a fragment of a message: more of them follow, or its number is at least 2.
+    pub fn is_fragment(&self) -> bool
+        ensures { result ≡ is_fragment self.now }
+    {
+        self.more || 2 <= self.fid
+    }
+}
+
 /// What of a message's headers goes into its authentication.
 #[derive(Clone, Copy, Debug, PartialEq, Eq)]
 pub struct Auth {

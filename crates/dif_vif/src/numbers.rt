@@ -21,6 +21,7 @@ fn number_of(difes: &[u8], lowest: u8, base: u8) -> u64
     number
 }
 
+/// The storage number that the DIF and its DIFEs name (EN 13757-3, 6.3).
 #[tactic(auto, using(crate::proofs::Lowest::lowest))]
 pub fn storage_of(dif: u8, difes: &[u8]) -> u64
     requires { length difes.now ≤ 10 }
@@ -29,6 +30,7 @@ pub fn storage_of(dif: u8, difes: &[u8]) -> u64
     u64::from(dif / 64 % 2) + 2 * number_of(difes, 1, 16)
 }
 
+/// The tariff that the DIFEs name.
 pub fn tariff_of(difes: &[u8]) -> u32
     requires { length difes.now ≤ 10 }
     ensures { result ≡ tariff_of difes.now }
@@ -36,6 +38,7 @@ pub fn tariff_of(difes: &[u8]) -> u32
     number_of(difes, 16, 4) as u32
 }
 
+/// The subunit that the DIFEs name.
 pub fn subunit_of(difes: &[u8]) -> u16
     requires { length difes.now ≤ 10 }
     ensures { result ≡ subunit_of difes.now }

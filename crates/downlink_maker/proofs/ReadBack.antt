@@ -10,8 +10,8 @@ use Rattle.cbc_cmac.proofs.Blocks.{bytes_of_blocks_are_undone}
 use Rattle.key_derivation.specs.declared.KeyUse.TheVariants.{PartnerCipher}
 use Rattle.key_derivation.proofs.DerivedKeys.{IsBlock-derived}
 use Rattle.meter_address.specs.declared.address.Address.{Address}
-use Rattle.meter_address.specs.Address.{bytes_of}
-use Rattle.downlink_maker.specs.Downlink.{blocks_for, identification_of, plain_content, cipher_key, encrypted_content}
+use Rattle.meter_address.specs.Address.{bytes_of, identification_of}
+use Rattle.downlink_maker.specs.Downlink.{blocks_for, plain_content, cipher_key, encrypted_content}
 use Rattle.downlink_maker.specs.Laws.{ContentIsReadBack}
 
 AreBytes-identification_of : (a : Address) → AreBytes (identification_of a)

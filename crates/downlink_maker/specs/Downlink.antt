@@ -1,10 +1,10 @@
 -- The downlink that carries a command to a meter: the telegram of EN 13757-4, with an authentication and fragmentation layer
 -- (EN 13757-7), a long transport header (EN 13757-3) and a message of security mode 7 (OMS Volume 2). Below, a is the meter's address,
 -- c what is commissioned of the meter, and down the counter of the downlink.
-use Rattle.std.specs.Prelude.{ℕ, ◌+◌, ◌-◌, ◌*◌, ◌/◌, ◌%◌, false, List, [], ◌∷◌, ◌++◌, length, take, drop, replicate, Some, None}
+use Rattle.std.specs.Prelude.{ℕ, ◌+◌, ◌-◌, ◌*◌, ◌/◌, ◌%◌, false, List, [], ◌∷◌, ◌++◌, length, take, replicate, Some, None}
 use Rattle.std.specs.Int.{w16, w32, to_le_bytes}
 use Rattle.meter_address.specs.declared.address.Address.{Address}
-use Rattle.meter_address.specs.Address.{bytes_of}
+use Rattle.meter_address.specs.Address.{bytes_of, identification_of, header_order}
 use Rattle.meter_address.specs.Commission.{Commissioned}
 use Rattle.afl_layer.specs.declared.header.Afl.{Afl}
 use Rattle.frame_formats.specs.Decoding.{frame_a}
@@ -17,17 +17,9 @@ use Rattle.key_derivation.specs.Derivation.{derived}
 abbrev pub blocks_for : ℕ → ℕ
 blocks_for p = (p + 2 + 15) / 16
 
--- the identification of an address: four bytes as sent
-abbrev pub identification_of : Address → List ℕ
-identification_of a = take 4 (drop 2 (bytes_of a))
-
 -- the link layer in front: L, which counts all bytes behind it, C of SND-UD2, and M and A, the collector's own address
 abbrev pub link_bytes : Address → ℕ → List ℕ
 link_bytes own blocks = (40 + 16 * blocks) ∷ 0x43 ∷ bytes_of own
-
--- an address in the order of a long transport header: identification, manufacturer, version, device type
-abbrev pub header_order : Address → List ℕ
-header_order a = identification_of a ++ take 2 (bytes_of a) ++ drop 6 (bytes_of a)
 
 -- the configuration field: mode 7, and the number of encrypted blocks in bits 7 to 4
 abbrev pub configuration : ℕ → ℕ

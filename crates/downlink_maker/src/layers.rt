@@ -1,21 +1,13 @@
 //! The layers in front of a downlink's message.
 ghost use Rattle.std.specs.Prelude.{◌≡◌, ◌≤◌, ◌++◌, ℕ, List, Ok};
 ghost use Rattle.afl_layer.specs.Header.{afl_at};
-ghost use Rattle.downlink_maker.specs.Downlink.{identification_of, link_bytes, authentication_bytes, authentication_of, header_bytes};
+ghost use Rattle.downlink_maker.specs.Downlink.{link_bytes, authentication_bytes, authentication_of, header_bytes};
 
 use afl_layer::{Afl, write_afl};
 use meter_address::Address;
 
 // MCL of a whole message with a counter and a MAC: AES-CMAC-128, cut to eight bytes.
 pub(crate) const MESSAGE_CONTROL: u8 = 0x25;
-
-// The identification of an address: four bytes as sent.
-pub(crate) fn identification(address: Address) -> [u8; 4]
-    ensures { result ≡ identification_of address }
-{
-    let [_, _, i, j, k, l, ..] = address.to_bytes();
-    [i, j, k, l]
-}
 
 // The link layer: L, C, M and A.
 pub(crate) fn link_layer(own: Address, blocks: u8) -> [u8; 10]
@@ -56,7 +48,7 @@ pub(crate) fn transport_header(meter: Address, down: u32, blocks: u8) -> [u8; 14
     requires { blocks ≤ 6 }
     ensures { result ≡ header_bytes meter down blocks }
 {
-    let [m0, m1, i0, i1, i2, i3, version, device] = meter.to_bytes();
+    let [i0, i1, i2, i3, m0, m1, version, device] = meter.in_header_order();
     let access = (down % 256) as u8;
     let [c0, c1] = (0x0700 + 16 * u16::from(blocks)).to_le_bytes();
     [

@@ -3,7 +3,7 @@ ghost use Rattle.std.specs.Prelude.{◌≡◌, ◌+◌, ◌*◌, ◌≤◌, ◌+
 ghost use Rattle.meter_address.specs.declared.payload.TheConstants.{PAYLOAD_MAX};
 ghost use Rattle.downlink_maker.specs.Downlink.{blocks_for, plain_content, encrypted_content, message_bytes, mac_of};
 
-use crate::layers::{MESSAGE_CONTROL, identification};
+use crate::layers::MESSAGE_CONTROL;
 use aes_block::Keys;
 use cbc_cmac::{cbc_encrypt_in_place, cmac_of_pieces};
 use key_derivation::{KeyUse, derive};
@@ -48,7 +48,7 @@ pub(crate) fn encrypted(commission: &Commission, down: u32, payload: &[u8]) -> [
     requires { length payload.now ≤ PAYLOAD_MAX }
     ensures { take (16 * blocks_for (length payload.now)) result ≡ encrypted_content commission.now down payload.now }
 {
-    let id = identification(commission.address);
+    let id = commission.address.identification();
     let key = derive(&commission.key, KeyUse::PartnerCipher, down, id);
     let len = 16 * block_count(payload) as usize;
     let mut content = plain(payload);
@@ -62,7 +62,7 @@ pub(crate) fn mac(commission: &Commission, down: u32, header: &[u8], content: &[
     ensures { (payload : List ℕ) → header.now ++ content.now ≡ message_bytes commission.now down payload
         → result ≡ mac_of commission.now down payload }
 {
-    let id = identification(commission.address);
+    let id = commission.address.identification();
     let key = derive(&commission.key, KeyUse::PartnerMac, down, id);
     let counter = down.to_le_bytes();
     let whole = cmac_of_pieces(

@@ -1,11 +1,12 @@
 -- The layers of a telegram above the link (EN 13757-4, EN 13757-7): from place 10 on an extension of the link layer, an
 -- authentication and fragmentation layer, each where it is there, and then a fragment's piece of a message, or a transport
 -- header with its body.
-use Rattle.std.specs.Prelude.{ℕ, ◌≡◌, ◌+◌, Bool, true, false, ◌&&◌, ◌||◌, ◌==◌, nat_le, if◌then◌else◌, List, [], ◌∷◌, length, drop, Option, Some, None, Result, Ok}
+use Rattle.std.specs.Prelude.{ℕ, ◌≡◌, ◌+◌, Bool, true, false, ◌&&◌, ◌==◌, nat_le, if◌then◌else◌, List, [], ◌∷◌, length, drop, Option, Some, None, Result, Ok}
 use Rattle.std.specs.Result.{result_map_both}
 use Rattle.ell_layer.specs.declared.extension.Ell.{Ell}
 use Rattle.ell_layer.specs.Extension as extension
 use Rattle.afl_layer.specs.declared.header.Afl.{Afl}
+use Rattle.afl_layer.specs.Fields.{is_fragment}
 use Rattle.afl_layer.specs.Header as fragmentation
 use Rattle.tpl_headers.specs.declared.header.Tpl.{Tpl}
 use Rattle.tpl_headers.specs.Header as transport
@@ -14,11 +15,7 @@ use Rattle.message_check.specs.declared.headers.Layers.{Layers}
 use Rattle.message_check.specs.declared.refusal.LayerFault.{LayerFault}
 use Rattle.message_check.specs.declared.refusal.LayerFault.TheVariants as faults
 
--- a fragment of a message: more of them follow (MF = 1), or its number is at least 2
-abbrev pub is_fragment : Afl → Bool
-is_fragment a = a.more || nat_le 2 a.fid
-
--- whether a piece of a message follows, and no transport header
+-- whether a piece of a message follows, and no transport header: so it is behind the header of a fragment
 abbrev pub has_piece : Option Afl → Bool
 has_piece None = false
 has_piece (Some a) = is_fragment a

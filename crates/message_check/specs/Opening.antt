@@ -6,7 +6,7 @@ use Rattle.std.specs.Str.{bytes_eq}
 use Rattle.std.specs.Int.{bit_at, w16, w32, to_le_bytes}
 use Rattle.frame_formats.specs.Crc.{IsBytes}
 use Rattle.meter_address.specs.declared.address.Address.{Address}
-use Rattle.meter_address.specs.Address.{bytes_of}
+use Rattle.meter_address.specs.Address.{bytes_of, identification_of}
 use Rattle.meter_address.specs.Commission.{Commissioned}
 use Rattle.ell_layer.specs.declared.access.Access.{Access}
 use Rattle.ell_layer.specs.declared.access.Access.TheVariants as access
@@ -51,10 +51,6 @@ access_in_configuration cf = access_of (bit_at cf 15 == 1) (bit_at cf 14 == 1)
 -- mode 5: the blocks, decrypted under the meter's key
 unfoldable pub decrypted5 : Commissioned → Tpl → List ℕ → List ℕ
 decrypted5 c h m = cbc_decrypted c.key (initialization_vector c.address h.acc) (encrypted_of h m)
-
--- the identification of a meter's address: four bytes as sent
-abbrev pub identification_of : Address → List ℕ
-identification_of a = take 4 (drop 2 (bytes_of a))
 
 -- the message length as sent, where it is there
 abbrev pub length_bytes : Option ℕ → List ℕ

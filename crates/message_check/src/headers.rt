@@ -27,7 +27,7 @@ pub(crate) fn piece_follows(afl: Option<Afl>) -> bool
 {
     match afl {
         None => false,
-        Some(afl) => afl.more || 2 <= afl.fid,
+        Some(afl) => afl.is_fragment(),
     }
 }
 

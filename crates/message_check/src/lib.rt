@@ -13,7 +13,7 @@ mod signature;
 
 pub use addressee::target;
 pub use headers::Layers;
-pub use mode_five::open5;
+pub use mode_five::{open5, open5_with_key};
 pub use mode_seven::{open7, open7_with_key};
 pub use opening::Opened;
 pub use reading::layers;

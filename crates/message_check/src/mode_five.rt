@@ -7,8 +7,10 @@ ghost use Rattle.message_check.specs.Opened.{found_in};
 
 use crate::opening::{Opened, check_blocks, decrypt, emptied_if_refused, read_header_for};
 use crate::refusal::Reason;
+use aes_block::Keys;
 use afl_layer::Scratch;
 use ell_layer::Access;
+use key_derivation::MeterKey;
 use meter_address::{Address, Commission, Mode};
 use tpl_headers::Tpl;
 
@@ -63,22 +65,25 @@ fn check_access_number(last: Option<u32>, acc: u8) -> Result<(), Reason>
 
 // Decrypts the blocks behind the header in place.
 #[tactic(auto, unfolding(crate::specs::Opening::decrypted5))]
-fn decrypt_for(commission: &Commission, tpl: &Tpl, message: &mut [u8])
-    requires { tpl.now.len + 16 * blocks_of tpl.now.cf ≤ length message.old }
+fn decrypt_for(keys: &Keys, commission: &Commission, tpl: &Tpl, message: &mut [u8])
+    requires key { keys.now ≡ commission.now.key }
+    requires blocks { tpl.now.len + 16 * blocks_of tpl.now.cf ≤ length message.old }
     ensures payload { drop tpl.now.len message.new ≡ decrypted5 commission.now tpl.now message.old ++ rest_of tpl.now message.old }
     ensures long { length (decrypted5 commission.now tpl.now message.old) ≡ 16 * blocks_of tpl.now.cf }
 {
     let iv = first_block(commission.address, tpl.acc);
-    decrypt(&commission.key, &iv, tpl, message);
+    decrypt(keys, &iv, tpl, message);
 }
 
 // What a message says after another, or the first refusal.
 #[tactic(auto, unfolding(crate::specs::Opening::opened5, crate::specs::Opening::compared5, crate::specs::Opening::opened5_after))]
 fn open_message(
+    keys: &Keys,
     commission: &Commission,
     last: Option<u32>,
     message: &mut [u8],
 ) -> Result<Opened, Reason>
+    requires { keys.now ≡ commission.now.key }
     ensures opened { IfOk result (λ o. opened5_after last commission.now message.old ≡ Ok (found_in message.new o)) }
     ensures within { IfOk result (λ o. o.from ≤ length message.new) }
     ensures number { IfOk result (λ o. o.counter < 2 ^ 8) }
@@ -87,7 +92,7 @@ fn open_message(
     let tpl = read_header_for(commission.address, 5, message)?;
     check_blocks(&tpl, message)?;
     check_some_block(&tpl)?;
-    decrypt_for(commission, &tpl, message);
+    decrypt_for(keys, commission, &tpl, message);
     let (_, payload) = message.split_at(tpl.len);
     check_bytes(payload)?;
     check_access_number(last, tpl.acc)?;
@@ -96,6 +101,33 @@ fn open_message(
         from: tpl.len,
         access: access_of_configuration(tpl.cf),
     })
+}
+
+/// The same as `open5`, with the meter's key made ready beforehand: where many messages of a meter are opened, this saves
+/// making it ready for each.
+pub fn open5_with_key(
+    meter_key: &MeterKey,
+    commission: &Commission,
+    last: Option<u32>,
+    message: &mut Scratch,
+) -> Result<Opened, Reason>
+    requires key { meter_key.now ≡ commission.now.key }
+    requires mode { commission.now.mode ≡ Mode.Five }
+
+    // The payload is what the message has become, from the place `from` on.
+    ensures opened { IfOk result (λ o. opened5_after last commission.now message.old ≡ Ok (found_in message.new o)) }
+    ensures within { IfOk result (λ o. o.from ≤ length message.new) }
+    ensures same_len { OnOk result (length message.new ≡ length message.old) }
+
+    // An access number is one byte.
+    ensures number { IfOk result (λ o. o.counter < 2 ^ 8) }
+
+    // A refused message is emptied.
+    ensures refused { IfErr result (λ r. opened5_after last commission.now message.old ≡ Err r) }
+    ensures emptied { OnErr result (message.new ≡ []) }
+{
+    let answer = open_message(meter_key.keys(), commission, last, message.bytes_mut());
+    emptied_if_refused(answer, message)
 }
 
 /// Checks a message of security mode 5, which begins with its transport header, and decrypts it in place under the
@@ -120,6 +152,6 @@ pub fn open5(
     ensures refused { IfErr result (λ r. opened5_after last commission.now message.old ≡ Err r) }
     ensures emptied { OnErr result (message.new ≡ []) }
 {
-    let answer = open_message(commission, last, message.bytes_mut());
-    emptied_if_refused(answer, message)
+    let meter_key = MeterKey::new(&commission.key);
+    open5_with_key(&meter_key, commission, last, message)
 }

@@ -6,7 +6,8 @@ ghost use Rattle.message_check.specs.Opened.{found_in};
 
 use crate::opening::{Opened, check_blocks, decrypt, emptied_if_refused, read_header_for};
 use crate::refusal::Reason;
-use crate::signature::{check_mac, identification, read_signature};
+use crate::signature::{check_mac, read_signature};
+use aes_block::Keys;
 use afl_layer::{Auth, Scratch};
 use ell_layer::Access;
 use key_derivation::{KeyUse, MeterKey};
@@ -47,9 +48,9 @@ fn decrypt_for(
     requires blocks { tpl.now.len + 16 * blocks_of tpl.now.cf ≤ length message.old }
     ensures payload { drop tpl.now.len message.new ≡ decrypted7 commission.now counter tpl.now message.old ++ rest_of tpl.now message.old }
 {
-    let id = identification(commission.address);
+    let id = commission.address.identification();
     let key = meter_key.derive(KeyUse::MeterCipher, counter, id);
-    decrypt(&key, &[0; 16], tpl, message);
+    decrypt(&Keys::new(&key), &[0; 16], tpl, message);
 }
 
 // What a message says after another, or the first refusal.

@@ -81,13 +81,13 @@ pub(crate) fn check_blocks(tpl: &Tpl, message: &[u8]) -> Result<(), Reason>
 }
 
 // Decrypts the blocks behind the header in place.
-pub(crate) fn decrypt(key: &[u8; 16], iv: &[u8; 16], tpl: &Tpl, message: &mut [u8])
+pub(crate) fn decrypt(keys: &Keys, iv: &[u8; 16], tpl: &Tpl, message: &mut [u8])
     requires { tpl.now.len + 16 * blocks_of tpl.now.cf ≤ length message.old }
-    ensures payload { drop tpl.now.len message.new ≡ cbc_decrypted key.now iv.now (encrypted_of tpl.now message.old) ++ rest_of tpl.now message.old }
-    ensures long { length (cbc_decrypted key.now iv.now (encrypted_of tpl.now message.old)) ≡ 16 * blocks_of tpl.now.cf }
+    ensures payload { drop tpl.now.len message.new ≡ cbc_decrypted keys.now iv.now (encrypted_of tpl.now message.old) ++ rest_of tpl.now message.old }
+    ensures long { length (cbc_decrypted keys.now iv.now (encrypted_of tpl.now message.old)) ≡ 16 * blocks_of tpl.now.cf }
 {
     let end = tpl.len + 16 * tpl.blocks() as usize;
-    cbc_decrypt_in_place(&Keys::new(key), iv, &mut message[tpl.len..end]);
+    cbc_decrypt_in_place(keys, iv, &mut message[tpl.len..end]);
 }
 
 // Empties the message where it was refused.

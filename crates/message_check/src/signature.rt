@@ -2,14 +2,14 @@
 ghost use Rattle.std.specs.Prelude.{◌≡◌, ◌++◌, ℕ, List, take};
 ghost use Rattle.cbc_cmac.specs.Fed.{StandsFor};
 ghost use Rattle.cbc_cmac.specs.Mac.{cmac};
-ghost use Rattle.message_check.specs.Opening.{identification_of, control_passed, signature_of, length_bytes, mac_input, mac_of, mac_passed};
+ghost use Rattle.message_check.specs.Opening.{control_passed, signature_of, length_bytes, mac_input, mac_of, mac_passed};
 
 use crate::refusal::Reason;
 use aes_block::Keys;
 use afl_layer::Auth;
 use cbc_cmac::Cmac;
 use key_derivation::{KeyUse, MeterKey};
-use meter_address::{Address, Commission};
+use meter_address::Commission;
 
 // The parts of a message's authentication, all that have to be there.
 #[derive(Clone, Copy)]
@@ -52,14 +52,6 @@ pub(crate) fn read_signature(auth: &Auth) -> Result<Signature, Reason>
     })
 }
 
-// The identification in an address: four bytes as sent.
-pub(crate) fn identification(address: Address) -> [u8; 4]
-    ensures { result ≡ identification_of address }
-{
-    let [_, _, i, j, k, l, ..] = address.to_bytes();
-    [i, j, k, l]
-}
-
 // Takes in the message length, where it is there.
 fn update_with_length(mac: &mut Cmac, ml: Option<u16>)
     ensures { (key message : List ℕ) → StandsFor mac.old key message → StandsFor mac.new key (message ++ length_bytes ml) }
@@ -92,7 +84,7 @@ fn mac_of_message(
     requires { meter_key.now ≡ commission.now.key }
     ensures { result ≡ mac_of commission.now signature.now.mcl signature.now.counter signature.now.ml message.now }
 {
-    let id = identification(commission.address);
+    let id = commission.address.identification();
     let key = meter_key.derive(KeyUse::MeterMac, signature.counter, id);
     let whole = cmac_of_message(&key, signature, message);
     let mut mac = [0; 8];

@@ -1,5 +1,5 @@
 -- The address of a meter, and its text.
-use Rattle.std.specs.Prelude.{ℕ, ◌≡◌, ◌≢◌, ◌<◌, ◌==◌, List, length, take, slice_index, false, Option, Some, None, Result, Ok, Err, if◌then◌else◌}
+use Rattle.std.specs.Prelude.{ℕ, ◌≡◌, ◌≢◌, ◌<◌, ◌==◌, List, ◌++◌, length, take, drop, slice_index, false, Option, Some, None, Result, Ok, Err, if◌then◌else◌}
 use Rattle.std.specs.List.{AllPass}
 use Rattle.std.specs.Int.{w64, to_be_bytes, from_be_bytes}
 use Rattle.hex.specs.Hex.{decode_of, encode_lower, is_hex_digit}
@@ -11,6 +11,14 @@ use Rattle.meter_address.specs.declared.address.AddressFault.TheVariants as faul
 -- the eight bytes of an address, the first one highest: M as sent (2), identification as sent (4), version, device type
 unfoldable pub bytes_of : Address → List ℕ
 bytes_of a = to_be_bytes w64 a.0
+
+-- the identification of an address: four bytes as sent
+abbrev pub identification_of : Address → List ℕ
+identification_of a = take 4 (drop 2 (bytes_of a))
+
+-- an address as a long transport header has it (EN 13757-7): identification, M, version and type, where the link layer has M first
+abbrev pub header_order : Address → List ℕ
+header_order a = identification_of a ++ (take 2 (bytes_of a) ++ drop 6 (bytes_of a))
 
 -- the text of an address: two lower case digits for each byte, the high four bits first
 abbrev pub text_of : Address → List ℕ

@@ -22,7 +22,7 @@ pub enum AddressFault {
 }
 
 impl Address {
-    ghost use Rattle.meter_address.specs.Address.{bytes_of, text_of, address_of, Spells, IsFault};
+    ghost use Rattle.meter_address.specs.Address.{bytes_of, identification_of, header_order, text_of, address_of, Spells, IsFault};
     ghost use Rattle.std.specs.Result.{result_ok};
     ghost use Rattle.meter_address.specs.Letters.{manufacturer_of, letters_of, AreLetters};
 
@@ -42,6 +42,23 @@ impl Address {
         ensures again { from_be_bytes w64 result ≡ self.0 }
     {
         self.0.to_be_bytes()
+    }
+
+    /// The identification: four bytes as sent.
+    pub fn identification(self) -> [u8; 4]
+        ensures { result ≡ identification_of self }
+    {
+        let [_, _, i, j, k, l, ..] = self.to_bytes();
+        [i, j, k, l]
+    }
+
+    /// The bytes in the order of a long transport header (EN 13757-7): the identification before M.
+    pub fn in_header_order(self) -> [u8; 8]
+        ensures order { result ≡ header_order self }
+        ensures number { self.0 < 2 ^ 64 }
+    {
+        let [m, n, i, j, k, l, version, kind] = self.to_bytes();
+        [i, j, k, l, m, n, version, kind]
     }
 
     /// The three letters of the manufacturer (EN 13757-3): none where bit 15 of M is set, or one of its three groups

@@ -4,7 +4,8 @@ use Rattle.meter_address.specs.declared.commission.Mode.{Mode}
 use Rattle.meter_address.specs.declared.commission.Mode.TheVariants.{Five, Seven}
 use Rattle.afl_layer.specs.declared.header.Afl.{Afl}
 use Rattle.afl_layer.specs.declared.header.Auth.{Auth}
-use Rattle.afl_fragments.specs.Fragment.{Fragment, is_fragment}
+use Rattle.afl_fragments.specs.Fragment.{Fragment}
+use Rattle.afl_layer.specs.Fields.{is_fragment}
 use Rattle.afl_fragments.specs.Held.{Told, Piece, Message, held, assembled}
 use Rattle.message_check.specs.Steps.{◌>>=◌}
 use Rattle.message_check.specs.Layers.{layers_of}

@@ -8,7 +8,8 @@ use Rattle.afl_layer.specs.declared.header.Afl.{Afl}
 use Rattle.afl_layer.specs.declared.header.Auth.{Auth}
 use Rattle.access_window.specs.Orders.{Orders}
 use Rattle.afl_fragments.specs.declared.places.HeldPart.{HeldPart}
-use Rattle.afl_fragments.specs.Fragment.{is_fragment, IsFragment}
+use Rattle.afl_fragments.specs.Fragment.{IsFragment}
+use Rattle.afl_layer.specs.Fields.{is_fragment}
 use Rattle.afl_fragments.specs.Held.{Told, Clear, StandsFor, Message, held_bytes}
 use Rattle.message_check.specs.Opening.{Found}
 use Rattle.message_check.specs.Opened.{found_in}

@@ -1,7 +1,6 @@
 //! Hearing a telegram: its refusals, the message that it brings, and the verdict on that message.
 ghost use Rattle.std.specs.Prelude.{◌≡◌, ◌+◌, ◌≤◌, ◌<◌, ◌^◌, ◌++◌, ◌∷◌, [], ℕ, List, length, drop, Some, Ok, Err, IfOk, IfErr, OnOk, OnSome};
 ghost use Rattle.meter_address.specs.Commission.{most_last};
-ghost use Rattle.afl_fragments.specs.Fragment.{is_fragment};
 ghost use Rattle.afl_fragments.specs.Held.{Told, Piece, StandsFor, assembled, held, held_bytes};
 ghost use Rattle.message_check.specs.Opened.{found_in};
 ghost use Rattle.message_check.specs.Layers.{IsLayers, layers_of};
@@ -15,7 +14,7 @@ use afl_fragments::{PARTS_MAX, Part, Parts};
 use afl_layer::{Afl, Auth, Scratch};
 use ell_layer::{Access, Ell};
 use frame_formats::Telegram;
-use message_check::{Layers, Opened, Reason, layers, open5, open7_with_key};
+use message_check::{Layers, Opened, Reason, layers, open5_with_key, open7_with_key};
 use meter_address::Mode;
 
 /// What a telegram comes to: a message that is opened and to be stored, a fragment that is kept, or a refusal.
@@ -65,19 +64,12 @@ fn check_number(mode: Mode, fid: u8) -> Result<(), Reason>
     }
 }
 
-// Whether a piece of a message follows the header.
-fn precedes_piece(afl: Afl) -> bool
-    ensures { result ≡ is_fragment afl }
-{
-    afl.more || 2 <= afl.fid
-}
-
 fn check_fragment(mode: Mode, afl: Option<Afl>) -> Result<(), Reason>
     ensures exact { result ≡ fragment_passed mode afl }
     ensures counted { OnOk result (IsCounted afl) }
 {
     match afl {
-        Some(afl) if precedes_piece(afl) => check_number(mode, afl.fid),
+        Some(afl) if afl.is_fragment() => check_number(mode, afl.fid),
         _ => Ok(()),
     }
 }
@@ -159,7 +151,7 @@ fn open(
     ensures len { OnOk result (length message.new ≡ length message.old) }
 {
     match mode {
-        Mode::Five => open5(opening.commission(), last, message),
+        Mode::Five => open5_with_key(opening.key(), opening.commission(), last, message),
         Mode::Seven => open7_with_key(opening.key(), opening.commission(), last, auth, message),
     }
 }
@@ -246,7 +238,7 @@ fn hear_content(
     ensures fits { VerdictFits opening.now.mode message.new (held_bytes parts.old + length bytes.now) result }
 {
     match afl {
-        Some(afl) if precedes_piece(afl) => {
+        Some(afl) if afl.is_fragment() => {
             hear_part(opening, last, parts, Part::new(afl, bytes), message)
         }
         afl => hear_whole(opening, last, auth_of(afl), bytes, message),

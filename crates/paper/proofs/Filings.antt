@@ -1,5 +1,5 @@
 -- What a paper over a sink does, over several calls.
-use Rattle.std.proofs.Common.{◌≡◌, ◌≤◌, ◌<◌, ◌-◌, ◌^◌, refl, sym, ◌∙◌, ap, arith, append_assoc, take, drop, length, ◌⊎◌, inl, inr}
+use Rattle.std.proofs.Common.{◌≡◌, ◌≤◌, refl, sym, ◌∙◌, ap, arith, append_assoc, take, drop, length}
 use Rattle.std.specs.Prelude.{ℕ, Bool, true, false, List, [], ◌∷◌, ◌++◌, IsTrue, Result, Ok, Err, OnOk, OnErr}
 use Rattle.std.proofs.lemmas.List.{append-nil, take-append-drop, append_cancel_left, length-append}
 use Rattle.std.proofs.Math.Seq.{take-append_seam}

@@ -58,6 +58,7 @@ pub enum Reading {
     Number,
 }
 
+/// The value of a number: raw where there is none.
 pub fn positive(number: Option<u64>) -> Value
     ensures { result ≡ positive number }
 {
@@ -67,6 +68,7 @@ pub fn positive(number: Option<u64>) -> Value
     }
 }
 
+/// The value of a number below its sign: raw where there is none.
 pub fn negative(number: Option<u64>) -> Value
     ensures { result ≡ negative number }
 {

@@ -1,14 +1,10 @@
 -- The lines of a roster that count, line by line.
-use Rattle.std.proofs.Common.{◌≡◌, ℕ, ◌+◌, ◌<◌, ◌≤◌, ◌==◌, List, [], ◌∷◌, ◌++◌, Bool, true, false, not, cond, nat_le, length, Result, Ok, Err, refl, ap, sym, ◌∙◌, arith}
+use Rattle.std.proofs.Common.{◌≡◌, ℕ, ◌+◌, List, [], ◌∷◌, true, false, not, cond, length, Ok, Err, refl, ap, ◌∙◌, arith}
 use Rattle.std.specs.Prelude.{filter}
-use Rattle.std.specs.List.{enumerate_from, list_any}
-use Rattle.std.proofs.lemmas.Bool.Decides.{nat_tests}
+use Rattle.std.specs.List.{enumerate_from}
 use Rattle.meter_address.specs.Commission.{Commissioned}
-use Rattle.roster_file.specs.declared.reader.TheConstants.{MOST_METERS}
-use Rattle.roster_file.specs.declared.roster.LineCause.{LineCause}
-use Rattle.roster_file.specs.declared.roster.LineCause.TheVariants as causes
 use Rattle.roster_file.specs.declared.roster.RosterFault.{RosterFault}
-use Rattle.roster_file.specs.Roster.{entries_from, is_passed_over, meter_of, enlisted, enlisted_from, meters_of, at_line, ◌>>=◌}
+use Rattle.roster_file.specs.Roster.{entries_from, is_passed_over, enlisted_from, meters_of, ◌>>=◌}
 
 pub passed : (n : ℕ) (text : List ℕ) (texts : List (List ℕ)) → is_passed_over text ≡ true → entries_from n (text ∷ texts) ≡ entries_from (n + 1) texts
 unfolding entries_from

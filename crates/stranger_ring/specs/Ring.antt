@@ -1,5 +1,5 @@
 -- The ring of strangers.
-use Rattle.std.specs.Prelude.{ℕ, List, map}
+use Rattle.std.specs.Prelude.{List, map}
 use Rattle.circular_buffer.specs.Buffer.{keep_last}
 use Rattle.meter_address.specs.declared.address.Address.{Address}
 use Rattle.stranger_ring.specs.declared.strangers.Heard.{Heard}

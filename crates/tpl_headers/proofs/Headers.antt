@@ -8,8 +8,10 @@ use Rattle.meter_address.specs.declared.address.Address.{Address}
 use Rattle.tpl_headers.specs.declared.header.Tpl.{Tpl}
 use Rattle.tpl_headers.specs.declared.header.TplFault.{TplFault}
 use Rattle.tpl_headers.specs.Configuration.{mode_of}
-use Rattle.tpl_headers.specs.Header.{IsShortCi, IsLongCi, cfe_bytes, tail_bytes, header_order, tpl_bytes, HasItsAddress, HasItsExtension, IsHeader, BeginsWithTpl, tail_at, address_at, with_tail, short_at, long_at, tpl_at}
-use Rattle.tpl_headers.proofs.Parts.{IsBytes, IsBytes-rest, chosen, map_some, tail_takes, tail_again, address_takes, address_again, length-header_order}
+use Rattle.tpl_headers.specs.Header.{IsShortCi, IsLongCi, cfe_bytes, tail_bytes, tpl_bytes, HasItsAddress, HasItsExtension, IsHeader, BeginsWithTpl, tail_at, address_at, with_tail, short_at, long_at, tpl_at}
+use Rattle.tpl_headers.proofs.Parts.{IsBytes, IsBytes-rest, chosen, map_some, tail_takes, tail_again, address_takes, address_again}
+use Rattle.meter_address.specs.Address.{header_order}
+use Rattle.meter_address.proofs.HeaderOrder.{length-header_order}
 
 -- one of two numbers
 either_is : (x a b : ℕ) → (eqb x a || eqb x b) ≡ true → (x ≡ a) ⊎ (x ≡ b)

@@ -1,14 +1,15 @@
 -- The parts of a header: what is read of each is spelled so, and what is spelled so is read.
-use Rattle.std.proofs.Common.{◌≡◌, ℕ, zero, suc, ◌^◌, ◌<◌, Bool, true, false, cond, eqb, ◌⊎◌, List, [], ◌∷◌, ◌++◌, length, get_or, take, drop, Option, Some, None, option_map, is_some, refl, sym, ap, subst, ◌∙◌, arith, inl, inr}
+use Rattle.std.proofs.Common.{◌≡◌, ℕ, zero, suc, ◌^◌, ◌<◌, Bool, true, false, cond, eqb, ◌⊎◌, List, [], ◌∷◌, ◌++◌, length, get_or, Option, Some, None, option_map, is_some, refl, sym, ap, subst, ◌∙◌, arith, inl, inr}
 use Rattle.std.specs.Int.{w16, w64, from_le_bytes, from_be_bytes}
 use Rattle.std.proofs.lemmas.Option.{some_pair_parts}
 use Rattle.std.proofs.lemmas.Nat.{le_bytes_2, from_le_bytes-to_le_bytes_2}
 use Rattle.meter_address.specs.declared.address.Address.{Address}
-use Rattle.meter_address.specs.Address.{bytes_of}
+use Rattle.meter_address.specs.Address.{bytes_of, header_order}
 use Rattle.meter_address.proofs.Texts.{IsBytes-eight, bytes_of-made, length-bytes_of, from_be_bytes-bytes_of}
+use Rattle.meter_address.proofs.HeaderOrder.{in_order, eight_is}
 use Rattle.tpl_headers.specs.declared.tail.Tail.{Tail}
 use Rattle.tpl_headers.specs.Configuration.{mode_of}
-use Rattle.tpl_headers.specs.Header.{cfe_bytes, tail_bytes, header_order, cfe_at, tail_at, address_at}
+use Rattle.tpl_headers.specs.Header.{cfe_bytes, tail_bytes, cfe_at, tail_at, address_at}
 
 abbrev pub IsBytes : List ℕ → Type 0
 IsBytes bytes = (i : ℕ) → get_or bytes i 0 < 256
@@ -96,10 +97,6 @@ tail_again acc status cf cfe rest fits mode =
 
 -- ---- the address
 
--- eight bytes with the identification before M
-abbrev pub in_order : List ℕ → List ℕ
-in_order b = take 4 (drop 2 b) ++ (take 2 b ++ drop 6 b)
-
 -- the address stands at the front in header order
 pub record TakesAddress (bytes : List ℕ) (a : Address) (rest : List ℕ) : Type 0 where
   pub eight : List ℕ
@@ -137,38 +134,6 @@ address_takes (i ∷ j ∷ k ∷ l ∷ m ∷ n ∷ v ∷ d ∷ after) a rest fit
     subst (λ (x : Address). TakesAddress (i ∷ j ∷ k ∷ l ∷ m ∷ n ∷ v ∷ d ∷ after) x rest) same.0
     (subst (TakesAddress (i ∷ j ∷ k ∷ l ∷ m ∷ n ∷ v ∷ d ∷ after) _) same.1 (address_made i j k l m n v d after fits))
 
--- eight bytes, one by one
-pub record Eight (xs : List ℕ) : Type 0 where
-  pub a : ℕ
-  pub b : ℕ
-  pub c : ℕ
-  pub d : ℕ
-  pub e : ℕ
-  pub f : ℕ
-  pub g : ℕ
-  pub h : ℕ
-  pub cells : xs ≡ a ∷ b ∷ c ∷ d ∷ e ∷ f ∷ g ∷ h ∷ []
-
-eight_is : (xs : List ℕ) → length xs ≡ 8 → Eight xs
-eight_is [] len = absurd (omega arith)
-eight_is (a ∷ []) len = absurd (omega arith)
-eight_is (a ∷ b ∷ []) len = absurd (omega arith)
-eight_is (a ∷ b ∷ c ∷ []) len = absurd (omega arith)
-eight_is (a ∷ b ∷ c ∷ d ∷ []) len = absurd (omega arith)
-eight_is (a ∷ b ∷ c ∷ d ∷ e ∷ []) len = absurd (omega arith)
-eight_is (a ∷ b ∷ c ∷ d ∷ e ∷ f ∷ []) len = absurd (omega arith)
-eight_is (a ∷ b ∷ c ∷ d ∷ e ∷ f ∷ g ∷ []) len = absurd (omega arith)
-eight_is (a ∷ b ∷ c ∷ d ∷ e ∷ f ∷ g ∷ h ∷ []) len = record { a = a; b = b; c = c; d = d; e = e; f = f; g = g; h = h; cells = refl }
-eight_is (a ∷ b ∷ c ∷ d ∷ e ∷ f ∷ g ∷ h ∷ i ∷ xs) len = absurd (omega arith)
-
--- eight bytes with the identification before M, one by one
-pub in_order_cells : (xs : List ℕ) → length xs ≡ 8
-    → in_order xs ≡ get_or xs 2 0 ∷ get_or xs 3 0 ∷ get_or xs 4 0 ∷ get_or xs 5 0 ∷ get_or xs 0 0 ∷ get_or xs 1 0 ∷ get_or xs 6 0 ∷ get_or xs 7 0 ∷ []
-in_order_cells xs len = let x = eight_is xs len in rw x.cells refl
-
-pub length-header_order : (a : Address) → length (header_order a) ≡ 8
-length-header_order a = ap length (in_order_cells (bytes_of a) (length-bytes_of a))
-
 address_parts : (i j k l m n v d : ℕ) (a : Address) (rest : List ℕ) → from_be_bytes w64 (m ∷ n ∷ i ∷ j ∷ k ∷ l ∷ v ∷ d ∷ []) ≡ a.0
     → address_at (i ∷ j ∷ k ∷ l ∷ m ∷ n ∷ v ∷ d ∷ rest) ≡ Some (a, rest)
 unfolding address_at
@@ -181,8 +146,3 @@ address_again a rest fits =
     let order : header_order a ≡ x.c ∷ x.d ∷ x.e ∷ x.f ∷ x.a ∷ x.b ∷ x.g ∷ x.h ∷ [] = ap in_order x.cells in
     ap (λ (y : List ℕ). address_at (y ++ rest)) order
     ∙ address_parts x.c x.d x.e x.f x.a x.b x.g x.h a rest (ap (from_be_bytes w64) (sym x.cells) ∙ from_be_bytes-bytes_of a fits)
-
--- the bytes of an address put in header order, one by one
-pub in_order_is : (a : Address) (xs : List ℕ) → xs ≡ bytes_of a
-    → get_or xs 2 0 ∷ get_or xs 3 0 ∷ get_or xs 4 0 ∷ get_or xs 5 0 ∷ get_or xs 0 0 ∷ get_or xs 1 0 ∷ get_or xs 6 0 ∷ get_or xs 7 0 ∷ [] ≡ header_order a
-in_order_is a xs same = sym (in_order_cells xs (ap length same ∙ length-bytes_of a)) ∙ ap in_order same

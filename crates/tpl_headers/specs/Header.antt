@@ -1,8 +1,8 @@
 -- The transport header (EN 13757-7, OMS Volume 2).
-use Rattle.std.specs.Prelude.{ℕ, ◌≡◌, ◌+◌, ◌<◌, ◌^◌, ◌⊎◌, List, [], ◌∷◌, ◌++◌, length, take, drop, Option, Some, None, option_map, option_and_then, is_some, ok_or, IfSome, Result, Err, ◌==◌, ◌||◌, if◌then◌else◌}
+use Rattle.std.specs.Prelude.{ℕ, ◌≡◌, ◌+◌, ◌<◌, ◌^◌, ◌⊎◌, List, [], ◌∷◌, ◌++◌, length, Option, Some, None, option_map, option_and_then, is_some, ok_or, IfSome, Result, Err, ◌==◌, ◌||◌, if◌then◌else◌}
 use Rattle.std.specs.Int.{w16, w64, to_le_bytes, from_le_bytes, from_be_bytes}
 use Rattle.meter_address.specs.declared.address.Address.{Address}
-use Rattle.meter_address.specs.Address.{bytes_of}
+use Rattle.meter_address.specs.Address.{header_order}
 use Rattle.tpl_headers.specs.declared.header.Tpl.{Tpl}
 use Rattle.tpl_headers.specs.declared.header.TplFault.{TplFault}
 use Rattle.tpl_headers.specs.declared.header.TplFault.TheVariants.{Truncated, Unbuilt}
@@ -24,10 +24,6 @@ cfe_bytes (Some cfe) = cfe ∷ []
 -- what every header ends with: access number, status, configuration field with its low byte first, its extension
 abbrev pub tail_bytes : ℕ → ℕ → ℕ → Option ℕ → List ℕ
 tail_bytes acc status cf cfe = acc ∷ status ∷ to_le_bytes w16 cf ++ cfe_bytes cfe
-
--- an address as a header has it: identification, M, version and type, where the link layer has M first
-abbrev pub header_order : Address → List ℕ
-header_order a = take 4 (drop 2 (bytes_of a)) ++ (take 2 (bytes_of a) ++ drop 6 (bytes_of a))
 
 abbrev pub address_bytes : Option Address → List ℕ
 address_bytes None = []

@@ -1,6 +1,6 @@
 //! Writing a transport header.
 ghost use Rattle.std.specs.Prelude.{◌≡◌, ◌+◌, ◌≤◌, ◌<◌, ◌^◌, IfSome, ◌++◌, [], ◌∷◌, ℕ, List, Option, Some, None, length, take, Ok};
-ghost use Rattle.tpl_headers.specs.Header.{HasItsAddress, HasItsExtension, header_order, address_bytes, cfe_bytes, tpl_bytes, tpl_at};
+ghost use Rattle.tpl_headers.specs.Header.{HasItsAddress, HasItsExtension, address_bytes, cfe_bytes, tpl_bytes, tpl_at};
 
 use crate::header::Tpl;
 use meter_address::Address;
@@ -16,15 +16,6 @@ fn put(out: &mut [u8], at: usize, bytes: &[u8]) -> usize
     end
 }
 
-// The address's bytes, identification first.
-fn in_header_order(address: Address) -> [u8; 8]
-    ensures order { result ≡ header_order address }
-    ensures number { address.0 < 2 ^ 64 }
-{
-    let [m, n, i, j, k, l, version, kind] = address.to_bytes();
-    [i, j, k, l, m, n, version, kind]
-}
-
 // Writes the address, where there is one, identification first.
 fn put_address(out: &mut [u8], at: usize, address: Option<Address>) -> usize
     requires { at + 8 ≤ length out.old }
@@ -36,7 +27,7 @@ fn put_address(out: &mut [u8], at: usize, address: Option<Address>) -> usize
     match address {
         None => at,
         Some(address) => {
-            let bytes = in_header_order(address);
+            let bytes = address.in_header_order();
             put(out, at, &bytes)
         }
     }

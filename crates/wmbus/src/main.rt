@@ -1,10 +1,20 @@
 //! The program `wmbus`: opens the files that its words name, and runs the collector over them.
 #![tactic(auto)]
 
+ghost use Rattle.std.specs.Prelude.{◌≡◌, [], true, false, IfErr, IsOk, IsTrue, map, vec_len, slice_index_or};
+ghost use Rattle.std.specs.String.{string_bytes};
+ghost use Rattle.std.specs.Process.{exit_status};
+ghost use Rattle.roster_file.specs.Roster.{roster_of};
+ghost use Rattle.collector_main.specs.Receiver.{Receiving};
+ghost use Rattle.collector_main.specs.Statuses.{IsWhole, code_of};
+ghost use Rattle.collector_main.specs.Words.{plan_of};
+ghost use Rattle.wmbus.specs.Exit.{own_text, asks_for_text, IsTold, IsSessionExit};
+
 use collector_main::{Receiver, Status, WordsFault, run, words};
-use outer_io::{StdSink, StdSource};
+use outer_io::{Sink, Source, StdSink, StdSource};
 use std::env;
-use std::fs::File;
+use std::fs::{File, Files};
+use std::io::{self, ErrorKind};
 use std::process::ExitCode;
 use std::sync::Wait;
 use std::thread::Threads;
@@ -25,8 +35,47 @@ exit status: 0 done, 2 faulty words, 3 faulty roster, 4 roster not read,
 
 const VERSION: &str = "wmbus 0.1.0\n";
 
+// A text of the program's own.
+#[derive(Clone, Copy)]
+enum OwnText {
+    Help,
+    Version,
+}
+
+impl OwnText {
+    ghost use Rattle.std.specs.Prelude.{◌≡◌};
+    ghost use Rattle.wmbus.specs.Exit.{text_of};
+
+    fn text(self) -> &'static str
+        ensures { result.now ≡ text_of self }
+    {
+        match self {
+            OwnText::Help => HELP,
+            OwnText::Version => VERSION,
+        }
+    }
+}
+
+// The text of the program's own that the words ask for, where they ask for one.
+fn own_text(command: &[String]) -> Option<OwnText>
+    ensures { result ≡ own_text (map string_bytes command.now) }
+{
+    let [word] = command else {
+        return None;
+    };
+    if word.as_str() == "--help" {
+        return Some(OwnText::Help);
+    }
+    if word.as_str() == "--version" {
+        return Some(OwnText::Version);
+    }
+    None
+}
+
 // Prints a text of the program's own.
-fn tell(rt: &impl Print, text: &str) -> ExitCode {
+fn tell(rt: &impl Print, text: &str) -> ExitCode
+    ensures { IsTold (exit_status result) }
+{
     match rt.print(text) {
         Ok(()) => ExitCode::SUCCESS,
         Err(_) => ExitCode::from(7),
@@ -34,77 +83,118 @@ fn tell(rt: &impl Print, text: &str) -> ExitCode {
 }
 
 // Says what a status means, unless all is done, and ends with it.
-fn end(rt: &impl Eprint, status: Status) -> ExitCode {
+fn end(rt: &impl Eprint, status: Status) -> ExitCode
+    ensures { exit_status result ≡ code_of status }
+{
     if status != Status::Done {
         let _ = rt.eprintln(status);
     }
     ExitCode::from(status.code())
 }
 
-fn cannot_open(rt: &impl Eprint, name: &str) -> ExitCode {
+fn cannot_open(rt: &impl Eprint, name: &str) -> ExitCode
+    ensures { exit_status result ≡ 11 }
+{
     let _ = eprintln!(rt; "wmbus: cannot open {name}");
     ExitCode::from(11)
 }
 
-// Hears the receiver of a roster's meters.
-fn hear<R: Threads + Wait + Sync + Eprint + AllocGlobal>(
+// Hears the receiver of a roster's meters, and ends with the status of that.
+fn hear<
+    R: Threads + Wait + Sync + Eprint + AllocGlobal,
+    S: Source + Send + Drop,
+    K: Sink + Send + Drop,
+>(
     rt: &R,
     command: &[String],
-    mut roster: StdSource,
-    rx: StdSource,
-    mut report: StdSink,
-) -> ExitCode {
-    let receiver = Receiver::new(rx, StdSink::nothing());
-    let mut receivers = Vec::new(rt.alloc());
-    if receivers.push(receiver).is_err() {
-        return end(rt, Status::Memory);
-    }
-    let mut next = StdSink::nothing();
-    let mut readings = StdSink::nothing();
+    roster: &mut S,
+    receivers: &mut Vec<Receiver<S, K>>,
+    next: &mut K,
+    readings: &mut K,
+    report: &mut K,
+) -> ExitCode
+    requires words { IsOk (plan_of (map string_bytes command.now)) }
+    requires count { vec_len receivers.old ≡ 1 }
+    requires fresh { (r : Receiving S K) → (slice_index_or receivers.old.items 0 r).fresh ≡ true }
+    requires untaken { IsTrue S.tells → S.taken roster.old ≡ [] }
+    requires empty { IsTrue K.tells → K.written report.old ≡ [] }
+    ensures session { IsSessionExit (exit_status result) }
+
+    // After status 0 the report is the text of all lines, each meter's own lines in order.
+    ensures done { (r : Receiving S K) → exit_status result ≡ 0 → IsTrue S.tells → IsTrue K.tells →
+        IsWhole (roster_of (S.left roster.old)) (S.taken (slice_index_or receivers.new.items 0 r).source) (S.left (slice_index_or receivers.new.items 0 r).source) (K.written report.new) }
+{
     let status = run(
         rt,
         rt.alloc(),
         command,
-        &mut roster,
-        &mut receivers,
-        &mut next,
-        &mut readings,
-        &mut report,
+        roster,
+        receivers,
+        next,
+        readings,
+        report,
     );
     end(rt, status)
 }
 
+// Does what the words behind the program's name ask for.
+fn perform<R: Threads + Wait + Sync + Print + Eprint + Files<File = File> + AllocGlobal>(
+    rt: &R,
+    command: &[String],
+    mut report: StdSink,
+) -> ExitCode
+    ensures text { asks_for_text (map string_bytes command.now) ≡ true → IsTold (exit_status result) }
+    ensures faulty { asks_for_text (map string_bytes command.now) ≡ false → IfErr (plan_of (map string_bytes command.now)) (λ _. exit_status result ≡ 2) }
+    ensures session { IsOk (plan_of (map string_bytes command.now)) → IsSessionExit (exit_status result) }
+{
+    if let Some(own) = own_text(command) {
+        return tell(rt, own.text());
+    }
+    if let Err(fault) = words(command) {
+        return end(rt, Status::Words(fault));
+    }
+    let [_, roster, rx] = command else {
+        return end(rt, Status::Words(WordsFault::Count(command.len())));
+    };
+    let Ok(roster_file) = File::open(rt, roster.as_str()) else {
+        return cannot_open(rt, roster.as_str());
+    };
+    let Ok(rx_file) = File::open(rt, rx.as_str()) else {
+        return cannot_open(rt, rx.as_str());
+    };
+    let mut receivers = Vec::new(rt.alloc());
+    let receiver = Receiver::new(StdSource::file(rx_file), StdSink::nothing());
+    if receivers.push(receiver).is_err() {
+        return end(rt, Status::Memory);
+    }
+    hear(
+        rt,
+        command,
+        &mut StdSource::file(roster_file),
+        &mut receivers,
+        &mut StdSink::nothing(),
+        &mut StdSink::nothing(),
+        &mut report,
+    )
+}
+
+// What it means that the words can't be had: there is no memory for them, or one isn't UTF-8, which makes them faulty.
+fn status_without_words(error: &io::Error) -> Status {
+    if error.kind() == ErrorKind::OutOfMemory {
+        Status::Memory
+    } else {
+        Status::Words(WordsFault::Command)
+    }
+}
+
 fn main(rt: HostRuntime) -> ExitCode {
-    let Ok(args) = env::args(&rt) else {
-        return end(&rt, Status::Words(WordsFault::Command));
+    let args = match env::args(&rt) {
+        Ok(args) => args,
+        Err(error) => return end(&rt, status_without_words(&error)),
     };
     let Ok(command) = args.skip(1).collect::<Vec<String>>(rt.alloc()) else {
         return end(&rt, Status::Memory);
     };
-    let command = command.as_slice();
-    match command {
-        [word] if word.as_str() == "--help" => return tell(&rt, HELP),
-        [word] if word.as_str() == "--version" => return tell(&rt, VERSION),
-        _ => {}
-    }
-    if let Err(fault) = words(command) {
-        return end(&rt, Status::Words(fault));
-    }
-    let [_, roster, rx] = command else {
-        return end(&rt, Status::Words(WordsFault::Count(command.len())));
-    };
-    let Ok(roster_file) = File::open(&rt, roster.as_str()) else {
-        return cannot_open(&rt, roster.as_str());
-    };
-    let Ok(rx_file) = File::open(&rt, rx.as_str()) else {
-        return cannot_open(&rt, rx.as_str());
-    };
     let report = StdSink::standard(rt.stdout());
-    hear(
-        &rt,
-        command,
-        StdSource::file(roster_file),
-        StdSource::file(rx_file),
-        report,
-    )
+    perform(&rt, command.as_slice(), report)
 }

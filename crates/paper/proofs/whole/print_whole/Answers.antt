@@ -1,5 +1,4 @@
 use Rattle.std.proofs.Common.{◌≡◌}
-use Rattle.std.specs.Prelude.{OnOk, OnErr}
 use Rattle.paper.specs.Filing.{filed}
 use Rattle.paper.proofs.Filings.{Finished, print_finished, on_ok, on_err}
 use Rattle.paper.proofs.whole.print_whole.Goals as goal

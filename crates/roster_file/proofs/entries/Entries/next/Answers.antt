@@ -1,4 +1,4 @@
-use Rattle.std.proofs.Common.{◌≡◌, ◌+◌, ◌∷◌, [], length, ap, sym, ◌∙◌, arith}
+use Rattle.std.proofs.Common.{◌≡◌, ◌+◌, length, ap, sym, ◌∙◌, arith}
 use Rattle.roster_file.specs.Roster.{entries_from}
 use Rattle.roster_file.proofs.RosterLines.{passed, counted, none_left, one_fewer}
 use Rattle.roster_file.proofs.entries.Entries.next.Goals as goal

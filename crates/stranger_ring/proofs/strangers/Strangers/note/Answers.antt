@@ -1,4 +1,4 @@
-use Rattle.std.proofs.Common.{ap, sym, ◌∙◌, ◌++◌, ◌∷◌, []}
+use Rattle.std.proofs.Common.{ap, ◌∙◌, ◌++◌, ◌∷◌, []}
 use Rattle.stranger_ring.proofs.Rings.{next_ring}
 use Rattle.stranger_ring.proofs.strangers.Strangers.note.Goals as goal
 
