@@ -73,12 +73,12 @@ fn own_text(command: &[String]) -> Option<OwnText>
 }
 
 // Prints a text of the program's own.
-fn tell(rt: &impl Print, text: &str) -> ExitCode
+fn tell<R: Print + Eprint>(rt: &R, text: &str) -> ExitCode
     ensures { IsTold (exit_status result) }
 {
     match rt.print(text) {
         Ok(()) => ExitCode::SUCCESS,
-        Err(_) => ExitCode::from(7),
+        Err(_) => end(rt, Status::Write(3)),
     }
 }
 
@@ -123,6 +123,8 @@ fn hear<
     // After status 0 the report is the text of all lines, each meter's own lines in order.
     ensures done { (r : Receiving S K) → exit_status result ≡ 0 → IsTrue S.tells → IsTrue K.tells →
         IsWhole (roster_of (S.left roster.old)) (S.taken (slice_index_or receivers.new.items 0 r).source) (S.left (slice_index_or receivers.new.items 0 r).source) (K.written report.new) }
+    ensures next { next.new ≡ next.old }
+    ensures readings { readings.new ≡ readings.old }
 {
     let status = run(
         rt,
