@@ -1,7 +1,6 @@
 -- The commands of a meter, and how they move.
 use Rattle.std.specs.Prelude.{ℕ, ◌≡◌, ◌+◌, ◌-◌, ◌^◌, ◌<◌, ◌≤◌, Bool, true, false, ◌&&◌, ◌==◌, nat_lt, nat_le, if◌then◌else◌, List, [], ◌∷◌, slice_get, find, Option, Some, None}
 use Rattle.command_queue.specs.declared.command.Command.{Command}
-use Rattle.command_queue.specs.declared.command.TheConstants.{TRIES_MAX}
 use Rattle.command_queue.specs.Pending.{Pending, has_id, is_pending, with_command, without_command, with_try}
 use Rattle.ell_layer.specs.declared.access.Access.{Access}
 use Rattle.ell_layer.specs.declared.access.Access.TheVariants as access
@@ -22,9 +21,9 @@ orders_of queue window down = record { queue = queue; window = window; down = do
 -- the oldest command, if there is one, was sent fewer than three times
 abbrev pub AgreesWith : Window → List Command → Type 0
 AgreesWith Idle [] = Unit {0}
-AgreesWith Idle (oldest ∷ others) = oldest.tries < TRIES_MAX
+AgreesWith Idle (oldest ∷ others) = oldest.tries < 3
 AgreesWith (Waiting id) [] = ⊥
-AgreesWith (Waiting id) (oldest ∷ others) = (oldest.id ≡ id) × (1 ≤ oldest.tries) × (oldest.tries ≤ TRIES_MAX)
+AgreesWith (Waiting id) (oldest ∷ others) = (oldest.id ≡ id) × (1 ≤ oldest.tries) × (oldest.tries ≤ 3)
 
 -- the same of the whole queue
 abbrev pub Agrees : Window → Pending → Type 0
@@ -55,7 +54,7 @@ awaited_in (Waiting id) commands = find (has_id id) commands
 -- the id of a command that was sent three times
 abbrev pub spent_id : Option Command → Option ℕ
 spent_id None = None
-spent_id (Some c) = if nat_le TRIES_MAX c.tries then Some c.id else None
+spent_id (Some c) = if nat_le 3 c.tries then Some c.id else None
 
 -- the command that expires at a tick: the one for which the window waits, where it was sent three times
 unfoldable pub expired : Orders → Option ℕ

@@ -1,7 +1,6 @@
 //! Laws of windows and queues, and of what is sent over time.
 ghost use Rattle.std.specs.Prelude.{◌≡◌, ℕ, ◌+◌, ◌^◌, ◌<◌, ◌≤◌, ◌==◌, List, length, map, count_by};
 ghost use Rattle.std.specs.List.{range_with_len};
-ghost use Rattle.command_queue.specs.declared.command.TheConstants.{TRIES_MAX};
 ghost use Rattle.command_queue.specs.Pending.{Pending, IsSound, with_command, without_command};
 ghost use Rattle.access_window.specs.declared.window.Window.{Window};
 ghost use Rattle.access_window.specs.Orders.{Agrees, window_without};
@@ -23,5 +22,5 @@ pub fn sent_over_time()
     ensures fit { (ids down : ℕ) (moves : List Move) → down < 2 ^ 32
         → down + length (all_sent (opening ids down) moves) < 2 ^ 32 }
     ensures tries { (ids down : ℕ) (moves : List Move) (id : ℕ)
-        → count_by (λ s. s.id == id) (all_sent (opening ids down) moves) ≤ TRIES_MAX }
+        → count_by (λ s. s.id == id) (all_sent (opening ids down) moves) ≤ 3 }
 {}

@@ -2,7 +2,7 @@
 ghost use Rattle.std.specs.Prelude.{◌≡◌};
 ghost use Rattle.access_window.specs.Orders.{is_open};
 
-use command_queue::{Command, NoSuch, Queue, TRIES_MAX};
+use command_queue::{Command, NoSuch, Queue};
 use ell_layer::Access;
 
 /// Whether a command was sent and waits for the meter's response.
@@ -113,7 +113,7 @@ impl Window {
         };
         *self = Window::Idle;
         let oldest = queue.at(0)?;
-        if oldest.tries < TRIES_MAX {
+        if oldest.has_try_left() {
             return None;
         }
         let expired = queue.take(id).is_ok();

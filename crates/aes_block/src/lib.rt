@@ -14,8 +14,10 @@ use rounds::{
 };
 use std::marker::Model;
 
+/// What holds of the definitions themselves.
 pub mod laws;
 mod rounds;
+/// The tables of the substitution and of the mixing.
 pub mod tables;
 #[cfg(test)]
 mod tests;

@@ -1,4 +1,4 @@
-// The steps of the rounds on the four words of a block, and the step from one round key to the next.
+//! The steps of the rounds on the four words of a block, and the step from one round key to the next.
 
 ghost use Rattle.std.specs.Prelude.{◌≡◌, ◌<◌, ℕ, List};
 ghost use Rattle.std.specs.Int.{w32, to_be_bytes};

@@ -1,3 +1,4 @@
+//! Blocks and tables against the examples of FIPS 197, and against rows that another implementation made.
 use super::*;
 use std::process::Abort;
 use std::test::Fail;

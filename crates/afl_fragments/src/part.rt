@@ -34,7 +34,7 @@ impl Part {
     /// The fragment with this header and this piece.
     pub fn new(afl: Afl, bytes: &[u8]) -> Part
         requires fragment { IsFragment afl }
-        requires most { length bytes.now ≤ PART_MAX }
+        requires most { length bytes.now ≤ 242 }
         ensures header { result.afl ≡ afl }
         ensures piece { result.bytes ≡ bytes.now }
     {
@@ -59,7 +59,7 @@ impl Part {
     /// The piece of the message.
     pub fn bytes(&self) -> &[u8]
         ensures piece { result.now ≡ self.now.bytes }
-        ensures most { length self.now.bytes ≤ PART_MAX }
+        ensures most { length self.now.bytes ≤ 242 }
     {
         &self.bytes[..self.len]
     }

@@ -53,10 +53,10 @@ impl Parts {
 
     /// Holds a fragment, unless its number is above 16.
     pub fn hold(&mut self, part: Part) -> Held
-        ensures kept { (result ≡ Held.Kept) ↔ (part.afl.fid ≤ PARTS_MAX) }
-        ensures too_many { (result ≡ Held.TooMany part.afl.fid) ↔ (PARTS_MAX < part.afl.fid) }
+        ensures kept { (result ≡ Held.Kept) ↔ (part.afl.fid ≤ 16) }
+        ensures too_many { (result ≡ Held.TooMany part.afl.fid) ↔ (16 < part.afl.fid) }
         ensures held { (told : List Told) → StandsFor self.old told → StandsFor self.new (Piece part ∷ told) }
-        ensures unchanged { PARTS_MAX < part.afl.fid → self.new ≡ self.old }
+        ensures unchanged { 16 < part.afl.fid → self.new ≡ self.old }
 
         // So much room is enough for a message that the fragment completes.
         ensures room { held_bytes self.new ≤ held_bytes self.old + length part.bytes }

@@ -1,3 +1,4 @@
+//! Chains and CMACs against the examples of SP 800-38A and RFC 4493, and against rows that another implementation made.
 ghost use Rattle.std.specs.Prelude.{◌<◌};
 
 use super::*;

@@ -5,7 +5,6 @@ use Rattle.std.proofs.lemmas.Bool.Decides.{nat_tests}
 use Rattle.std.proofs.lemmas.List.Elements.{All-head, All-tail}
 use Rattle.std.proofs.lemmas.List.Filters.{length-filter_both}
 use Rattle.command_queue.specs.declared.command.Command.{Command}
-use Rattle.command_queue.specs.declared.queue.TheConstants.{QUEUE_MAX}
 use Rattle.command_queue.specs.Pending.{Pending, IdsRise, AreUntried, OnlyOldestTried, IsSound, has_id, no_such, take_answer, without_command}
 
 -- the commands with another id
@@ -32,7 +31,7 @@ tries_push : (cs : List Command) (c : Command) → OnlyOldestTried cs → c.trie
 tries_push [] c t new = (omega arith, tt)
 tries_push (d ∷ cs) c t new = (t.0, untried_push cs c t.1 new)
 
-pub sound_put : (q r : Pending) (c : Command) → IsSound q → length q.commands < QUEUE_MAX → c.id ≡ q.ids + 1 → c.tries ≡ 0 → r.commands ≡ q.commands ++ c ∷ [] → r.ids ≡ q.ids + 1 → IsSound r
+pub sound_put : (q r : Pending) (c : Command) → IsSound q → length q.commands < 8 → c.id ≡ q.ids + 1 → c.tries ≡ 0 → r.commands ≡ q.commands ++ c ∷ [] → r.ids ≡ q.ids + 1 → IsSound r
 sound_put q r c s room id tries commands ids =
     record {
       few = omega (arith, ap length commands, length-append q.commands (c ∷ []));

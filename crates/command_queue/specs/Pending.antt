@@ -4,8 +4,6 @@ use Rattle.command_queue.specs.declared.command.Command.{Command}
 use Rattle.command_queue.specs.declared.command.QueueFault.{QueueFault}
 use Rattle.command_queue.specs.declared.command.QueueFault.TheVariants.{Full, IdsSpent}
 use Rattle.command_queue.specs.declared.command.NoSuch.{NoSuch}
-use Rattle.command_queue.specs.declared.command.TheConstants.{TRIES_MAX}
-use Rattle.command_queue.specs.declared.queue.TheConstants.{QUEUE_MAX}
 
 -- the last id that was given, and the commands that wait, the oldest one first
 pub record Pending : Type 0 where
@@ -27,11 +25,11 @@ AreUntried (c ∷ cs) = (c.tries ≡ 0) × AreUntried cs
 -- the oldest command was sent at most three times, and no other was sent yet
 abbrev pub OnlyOldestTried : List Command → Type 0
 OnlyOldestTried [] = Unit {0}
-OnlyOldestTried (c ∷ cs) = (c.tries ≤ TRIES_MAX) × AreUntried cs
+OnlyOldestTried (c ∷ cs) = (c.tries ≤ 3) × AreUntried cs
 
 -- what holds of every queue
 pub record IsSound (q : Pending) : Type 0 where
-  pub few : length q.commands ≤ QUEUE_MAX
+  pub few : length q.commands ≤ 8
   pub rising : IdsRise 0 q.commands q.ids
   pub tries : OnlyOldestTried q.commands
 
@@ -47,7 +45,7 @@ is_pending id q = is_some (find (has_id id) q.commands)
 
 -- the id of the next command, or why there is none: a full queue comes first, then the last id
 unfoldable pub put_answer : Pending → Result ℕ QueueFault
-put_answer q = if nat_le QUEUE_MAX (length q.commands) then Err Full else if q.ids == 2 ^ 32 - 1 then Err IdsSpent else Ok (q.ids + 1)
+put_answer q = if nat_le 8 (length q.commands) then Err Full else if q.ids == 2 ^ 32 - 1 then Err IdsSpent else Ok (q.ids + 1)
 
 -- a refused command changes nothing, and an accepted one stands last, under its id and with no try
 abbrev pub with_command_by : Pending → List ℕ → Result ℕ QueueFault → Pending
@@ -73,7 +71,7 @@ without_command id q = record q { commands = filter (λ c. not (has_id id c)) q.
 -- a command waits, and the oldest one was sent fewer than three times
 abbrev pub HasTryLeft : List Command → Type 0
 HasTryLeft [] = ⊥
-HasTryLeft (c ∷ cs) = c.tries < TRIES_MAX
+HasTryLeft (c ∷ cs) = c.tries < 3
 
 -- the commands after the oldest one was sent once more
 abbrev pub one_try_more : List Command → List Command

@@ -1,4 +1,6 @@
 //! A command, and why a queue refuses.
+ghost use Rattle.std.specs.Prelude.{◌≡◌, nat_lt};
+
 use meter_address::Payload;
 
 /// How often a command is sent at most.
@@ -13,6 +15,15 @@ pub struct Command {
     pub tries: u8,
     /// What it has to say to the meter.
     pub payload: Payload,
+}
+
+impl Command {
+    /// Whether it was sent fewer than three times.
+    pub fn has_try_left(&self) -> bool
+        ensures { result ≡ nat_lt self.now.tries 3 }
+    {
+        self.tries < TRIES_MAX
+    }
 }
 
 /// Why a command isn't queued.

@@ -65,9 +65,9 @@ impl Queue {
         ensures after { self.new ≡ with_command self.old payload }
 
         // A full queue is named first, and a refusal leaves the queue as it was.
-        ensures full { (result ≡ Err QueueFault.Full) ↔ (length self.old.commands ≡ QUEUE_MAX) }
+        ensures full { (result ≡ Err QueueFault.Full) ↔ (length self.old.commands ≡ 8) }
         ensures ids_spent { (result ≡ Err QueueFault.IdsSpent)
-            ↔ ((length self.old.commands < QUEUE_MAX) × (self.old.ids ≡ 2 ^ 32 - 1)) }
+            ↔ ((length self.old.commands < 8) × (self.old.ids ≡ 2 ^ 32 - 1)) }
         ensures refused { OnErr result (self.new ≡ self.old) }
     {
         if self.commands.is_full() {

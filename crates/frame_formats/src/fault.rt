@@ -10,7 +10,12 @@ pub enum FrameFault {
     /// L is 128 or 129, which format B leaves out.
     Gap(u8),
     /// The bytes are not as many as L says.
-    Length { want: usize, have: usize },
+    Length {
+        /// How many bytes a frame with this L has.
+        want: usize,
+        /// How many there are.
+        have: usize,
+    },
     /// The first block whose CRC differs, counted from 1.
     Crc(usize),
 }

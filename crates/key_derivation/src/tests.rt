@@ -1,3 +1,4 @@
+//! Derived keys against rows that another implementation made.
 use super::*;
 use std::test::Fail;
 

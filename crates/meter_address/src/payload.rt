@@ -30,7 +30,7 @@ impl Model for Payload {
 impl Payload {
     /// The payload with these bytes, where they are 1 to 94.
     pub fn new(bytes: &[u8]) -> Option<Payload>
-        ensures found { IsSome result ↔ ((1 ≤ length bytes.now) × (length bytes.now ≤ PAYLOAD_MAX)) }
+        ensures found { IsSome result ↔ ((1 ≤ length bytes.now) × (length bytes.now ≤ 94)) }
         ensures value { IfSome result (λ payload. payload ≡ bytes.now) }
     {
         if bytes.is_empty() || bytes.len() > PAYLOAD_MAX {
@@ -48,7 +48,7 @@ impl Payload {
     pub fn bytes(&self) -> &[u8]
         ensures bytes { result.now ≡ self.now }
         ensures least { 1 ≤ length self.now }
-        ensures most { length self.now ≤ PAYLOAD_MAX }
+        ensures most { length self.now ≤ 94 }
     {
         &self.bytes[..self.len]
     }

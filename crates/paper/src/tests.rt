@@ -1,3 +1,4 @@
+//! A long text into a sink whose writes fail one by one, and numbers at their limits.
 ghost use Rattle.hex.specs.Hex.{encode_lower};
 
 use super::*;

@@ -1,8 +1,9 @@
+//! Texts cut into lines and fields, and numbers at their limits. What is expected was written by hand.
 use crate::{Fields, TextLines, read_number};
 use std::test::Fail;
 
 #[test]
-fn cuts_lines(rt: HostRuntime) -> Result<(), Fail> {
+fn a_line_ends_at_a_newline_and_leaves_one_return_out(rt: HostRuntime) -> Result<(), Fail> {
     let mut lines = TextLines::of_text(b"a b\r\n\nc\r\r\n\r");
     assert_eq!(rt; lines.next(), Some(b"a b".as_slice()));
     assert_eq!(rt; lines.next(), Some(b"".as_slice()));
@@ -13,7 +14,7 @@ fn cuts_lines(rt: HostRuntime) -> Result<(), Fail> {
 }
 
 #[test]
-fn cuts_fields(rt: HostRuntime) -> Result<(), Fail> {
+fn each_single_space_parts_two_fields(rt: HostRuntime) -> Result<(), Fail> {
     let mut fields = Fields::of_line(b"A  1 ");
     assert_eq!(rt; fields.next(), Some(b"A".as_slice()));
     assert_eq!(rt; fields.next(), Some(b"".as_slice()));
@@ -24,7 +25,7 @@ fn cuts_fields(rt: HostRuntime) -> Result<(), Fail> {
 }
 
 #[test]
-fn reads_numbers(rt: HostRuntime) -> Result<(), Fail> {
+fn a_number_is_plain_and_within_its_limit(rt: HostRuntime) -> Result<(), Fail> {
     let cases: [(&[u8], u64, Option<u64>); 9] = [
         (b"0", 0, Some(0)),
         (b"42", 255, Some(42)),

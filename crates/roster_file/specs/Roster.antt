@@ -17,7 +17,6 @@ use Rattle.roster_file.specs.declared.roster.LineCause.{LineCause}
 use Rattle.roster_file.specs.declared.roster.LineCause.TheVariants as causes
 use Rattle.roster_file.specs.declared.roster.RosterFault.{RosterFault}
 use Rattle.roster_file.specs.declared.roster.RosterFault.TheVariants.{Line}
-use Rattle.roster_file.specs.declared.reader.TheConstants.{MOST_BYTES, MOST_METERS}
 
 -- the second step, if the first gave a value
 infixl 10 ◌>>=◌
@@ -84,7 +83,7 @@ own_of line = own_of_fields (fields_of line)
 abbrev pub enlisted : List Commissioned → Commissioned → Result (List Commissioned) LineCause
 enlisted meters c =
     if list_any (λ m. m.address.0 == c.address.0) meters then Err causes.Same
-    else if nat_le MOST_METERS (length meters) then Err causes.TooMany
+    else if nat_le 1024 (length meters) then Err causes.TooMany
     else Ok (meters ++ c ∷ [])
 
 -- ---- a text
@@ -132,5 +131,5 @@ headed (e ∷ entries) end = if is_text e.1 (codes "wmbus-roster 1") then owned 
 -- the roster of a text, or its first fault
 unfoldable pub roster_of : List ℕ → Result Enrolled RosterFault
 roster_of bytes =
-    if nat_lt MOST_BYTES (length bytes) then Err (Line 0 causes.TooLong)
+    if nat_lt 1048576 (length bytes) then Err (Line 0 causes.TooLong)
     else headed (entries_from 1 (lines bytes)) (length (lines bytes) + 1)

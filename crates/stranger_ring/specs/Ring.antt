@@ -3,8 +3,7 @@ use Rattle.std.specs.Prelude.{List, map}
 use Rattle.circular_buffer.specs.Buffer.{keep_last}
 use Rattle.meter_address.specs.declared.address.Address.{Address}
 use Rattle.stranger_ring.specs.declared.strangers.Heard.{Heard}
-use Rattle.stranger_ring.specs.declared.strangers.TheConstants.{RING_MAX}
 
 -- the last 64 addresses, or all where there are fewer
 unfoldable pub ring_of : List Heard → List Address
-ring_of heard = keep_last RING_MAX (map (λ h. h.address) heard)
+ring_of heard = keep_last 64 (map (λ h. h.address) heard)
