@@ -48,6 +48,18 @@ hear_text r lines ended = one_text (counts_of r.meters lines) ended (world_of r.
 abbrev pub IsWritten : List ℕ → List ℕ → ℕ → ℕ → Type 0
 IsWritten text written before now = (written ≡ text) ⊎ (Rose before now × AppendsFront text [] written)
 
+-- the roster's bytes are a roster, and the receiver ended so after these lines
+pub record EndsSo (roster : Result Enrolled RosterFault) (ended : Ended) (taken left : List ℕ) : Type 0 where
+  pub enrolled : Enrolled
+  pub lines : List (List ℕ)
+  pub roster_is : roster ≡ Ok enrolled
+  pub ending : IsEnding ended taken left lines
+
+-- a source of which nothing was taken was read to its end
+pub record IsReadOut (left_before taken left : List ℕ) : Type 0 where
+  pub took_all : taken ≡ left_before
+  pub nothing_left : left ≡ []
+
 -- the roster is read whole, the receiver ended so after these lines, and the report is theirs
 pub record IsSession (roster : Result Enrolled RosterFault) (ended : Ended) (taken left : List ℕ) (written : List ℕ) (before now : ℕ) : Type 0 where
   pub enrolled : Enrolled
@@ -79,6 +91,7 @@ IsCaused tells roster rb rn taken sb sn kb kn statuses.Memory = Unit {0}
 
 -- no receiver was read
 abbrev pub IsUnread : Status → Type 0
+IsUnread (statuses.Words fault) = Unit {0}
 IsUnread statuses.ReadRoster = Unit {0}
 IsUnread (statuses.Roster line cause) = Unit {0}
 IsUnread _ = ⊥
