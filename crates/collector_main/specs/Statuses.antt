@@ -1,5 +1,5 @@
 -- What each status says of a session.
-use Rattle.std.specs.Prelude.{ℕ, ◌≡◌, ◌⊎◌, Bool, true, List, [], ◌∷◌, Option, Some, None, Result, Ok, Err, IsTrue}
+use Rattle.std.specs.Prelude.{ℕ, ◌≡◌, ◌⊎◌, Bool, true, false, List, [], ◌∷◌, Option, Some, None, Result, Ok, Err, IsTrue}
 use Rattle.outer_io.specs.Faults.{Rose}
 use Rattle.outer_io.specs.Bytes.{AppendsFront}
 use Rattle.line_reader.specs.Lines.{is_over}
@@ -88,6 +88,19 @@ IsCaused tells roster rb rn taken sb sn kb kn (statuses.Read w) = (w ≡ 1) × R
 IsCaused tells roster rb rn taken sb sn kb kn (statuses.Cut w) = (w ≡ 1) × (IsTrue tells → is_over taken ≡ true)
 IsCaused tells roster rb rn taken sb sn kb kn (statuses.Write which) = (which ≡ 3) × Rose kb kn
 IsCaused tells roster rb rn taken sb sn kb kn statuses.Memory = Unit {0}
+
+-- a count of faults that no fault of this call moved
+abbrev pub Steady : ℕ → ℕ → Type 0
+Steady before now = Rose before now → ⊥
+
+-- nothing stands in the way: the roster is one, the receiver's bytes are within the limits, and no count of faults rose
+pub record IsFaultless (roster : Result Enrolled RosterFault) (bytes : List ℕ) (roster_before roster_now source_before source_now report_before report_now : ℕ) : Type 0 where
+  pub enrolled : Enrolled
+  pub roster_is : roster ≡ Ok enrolled
+  pub within : is_over bytes ≡ false
+  pub roster_steady : Steady roster_before roster_now
+  pub source_steady : Steady source_before source_now
+  pub report_steady : Steady report_before report_now
 
 -- no receiver was read
 abbrev pub IsUnread : Status → Type 0

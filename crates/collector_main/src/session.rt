@@ -6,7 +6,7 @@ ghost use Rattle.roster_file.specs.declared.roster.RosterFault.TheVariants as ro
 ghost use Rattle.roster_file.specs.declared.roster.LineCause.{LineCause};
 ghost use Rattle.report_text.specs.Report.{report_text};
 ghost use Rattle.collector_main.specs.Rosters.{IsEnrolled, IsRosterStatus, HearsAll};
-ghost use Rattle.collector_main.specs.Statuses.{IsSession, IsWhole, EndsSo, IsReadOut, IsWritten, IsCaused, IsUnread, IsHeardStatus, ended_of, one_text, after_failed_write};
+ghost use Rattle.collector_main.specs.Statuses.{IsSession, IsWhole, IsFaultless, EndsSo, IsReadOut, IsWritten, IsCaused, IsUnread, IsHeardStatus, ended_of, one_text, after_failed_write};
 
 use crate::hearing::{Heard, hear_receiver};
 use crate::receiver::Receiver;
@@ -153,6 +153,10 @@ pub fn hear_session<S: Source, K: Sink>(
         (S.taken receiver.new.source) (S.faults receiver.old.source) (S.faults receiver.new.source) (K.faults report.old) (K.faults report.new) result }
     ensures only { (line : ℕ) (cause : LineCause) → IsTrue S.tells → roster_of (S.left roster.old) ≡ Err (roster_faults.Line line cause) →
         (result ≡ Status.Roster line cause) ⊎ (result ≡ Status.ReadRoster) ⊎ (result ≡ Status.Memory) }
+
+    // Where nothing stands in the way, all is done, unless there is no memory.
+    ensures complete { IsTrue S.tells → IsFaultless (roster_of (S.left roster.old)) (S.left receiver.old.source) (S.faults roster.old) (S.faults roster.new)
+        (S.faults receiver.old.source) (S.faults receiver.new.source) (K.faults report.old) (K.faults report.new) → (result ≡ Status.Done) ⊎ (result ≡ Status.Memory) }
 
     // After status 0 the report is the text of all lines, each meter's own lines in order.
     ensures done { result ≡ Status.Done → IsTrue S.tells → IsTrue K.tells →

@@ -5,7 +5,7 @@ ghost use Rattle.roster_file.specs.Roster.{roster_of};
 ghost use Rattle.roster_file.specs.declared.roster.RosterFault.TheVariants as roster_faults;
 ghost use Rattle.roster_file.specs.declared.roster.LineCause.{LineCause};
 ghost use Rattle.collector_main.specs.Receiver.{Receiving};
-ghost use Rattle.collector_main.specs.Statuses.{IsSession, IsWhole, EndsSo, IsReadOut, IsCaused, IsUnread, ended_of};
+ghost use Rattle.collector_main.specs.Statuses.{IsSession, IsWhole, IsFaultless, EndsSo, IsReadOut, IsCaused, IsUnread, ended_of};
 ghost use Rattle.collector_main.specs.Words.{plan_of};
 ghost use Rattle.collector_main.specs.declared.command_words.WordsFault.{WordsFault};
 
@@ -45,6 +45,12 @@ pub fn run<R: Threads + Wait + Sync, S: Source + Send + Drop, K: Sink + Send + D
         (K.faults report.old) (K.faults report.new) result) }
     ensures only { (line : ℕ) (cause : LineCause) → IsOk (plan_of (map string_bytes command.now)) → IsTrue S.tells → roster_of (S.left roster.old) ≡ Err (roster_faults.Line line cause) →
         (result ≡ Status.Roster line cause) ⊎ (result ≡ Status.ReadRoster) ⊎ (result ≡ Status.Memory) }
+
+    // Where nothing stands in the way, all is done, unless there is no memory.
+    ensures complete { (r : Receiving S K) → IsOk (plan_of (map string_bytes command.now)) → IsTrue S.tells →
+        IsFaultless (roster_of (S.left roster.old)) (S.left (slice_index_or receivers.old.items 0 r).source) (S.faults roster.old) (S.faults roster.new)
+        (S.faults (slice_index_or receivers.old.items 0 r).source) (S.faults (slice_index_or receivers.new.items 0 r).source) (K.faults report.old) (K.faults report.new) →
+        (result ≡ Status.Done) ⊎ (result ≡ Status.Memory) }
 
     // After status 0 the report is the text of all lines, each meter's own lines in order.
     ensures done { (r : Receiving S K) → result ≡ Status.Done → IsTrue S.tells → IsTrue K.tells →
