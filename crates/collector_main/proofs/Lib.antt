@@ -1,3 +1,4 @@
+pub mod Completeness
 pub mod Enrolling
 pub mod LineCounts
 pub mod Reports

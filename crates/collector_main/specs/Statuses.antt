@@ -1,5 +1,5 @@
 -- What each status says of a session.
-use Rattle.std.specs.Prelude.{ℕ, ◌≡◌, ◌⊎◌, Bool, true, List, [], ◌∷◌, Option, Some, None, Result, Ok, Err, IsTrue}
+use Rattle.std.specs.Prelude.{ℕ, ◌≡◌, ◌⊎◌, Bool, true, false, List, [], ◌∷◌, Option, Some, None, Result, Ok, Err, IsTrue}
 use Rattle.outer_io.specs.Faults.{Rose}
 use Rattle.outer_io.specs.Bytes.{AppendsFront}
 use Rattle.line_reader.specs.Lines.{is_over}
@@ -48,6 +48,18 @@ hear_text r lines ended = one_text (counts_of r.meters lines) ended (world_of r.
 abbrev pub IsWritten : List ℕ → List ℕ → ℕ → ℕ → Type 0
 IsWritten text written before now = (written ≡ text) ⊎ (Rose before now × AppendsFront text [] written)
 
+-- the roster's bytes are a roster, and the receiver ended so after these lines
+pub record EndsSo (roster : Result Enrolled RosterFault) (ended : Ended) (taken left : List ℕ) : Type 0 where
+  pub enrolled : Enrolled
+  pub lines : List (List ℕ)
+  pub roster_is : roster ≡ Ok enrolled
+  pub ending : IsEnding ended taken left lines
+
+-- a source of which nothing was taken was read to its end
+pub record IsReadOut (left_before taken left : List ℕ) : Type 0 where
+  pub took_all : taken ≡ left_before
+  pub nothing_left : left ≡ []
+
 -- the roster is read whole, the receiver ended so after these lines, and the report is theirs
 pub record IsSession (roster : Result Enrolled RosterFault) (ended : Ended) (taken left : List ℕ) (written : List ℕ) (before now : ℕ) : Type 0 where
   pub enrolled : Enrolled
@@ -77,8 +89,22 @@ IsCaused tells roster rb rn taken sb sn kb kn (statuses.Cut w) = (w ≡ 1) × (I
 IsCaused tells roster rb rn taken sb sn kb kn (statuses.Write which) = (which ≡ 3) × Rose kb kn
 IsCaused tells roster rb rn taken sb sn kb kn statuses.Memory = Unit {0}
 
+-- a count of faults that no fault of this call moved
+abbrev pub Steady : ℕ → ℕ → Type 0
+Steady before now = Rose before now → ⊥
+
+-- nothing stands in the way: the roster is one, the receiver's bytes are within the limits, and no count of faults rose
+pub record IsFaultless (roster : Result Enrolled RosterFault) (bytes : List ℕ) (roster_before roster_now source_before source_now report_before report_now : ℕ) : Type 0 where
+  pub enrolled : Enrolled
+  pub roster_is : roster ≡ Ok enrolled
+  pub within : is_over bytes ≡ false
+  pub roster_steady : Steady roster_before roster_now
+  pub source_steady : Steady source_before source_now
+  pub report_steady : Steady report_before report_now
+
 -- no receiver was read
 abbrev pub IsUnread : Status → Type 0
+IsUnread (statuses.Words fault) = Unit {0}
 IsUnread statuses.ReadRoster = Unit {0}
 IsUnread (statuses.Roster line cause) = Unit {0}
 IsUnread _ = ⊥

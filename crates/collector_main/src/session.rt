@@ -1,12 +1,12 @@
 //! A session of one receiver.
-ghost use Rattle.std.specs.Prelude.{◌≡◌, ◌≢◌, ◌⊎◌, ◌↔◌, ℕ, [], Some, Ok, Err, true, IsTrue, IfOk, IfErr, IfSome, IfNone};
+ghost use Rattle.std.specs.Prelude.{◌≡◌, ◌≢◌, ◌⊎◌, ◌↔◌, ◌++◌, ℕ, [], Some, Ok, Err, true, false, IsTrue, IfOk, IfErr, IfSome, IfNone};
 ghost use Rattle.outer_io.specs.Faults.{Rose};
 ghost use Rattle.roster_file.specs.Roster.{roster_of};
 ghost use Rattle.roster_file.specs.declared.roster.RosterFault.TheVariants as roster_faults;
 ghost use Rattle.roster_file.specs.declared.roster.LineCause.{LineCause};
 ghost use Rattle.report_text.specs.Report.{report_text};
 ghost use Rattle.collector_main.specs.Rosters.{IsEnrolled, IsRosterStatus, HearsAll};
-ghost use Rattle.collector_main.specs.Statuses.{IsSession, IsWhole, IsWritten, IsCaused, IsUnread, IsHeardStatus, ended_of, one_text, after_failed_write};
+ghost use Rattle.collector_main.specs.Statuses.{IsSession, IsWhole, IsFaultless, EndsSo, IsReadOut, IsWritten, IsCaused, IsUnread, IsHeardStatus, ended_of, one_text, after_failed_write};
 
 use crate::hearing::{Heard, hear_receiver};
 use crate::receiver::Receiver;
@@ -23,6 +23,7 @@ fn load_roster<S: Source>(alloc: Global, source: &mut S) -> Result<Roster, Statu
     requires { IsTrue S.tells → S.taken source.old ≡ [] }
     ensures found { IfOk result (λ roster. IsTrue S.tells → roster_of (S.left source.old) ≡ Ok roster) }
     ensures enrolled { IfOk result IsEnrolled }
+    ensures read { IfOk result (λ _. IsTrue S.tells → IsReadOut (S.left source.old) (S.taken source.new) (S.left source.new)) }
     ensures status { IfErr result (λ status. IsRosterStatus S.tells (S.left source.old) (S.faults source.old) (S.faults source.new) status) }
 {
     let bytes = match read_all(alloc, source, MOST_BYTES) {
@@ -56,6 +57,9 @@ fn hear_world<S: Source, K: Sink>(
     ensures heard { IfOk result (λ session. IsTrue S.tells → HearsAll roster session.heard.ended (S.taken receiver.new.source) (S.left receiver.new.source) session.world session.heard.counts) }
     ensures cause { IfOk result (λ session. session.heard.ended ≡ Ended.ReadFault → Rose (S.faults receiver.old.source) (S.faults receiver.new.source)) }
     ensures never { IfOk result (λ session. (session.heard.ended ≢ Ended.TxFault) × (session.heard.ended ≢ Ended.Memory)) }
+    ensures bytes { IfOk result (λ _. IsTrue S.tells → S.taken receiver.new.source ++ S.left receiver.new.source ≡ S.left receiver.old.source) }
+    ensures no_loss { IsTrue S.tells → S.taken receiver.new.source ++ S.left receiver.new.source ≡ S.taken receiver.old.source ++ S.left receiver.old.source }
+    ensures spent { IfOk result (λ _. receiver.new.fresh ≡ false) }
     ensures tx { receiver.new.tx ≡ receiver.old.tx }
 {
     let own = roster.own();
@@ -150,6 +154,10 @@ pub fn hear_session<S: Source, K: Sink>(
     ensures only { (line : ℕ) (cause : LineCause) → IsTrue S.tells → roster_of (S.left roster.old) ≡ Err (roster_faults.Line line cause) →
         (result ≡ Status.Roster line cause) ⊎ (result ≡ Status.ReadRoster) ⊎ (result ≡ Status.Memory) }
 
+    // Where nothing stands in the way, all is done, unless there is no memory.
+    ensures complete { IsTrue S.tells → IsFaultless (roster_of (S.left roster.old)) (S.left receiver.old.source) (S.faults roster.old) (S.faults roster.new)
+        (S.faults receiver.old.source) (S.faults receiver.new.source) (K.faults report.old) (K.faults report.new) → (result ≡ Status.Done) ⊎ (result ≡ Status.Memory) }
+
     // After status 0 the report is the text of all lines, each meter's own lines in order.
     ensures done { result ≡ Status.Done → IsTrue S.tells → IsTrue K.tells →
         IsWhole (roster_of (S.left roster.old)) (S.taken receiver.new.source) (S.left receiver.new.source) (K.written report.new) }
@@ -157,6 +165,16 @@ pub fn hear_session<S: Source, K: Sink>(
     // After statuses 0, 5, 7 and 8 it is that of the lines taken, or a front of it where a write failed.
     ensures heard { IfSome (ended_of result) (λ ended. IsTrue S.tells → IsTrue K.tells →
         IsSession (roster_of (S.left roster.old)) ended (S.taken receiver.new.source) (S.left receiver.new.source) (K.written report.new) (K.faults report.old) (K.faults report.new)) }
+
+    // Whatever became of the report, after those the roster's source is read to its end, and the receiver ended so after its lines and is spent.
+    ensures ending { IfSome (ended_of result) (λ ended. IsTrue S.tells →
+        EndsSo (roster_of (S.left roster.old)) ended (S.taken receiver.new.source) (S.left receiver.new.source)) }
+    ensures roster_read { IfSome (ended_of result) (λ _. IsTrue S.tells → IsReadOut (S.left roster.old) (S.taken roster.new) (S.left roster.new)) }
+    ensures spent { IfSome (ended_of result) (λ _. receiver.new.fresh ≡ false) }
+
+    // The bytes taken are the first of those that the receiver's source had, and whatever happens no byte is lost.
+    ensures bytes { IfSome (ended_of result) (λ _. IsTrue S.tells → S.taken receiver.new.source ++ S.left receiver.new.source ≡ S.left receiver.old.source) }
+    ensures no_loss { IsTrue S.tells → S.taken receiver.new.source ++ S.left receiver.new.source ≡ S.taken receiver.old.source ++ S.left receiver.old.source }
 
     // After the others nothing was written, and after 3 and 4 no line was read.
     ensures silent { IfNone (ended_of result) (K.written report.new ≡ K.written report.old) }

@@ -1,11 +1,11 @@
 //! The top call.
-ghost use Rattle.std.specs.Prelude.{◌≡◌, ◌≢◌, ◌⊎◌, ℕ, [], Ok, Err, true, IsTrue, IsOk, IfErr, IfSome, IfNone, OnOk, map, vec_len, slice_index_or};
+ghost use Rattle.std.specs.Prelude.{◌≡◌, ◌≢◌, ◌⊎◌, ◌++◌, ℕ, [], Ok, Err, true, false, IsTrue, IsOk, IfErr, IfSome, IfNone, OnOk, map, vec_len, slice_index_or};
 ghost use Rattle.std.specs.String.{string_bytes};
 ghost use Rattle.roster_file.specs.Roster.{roster_of};
 ghost use Rattle.roster_file.specs.declared.roster.RosterFault.TheVariants as roster_faults;
 ghost use Rattle.roster_file.specs.declared.roster.LineCause.{LineCause};
 ghost use Rattle.collector_main.specs.Receiver.{Receiving};
-ghost use Rattle.collector_main.specs.Statuses.{IsSession, IsWhole, IsCaused, IsUnread, ended_of};
+ghost use Rattle.collector_main.specs.Statuses.{IsSession, IsWhole, IsFaultless, EndsSo, IsReadOut, IsCaused, IsUnread, ended_of};
 ghost use Rattle.collector_main.specs.Words.{plan_of};
 ghost use Rattle.collector_main.specs.declared.command_words.WordsFault.{WordsFault};
 
@@ -46,6 +46,12 @@ pub fn run<R: Threads + Wait + Sync, S: Source + Send + Drop, K: Sink + Send + D
     ensures only { (line : ℕ) (cause : LineCause) → IsOk (plan_of (map string_bytes command.now)) → IsTrue S.tells → roster_of (S.left roster.old) ≡ Err (roster_faults.Line line cause) →
         (result ≡ Status.Roster line cause) ⊎ (result ≡ Status.ReadRoster) ⊎ (result ≡ Status.Memory) }
 
+    // Where nothing stands in the way, all is done, unless there is no memory.
+    ensures complete { (r : Receiving S K) → IsOk (plan_of (map string_bytes command.now)) → IsTrue S.tells →
+        IsFaultless (roster_of (S.left roster.old)) (S.left (slice_index_or receivers.old.items 0 r).source) (S.faults roster.old) (S.faults roster.new)
+        (S.faults (slice_index_or receivers.old.items 0 r).source) (S.faults (slice_index_or receivers.new.items 0 r).source) (K.faults report.old) (K.faults report.new) →
+        (result ≡ Status.Done) ⊎ (result ≡ Status.Memory) }
+
     // After status 0 the report is the text of all lines, each meter's own lines in order.
     ensures done { (r : Receiving S K) → result ≡ Status.Done → IsTrue S.tells → IsTrue K.tells →
         IsWhole (roster_of (S.left roster.old)) (S.taken (slice_index_or receivers.new.items 0 r).source) (S.left (slice_index_or receivers.new.items 0 r).source) (K.written report.new) }
@@ -55,10 +61,24 @@ pub fn run<R: Threads + Wait + Sync, S: Source + Send + Drop, K: Sink + Send + D
         IsSession (roster_of (S.left roster.old)) ended (S.taken (slice_index_or receivers.new.items 0 r).source) (S.left (slice_index_or receivers.new.items 0 r).source)
         (K.written report.new) (K.faults report.old) (K.faults report.new)) }
 
+    // Whatever became of the report, after those the roster's source is read to its end, and the receiver ended so after its lines and is spent.
+    ensures ending { (r : Receiving S K) → IfSome (ended_of result) (λ ended. IsTrue S.tells →
+        EndsSo (roster_of (S.left roster.old)) ended (S.taken (slice_index_or receivers.new.items 0 r).source) (S.left (slice_index_or receivers.new.items 0 r).source)) }
+    ensures roster_read { IfSome (ended_of result) (λ _. IsTrue S.tells → IsReadOut (S.left roster.old) (S.taken roster.new) (S.left roster.new)) }
+    ensures spent { (r : Receiving S K) → IfSome (ended_of result) (λ _. (slice_index_or receivers.new.items 0 r).fresh ≡ false) }
+
+    // The bytes taken are the first of those that the receiver's source had, and whatever happens no byte is lost.
+    ensures bytes { (r : Receiving S K) → IfSome (ended_of result) (λ _. IsTrue S.tells →
+        S.taken (slice_index_or receivers.new.items 0 r).source ++ S.left (slice_index_or receivers.new.items 0 r).source ≡ S.left (slice_index_or receivers.old.items 0 r).source) }
+    ensures no_loss { (r : Receiving S K) → IsTrue S.tells →
+        S.taken (slice_index_or receivers.new.items 0 r).source ++ S.left (slice_index_or receivers.new.items 0 r).source
+        ≡ S.taken (slice_index_or receivers.old.items 0 r).source ++ S.left (slice_index_or receivers.old.items 0 r).source }
+
     // What stays as it was.
     ensures silent { IfNone (ended_of result) (K.written report.new ≡ K.written report.old) }
     ensures unheard { IsUnread result → receivers.new.items ≡ receivers.old.items }
     ensures tx { (r : Receiving S K) → (slice_index_or receivers.new.items 0 r).tx ≡ (slice_index_or receivers.old.items 0 r).tx }
+    ensures roster { IfErr (plan_of (map string_bytes command.now)) (λ _. roster.new ≡ roster.old) }
     ensures next { next.new ≡ next.old }
     ensures readings { readings.new ≡ readings.old }
     ensures receivers { vec_len receivers.new ≡ vec_len receivers.old }

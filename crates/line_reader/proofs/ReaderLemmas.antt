@@ -10,7 +10,7 @@ use Rattle.line_reader.specs.Grammar.{line_of}
 use Rattle.line_reader.specs.Keeps.{IsReader, IsLast, Keeps}
 use Rattle.line_reader.specs.Lines.{is_over, whole_lines, all_lines}
 use Rattle.line_reader.specs.Newlines.{newlines}
-use Rattle.line_reader.specs.Reader.{Gives, GivesLine, IsAtEnd, IsPastLimit, next_of}
+use Rattle.line_reader.specs.Reader.{Gives, GivesLine, IsAtEnd, IsPastLimit, IsBrokenOff, next_of}
 use Rattle.line_reader.specs.Reading.{BeginsWithLine}
 use Rattle.line_reader.specs.Search.{IsRestOfLine}
 use Rattle.line_reader.specs.declared.line.Line.{Line}
@@ -19,6 +19,7 @@ use Rattle.line_reader.specs.declared.line.BadLine.TheVariants as bads
 use Rattle.line_reader.specs.declared.lines.TheConstants.{LINES_MAX, BYTES_MAX}
 use Rattle.line_reader.specs.declared.next.Next.{Next}
 use Rattle.line_reader.proofs.LinesLemmas.{lines_front, lines_alone, lines_more, finished_more, some_line, whole_alone, whole_full, over_bytes, over_lines, not_over, all_within, given_lines, long_line, long_last}
+use Rattle.line_reader.proofs.NewlineLemmas.{newlines-take}
 use Rattle.line_reader.proofs.SearchLemmas.{length-line}
 
 -- the bytes taken are those of the lines given, and behind them those of the line that is read
@@ -230,6 +231,36 @@ module _ {start line most : ℕ} {taken held added taken' : List ℕ} (s : IsSea
 
   pub whole_given : newlines (take most read) ≡ 0 → take line (all_lines taken') ≡ whole_lines taken'
   whole_given none = given_is start line taken held read taken' s.reader s.few_bytes s.few_lines whole ∙ sym (whole_taken none)
+
+  -- no byte behind a limit: at most one line more, and none where no byte counts
+  within_read : newlines read ≡ 0 → length read ≤ most → is_over taken' ≡ false
+  within_read none short = by_read read refl
+    where
+      first : length before ≡ start
+      first = before_len
+
+      counted : length (lines before) ≡ line
+      counted = s.reader.counted
+
+      by_read : (bytes : List ℕ) → read ≡ bytes → is_over taken' ≡ false
+      by_read [] is =
+          let few_bytes = s.few_bytes in
+          let few_lines = s.few_lines in
+          let first' = first in
+          let counted' = counted in
+          ap is_over (whole ∙ ap (λ x. before ++ x) is ∙ append-nil before) ∙ not_over before (omega arith) (omega arith)
+      by_read (b ∷ bytes) is =
+          let some : 0 < length read = let size = ap length is in omega arith in
+          let room = room_after start line most s.room s.no_room (omega arith) in
+          let all = ap length whole ∙ length-append before read in
+          let count = ap length (ap lines whole ∙ s.reader.finished.follow read ∙ ap (λ x. lines before ++ x) (lines_alone read none some)) ∙ length_push (lines before) read in
+          let few_bytes = s.few_bytes in
+          let first' = first in
+          let counted' = counted in
+          not_over taken' (omega arith) (omega arith)
+
+  pub broken_off : newlines read ≡ 0 → length read ≤ most → IsBrokenOff taken' (take line (all_lines taken'))
+  broken_off none short = record { within = within_read none short; all = whole_given (newlines-take most read none) }
 
   -- a byte behind a limit
   over_with : (more bytes : List ℕ) → most < length read → bytes ≡ before ++ (read ++ more) → is_over bytes ≡ true

@@ -62,3 +62,8 @@ pub record IsPastLimit (taken left : List ℕ) (lines_given : List (List ℕ)) :
   pub source_over : is_over (taken ++ left) ≡ true
   pub over : is_over taken ≡ true
   pub all : lines_given ≡ whole_lines taken
+
+-- a read failed within the limits, and the whole lines of the bytes taken were given
+pub record IsBrokenOff (taken : List ℕ) (lines_given : List (List ℕ)) : Type 0 where
+  pub within : is_over taken ≡ false
+  pub all : lines_given ≡ whole_lines taken

@@ -95,8 +95,8 @@ impl<S: Source> Model for Lines<S> {
 impl<S: Source> Lines<S> {
     ghost use Rattle.std.specs.Prelude.{◌≡◌, ◌≤◌, ◌+◌, ◌++◌, [], take, false, not, Ok, IsTrue, OnErr, if◌then◌else◌};
     ghost use Rattle.outer_io.specs.Faults.{Rose};
-    ghost use Rattle.line_reader.specs.Lines.{whole_lines, all_lines};
-    ghost use Rattle.line_reader.specs.Reader.{given, gives_line, Gives, IsAtEnd, IsPastLimit};
+    ghost use Rattle.line_reader.specs.Lines.{all_lines};
+    ghost use Rattle.line_reader.specs.Reader.{given, gives_line, Gives, IsAtEnd, IsPastLimit, IsBrokenOff};
 
     /// The lines of a source of which nothing was taken yet.
     pub fn new(source: S) -> Lines<S>
@@ -135,8 +135,8 @@ impl<S: Source> Lines<S> {
         ensures cut { result ≡ Ok Next.Cut → IsTrue S.tells →
             IsPastLimit (S.taken self.new.source) (S.left self.new.source) (given S.taken self.new) }
 
-        // Only a fault of the source is a fault, and every whole line of the bytes taken was given before.
-        ensures fault { OnErr result (IsTrue S.tells → given S.taken self.new ≡ whole_lines (S.taken self.new.source)) }
+        // Only a fault of the source is a fault. The bytes taken are within the limits, and every whole line of them was given before.
+        ensures fault { OnErr result (IsTrue S.tells → IsBrokenOff (S.taken self.new.source) (given S.taken self.new)) }
         ensures cause { OnErr result (Rose (S.faults self.old.source) (S.faults self.new.source)) }
         ensures later { S.faults self.old.source ≤ S.faults self.new.source }
 

@@ -1,6 +1,5 @@
 use Rattle.std.proofs.Common.{◌+◌, ◌∙◌, ap, arith}
-use Rattle.line_reader.proofs.NewlineLemmas.{newlines-take}
-use Rattle.line_reader.proofs.ReaderLemmas.{search_from, same_of_all, given_ahead, room_after, same_lines, next_reader, line_gives, last_line, last_gives, at_end, whole_given, past_limit, last_end}
+use Rattle.line_reader.proofs.ReaderLemmas.{search_from, same_of_all, given_ahead, room_after, same_lines, next_reader, line_gives, last_line, last_gives, at_end, broken_off, past_limit, last_end}
 use Rattle.line_reader.proofs.lines.Lines.next.Goals as goal
 
 pub returns-then-self-clause-end : goal.returns-then-self-clause-end
@@ -85,7 +84,7 @@ pub returns-in-Fault-clause-fault : goal.returns-in-Fault-clause-fault
 returns-in-Fault-clause-fault g c = λ told.
     let found = c.in-Fault.ensures.searches told in
     let s = search_from c.self.inside.start c.self.inside.line c.most_bytes-most.result _ _ _ _ _ _ c.self.invariant told (ap (λ r. r.done) c.self.view_is ∙ c.requires) c.if-self.false c.most_bytes-most.ensures.line c.most_bytes-most.ensures.none found.moves in
-    whole_given s (newlines-take c.most_bytes-most.result _ found.finds.0)
+    broken_off s found.finds.0 found.finds.1
 
 pub returns-in-Limit-clause-pieces : goal.returns-in-Limit-clause-pieces
 returns-in-Limit-clause-pieces g c = λ told.
