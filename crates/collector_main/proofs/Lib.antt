@@ -1,4 +1,5 @@
 pub mod Completeness
+pub mod Cuts
 pub mod Enrolling
 pub mod LineCounts
 pub mod Reports

@@ -1,6 +1,7 @@
 //! A session of one receiver.
 ghost use Rattle.std.specs.Prelude.{◌≡◌, ◌≢◌, ◌⊎◌, ◌↔◌, ◌++◌, ℕ, [], Some, Ok, Err, true, false, IsTrue, IfOk, IfErr, IfSome, IfNone};
 ghost use Rattle.outer_io.specs.Faults.{Rose};
+ghost use Rattle.line_reader.specs.Lines.{is_over};
 ghost use Rattle.roster_file.specs.Roster.{roster_of};
 ghost use Rattle.roster_file.specs.declared.roster.RosterFault.TheVariants as roster_faults;
 ghost use Rattle.roster_file.specs.declared.roster.LineCause.{LineCause};
@@ -166,9 +167,11 @@ pub fn hear_session<S: Source, K: Sink>(
     ensures heard { IfSome (ended_of result) (λ ended. IsTrue S.tells → IsTrue K.tells →
         IsSession (roster_of (S.left roster.old)) ended (S.taken receiver.new.source) (S.left receiver.new.source) (K.written report.new) (K.faults report.old) (K.faults report.new)) }
 
-    // Whatever became of the report, after those the roster's source is read to its end, and the receiver ended so after its lines and is spent.
+    // Whatever became of the report, after those the receiver ended so after its lines, cut exactly where the bytes taken pass a limit, the roster's source
+    // is read to its end, and the receiver is spent.
     ensures ending { IfSome (ended_of result) (λ ended. IsTrue S.tells →
         EndsSo (roster_of (S.left roster.old)) ended (S.taken receiver.new.source) (S.left receiver.new.source)) }
+    ensures cut { IfSome (ended_of result) (λ _. IsTrue S.tells → (result ≡ Status.Cut 1) ↔ (is_over (S.taken receiver.new.source) ≡ true)) }
     ensures roster_read { IfSome (ended_of result) (λ _. IsTrue S.tells → IsReadOut (S.left roster.old) (S.taken roster.new) (S.left roster.new)) }
     ensures spent { IfSome (ended_of result) (λ _. receiver.new.fresh ≡ false) }
 

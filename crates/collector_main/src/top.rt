@@ -1,6 +1,7 @@
 //! The top call.
-ghost use Rattle.std.specs.Prelude.{◌≡◌, ◌≢◌, ◌⊎◌, ◌++◌, ℕ, [], Ok, Err, true, false, IsTrue, IsOk, IfErr, IfSome, IfNone, OnOk, map, vec_len, slice_index_or};
+ghost use Rattle.std.specs.Prelude.{◌≡◌, ◌≢◌, ◌⊎◌, ◌↔◌, ◌++◌, ℕ, [], Ok, Err, true, false, IsTrue, IsOk, IfErr, IfSome, IfNone, OnOk, map, vec_len, slice_index_or};
 ghost use Rattle.std.specs.String.{string_bytes};
+ghost use Rattle.line_reader.specs.Lines.{is_over};
 ghost use Rattle.roster_file.specs.Roster.{roster_of};
 ghost use Rattle.roster_file.specs.declared.roster.RosterFault.TheVariants as roster_faults;
 ghost use Rattle.roster_file.specs.declared.roster.LineCause.{LineCause};
@@ -61,9 +62,12 @@ pub fn run<R: Threads + Wait + Sync, S: Source + Send + Drop, K: Sink + Send + D
         IsSession (roster_of (S.left roster.old)) ended (S.taken (slice_index_or receivers.new.items 0 r).source) (S.left (slice_index_or receivers.new.items 0 r).source)
         (K.written report.new) (K.faults report.old) (K.faults report.new)) }
 
-    // Whatever became of the report, after those the roster's source is read to its end, and the receiver ended so after its lines and is spent.
+    // Whatever became of the report, after those the receiver ended so after its lines, cut exactly where the bytes taken pass a limit, the roster's source
+    // is read to its end, and the receiver is spent.
     ensures ending { (r : Receiving S K) → IfSome (ended_of result) (λ ended. IsTrue S.tells →
         EndsSo (roster_of (S.left roster.old)) ended (S.taken (slice_index_or receivers.new.items 0 r).source) (S.left (slice_index_or receivers.new.items 0 r).source)) }
+    ensures cut { (r : Receiving S K) → IfSome (ended_of result) (λ _. IsTrue S.tells →
+        (result ≡ Status.Cut 1) ↔ (is_over (S.taken (slice_index_or receivers.new.items 0 r).source) ≡ true)) }
     ensures roster_read { IfSome (ended_of result) (λ _. IsTrue S.tells → IsReadOut (S.left roster.old) (S.taken roster.new) (S.left roster.new)) }
     ensures spent { (r : Receiving S K) → IfSome (ended_of result) (λ _. (slice_index_or receivers.new.items 0 r).fresh ≡ false) }
 
