@@ -210,6 +210,7 @@ after_push own cs steps s =
     choice : {X : Type 0} (t : Bool) (xs ys : List X) → cond t xs (xs ++ ys) ≡ xs ++ cond t [] ys
     choice true xs ys = sym (append-nil xs)
     choice false xs ys = refl
+
     strangers : strangers_after (world_of own cs steps) s ≡ strangers_of cs (steps ++ s ∷ [])
     strangers =
         ap (λ t. cond t (strangers_of cs steps) (strangers_of cs steps ++ heard_of s ∷ [])) (any_slot s.address.0 own cs steps)
