@@ -1,5 +1,5 @@
 -- Proof that the readings of a journal are those of its stored messages.
-use Rattle.std.proofs.Common.{◌≡◌, ℕ, Bool, List, [], ◌∷◌, ◌++◌, reverse, map, Option, Some, None, Result, Ok, Err, refl, ap, sym, ◌∙◌, subst}
+use Rattle.std.proofs.Common.{◌≡◌, ℕ, Bool, List, [], ◌∷◌, ◌++◌, reverse, map, Option, Some, None, Result, Ok, Err, refl, ap, sym, ◌∙◌}
 use Rattle.std.specs.Prelude.{filter_map}
 use Rattle.std.specs.List.{cons_option}
 use Rattle.std.proofs.lemmas.List.{map-append, reverse-reverse}
@@ -16,7 +16,7 @@ use Rattle.meter_slots.specs.declared.entry.Event.{Event}
 use Rattle.meter_slots.specs.declared.entry.Event.TheVariants.{Hear, Tick, Put, Cancel}
 use Rattle.meter_slots.specs.declared.entry.Format.{Format}
 use Rattle.meter_slots.specs.declared.reading.Reading.{Reading}
-use Rattle.meter_slots.specs.Journal.{Standing, standing, told, last_counter, verdict, heard, queued, cancelled, answer, outcome, IsJudged, Legal, stored_in, stored, reading_at, reading_of, readings_back, readings}
+use Rattle.meter_slots.specs.Journal.{Standing, standing, told, last_counter, verdict, heard, answer, outcome, IsJudged, Legal, stored_in, stored, reading_at, reading_of, readings_back, readings}
 use Rattle.meter_slots.specs.Laws.{stored_counter, stored_counters, moment_read, stored_moment, stored_moments}
 use Rattle.meter_slots.proofs.JournalLaws.{front_back, queued_stored, cancelled_stored}
 

@@ -17,7 +17,7 @@ use Rattle.meter_slots.specs.declared.step.Landed.TheVariants.{Slot, Stranger}
 use Rattle.meter_slots.specs.declared.step.Step.{Step}
 use Rattle.meter_slots.specs.Directory.{AreApart}
 use Rattle.meter_slots.specs.Journal.{Book, outcome}
-use Rattle.meter_slots.specs.World.{Call, call_of, judged_journal, journal_of, is_for, calls_of, slot_of, is_commissioned, heard_of, strangers_of, WorldView, world_of, Lands, fresh_book, outcome_at, stepped_book, is_own, has_slot, book_after, strangers_after, after_step, AnsweredBy, address_of_book, IsOrdered}
+use Rattle.meter_slots.specs.World.{Call, call_of, judged_journal, journal_of, is_for, calls_of, slot_of, is_commissioned, heard_of, strangers_of, WorldView, world_of, Lands, fresh_book, outcome_at, stepped_book, has_slot, book_after, strangers_after, after_step, AnsweredBy, address_of_book, IsOrdered}
 
 same_number : (a b : ℕ) → a ≡ b → (a == b) ≡ true
 same_number a b h = grind (arith, nat_tests)

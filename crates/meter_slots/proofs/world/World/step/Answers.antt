@@ -1,6 +1,5 @@
 use Rattle.std.proofs.Common.{◌≡◌, ◌↔◌, false, ap, sym, ◌∙◌, subst}
 use Rattle.meter_slots.specs.Directory.{AreApart}
-use Rattle.meter_slots.specs.declared.step.Landed.{Landed}
 use Rattle.meter_slots.specs.declared.step.Landed.TheVariants.{Slot, Stranger}
 use Rattle.meter_slots.specs.World.{WorldView, after_step, has_slot, AnsweredBy}
 use Rattle.meter_slots.proofs.Worlds.{none_found, found_at, ordered_step, after_strange, after_own, after_push, landed_strange, landed_own, answered_own, stranger_strange, stranger_own, any_book}
