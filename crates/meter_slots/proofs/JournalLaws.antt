@@ -114,12 +114,12 @@ heard_stored own c k access response (Err reason) = refl
 heard_stored own c k access response (Ok None) = refl
 heard_stored own c k access response (Ok (Some f)) = refl
 
-queued_stored : (r : Result ℕ QueueFault) → stored_counter (queued r) ≡ None
+pub queued_stored : (r : Result ℕ QueueFault) → stored_counter (queued r) ≡ None
 queued_stored (Ok id) = refl
 queued_stored (Err Full) = refl
 queued_stored (Err IdsSpent) = refl
 
-cancelled_stored : (id : ℕ) (r : Result Command NoSuch) → stored_counter (cancelled id r) ≡ None
+pub cancelled_stored : (id : ℕ) (r : Result Command NoSuch) → stored_counter (cancelled id r) ≡ None
 cancelled_stored id (Ok command) = refl
 cancelled_stored id (Err missing) = refl
 

@@ -1,5 +1,5 @@
 -- What one step changes of a world.
-use Rattle.std.proofs.Common.{◌≡◌, ℕ, zero, suc, ◌<◌, ◌≤◌, ◌==◌, Bool, true, false, not, ◌||◌, cond, List, [], ◌∷◌, ◌++◌, length, get_or, set, reverse, map, filter, Some, None, refl, ap, sym, ◌∙◌, arith, subst}
+use Rattle.std.proofs.Common.{◌≡◌, ◌↔◌, ℕ, zero, suc, ◌<◌, ◌≤◌, ◌==◌, Bool, true, false, not, ◌||◌, cond, List, [], ◌∷◌, ◌++◌, length, get_or, set, reverse, map, filter, Some, None, refl, ap, sym, ◌∙◌, arith, subst}
 use Rattle.std.specs.Prelude.{position}
 use Rattle.std.specs.List.{list_any, position_or_len}
 use Rattle.std.proofs.lemmas.Bool.Decides.{nat_tests}
@@ -17,7 +17,7 @@ use Rattle.meter_slots.specs.declared.step.Landed.TheVariants.{Slot, Stranger}
 use Rattle.meter_slots.specs.declared.step.Step.{Step}
 use Rattle.meter_slots.specs.Directory.{AreApart}
 use Rattle.meter_slots.specs.Journal.{Book, outcome}
-use Rattle.meter_slots.specs.World.{Call, call_of, judged_journal, journal_of, is_for, calls_of, slot_of, is_commissioned, heard_of, strangers_of, WorldView, world_of, Lands, fresh_book, outcome_at, stepped_book, address_of_book, IsOrdered}
+use Rattle.meter_slots.specs.World.{Call, call_of, judged_journal, journal_of, is_for, calls_of, slot_of, is_commissioned, heard_of, strangers_of, WorldView, world_of, Lands, fresh_book, outcome_at, stepped_book, has_slot, book_after, strangers_after, after_step, AnsweredBy, address_of_book, IsOrdered}
 
 same_number : (a b : ℕ) → a ≡ b → (a == b) ≡ true
 same_number a b h = grind (arith, nat_tests)
@@ -29,10 +29,6 @@ eqb_swap a b = grind (arith, nat_tests)
 
 abbrev has_number : ℕ → Book → Bool
 has_number n b = b.commission.address.0 == n
-
--- a slot after any step
-abbrev stepped : Step → Book → Book
-stepped s b = cond (has_number s.address.0 b) (stepped_book s b) b
 
 pub journal_of-push : (c : Commissioned) (own : Address) (calls : List Call) (s : Call)
     → journal_of c own (calls ++ s ∷ []) ≡ journal_of c own calls ++ record { source = s.source; line = s.line; event = s.event; outcome = outcome c own (reverse (journal_of c own calls)) s.event } ∷ []
@@ -49,15 +45,15 @@ slot_cond true own c steps s =
     (ap (journal_of c own) (map-append call_of (filter (is_for c.address) steps) (s ∷ [])) ∙ journal_of-push c own (calls_of c.address steps) (call_of s))
 slot_cond false own c steps s = ap (λ xs. record { own = own; commission = c; journal = journal_of c own (map call_of xs) }) (append-nil (filter (is_for c.address) steps))
 
-slot_of-push : (own : Address) (c : Commissioned) (steps : List Step) (s : Step) → slot_of own (steps ++ s ∷ []) c ≡ stepped s (slot_of own steps c)
+slot_of-push : (own : Address) (c : Commissioned) (steps : List Step) (s : Step) → slot_of own (steps ++ s ∷ []) c ≡ book_after s (slot_of own steps c)
 slot_of-push own c steps s =
     ap (λ xs. record { own = own; commission = c; journal = journal_of c own (map call_of xs) }) (filter-append (is_for c.address) steps (s ∷ []))
     ∙ slot_cond (is_for c.address s) own c steps s ∙ ap (λ b. cond b (stepped_book s (slot_of own steps c)) (slot_of own steps c)) (eqb_swap s.address.0 c.address.0)
 
-slots-push : (own : Address) (cs : List Commissioned) (steps : List Step) (s : Step) → map (slot_of own (steps ++ s ∷ [])) cs ≡ map (stepped s) (map (slot_of own steps) cs)
+slots-push : (own : Address) (cs : List Commissioned) (steps : List Step) (s : Step) → map (slot_of own (steps ++ s ∷ [])) cs ≡ map (book_after s) (map (slot_of own steps) cs)
 slots-push own [] steps s = refl
 slots-push own (c ∷ cs) steps s =
-    ap (λ b. b ∷ map (slot_of own (steps ++ s ∷ [])) cs) (slot_of-push own c steps s) ∙ ap (λ bs. stepped s (slot_of own steps c) ∷ bs) (slots-push own cs steps s)
+    ap (λ b. b ∷ map (slot_of own (steps ++ s ∷ [])) cs) (slot_of-push own c steps s) ∙ ap (λ bs. book_after s (slot_of own steps c) ∷ bs) (slots-push own cs steps s)
 
 -- ---- a step at the one place
 
@@ -72,11 +68,11 @@ any-map : (n : ℕ) (bs : List Book) → list_any (λ a. a.0 == n) (map address_
 any-map n [] = refl
 any-map n (b ∷ bs) = ap (λ t. has_number n b || t) (any-map n bs)
 
-stepped_lacks : (s : Step) (bs : List Book) → Lacks s.address.0 bs → map (stepped s) bs ≡ bs
+stepped_lacks : (s : Step) (bs : List Book) → Lacks s.address.0 bs → map (book_after s) bs ≡ bs
 stepped_lacks s [] h = refl
 stepped_lacks s (b ∷ bs) h =
     let parts = or_false (has_number s.address.0 b) (list_any (has_number s.address.0) bs) h in
-    ap (λ t. cond t (stepped_book s b) b ∷ map (stepped s) bs) parts.0 ∙ ap (λ xs. b ∷ xs) (stepped_lacks s bs parts.1)
+    ap (λ t. cond t (stepped_book s b) b ∷ map (book_after s) bs) parts.0 ∙ ap (λ xs. b ∷ xs) (stepped_lacks s bs parts.1)
 
 lacks_at : (n : ℕ) (bs : List Book) (place : ℕ) (d : Book) → Lacks n bs → place < length bs → has_number n (get_or bs place d) ≡ false
 lacks_at n [] place d h l = absurd (omega arith)
@@ -87,15 +83,15 @@ other_number : (x b s : ℕ) → (x == b) ≡ false → x ≡ s → (b == s) ≡
 other_number x b s h e = grind (arith, nat_tests)
 
 set_stepped : (bs : List Book) (place : ℕ) (s : Step) (d : Book) → AreApart (map address_of_book bs) → place < length bs → (get_or bs place d).commission.address.0 ≡ s.address.0
-    → set bs place (stepped_book s (get_or bs place d)) ≡ map (stepped s) bs
+    → set bs place (stepped_book s (get_or bs place d)) ≡ map (book_after s) bs
 set_stepped [] place s d a h e = absurd (omega arith)
 set_stepped (b ∷ bs) zero s d a h e =
     let lacks : Lacks s.address.0 bs = subst (λ n. Lacks n bs) e (sym (any-map b.commission.address.0 bs) ∙ a.0) in
-    ap (λ bs'. stepped_book s b ∷ bs') (sym (stepped_lacks s bs lacks)) ∙ ap (λ t. cond t (stepped_book s b) b ∷ map (stepped s) bs) (sym (same_number b.commission.address.0 s.address.0 e))
+    ap (λ bs'. stepped_book s b ∷ bs') (sym (stepped_lacks s bs lacks)) ∙ ap (λ t. cond t (stepped_book s b) b ∷ map (book_after s) bs) (sym (same_number b.commission.address.0 s.address.0 e))
 set_stepped (b ∷ bs) (suc place) s d a h e =
     let lacks : Lacks b.commission.address.0 bs = sym (any-map b.commission.address.0 bs) ∙ a.0 in
     let differs = other_number (get_or bs place d).commission.address.0 b.commission.address.0 s.address.0 (lacks_at b.commission.address.0 bs place d lacks (omega arith)) e in
-    ap (λ bs'. b ∷ bs') (set_stepped bs place s d a.1 (omega arith) e) ∙ ap (λ t. cond t (stepped_book s b) b ∷ map (stepped s) bs) (sym differs)
+    ap (λ bs'. b ∷ bs') (set_stepped bs place s d a.1 (omega arith) e) ∙ ap (λ t. cond t (stepped_book s b) b ∷ map (book_after s) bs) (sym differs)
 
 -- ---- the addresses stay
 
@@ -103,10 +99,10 @@ stepped_address : (t : Bool) (s : Step) (b : Book) → address_of_book (cond t (
 stepped_address true s b = refl
 stepped_address false s b = refl
 
-addresses_stay : (s : Step) (bs : List Book) → map address_of_book (map (stepped s) bs) ≡ map address_of_book bs
+addresses_stay : (s : Step) (bs : List Book) → map address_of_book (map (book_after s) bs) ≡ map address_of_book bs
 addresses_stay s [] = refl
 addresses_stay s (b ∷ bs) =
-    ap (λ a. a ∷ map address_of_book (map (stepped s) bs)) (stepped_address (has_number s.address.0 b) s b) ∙ ap (λ xs. b.commission.address ∷ xs) (addresses_stay s bs)
+    ap (λ a. a ∷ map address_of_book (map (book_after s) bs)) (stepped_address (has_number s.address.0 b) s b) ∙ ap (λ xs. b.commission.address ∷ xs) (addresses_stay s bs)
 
 -- ---- the place that the directory gives
 
@@ -193,28 +189,32 @@ pub world_fresh : (own : Address) (cs : List Commissioned) → record { slots = 
 unfolding world_of
 world_fresh own cs = refl
 
-pub world_strange : (own : Address) (cs : List Commissioned) (steps : List Step) (s : Step) (w : WorldView) → w ≡ world_of own cs steps → Lacks s.address.0 w.slots
-    → record { slots = w.slots; strangers = w.strangers ++ heard_of s ∷ [] } ≡ world_of own cs (steps ++ s ∷ [])
-unfolding world_of
-world_strange own cs steps s w e h =
-    let slots = map (slot_of own steps) cs in
-    let none : Lacks s.address.0 slots = sym (ap (λ (v : WorldView). list_any (has_number s.address.0) v.slots) e) ∙ h in
-    let no_commission : is_commissioned cs s ≡ false = sym (any_slot s.address.0 own cs steps) ∙ none in
-    ap (λ (v : WorldView). record { slots = v.slots; strangers = v.strangers ++ heard_of s ∷ [] }) e
-    ∙ ap (λ bs. record { slots = bs; strangers = strangers_of cs steps ++ heard_of s ∷ [] }) (sym (slots-push own cs steps s ∙ stepped_lacks s slots none))
-    ∙ ap (λ ts. record { slots = map (slot_of own (steps ++ s ∷ [])) cs; strangers = ts }) (sym (strangers-push cs steps s false no_commission))
+pub after_strange : (s : Step) (w : WorldView) → Lacks s.address.0 w.slots → record { slots = w.slots; strangers = w.strangers ++ heard_of s ∷ [] } ≡ after_step w s
+after_strange s w h =
+    ap (λ bs. record { slots = bs; strangers = w.strangers ++ heard_of s ∷ [] }) (sym (stepped_lacks s w.slots h))
+    ∙ ap (λ t. record { slots = map (book_after s) w.slots; strangers = cond t w.strangers (w.strangers ++ heard_of s ∷ []) }) (sym h)
 
-pub world_own : (own : Address) (cs : List Commissioned) (steps : List Step) (s : Step) (w : WorldView) (place : ℕ) (d : Book) → w ≡ world_of own cs steps → AreApart (map address_of_book w.slots) → place < length w.slots
-    → (get_or w.slots place d).commission.address.0 ≡ s.address.0 → record { slots = set w.slots place (stepped_book s (get_or w.slots place d)); strangers = w.strangers } ≡ world_of own cs (steps ++ s ∷ [])
-unfolding world_of
-world_own own cs steps s w place d e a h same =
-    let slots = map (slot_of own steps) cs in
-    let any : list_any (has_number s.address.0) slots ≡ true = sym (ap (λ (v : WorldView). list_any (has_number s.address.0) v.slots) e) ∙ any_at s.address.0 w.slots place d h same in
-    let commissioned : is_commissioned cs s ≡ true = sym (any_slot s.address.0 own cs steps) ∙ any in
+pub after_own : (s : Step) (w : WorldView) (place : ℕ) (d : Book) → AreApart (map address_of_book w.slots) → place < length w.slots → (get_or w.slots place d).commission.address.0 ≡ s.address.0
+    → record { slots = set w.slots place (stepped_book s (get_or w.slots place d)); strangers = w.strangers } ≡ after_step w s
+after_own s w place d a h same =
     ap (λ bs. record { slots = bs; strangers = w.strangers }) (set_stepped w.slots place s d a h same)
-    ∙ ap (λ (v : WorldView). record { slots = map (stepped s) v.slots; strangers = v.strangers }) e
-    ∙ ap (λ bs. record { slots = bs; strangers = strangers_of cs steps }) (sym (slots-push own cs steps s))
-    ∙ ap (λ ts. record { slots = map (slot_of own (steps ++ s ∷ [])) cs; strangers = ts }) (sym (strangers-push cs steps s true commissioned ∙ append-nil (strangers_of cs steps)))
+    ∙ ap (λ t. record { slots = map (book_after s) w.slots; strangers = cond t w.strangers (w.strangers ++ heard_of s ∷ []) }) (sym (any_at s.address.0 w.slots place d h same))
+
+-- the world of some steps and one more is that of these steps after this one
+pub after_push : (own : Address) (cs : List Commissioned) (steps : List Step) (s : Step) → after_step (world_of own cs steps) s ≡ world_of own cs (steps ++ s ∷ [])
+unfolding world_of
+after_push own cs steps s =
+    ap (λ bs. record { slots = bs; strangers = strangers_after (world_of own cs steps) s }) (sym (slots-push own cs steps s))
+    ∙ ap (λ ts. record { slots = map (slot_of own (steps ++ s ∷ [])) cs; strangers = ts }) strangers
+  where
+    choice : {X : Type 0} (t : Bool) (xs ys : List X) → cond t xs (xs ++ ys) ≡ xs ++ cond t [] ys
+    choice true xs ys = sym (append-nil xs)
+    choice false xs ys = refl
+
+    strangers : strangers_after (world_of own cs steps) s ≡ strangers_of cs (steps ++ s ∷ [])
+    strangers =
+        ap (λ t. cond t (strangers_of cs steps) (strangers_of cs steps ++ heard_of s ∷ [])) (any_slot s.address.0 own cs steps)
+        ∙ choice (is_commissioned cs s) (strangers_of cs steps) (heard_of s ∷ []) ∙ sym (strangers-push cs steps s (is_commissioned cs s) refl)
 
 -- ---- where a step lands
 
@@ -234,6 +234,24 @@ unfolding world_of
 landed_own own cs steps s w place d given e l a h =
     let P : List Book → Type 0 = λ bs. place < length bs → (get_or bs place d).commission.address.0 ≡ s.address.0 → given ≡ outcome_at (get_or bs place d) s → Lands own cs steps s (Slot place given) in
     subst P (sym (ap (λ (v : WorldView). v.slots) e)) (landed_at own cs steps s place d given) l a h
+
+pub answered_own : (bs : List Book) (s : Step) (place : ℕ) (d : Book) (given : Outcome) → place < length bs
+    → (get_or bs place d).commission.address.0 ≡ s.address.0 → given ≡ outcome_at (get_or bs place d) s → AnsweredBy bs s (Slot place given)
+answered_own [] s place d given l a h = absurd (omega arith)
+answered_own (b ∷ bs) s zero d given l a h = (b, refl, a, h)
+answered_own (b ∷ bs) s (suc place) d given l a h = answered_own bs s place d given (omega arith) a h
+
+pub stranger_strange : (bs : List Book) (s : Step) → Lacks s.address.0 bs → (Stranger ≡ Stranger) ↔ (has_slot bs s ≡ false)
+stranger_strange bs s h = (λ e. h, λ n. refl)
+
+pub stranger_own : (bs : List Book) (s : Step) (place : ℕ) (d : Book) (given : Outcome) → place < length bs
+    → (get_or bs place d).commission.address.0 ≡ s.address.0 → (Slot place given ≡ Stranger) ↔ (has_slot bs s ≡ false)
+stranger_own bs s place d given l a =
+    let found = any_at s.address.0 bs place d l a in
+    (λ e. cc, λ n. absurd (differ (sym found ∙ n)))
+  where
+    differ : true ≡ false → ⊥
+    differ e = cc
 
 -- some slot, where a read of a list asks for a default
 abbrev pub any_book : Book

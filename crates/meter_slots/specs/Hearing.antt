@@ -15,13 +15,17 @@ use Rattle.message_check.specs.declared.refusal.LayerFault.{LayerFault}
 use Rattle.message_check.specs.declared.refusal.Reason.{Reason}
 use Rattle.message_check.specs.declared.refusal.Reason.TheVariants.{NotUplink, BadLayers, PartInMode5, TooManyParts}
 
--- the C fields of uplinks (EN 13757-4): SND-NR, SND-IR, ACC-NR, ACC-DMD, and the four of RSP-UD
-abbrev pub is_uplink : ℕ → Bool
-is_uplink c = c == 0x44 || c == 0x46 || c == 0x47 || c == 0x48 || c == 0x08 || c == 0x18 || c == 0x28 || c == 0x38
+-- the C fields of what a meter sends unasked (EN 13757-4): SND-NR, SND-IR, ACC-NR, ACC-DMD
+abbrev pub is_unasked : ℕ → Bool
+is_unasked c = c == 0x44 || c == 0x46 || c == 0x47 || c == 0x48
 
 -- the C fields of responses: the four of RSP-UD
 abbrev pub is_response : ℕ → Bool
 is_response c = c == 0x08 || c == 0x18 || c == 0x28 || c == 0x38
+
+-- the C fields of uplinks
+abbrev pub is_uplink : ℕ → Bool
+is_uplink c = is_unasked c || is_response c
 
 -- ---- the first refusals, in their order
 

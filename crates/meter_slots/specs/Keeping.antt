@@ -1,24 +1,23 @@
 -- Words of private contracts: what a slot keeps beside its journal, and what its steps answer.
-use Rattle.std.specs.Prelude.{ℕ, ◌≡◌, ◌+◌, ◌≤◌, min, true, List, [], ◌∷◌, length, reverse, Option, Some, None, option_map, Result, Ok, Err}
+use Rattle.std.specs.Prelude.{ℕ, ◌≡◌, ◌+◌, ◌≤◌, min, true, if◌then◌else◌, List, [], ◌∷◌, length, reverse, Option, Some, None, option_map, Result, Ok, Err}
 use Rattle.std.specs.Option.{ForSome}
 use Rattle.meter_address.specs.declared.address.Address.{Address}
 use Rattle.meter_address.specs.declared.commission.Mode.{Mode}
 use Rattle.meter_address.specs.Commission.{Commissioned, most_last}
 use Rattle.afl_layer.specs.declared.header.Afl.{Afl}
-use Rattle.afl_layer.specs.declared.header.Auth.{Auth}
 use Rattle.access_window.specs.Orders.{Orders}
 use Rattle.afl_fragments.specs.declared.places.HeldPart.{HeldPart}
 use Rattle.afl_fragments.specs.Fragment.{IsFragment}
 use Rattle.afl_layer.specs.Fields.{is_fragment}
-use Rattle.afl_fragments.specs.Held.{Told, Clear, StandsFor, Message, held_bytes}
+use Rattle.afl_fragments.specs.Held.{Told, Clear, StandsFor, held_bytes}
+use Rattle.message_check.specs.Layers.{has_piece}
 use Rattle.message_check.specs.Opening.{Found}
 use Rattle.message_check.specs.Opened.{found_in}
+use Rattle.message_check.specs.declared.headers.Layers.{Layers}
 use Rattle.message_check.specs.declared.opening.Opened.{Opened}
 use Rattle.message_check.specs.declared.refusal.Reason.{Reason}
 use Rattle.meter_slots.specs.Journal.{Legal, last_counter, told, orders, readings}
 use Rattle.meter_slots.specs.declared.entry.Entry.{Entry}
-use Rattle.meter_slots.specs.declared.entry.Event.{Event}
-use Rattle.meter_slots.specs.declared.entry.Event.TheVariants.{Hear}
 use Rattle.meter_slots.specs.declared.entry.Outcome.{Outcome}
 use Rattle.meter_slots.specs.declared.entry.Outcome.TheVariants.{Stored}
 use Rattle.meter_slots.specs.declared.reading.Reading.{Reading}
@@ -61,10 +60,6 @@ abbrev pub IsCounted : Option Afl → Type 0
 IsCounted None = Unit {0}
 IsCounted (Some a) = is_fragment a ≡ true → a.fid ≤ 16
 
--- the message in a buffer, with the fields that authenticate it
-abbrev pub message_as : List ℕ → Option Auth → Option Message
-message_as bytes auth = option_map (λ a. record { auth = a; bytes = bytes }) auth
-
 -- what is found in a buffer
 abbrev pub found_as : List ℕ → Option Opened → Option Found
 found_as bytes opened = option_map (found_in bytes) opened
@@ -73,15 +68,19 @@ abbrev pub verdict_as : List ℕ → Result (Option Opened) Reason → Result (O
 verdict_as bytes (Ok opened) = Ok (found_as bytes opened)
 verdict_as bytes (Err reason) = Err reason
 
--- how many bytes an event brings at most, with those of the fragments that are held
-abbrev pub room_behind : Event → List HeldPart → ℕ
-room_behind (Hear format at t) parts = held_bytes parts + length t
-room_behind _ parts = 0
+-- how many bytes a message has at most that is made with these: a piece may be joined to all that are held
+abbrev pub most_joined : Option Afl → List HeldPart → List ℕ → ℕ
+most_joined afl parts bytes = if has_piece afl then held_bytes parts + length bytes else length bytes
 
--- so much room is enough for the payload of what an event stores, since a message has at most 4,096 bytes
-abbrev pub room_for : Event → List HeldPart → ℕ
-room_for (Hear format at t) parts = min (held_bytes parts) 4096 + length t
-room_for _ parts = 0
+-- the same of a telegram with these layers, or the first refusal
+abbrev pub most_brought : Result Layers Reason → List HeldPart → List ℕ → ℕ
+most_brought (Err reason) parts t = 0
+most_brought (Ok l) parts t = most_joined l.afl parts t
+
+-- so much room is enough for the payload of what a telegram stores, since a message has at most 4,096 bytes
+abbrev pub room_for : Result Layers Reason → List HeldPart → List ℕ → ℕ
+room_for (Err reason) parts t = 0
+room_for (Ok l) parts t = if has_piece l.afl then min (held_bytes parts) 4096 + length t else length t
 
 -- what is opened stands in the buffer, is a number of the meter's mode, and has no more bytes than the room
 abbrev pub OpenedFits : Mode → List ℕ → ℕ → Option Opened → Type 0

@@ -1,8 +1,11 @@
 -- Words for laws of journals.
 use Rattle.std.specs.Prelude.{ℕ, ◌≡◌, ◌<◌, List, [], ◌∷◌, reverse, Option, Some, None, option_map, filter_map}
 use Rattle.meter_slots.specs.declared.entry.Entry.{Entry}
+use Rattle.meter_slots.specs.declared.entry.Event.{Event}
+use Rattle.meter_slots.specs.declared.entry.Event.TheVariants.{Hear}
 use Rattle.meter_slots.specs.declared.entry.Outcome.{Outcome}
 use Rattle.meter_slots.specs.declared.entry.Outcome.TheVariants.{Stored, Refused}
+use Rattle.meter_slots.specs.declared.reading.Reading.{Reading}
 use Rattle.meter_slots.specs.Journal.{Book, last_counter, orders, readings}
 use Rattle.meter_slots.specs.World.{Call}
 
@@ -14,6 +17,19 @@ stored_counter _ = None
 -- the stored counters of a journal
 abbrev pub stored_counters : List Entry → List ℕ
 stored_counters journal = filter_map (λ x. stored_counter x.outcome) journal
+
+-- the moment of a reading and its counter
+abbrev pub moment_read : Reading → ℕ × ℕ
+moment_read r = (r.at, r.counter)
+
+-- the moment of the telegram with which a message is stored, and the message's counter
+abbrev pub stored_moment : Event → Outcome → Option (ℕ × ℕ)
+stored_moment (Hear format at t) (Stored counter confirmed sent) = Some (at, counter)
+stored_moment _ _ = None
+
+-- the same of all stored messages of a journal
+abbrev pub stored_moments : List Entry → List (ℕ × ℕ)
+stored_moments journal = filter_map (λ x. stored_moment x.event x.outcome) journal
 
 -- the counter of the downlink that an outcome sent
 abbrev pub sent_counter : Outcome → Option ℕ

@@ -17,6 +17,11 @@ abbrev pub heard_in : Format → ℕ → Result (List ℕ) FrameFault → Result
 heard_in format at (Ok t) = Ok (target_of t, Hear format at t)
 heard_in format at (Err fault) = Err fault
 
+-- the telegram of a frame of this format, or its fault
+abbrev pub decoded_in : Format → List ℕ → Result (List ℕ) FrameFault
+decoded_in formats.A bytes = decoded_a bytes
+decoded_in formats.B bytes = decoded_b bytes
+
 -- the meter that a line is for, and what comes to it, or why the line's bytes are no frame
 abbrev pub event_of_line : Line → Result (Address × Event) FrameFault
 event_of_line (line.Frame line_formats.A at bytes) = heard_in formats.A at (decoded_a bytes)

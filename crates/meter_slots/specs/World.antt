@@ -1,5 +1,5 @@
 -- Many slots, and the strangers that none of them is for.
-use Rattle.std.specs.Prelude.{◌≡◌, ℕ, Bool, false, not, ◌==◌, List, [], ◌∷◌, ◌++◌, reverse, map, filter, Some, slice_get}
+use Rattle.std.specs.Prelude.{◌≡◌, ℕ, Bool, false, not, ◌==◌, if◌then◌else◌, List, [], ◌∷◌, ◌++◌, reverse, map, filter, Some, slice_get}
 use Rattle.std.specs.List.{list_any}
 use Rattle.meter_address.specs.declared.address.Address.{Address}
 use Rattle.meter_address.specs.Commission.{Commissioned}
@@ -73,11 +73,9 @@ Lands own commissions steps s (Slot place given) =
     (c : Commissioned) × (slice_get commissions place ≡ Some c) × (c.address.0 ≡ s.address.0) × (given ≡ outcome c own (reverse (slot_of own steps c).journal) s.event)
 Lands own commissions steps s Stranger = is_commissioned commissions s ≡ false
 
--- ---- words of private contracts
+-- ---- one step
 
-abbrev pub fresh_book : Address → Commissioned → Book
-fresh_book own c = record { own = own; commission = c; journal = [] }
-
+-- what a slot answers to a step
 abbrev pub outcome_at : Book → Step → Outcome
 outcome_at b s = outcome b.commission b.own (reverse b.journal) s.event
 
@@ -88,6 +86,36 @@ stepped_book s b = record {
   commission = b.commission;
   journal = b.journal ++ record { source = s.source; line = s.line; event = s.event; outcome = outcome_at b s } ∷ [];
 }
+
+-- whether a slot has the address of a step
+abbrev pub is_own : Step → Book → Bool
+is_own s b = b.commission.address.0 == s.address.0
+
+-- whether some slot has it
+abbrev pub has_slot : List Book → Step → Bool
+has_slot slots s = list_any (is_own s) slots
+
+-- a slot after any step: one with the step's address makes it, and any other stays as it was
+abbrev pub book_after : Step → Book → Book
+book_after s b = if is_own s b then stepped_book s b else b
+
+-- the strangers after any step: where no slot has its address, its line is added
+abbrev pub strangers_after : WorldView → Step → List Heard
+strangers_after w s = if has_slot w.slots s then w.strangers else w.strangers ++ heard_of s ∷ []
+
+-- a world after one step
+abbrev pub after_step : WorldView → Step → WorldView
+after_step w s = record { slots = map (book_after s) w.slots; strangers = strangers_after w s }
+
+-- a step that landed in a slot has that slot's address, and its answer
+abbrev pub AnsweredBy : List Book → Step → Landed → Type 0
+AnsweredBy slots s (Slot place given) = (b : Book) × (slice_get slots place ≡ Some b) × (b.commission.address.0 ≡ s.address.0) × (given ≡ outcome_at b s)
+AnsweredBy slots s Stranger = Unit {0}
+
+-- ---- words of private contracts
+
+abbrev pub fresh_book : Address → Commissioned → Book
+fresh_book own c = record { own = own; commission = c; journal = [] }
 
 abbrev pub address_of_book : Book → Address
 address_of_book b = b.commission.address

@@ -1,20 +1,21 @@
 //! A slot's book.
-ghost use Rattle.std.specs.Prelude.{◌≡◌, ◌≤◌, ◌<◌, ◌++◌, ◌∷◌, [], ℕ, List, length, min, drop, take, vec_len, vec_capacity};
+ghost use Rattle.std.specs.Prelude.{◌≡◌, ◌≤◌, ◌<◌, ◌++◌, ◌∷◌, [], ℕ, List, length, min, drop, take, vec_len, vec_capacity, IfOk, OnErr};
 ghost use Rattle.meter_address.specs.Commission.{most_last};
 ghost use Rattle.afl_fragments.specs.Held.{Told, StandsFor, held_bytes};
 ghost use Rattle.meter_slots.specs.Journal.{answer, stored, told_by, access_at, orders_after, reading_of};
-ghost use Rattle.meter_slots.specs.Keeping.{last_after, FitsMode, found_as, room_for, room_behind, OpenedFits, OpenedHasRoom};
+ghost use Rattle.meter_slots.specs.Keeping.{last_after, FitsMode, found_as, room_for, OpenedHasRoom};
 
 use crate::commands::Commands;
 use crate::entry::{Entry, Event, Outcome};
-use crate::hearing::{has_response_control, hear};
+use crate::hearing::{has_response_control, hear, receive};
 use crate::keyed::KeyedCommission;
 use crate::reading::{Bytes, Reading};
 use access_window::Window;
 use afl_fragments::Parts;
 use afl_layer::{SCRATCH_MAX, Scratch};
 use command_queue::Queue;
-use message_check::Opened;
+use frame_formats::Telegram;
+use message_check::{Layers, Opened, Reason};
 use meter_address::{Address, Commission};
 use outer_io::Memory;
 use std::alloc::Global;
@@ -44,37 +45,47 @@ impl Model for SlotBook {
     ghost invariant = { λ b. Keeps b.opening b.own b.entries.items b.last b.parts b.commands b.readings.items };
 }
 
-// What an event is answered, and the message that is stored with it.
+// What an event is answered, the message that is stored with it, and room for its payload.
 #[derive(Drop)]
 struct Served {
     outcome: Outcome,
     opened: Option<Opened>,
+    room: Vec<u8>,
 }
 
-// How many bytes the payload of what an event stores has at most.
-fn room_needed(parts: &Parts, event: &Event) -> usize
-    ensures { result ≡ room_for event.now parts.now }
+// How many bytes the payload of what a telegram stores has at most. A whole message is joined to no fragment that is held.
+fn room_needed(parts: &Parts, telegram: &Telegram, layers: &Result<Layers, Reason>) -> usize
+    ensures { result ≡ room_for layers.now parts.now telegram.now }
 {
-    match event {
-        Event::Hear { telegram, .. } => {
-            parts.held_bytes().min(SCRATCH_MAX) + telegram.bytes().len()
+    match layers {
+        Err(_) => 0,
+        Ok(layers) => {
+            let len = telegram.bytes().len();
+            if layers.is_fragment() {
+                parts.held_bytes().min(SCRATCH_MAX) + len
+            } else {
+                len
+            }
         }
-        _ => 0,
     }
 }
 
 // An answer with which nothing is stored.
-fn plain(outcome: Outcome) -> Served
-    ensures { result ≡ record { outcome = outcome; opened = None } }
+fn plain(alloc: Global, outcome: Outcome) -> Served
+    ensures outcome { result.outcome ≡ outcome }
+    ensures opened { result.opened ≡ None }
+    ensures room { result.room.items ≡ [] }
 {
     Served {
         outcome,
         opened: None,
+        room: Vec::new(alloc),
     }
 }
 
-// Answers an event. What it stores stands in `message` then.
+// Answers an event. What it stores stands in `message` then. For want of memory nothing changes but the buffer.
 fn serve(
+    alloc: Global,
     own: Address,
     opening: &KeyedCommission,
     last: Option<u32>,
@@ -82,30 +93,35 @@ fn serve(
     commands: &mut Commands,
     event: &Event,
     message: &mut Scratch,
-) -> Served
-    ensures outcome { (told : List Told) → StandsFor parts.old told → result.outcome ≡ answer opening.now own (record { last = last; told = told; orders = commands.old }) event.now }
-    ensures stored { (told : List Told) → StandsFor parts.old told → found_as message.new result.opened ≡ stored opening.now last told event.now }
-    ensures parts { (told : List Told) → StandsFor parts.old told → StandsFor parts.new (told_by opening.now event.now result.outcome ++ told) }
-    ensures commands { (told : List Told) → StandsFor parts.old told → commands.new ≡ orders_after commands.old (access_at opening.now last told event.now) event.now result.outcome }
-    ensures fits { OpenedFits opening.now.mode message.new (room_behind event.now parts.old) result.opened }
-    ensures number { FitsMode opening.now.mode result.outcome }
+) -> Result<Served, Memory>
+    ensures outcome { IfOk result (λ served. (told : List Told) → StandsFor parts.old told → served.outcome ≡ answer opening.now own (record { last = last; told = told; orders = commands.old }) event.now) }
+    ensures stored { IfOk result (λ served. (told : List Told) → StandsFor parts.old told → found_as message.new served.opened ≡ stored opening.now last told event.now) }
+    ensures parts { IfOk result (λ served. (told : List Told) → StandsFor parts.old told → StandsFor parts.new (told_by opening.now event.now served.outcome ++ told)) }
+    ensures commands { IfOk result (λ served. (told : List Told) → StandsFor parts.old told → commands.new ≡ orders_after commands.old (access_at opening.now last told event.now) event.now served.outcome) }
+    ensures empty { IfOk result (λ served. served.room.items ≡ []) }
+    ensures fits { IfOk result (λ served. OpenedHasRoom message.new (vec_capacity served.room) served.opened) }
+    ensures number { IfOk result (λ served. FitsMode opening.now.mode served.outcome) }
+    ensures err { OnErr result ((parts.new ≡ parts.old) × (commands.new ≡ commands.old)) }
 {
     match event {
         Event::Hear { telegram, .. } => {
-            let commission = opening.commission();
-            let heard = hear(opening, last, parts, telegram, message);
+            let layers = receive(opening.mode(), telegram);
+            let room = Vec::with_capacity(alloc, room_needed(parts, telegram, &layers))?;
+            let heard = hear(opening, last, parts, telegram, layers, message);
             let response = has_response_control(telegram.control());
-            Served {
+            let commission = opening.commission();
+            Ok(Served {
                 outcome: commands.hear(own, commission, &heard.verdict, heard.access, response),
                 opened: heard.verdict.unwrap_or(None),
-            }
+                room,
+            })
         }
         Event::Tick => {
             parts.tick();
-            plain(commands.tick())
+            Ok(plain(alloc, commands.tick()))
         }
-        Event::Put(payload) => plain(commands.put(payload)),
-        Event::Cancel(id) => plain(commands.cancel(*id)),
+        Event::Put(payload) => Ok(plain(alloc, commands.put(payload))),
+        Event::Cancel(id) => Ok(plain(alloc, commands.cancel(*id))),
     }
 }
 
@@ -257,8 +273,8 @@ impl SlotBook {
     {
         self.entries.reserve(1)?;
         self.readings.reserve(1)?;
-        let room = Vec::with_capacity(self.alloc, room_needed(&self.parts, &event))?;
         let served = serve(
+            self.alloc,
             self.own,
             &self.opening,
             self.last,
@@ -266,9 +282,15 @@ impl SlotBook {
             &mut self.commands,
             &event,
             message,
-        );
+        )?;
         self.last = counted(self.last, &served.outcome);
-        note(&mut self.readings, room, &event, served.opened, message);
+        note(
+            &mut self.readings,
+            served.room,
+            &event,
+            served.opened,
+            message,
+        );
         self.entries.push_reserved(Entry {
             source,
             line,

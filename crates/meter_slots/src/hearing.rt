@@ -1,13 +1,13 @@
 //! Hearing a telegram: its refusals, the message that it brings, and the verdict on that message.
 ghost use Rattle.std.specs.Prelude.{◌≡◌, ◌+◌, ◌≤◌, ◌<◌, ◌^◌, ◌++◌, ◌∷◌, [], ℕ, List, length, drop, Some, Ok, Err, IfOk, IfErr, OnOk, OnSome};
 ghost use Rattle.meter_address.specs.Commission.{most_last};
-ghost use Rattle.afl_fragments.specs.Held.{Told, Piece, StandsFor, assembled, held, held_bytes};
+ghost use Rattle.afl_fragments.specs.Held.{Told, Piece, StandsFor, message_with, assembled, held, held_bytes};
 ghost use Rattle.message_check.specs.Opened.{found_in};
 ghost use Rattle.message_check.specs.Layers.{IsLayers, layers_of};
 ghost use Rattle.message_check.specs.declared.headers.Layers.{Layers};
-ghost use Rattle.meter_slots.specs.Hearing.{is_uplink, is_response, uplink_passed, layers_passed, number_passed, fragment_passed, received, auth_in, content_of, message_in, brought};
+ghost use Rattle.meter_slots.specs.Hearing.{is_unasked, is_response, is_uplink, uplink_passed, layers_passed, number_passed, fragment_passed, received, auth_in, content_of, message_in, brought};
 ghost use Rattle.meter_slots.specs.Journal.{told_with, told_by_received, access_of, judged_in, judged};
-ghost use Rattle.meter_slots.specs.Keeping.{IsCounted, PieceFits, settled_by, message_as, verdict_as, VerdictFits};
+ghost use Rattle.meter_slots.specs.Keeping.{IsCounted, PieceFits, settled_by, verdict_as, most_joined, most_brought, VerdictFits};
 
 use crate::keyed::KeyedCommission;
 use afl_fragments::{PARTS_MAX, Part, Parts};
@@ -20,21 +20,34 @@ use meter_address::Mode;
 /// What a telegram comes to: a message that is opened and to be stored, a fragment that is kept, or a refusal.
 pub(crate) type Verdict = Result<Option<Opened>, Reason>;
 
-// Whether the C field is that of an uplink: SND-NR, SND-IR, ACC-NR, ACC-DMD or RSP-UD.
-fn has_uplink_control(control: u8) -> bool
-    ensures { result ≡ is_uplink control }
+// C fields of what a meter sends unasked (EN 13757-4).
+const SND_NR: u8 = 0x44;
+
+const SND_IR: u8 = 0x46;
+
+const ACC_NR: u8 = 0x47;
+
+const ACC_DMD: u8 = 0x48;
+
+// Whether the C field is that of something that a meter sends unasked.
+fn has_unasked_control(control: u8) -> bool
+    ensures { result ≡ is_unasked control }
 {
-    matches!(
-        control,
-        0x44 | 0x46 | 0x47 | 0x48 | 0x08 | 0x18 | 0x28 | 0x38
-    )
+    matches!(control, SND_NR | SND_IR | ACC_NR | ACC_DMD)
 }
 
-/// Whether the C field is that of a response: RSP-UD.
+/// Whether the C field is that of a response: the four of RSP-UD.
 pub(crate) fn has_response_control(control: u8) -> bool
     ensures { result ≡ is_response control }
 {
     matches!(control, 0x08 | 0x18 | 0x28 | 0x38)
+}
+
+// Whether the C field is that of an uplink.
+fn has_uplink_control(control: u8) -> bool
+    ensures { result ≡ is_uplink control }
+{
+    has_unasked_control(control) || has_response_control(control)
 }
 
 fn check_uplink(control: u8) -> Result<(), Reason>
@@ -86,9 +99,9 @@ fn read_layers(telegram: &Telegram) -> Result<Layers, Reason>
     }
 }
 
-// The layers of a telegram to a meter of this mode, or the first refusal.
+/// The layers of a telegram to a meter of this mode, or the first refusal.
 #[tactic(auto, unfolding(crate::specs::Hearing::received))]
-fn receive(mode: Mode, telegram: &Telegram) -> Result<Layers, Reason>
+pub(crate) fn receive(mode: Mode, telegram: &Telegram) -> Result<Layers, Reason>
     ensures exact { result ≡ received mode telegram.now }
     ensures within { IfOk result (λ l. l.body ≤ length telegram.now) }
     ensures found { IfOk result (λ l. IsLayers telegram.now l) }
@@ -163,7 +176,7 @@ fn judge(
     auth: Option<Auth>,
     message: &mut Scratch,
 ) -> Verdict
-    ensures verdict { verdict_as message.new result ≡ judged opening.now last (Ok (message_as message.old auth)) }
+    ensures verdict { verdict_as message.new result ≡ judged opening.now last (Ok (message_with auth message.old)) }
     ensures fits { (room : ℕ) → OnSome auth (length message.old ≤ room) → VerdictFits opening.now.mode message.new room result }
 {
     let Some(auth) = auth else {
@@ -235,7 +248,7 @@ fn hear_content(
     requires counted { IsCounted afl }
     ensures verdict { (told : List Told) → StandsFor parts.old told → verdict_as message.new result ≡ judged opening.now last (Ok (message_in told (content_of afl bytes.now))) }
     ensures parts { (told : List Told) → StandsFor parts.old told → StandsFor parts.new (told_with (content_of afl bytes.now) (settled_by (verdict_as message.new result)) ++ told) }
-    ensures fits { VerdictFits opening.now.mode message.new (held_bytes parts.old + length bytes.now) result }
+    ensures fits { VerdictFits opening.now.mode message.new (most_joined afl parts.old bytes.now) result }
 {
     match afl {
         Some(afl) if afl.is_fragment() => {
@@ -263,20 +276,25 @@ pub(crate) struct Heard {
     pub(crate) access: Access,
 }
 
-/// Hears a telegram: the message that is to be stored stands in `message` then.
+/// Hears a telegram with these layers: the message that is to be stored stands in `message` then.
 pub(crate) fn hear(
     opening: &KeyedCommission,
     last: Option<u32>,
     parts: &mut Parts,
     telegram: &Telegram,
+    layers: Result<Layers, Reason>,
     message: &mut Scratch,
 ) -> Heard
+    requires exact { layers ≡ received opening.now.mode telegram.now }
+    requires within { IfOk layers (λ l. l.body ≤ length telegram.now) }
+    requires found { IfOk layers (λ l. IsLayers telegram.now l) }
+    requires counted { IfOk layers (λ l. IsCounted l.afl) }
     ensures verdict { (told : List Told) → StandsFor parts.old told → verdict_as message.new result.verdict ≡ judged opening.now last (brought told telegram.now (received opening.now.mode telegram.now)) }
     ensures access { result.access ≡ access_of (received opening.now.mode telegram.now) (verdict_as message.new result.verdict) }
     ensures parts { (told : List Told) → StandsFor parts.old told → StandsFor parts.new (told_by_received telegram.now (received opening.now.mode telegram.now) (settled_by (verdict_as message.new result.verdict)) ++ told) }
-    ensures fits { VerdictFits opening.now.mode message.new (held_bytes parts.old + length telegram.now) result.verdict }
+    ensures fits { VerdictFits opening.now.mode message.new (most_brought layers parts.old telegram.now) result.verdict }
 {
-    match receive(opening.mode(), telegram) {
+    match layers {
         Err(reason) => Heard {
             verdict: Err(reason),
             access: Access::None,

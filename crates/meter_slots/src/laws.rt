@@ -5,9 +5,9 @@ ghost use Rattle.meter_address.specs.declared.commission.Mode.TheVariants.{Seven
 ghost use Rattle.meter_address.specs.Commission.{Commissioned};
 ghost use Rattle.meter_slots.specs.declared.entry.Entry.{Entry};
 ghost use Rattle.meter_slots.specs.declared.step.Step.{Step};
-ghost use Rattle.meter_slots.specs.Journal.{Book, Legal, genuine, counters};
-ghost use Rattle.meter_slots.specs.World.{Call, journal_of, is_for, slot_of};
-ghost use Rattle.meter_slots.specs.Laws.{stored_counter, stored_counters, sent_counters, IsRising, AreBelow, IsRefused, IsLeft, call_in};
+ghost use Rattle.meter_slots.specs.Journal.{Book, Legal, genuine, counters, readings};
+ghost use Rattle.meter_slots.specs.World.{Call, journal_of, is_for, slot_of, world_of, after_step};
+ghost use Rattle.meter_slots.specs.Laws.{stored_counter, stored_counters, moment_read, stored_moments, sent_counters, IsRising, AreBelow, IsRefused, IsLeft, call_in};
 
 /// In mode 7 the stored counters strictly rise, from above the commission's.
 pub fn counters_rise()
@@ -29,6 +29,14 @@ pub fn stored_exactly()
         ↔ ((option_map (λ f. f.counter) (genuine c (reverse before) x.event) ≡ Some n) × AreBelow n (counters c (reverse before) ++ option_to_list c.last)) }
 {}
 
+/// Each stored message has one reading, in the order of the journal, with the moment at which it was stored and its counter.
+pub fn readings_are_stored()
+    ensures counters { (c : Commissioned) (own : Address) (journal : List Entry) → Legal c own journal
+        → map (λ r. r.counter) (readings c journal) ≡ stored_counters journal }
+    ensures moments { (c : Commissioned) (own : Address) (journal : List Entry) → Legal c own journal
+        → map moment_read (readings c journal) ≡ stored_moments journal }
+{}
+
 /// A refusal leaves the last counter, the commands with their window, and the readings as they were.
 pub fn refused_leaves()
     ensures { (c : Commissioned) (own : Address) (journal : List Entry) (x : Entry) → Legal c own (journal ++ x ∷ []) → IsRefused x.outcome
@@ -46,4 +54,10 @@ pub fn one_journal()
 pub fn own_steps_alone()
     ensures { (c : Commissioned) (own : Address) (xs ys : List Step) → filter (is_for c.address) xs ≡ filter (is_for c.address) ys
         → slot_of own xs c ≡ slot_of own ys c }
+{}
+
+/// The world of some steps is made one step after the other.
+pub fn world_step_by_step()
+    ensures { (own : Address) (commissions : List Commissioned) (steps : List Step) (s : Step)
+        → world_of own commissions (steps ++ s ∷ []) ≡ after_step (world_of own commissions steps) s }
 {}

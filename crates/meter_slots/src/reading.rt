@@ -18,11 +18,18 @@ impl Model for Bytes {
 impl Bytes {
     ghost use Rattle.std.specs.Prelude.{◌≡◌};
 
-    // These bytes, kept.
-    pub(crate) fn from_vec(bytes: Vec<u8>) -> Bytes
+    /// These bytes, kept.
+    pub fn from_vec(bytes: Vec<u8>) -> Bytes
         ensures { result ≡ bytes.items }
     {
         Bytes { bytes }
+    }
+
+    /// The vector of the bytes, with the room that it has.
+    pub fn into_vec(self) -> Vec<u8>
+        ensures { result.items ≡ self }
+    {
+        self.bytes
     }
 
     /// The bytes.
@@ -36,7 +43,7 @@ impl Bytes {
 /// The reading of a stored message.
 #[derive(Drop)]
 pub struct Reading {
-    /// The moment at which it was heard, or at which its last fragment was, in the receiver's own unit.
+    /// The moment at which the telegram was heard that completed the message, in the receiver's own unit.
     pub at: u64,
     /// The message counter in mode 7, the access number in mode 5.
     pub counter: u32,

@@ -1,8 +1,7 @@
 //! What a line tells of a meter.
-ghost use Rattle.std.specs.Prelude.{◌≡◌};
-ghost use Rattle.frame_formats.specs.Decoding.{decoded_a, decoded_b};
+ghost use Rattle.std.specs.Prelude.{◌≡◌, Ok, Err, OnOk, IfErr};
 ghost use Rattle.message_check.specs.Target.{target_of};
-ghost use Rattle.meter_slots.specs.Telling.{heard_in, event_of_line};
+ghost use Rattle.meter_slots.specs.Telling.{heard_in, decoded_in, event_of_line};
 
 use crate::entry::{Event, Format};
 use frame_formats::{FrameFault, Telegram, decode_a, decode_b};
@@ -23,24 +22,24 @@ fn hear_telegram(format: Format, at: u64, telegram: Telegram) -> (Address, Event
     (address, event)
 }
 
-// The telegram of a frame of format A.
-fn hear_format_a(at: u64, bytes: &[u8]) -> Result<(Address, Event), FrameFault>
-    ensures { result ≡ heard_in Format.A at (decoded_a bytes.now) }
+// The telegram of a frame of this format.
+fn decode(format: Format, bytes: &[u8], out: &mut Telegram) -> Result<(), FrameFault>
+    ensures telegram { OnOk result (decoded_in format bytes.now ≡ Ok out.new) }
+    ensures fault { IfErr result (λ fault. decoded_in format bytes.now ≡ Err fault) }
 {
-    let mut telegram = Telegram::shortest();
-    match decode_a(bytes, &mut telegram) {
-        Ok(()) => Ok(hear_telegram(Format::A, at, telegram)),
-        Err(fault) => Err(fault),
+    match format {
+        Format::A => decode_a(bytes, out),
+        Format::B => decode_b(bytes, out),
     }
 }
 
-// The telegram of a frame of format B.
-fn hear_format_b(at: u64, bytes: &[u8]) -> Result<(Address, Event), FrameFault>
-    ensures { result ≡ heard_in Format.B at (decoded_b bytes.now) }
+// The telegram of a frame, for its target.
+fn hear_frame(format: Format, at: u64, bytes: &[u8]) -> Result<(Address, Event), FrameFault>
+    ensures { result ≡ heard_in format at (decoded_in format bytes.now) }
 {
     let mut telegram = Telegram::shortest();
-    match decode_b(bytes, &mut telegram) {
-        Ok(()) => Ok(hear_telegram(Format::B, at, telegram)),
+    match decode(format, bytes, &mut telegram) {
+        Ok(()) => Ok(hear_telegram(format, at, telegram)),
         Err(fault) => Err(fault),
     }
 }
@@ -55,12 +54,12 @@ pub fn event_of(line: &Line) -> Result<(Address, Event), FrameFault>
             format: LineFormat::A,
             at,
             bytes,
-        } => hear_format_a(*at, bytes.bytes()),
+        } => hear_frame(Format::A, *at, bytes.bytes()),
         Line::Frame {
             format: LineFormat::B,
             at,
             bytes,
-        } => hear_format_b(*at, bytes.bytes()),
+        } => hear_frame(Format::B, *at, bytes.bytes()),
         Line::Tick(address) => Ok((*address, Event::Tick)),
         Line::Put(address, payload) => Ok((*address, Event::Put(payload.copied()))),
         Line::Cancel(address, id) => Ok((*address, Event::Cancel(*id))),

@@ -1,3 +1,5 @@
+ghost use Rattle.std.specs.Prelude.{◌≡◌};
+
 use super::*;
 use access_window::Window;
 use line_reader::read_line;
@@ -50,7 +52,9 @@ fn shown(outcome: &Outcome) -> Answer {
     }
 }
 
-fn commission(address: u64, mode: Mode, key: u128) -> Commission {
+fn commission(address: u64, mode: Mode, key: u128) -> Commission
+    ensures { result.address.0 ≡ address }
+{
     Commission {
         address: Address(address),
         mode,
@@ -327,7 +331,10 @@ fn messages_in_fragments(rt: HostRuntime) -> Result<(), Fail> {
     let meter = commission(HEAT, Mode::Seven, HEAT_KEY);
     let mut slot = SlotBook::new(rt.alloc(), Address(1), meter);
     step_all(&rt, &mut slot, HEAT, &PART_LINES)?;
-    assert_eq!(rt; slot.readings().len(), 2);
+    let readings = slot.readings();
+    assert_eq!(rt; readings.len(), 2);
+    let payload = hex::decode(rt.alloc(), "2f2f0c13080000002f2f2f2f2f2f2f2f")?;
+    assert_eq!(rt; readings[0].payload.bytes(), payload.as_slice());
     Ok(())
 }
 
@@ -351,5 +358,51 @@ fn commands_of_a_meter(rt: HostRuntime) -> Result<(), Fail> {
     assert_eq!(rt; slot.queue().pending(), 0);
     let now = slot.commission();
     assert_eq!(rt; (now.last, now.down, now.ids), (Some(7), 4, 3));
+    Ok(())
+}
+
+// Lines for a world of the gas meter and the heat meter, and where each lands: the place of its slot with the answer, or none.
+const WORLD_LINES: [(&str, Option<(u32, Answer)>); 3] = [
+    (
+        "A 100 2e44931578563412330333637a2a0020055923c95aaa26d1b2e7493b2a8b013ec4a6f6d3529b520edff0ea6defc955b29d6d69ebf3ec8a",
+        Some((0, Answer::Stored(42, None, None))),
+    ),
+    ("T 9315010203040107", Some((1, Answer::Ticked(None)))),
+    ("T 2d2c096806100507", None),
+];
+
+fn placed(landed: &Landed) -> Option<(u32, Answer)> {
+    match landed {
+        Landed::Slot(place, outcome) => Some((*place, shown(outcome))),
+        Landed::Stranger => None,
+    }
+}
+
+#[test]
+fn lines_of_two_meters_and_a_stranger(rt: HostRuntime) -> Result<(), Fail> {
+    let gas = commission(GAS, Mode::Five, GAS_KEY);
+    let heat = commission(HEAT, Mode::Seven, HEAT_KEY);
+    let mut world = World::new(rt.alloc(), Address(1), vec![in rt.alloc(); gas, heat]?)?;
+    for (text, wanted) in &WORLD_LINES {
+        let (address, event) = event_of(&read_line(text.as_bytes())?)?;
+        let landed = world.step(Step {
+            source: 1,
+            line: 1,
+            address,
+            event,
+        })?;
+        assert_eq!(rt; placed(&landed), *wanted, "{text}");
+    }
+    assert_eq!(rt; world.strangers().heard().len(), 1);
+    assert!(rt; world.slot(1).is_some() && world.slot(2).is_none());
+    Ok(())
+}
+
+#[test]
+fn places_of_addresses(rt: HostRuntime) -> Result<(), Fail> {
+    let directory = Directory::new(rt.alloc(), &[Address(GAS), Address(HEAT)])?;
+    for (address, wanted) in [(GAS, Some(0)), (HEAT, Some(1)), (WATER, None)] {
+        assert_eq!(rt; directory.find(Address(address)), wanted);
+    }
     Ok(())
 }

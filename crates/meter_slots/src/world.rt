@@ -75,11 +75,11 @@ fn step_at(
 }
 
 impl World {
-    ghost use Rattle.std.specs.Prelude.{◌≡◌, ◌<◌, ◌^◌, [], ◌∷◌, ◌++◌, List, map, length, slice_get, option_copied, IfOk, OnErr};
+    ghost use Rattle.std.specs.Prelude.{◌≡◌, ◌↔◌, ◌<◌, ◌^◌, false, [], ◌∷◌, ◌++◌, List, map, length, slice_get, option_copied, IfOk, OnErr};
     ghost use Rattle.meter_address.specs.Commission.{Commissioned};
     ghost use Rattle.meter_slots.specs.Directory.{AreApart};
     ghost use Rattle.meter_slots.specs.declared.step.Step.{Step};
-    ghost use Rattle.meter_slots.specs.World.{world_of, Lands};
+    ghost use Rattle.meter_slots.specs.World.{world_of, Lands, has_slot, after_step, AnsweredBy};
 
     /// A slot for each commission, in their order. Their addresses differ.
     pub fn new(alloc: Global, own: Address, commissions: Vec<Commission>) -> Result<World, Memory>
@@ -98,6 +98,11 @@ impl World {
 
     /// One step of the slot that it is for, or a stranger's. For want of memory nothing changes.
     pub fn step(&mut self, step: Step) -> Result<Landed, Memory>
+        // The slot with the step's address makes it, and all others stay. Where there is none the line goes to the strangers.
+        ensures after { IfOk result (λ _. self.new ≡ after_step self.old step) }
+        ensures stranger { IfOk result (λ landed. (landed ≡ Landed.Stranger) ↔ (has_slot self.old.slots step ≡ false)) }
+        ensures slot { IfOk result (λ landed. AnsweredBy self.old.slots step landed) }
+
         // A world that stands for some steps then stands for these and this one.
         ensures ok { IfOk result (λ _. (own : Address) (commissions : List Commissioned) (steps : List Step) → self.old ≡ world_of own commissions steps → self.new ≡ world_of own commissions (steps ++ step ∷ [])) }
         ensures landed { IfOk result (λ landed. (own : Address) (commissions : List Commissioned) (steps : List Step) → self.old ≡ world_of own commissions steps → Lands own commissions steps step landed) }

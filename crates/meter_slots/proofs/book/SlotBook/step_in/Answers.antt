@@ -9,17 +9,17 @@ use Rattle.meter_slots.proofs.book.SlotBook.step_in.Goals as goal
 pub invariant_of-self-2 : goal.invariant_of-self-2
 invariant_of-self-2 c =
     let b = c.self.inside in
-    let given = c.serve-served.result.outcome in
+    let given = c.in_ok-served.served.outcome in
     let x : Entry = record { source = c.args.source; line = c.args.line; event = c.args.event; outcome = given } in
     rw (c.push_reserved.ensures.items, c.counted-self-inside.ensures, c.note.ensures, c.reserve.ensures.items, c.reserve-2.ensures.items, c.copied.ensures)
-    (kept_after b.opening b.own b.entries.items b.last b.parts b.commands b.readings.items x _ c.serve-served.new.parts c.serve-served.new.commands c.self.invariant
-    (answer_kept b.opening b.own b.entries.items b.last b.parts b.commands b.readings.items c.args.event given c.self.invariant c.serve-served.ensures.outcome)
-    c.serve-served.ensures.number c.serve-served.ensures.stored c.serve-served.ensures.parts c.serve-served.ensures.commands)
+    (kept_after b.opening b.own b.entries.items b.last b.parts b.commands b.readings.items x _ c.serve.new.parts c.serve.new.commands c.self.invariant
+    (answer_kept b.opening b.own b.entries.items b.last b.parts b.commands b.readings.items c.args.event given c.self.invariant c.in_ok-served.ensures.outcome)
+    c.in_ok-served.ensures.number c.in_ok-served.ensures.stored c.in_ok-served.ensures.parts c.in_ok-served.ensures.commands)
 
 pub returns-clause-outcome : goal.returns-clause-outcome
 returns-clause-outcome c =
     let b = c.self.inside in
-    answer_kept b.opening b.own b.entries.items b.last b.parts b.commands b.readings.items c.args.event c.serve-served.result.outcome c.self.invariant c.serve-served.ensures.outcome
+    answer_kept b.opening b.own b.entries.items b.last b.parts b.commands b.readings.items c.args.event c.in_ok-served.served.outcome c.self.invariant c.in_ok-served.ensures.outcome
     ∙ ap (λ v. outcome v.commission v.own (reverse v.journal) c.args.event) c.self.view_is
 
 pub returns-clause-legal : goal.returns-clause-legal
@@ -28,7 +28,7 @@ returns-clause-legal c = (invariant_of-self-2 c).legal
 pub returns-clause-refused : goal.returns-clause-refused
 returns-clause-refused c r =
     let b = c.self.inside in
-    let x : Entry = record { source = c.args.source; line = c.args.line; event = c.args.event; outcome = c.serve-served.result.outcome } in
+    let x : Entry = record { source = c.args.source; line = c.args.line; event = c.args.event; outcome = c.in_ok-served.served.outcome } in
     let made : c.push_reserved.new.self.items ≡ b.entries.items ++ x ∷ [] = rw (c.push_reserved.ensures.items, c.reserve.ensures.items, c.copied.ensures) refl in
     let old : Book = record { own = b.own; commission = b.opening; journal = b.entries.items } in
     let legal = subst (Legal b.opening b.own) made (invariant_of-self-2 c).legal in

@@ -1,7 +1,8 @@
-use Rattle.std.proofs.Common.{ap, sym, ◌∙◌, subst}
+use Rattle.std.proofs.Common.{◌≡◌, ◌↔◌, false, ap, sym, ◌∙◌, subst}
 use Rattle.meter_slots.specs.Directory.{AreApart}
-use Rattle.meter_slots.specs.World.{WorldView}
-use Rattle.meter_slots.proofs.Worlds.{none_found, found_at, ordered_step, world_strange, world_own, landed_strange, landed_own, any_book}
+use Rattle.meter_slots.specs.declared.step.Landed.TheVariants.{Slot, Stranger}
+use Rattle.meter_slots.specs.World.{WorldView, after_step, has_slot, AnsweredBy}
+use Rattle.meter_slots.proofs.Worlds.{none_found, found_at, ordered_step, after_strange, after_own, after_push, landed_strange, landed_own, answered_own, stranger_strange, stranger_own, any_book}
 use Rattle.meter_slots.proofs.world.World.step.Goals as goal
 
 pub invariant_of-self-in-Some : goal.invariant_of-self-in-Some
@@ -10,25 +11,57 @@ invariant_of-self-in-Some c =
     let found = found_at slots c.self.inside.directory c.args.step.address.0 c.in-Some.place any_book c.self.invariant (sym c.in-Some.ensures) in
     ordered_step slots c.step_at.new.slots.items c.self.inside.directory c.in-Some.place c.args.step any_book c.self.invariant found.0 found.1 (c.in_ok-outcome-in-Some.ensures.ok any_book)
 
+-- ---- no slot has the address
+
+pub returns-in_ok-note-in-None-clause-after : goal.returns-in_ok-note-in-None-clause-after
+returns-in_ok-note-in-None-clause-after c =
+    let w : WorldView = record { slots = c.self.inside.slots.items; strangers = c.self.inside.strangers } in
+    let none = none_found w.slots c.self.inside.directory c.args.step.address.0 c.self.invariant (sym c.in-None.ensures) in
+    ap (λ ts. record { slots = w.slots; strangers = ts }) c.in_ok-note-in-None.ensures.ok ∙ after_strange c.args.step w none ∙ ap (λ v. after_step v c.args.step) c.self.view_is
+
+pub returns-in_ok-note-in-None-clause-stranger : goal.returns-in_ok-note-in-None-clause-stranger
+returns-in_ok-note-in-None-clause-stranger c =
+    let w : WorldView = record { slots = c.self.inside.slots.items; strangers = c.self.inside.strangers } in
+    let none = none_found w.slots c.self.inside.directory c.args.step.address.0 c.self.invariant (sym c.in-None.ensures) in
+    stranger_strange _ c.args.step (subst (λ (v : WorldView). has_slot v.slots c.args.step ≡ false) c.self.view_is none)
+
 pub returns-in_ok-note-in-None-clause-ok : goal.returns-in_ok-note-in-None-clause-ok
 returns-in_ok-note-in-None-clause-ok c own cs steps e =
-    let w : WorldView = record { slots = c.self.inside.slots.items; strangers = c.self.inside.strangers } in
-    let none = none_found c.self.inside.slots.items c.self.inside.directory c.args.step.address.0 c.self.invariant (sym c.in-None.ensures) in
-    ap (λ ts. record { slots = w.slots; strangers = ts }) c.in_ok-note-in-None.ensures.ok ∙ world_strange own cs steps c.args.step w (c.self.view_is ∙ e) none
+    returns-in_ok-note-in-None-clause-after c ∙ ap (λ v. after_step v c.args.step) e ∙ after_push own cs steps c.args.step
 
 pub returns-in_ok-note-in-None-clause-landed : goal.returns-in_ok-note-in-None-clause-landed
 returns-in_ok-note-in-None-clause-landed c own cs steps e =
     let w : WorldView = record { slots = c.self.inside.slots.items; strangers = c.self.inside.strangers } in
-    let none = none_found c.self.inside.slots.items c.self.inside.directory c.args.step.address.0 c.self.invariant (sym c.in-None.ensures) in
+    let none = none_found w.slots c.self.inside.directory c.args.step.address.0 c.self.invariant (sym c.in-None.ensures) in
     landed_strange own cs steps c.args.step w (c.self.view_is ∙ e) none
 
-pub returns-in_ok-outcome-in-Some-clause-ok : goal.returns-in_ok-outcome-in-Some-clause-ok
-returns-in_ok-outcome-in-Some-clause-ok c own cs steps e =
+-- ---- a slot has it
+
+pub returns-in_ok-outcome-in-Some-clause-after : goal.returns-in_ok-outcome-in-Some-clause-after
+returns-in_ok-outcome-in-Some-clause-after c =
     let w : WorldView = record { slots = c.self.inside.slots.items; strangers = c.self.inside.strangers } in
     let found = found_at w.slots c.self.inside.directory c.args.step.address.0 c.in-Some.place any_book c.self.invariant (sym c.in-Some.ensures) in
     let apart = subst AreApart c.self.invariant.places c.self.invariant.apart in
     ap (λ bs. record { slots = bs; strangers = w.strangers }) (c.in_ok-outcome-in-Some.ensures.ok any_book)
-    ∙ world_own own cs steps c.args.step w c.in-Some.place any_book (c.self.view_is ∙ e) apart found.0 found.1
+    ∙ after_own c.args.step w c.in-Some.place any_book apart found.0 found.1 ∙ ap (λ v. after_step v c.args.step) c.self.view_is
+
+pub returns-in_ok-outcome-in-Some-clause-stranger : goal.returns-in_ok-outcome-in-Some-clause-stranger
+returns-in_ok-outcome-in-Some-clause-stranger c =
+    let w : WorldView = record { slots = c.self.inside.slots.items; strangers = c.self.inside.strangers } in
+    let found = found_at w.slots c.self.inside.directory c.args.step.address.0 c.in-Some.place any_book c.self.invariant (sym c.in-Some.ensures) in
+    subst (λ (v : WorldView). (Slot c.in-Some.place c.in_ok-outcome-in-Some.outcome ≡ Stranger) ↔ (has_slot v.slots c.args.step ≡ false)) c.self.view_is
+    (stranger_own w.slots c.args.step c.in-Some.place any_book c.in_ok-outcome-in-Some.outcome found.0 found.1)
+
+pub returns-in_ok-outcome-in-Some-clause-slot : goal.returns-in_ok-outcome-in-Some-clause-slot
+returns-in_ok-outcome-in-Some-clause-slot c =
+    let w : WorldView = record { slots = c.self.inside.slots.items; strangers = c.self.inside.strangers } in
+    let found = found_at w.slots c.self.inside.directory c.args.step.address.0 c.in-Some.place any_book c.self.invariant (sym c.in-Some.ensures) in
+    subst (λ (v : WorldView). AnsweredBy v.slots c.args.step (Slot c.in-Some.place c.in_ok-outcome-in-Some.outcome)) c.self.view_is
+    (answered_own w.slots c.args.step c.in-Some.place any_book c.in_ok-outcome-in-Some.outcome found.0 found.1 (c.in_ok-outcome-in-Some.ensures.outcome any_book))
+
+pub returns-in_ok-outcome-in-Some-clause-ok : goal.returns-in_ok-outcome-in-Some-clause-ok
+returns-in_ok-outcome-in-Some-clause-ok c own cs steps e =
+    returns-in_ok-outcome-in-Some-clause-after c ∙ ap (λ v. after_step v c.args.step) e ∙ after_push own cs steps c.args.step
 
 pub returns-in_ok-outcome-in-Some-clause-landed : goal.returns-in_ok-outcome-in-Some-clause-landed
 returns-in_ok-outcome-in-Some-clause-landed c own cs steps e =
