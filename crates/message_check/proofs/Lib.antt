@@ -3,3 +3,4 @@ pub mod LayerLaws
 pub mod OpeningLaws
 pub mod RefusalLaws
 pub mod RefusalLaws7
+mod AnswerLaws

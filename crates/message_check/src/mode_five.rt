@@ -1,9 +1,12 @@
 //! Messages of security mode 5 (OMS Volume 2): AES-128-CBC under the meter's key, checked by two bytes.
-ghost use Rattle.std.specs.Prelude.{◌≡◌, ◌+◌, ◌*◌, ◌^◌, ◌<◌, ◌≤◌, [], ◌++◌, length, drop, replicate, Ok, Err, IfOk, IfErr, OnOk, OnErr};
+ghost use Rattle.std.specs.Prelude.{◌≡◌, ◌+◌, ◌*◌, ◌^◌, ◌<◌, ◌≤◌, ◌↔◌, [], ◌++◌, length, drop, replicate, Ok, Err, IfOk, IfErr, OnOk, OnErr};
+ghost use Rattle.frame_formats.specs.Crc.{IsBytes};
 ghost use Rattle.meter_address.specs.Address.{bytes_of};
 ghost use Rattle.tpl_headers.specs.Configuration.{blocks_of};
-ghost use Rattle.message_check.specs.Opening.{initialization_vector, access_in_configuration, decrypted5, rest_of, some_passed, check_bytes_passed, access_number_passed, opened5_after};
+ghost use Rattle.message_check.specs.Opening.{initialization_vector, access_in_configuration, decrypted5, rest_of, Checked5, some_passed, check_bytes_passed, access_number_passed, opened5_after};
 ghost use Rattle.message_check.specs.Opened.{found_in};
+ghost use Rattle.message_check.specs.Refusals.{Refusal5};
+ghost use Rattle.message_check.specs.declared.refusal.Reason.{Reason};
 
 use crate::opening::{Opened, check_blocks, decrypt, emptied_if_refused, read_header_for};
 use crate::refusal::Reason;
@@ -84,6 +87,7 @@ fn open_message(
     message: &mut [u8],
 ) -> Result<Opened, Reason>
     requires { keys.now ≡ commission.now.key }
+    ensures bytes { IsBytes message.old }
     ensures opened { IfOk result (λ o. opened5_after last commission.now message.old ≡ Ok (found_in message.new o)) }
     ensures within { IfOk result (λ o. o.from ≤ length message.new) }
     ensures number { IfOk result (λ o. o.counter < 2 ^ 8) }
@@ -125,6 +129,10 @@ pub fn open5_with_key(
     // A refused message is emptied.
     ensures refused { IfErr result (λ r. opened5_after last commission.now message.old ≡ Err r) }
     ensures emptied { OnErr result (message.new ≡ []) }
+
+    // What is opened is a checked message, and what is refused has the cause that its reason names.
+    ensures checked { IfOk result (λ o. Checked5 commission.now message.old (found_in message.new o)) }
+    ensures cause { (r : Reason) → (result ≡ Err r) ↔ Refusal5 last commission.now message.old r }
 {
     let answer = open_message(meter_key.keys(), commission, last, message.bytes_mut());
     emptied_if_refused(answer, message)
@@ -151,6 +159,10 @@ pub fn open5(
     // A refused message is emptied.
     ensures refused { IfErr result (λ r. opened5_after last commission.now message.old ≡ Err r) }
     ensures emptied { OnErr result (message.new ≡ []) }
+
+    // What is opened is a checked message, and what is refused has the cause that its reason names.
+    ensures checked { IfOk result (λ o. Checked5 commission.now message.old (found_in message.new o)) }
+    ensures cause { (r : Reason) → (result ≡ Err r) ↔ Refusal5 last commission.now message.old r }
 {
     let meter_key = MeterKey::new(&commission.key);
     open5_with_key(&meter_key, commission, last, message)
