@@ -4,3 +4,4 @@ pub mod OpeningLaws
 pub mod RefusalLaws
 pub mod RefusalLaws7
 mod AnswerLaws
+mod LayerFaults

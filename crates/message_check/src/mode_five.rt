@@ -3,7 +3,7 @@ ghost use Rattle.std.specs.Prelude.{◌≡◌, ◌+◌, ◌*◌, ◌^◌, ◌<�
 ghost use Rattle.frame_formats.specs.Crc.{IsBytes};
 ghost use Rattle.meter_address.specs.Address.{bytes_of};
 ghost use Rattle.tpl_headers.specs.Configuration.{blocks_of};
-ghost use Rattle.message_check.specs.Opening.{initialization_vector, access_in_configuration, decrypted5, rest_of, Checked5, some_passed, check_bytes_passed, access_number_passed, opened5_after};
+ghost use Rattle.message_check.specs.Opening.{initialization_vector, decrypted5, rest_of, Checked5, some_passed, check_bytes_passed, access_number_passed, opened5_after};
 ghost use Rattle.message_check.specs.Opened.{found_in};
 ghost use Rattle.message_check.specs.Refusals.{Refusal5};
 ghost use Rattle.message_check.specs.declared.refusal.Reason.{Reason};
@@ -24,13 +24,6 @@ fn first_block(address: Address, acc: u8) -> [u8; 16]
     let mut iv = [acc; 16];
     iv[..8].copy_from_slice(&address.to_bytes());
     iv
-}
-
-// When the meter listens, as the configuration field says.
-fn access_of_configuration(cf: u16) -> Access
-    ensures { result ≡ access_in_configuration cf }
-{
-    Access::from_bits(cf >> 15 & 1 == 1, cf >> 14 & 1 == 1)
 }
 
 // Whether some block is encrypted.
@@ -103,7 +96,7 @@ fn open_message(
     Ok(Opened {
         counter: u32::from(tpl.acc),
         from: tpl.len,
-        access: access_of_configuration(tpl.cf),
+        access: Access::from_bits(tpl.is_bidirectional(), tpl.is_accessible()),
     })
 }
 
