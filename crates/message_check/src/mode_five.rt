@@ -101,7 +101,7 @@ fn open_message(
 }
 
 /// The same as `open5`, with the meter's key made ready beforehand: where many messages of a meter are opened, this saves
-/// making it ready for each.
+/// making it ready for each. The key has to be the commissioned one, and the commissioned mode 5.
 pub fn open5_with_key(
     meter_key: &MeterKey,
     commission: &Commission,
@@ -133,7 +133,8 @@ pub fn open5_with_key(
 
 /// Checks a message of security mode 5, which begins with its transport header, and decrypts it in place under the
 /// meter's key. `last` is the meter's last stored access number. A refusal is the first that applies of `BadMessage`,
-/// `OtherAddress`, `Mode`, `ShortBlocks`, `Unchecked`, `CheckBytes` and `SameAccess`.
+/// `OtherAddress`, `Mode`, `ShortBlocks`, `Unchecked`, `CheckBytes` and `SameAccess`. The meter has to be commissioned in
+/// mode 5.
 pub fn open5(
     commission: &Commission,
     last: Option<u32>,

@@ -86,7 +86,7 @@ fn open_message(
 }
 
 /// The same as `open7`, with the meter's key made ready beforehand: where many messages of a meter are opened, this saves
-/// making it ready for each.
+/// making it ready for each. The key has to be the commissioned one, and the commissioned mode 7.
 pub fn open7_with_key(
     meter_key: &MeterKey,
     commission: &Commission,
@@ -117,7 +117,7 @@ pub fn open7_with_key(
 /// Checks a message of security mode 7, which begins with its transport header, and decrypts it in place under the
 /// cipher key that is derived from the meter's. `last` is the meter's last stored message counter, and `auth` what the
 /// authentication and fragmentation layers of the message had. A refusal is the first that applies of `BadMessage`,
-/// `OtherAddress`, `Mode`, `NoAuth`, `Kdf`, `ShortBlocks`, `BadMac` and `Stale`.
+/// `OtherAddress`, `Mode`, `NoAuth`, `Kdf`, `ShortBlocks`, `BadMac` and `Stale`. The meter has to be commissioned in mode 7.
 pub fn open7(
     commission: &Commission,
     last: Option<u32>,
