@@ -17,7 +17,7 @@ guard_ok : {A : Type 0} (b : Bool) (f : AflFault) (r : Result A AflFault) (x : A
 guard_ok true f r x e = absurd cc
 guard_ok false f r x e = (refl, e)
 
-not_false : (b : Bool) → not b ≡ false → b ≡ true
+pub not_false : (b : Bool) → not b ≡ false → b ≡ true
 not_false true e = refl
 not_false false e = cc
 
@@ -97,7 +97,7 @@ fields_take fcl bytes fits enough =
 
 -- ---- what is read is spelled so
 
-two_bytes : (low high : ℕ) → low < 256 → high < 256 → IsBytes (low ∷ high ∷ [])
+pub two_bytes : (low high : ℕ) → low < 256 → high < 256 → IsBytes (low ∷ high ∷ [])
 two_bytes low high l h zero = l
 two_bytes low high l h (suc zero) = h
 two_bytes low high l h (suc (suc i)) = omega arith
@@ -162,7 +162,7 @@ takes (b ∷ c ∷ d ∷ f ∷ rest) a ci fits e = let is_afl : b ≡ 0x90 = cc 
 -- ---- what is spelled so is read
 
 -- what the bytes behind the CI are read as, by AFLL and FCL
-judged : ℕ → ℕ → List ℕ → Result Afl AflFault
+unfoldable pub judged : ℕ → ℕ → List ℕ → Result Afl AflFault
 judged said fcl rest =
     cond (not (eqb said (2 + fields_len fcl))) (Err (AflLength said (2 + fields_len fcl)))
     (cond (ltb (length rest) (fields_len fcl)) (Err (Truncated (4 + length rest)))

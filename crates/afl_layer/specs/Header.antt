@@ -1,5 +1,5 @@
 -- The header of the authentication and fragmentation layer (EN 13757-7).
-use Rattle.std.specs.Prelude.{ℕ, ◌≡◌, ◌+◌, ◌<◌, ◌^◌, Bool, false, ◌==◌, nat_lt, not, List, [], ◌∷◌, ◌++◌, length, take, drop, Option, Some, None, is_some, IfSome, Result, Ok, Err, if◌then◌else◌}
+use Rattle.std.specs.Prelude.{ℕ, ◌≡◌, ◌≢◌, ◌+◌, ◌<◌, ◌≤◌, ◌^◌, ◌⊎◌, Bool, true, false, ◌==◌, nat_lt, not, List, [], ◌∷◌, ◌++◌, length, take, drop, Option, Some, None, is_some, IfSome, Result, Ok, Err, if◌then◌else◌}
 use Rattle.std.specs.Int.{w16, w32, to_le_bytes, from_le_bytes}
 use Rattle.afl_layer.specs.declared.header.Afl.{Afl}
 use Rattle.afl_layer.specs.declared.header.AflFault.{AflFault}
@@ -44,6 +44,39 @@ pub record BeginsWithAfl (bytes : List ℕ) (a : Afl) : Type 0 where
   pub placed : IsPlaced a
   pub len : a.len ≡ length (afl_bytes fcl a)
 
+-- ---- faults
+
+-- whether FCL names a field that doesn't stand in this fragment
+unfoldable pub misplaces : ℕ → Bool
+misplaces fcl = is_misplaced (has_more fcl) (fid_of fcl) (names_mcl fcl) (names_ki fcl) (names_mcr fcl) (names_mac fcl) (names_ml fcl)
+
+-- whether FCL is that of a fragment of several, and doesn't number it
+unfoldable pub uncounts : ℕ → Bool
+uncounts fcl = is_uncounted (has_more fcl) (fid_of fcl)
+
+-- the bytes begin with CI 90, this AFLL and this FCL, and the rest follows
+pub record BeginsWithFcl (bytes : List ℕ) (said fcl : ℕ) (rest : List ℕ) : Type 0 where
+  pub word : fcl < 2 ^ 16
+  pub parts : bytes ≡ 0x90 ∷ said ∷ (to_le_bytes w16 fcl ++ rest)
+
+-- AFLL counts FCL and the fields that it names, and these are there
+pub record HasFields (bytes : List ℕ) (fcl : ℕ) : Type 0 where
+  pub rest : List ℕ
+  pub begins : BeginsWithFcl bytes (2 + fields_len fcl) fcl rest
+  pub enough : fields_len fcl ≤ length rest
+
+-- the bytes are cut off: there are fewer than four, or fewer fields than AFLL counts
+abbrev pub IsCutOff : List ℕ → Type 0
+IsCutOff bytes = (length bytes < 4) ⊎ ((fcl : ℕ) × (rest : List ℕ) × BeginsWithFcl bytes (2 + fields_len fcl) fcl rest × (length rest < fields_len fcl))
+
+-- why bytes that have CI 90 begin with no header: AFLL counts other fields than FCL names; they are cut off; FCL names a field that
+-- doesn't stand in this fragment; it is that of a fragment of several, and has no number
+abbrev pub IsAflFault : List ℕ → AflFault → Type 0
+IsAflFault bytes (Truncated n) = IsCutOff bytes × (n ≡ length bytes)
+IsAflFault bytes (AflLength said fields) = (fcl : ℕ) × (rest : List ℕ) × BeginsWithFcl bytes said fcl rest × (fields ≡ 2 + fields_len fcl) × (said ≢ fields)
+IsAflFault bytes (FieldPlace fcl) = HasFields bytes fcl × (misplaces fcl ≡ true)
+IsAflFault bytes FidZero = (fcl : ℕ) × HasFields bytes fcl × (misplaces fcl ≡ false) × (uncounts fcl ≡ true)
+
 -- ---- reading from left to right, with the first fault
 
 -- the value of a field's bytes, none where there are none: a byte, a number of two or four bytes, the bytes themselves
@@ -85,14 +118,6 @@ fields_at fcl bytes =
       ml = two_in (take ml after_mac);
       len = 4 + fields_len fcl;
     }
-
--- whether FCL names a field that doesn't stand in this fragment
-unfoldable pub misplaces : ℕ → Bool
-misplaces fcl = is_misplaced (has_more fcl) (fid_of fcl) (names_mcl fcl) (names_ki fcl) (names_mcr fcl) (names_mac fcl) (names_ml fcl)
-
--- whether FCL is that of a fragment of several, and doesn't number it
-unfoldable pub uncounts : ℕ → Bool
-uncounts fcl = is_uncounted (has_more fcl) (fid_of fcl)
 
 -- the header with which the bytes begin, whose CI is 90, or the first fault
 unfoldable pub afl_at : List ℕ → Result Afl AflFault

@@ -1,8 +1,9 @@
 //! Reading the header of the authentication and fragmentation layer.
-ghost use Rattle.std.specs.Prelude.{◌≡◌, ◌+◌, ◌≤◌, length, slice_get, Some, Ok, IfOk};
+ghost use Rattle.std.specs.Prelude.{◌≡◌, ◌+◌, ◌≤◌, ◌↔◌, length, slice_get, Some, Ok, Err, IfOk};
 ghost use Rattle.afl_layer.specs.Fields.{fields_len};
-ghost use Rattle.afl_layer.specs.Header.{BeginsWithAfl, misplaces, uncounts, fields_at, afl_at};
+ghost use Rattle.afl_layer.specs.Header.{BeginsWithAfl, IsAflFault, misplaces, uncounts, fields_at, afl_at};
 ghost use Rattle.afl_layer.specs.declared.header.Afl.{Afl};
+ghost use Rattle.afl_layer.specs.declared.header.AflFault.{AflFault};
 
 use crate::fields::{eight, four, has, len_of, one, two};
 
@@ -149,7 +150,7 @@ fn read_header(bytes: &[u8]) -> Result<Afl, AflFault>
     Ok(read_fields(fcl, rest))
 }
 
-/// The header of the authentication and fragmentation layer with which the bytes begin.
+/// The header of the authentication and fragmentation layer with which the bytes begin. They have to have its CI, 90.
 pub fn read_afl(bytes: &[u8]) -> Result<Afl, AflFault>
     requires { slice_get bytes.now 0 ≡ Some 0x90 }
 
@@ -158,6 +159,7 @@ pub fn read_afl(bytes: &[u8]) -> Result<Afl, AflFault>
     ensures only { (a : Afl) → BeginsWithAfl bytes.now a → result ≡ Ok a }
 
     // A fault is the first that the bytes show.
+    ensures fault { (f : AflFault) → (result ≡ Err f) ↔ IsAflFault bytes.now f }
     ensures exact { result ≡ afl_at bytes.now }
 {
     read_header(bytes)

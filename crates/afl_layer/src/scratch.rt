@@ -5,7 +5,7 @@ ghost use Rattle.std.specs.Borrow.{sem};
 use arrayvec::ArrayVec;
 use std::marker::Model;
 
-/// The most bytes of a message: its 16 fragments have at most 242 bytes each.
+/// How many bytes a buffer has room for. The longest message, of 16 fragments with 242 bytes each, has 3,872.
 pub const SCRATCH_MAX: usize = 4096;
 
 /// A buffer of at most 4,096 bytes, in which a message is put together and decrypted. What stands in the array behind
@@ -42,7 +42,7 @@ impl Scratch {
         self.bytes.clear();
     }
 
-    /// Puts bytes behind those that are there.
+    /// Puts bytes behind those that are there. The buffer has to have room for them.
     pub fn extend(&mut self, bytes: &[u8])
         requires { length self.old + length bytes.now ≤ SCRATCH_MAX }
         ensures { self.new ≡ self.old ++ bytes.now }

@@ -10,14 +10,14 @@ use Rattle.ell_layer.specs.Access.{access_in}
 use Rattle.ell_layer.specs.Extension.{BeginsWithEll, header_len, ◌>>=◌, ell_at}
 
 -- the header with this control and access number
-abbrev made : ℕ → ℕ → ℕ → Ell
+abbrev pub made : ℕ → ℕ → ℕ → Ell
 made control acc len = record { access = access_in control; acc = acc; len = len }
 
 abbrev read : Ell → Result Ell EllFault
 read e = Ok e
 
 -- a test that came out one way
-chosen : {A : Type 0} (b : Bool) (x y z : A) → cond b x y ≡ z → ((b ≡ true) × (x ≡ z)) ⊎ ((b ≡ false) × (y ≡ z))
+pub chosen : {A : Type 0} (b : Bool) (x y z : A) → cond b x y ≡ z → ((b ≡ true) × (x ≡ z)) ⊎ ((b ≡ false) × (y ≡ z))
 chosen true x y z e = inl (refl, e)
 chosen false x y z e = inr (refl, e)
 
@@ -30,7 +30,7 @@ guard_ok true d x y e = absurd cc
 guard_ok false d x y e = (refl, cc)
 
 -- the CI that goes with a length
-ci_of : (ci n : ℕ) (rest : List ℕ) → header_len (ci ∷ rest) ≡ Ok n → ((ci ≡ 0x8C) × (n ≡ 3)) ⊎ ((ci ≡ 0x8E) × (n ≡ 11))
+pub ci_of : (ci n : ℕ) (rest : List ℕ) → header_len (ci ∷ rest) ≡ Ok n → ((ci ≡ 0x8C) × (n ≡ 3)) ⊎ ((ci ≡ 0x8E) × (n ≡ 11))
 unfolding header_len
 ci_of ci n rest e =
     elim (chosen (eqb ci 0x8C) _ _ _ e) [

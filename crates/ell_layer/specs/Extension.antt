@@ -1,5 +1,5 @@
 -- The header of the extended link layer (EN 13757-4).
-use Rattle.std.specs.Prelude.{ℕ, ◌≡◌, ◌⊎◌, List, [], ◌∷◌, ◌++◌, length, slice_index, Result, Ok, Err, nat_lt, ◌==◌, if◌then◌else◌}
+use Rattle.std.specs.Prelude.{ℕ, ◌≡◌, ◌≢◌, ◌<◌, ◌⊎◌, List, [], ◌∷◌, ◌++◌, length, slice_get, slice_index, Some, Result, Ok, Err, nat_lt, ◌==◌, if◌then◌else◌}
 use Rattle.ell_layer.specs.declared.extension.Ell.{Ell}
 use Rattle.ell_layer.specs.declared.extension.EllFault.{EllFault}
 use Rattle.ell_layer.specs.declared.extension.EllFault.TheVariants.{Truncated, Kind}
@@ -26,6 +26,20 @@ pub record BeginsWithEll (bytes : List ℕ) (e : Ell) : Type 0 where
   pub parts : bytes ≡ header ++ rest
   pub len : e.len ≡ length header
   pub spelt : IsShort header e ⊎ IsLong header e
+
+-- the bytes are cut off: there is none, or fewer than the three of a short header, or than the eleven of a long one
+abbrev pub IsCutOff : List ℕ → Type 0
+IsCutOff bytes =
+    (bytes ≡ [])
+    ⊎ (((slice_get bytes 0 ≡ Some 0x8C) × (length bytes < 3))
+    ⊎ ((slice_get bytes 0 ≡ Some 0x8E) × (length bytes < 11)))
+
+-- why bytes begin with no header: they are cut off, or have another CI
+abbrev pub IsEllFault : List ℕ → EllFault → Type 0
+IsEllFault bytes (Truncated n) = IsCutOff bytes × (n ≡ length bytes)
+IsEllFault bytes (Kind ci) = (slice_get bytes 0 ≡ Some ci) × (ci ≢ 0x8C) × (ci ≢ 0x8E)
+
+-- ---- reading
 
 -- how long the header is that begins so, or what is wrong with its CI
 unfoldable pub header_len : List ℕ → Result ℕ EllFault

@@ -1,7 +1,8 @@
 //! The header of the extended link layer.
-ghost use Rattle.std.specs.Prelude.{◌≡◌, ◌≤◌, Ok, IfOk};
-ghost use Rattle.ell_layer.specs.Extension.{BeginsWithEll, header_len, ell_at};
+ghost use Rattle.std.specs.Prelude.{◌≡◌, ◌≤◌, ◌↔◌, Ok, Err, IfOk};
+ghost use Rattle.ell_layer.specs.Extension.{BeginsWithEll, IsEllFault, header_len, ell_at};
 ghost use Rattle.ell_layer.specs.declared.extension.Ell.{Ell};
+ghost use Rattle.ell_layer.specs.declared.extension.EllFault.{EllFault};
 
 use crate::access::Access;
 
@@ -61,7 +62,8 @@ pub fn read_ell(bytes: &[u8]) -> Result<Ell, EllFault>
     ensures found { IfOk result (λ e. BeginsWithEll bytes.now e) }
     ensures only { (e : Ell) → BeginsWithEll bytes.now e → result ≡ Ok e }
 
-    // A fault is the first that the bytes show.
+    // A fault is the one that the bytes show.
+    ensures fault { (f : EllFault) → (result ≡ Err f) ↔ IsEllFault bytes.now f }
     ensures exact { result ≡ ell_at bytes.now }
 {
     extension(bytes)

@@ -1,7 +1,8 @@
+//! Headers of the extended link layer that are read and refused, and what their bits say of access.
 use super::*;
 
 #[test]
-fn headers(rt: HostRuntime) {
+fn headers_are_read_or_refused(rt: HostRuntime) {
     let long = [
         0x8E, 0x04, 0x2A, 0x93, 0x15, 0x01, 0x02, 0x03, 0x04, 0x01, 0x07, 0x7A,
     ];
@@ -27,7 +28,7 @@ fn ell(access: Access, acc: u8, len: usize) -> Ell {
 }
 
 #[test]
-fn bits_of_access(rt: HostRuntime) {
+fn two_bits_say_when_a_meter_listens(rt: HostRuntime) {
     let cases = [
         (false, false, Access::None),
         (false, true, Access::Soon),

@@ -37,7 +37,7 @@ extension_then_len : (bytes : List ℕ) (ell : Option Ell) (rest : List ℕ) →
 extension_then_len bytes None rest h = omega (arith, ap length h)
 extension_then_len bytes (Some e) rest h = omega (arith, ap length h.0.parts, length-append h.0.header h.0.rest, h.0.len, ap length h.1)
 
-extension_then_rest : (bytes : List ℕ) (ell : Option Ell) (rest : List ℕ) → ExtensionThen bytes ell rest → drop (extension_len ell) bytes ≡ rest
+pub extension_then_rest : (bytes : List ℕ) (ell : Option Ell) (rest : List ℕ) → ExtensionThen bytes ell rest → drop (extension_len ell) bytes ≡ rest
 extension_then_rest bytes None rest h = h
 extension_then_rest bytes (Some e) rest h = ap (drop e.len) h.0.parts ∙ drop_at h.0.header h.0.rest e.len (sym h.0.len) ∙ h.1
 
@@ -46,14 +46,14 @@ fragmentation_then_len bytes None rest h = omega (arith, ap length h)
 fragmentation_then_len bytes (Some a) rest h =
     omega (arith, ap length h.0.parts, length-append (fragmentation.afl_bytes h.0.fcl a) h.0.rest, h.0.len, ap length h.1)
 
-fragmentation_then_rest : (bytes : List ℕ) (afl : Option Afl) (rest : List ℕ) → FragmentationThen bytes afl rest → drop (fragmentation_len afl) bytes ≡ rest
+pub fragmentation_then_rest : (bytes : List ℕ) (afl : Option Afl) (rest : List ℕ) → FragmentationThen bytes afl rest → drop (fragmentation_len afl) bytes ≡ rest
 fragmentation_then_rest bytes None rest h = h
 fragmentation_then_rest bytes (Some a) rest h =
     ap (drop a.len) h.0.parts ∙ drop_at (fragmentation.afl_bytes h.0.fcl a) h.0.rest a.len (sym h.0.len) ∙ h.1
 
 -- ---- what is read is a reading
 
-extension_found : (bytes : List ℕ) (ell : Option Ell) → extension_in bytes ≡ Ok ell → ExtensionThen bytes ell (drop (extension_len ell) bytes)
+pub extension_found : (bytes : List ℕ) (ell : Option Ell) → extension_in bytes ≡ Ok ell → ExtensionThen bytes ell (drop (extension_len ell) bytes)
 extension_found [] ell e =
     let none : None ≡ ell = cc in
     subst (λ (x : Option Ell). ExtensionThen [] x (drop (extension_len x) [])) none refl
@@ -71,7 +71,7 @@ extension_found (ci ∷ rest) ell e =
           subst (λ (x : Option Ell). ExtensionThen bytes x (drop (extension_len x) bytes)) none refl
     ]
 
-fragmentation_found : (bytes : List ℕ) (afl : Option Afl) → IsBytes bytes → fragmentation_in bytes ≡ Ok afl → FragmentationThen bytes afl (drop (fragmentation_len afl) bytes)
+pub fragmentation_found : (bytes : List ℕ) (afl : Option Afl) → IsBytes bytes → fragmentation_in bytes ≡ Ok afl → FragmentationThen bytes afl (drop (fragmentation_len afl) bytes)
 fragmentation_found [] afl fits e =
     let none : None ≡ afl = cc in
     subst (λ (x : Option Afl). FragmentationThen [] x (drop (fragmentation_len x) [])) none refl
@@ -163,10 +163,9 @@ some_follow bytes None content None then message = absurd cc
 some_follow bytes None content (Some t) then message = omega (arith, ap length then, ap length message.1.parts)
 some_follow bytes (Some a) content tpl then message = omega (arith, ap length then.0.parts)
 
-extension_again : (bytes : List ℕ) (ell : Option Ell) (rest : List ℕ) → ExtensionThen bytes ell rest → extension_in rest ≡ Ok None → extension_in bytes ≡ Ok ell
-extension_again bytes None rest then none = ap extension_in then ∙ none
-extension_again bytes (Some e) rest then none =
-    let begins = then.0 in
+-- an extension or a fragmentation layer that is there is read
+pub extension_some : (bytes : List ℕ) (e : Ell) → extension.BeginsWithEll bytes e → extension_in bytes ≡ Ok (Some e)
+extension_some bytes e begins =
     let P : List ℕ → Type 0 = λ x. extension_in x ≡ result_map_both Some faults.Ell (extension.ell_at x) in
     let tried : P bytes =
     elim begins.spelt [
@@ -175,13 +174,20 @@ extension_again bytes (Some e) rest then none =
     ] in
     tried ∙ ap (result_map_both Some faults.Ell) (extension_laws.is_only bytes (extension.ell_at bytes) refl e begins)
 
+pub fragmentation_some : (bytes : List ℕ) (a : Afl) → fragmentation.BeginsWithAfl bytes a → fragmentation_in bytes ≡ Ok (Some a)
+fragmentation_some bytes a begins =
+    let P : List ℕ → Type 0 = λ x. fragmentation_in x ≡ result_map_both Some faults.Afl (fragmentation.afl_at x) in
+    let tried : P bytes = subst P (sym begins.parts) refl in
+    tried ∙ ap (result_map_both Some faults.Afl) (fragmentation_laws.is_only bytes (fragmentation.afl_at bytes) refl a begins)
+
+pub extension_again : (bytes : List ℕ) (ell : Option Ell) (rest : List ℕ) → ExtensionThen bytes ell rest → extension_in rest ≡ Ok None → extension_in bytes ≡ Ok ell
+extension_again bytes None rest then none = ap extension_in then ∙ none
+extension_again bytes (Some e) rest then none = extension_some bytes e then.0
+
 fragmentation_again : (bytes : List ℕ) (afl : Option Afl) (content : List ℕ) (tpl : Option Tpl) → FragmentationThen bytes afl content → IsContent content afl tpl
     → fragmentation_in bytes ≡ Ok afl
 fragmentation_again bytes None content tpl then message = ap fragmentation_in then ∙ (message_ci content tpl message).1
-fragmentation_again bytes (Some a) content tpl then message =
-    let P : List ℕ → Type 0 = λ x. fragmentation_in x ≡ result_map_both Some faults.Afl (fragmentation.afl_at x) in
-    let tried : P bytes = subst P (sym then.0.parts) refl in
-    tried ∙ ap (result_map_both Some faults.Afl) (fragmentation_laws.is_only bytes (fragmentation.afl_at bytes) refl a then.0)
+fragmentation_again bytes (Some a) content tpl then message = fragmentation_some bytes a then.0
 
 header_again : (afl : Option Afl) (content : List ℕ) (tpl : Option Tpl) → IsContent content afl tpl → header_in afl content ≡ Ok tpl
 header_again afl content None h = rw h refl

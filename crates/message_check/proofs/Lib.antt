@@ -3,3 +3,5 @@ pub mod LayerLaws
 pub mod OpeningLaws
 pub mod RefusalLaws
 pub mod RefusalLaws7
+mod AnswerLaws
+mod LayerFaults

@@ -14,6 +14,7 @@ use Rattle.tpl_headers.specs.declared.header.Tpl.{Tpl}
 use Rattle.tpl_headers.specs.Configuration.{mode_of, blocks_of}
 use Rattle.tpl_headers.specs.Header.{BeginsWithTpl, tpl_at, tpl_bytes}
 use Rattle.tpl_headers.proofs.Headers.{is_found, is_only}
+use Rattle.tpl_headers.proofs.Faults.{faults}
 use Rattle.message_check.specs.declared.refusal.Reason.{Reason}
 use Rattle.message_check.specs.declared.refusal.Reason.TheVariants.{BadMessage, OtherAddress, Mode, ShortBlocks, Unchecked, CheckBytes, SameAccess}
 use Rattle.message_check.specs.Steps.{◌>>=◌}
@@ -62,7 +63,8 @@ header_refused a mode m r fits e =
     elim (bind_err (header_in m) _ r e) [
       | inl none ↦
           let fault = map_both_err (λ (x : Tpl). x) BadMessage (tpl_at m) r none in
-          subst (HeaderRefusal a mode m) fault.2 fault.1
+          let cause : HeaderRefusal a mode m (BadMessage fault.0) = (faults m fault.0).0 fault.1 in
+          subst (HeaderRefusal a mode m) fault.2 cause
       | inr read ↦
           let h : Tpl = read.0 in
           let made = map_both_ok (λ (x : Tpl). x) BadMessage (tpl_at m) h read.1 in
@@ -92,7 +94,7 @@ addresses_differ a b h = differ a.0 b.0 (λ same. h (ap (λ (x : ℕ). let c : A
 
 pub header_refuses : (a : Address) (mode : ℕ) (m : List ℕ) (r : Reason) → HeaderRefusal a mode m r → header_for a mode m ≡ Err r
 unfolding header_for
-header_refuses a mode m (BadMessage f) h = rw h refl
+header_refuses a mode m (BadMessage f) h = rw ((faults m f).1 h) refl
 header_refuses a mode m (OtherAddress n) h =
     rw (is_only m (tpl_at m) refl h.0 h.1, h.2, addresses_differ n a h.3) refl
 header_refuses a mode m (Mode n wanted) h =

@@ -1,7 +1,7 @@
 -- The layers of a telegram above the link (EN 13757-4, EN 13757-7): from place 10 on an extension of the link layer, an
 -- authentication and fragmentation layer, each where it is there, and then a fragment's piece of a message, or a transport
 -- header with its body.
-use Rattle.std.specs.Prelude.{ℕ, ◌≡◌, ◌+◌, Bool, true, false, ◌&&◌, ◌==◌, nat_le, if◌then◌else◌, List, [], ◌∷◌, length, drop, Option, Some, None, Result, Ok}
+use Rattle.std.specs.Prelude.{ℕ, ◌≡◌, ◌+◌, ◌≤◌, Bool, true, false, ◌&&◌, ◌==◌, nat_le, if◌then◌else◌, List, [], ◌∷◌, length, drop, slice_get, Option, Some, None, Result, Ok}
 use Rattle.std.specs.Result.{result_map_both}
 use Rattle.ell_layer.specs.declared.extension.Ell.{Ell}
 use Rattle.ell_layer.specs.Extension as extension
@@ -51,6 +51,32 @@ OneReading = (t : List ℕ) (l m : Layers) → IsLayers t l → IsLayers t m →
 -- the piece or the message of a telegram stands at the place that its reading names, and goes to its end
 abbrev pub ContentAtBody : Type 0
 ContentAtBody = (t : List ℕ) (l : Layers) (h : IsLayers t l) → drop l.body t ≡ h.content
+
+-- ---- faults
+
+-- the bytes begin with a CI from 8C to 8F, which an extension of the link layer has
+abbrev pub HasExtensionCi : List ℕ → Type 0
+HasExtensionCi bytes = (ci : ℕ) × (slice_get bytes 0 ≡ Some ci) × (0x8C ≤ ci) × (ci ≤ 0x8F)
+
+-- the bytes begin with CI 90, which an authentication and fragmentation layer has
+abbrev pub HasFragmentationCi : List ℕ → Type 0
+HasFragmentationCi bytes = slice_get bytes 0 ≡ Some 0x90
+
+-- both layers below the transport header are there, each where its CI is, and the rest follows
+pub record IsBefore (t : List ℕ) (ell : Option Ell) (afl : Option Afl) (rest : List ℕ) : Type 0 where
+  pub after_extension : List ℕ
+  pub extension : ExtensionThen (drop 10 t) ell after_extension
+  pub no_extension : ell ≡ None → ¬ HasExtensionCi after_extension
+  pub fragmentation : FragmentationThen after_extension afl rest
+  pub no_fragmentation : afl ≡ None → ¬ HasFragmentationCi rest
+
+-- why a telegram has no layers: the layers before one are there, and the rest has the CI of that layer and a fault of it. What is no
+-- piece of a message is to be a transport header, whatever its CI is
+abbrev pub IsLayerFault : List ℕ → LayerFault → Type 0
+IsLayerFault t (faults.Ell f) = HasExtensionCi (drop 10 t) × extension.IsEllFault (drop 10 t) f
+IsLayerFault t (faults.Afl f) = (ell : Option Ell) × (rest : List ℕ) × ExtensionThen (drop 10 t) ell rest × HasFragmentationCi rest × fragmentation.IsAflFault rest f
+IsLayerFault t (faults.Tpl f) =
+    (ell : Option Ell) × (afl : Option Afl) × (rest : List ℕ) × IsBefore t ell afl rest × (has_piece afl ≡ false) × transport.IsTplFault rest f
 
 -- ---- reading from left to right, with the first fault
 

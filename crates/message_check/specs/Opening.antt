@@ -3,7 +3,7 @@
 use Rattle.std.specs.Prelude.{ℕ, ◌≡◌, ◌-◌, ◌*◌, ◌%◌, ◌<◌, ◌==◌, ◌↔◌, nat_lt, if◌then◌else◌, List, [], ◌∷◌, ◌++◌, length, take, drop, slice_index, replicate, Option, Some, None, IfSome, ok_or, option_map, unwrap_or, Result, Ok, Err}
 use Rattle.std.specs.Result.{result_map_both}
 use Rattle.std.specs.Str.{bytes_eq}
-use Rattle.std.specs.Int.{bit_at, w16, w32, to_le_bytes}
+use Rattle.std.specs.Int.{w16, w32, to_le_bytes}
 use Rattle.frame_formats.specs.Crc.{IsBytes}
 use Rattle.meter_address.specs.declared.address.Address.{Address}
 use Rattle.meter_address.specs.Address.{bytes_of, identification_of}
@@ -13,7 +13,7 @@ use Rattle.ell_layer.specs.declared.access.Access.TheVariants as access
 use Rattle.ell_layer.specs.Access.{access_of}
 use Rattle.afl_layer.specs.declared.header.Auth.{Auth}
 use Rattle.tpl_headers.specs.declared.header.Tpl.{Tpl}
-use Rattle.tpl_headers.specs.Configuration.{mode_of, blocks_of, derivation_of}
+use Rattle.tpl_headers.specs.Configuration.{mode_of, blocks_of, derivation_of, is_bidirectional, is_accessible}
 use Rattle.tpl_headers.specs.Header.{BeginsWithTpl, tpl_at}
 use Rattle.cbc_cmac.specs.Cbc.{cbc_decrypted}
 use Rattle.cbc_cmac.specs.Mac.{zeros, cmac}
@@ -44,9 +44,9 @@ rest_of h m = drop (16 * blocks_of h.cf) (drop h.len m)
 abbrev pub initialization_vector : Address → ℕ → List ℕ
 initialization_vector a acc = bytes_of a ++ replicate 8 acc
 
--- mode 5: when the meter listens: B is bit 15 of the configuration field, A is bit 14
+-- mode 5: when the meter listens, as B and A of the configuration field say
 abbrev pub access_in_configuration : ℕ → Access
-access_in_configuration cf = access_of (bit_at cf 15 == 1) (bit_at cf 14 == 1)
+access_in_configuration cf = access_of (is_bidirectional cf) (is_accessible cf)
 
 -- mode 5: the blocks, decrypted under the meter's key
 unfoldable pub decrypted5 : Commissioned → Tpl → List ℕ → List ℕ

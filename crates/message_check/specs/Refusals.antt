@@ -6,7 +6,7 @@ use Rattle.meter_address.specs.Commission.{Commissioned}
 use Rattle.afl_layer.specs.declared.header.Auth.{Auth}
 use Rattle.tpl_headers.specs.declared.header.Tpl.{Tpl}
 use Rattle.tpl_headers.specs.Configuration.{mode_of, blocks_of, derivation_of}
-use Rattle.tpl_headers.specs.Header.{BeginsWithTpl, tpl_at}
+use Rattle.tpl_headers.specs.Header.{BeginsWithTpl, IsTplFault}
 use Rattle.cbc_cmac.specs.Cbc.{cbc_decrypted}
 use Rattle.message_check.specs.declared.refusal.Reason.{Reason}
 use Rattle.message_check.specs.declared.refusal.Reason.TheVariants.{BadMessage, OtherAddress, Mode, NoAuth, Kdf, ShortBlocks, Unchecked, BadMac, Stale, CheckBytes, SameAccess}
@@ -14,7 +14,7 @@ use Rattle.message_check.specs.Opening.{Found, initialization_vector, mac_of, Is
 
 -- no header of a message to this meter in this security mode: none at all, one of another meter, one of another mode
 abbrev pub HeaderRefusal : Address → ℕ → List ℕ → Reason → Type 0
-HeaderRefusal a mode m (BadMessage f) = tpl_at m ≡ Err f
+HeaderRefusal a mode m (BadMessage f) = IsTplFault m f
 HeaderRefusal a mode m (OtherAddress found) = (h : Tpl) × BeginsWithTpl m h × (h.address ≡ Some found) × (found ≢ a)
 HeaderRefusal a mode m (Mode found wanted) = (h : Tpl) × BeginsWithTpl m h × IfSome h.address (λ named. named ≡ a) × (found ≡ mode_of h.cf) × (wanted ≡ mode) × (found ≢ wanted)
 HeaderRefusal a mode m r = ⊥

@@ -19,6 +19,7 @@ pub use opening::Opened;
 pub use reading::layers;
 pub use refusal::{LayerFault, Reason};
 
+/// What holds of the definitions in the contracts.
 pub mod laws;
 #[cfg(test)]
 mod tests;

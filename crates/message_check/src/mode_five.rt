@@ -1,9 +1,12 @@
 //! Messages of security mode 5 (OMS Volume 2): AES-128-CBC under the meter's key, checked by two bytes.
-ghost use Rattle.std.specs.Prelude.{◌≡◌, ◌+◌, ◌*◌, ◌^◌, ◌<◌, ◌≤◌, [], ◌++◌, length, drop, replicate, Ok, Err, IfOk, IfErr, OnOk, OnErr};
+ghost use Rattle.std.specs.Prelude.{◌≡◌, ◌+◌, ◌*◌, ◌^◌, ◌<◌, ◌≤◌, ◌↔◌, [], ◌++◌, length, drop, replicate, Ok, Err, IfOk, IfErr, OnOk, OnErr};
+ghost use Rattle.frame_formats.specs.Crc.{IsBytes};
 ghost use Rattle.meter_address.specs.Address.{bytes_of};
 ghost use Rattle.tpl_headers.specs.Configuration.{blocks_of};
-ghost use Rattle.message_check.specs.Opening.{initialization_vector, access_in_configuration, decrypted5, rest_of, some_passed, check_bytes_passed, access_number_passed, opened5_after};
+ghost use Rattle.message_check.specs.Opening.{initialization_vector, decrypted5, rest_of, Checked5, some_passed, check_bytes_passed, access_number_passed, opened5_after};
 ghost use Rattle.message_check.specs.Opened.{found_in};
+ghost use Rattle.message_check.specs.Refusals.{Refusal5};
+ghost use Rattle.message_check.specs.declared.refusal.Reason.{Reason};
 
 use crate::opening::{Opened, check_blocks, decrypt, emptied_if_refused, read_header_for};
 use crate::refusal::Reason;
@@ -21,13 +24,6 @@ fn first_block(address: Address, acc: u8) -> [u8; 16]
     let mut iv = [acc; 16];
     iv[..8].copy_from_slice(&address.to_bytes());
     iv
-}
-
-// When the meter listens, as the configuration field says.
-fn access_of_configuration(cf: u16) -> Access
-    ensures { result ≡ access_in_configuration cf }
-{
-    Access::from_bits(cf >> 15 & 1 == 1, cf >> 14 & 1 == 1)
 }
 
 // Whether some block is encrypted.
@@ -84,6 +80,7 @@ fn open_message(
     message: &mut [u8],
 ) -> Result<Opened, Reason>
     requires { keys.now ≡ commission.now.key }
+    ensures bytes { IsBytes message.old }
     ensures opened { IfOk result (λ o. opened5_after last commission.now message.old ≡ Ok (found_in message.new o)) }
     ensures within { IfOk result (λ o. o.from ≤ length message.new) }
     ensures number { IfOk result (λ o. o.counter < 2 ^ 8) }
@@ -99,12 +96,12 @@ fn open_message(
     Ok(Opened {
         counter: u32::from(tpl.acc),
         from: tpl.len,
-        access: access_of_configuration(tpl.cf),
+        access: Access::from_bits(tpl.is_bidirectional(), tpl.is_accessible()),
     })
 }
 
 /// The same as `open5`, with the meter's key made ready beforehand: where many messages of a meter are opened, this saves
-/// making it ready for each.
+/// making it ready for each. The key has to be the commissioned one, and the commissioned mode 5.
 pub fn open5_with_key(
     meter_key: &MeterKey,
     commission: &Commission,
@@ -125,6 +122,10 @@ pub fn open5_with_key(
     // A refused message is emptied.
     ensures refused { IfErr result (λ r. opened5_after last commission.now message.old ≡ Err r) }
     ensures emptied { OnErr result (message.new ≡ []) }
+
+    // What is opened is a checked message, and what is refused has the cause that its reason names.
+    ensures checked { IfOk result (λ o. Checked5 commission.now message.old (found_in message.new o)) }
+    ensures cause { (r : Reason) → (result ≡ Err r) ↔ Refusal5 last commission.now message.old r }
 {
     let answer = open_message(meter_key.keys(), commission, last, message.bytes_mut());
     emptied_if_refused(answer, message)
@@ -132,7 +133,8 @@ pub fn open5_with_key(
 
 /// Checks a message of security mode 5, which begins with its transport header, and decrypts it in place under the
 /// meter's key. `last` is the meter's last stored access number. A refusal is the first that applies of `BadMessage`,
-/// `OtherAddress`, `Mode`, `ShortBlocks`, `Unchecked`, `CheckBytes` and `SameAccess`.
+/// `OtherAddress`, `Mode`, `ShortBlocks`, `Unchecked`, `CheckBytes` and `SameAccess`. The meter has to be commissioned in
+/// mode 5.
 pub fn open5(
     commission: &Commission,
     last: Option<u32>,
@@ -151,6 +153,10 @@ pub fn open5(
     // A refused message is emptied.
     ensures refused { IfErr result (λ r. opened5_after last commission.now message.old ≡ Err r) }
     ensures emptied { OnErr result (message.new ≡ []) }
+
+    // What is opened is a checked message, and what is refused has the cause that its reason names.
+    ensures checked { IfOk result (λ o. Checked5 commission.now message.old (found_in message.new o)) }
+    ensures cause { (r : Reason) → (result ≡ Err r) ↔ Refusal5 last commission.now message.old r }
 {
     let meter_key = MeterKey::new(&commission.key);
     open5_with_key(&meter_key, commission, last, message)

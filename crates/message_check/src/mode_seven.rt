@@ -1,8 +1,11 @@
 //! Messages of security mode 7 (OMS Volume 2): AES-128-CBC and a CMAC, under keys derived from the meter's key.
-ghost use Rattle.std.specs.Prelude.{◌≡◌, ◌+◌, ◌*◌, ◌≤◌, [], ◌++◌, length, drop, Ok, Err, IfOk, IfErr, OnOk, OnErr};
+ghost use Rattle.std.specs.Prelude.{◌≡◌, ◌+◌, ◌*◌, ◌≤◌, ◌↔◌, [], ◌++◌, length, drop, Ok, Err, IfOk, IfErr, OnOk, OnErr};
+ghost use Rattle.frame_formats.specs.Crc.{IsBytes};
 ghost use Rattle.tpl_headers.specs.Configuration.{blocks_of};
-ghost use Rattle.message_check.specs.Opening.{decrypted7, rest_of, derivation_passed, counter_passed, opened7_after};
+ghost use Rattle.message_check.specs.Opening.{decrypted7, rest_of, Genuine7, derivation_passed, counter_passed, opened7_after};
 ghost use Rattle.message_check.specs.Opened.{found_in};
+ghost use Rattle.message_check.specs.Refusals.{Refusal7};
+ghost use Rattle.message_check.specs.declared.refusal.Reason.{Reason};
 
 use crate::opening::{Opened, check_blocks, decrypt, emptied_if_refused, read_header_for};
 use crate::refusal::Reason;
@@ -63,6 +66,7 @@ fn open_message(
     message: &mut [u8],
 ) -> Result<Opened, Reason>
     requires { meter_key.now ≡ commission.now.key }
+    ensures bytes { IsBytes message.old }
     ensures opened { IfOk result (λ o. opened7_after last commission.now auth.now message.old ≡ Ok (found_in message.new o)) }
     ensures within { IfOk result (λ o. o.from ≤ length message.new) }
     ensures refused { IfErr result (λ r. opened7_after last commission.now auth.now message.old ≡ Err r) }
@@ -82,7 +86,7 @@ fn open_message(
 }
 
 /// The same as `open7`, with the meter's key made ready beforehand: where many messages of a meter are opened, this saves
-/// making it ready for each.
+/// making it ready for each. The key has to be the commissioned one, and the commissioned mode 7.
 pub fn open7_with_key(
     meter_key: &MeterKey,
     commission: &Commission,
@@ -101,6 +105,10 @@ pub fn open7_with_key(
     // A refused message is emptied.
     ensures refused { IfErr result (λ r. opened7_after last commission.now auth.now message.old ≡ Err r) }
     ensures emptied { OnErr result (message.new ≡ []) }
+
+    // What is opened is a genuine message, and what is refused has the cause that its reason names.
+    ensures genuine { IfOk result (λ o. Genuine7 commission.now auth.now message.old (found_in message.new o)) }
+    ensures cause { (r : Reason) → (result ≡ Err r) ↔ Refusal7 last commission.now auth.now message.old r }
 {
     let answer = open_message(meter_key, commission, last, auth, message.bytes_mut());
     emptied_if_refused(answer, message)
@@ -109,7 +117,7 @@ pub fn open7_with_key(
 /// Checks a message of security mode 7, which begins with its transport header, and decrypts it in place under the
 /// cipher key that is derived from the meter's. `last` is the meter's last stored message counter, and `auth` what the
 /// authentication and fragmentation layers of the message had. A refusal is the first that applies of `BadMessage`,
-/// `OtherAddress`, `Mode`, `NoAuth`, `Kdf`, `ShortBlocks`, `BadMac` and `Stale`.
+/// `OtherAddress`, `Mode`, `NoAuth`, `Kdf`, `ShortBlocks`, `BadMac` and `Stale`. The meter has to be commissioned in mode 7.
 pub fn open7(
     commission: &Commission,
     last: Option<u32>,
@@ -126,6 +134,10 @@ pub fn open7(
     // A refused message is emptied.
     ensures refused { IfErr result (λ r. opened7_after last commission.now auth.now message.old ≡ Err r) }
     ensures emptied { OnErr result (message.new ≡ []) }
+
+    // What is opened is a genuine message, and what is refused has the cause that its reason names.
+    ensures genuine { IfOk result (λ o. Genuine7 commission.now auth.now message.old (found_in message.new o)) }
+    ensures cause { (r : Reason) → (result ≡ Err r) ↔ Refusal7 last commission.now auth.now message.old r }
 {
     let meter_key = MeterKey::new(&commission.key);
     open7_with_key(&meter_key, commission, last, auth, message)

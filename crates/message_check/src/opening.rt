@@ -1,5 +1,6 @@
 //! What both security modes have in common: the header, its encrypted blocks, and the answer.
 ghost use Rattle.std.specs.Prelude.{◌≡◌, ◌+◌, ◌-◌, ◌*◌, ◌≤◌, [], ◌++◌, length, take, drop, IfOk, OnOk, OnErr};
+ghost use Rattle.frame_formats.specs.Crc.{IsBytes};
 ghost use Rattle.tpl_headers.specs.Configuration.{blocks_of};
 ghost use Rattle.cbc_cmac.specs.Cbc.{cbc_decrypted};
 ghost use Rattle.message_check.specs.Opening.{encrypted_of, rest_of, header_in, address_passed, mode_passed, header_for, blocks_passed};
@@ -28,6 +29,7 @@ pub struct Opened {
 fn read_header(message: &[u8]) -> Result<Tpl, Reason>
     ensures exact { result ≡ header_in message.now }
     ensures within { IfOk result (λ h. h.len ≤ length message.now) }
+    ensures bytes { IsBytes message.now }
 {
     read_tpl(message).map_err(Reason::BadMessage)
 }
@@ -59,6 +61,7 @@ fn check_mode(wanted: u8, tpl: &Tpl) -> Result<(), Reason>
 pub(crate) fn read_header_for(address: Address, mode: u8, message: &[u8]) -> Result<Tpl, Reason>
     ensures exact { result ≡ header_for address mode message.now }
     ensures within { IfOk result (λ h. h.len ≤ length message.now) }
+    ensures bytes { IsBytes message.now }
 {
     let tpl = read_header(message)?;
     check_address(address, &tpl)?;

@@ -1,7 +1,8 @@
 //! Reading the layers of a telegram above the link.
-ghost use Rattle.std.specs.Prelude.{◌≡◌, ◌≤◌, length, drop, Ok, IfOk};
-ghost use Rattle.message_check.specs.Layers.{IsLayers, extension_len, fragmentation_len, extension_in, fragmentation_in, header_in, layers_of};
+ghost use Rattle.std.specs.Prelude.{◌≡◌, ◌≤◌, ◌↔◌, length, drop, Ok, Err, IfOk};
+ghost use Rattle.message_check.specs.Layers.{IsLayers, IsLayerFault, extension_len, fragmentation_len, extension_in, fragmentation_in, header_in, layers_of};
 ghost use Rattle.message_check.specs.declared.headers.Layers.{Layers};
+ghost use Rattle.message_check.specs.declared.refusal.LayerFault.{LayerFault};
 
 use crate::headers::{Layers, piece_follows};
 use crate::refusal::LayerFault;
@@ -104,6 +105,7 @@ pub fn layers(telegram: &Telegram) -> Result<Layers, LayerFault>
     ensures within { IfOk result (λ l. l.body ≤ length telegram.now) }
 
     // A fault is that of the first layer that has no spelling.
+    ensures fault { (f : LayerFault) → (result ≡ Err f) ↔ IsLayerFault telegram.now f }
     ensures exact { result ≡ layers_of telegram.now }
 {
     read_layers(telegram.bytes())

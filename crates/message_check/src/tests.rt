@@ -1,3 +1,4 @@
+//! The layers of telegrams, the meters that they are for, and messages that are opened and refused.
 ghost use Rattle.std.specs.Prelude.{◌≡◌};
 
 use super::*;
@@ -100,7 +101,7 @@ fn seen(layers: Layers) -> Seen {
 }
 
 #[test]
-fn layers_and_targets(rt: HostRuntime) -> Result<(), Fail> {
+fn layers_are_read_or_refused_and_name_the_meter(rt: HostRuntime) -> Result<(), Fail> {
     for (text, answer, meter) in TELEGRAMS {
         let bytes = hex::decode(rt.alloc(), text)?;
         let telegram = Telegram::from_bytes(&bytes).ok_or("no telegram")?;
@@ -249,7 +250,7 @@ const FIVES: [(u128, Option<u32>, &str, Result<Told, Reason>, &str); 12] = [
 ];
 
 #[test]
-fn messages_of_mode_5(rt: HostRuntime) -> Result<(), Fail> {
+fn messages_of_mode_5_are_opened_or_refused(rt: HostRuntime) -> Result<(), Fail> {
     for (key, last, text, wanted, plain) in FIVES {
         let message = hex::decode(rt.alloc(), text)?;
         let plain = hex::decode(rt.alloc(), plain)?;
@@ -354,7 +355,7 @@ const SEVENS: [(
 ];
 
 #[test]
-fn messages_of_mode_7(rt: HostRuntime) -> Result<(), Fail> {
+fn messages_of_mode_7_are_opened_or_refused(rt: HostRuntime) -> Result<(), Fail> {
     for ((address, mcl, counter, mac, text), last, wanted, plain) in SEVENS {
         let auth = Auth {
             mcl: Some(mcl),
@@ -387,68 +388,70 @@ const LONG: Auth = Auth {
 
 const LONG_MESSAGE: &str = "7a0100100710e50cd21ef5cd1c2a5f710decfe5e405e2f0f";
 
+// What authenticates a message, the message, the answer where the last counter is 7.
+const JUDGED: [(Auth, &str, Result<Told, Reason>); 12] = [
+    (LONG, LONG_MESSAGE, Ok((8, 6, Access::None))),
+    (Auth { ml: None, ..LONG }, LONG_MESSAGE, Err(Reason::BadMac)),
+    (
+        Auth {
+            mcl: Some(0x15),
+            ..LONG
+        },
+        LONG_MESSAGE,
+        Err(Reason::BadMac),
+    ),
+    (
+        Auth {
+            mcl: Some(0x24),
+            ..LONG
+        },
+        LONG_MESSAGE,
+        Err(Reason::NoAuth),
+    ),
+    (
+        Auth { mcl: None, ..LONG },
+        LONG_MESSAGE,
+        Err(Reason::NoAuth),
+    ),
+    (
+        Auth { mcr: None, ..LONG },
+        LONG_MESSAGE,
+        Err(Reason::NoAuth),
+    ),
+    (
+        Auth { mac: None, ..LONG },
+        "7a0100100720",
+        Err(Reason::NoAuth),
+    ),
+    (LONG, "7a0100100720", Err(Reason::Kdf(2))),
+    (
+        LONG,
+        "7a0100100710aa",
+        Err(Reason::ShortBlocks { want: 16, have: 1 }),
+    ),
+    (
+        LONG,
+        "7a01001005",
+        Err(Reason::Mode {
+            found: 5,
+            wanted: 7,
+        }),
+    ),
+    (
+        LONG,
+        "8b785634129315330301001007",
+        Err(Reason::BadMessage(TplFault::Truncated(13))),
+    ),
+    (
+        LONG,
+        "8b78563412931533030100100710",
+        Err(Reason::OtherAddress(Address(GAS))),
+    ),
+];
+
 #[test]
-fn other_messages_of_mode_7(rt: HostRuntime) -> Result<(), Fail> {
-    let cases = [
-        (LONG, LONG_MESSAGE, Ok((8, 6, Access::None))),
-        (Auth { ml: None, ..LONG }, LONG_MESSAGE, Err(Reason::BadMac)),
-        (
-            Auth {
-                mcl: Some(0x15),
-                ..LONG
-            },
-            LONG_MESSAGE,
-            Err(Reason::BadMac),
-        ),
-        (
-            Auth {
-                mcl: Some(0x24),
-                ..LONG
-            },
-            LONG_MESSAGE,
-            Err(Reason::NoAuth),
-        ),
-        (
-            Auth { mcl: None, ..LONG },
-            LONG_MESSAGE,
-            Err(Reason::NoAuth),
-        ),
-        (
-            Auth { mcr: None, ..LONG },
-            LONG_MESSAGE,
-            Err(Reason::NoAuth),
-        ),
-        (
-            Auth { mac: None, ..LONG },
-            "7a0100100720",
-            Err(Reason::NoAuth),
-        ),
-        (LONG, "7a0100100720", Err(Reason::Kdf(2))),
-        (
-            LONG,
-            "7a0100100710aa",
-            Err(Reason::ShortBlocks { want: 16, have: 1 }),
-        ),
-        (
-            LONG,
-            "7a01001005",
-            Err(Reason::Mode {
-                found: 5,
-                wanted: 7,
-            }),
-        ),
-        (
-            LONG,
-            "8b785634129315330301001007",
-            Err(Reason::BadMessage(TplFault::Truncated(13))),
-        ),
-        (
-            LONG,
-            "8b78563412931533030100100710",
-            Err(Reason::OtherAddress(Address(GAS))),
-        ),
-    ];
-    for (auth, text, wanted) in cases {
+fn authentication_and_header_are_judged_in_mode_7(rt: HostRuntime) -> Result<(), Fail> {
+    for (auth, text, wanted) in JUDGED {
         let message = hex::decode(rt.alloc(), text)?;
         let mut message = scratch(&rt, &message);
         let answer = open7(

@@ -14,7 +14,7 @@ use Rattle.meter_address.specs.Address.{header_order}
 use Rattle.meter_address.proofs.HeaderOrder.{length-header_order}
 
 -- one of two numbers
-either_is : (x a b : ℕ) → (eqb x a || eqb x b) ≡ true → (x ≡ a) ⊎ (x ≡ b)
+pub either_is : (x a b : ℕ) → (eqb x a || eqb x b) ≡ true → (x ≡ a) ⊎ (x ≡ b)
 either_is x a b e = grind (arith, nat_tests)
 
 ok_or_ok : (o : Option Tpl) (f : TplFault) (t : Tpl) → ok_or o f ≡ Ok t → o ≡ Some t
@@ -70,10 +70,10 @@ takes (ci ∷ rest) t fits e =
     ]
 
 -- a test of two numbers
-either_true : (x a b : ℕ) → (x ≡ a) ⊎ (x ≡ b) → (eqb x a || eqb x b) ≡ true
+pub either_true : (x a b : ℕ) → (x ≡ a) ⊎ (x ≡ b) → (eqb x a || eqb x b) ≡ true
 either_true x a b h = grind (arith, nat_tests)
 
-short_test : (ci : ℕ) → IsLongCi ci → (eqb ci 0x7A || eqb ci 0x8A) ≡ false
+pub short_test : (ci : ℕ) → IsLongCi ci → (eqb ci 0x7A || eqb ci 0x8A) ≡ false
 short_test ci (inl e) = rw e refl
 short_test ci (inr e) = rw e refl
 

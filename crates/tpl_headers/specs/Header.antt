@@ -1,5 +1,5 @@
 -- The transport header (EN 13757-7, OMS Volume 2).
-use Rattle.std.specs.Prelude.{ℕ, ◌≡◌, ◌+◌, ◌<◌, ◌^◌, ◌⊎◌, List, [], ◌∷◌, ◌++◌, length, Option, Some, None, option_map, option_and_then, is_some, ok_or, IfSome, Result, Err, ◌==◌, ◌||◌, if◌then◌else◌}
+use Rattle.std.specs.Prelude.{ℕ, ◌≡◌, ◌+◌, ◌<◌, ◌^◌, ◌⊎◌, List, [], ◌∷◌, ◌++◌, length, drop, slice_get, Option, Some, None, option_map, option_and_then, is_some, ok_or, IfSome, Result, Err, ◌==◌, ◌||◌, if◌then◌else◌}
 use Rattle.std.specs.Int.{w16, w64, to_le_bytes, from_le_bytes, from_be_bytes}
 use Rattle.meter_address.specs.declared.address.Address.{Address}
 use Rattle.meter_address.specs.Address.{header_order}
@@ -55,6 +55,20 @@ pub record BeginsWithTpl (bytes : List ℕ) (t : Tpl) : Type 0 where
   pub is_header : IsHeader t
   pub rest : List ℕ
   pub parts : bytes ≡ tpl_bytes t ++ rest
+
+-- the tail of a header is cut off: it has fewer than four bytes, or in mode 7 no extension behind them
+abbrev pub IsCutTail : List ℕ → Type 0
+IsCutTail tail = (length tail < 4) ⊎ ((length tail ≡ 4) × (mode_of (from_le_bytes w16 (drop 2 tail)) ≡ 7))
+
+-- the bytes are cut off: there is none, or the tail is cut off behind a short CI, or behind a long one and its address
+abbrev pub IsCutOff : List ℕ → Type 0
+IsCutOff [] = Unit {0}
+IsCutOff (ci ∷ rest) = (IsShortCi ci × IsCutTail rest) ⊎ (IsLongCi ci × IsCutTail (drop 8 rest))
+
+-- why bytes begin with no header: they are cut off, or have another CI
+abbrev pub IsTplFault : List ℕ → TplFault → Type 0
+IsTplFault bytes (Truncated n) = IsCutOff bytes × (n ≡ length bytes)
+IsTplFault bytes (Unbuilt ci) = (slice_get bytes 0 ≡ Some ci) × (¬ IsShortCi ci) × (¬ IsLongCi ci)
 
 -- ---- reading from left to right, with the first fault
 

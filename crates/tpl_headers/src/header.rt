@@ -1,8 +1,9 @@
 //! Reading a transport header.
-ghost use Rattle.std.specs.Prelude.{◌≡◌, ◌+◌, ◌<◌, length, Ok, IfOk, option_map};
+ghost use Rattle.std.specs.Prelude.{◌≡◌, ◌+◌, ◌<◌, ◌↔◌, length, Ok, Err, IfOk, option_map};
 ghost use Rattle.tpl_headers.specs.Configuration.{mode_of, blocks_of, derivation_of, is_bidirectional, is_accessible};
-ghost use Rattle.tpl_headers.specs.Header.{BeginsWithTpl, address_at, short_at, long_at, tpl_at, cfe_bytes, with_tail};
+ghost use Rattle.tpl_headers.specs.Header.{BeginsWithTpl, IsTplFault, address_at, short_at, long_at, tpl_at, cfe_bytes, with_tail};
 ghost use Rattle.tpl_headers.specs.declared.header.Tpl.{Tpl};
+ghost use Rattle.tpl_headers.specs.declared.header.TplFault.{TplFault};
 
 use crate::tail::{Tail, mode, read_tail};
 use meter_address::Address;
@@ -150,7 +151,8 @@ pub fn read_tpl(bytes: &[u8]) -> Result<Tpl, TplFault>
     ensures found { IfOk result (λ t. BeginsWithTpl bytes.now t) }
     ensures only { (t : Tpl) → BeginsWithTpl bytes.now t → result ≡ Ok t }
 
-    // A fault is the first that the bytes show.
+    // A fault is the one that the bytes show.
+    ensures fault { (f : TplFault) → (result ≡ Err f) ↔ IsTplFault bytes.now f }
     ensures exact { result ≡ tpl_at bytes.now }
 {
     read_header(bytes)

@@ -1,7 +1,14 @@
+//! Transport headers that are read, refused and written, and what the configuration field says.
+ghost use Rattle.std.specs.Prelude.{◌≡◌};
+ghost use Rattle.tpl_headers.specs.Header.{HasItsAddress, HasItsExtension};
+
 use super::*;
 use meter_address::Address;
 
-fn tpl(ci: u8, address: Option<Address>, cf: u16, cfe: Option<u8>, len: usize) -> Tpl {
+fn tpl(ci: u8, address: Option<Address>, cf: u16, cfe: Option<u8>, len: usize) -> Tpl
+    ensures kind { (result.ci ≡ ci) × (result.address ≡ address) }
+    ensures field { (result.cf ≡ cf) × (result.cfe ≡ cfe) }
+{
     Tpl {
         ci,
         address,
@@ -17,10 +24,14 @@ const LONG: [u8; 14] = [
     0x72, 0x78, 0x56, 0x34, 0x12, 0x93, 0x15, 0x33, 0x03, 0x2A, 0x10, 0x20, 0x07, 0x10,
 ];
 
+const OTHER: [u8; 13] = [
+    0x8B, 0x78, 0x56, 0x34, 0x12, 0x93, 0x15, 0x33, 0x03, 0x2A, 0x10, 0x00, 0x05,
+];
+
 #[test]
-fn headers(rt: HostRuntime) {
+fn headers_are_read_or_refused(rt: HostRuntime) {
     let meter = Some(Address(0x9315_7856_3412_3303));
-    let cases: [(&[u8], Result<Tpl, TplFault>); 11] = [
+    let cases: [(&[u8], Result<Tpl, TplFault>); 12] = [
         (&[], Err(TplFault::Truncated(0))),
         (&[0x78], Err(TplFault::Unbuilt(0x78))),
         (&[0x90, 1], Err(TplFault::Unbuilt(0x90))),
@@ -29,6 +40,7 @@ fn headers(rt: HostRuntime) {
             &[0x7A, 0x2A, 0x10, 0x20, 0x05],
             Ok(tpl(0x7A, None, 0x0520, None, 5)),
         ),
+        (&OTHER, Ok(tpl(0x8B, meter, 0x0500, None, 13))),
         (&[0x8A, 0x2A, 0x10, 0x10, 0x07], Err(TplFault::Truncated(5))),
         (
             &[0x8A, 0x2A, 0x10, 0x10, 0x07, 0x10, 9],
@@ -47,24 +59,29 @@ fn headers(rt: HostRuntime) {
     }
 }
 
-#[test]
-fn written_header(rt: HostRuntime) {
-    let long = Tpl {
-        ci: 0x72,
-        address: Some(Address(0x9315_7856_3412_3303)),
-        acc: 0x2A,
-        status: 0x10,
-        cf: 0x0720,
-        cfe: Some(0x10),
-        len: 0,
-    };
+// Whether these are the bytes of the header, which are read as the header again.
+fn is_spelt(header: &Tpl, bytes: &[u8]) -> bool
+    requires address { HasItsAddress header.now.ci header.now.address }
+    requires extension { HasItsExtension header.now.cf header.now.cfe }
+{
     let mut out = [0xFF; 14];
-    assert_eq!(rt; write_tpl(&long, &mut out), 14);
-    assert_eq!(rt; out, LONG);
+    let len = write_tpl(header, &mut out);
+    len == bytes.len() && out.starts_with(bytes) && read_tpl(bytes) == Ok(*header)
 }
 
 #[test]
-fn configuration(rt: HostRuntime) {
+fn written_headers_are_read_back(rt: HostRuntime) {
+    let meter = Some(Address(0x9315_7856_3412_3303));
+    let short = tpl(0x7A, None, 0x0520, None, 5);
+    assert!(rt; is_spelt(&short, &[0x7A, 0x2A, 0x10, 0x20, 0x05]));
+    let long = tpl(0x72, meter, 0x0720, Some(0x10), 14);
+    assert!(rt; is_spelt(&long, &LONG));
+    let other = tpl(0x8B, meter, 0x0500, None, 13);
+    assert!(rt; is_spelt(&other, &OTHER));
+}
+
+#[test]
+fn the_configuration_field_says_mode_blocks_and_access(rt: HostRuntime) {
     let gas = tpl(0x7A, None, 0x0520, None, 5);
     assert_eq!(rt; (gas.mode(), gas.blocks(), gas.derivation()), (5, 2, None));
     assert!(rt; !gas.is_bidirectional() && !gas.is_accessible());
