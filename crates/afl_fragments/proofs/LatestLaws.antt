@@ -25,21 +25,21 @@ find_latest f (h ∷ hs) = find_latest_cond f h hs (is_fid f h) refl (find_lates
 -- ---- what is found is the latest
 
 -- the latest, where n ticks came after all that was told
-record WasLast (n fid : ℕ) (told : List Told) (part : Fragment) : Type 0 where
-  later : List Told
-  earlier : List Told
-  heard : told ≡ later ++ Piece part ∷ earlier
-  number : part.afl.fid ≡ fid
-  counted : fid ≤ 16
-  latest : list_any (is_piece_of fid) later ≡ false
-  uncleared : list_any is_clear later ≡ false
-  ticks : count_by is_tick later + n ≤ 1
+pub record WasLast (n fid : ℕ) (told : List Told) (part : Fragment) : Type 0 where
+  pub later : List Told
+  pub earlier : List Told
+  pub heard : told ≡ later ++ Piece part ∷ earlier
+  pub number : part.afl.fid ≡ fid
+  pub counted : fid ≤ 16
+  pub latest : list_any (is_piece_of fid) later ≡ false
+  pub uncleared : list_any is_clear later ≡ false
+  pub ticks : count_by is_tick later + n ≤ 1
 
-abbrev found_part : ℕ → ℕ → List Told → Option Fragment
+abbrev pub found_part : ℕ → ℕ → List Told → Option Fragment
 found_part n f told = option_map (λ h. h.part) (find (is_fid f) (since n told))
 
 -- what is found after one more fragment
-abbrev found_with : Bool → Bool → ℕ → ℕ → Fragment → List Told → Option Fragment
+abbrev pub found_with : Bool → Bool → ℕ → ℕ → Fragment → List Told → Option Fragment
 found_with counted same n f p told =
     option_map (λ (h : HeldPart). h.part) (cond counted (cond same (Some (record { ticks = n; part = p })) (find (is_fid f) (since n told))) (find (is_fid f) (since n told)))
 
@@ -47,10 +47,10 @@ found_piece_cond : (b : Bool) (n f : ℕ) (p : Fragment) (told : List Told) → 
 found_piece_cond true n f p told = refl
 found_piece_cond false n f p told = refl
 
-found_piece : (n f : ℕ) (p : Fragment) (told : List Told) → found_part n f (Piece p ∷ told) ≡ found_with (is_counted p) (p.afl.fid == f) n f p told
+pub found_piece : (n f : ℕ) (p : Fragment) (told : List Told) → found_part n f (Piece p ∷ told) ≡ found_with (is_counted p) (p.afl.fid == f) n f p told
 found_piece n f p told = found_piece_cond (is_counted p) n f p told
 
-after_piece : (n f : ℕ) (p part : Fragment) (told : List Told) → (p.afl.fid == f) ≡ false → WasLast n f told part → WasLast n f (Piece p ∷ told) part
+abbrev pub after_piece : (n f : ℕ) (p part : Fragment) (told : List Told) → (p.afl.fid == f) ≡ false → WasLast n f told part → WasLast n f (Piece p ∷ told) part
 after_piece n f p part told e w = record {
   later = Piece p ∷ w.later;
   earlier = w.earlier;
@@ -62,10 +62,10 @@ after_piece n f p part told e w = record {
   ticks = w.ticks;
 }
 
-one_more : (later : List Told) → count_by is_tick (Tick ∷ later) ≡ 1 + count_by is_tick later
+pub one_more : (later : List Told) → count_by is_tick (Tick ∷ later) ≡ 1 + count_by is_tick later
 one_more later = sum_by-cons (λ t. cond (is_tick t) 1 0) Tick later
 
-after_tick : (f : ℕ) (part : Fragment) (told : List Told) → WasLast 1 f told part → WasLast 0 f (Tick ∷ told) part
+abbrev pub after_tick : (f : ℕ) (part : Fragment) (told : List Told) → WasLast 1 f told part → WasLast 0 f (Tick ∷ told) part
 after_tick f part told w = record {
   later = Tick ∷ w.later;
   earlier = w.earlier;
@@ -77,10 +77,10 @@ after_tick f part told w = record {
   ticks = omega (arith, one_more w.later, w.ticks);
 }
 
-within : (fid f : ℕ) → nat_le fid 16 ≡ true → fid ≡ f → f ≤ 16
+pub within : (fid f : ℕ) → nat_le fid 16 ≡ true → fid ≡ f → f ≤ 16
 within fid f t e = grind (arith, nat_tests)
 
-beyond : (fid f : ℕ) → nat_le fid 16 ≡ false → f ≤ 16 → (fid == f) ≡ false
+pub beyond : (fid f : ℕ) → nat_le fid 16 ≡ false → f ≤ 16 → (fid == f) ≡ false
 beyond fid f t e = grind (arith, nat_tests)
 
 found_with_last : (counted here : Bool) (n f : ℕ) (p part : Fragment) (told : List Told) → is_counted p ≡ counted → (p.afl.fid == f) ≡ here → n ≤ 1 → (found_part n f told ≡ Some part → WasLast n f told part)
@@ -97,23 +97,27 @@ found_with_last false here n f p part told c e l rest h =
 found_after : (n f : ℕ) (p part : Fragment) (told : List Told) → n ≤ 1 → (found_part n f told ≡ Some part → WasLast n f told part) → found_part n f (Piece p ∷ told) ≡ Some part → WasLast n f (Piece p ∷ told) part
 found_after n f p part told l rest h = found_with_last (is_counted p) (p.afl.fid == f) n f p part told refl refl l rest (sym (found_piece n f p told) ∙ h)
 
-found_one : (f : ℕ) (told : List Told) (part : Fragment) → found_part 1 f told ≡ Some part → WasLast 1 f told part
+pub found_one : (f : ℕ) (told : List Told) (part : Fragment) → found_part 1 f told ≡ Some part → WasLast 1 f told part
 found_one f [] part h = cc
 found_one f (Piece p ∷ told) part h = found_after 1 f p part told (omega arith) (found_one f told part) h
 found_one f (Tick ∷ told) part h = cc
 found_one f (Clear ∷ told) part h = cc
 
-found_none : (f : ℕ) (told : List Told) (part : Fragment) → found_part 0 f told ≡ Some part → WasLast 0 f told part
+pub found_none : (f : ℕ) (told : List Told) (part : Fragment) → found_part 0 f told ≡ Some part → WasLast 0 f told part
 found_none f [] part h = cc
 found_none f (Piece p ∷ told) part h = found_after 0 f p part told (omega arith) (found_none f told part) h
 found_none f (Tick ∷ told) part h = after_tick f part told (found_one f told part h)
 found_none f (Clear ∷ told) part h = cc
 
+-- where no tick came after all that was told, it is the latest
+abbrev pub is_latest : (f : ℕ) (told : List Told) (part : Fragment) → WasLast 0 f told part → IsLatest f told part
+is_latest f told part w =
+    record { later = w.later; earlier = w.earlier; heard = w.heard; number = w.number; counted = w.counted; latest = w.latest; uncleared = w.uncleared; ticks = omega (arith, w.ticks) }
+
 pub held_was_last : (told : List Told) (f : ℕ) (part : Fragment) → option_map (λ h. h.part) (piece_at f (held told)) ≡ Some part → IsLatest f told part
 unfolding held
 held_was_last told f part h =
-    let w = found_none f told part (ap (option_map (λ h. h.part)) (sym (find_latest f (since 0 told))) ∙ h) in
-    record { later = w.later; earlier = w.earlier; heard = w.heard; number = w.number; counted = w.counted; latest = w.latest; uncleared = w.uncleared; ticks = omega (arith, w.ticks) }
+    is_latest f told part (found_none f told part (ap (option_map (λ h. h.part)) (sym (find_latest f (since 0 told))) ∙ h))
 
 -- ---- the latest is found
 
@@ -121,7 +125,7 @@ or_false_left : (x y : Bool) → (x || y) ≡ false → x ≡ false
 or_false_left true y h = cc
 or_false_left false y h = refl
 
-or_false_right : (x y : Bool) → (x || y) ≡ false → y ≡ false
+pub or_false_right : (x y : Bool) → (x || y) ≡ false → y ≡ false
 or_false_right true y h = absurd cc
 or_false_right false y h = h
 
@@ -153,8 +157,11 @@ last_none f (Piece p ∷ later) earlier part e m l u t =
 last_none f (Tick ∷ later) earlier part e m l u t = last_one f later earlier part e m l u (omega (arith, one_more later, t))
 last_none f (Clear ∷ later) earlier part e m l u t = absurd cc
 
+pub latest_found : (told : List Told) (f : ℕ) (part : Fragment) → IsLatest f told part → found_part 0 f told ≡ Some part
+latest_found told f part w =
+    ap (found_part 0 f) w.heard ∙ last_none f w.later w.earlier part w.number w.counted w.latest w.uncleared w.ticks
+
 pub last_is_held : (told : List Told) (f : ℕ) (part : Fragment) → IsLatest f told part → option_map (λ h. h.part) (piece_at f (held told)) ≡ Some part
 unfolding held
 last_is_held told f part w =
-    ap (option_map (λ h. h.part)) (find_latest f (since 0 told)) ∙ ap (found_part 0 f) w.heard
-    ∙ last_none f w.later w.earlier part w.number w.counted w.latest w.uncleared w.ticks
+    ap (option_map (λ h. h.part)) (find_latest f (since 0 told)) ∙ latest_found told f part w

@@ -1,3 +1,4 @@
+pub mod EndLaws
 pub mod FrontLaws
 pub mod Holding
 pub mod LatestLaws

@@ -2,14 +2,20 @@
 ghost use Rattle.std.specs.Prelude.{◌≡◌, ◌↔◌, ℕ, List, Some, option_map};
 ghost use Rattle.afl_fragments.specs.Fragment.{Fragment};
 ghost use Rattle.afl_fragments.specs.declared.places.HeldPart.{HeldPart};
-ghost use Rattle.afl_fragments.specs.Held.{Told, held, piece_at, Message, assembled};
-ghost use Rattle.afl_fragments.specs.Laws.{IsLatest, IsMessage};
+ghost use Rattle.afl_fragments.specs.Held.{Told, held, piece_at, last_end, Message, assembled};
+ghost use Rattle.afl_fragments.specs.Laws.{IsLatest, IsLastEnd, IsMessage};
 
 /// A fragment is held exactly where it is the latest that was heard with its number, no message that fragments made was
 /// stored after it, and at most one tick came after it.
 pub fn held_is_latest()
     ensures { (told : List Told) (fid : ℕ) (part : Fragment)
         → (option_map (λ h. h.part) (piece_at fid (held told)) ≡ Some part) ↔ IsLatest fid told part }
+{}
+
+/// The end with which a message ends is the one heard last: an end that is held, and no end that came after it is held.
+pub fn end_is_the_last_heard()
+    ensures { (told : List Told) (part : Fragment)
+        → (option_map (λ h. h.part) (last_end (held told)) ≡ Some part) ↔ IsLastEnd told part }
 {}
 
 /// A message is made exactly where an end is held and, for the end that was heard last, all fragments with smaller numbers,

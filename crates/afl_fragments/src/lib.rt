@@ -6,7 +6,7 @@ mod part;
 mod parts;
 mod places;
 
-pub use laws::{held_is_latest, message_is_joined};
+pub use laws::{end_is_the_last_heard, held_is_latest, message_is_joined};
 pub use part::{PART_MAX, Part};
 pub use parts::{Held, Parts};
 pub use places::PARTS_MAX;
