@@ -109,9 +109,8 @@ fn serve(
             let room = Vec::with_capacity(alloc, room_needed(parts, telegram, &layers))?;
             let heard = hear(opening, last, parts, telegram, layers, message);
             let response = has_response_control(telegram.control());
-            let commission = opening.commission();
             Ok(Served {
-                outcome: commands.hear(own, commission, &heard.verdict, heard.access, response),
+                outcome: commands.hear(own, opening.commission(), &heard, response),
                 opened: heard.verdict.unwrap_or(None),
                 room,
             })
@@ -284,13 +283,8 @@ impl SlotBook {
             message,
         )?;
         self.last = counted(self.last, &served.outcome);
-        note(
-            &mut self.readings,
-            served.room,
-            &event,
-            served.opened,
-            message,
-        );
+        let room = served.room;
+        note(&mut self.readings, room, &event, served.opened, message);
         self.entries.push_reserved(Entry {
             source,
             line,

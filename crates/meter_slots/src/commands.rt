@@ -5,11 +5,10 @@ ghost use Rattle.access_window.specs.Orders.{IsOldestAfterTry};
 ghost use Rattle.meter_slots.specs.Journal.{downlink_with};
 
 use crate::entry::Outcome;
-use crate::hearing::Verdict;
+use crate::hearing::Heard;
 use access_window::Window;
 use command_queue::{Queue, QueueFault};
 use downlink_maker::{Downlink, make_downlink};
-use ell_layer::Access;
 use message_check::Reason;
 use meter_address::{Address, Commission, Payload};
 use std::marker::Model;
@@ -124,21 +123,20 @@ impl Commands {
         &mut self,
         own: Address,
         commission: &Commission,
-        verdict: &Verdict,
-        access: Access,
+        judged: &Heard,
         response: bool,
     ) -> Outcome
-        ensures outcome { (bytes : List ℕ) → result ≡ heard own commission.now self.old access response (verdict_as bytes verdict.now) }
-        ensures after { self.new ≡ orders_heard self.old access response result }
-        ensures settled { (bytes : List ℕ) → settled result ≡ settled_by (verdict_as bytes verdict.now) }
+        ensures outcome { (bytes : List ℕ) → result ≡ heard own commission.now self.old judged.now.access response (verdict_as bytes judged.now.verdict) }
+        ensures after { self.new ≡ orders_heard self.old judged.now.access response result }
+        ensures settled { (bytes : List ℕ) → settled result ≡ settled_by (verdict_as bytes judged.now.verdict) }
     {
-        match verdict {
+        match &judged.verdict {
             Err(reason) => Outcome::Refused(*reason),
             Ok(None) => Outcome::PartKept,
             Ok(Some(opened)) => {
                 let moved = self
                     .window
-                    .uplink(&mut self.queue, access, response, &mut self.down);
+                    .uplink(&mut self.queue, judged.access, response, &mut self.down);
                 Outcome::Stored {
                     counter: opened.counter,
                     confirmed: moved.confirmed,
