@@ -7,8 +7,6 @@ use Rattle.hex.specs.Hex.{decode_of}
 use Rattle.plain_text.specs.Numbers.{number_of}
 use Rattle.plain_text.specs.Parts.{fields_of}
 use Rattle.meter_address.specs.Address.{address_of}
-use Rattle.meter_address.specs.declared.payload.TheConstants.{PAYLOAD_MAX}
-use Rattle.line_reader.specs.declared.grammar.TheConstants.{LINE_MAX}
 use Rattle.line_reader.specs.declared.line.Line.{Line}
 use Rattle.line_reader.specs.declared.line.Line.TheVariants.{Frame, Tick, Put, Cancel}
 use Rattle.line_reader.specs.declared.line.LineFormat.{LineFormat}
@@ -41,7 +39,7 @@ tick_line fields = Err bads.Fields
 
 -- a payload has 1 to 94 bytes
 abbrev pub payload_of : List ℕ → Result (List ℕ) BadLine
-payload_of bytes = if nat_le 1 (length bytes) && nat_le (length bytes) PAYLOAD_MAX then Ok bytes else Err (bads.Payload (length bytes))
+payload_of bytes = if nat_le 1 (length bytes) && nat_le (length bytes) 94 then Ok bytes else Err (bads.Payload (length bytes))
 
 -- a command for a meter
 unfoldable pub put_line : List (List ℕ) → Result Line BadLine
@@ -76,8 +74,8 @@ by_word (word ∷ fields) =
 
 -- what a line says, or its first fault
 unfoldable pub line_of : List ℕ → Result Line BadLine
-line_of text = if nat_lt LINE_MAX (length text) then Err bads.TooLong else by_word (fields_of text)
+line_of text = if nat_lt 1024 (length text) then Err bads.TooLong else by_word (fields_of text)
 
 -- no field is longer than a line
 abbrev pub IsLineText : List ℕ → Type 0
-IsLineText text = length text ≤ LINE_MAX
+IsLineText text = length text ≤ 1024
