@@ -255,4 +255,4 @@ stranger_own bs s place d given l a =
 
 -- some slot, where a read of a list asks for a default
 abbrev pub any_book : Book
-any_book = record { own = record { 0 = 0 }; commission = record { address = record { 0 = 0 }; mode = Seven; key = []; last = None; down = 0; ids = 0 }; journal = [] }
+any_book = record { own = record { 0 = 0 }; commission = record { address = record { 0 = 0 }; mode = Seven; key = []; other = None; last = None; down = 0; ids = 0 }; journal = [] }
