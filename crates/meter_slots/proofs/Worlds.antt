@@ -257,7 +257,7 @@ stranger_own bs s place d given l a =
 
 -- some slot, where a read of a list asks for a default
 abbrev pub some_slot : SlotView
-some_slot = record { own = record { 0 = 0 }; commission = record { address = record { 0 = 0 }; mode = Seven; key = []; last = None; down = 0; ids = 0 }; journal = [] }
+some_slot = record { own = record { 0 = 0 }; commission = record { address = record { 0 = 0 }; mode = Seven; key = []; other = None; last = None; down = 0; ids = 0 }; journal = [] }
 
 -- ---- every slot is legal
 

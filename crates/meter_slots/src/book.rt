@@ -216,6 +216,7 @@ impl SlotBook {
             address: opening.address,
             mode: opening.mode,
             key: opening.key,
+            other: opening.other,
             last: self.last,
             down: self.commands.down(),
             ids: self.commands.queue().ids(),
