@@ -45,6 +45,7 @@ fn downlinks_are_as_others_made_them(rt: HostRuntime) -> Result<(), Fail> {
             address: Address(meter),
             mode: Mode::Seven,
             key: <[u8; 16] as FromHex>::from_hex(key)?,
+            other: None,
             last: None,
             down: 0,
             ids: 0,

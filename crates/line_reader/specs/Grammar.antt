@@ -7,8 +7,9 @@ use Rattle.hex.specs.Hex.{decode_of}
 use Rattle.plain_text.specs.Numbers.{number_of}
 use Rattle.plain_text.specs.Parts.{fields_of}
 use Rattle.meter_address.specs.Address.{address_of}
+use Rattle.meter_address.specs.Commission.{key_of}
 use Rattle.line_reader.specs.declared.line.Line.{Line}
-use Rattle.line_reader.specs.declared.line.Line.TheVariants.{Frame, Tick, Put, Cancel}
+use Rattle.line_reader.specs.declared.line.Line.TheVariants.{Frame, Tick, Put, Cancel, Key}
 use Rattle.line_reader.specs.declared.line.LineFormat.{LineFormat}
 use Rattle.line_reader.specs.declared.line.LineFormat.TheVariants as formats
 use Rattle.line_reader.specs.declared.line.BadLine.{BadLine}
@@ -58,10 +59,18 @@ cancel_line (text ∷ number ∷ []) = do
   Ok (Cancel address id)
 cancel_line fields = Err bads.Fields
 
+-- a second key for a meter
+unfoldable pub key_line : List (List ℕ) → Result Line BadLine
+key_line (text ∷ digits ∷ []) = do
+  address ← ok_or (address_of text) bads.Address
+  key ← ok_or (key_of digits) bads.Key
+  Ok (Key address key)
+key_line fields = Err bads.Fields
+
 abbrev pub is_word : List ℕ → List ℕ → Bool
 is_word text word = pointwise nat_eq text word
 
--- the first field is one of five words
+-- the first field is one of six words
 unfoldable pub by_word : List (List ℕ) → Result Line BadLine
 by_word [] = Err bads.Word
 by_word (word ∷ fields) =
@@ -70,6 +79,7 @@ by_word (word ∷ fields) =
     else if is_word word (codes "T") then tick_line fields
     else if is_word word (codes "Q") then put_line fields
     else if is_word word (codes "X") then cancel_line fields
+    else if is_word word (codes "K") then key_line fields
     else Err bads.Word
 
 -- what a line says, or its first fault

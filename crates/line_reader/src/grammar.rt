@@ -1,11 +1,11 @@
 //! The grammar of a line.
 ghost use Rattle.std.specs.Prelude.{◌≡◌, ◌≤◌, length};
 ghost use Rattle.std.specs.List.{AllByRecursion};
-ghost use Rattle.line_reader.specs.Grammar.{IsLineText, frame_line, tick_line, put_line, payload_of, cancel_line, by_word, line_of};
+ghost use Rattle.line_reader.specs.Grammar.{IsLineText, frame_line, tick_line, put_line, payload_of, cancel_line, key_line, by_word, line_of};
 
 use crate::frame::FrameBytes;
 use crate::line::{BadLine, Line, LineFormat};
-use meter_address::{Address, Payload};
+use meter_address::{Address, Payload, read_key};
 use plain_text::{Fields, read_number};
 
 /// The most bytes of a line, without its end.
@@ -76,6 +76,20 @@ fn read_cancel_line(mut fields: Fields<'_>) -> Result<Line, BadLine>
     }
 }
 
+#[tactic(auto, unfolding(crate::specs::Grammar::key_line))]
+fn read_key_line(mut fields: Fields<'_>) -> Result<Line, BadLine>
+    ensures { result ≡ key_line fields.entry }
+{
+    let (Some(text), Some(digits), None) = (fields.next(), fields.next(), fields.next()) else {
+        return Err(BadLine::Fields);
+    };
+    let Ok(address) = Address::read_text(text) else {
+        return Err(BadLine::Address);
+    };
+    let key = read_key(digits).ok_or(BadLine::Key)?;
+    Ok(Line::Key(address, key))
+}
+
 #[tactic(auto, unfolding(crate::specs::Grammar::by_word))]
 fn read_by_word(mut fields: Fields<'_>) -> Result<Line, BadLine>
     requires { AllByRecursion IsLineText fields }
@@ -90,6 +104,7 @@ fn read_by_word(mut fields: Fields<'_>) -> Result<Line, BadLine>
         b"T" => read_tick_line(fields),
         b"Q" => read_put_line(fields),
         b"X" => read_cancel_line(fields),
+        b"K" => read_key_line(fields),
         _ => Err(BadLine::Word),
     }
 }

@@ -29,6 +29,8 @@ pub enum Line {
     Put(Address, Payload),
     /// A meter's command, by its id, to be cancelled.
     Cancel(Address, u32),
+    /// A second key for a meter.
+    Key(Address, [u8; 16]),
 }
 
 /// Why a line says nothing: the first of these that applies.
@@ -36,7 +38,7 @@ pub enum Line {
 pub enum BadLine {
     /// It has more than 1,024 bytes.
     TooLong,
-    /// Its first field is none of the five words.
+    /// Its first field is none of the six words.
     Word,
     /// It has another number of fields than its word asks for.
     Fields,
@@ -48,4 +50,6 @@ pub enum BadLine {
     Hex,
     /// The command's payload has this many bytes, which isn't 1 to 94.
     Payload(usize),
+    /// The key isn't 32 hexadecimal digits.
+    Key,
 }

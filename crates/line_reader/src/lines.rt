@@ -14,7 +14,7 @@ use outer_io::Source;
 use std::marker::Model;
 
 /// The most lines of a source.
-pub const LINES_MAX: u32 = 65_536;
+pub const LINES_MAX: u32 = 131_072;
 
 /// The most bytes of a source.
 pub const BYTES_MAX: usize = 67_108_864;
@@ -122,7 +122,7 @@ impl<S: Source> Lines<S> {
         // A line or a bad line is the next of the source's lines, and says what is answered.
         ensures lines { IsTrue S.tells → Gives result (given S.taken self.old) (given S.taken self.new) }
         ensures number { self.new.line ≡ self.old.line + (if gives_line result then 1 else 0) }
-        ensures few { self.new.line ≤ LINES_MAX }
+        ensures few { self.new.line ≤ 131072 }
         ensures done { self.new.done ≡ not (gives_line result) }
 
         // How the source cuts its bytes into pieces makes no difference.
@@ -191,7 +191,7 @@ impl<S: Source> Lines<S> {
     /// The number of the last line given, 0 before the first.
     pub fn line(&self) -> u32
         ensures number { result ≡ self.now.line }
-        ensures few { self.now.line ≤ LINES_MAX }
+        ensures few { self.now.line ≤ 131072 }
     {
         self.line
     }

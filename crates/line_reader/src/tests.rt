@@ -64,6 +64,7 @@ fn letter(said: &Result<Line, BadLine>) -> char {
         Ok(Line::Tick(_)) => 'T',
         Ok(Line::Put(..)) => 'Q',
         Ok(Line::Cancel(..)) => 'X',
+        Ok(Line::Key(..)) => 'K',
         Err(BadLine::TooLong) => 'l',
         Err(BadLine::Word) => 'w',
         Err(BadLine::Fields) => 'f',
@@ -71,6 +72,7 @@ fn letter(said: &Result<Line, BadLine>) -> char {
         Err(BadLine::Address) => 'a',
         Err(BadLine::Hex) => 'h',
         Err(BadLine::Payload(_)) => 'p',
+        Err(BadLine::Key) => 'k',
     }
 }
 
@@ -94,12 +96,13 @@ fn answers<S: Source>(alloc: Global, lines: &mut Lines<S>) -> Result<String, All
 
 #[test]
 fn a_line_says_what_the_grammar_says_or_its_first_fault(rt: HostRuntime) {
-    let cases: [(&[u8], char); 24] = [
+    let cases: [(&[u8], char); 30] = [
         (b"A 1 ", 'A'),
         (b"B 18446744073709551615 fF00", 'B'),
         (b"T 9315010203040107", 'T'),
         (b"Q 9315010203040107 00", 'Q'),
         (b"X 9315010203040107 4294967295", 'X'),
+        (b"K 9315010203040107 F0f1f2f3f4f5f6f7f8f9fafbfcfdfeff", 'K'),
         (b"", 'w'),
         (b" A 1 00", 'w'),
         (b"a 1 00", 'w'),
@@ -119,6 +122,11 @@ fn a_line_says_what_the_grammar_says_or_its_first_fault(rt: HostRuntime) {
         (b"A 1 000", 'h'),
         (b"Q 9315010203040107 0g", 'h'),
         (b"Q 9315010203040107 ", 'p'),
+        (b"K 9315010203040107", 'f'),
+        (b"K 931501020304010 f", 'a'),
+        (b"K 9315010203040107 f0f1f2f3f4f5f6f7f8f9fafbfcfdfef", 'k'),
+        (b"K 9315010203040107 f0f1f2f3f4f5f6f7f8f9fafbfcfdfeff00", 'k'),
+        (b"K 9315010203040107 g0f1f2f3f4f5f6f7f8f9fafbfcfdfeff", 'k'),
     ];
     for (text, want) in cases {
         assert_eq!(rt; letter(&read_line(text)), want, "in {text:?}");
@@ -170,9 +178,9 @@ fn a_line_of_1024_bytes_is_not_too_long(rt: HostRuntime) -> Result<(), Fail> {
 #[test]
 fn a_byte_behind_a_limit_is_a_cut(rt: HostRuntime) -> Result<(), Fail> {
     let cases: [(u8, usize, &[u8], u32, u8); 8] = [
-        (b'\n', 65_536, b"", 65_536, b'.'),
-        (b'\n', 65_535, b"x", 65_536, b'.'),
-        (b'\n', 65_536, b"x", 65_536, b'!'),
+        (b'\n', 131_072, b"", 131_072, b'.'),
+        (b'\n', 131_071, b"x", 131_072, b'.'),
+        (b'\n', 131_072, b"x", 131_072, b'!'),
         (b'0', 67_108_864, b"", 1, b'.'),
         (b'0', 67_108_864, b"\n", 0, b'!'),
         (b'0', 67_108_863, b"\n", 1, b'.'),

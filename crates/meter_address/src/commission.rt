@@ -1,8 +1,9 @@
 //! What is commissioned of a meter.
 ghost use Rattle.std.specs.Prelude.{◌≡◌};
-ghost use Rattle.meter_address.specs.Commission.{most_last};
+ghost use Rattle.meter_address.specs.Commission.{key_of, most_last};
 
 use crate::address::Address;
+use std::fmt;
 use std::marker::Model;
 
 /// The security mode of a meter's messages (OMS Volume 2).
@@ -26,15 +27,29 @@ impl Mode {
     }
 }
 
-/// What is known of a meter when it is commissioned, or when it is written to the next roster.
-#[derive(Clone, Copy, Debug, PartialEq, Eq)]
+/// The key of a text: 32 hexadecimal digits of either case.
+pub fn read_key(text: &[u8]) -> Option<[u8; 16]>
+    ensures { result ≡ key_of text.now }
+{
+    let mut key = [0; 16];
+    match hex::decode_to_slice(text, &mut key) {
+        Ok(()) => Some(key),
+        Err(_) => None,
+    }
+}
+
+/// What is known of a meter when it is commissioned, or when it is written to the next roster. Its keys are never printed:
+/// `Debug` leaves them out.
+#[derive(Clone, Copy, PartialEq, Eq)]
 pub struct Commission {
     /// The meter.
     pub address: Address,
     /// How its messages are secured.
     pub mode: Mode,
-    /// Its key.
+    /// Its key: in mode 7 the first one.
     pub key: [u8; 16],
+    /// Its second key, where it has one. In mode 5 there is none.
+    pub other: Option<[u8; 16]>,
     /// The last stored counter in mode 7, the last stored access number in mode 5.
     pub last: Option<u32>,
     /// The last counter of a downlink.
@@ -44,15 +59,28 @@ pub struct Commission {
 }
 
 impl Model for Commission {
-    ghost use Rattle.std.specs.Prelude.{◌≤◌};
-    ghost use Rattle.std.specs.Option.{ForSome};
-    ghost use Rattle.meter_address.specs.Commission.{Commissioned, most_last};
+    ghost use Rattle.meter_address.specs.Commission.{Commissioned, FitsMode};
 
     ghost Value = { Commissioned };
 
-    ghost view = { λ c. record { address = c.address; mode = c.mode; key = c.key; last = c.last; down = c.down; ids = c.ids } };
+    ghost view = { λ c. record {
+        address = c.address; mode = c.mode; key = c.key; other = c.other; last = c.last; down = c.down; ids = c.ids } };
 
-    ghost invariant = { λ c. ForSome c.last (λ n. n ≤ most_last c.mode) };
+    ghost invariant = { λ c. FitsMode c.mode c.other c.last };
 
-    ghost inverse = { λ v. record { address = v.address; mode = v.mode; key = v.key; last = v.last; down = v.down; ids = v.ids } };
+    ghost inverse = { λ v. record {
+        address = v.address; mode = v.mode; key = v.key; other = v.other; last = v.last; down = v.down; ids = v.ids } };
+}
+
+// By hand, for a key is no text of a log.
+impl fmt::Debug for Commission {
+    fn fmt<W: fmt::Write>(&self, f: &mut fmt::Formatter<W>) -> fmt::Result {
+        f.debug_struct("Commission")
+            .field("address", &self.address)
+            .field("mode", &self.mode)
+            .field("last", &self.last)
+            .field("down", &self.down)
+            .field("ids", &self.ids)
+            .finish_non_exhaustive()
+    }
 }

@@ -7,7 +7,7 @@ mod laws;
 mod payload;
 
 pub use address::{Address, AddressFault};
-pub use commission::{Commission, Mode};
+pub use commission::{Commission, Mode, read_key};
 pub use laws::text_and_address_agree;
 pub use payload::{PAYLOAD_MAX, Payload};
 

@@ -69,3 +69,38 @@ fn the_last_counter_has_one_byte_in_mode_5_and_four_in_mode_7(rt: HostRuntime) {
     assert_eq!(rt; Mode::Five.most_last(), 255);
     assert_eq!(rt; Mode::Seven.most_last(), 4_294_967_295);
 }
+
+#[test]
+fn a_key_has_32_digits(rt: HostRuntime) {
+    let cases: [(&[u8], Option<[u8; 16]>); 4] = [
+        (
+            b"0102030405060708090A0b0c0d0e0f11",
+            Some([1, 2, 3, 4, 5, 6, 7, 8, 9, 10, 11, 12, 13, 14, 15, 17]),
+        ),
+        (b"0102030405060708090a0b0c0d0e0f1", None),
+        (b"0102030405060708090a0b0c0d0e0f110", None),
+        (b"0102030405060708090a0b0c0d0e0f1g", None),
+    ];
+    for (text, key) in cases {
+        assert_eq!(rt; read_key(text), key);
+    }
+}
+
+#[test]
+fn a_commission_prints_no_key(rt: HostRuntime) -> Result<(), Fail> {
+    let commission = Commission {
+        address: Address(0x9315_0203_0104_0107),
+        mode: Mode::Seven,
+        key: [0xb7; 16],
+        other: Some([0xd9; 16]),
+        last: Some(1_000),
+        down: 2,
+        ids: 3,
+    };
+    let text = format!(in rt.alloc(); "{commission:?} {commission:#?}")?;
+    for key in ["183", "217", "b7", "d9", "B7", "D9"] {
+        assert!(rt; !text.contains(key), "{text}");
+    }
+    assert!(rt; text.contains("last: Some(1000)"), "{text}");
+    Ok(())
+}

@@ -59,6 +59,7 @@ fn commission(address: u64, mode: Mode, key: u128) -> Commission
         address: Address(address),
         mode,
         key: key.to_be_bytes(),
+        other: None,
         last: None,
         down: 0,
         ids: 0,

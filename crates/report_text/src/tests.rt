@@ -25,6 +25,7 @@ fn a_session_of_four_receivers_is_reported(rt: HostRuntime) -> Result<(), Fail> 
         address,
         mode: Mode::Seven,
         key: [0; 16],
+        other: None,
         last: Some(9),
         down: 3,
         ids: 0,

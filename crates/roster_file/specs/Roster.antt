@@ -1,18 +1,16 @@
 -- The grammar of the roster, with its first fault.
 use Rattle.std.specs.Prelude.{ℕ, ◌==◌, ◌+◌, ◌-◌, ◌^◌, ◌||◌, not, nat_eq, nat_le, nat_lt, Bool, List, [], ◌∷◌, ◌++◌, length, slice_index, filter, codes, Option, Some, None, option_map, Result, Ok, Err, if◌then◌else◌}
 use Rattle.std.specs.Option.{ok_or}
-use Rattle.std.specs.Result.{result_ok}
 use Rattle.std.specs.List.{enumerate_from, list_any}
 use Rattle.std.specs.Cmp.Lexicographic.{pointwise}
 use Rattle.std.specs.Str.Lines.{lines}
-use Rattle.hex.specs.Hex.{decode_of}
 use Rattle.plain_text.specs.Numbers.{number_of}
 use Rattle.plain_text.specs.Parts.{fields_of}
 use Rattle.meter_address.specs.declared.address.Address.{Address}
 use Rattle.meter_address.specs.declared.commission.Mode.{Mode}
 use Rattle.meter_address.specs.declared.commission.Mode.TheVariants.{Five, Seven}
 use Rattle.meter_address.specs.Address.{address_of}
-use Rattle.meter_address.specs.Commission.{Commissioned, most_last}
+use Rattle.meter_address.specs.Commission.{Commissioned, key_of, most_last}
 use Rattle.roster_file.specs.declared.roster.LineCause.{LineCause}
 use Rattle.roster_file.specs.declared.roster.LineCause.TheVariants as causes
 use Rattle.roster_file.specs.declared.roster.RosterFault.{RosterFault}
@@ -38,10 +36,6 @@ is_text text other = pointwise nat_eq text other
 abbrev pub mode_of : List ℕ → Option Mode
 mode_of text = if is_text text (codes "5") then Some Five else if is_text text (codes "7") then Some Seven else None
 
--- 32 hexadecimal digits of either case
-abbrev pub key_of : List ℕ → Option (List ℕ)
-key_of text = if length text == 32 then result_ok (decode_of text) else None
-
 -- a dash for none, or a number of the mode's range
 abbrev pub last_of : Mode → List ℕ → Option (Option ℕ)
 last_of mode text = if is_text text (codes "-") then Some None else option_map Some (number_of (most_last mode) text)
@@ -60,7 +54,7 @@ meter_of_fields (a ∷ m ∷ k ∷ l ∷ d ∷ i ∷ []) = do
   last ← ok_or (last_of mode l) causes.Last
   down ← ok_or (counter_of d) causes.Down
   ids ← ok_or (counter_of i) causes.Ids
-  Ok (record { address = address; mode = mode; key = key; last = last; down = down; ids = ids })
+  Ok (record { address = address; mode = mode; key = key; other = None; last = last; down = down; ids = ids })
 meter_of_fields fields = Err causes.Fields
 
 abbrev pub meter_of_kind : List (List ℕ) → Result Commissioned LineCause

@@ -2,11 +2,11 @@
 ghost use Rattle.std.specs.Prelude.{◌≡◌, ◌∷◌, [], Err, List, ℕ, ◌≤◌, IfSome, MatchOption};
 ghost use Rattle.std.specs.Option.{ForSome};
 ghost use Rattle.meter_address.specs.Commission.{most_last};
-ghost use Rattle.roster_file.specs.Roster.{mode_of, key_of, last_of, counter_of, meter_of, meter_of_fields, own_of};
+ghost use Rattle.roster_file.specs.Roster.{mode_of, last_of, counter_of, meter_of, meter_of_fields, own_of};
 ghost use Rattle.roster_file.specs.declared.roster.LineCause.TheVariants as causes;
 
 use crate::roster::LineCause;
-use meter_address::{Address, Commission, Mode};
+use meter_address::{Address, Commission, Mode, read_key};
 use plain_text::{Fields, read_number};
 
 fn read_mode(text: &[u8]) -> Option<Mode>
@@ -16,16 +16,6 @@ fn read_mode(text: &[u8]) -> Option<Mode>
         b"5" => Some(Mode::Five),
         b"7" => Some(Mode::Seven),
         _ => None,
-    }
-}
-
-fn read_key(text: &[u8]) -> Option<[u8; 16]>
-    ensures { result ≡ key_of text.now }
-{
-    let mut key = [0; 16];
-    match hex::decode_to_slice(text, &mut key) {
-        Ok(()) => Some(key),
-        Err(_) => None,
     }
 }
 
@@ -105,6 +95,7 @@ fn read_meter_fields(fields: &MeterFields<'_>) -> Result<Commission, LineCause>
         address,
         mode,
         key,
+        other: None,
         last,
         down,
         ids,
