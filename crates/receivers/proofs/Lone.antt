@@ -10,8 +10,8 @@ use Rattle.meter_slots.specs.declared.entry.Event.{Event}
 use Rattle.meter_slots.specs.declared.step.Landed.{Landed}
 use Rattle.meter_slots.specs.declared.step.Landed.TheVariants.{Slot, Stranger}
 use Rattle.meter_slots.specs.declared.step.Step.{Step}
-use Rattle.meter_slots.specs.Journal.{Book}
-use Rattle.meter_slots.specs.World.{WorldView, after_step, address_of_book, is_own, has_slot, book_after, stepped_book}
+use Rattle.meter_slots.specs.Journal.{SlotView}
+use Rattle.meter_slots.specs.World.{WorldView, after_step, address_of_slot, is_own, has_slot, slot_after, stepped_slot}
 use Rattle.receivers.specs.declared.class.Class.{Class}
 use Rattle.receivers.specs.declared.class.Class.TheVariants as classes
 use Rattle.receivers.specs.declared.told.Told.{Told}
@@ -44,11 +44,11 @@ after_more : (world : WorldView) (xs ys : List Step) → after_steps world (xs +
 after_more world [] ys = refl
 after_more world (x ∷ xs) ys = after_more (after_step world x) xs ys
 
-addresses_step : (s : Step) (slots : List Book) → map address_of_book (map (book_after s) slots) ≡ map address_of_book slots
+addresses_step : (s : Step) (slots : List SlotView) → map address_of_slot (map (slot_after s) slots) ≡ map address_of_slot slots
 addresses_step s [] = refl
 addresses_step s (b ∷ slots) = (λ i. at (is_own s b) i ∷ addresses_step s slots i)
   where
-    at : (t : Bool) → address_of_book (cond t (stepped_book s b) b) ≡ address_of_book b
+    at : (t : Bool) → address_of_slot (cond t (stepped_slot s b) b) ≡ address_of_slot b
     at true = refl
     at false = refl
 
@@ -74,7 +74,7 @@ class_any p xs = by_test (nat_lt (position_or_len p xs) (length xs)) (position_o
     by_test true j = refl
     by_test false j = refl
 
-any_map : (n : ℕ) (slots : List Book) → list_any (λ (a : Address). a.0 == n) (map address_of_book slots) ≡ list_any (λ (b : Book). b.commission.address.0 == n) slots
+any_map : (n : ℕ) (slots : List SlotView) → list_any (λ (a : Address). a.0 == n) (map address_of_slot slots) ≡ list_any (λ (b : SlotView). b.commission.address.0 == n) slots
 any_map n [] = refl
 any_map n (b ∷ slots) = ap (λ t. (b.commission.address.0 == n) || t) (any_map n slots)
 

@@ -16,7 +16,7 @@ use Rattle.receivers.specs.Classes.{class_by, is_own, is_strange, is_unframed, i
 use Rattle.receivers.specs.Ending.{TellsNext, IsUnsent, IsUnkept, IsEnding}
 use Rattle.receivers.specs.Receiver.{no_counts}
 use Rattle.receivers.specs.Run.{Hearing, lines_taken, lines_of, HasHeard}
-use Rattle.receivers.specs.Shown.{ReadFailed, LosesNothing}
+use Rattle.outer_io.specs.Shown.{ReadFailed, LosesNothing}
 use Rattle.receivers.specs.Told.{told_of}
 
 -- ---- numbers

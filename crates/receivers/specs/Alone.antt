@@ -3,7 +3,7 @@ use Rattle.std.specs.Prelude.{ℕ, ◌≡◌, List, [], ◌∷◌, map, Option, 
 use Rattle.std.specs.List.{filter_map, enumerate_from}
 use Rattle.meter_address.specs.declared.address.Address.{Address}
 use Rattle.meter_slots.specs.declared.step.Step.{Step}
-use Rattle.meter_slots.specs.World.{WorldView, after_step, address_of_book}
+use Rattle.meter_slots.specs.World.{WorldView, after_step, address_of_slot}
 use Rattle.receivers.specs.declared.class.Class.{Class}
 use Rattle.receivers.specs.declared.told.Told.{Told}
 use Rattle.receivers.specs.declared.told.Told.TheVariants as told
@@ -32,7 +32,7 @@ after_steps world (s ∷ steps) = after_steps (after_step world s) steps
 
 -- the addresses of a world's meters
 abbrev pub addresses_in : WorldView → List Address
-addresses_in world = map address_of_book world.slots
+addresses_in world = map address_of_slot world.slots
 
 -- ---- a run
 

@@ -1,5 +1,3 @@
-pub mod Each
-pub mod Shown
 pub mod Told
 pub mod Receiver
 pub mod Classes

@@ -10,7 +10,7 @@ use Rattle.receivers.specs.declared.told.Told.{Told}
 use Rattle.receivers.specs.Told.{told_of}
 use Rattle.receivers.specs.Classes.{counts_of}
 use Rattle.receivers.specs.Ending.{IsEnding}
-use Rattle.receivers.specs.Shown.{Change, SourceShown, source_change, ReadFailed, LosesNothing}
+use Rattle.outer_io.specs.Shown.{Change, SourceShown, source_change, ReadFailed, LosesNothing}
 
 -- what a run shows of its hearing: the source before and now, whether contracts know its bytes, the counts of the lines, and how the run ended
 pub record Hearing : Type 0 where

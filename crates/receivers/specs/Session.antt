@@ -1,13 +1,13 @@
 -- A session of several receivers: what each of them heard, and what the slots and the strangers' lines came to.
 use Rattle.std.specs.Prelude.{ℕ, ◌≡◌, ◌==◌, ◌+◌, Bool, List, [], ◌∷◌, map, filter, if◌then◌else◌, Option, Some, None}
-use Rattle.std.specs.List.{filter_map, enumerate_from, list_any}
-use Rattle.receivers.specs.Each.{EachWith}
+use Rattle.std.specs.List.{filter_map, enumerate_from}
+use Rattle.outer_io.specs.Each.{EachWith}
 use Rattle.meter_address.specs.declared.address.Address.{Address}
 use Rattle.meter_address.specs.Commission.{Commissioned}
 use Rattle.meter_slots.specs.declared.entry.Entry.{Entry}
 use Rattle.meter_slots.specs.declared.entry.Event.{Event}
-use Rattle.meter_slots.specs.Journal.{Book, Legal}
-use Rattle.meter_slots.specs.World.{WorldView}
+use Rattle.meter_slots.specs.Journal.{SlotView, Legal}
+use Rattle.meter_slots.specs.World.{WorldView, is_commissioned}
 use Rattle.stranger_ring.specs.declared.strangers.Heard.{Heard}
 use Rattle.receivers.specs.declared.told.Told.{Told}
 use Rattle.receivers.specs.declared.told.Told.TheVariants as told
@@ -33,12 +33,9 @@ event_at a line told.Bad = None
 abbrev pub lines_for : Address → List Told → List (ℕ × Event)
 lines_for a heard = filter_map (λ l. event_at a l.0 l.1) (enumerate_from 1 heard)
 
-abbrev pub is_meter : List Commissioned → Address → Bool
-is_meter commissions address = list_any (λ c. c.address.0 == address.0) commissions
-
 -- a stranger's line: its number, and the address
 abbrev pub stranger_at : List Commissioned → ℕ → Told → Option (ℕ × Address)
-stranger_at commissions line (told.Event address event) = if is_meter commissions address then None else Some (line, address)
+stranger_at commissions line (told.Event address event) = if is_commissioned commissions address then None else Some (line, address)
 stranger_at commissions line told.Unframed = None
 stranger_at commissions line told.Bad = None
 
@@ -64,7 +61,7 @@ notes_by w heard = map (λ h. (h.line, h.address)) (filter (λ h. h.source == w)
 
 -- A meter's slot after a session: it has the meter's commission, each answer in its journal is the one that the slot's own lines before it give, and of each
 -- receiver the journal has just the meter's own lines, each once and in that receiver's order.
-pub record IsMetersSlot (own : Address) (all : List (List Told)) (c : Commissioned) (slot : Book) : Type 0 where
+pub record IsMetersSlot (own : Address) (all : List (List Told)) (c : Commissioned) (slot : SlotView) : Type 0 where
   pub own_is : slot.own ≡ own
   pub commission_is : slot.commission ≡ c
   pub legal : Legal c own slot.journal

@@ -3,6 +3,7 @@
 
 mod alone;
 mod class;
+pub mod laws;
 mod receiver;
 mod telling;
 mod told;
