@@ -110,7 +110,7 @@ impl Totals {
     ghost use Rattle.meter_usage.specs.Usage.{usage};
     ghost use Rattle.meter_usage.specs.Sums.{total, total_at, as_pair, keys_in};
     ghost use Rattle.meter_usage.specs.Table.{rows_at};
-    ghost use Rattle.meter_usage.specs.Edits.{Edit, addition, replacement, removal, rows_after, StandsFor};
+    ghost use Rattle.meter_usage.specs.Edits.{Edit, addition, replacement, removal, fault_of, rows_after, StandsFor};
 
     /// No meter has a row.
     pub fn new(alloc: Global) -> Totals
@@ -140,9 +140,9 @@ impl Totals {
             → StandsFor (edits ++ addition address payload.now ∷ []) self.new) }
         ensures err { OnErr result (self.new ≡ self.old) }
         ensures refused { (edits : List Edit) (fault : TotalsFault) → StandsFor edits self.old
-            → add_fault address (rows_after edits) ≡ Some fault → result ≡ Err fault }
+            → fault_of (rows_after edits) (addition address payload.now) ≡ Some fault → result ≡ Err fault }
         ensures only { (edits : List Edit) → StandsFor edits self.old
-            → IfErr result (λ fault. (fault ≡ TotalsFault.Memory) ⊎ (add_fault address (rows_after edits) ≡ Some fault)) }
+            → IfErr result (λ fault. (fault ≡ TotalsFault.Memory) ⊎ (fault_of (rows_after edits) (addition address payload.now) ≡ Some fault)) }
     {
         if let Some(fault) = add_fault(&self.meters, address) {
             return Err(fault);
@@ -172,9 +172,9 @@ impl Totals {
             → StandsFor (edits ++ replacement address place payload.now ∷ []) self.new) }
         ensures err { OnErr result (self.new ≡ self.old) }
         ensures refused { (edits : List Edit) (fault : TotalsFault) → StandsFor edits self.old
-            → place_fault address place (rows_after edits) ≡ Some fault → result ≡ Err fault }
+            → fault_of (rows_after edits) (replacement address place payload.now) ≡ Some fault → result ≡ Err fault }
         ensures only { (edits : List Edit) → StandsFor edits self.old
-            → IfErr result (λ fault. (fault ≡ TotalsFault.Memory) ⊎ (place_fault address place (rows_after edits) ≡ Some fault)) }
+            → IfErr result (λ fault. (fault ≡ TotalsFault.Memory) ⊎ (fault_of (rows_after edits) (replacement address place payload.now) ≡ Some fault)) }
     {
         if let Some(fault) = place_fault(&self.meters, address, place) {
             return Err(fault);
@@ -200,9 +200,9 @@ impl Totals {
             → StandsFor (edits ++ removal address place ∷ []) self.new) }
         ensures err { OnErr result (self.new ≡ self.old) }
         ensures refused { (edits : List Edit) (fault : TotalsFault) → StandsFor edits self.old
-            → place_fault address place (rows_after edits) ≡ Some fault → result ≡ Err fault }
+            → fault_of (rows_after edits) (removal address place) ≡ Some fault → result ≡ Err fault }
         ensures only { (edits : List Edit) → StandsFor edits self.old
-            → IfErr result (λ fault. place_fault address place (rows_after edits) ≡ Some fault) }
+            → IfErr result (λ fault. fault_of (rows_after edits) (removal address place) ≡ Some fault) }
     {
         if let Some(fault) = place_fault(&self.meters, address, place) {
             return Err(fault);
