@@ -14,7 +14,7 @@ use Rattle.ell_layer.specs.declared.access.Access.{Access}
 use Rattle.access_window.specs.declared.window.Window.{Window}
 use Rattle.access_window.specs.declared.window.Window.TheVariants.{Idle, Waiting}
 use Rattle.access_window.specs.Orders.{Orders, orders_of, AgreesWith, Agrees, window_without, after_put, after_cancel, awaited_in, spent_id, expired, queue_less, after_tick, awaited_id, confirmed, confirmed_orders, after_confirmed, is_open, oldest_where_idle, sent, sent_orders, after_sent, sent_at}
-use Rattle.access_window.specs.Moves.{Move, opening, after, sent_by, Sent, with_sent, all_sent}
+use Rattle.access_window.specs.Moves.{Move, fresh_orders, after, sent_by, SentCommand, with_sent, all_sent}
 use Rattle.access_window.specs.Moves.{Put, Cancel, Tick, Store}
 use Rattle.access_window.proofs.Agreement.{agrees_put, agrees_cancelled, agrees_closed}
 
@@ -156,7 +156,7 @@ down_after k Tick = refl
 down_after k (Store access response) =
     sent_down (sent_at k access response) (after_confirmed k response) ∙ ap (down_by (sent_at k access response)) (confirm_down (confirmed k response) k)
 
-counters_by : (o : Option Command) (d e : ℕ) (later : List Sent) → e ≡ down_by o d → map (λ s. s.down) later ≡ range_with_len (e + 1) (length later)
+counters_by : (o : Option Command) (d e : ℕ) (later : List SentCommand) → e ≡ down_by o d → map (λ s. s.down) later ≡ range_with_len (e + 1) (length later)
     → map (λ s. s.down) (with_sent o e later) ≡ range_with_len (d + 1) (length (with_sent o e later))
 counters_by None d e later h rest = rest ∙ ap (λ n. range_with_len (n + 1) (length later)) h
 counters_by (Some c) d e later h rest =
@@ -187,7 +187,7 @@ fits_after k (Cancel id) h = omega (arith, cond_down (is_pending id k.queue) k (
 fits_after k Tick h = h
 fits_after k (Store access response) h = fits_sent (after_confirmed k response) access (omega (arith, confirm_down (confirmed k response) k))
 
-longer : (o : Option Command) (d e : ℕ) (later : List Sent) → d + length (with_sent o e later) ≡ down_by o d + length later
+longer : (o : Option Command) (d e : ℕ) (later : List SentCommand) → d + length (with_sent o e later) ≡ down_by o d + length later
 longer None d e later = refl
 longer (Some c) d e later = omega arith
 
@@ -315,14 +315,14 @@ move_spends id k (Store access response) s =
     omega (arith, sent_spends id (after_confirmed k response) access (steady_confirmed k response s), budget_confirmed (confirmed k response) id k)
 
 -- the downlinks with an id
-abbrev of_id : ℕ → Sent → Bool
+abbrev of_id : ℕ → SentCommand → Bool
 of_id id s = s.id == id
 
-count_cond : (b : Bool) (s : Sent) (later : List Sent) → length (cond b (s ∷ later) later) ≡ cond b 1 0 + length later
+count_cond : (b : Bool) (s : SentCommand) (later : List SentCommand) → length (cond b (s ∷ later) later) ≡ cond b 1 0 + length later
 count_cond true s later = omega arith
 count_cond false s later = omega arith
 
-count_sent : (id : ℕ) (o : Option Command) (d : ℕ) (later : List Sent) → length (filter (of_id id) (with_sent o d later)) ≡ spends id o + length (filter (of_id id) later)
+count_sent : (id : ℕ) (o : Option Command) (d : ℕ) (later : List SentCommand) → length (filter (of_id id) (with_sent o d later)) ≡ spends id o + length (filter (of_id id) later)
 unfolding spends
 count_sent id None d later = omega arith
 count_sent id (Some c) d later = count_cond (has_id id c) (record { id = c.id; down = d }) (filter (of_id id) later)
@@ -332,13 +332,13 @@ within_budget id k [] s = omega arith
 within_budget id k (m ∷ moves) s =
     omega (arith, count_sent id (sent_by k m) (after k m).down (all_sent (after k m) moves), move_spends id k m s, within_budget id (after k m) moves (steady_after k m s))
 
-opening_steady : (ids down : ℕ) → IsSteady (opening ids down)
-opening_steady ids down = record { sound = record { few = omega arith; rising = omega arith; tries = tt }; agrees = tt }
+fresh_steady : (ids down : ℕ) → IsSteady (fresh_orders ids down)
+fresh_steady ids down = record { sound = record { few = omega arith; rising = omega arith; tries = tt }; agrees = tt }
 
 opening_budget : (b : Bool) → cond b 3 0 ≤ 3
 opening_budget true = omega arith
 opening_budget false = omega arith
 
-pub three_tries : (ids down : ℕ) (moves : List Move) (id : ℕ) → count_by (λ s. s.id == id) (all_sent (opening ids down) moves) ≤ 3
+pub three_tries : (ids down : ℕ) (moves : List Move) (id : ℕ) → count_by (λ s. s.id == id) (all_sent (fresh_orders ids down) moves) ≤ 3
 three_tries ids down moves id =
-    omega (arith, length-filter (of_id id) (all_sent (opening ids down) moves), within_budget id (opening ids down) moves (opening_steady ids down), opening_budget (ltb ids id))
+    omega (arith, length-filter (of_id id) (all_sent (fresh_orders ids down) moves), within_budget id (fresh_orders ids down) moves (fresh_steady ids down), opening_budget (ltb ids id))

@@ -13,8 +13,8 @@ pub data Move : Type 0 where
   Store : (access : Access) (response : Bool) → Move
 
 -- no command waits and none was sent; these are the last id and the last counter that were used before
-abbrev pub opening : (ids down : ℕ) → Orders
-opening ids down = orders_of (record { ids = ids; commands = [] }) Idle down
+abbrev pub fresh_orders : (ids down : ℕ) → Orders
+fresh_orders ids down = orders_of (record { ids = ids; commands = [] }) Idle down
 
 -- the orders after this
 abbrev pub after : Orders → Move → Orders
@@ -31,16 +31,16 @@ sent_by k Tick = None
 sent_by k (Store access response) = sent_at k access response
 
 -- a downlink: the id of its command, and its counter
-pub record Sent : Type 0 where
+pub record SentCommand : Type 0 where
   pub id : ℕ
   pub down : ℕ
 
 -- a downlink, where one is sent, before those that come later
-abbrev pub with_sent : Option Command → ℕ → List Sent → List Sent
+abbrev pub with_sent : Option Command → ℕ → List SentCommand → List SentCommand
 with_sent None down later = later
 with_sent (Some c) down later = record { id = c.id; down = down } ∷ later
 
 -- all downlinks, in order
-abbrev pub all_sent : Orders → List Move → List Sent
+abbrev pub all_sent : Orders → List Move → List SentCommand
 all_sent k [] = []
 all_sent k (m ∷ moves) = with_sent (sent_by k m) (after k m).down (all_sent (after k m) moves)

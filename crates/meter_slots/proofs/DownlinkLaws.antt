@@ -19,8 +19,8 @@ use Rattle.meter_slots.specs.declared.entry.Entry.{Entry}
 use Rattle.meter_slots.specs.declared.entry.Event.{Event}
 use Rattle.meter_slots.specs.declared.entry.Event.TheVariants.{Hear, Tick, Put, Cancel}
 use Rattle.meter_slots.specs.Journal.{standing, told, last_counter, verdict, access_at, orders_heard, orders_after, orders, downlink_with, heard, queued, cancelled, answer, outcome, IsJudged, Legal}
-use Rattle.meter_slots.specs.Laws.{sent_counter, sent_counters, IsRising}
-use Rattle.meter_slots.proofs.JournalLaws.{front_back, end_of, IsRising-push, end_of-push}
+use Rattle.meter_slots.specs.Laws.{sent_counter, sent_counters, last_or, IsRising}
+use Rattle.meter_slots.proofs.JournalLaws.{front_back, IsRising-push, last_or-push}
 
 -- nothing is sent and the counter stays, or a downlink is sent under a new counter, which is above the old one
 abbrev Counts : ℕ → ℕ → Option ℕ → Type 0
@@ -101,7 +101,7 @@ entry_counts c own x earlier j = rw j.0 (answer_counts c own earlier x.event)
 -- the counters sent so far rise, and the last of them is the last counter of a downlink
 record RisesTo (c : Commissioned) (earlier : List Entry) (ns : List ℕ) : Type 0 where
   rises : IsRising (Some c.down) ns
-  ends : end_of (Some c.down) ns ≡ Some (orders c earlier).down
+  ends : last_or (Some c.down) ns ≡ Some (orders c earlier).down
 
 rises_step : (c : Commissioned) (x : Entry) (earlier : List Entry) (ns : List ℕ) (s : Option ℕ)
     → Counts (orders c earlier).down (orders c (x ∷ earlier)).down s → RisesTo c earlier ns → RisesTo c (x ∷ earlier) (ns ++ cons_option s [])
@@ -111,7 +111,7 @@ rises_step c x earlier ns None same r = record {
 }
 rises_step c x earlier ns (Some n) above r = record {
   rises = IsRising-push (Some c.down) ns n r.rises (rw r.ends above.0);
-  ends = end_of-push (Some c.down) ns n ∙ ap Some above.1;
+  ends = last_or-push (Some c.down) ns n ∙ ap Some above.1;
 }
 
 sent_counters-reverse : (x : Entry) (earlier : List Entry) → sent_counters (reverse (x ∷ earlier)) ≡ sent_counters (reverse earlier) ++ cons_option (sent_counter x.outcome) []

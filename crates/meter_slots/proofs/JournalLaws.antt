@@ -20,7 +20,10 @@ use Rattle.access_window.specs.Orders.{Orders, after_cancel}
 use Rattle.access_window.proofs.Agreement.{cancel_refused}
 use Rattle.afl_fragments.specs.Held.{Message}
 use Rattle.message_check.specs.Steps.{◌>>=◌}
-use Rattle.message_check.specs.Opening.{Found, compared7}
+use Rattle.frame_formats.specs.Crc.{IsBytes}
+use Rattle.meter_slots.specs.declared.entry.Format.{Format}
+use Rattle.message_check.proofs.OpeningLaws.{genuine_are_opened}
+use Rattle.message_check.specs.Opening.{Found, Genuine7, opened7, compared7}
 use Rattle.message_check.specs.declared.refusal.Reason.{Reason}
 use Rattle.message_check.specs.declared.refusal.Reason.TheVariants.{Stale}
 use Rattle.meter_slots.specs.declared.entry.Entry.{Entry}
@@ -29,10 +32,10 @@ use Rattle.meter_slots.specs.declared.entry.Event.TheVariants.{Hear, Tick, Put, 
 use Rattle.meter_slots.specs.declared.entry.Outcome.{Outcome}
 use Rattle.meter_slots.specs.declared.entry.Outcome.TheVariants.{Stored, PartKept, Ticked, Queued, Cancelled, Refused}
 use Rattle.meter_slots.specs.Hearing.{received, brought}
-use Rattle.meter_slots.specs.Journal.{Standing, standing, told, opened_in, compared, genuine_in, genuine, counters, greater, greatest, last_of, last_counter, stored_or_refused, judged, verdict, access_at, orders_heard, orders_after, orders, heard, queued, cancelled, answer, outcome, IsJudged, Legal, stored_in, stored, reading_at, reading_of, readings}
-use Rattle.meter_slots.specs.Keeping.{last_after}
+use Rattle.meter_slots.specs.Journal.{Standing, standing, told, opened_in, compared, genuine_in, genuine, counters, greater, greatest, last_among, last_counter, stored_or_refused, judged, verdict, access_at, orders_heard, orders_after, orders, heard, queued, cancelled, answer, outcome, IsJudged, Legal, stored_in, stored, reading_at, reading_of, readings, stored_counter}
+use Rattle.meter_slots.specs.Keeping.{stored_by, last_after}
 use Rattle.meter_slots.specs.World.{Call, judged_journal, journal_of}
-use Rattle.meter_slots.specs.Laws.{stored_counter, stored_counters, IsAbove, IsRising, AreBelow, IsRefused, IsLeft, call_in}
+use Rattle.meter_slots.specs.Laws.{stored_counters, IsAbove, last_or, last_stored, IsRising, AreBelow, IsRefused, IsLeft, call_in}
 use Rattle.meter_slots.proofs.Journals.{back, found_where, last_counter-cons, readings-append}
 
 -- ---- an entry in its place
@@ -52,10 +55,6 @@ pub judged_at : (c : Commissioned) (own : Address) (before : List Entry) (x : En
 judged_at c own before x after j = judged_rest c own (reverse after) (x ∷ reverse before) (subst (IsJudged c own) (from_entry before x after) j)
 
 -- ---- a message is stored where it is genuine and above the last counter
-
-abbrev stored_by : Result (Option Found) Reason → Option ℕ
-stored_by (Ok (Some f)) = Some f.counter
-stored_by _ = None
 
 not_above : (m k n : ℕ) → nat_lt k m ≡ false → m ≡ n → k < n → ⊥
 not_above m k n h e l = grind (arith, nat_tests)
@@ -82,7 +81,7 @@ unfolding compared7
 compared_stored f n None = (λ s. (s, tt), λ p. p.0)
 compared_stored f n (Some k) = test_stored f k n (nat_lt k f.counter) refl
 
-abbrev counter : Option Found → Option ℕ
+abbrev pub counter : Option Found → Option ℕ
 counter o = option_map (λ f. f.counter) o
 
 opened_stored : (mode : Mode) → mode ≡ Seven → (n : ℕ) (last : Option ℕ) (g : Result Found Reason)
@@ -136,7 +135,7 @@ answer_stored c own n earlier (Cancel id) m = none_stored n (last_counter c earl
 
 last_seven : (c : Commissioned) (earlier : List Entry) → c.mode ≡ Seven → last_counter c earlier ≡ greatest (counters c earlier ++ option_to_list c.last)
 unfolding last_counter
-last_seven c earlier m = ap (λ mode. last_of mode (counters c earlier ++ option_to_list c.last)) m
+last_seven c earlier m = ap (λ mode. last_among mode (counters c earlier ++ option_to_list c.last)) m
 
 -- an entry stores exactly what is genuine and above the last counter
 entry_stored : (c : Commissioned) (own : Address) (x : Entry) (earlier : List Entry) (n : ℕ) → c.mode ≡ Seven → IsJudged c own (x ∷ earlier)
@@ -154,22 +153,18 @@ entry_stored_exactly c own x earlier n m j =
 
 -- ---- stored counters rise
 
-abbrev pub end_of : Option ℕ → List ℕ → Option ℕ
-end_of floor [] = floor
-end_of floor (n ∷ ns) = end_of (Some n) ns
-
-pub IsRising-push : (floor : Option ℕ) (ns : List ℕ) (n : ℕ) → IsRising floor ns → IsAbove n (end_of floor ns) → IsRising floor (ns ++ n ∷ [])
+pub IsRising-push : (floor : Option ℕ) (ns : List ℕ) (n : ℕ) → IsRising floor ns → IsAbove n (last_or floor ns) → IsRising floor (ns ++ n ∷ [])
 IsRising-push floor [] n r h = (h, tt)
 IsRising-push floor (k ∷ ns) n r h = (r.0, IsRising-push (Some k) ns n r.1 h)
 
-pub end_of-push : (floor : Option ℕ) (ns : List ℕ) (n : ℕ) → end_of floor (ns ++ n ∷ []) ≡ Some n
-end_of-push floor [] n = refl
-end_of-push floor (k ∷ ns) n = end_of-push (Some k) ns n
+pub last_or-push : (floor : Option ℕ) (ns : List ℕ) (n : ℕ) → last_or floor (ns ++ n ∷ []) ≡ Some n
+last_or-push floor [] n = refl
+last_or-push floor (k ∷ ns) n = last_or-push (Some k) ns n
 
 -- the stored counters so far rise, and the last of them is the last counter
 record RisesTo (c : Commissioned) (earlier : List Entry) (ns : List ℕ) : Type 0 where
   rises : IsRising c.last ns
-  ends : end_of c.last ns ≡ last_counter c earlier
+  ends : last_or c.last ns ≡ last_counter c earlier
 
 stored_last : (last : Option ℕ) (o : Outcome) (n : ℕ) → stored_counter o ≡ Some n → last_after last o ≡ Some n
 stored_last last (Stored m confirmed sent) n h = h
@@ -195,7 +190,7 @@ rises_step c own x earlier ns None m j r h = record {
 }
 rises_step c own x earlier ns (Some n) m j r h = record {
   rises = IsRising-push c.last ns n r.rises (subst (IsAbove n) (sym r.ends) ((entry_stored c own x earlier n m j).0 h).1);
-  ends = end_of-push c.last ns n ∙ sym (last_counter-cons c own earlier x j.0 ∙ stored_last (last_counter c earlier) x.outcome n h);
+  ends = last_or-push c.last ns n ∙ sym (last_counter-cons c own earlier x j.0 ∙ stored_last (last_counter c earlier) x.outcome n h);
 }
 
 stored_counters-reverse : (x : Entry) (earlier : List Entry) → stored_counters (reverse (x ∷ earlier)) ≡ stored_counters (reverse earlier) ++ cons_option (stored_counter x.outcome) []
@@ -217,6 +212,37 @@ rises_back c own (x ∷ earlier) m j =
 pub stored_counters_rise : (c : Commissioned) (own : Address) (journal : List Entry) → c.mode ≡ Seven → Legal c own journal → IsRising c.last (stored_counters journal)
 stored_counters_rise c own journal m j =
     subst (λ (xs : List Entry). IsRising c.last (stored_counters xs)) (reverse-reverse journal) (rises_back c own (reverse journal) m j).rises
+
+last_back : (c : Commissioned) (own : Address) (journal : List Entry) → c.mode ≡ Seven → Legal c own journal → last_stored c journal ≡ last_counter c (reverse journal)
+last_back c own journal m j =
+    subst (λ (xs : List Entry). last_or c.last (stored_counters xs) ≡ last_counter c (reverse journal)) (reverse-reverse journal) (rises_back c own (reverse journal) m j).ends
+
+-- an entry stores exactly what is genuine and above the counter stored last
+pub stored_above_last : (c : Commissioned) (own : Address) (before : List Entry) (x : Entry) (after : List Entry) (n : ℕ) → c.mode ≡ Seven → Legal c own (before ++ x ∷ after)
+    → (stored_counter x.outcome ≡ Some n) ↔ ((counter (genuine c (reverse before) x.event) ≡ Some n) × IsAbove n (last_stored c before))
+stored_above_last c own before x after n m j =
+    let h = judged_at c own before x after j in
+    let legal : Legal c own before = h.1 in
+    subst (λ (last : Option ℕ). (stored_counter x.outcome ≡ Some n) ↔ ((counter (genuine c (reverse before) x.event) ≡ Some n) × IsAbove n last))
+      (sym (last_back c own before m legal)) (entry_stored c own x (reverse before) n m h)
+
+result_there : (r : Result Found Reason) (f : Found) → (result_ok r ≡ Some f) ↔ (r ≡ Ok f)
+result_there (Ok g) f = (λ h. cc, λ h. cc)
+result_there (Err e) f = (λ h. cc, λ h. cc)
+
+both_ways : {A B C : Type 0} → A ↔ B → B ↔ C → A ↔ C
+both_ways p q = (λ a. q.0 (p.0 a), λ c. p.1 (q.1 c))
+
+opened_seven : (mode : Mode) (c : Commissioned) (m : Message) → mode ≡ Seven → opened_in mode c m ≡ opened7 c m.auth m.bytes
+opened_seven Five c m h = cc
+opened_seven Seven c m h = refl
+
+pub genuine_by_mac : (c : Commissioned) (earlier : List Entry) (format : Format) (at : ℕ) (t : List ℕ) (m : Message) (f : Found) → c.mode ≡ Seven
+    → brought (told c earlier) t (received c.mode t) ≡ Ok (Some m) → IsBytes m.bytes → (genuine c earlier (Hear format at t) ≡ Some f) ↔ Genuine7 c m.auth m.bytes f
+genuine_by_mac c earlier format at t m f h b bytes =
+    let is : genuine c earlier (Hear format at t) ≡ result_ok (opened7 c m.auth m.bytes) = ap (genuine_in c) b ∙ ap result_ok (opened_seven c.mode c m h) in
+    subst (λ (o : Option Found). (o ≡ Some f) ↔ Genuine7 c m.auth m.bytes f) (sym is)
+      (both_ways (result_there (opened7 c m.auth m.bytes) f) (genuine_are_opened c m.auth m.bytes f bytes))
 
 -- ---- a refusal leaves all as it was
 

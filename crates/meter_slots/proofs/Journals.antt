@@ -16,7 +16,7 @@ use Rattle.command_queue.specs.declared.command.QueueFault.{QueueFault}
 use Rattle.command_queue.specs.declared.command.QueueFault.TheVariants.{Full, IdsSpent}
 use Rattle.command_queue.specs.Pending.{put_answer, take_answer}
 use Rattle.access_window.specs.Orders.{Orders}
-use Rattle.access_window.specs.Moves.{opening}
+use Rattle.access_window.specs.Moves.{fresh_orders}
 use Rattle.afl_fragments.specs.declared.places.HeldPart.{HeldPart}
 use Rattle.afl_fragments.specs.Held.{Told, Message, StandsFor}
 use Rattle.message_check.specs.Steps.{◌>>=◌}
@@ -30,7 +30,7 @@ use Rattle.meter_slots.specs.declared.entry.Outcome.{Outcome}
 use Rattle.meter_slots.specs.declared.entry.Outcome.TheVariants.{Stored, PartKept, Ticked, Queued, Cancelled, Refused}
 use Rattle.meter_slots.specs.declared.reading.Reading.{Reading}
 use Rattle.meter_slots.specs.Hearing.{received, brought}
-use Rattle.meter_slots.specs.Journal.{told, told_by, opened_in, compared, genuine_in, genuine, counters, greater, greatest, last_of, last_counter, Standing, standing, stored_or_refused, judged, verdict, access_at, orders_after, orders, heard, queued, cancelled, answer, outcome, stored, reading_of, readings_back, readings}
+use Rattle.meter_slots.specs.Journal.{told, told_by, opened_in, compared, genuine_in, genuine, counters, greater, greatest, last_among, last_counter, Standing, standing, stored_or_refused, judged, verdict, access_at, orders_after, orders, heard, queued, cancelled, answer, outcome, stored, reading_of, readings_back, readings}
 use Rattle.meter_slots.specs.Keeping.{Keeps, last_after, FitsMode}
 
 -- ---- the last number
@@ -63,7 +63,7 @@ other_cases : (f : Found) (k : ℕ) (b : Bool) → (k == f.counter) ≡ b
 other_cases f k true h = ap Some (same_number f.counter k h)
 other_cases f k false h = refl
 
-compared_last : (mode : Mode) (f : Found) (ns : List ℕ) → last_of mode (f.counter ∷ ns) ≡ last_by (last_of mode ns) (stored_or_refused (compared mode (last_of mode ns) f))
+compared_last : (mode : Mode) (f : Found) (ns : List ℕ) → last_among mode (f.counter ∷ ns) ≡ last_by (last_among mode ns) (stored_or_refused (compared mode (last_among mode ns) f))
 unfolding compared5 compared7
 compared_last Five f [] = refl
 compared_last Five f (k ∷ ns) = other_cases f k (k == f.counter) refl
@@ -76,13 +76,13 @@ compared_last Seven f ns = above (greatest ns)
 abbrev counter_in : Option Found → List ℕ
 counter_in found = option_to_list (option_map (λ f. f.counter) found)
 
-opened_last : (mode : Mode) (g : Result Found Reason) (ns floor : List ℕ) → last_of mode ((counter_in (result_ok g) ++ ns) ++ floor)
-    ≡ last_by (last_of mode (ns ++ floor)) (stored_or_refused (g >>= compared mode (last_of mode (ns ++ floor))))
+opened_last : (mode : Mode) (g : Result Found Reason) (ns floor : List ℕ) → last_among mode ((counter_in (result_ok g) ++ ns) ++ floor)
+    ≡ last_by (last_among mode (ns ++ floor)) (stored_or_refused (g >>= compared mode (last_among mode (ns ++ floor))))
 opened_last mode (Err reason) ns floor = refl
 opened_last mode (Ok f) ns floor = compared_last mode f (ns ++ floor)
 
-judged_last : (c : Commissioned) (b : Result (Option Message) Reason) (ns floor : List ℕ) → last_of c.mode ((counter_in (genuine_in c b) ++ ns) ++ floor)
-    ≡ last_by (last_of c.mode (ns ++ floor)) (judged c (last_of c.mode (ns ++ floor)) b)
+judged_last : (c : Commissioned) (b : Result (Option Message) Reason) (ns floor : List ℕ) → last_among c.mode ((counter_in (genuine_in c b) ++ ns) ++ floor)
+    ≡ last_by (last_among c.mode (ns ++ floor)) (judged c (last_among c.mode (ns ++ floor)) b)
 judged_last c (Err reason) ns floor = refl
 judged_last c (Ok None) ns floor = refl
 judged_last c (Ok (Some m)) ns floor = opened_last c.mode (opened_in c.mode c m) ns floor
@@ -101,7 +101,7 @@ cancelled_last : (last : Option ℕ) (id : ℕ) (r : Result Command NoSuch) → 
 cancelled_last last id (Ok command) = refl
 cancelled_last last id (Err missing) = refl
 
-answer_last : (c : Commissioned) (own : Address) (earlier : List Entry) (event : Event) → last_of c.mode ((counter_in (genuine c earlier event) ++ counters c earlier) ++ option_to_list c.last)
+answer_last : (c : Commissioned) (own : Address) (earlier : List Entry) (event : Event) → last_among c.mode ((counter_in (genuine c earlier event) ++ counters c earlier) ++ option_to_list c.last)
     ≡ last_after (last_counter c earlier) (answer c own (standing c earlier) event)
 unfolding last_counter
 answer_last c own earlier (Hear format at t) =
@@ -139,7 +139,7 @@ pub readings-append : (c : Commissioned) (journal : List Entry) (x : Entry) → 
 unfolding readings
 readings-append c journal x = ap (readings_back c) (back journal x)
 
-floor_last : (mode : Mode) (o : Option ℕ) → o ≡ last_of mode (option_to_list o)
+floor_last : (mode : Mode) (o : Option ℕ) → o ≡ last_among mode (option_to_list o)
 floor_last Five None = refl
 floor_last Five (Some n) = refl
 floor_last Seven None = refl
@@ -147,7 +147,7 @@ floor_last Seven (Some n) = refl
 
 -- ---- what is kept
 
-pub empty_kept : (c : Commissioned) (own : Address) (parts : List HeldPart) → ForSome c.last (λ n. n ≤ most_last c.mode) → StandsFor parts [] → Keeps c own [] c.last parts (opening c.ids c.down) []
+pub empty_kept : (c : Commissioned) (own : Address) (parts : List HeldPart) → ForSome c.last (λ n. n ≤ most_last c.mode) → StandsFor parts [] → Keeps c own [] c.last parts (fresh_orders c.ids c.down) []
 unfolding last_counter readings told
 empty_kept c own parts fits h = record { legal = tt; last_is = floor_last c.mode c.last; last_fits = fits; parts_are = h; commands_are = refl; kept_is = refl }
 

@@ -1,23 +1,32 @@
 -- Proof that the readings of a journal are those of its stored messages.
-use Rattle.std.proofs.Common.{◌≡◌, ℕ, Bool, List, [], ◌∷◌, ◌++◌, reverse, map, Option, Some, None, Result, Ok, Err, refl, ap, sym, ◌∙◌}
+use Rattle.std.proofs.Common.{◌≡◌, ℕ, Bool, List, [], ◌∷◌, ◌++◌, reverse, map, Option, Some, None, Result, Ok, Err, refl, ap, sym, ◌∙◌, subst}
 use Rattle.std.specs.Prelude.{filter_map}
 use Rattle.std.specs.List.{cons_option}
+use Rattle.std.specs.Result.{result_ok}
 use Rattle.std.proofs.lemmas.List.{map-append, reverse-reverse}
 use Rattle.std.proofs.lemmas.List.Elements.{filter_map-append}
 use Rattle.meter_address.specs.declared.address.Address.{Address}
+use Rattle.meter_address.specs.declared.commission.Mode.{Mode}
+use Rattle.meter_address.specs.declared.commission.Mode.TheVariants.{Five, Seven}
 use Rattle.meter_address.specs.Commission.{Commissioned}
+use Rattle.afl_fragments.specs.Held.{Message}
+use Rattle.message_check.specs.Steps.{◌>>=◌}
 use Rattle.ell_layer.specs.declared.access.Access.{Access}
 use Rattle.access_window.specs.Orders.{Orders}
 use Rattle.command_queue.specs.Pending.{put_answer, take_answer}
-use Rattle.message_check.specs.Opening.{Found}
+use Rattle.message_check.specs.Opening.{Found, Passed, access_number_passed, counter_passed, compared5, compared7}
 use Rattle.message_check.specs.declared.refusal.Reason.{Reason}
 use Rattle.meter_slots.specs.declared.entry.Entry.{Entry}
 use Rattle.meter_slots.specs.declared.entry.Event.{Event}
 use Rattle.meter_slots.specs.declared.entry.Event.TheVariants.{Hear, Tick, Put, Cancel}
 use Rattle.meter_slots.specs.declared.entry.Format.{Format}
+use Rattle.meter_slots.specs.declared.entry.Outcome.{Outcome}
+use Rattle.meter_slots.specs.declared.entry.Outcome.TheVariants.{Stored, PartKept, Ticked, Queued, Cancelled, Refused}
 use Rattle.meter_slots.specs.declared.reading.Reading.{Reading}
-use Rattle.meter_slots.specs.Journal.{Standing, standing, told, last_counter, verdict, heard, answer, outcome, IsJudged, Legal, stored_in, stored, reading_at, reading_of, readings_back, readings}
-use Rattle.meter_slots.specs.Laws.{stored_counter, stored_counters, moment_read, stored_moment, stored_moments}
+use Rattle.meter_slots.specs.Hearing.{received, brought}
+use Rattle.meter_slots.specs.Journal.{Standing, standing, told, opened_in, compared, genuine_in, genuine, stored_or_refused, judged, orders, last_counter, verdict, heard, answer, outcome, IsJudged, Legal, stored_in, stored, reading_at, reading_of, readings_back, readings, stored_counter}
+use Rattle.meter_slots.specs.Laws.{stored_counters, moment_read, stored_moment, stored_moments, reading_added}
+use Rattle.meter_slots.proofs.Journals.{back, found_where, readings-append}
 use Rattle.meter_slots.proofs.JournalLaws.{front_back, queued_stored, cancelled_stored}
 
 -- what a fact says of one entry it says of all
@@ -86,3 +95,65 @@ unfolding readings
 moments_read c own journal j =
     each_stored moment_read (λ (x : Entry). stored_moment x.event x.outcome) c own (entry_moment c own) (reverse journal) j
     ∙ ap stored_moments (reverse-reverse journal)
+
+-- ---- the payload of what was genuine
+
+passed_found : (p : Passed) (x f : Found) → stored_or_refused (found_where p x) ≡ Ok (Some f) → Some x ≡ Some f
+passed_found (Ok u) x f h = cc
+passed_found (Err reason) x f h = cc
+
+compared_found : (mode : Mode) (last : Option ℕ) (x f : Found) → stored_or_refused (compared mode last x) ≡ Ok (Some f) → Some x ≡ Some f
+unfolding compared5 compared7
+compared_found Five last x f h = passed_found (access_number_passed last x.counter) x f h
+compared_found Seven last x f h = passed_found (counter_passed last x.counter) x f h
+
+opened_found : (mode : Mode) (last : Option ℕ) (g : Result Found Reason) (f : Found)
+    → stored_or_refused (g >>= compared mode last) ≡ Ok (Some f) → result_ok g ≡ Some f
+opened_found mode last (Err reason) f h = cc
+opened_found mode last (Ok x) f h = compared_found mode last x f h
+
+-- what is stored is what was genuine
+judged_found : (c : Commissioned) (last : Option ℕ) (b : Result (Option Message) Reason) (f : Found) → judged c last b ≡ Ok (Some f) → genuine_in c b ≡ Some f
+judged_found c last (Err reason) f h = cc
+judged_found c last (Ok None) f h = cc
+judged_found c last (Ok (Some m)) f h = opened_found c.mode last (opened_in c.mode c m) f h
+
+none_read : (event : Event) → reading_of event None ≡ []
+none_read (Hear format at t) = refl
+none_read Tick = refl
+none_read (Put payload) = refl
+none_read (Cancel id) = refl
+
+heard_added : (own : Address) (c : Commissioned) (k : Orders) (access : Access) (response : Bool) (event : Event) (found : Option Found) (v : Result (Option Found) Reason)
+    → ((f : Found) → v ≡ Ok (Some f) → found ≡ Some f)
+    → reading_of event (stored_in v) ≡ reading_added (heard own c k access response v) event found
+heard_added own c k access response event found (Err reason) h = none_read event
+heard_added own c k access response event found (Ok None) h = none_read event
+heard_added own c k access response event found (Ok (Some f)) h = ap (reading_of event) (sym (h f refl))
+
+none_added : (event : Event) (found : Option Found) (o : Outcome) → reading_of event found ≡ [] → [] ≡ reading_added o event found
+none_added event found (Stored counter confirmed sent) h = sym h
+none_added event found PartKept h = refl
+none_added event found (Ticked expired) h = refl
+none_added event found (Queued id) h = refl
+none_added event found (Cancelled id) h = refl
+none_added event found (Refused reason) h = refl
+
+answer_added : (c : Commissioned) (own : Address) (earlier : List Entry) (event : Event)
+    → reading_of event (stored c (last_counter c earlier) (told c earlier) event) ≡ reading_added (answer c own (standing c earlier) event) event (genuine c earlier event)
+answer_added c own earlier (Hear format at t) =
+    heard_added own c (orders c earlier) _ _ (Hear format at t) (genuine c earlier (Hear format at t)) (verdict c (last_counter c earlier) (told c earlier) t)
+    (judged_found c (last_counter c earlier) (brought (told c earlier) t (received c.mode t)))
+answer_added c own earlier Tick = refl
+answer_added c own earlier (Put payload) = none_added (Put payload) None _ refl
+answer_added c own earlier (Cancel id) = none_added (Cancel id) None _ refl
+
+-- the readings after one more entry
+pub added_read : (c : Commissioned) (own : Address) (journal : List Entry) (x : Entry) → Legal c own (journal ++ x ∷ [])
+    → readings c (journal ++ x ∷ []) ≡ readings c journal ++ reading_added x.outcome x.event (genuine c (reverse journal) x.event)
+unfolding outcome
+added_read c own journal x j =
+    let earlier = reverse journal in
+    let h = subst (IsJudged c own) (back journal x) j in
+    readings-append c journal x
+    ∙ ap (λ rs. readings c journal ++ rs) (answer_added c own earlier x.event ∙ ap (λ o. reading_added o x.event (genuine c earlier x.event)) (sym h.0))

@@ -15,7 +15,7 @@ use Rattle.command_queue.specs.declared.command.QueueFault.{QueueFault}
 use Rattle.command_queue.specs.declared.command.QueueFault.TheVariants as queue
 use Rattle.command_queue.specs.Pending.{put_answer, take_answer}
 use Rattle.access_window.specs.Orders.{Orders, after_put, after_cancel, expired, after_tick, confirmed, sent_at, after_stored}
-use Rattle.access_window.specs.Moves.{opening}
+use Rattle.access_window.specs.Moves.{fresh_orders}
 use Rattle.afl_fragments.specs.Held.{Told, Piece, Clear, Message}
 use Rattle.afl_fragments.specs.Held as fragments
 use Rattle.message_check.specs.Steps.{◌>>=◌}
@@ -35,10 +35,15 @@ use Rattle.meter_slots.specs.declared.reading.Reading.{Reading}
 
 -- ---- fragments
 
+-- the counter that an outcome stored
+abbrev pub stored_counter : Outcome → Option ℕ
+stored_counter (Stored counter confirmed sent) = Some counter
+stored_counter _ = None
+
 -- once a message that fragments made is stored, they are given up
-abbrev pub settled : Outcome → List Told
-settled (Stored counter confirmed sent) = Clear ∷ []
-settled _ = []
+abbrev pub given_up : Option ℕ → List Told
+given_up None = []
+given_up (Some counter) = Clear ∷ []
 
 -- what comes of content, after which these were told
 abbrev pub told_with : Content → List Told → List Told
@@ -51,7 +56,7 @@ told_by_received t (Ok l) later = told_with (content_behind t l) later
 
 -- what an entry tells of fragments: a fragment that isn't refused before it is looked at, the storing of what fragments made, a tick
 abbrev pub told_by : Commissioned → Event → Outcome → List Told
-told_by c (Hear format at t) outcome = told_by_received t (received c.mode t) (settled outcome)
+told_by c (Hear format at t) outcome = told_by_received t (received c.mode t) (given_up (stored_counter outcome))
 told_by c Tick outcome = fragments.Tick ∷ []
 told_by c (Put payload) outcome = []
 told_by c (Cancel id) outcome = []
@@ -95,18 +100,18 @@ greatest [] = None
 greatest (n ∷ ns) = greater n (greatest ns)
 
 -- the first of some numbers
-abbrev pub first_of : List ℕ → Option ℕ
-first_of [] = None
-first_of (n ∷ ns) = Some n
+abbrev pub latest_of : List ℕ → Option ℕ
+latest_of [] = None
+latest_of (n ∷ ns) = Some n
 
 -- the number with which the next is compared, of all so far, the latest first: in mode 7 the greatest, in mode 5 the latest
-abbrev pub last_of : Mode → List ℕ → Option ℕ
-last_of Five ns = first_of ns
-last_of Seven ns = greatest ns
+abbrev pub last_among : Mode → List ℕ → Option ℕ
+last_among Five ns = latest_of ns
+last_among Seven ns = greatest ns
 
 -- the last number; the commissioned one stands before all others
 unfoldable pub last_counter : Commissioned → List Entry → Option ℕ
-last_counter c earlier = last_of c.mode (counters c earlier ++ option_to_list c.last)
+last_counter c earlier = last_among c.mode (counters c earlier ++ option_to_list c.last)
 
 -- ---- verdicts
 
@@ -158,7 +163,7 @@ orders_after k access (Cancel id) outcome = after_cancel k id
 
 -- the commands that wait, the window, and the last counter of a downlink
 abbrev pub orders : Commissioned → List Entry → Orders
-orders c [] = opening c.ids c.down
+orders c [] = fresh_orders c.ids c.down
 orders c (x ∷ earlier) = orders_after (orders c earlier) (access_at c (last_counter c earlier) (told c earlier) x.event) x.event x.outcome
 
 -- ---- outcomes
@@ -241,7 +246,7 @@ unfoldable pub readings : Commissioned → List Entry → List Reading
 readings c journal = readings_back c (reverse journal)
 
 -- what contracts see of a slot: the collector's own address, the commission that it was made with, and its journal
-pub record Book : Type 0 where
+pub record SlotView : Type 0 where
   pub own : Address
   pub commission : Commissioned
   pub journal : List Entry

@@ -9,7 +9,7 @@ use Rattle.access_window.specs.Orders.{Orders}
 use Rattle.afl_fragments.specs.declared.places.HeldPart.{HeldPart}
 use Rattle.afl_fragments.specs.Fragment.{IsFragment}
 use Rattle.afl_layer.specs.Fields.{is_fragment}
-use Rattle.afl_fragments.specs.Held.{Told, Clear, StandsFor, held_bytes}
+use Rattle.afl_fragments.specs.Held.{Told, StandsFor, held_bytes}
 use Rattle.message_check.specs.Layers.{has_piece}
 use Rattle.message_check.specs.Opening.{Found}
 use Rattle.message_check.specs.Opened.{found_in}
@@ -41,10 +41,10 @@ abbrev pub FitsMode : Mode → Outcome → Type 0
 FitsMode mode (Stored counter confirmed sent) = counter ≤ most_last mode
 FitsMode mode _ = Unit {0}
 
--- once a message that fragments made is stored, they are given up
-abbrev pub settled_by : Result (Option Found) Reason → List Told
-settled_by (Ok (Some f)) = Clear ∷ []
-settled_by _ = []
+-- the counter that a verdict stores
+abbrev pub stored_by : Result (Option Found) Reason → Option ℕ
+stored_by (Ok (Some f)) = Some f.counter
+stored_by _ = None
 
 -- a fragment's header has a number, and its piece fits into a fragment
 pub record IsPiece (a : Afl) (bytes : List ℕ) : Type 0 where
@@ -56,9 +56,9 @@ PieceFits None bytes = Unit {0}
 PieceFits (Some a) bytes = is_fragment a ≡ true → IsPiece a bytes
 
 -- a fragment has one of sixteen numbers
-abbrev pub IsCounted : Option Afl → Type 0
-IsCounted None = Unit {0}
-IsCounted (Some a) = is_fragment a ≡ true → a.fid ≤ 16
+abbrev pub HasPlace : Option Afl → Type 0
+HasPlace None = Unit {0}
+HasPlace (Some a) = is_fragment a ≡ true → a.fid ≤ 16
 
 -- what is found in a buffer
 abbrev pub found_as : List ℕ → Option Opened → Option Found

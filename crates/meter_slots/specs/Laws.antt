@@ -1,18 +1,15 @@
 -- Words for laws of journals.
 use Rattle.std.specs.Prelude.{ℕ, ◌≡◌, ◌<◌, List, [], ◌∷◌, reverse, Option, Some, None, option_map, filter_map}
+use Rattle.meter_address.specs.Commission.{Commissioned}
+use Rattle.message_check.specs.Opening.{Found}
 use Rattle.meter_slots.specs.declared.entry.Entry.{Entry}
 use Rattle.meter_slots.specs.declared.entry.Event.{Event}
 use Rattle.meter_slots.specs.declared.entry.Event.TheVariants.{Hear}
 use Rattle.meter_slots.specs.declared.entry.Outcome.{Outcome}
 use Rattle.meter_slots.specs.declared.entry.Outcome.TheVariants.{Stored, Refused}
 use Rattle.meter_slots.specs.declared.reading.Reading.{Reading}
-use Rattle.meter_slots.specs.Journal.{Book, last_counter, orders, readings}
+use Rattle.meter_slots.specs.Journal.{SlotView, Legal, stored_counter, last_counter, orders, reading_of, readings}
 use Rattle.meter_slots.specs.World.{Call}
-
--- the counter that an outcome stored
-abbrev pub stored_counter : Outcome → Option ℕ
-stored_counter (Stored counter confirmed sent) = Some counter
-stored_counter _ = None
 
 -- the stored counters of a journal
 abbrev pub stored_counters : List Entry → List ℕ
@@ -31,6 +28,11 @@ stored_moment _ _ = None
 abbrev pub stored_moments : List Entry → List (ℕ × ℕ)
 stored_moments journal = filter_map (λ x. stored_moment x.event x.outcome) journal
 
+-- the reading that an outcome adds: where it stored a message, that of the genuine message which the event brought
+abbrev pub reading_added : Outcome → Event → Option Found → List Reading
+reading_added (Stored counter confirmed sent) event found = reading_of event found
+reading_added _ event found = []
+
 -- the counter of the downlink that an outcome sent
 abbrev pub sent_counter : Outcome → Option ℕ
 sent_counter (Stored counter confirmed sent) = option_map (λ downlink. downlink.down) sent
@@ -44,6 +46,15 @@ sent_counters journal = filter_map (λ x. sent_counter x.outcome) journal
 abbrev pub IsAbove : ℕ → Option ℕ → Type 0
 IsAbove n None = Unit {0}
 IsAbove n (Some k) = k < n
+
+-- the last of some numbers, or this where there are none
+abbrev pub last_or : Option ℕ → List ℕ → Option ℕ
+last_or floor [] = floor
+last_or floor (n ∷ ns) = last_or (Some n) ns
+
+-- the counter of the message that a journal stored last, or the commission's where it stored none
+abbrev pub last_stored : Commissioned → List Entry → Option ℕ
+last_stored c journal = last_or c.last (stored_counters journal)
 
 -- each number is above the one before it, and the first one is above the floor
 abbrev pub IsRising : Option ℕ → List ℕ → Type 0
@@ -60,7 +71,7 @@ IsRefused (Refused reason) = Unit {0}
 IsRefused _ = ⊥
 
 -- the last counter, the commands with their window, and the readings are as they were
-pub record IsLeft (old new : Book) : Type 0 where
+pub record IsLeft (old new : SlotView) : Type 0 where
   pub last : last_counter new.commission (reverse new.journal) ≡ last_counter old.commission (reverse old.journal)
   pub orders : orders new.commission (reverse new.journal) ≡ orders old.commission (reverse old.journal)
   pub readings : readings new.commission new.journal ≡ readings old.commission old.journal
@@ -68,3 +79,7 @@ pub record IsLeft (old new : Book) : Type 0 where
 -- what was asked of a slot, without the answer
 abbrev pub call_in : Entry → Call
 call_in x = record { source = x.source; line = x.line; event = x.event }
+
+-- the journal of a slot is legal for the commission that it was made with
+abbrev pub IsLegal : SlotView → Type 0
+IsLegal slot = Legal slot.commission slot.own slot.journal

@@ -11,7 +11,7 @@ use Rattle.meter_slots.specs.declared.step.Step.{Step}
 use Rattle.meter_slots.specs.declared.step.Landed.{Landed}
 use Rattle.meter_slots.specs.declared.step.Landed.TheVariants.{Slot, Stranger}
 use Rattle.meter_slots.specs.Directory.{AreApart}
-use Rattle.meter_slots.specs.Journal.{Book, outcome}
+use Rattle.meter_slots.specs.Journal.{SlotView, outcome}
 
 -- ---- the journal of a meter's own steps
 
@@ -42,25 +42,25 @@ abbrev pub calls_of : Address → List Step → List Call
 calls_of address steps = map call_of (filter (is_for address) steps)
 
 -- the slot of a meter after its own steps, whatever stands between them
-abbrev pub slot_of : Address → List Step → Commissioned → Book
+abbrev pub slot_of : Address → List Step → Commissioned → SlotView
 slot_of own steps c = record { own = own; commission = c; journal = journal_of c own (calls_of c.address steps) }
 
 -- ---- the world
 
--- whether some commission has the address of a step
-abbrev pub is_commissioned : List Commissioned → Step → Bool
-is_commissioned commissions s = list_any (λ c. c.address.0 == s.address.0) commissions
+-- whether some commission has this address
+abbrev pub is_commissioned : List Commissioned → Address → Bool
+is_commissioned commissions address = list_any (λ c. c.address.0 == address.0) commissions
 
 abbrev pub heard_of : Step → Heard
 heard_of s = record { source = s.source; line = s.line; address = s.address }
 
 -- the strangers' lines among some steps
 abbrev pub strangers_of : List Commissioned → List Step → List Heard
-strangers_of commissions steps = map heard_of (filter (λ s. not (is_commissioned commissions s)) steps)
+strangers_of commissions steps = map heard_of (filter (λ s. not (is_commissioned commissions s.address)) steps)
 
 -- what contracts see of a world
 pub record WorldView : Type 0 where
-  pub slots : List Book
+  pub slots : List SlotView
   pub strangers : List Heard
 
 -- the world after some steps: each slot after its own, and the others with the strangers
@@ -71,33 +71,33 @@ world_of own commissions steps = record { slots = map (slot_of own steps) commis
 abbrev pub Lands : Address → List Commissioned → List Step → Step → Landed → Type 0
 Lands own commissions steps s (Slot place given) =
     (c : Commissioned) × (slice_get commissions place ≡ Some c) × (c.address.0 ≡ s.address.0) × (given ≡ outcome c own (reverse (slot_of own steps c).journal) s.event)
-Lands own commissions steps s Stranger = is_commissioned commissions s ≡ false
+Lands own commissions steps s Stranger = is_commissioned commissions s.address ≡ false
 
 -- ---- one step
 
 -- what a slot answers to a step
-abbrev pub outcome_at : Book → Step → Outcome
+abbrev pub outcome_at : SlotView → Step → Outcome
 outcome_at b s = outcome b.commission b.own (reverse b.journal) s.event
 
 -- a slot after one of its own steps
-abbrev pub stepped_book : Step → Book → Book
-stepped_book s b = record {
+abbrev pub stepped_slot : Step → SlotView → SlotView
+stepped_slot s b = record {
   own = b.own;
   commission = b.commission;
   journal = b.journal ++ record { source = s.source; line = s.line; event = s.event; outcome = outcome_at b s } ∷ [];
 }
 
 -- whether a slot has the address of a step
-abbrev pub is_own : Step → Book → Bool
+abbrev pub is_own : Step → SlotView → Bool
 is_own s b = b.commission.address.0 == s.address.0
 
 -- whether some slot has it
-abbrev pub has_slot : List Book → Step → Bool
+abbrev pub has_slot : List SlotView → Step → Bool
 has_slot slots s = list_any (is_own s) slots
 
 -- a slot after any step: one with the step's address makes it, and any other stays as it was
-abbrev pub book_after : Step → Book → Book
-book_after s b = if is_own s b then stepped_book s b else b
+abbrev pub slot_after : Step → SlotView → SlotView
+slot_after s b = if is_own s b then stepped_slot s b else b
 
 -- the strangers after any step: where no slot has its address, its line is added
 abbrev pub strangers_after : WorldView → Step → List Heard
@@ -105,22 +105,22 @@ strangers_after w s = if has_slot w.slots s then w.strangers else w.strangers ++
 
 -- a world after one step
 abbrev pub after_step : WorldView → Step → WorldView
-after_step w s = record { slots = map (book_after s) w.slots; strangers = strangers_after w s }
+after_step w s = record { slots = map (slot_after s) w.slots; strangers = strangers_after w s }
 
 -- a step that landed in a slot has that slot's address, and its answer
-abbrev pub AnsweredBy : List Book → Step → Landed → Type 0
-AnsweredBy slots s (Slot place given) = (b : Book) × (slice_get slots place ≡ Some b) × (b.commission.address.0 ≡ s.address.0) × (given ≡ outcome_at b s)
+abbrev pub AnsweredBy : List SlotView → Step → Landed → Type 0
+AnsweredBy slots s (Slot place given) = (b : SlotView) × (slice_get slots place ≡ Some b) × (b.commission.address.0 ≡ s.address.0) × (given ≡ outcome_at b s)
 AnsweredBy slots s Stranger = Unit {0}
 
 -- ---- words of private contracts
 
-abbrev pub fresh_book : Address → Commissioned → Book
-fresh_book own c = record { own = own; commission = c; journal = [] }
+abbrev pub fresh_slot : Address → Commissioned → SlotView
+fresh_slot own c = record { own = own; commission = c; journal = [] }
 
-abbrev pub address_of_book : Book → Address
-address_of_book b = b.commission.address
+abbrev pub address_of_slot : SlotView → Address
+address_of_slot b = b.commission.address
 
 -- the directory has the addresses of the slots, which differ
-pub record IsOrdered (slots : List Book) (directory : List Address) : Type 0 where
-  pub places : directory ≡ map address_of_book slots
+pub record IsOrdered (slots : List SlotView) (directory : List Address) : Type 0 where
+  pub places : directory ≡ map address_of_slot slots
   pub apart : AreApart directory

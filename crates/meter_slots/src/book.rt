@@ -35,10 +35,10 @@ pub struct SlotBook {
 }
 
 impl Model for SlotBook {
-    ghost use Rattle.meter_slots.specs.Journal.{Book};
+    ghost use Rattle.meter_slots.specs.Journal.{SlotView};
     ghost use Rattle.meter_slots.specs.Keeping.{Keeps};
 
-    ghost Value = { Book };
+    ghost Value = { SlotView };
 
     ghost view = { λ b. record { own = b.own; commission = b.opening; journal = b.entries.items } };
 
@@ -173,7 +173,7 @@ fn note(
 impl SlotBook {
     ghost use Rattle.std.specs.Prelude.{◌≡◌, [], ◌∷◌, ◌++◌, reverse, IfOk, OnErr, ℕ, List};
     ghost use Rattle.meter_slots.specs.Laws.{IsRefused, IsLeft};
-    ghost use Rattle.meter_slots.specs.Journal.{Book, Legal, outcome, readings, last_counter, orders};
+    ghost use Rattle.meter_slots.specs.Journal.{SlotView, Legal, outcome, readings, last_counter, orders};
 
     /// A slot with an empty journal.
     pub fn new(alloc: Global, own: Address, commission: Commission) -> Self
@@ -204,13 +204,6 @@ impl SlotBook {
         ensures { result.now ≡ readings self.now.commission self.now.journal }
     {
         self.readings.as_slice()
-    }
-
-    /// The commission that the slot was made with.
-    pub fn opening(&self) -> Commission
-        ensures { result ≡ self.now.commission }
-    {
-        *self.opening.commission()
     }
 
     /// The commission as it would be written now.

@@ -5,7 +5,7 @@ ghost use Rattle.access_window.specs.Orders.{IsOldestAfterTry};
 ghost use Rattle.meter_slots.specs.Journal.{downlink_with};
 
 use crate::entry::Outcome;
-use crate::hearing::Heard;
+use crate::hearing::Judged;
 use access_window::Window;
 use command_queue::{Queue, QueueFault};
 use downlink_maker::{Downlink, make_downlink};
@@ -52,13 +52,13 @@ impl Commands {
     ghost use Rattle.std.specs.Prelude.{◌≡◌, ℕ, List, option_map};
     ghost use Rattle.command_queue.specs.Pending.{put_answer, take_answer};
     ghost use Rattle.access_window.specs.Orders.{after_put, after_cancel, expired, after_tick};
-    ghost use Rattle.access_window.specs.Moves.{opening};
-    ghost use Rattle.meter_slots.specs.Journal.{heard, queued, cancelled, orders_heard, settled};
-    ghost use Rattle.meter_slots.specs.Keeping.{verdict_as, settled_by};
+    ghost use Rattle.access_window.specs.Moves.{fresh_orders};
+    ghost use Rattle.meter_slots.specs.Journal.{heard, queued, cancelled, orders_heard, stored_counter};
+    ghost use Rattle.meter_slots.specs.Keeping.{verdict_as, stored_by};
 
     // No command waits yet.
     pub(crate) fn new(ids: u32, down: u32) -> Commands
-        ensures { result ≡ opening ids down }
+        ensures { result ≡ fresh_orders ids down }
     {
         Commands {
             queue: Queue::new(ids),
@@ -123,12 +123,12 @@ impl Commands {
         &mut self,
         own: Address,
         commission: &Commission,
-        judged: &Heard,
+        judged: &Judged,
         response: bool,
     ) -> Outcome
         ensures outcome { (bytes : List ℕ) → result ≡ heard own commission.now self.old judged.now.access response (verdict_as bytes judged.now.verdict) }
         ensures after { self.new ≡ orders_heard self.old judged.now.access response result }
-        ensures settled { (bytes : List ℕ) → settled result ≡ settled_by (verdict_as bytes judged.now.verdict) }
+        ensures stored { (bytes : List ℕ) → stored_counter result ≡ stored_by (verdict_as bytes judged.now.verdict) }
     {
         match &judged.verdict {
             Err(reason) => Outcome::Refused(*reason),

@@ -6,8 +6,8 @@ ghost use Rattle.message_check.specs.Opened.{found_in};
 ghost use Rattle.message_check.specs.Layers.{IsLayers, layers_of};
 ghost use Rattle.message_check.specs.declared.headers.Layers.{Layers};
 ghost use Rattle.meter_slots.specs.Hearing.{is_unasked, is_response, is_uplink, uplink_passed, layers_passed, number_passed, fragment_passed, received, auth_in, content_of, message_in, brought};
-ghost use Rattle.meter_slots.specs.Journal.{told_with, told_by_received, access_of, judged_in, judged};
-ghost use Rattle.meter_slots.specs.Keeping.{IsCounted, PieceFits, settled_by, verdict_as, most_joined, most_brought, VerdictFits};
+ghost use Rattle.meter_slots.specs.Journal.{given_up, told_with, told_by_received, access_of, judged_in, judged};
+ghost use Rattle.meter_slots.specs.Keeping.{HasPlace, PieceFits, stored_by, verdict_as, most_joined, most_brought, VerdictFits};
 
 use crate::keyed::KeyedCommission;
 use afl_fragments::{PARTS_MAX, Part, Parts};
@@ -79,7 +79,7 @@ fn check_number(mode: Mode, fid: u8) -> Result<(), Reason>
 
 fn check_fragment(mode: Mode, afl: Option<Afl>) -> Result<(), Reason>
     ensures exact { result ≡ fragment_passed mode afl }
-    ensures counted { OnOk result (IsCounted afl) }
+    ensures counted { OnOk result (HasPlace afl) }
 {
     match afl {
         Some(afl) if afl.is_fragment() => check_number(mode, afl.fid),
@@ -105,7 +105,7 @@ pub(crate) fn receive(mode: Mode, telegram: &Telegram) -> Result<Layers, Reason>
     ensures exact { result ≡ received mode telegram.now }
     ensures within { IfOk result (λ l. l.body ≤ length telegram.now) }
     ensures found { IfOk result (λ l. IsLayers telegram.now l) }
-    ensures counted { IfOk result (λ l. IsCounted l.afl) }
+    ensures counted { IfOk result (λ l. HasPlace l.afl) }
 {
     check_uplink(telegram.control())?;
     let layers = read_layers(telegram)?;
@@ -190,7 +190,7 @@ fn judge(
 
 // Gives the fragments up where their message is to be stored.
 fn settle(parts: &mut Parts, verdict: &Verdict)
-    ensures { (bytes : List ℕ) (told : List Told) → StandsFor parts.old told → StandsFor parts.new (settled_by (verdict_as bytes verdict.now) ++ told) }
+    ensures { (bytes : List ℕ) (told : List Told) → StandsFor parts.old told → StandsFor parts.new (given_up (stored_by (verdict_as bytes verdict.now)) ++ told) }
 {
     if let Ok(Some(_)) = verdict {
         parts.clear();
@@ -207,7 +207,7 @@ fn hear_part(
 ) -> Verdict
     requires { part.afl.fid ≤ PARTS_MAX }
     ensures verdict { (told : List Told) → StandsFor parts.old told → verdict_as message.new result ≡ judged opening.now last (Ok (assembled (held (Piece part ∷ told)))) }
-    ensures parts { (told : List Told) → StandsFor parts.old told → StandsFor parts.new (settled_by (verdict_as message.new result) ++ Piece part ∷ told) }
+    ensures parts { (told : List Told) → StandsFor parts.old told → StandsFor parts.new (given_up (stored_by (verdict_as message.new result)) ++ Piece part ∷ told) }
     ensures fits { VerdictFits opening.now.mode message.new (held_bytes parts.old + length part.bytes) result }
 {
     parts.hold(part);
@@ -245,9 +245,9 @@ fn hear_content(
 ) -> Verdict
     requires few { length bytes.now ≤ 256 }
     requires piece { PieceFits afl bytes.now }
-    requires counted { IsCounted afl }
+    requires counted { HasPlace afl }
     ensures verdict { (told : List Told) → StandsFor parts.old told → verdict_as message.new result ≡ judged opening.now last (Ok (message_in told (content_of afl bytes.now))) }
-    ensures parts { (told : List Told) → StandsFor parts.old told → StandsFor parts.new (told_with (content_of afl bytes.now) (settled_by (verdict_as message.new result)) ++ told) }
+    ensures parts { (told : List Told) → StandsFor parts.old told → StandsFor parts.new (told_with (content_of afl bytes.now) (given_up (stored_by (verdict_as message.new result))) ++ told) }
     ensures fits { VerdictFits opening.now.mode message.new (most_joined afl parts.old bytes.now) result }
 {
     match afl {
@@ -271,7 +271,7 @@ fn access_after(ell: Option<Ell>, verdict: &Verdict) -> Access
 
 /// What was heard: the verdict, and when the meter listens after a message that is to be stored.
 #[derive(Clone, Copy)]
-pub(crate) struct Heard {
+pub(crate) struct Judged {
     pub(crate) verdict: Verdict,
     pub(crate) access: Access,
 }
@@ -284,25 +284,25 @@ pub(crate) fn hear(
     telegram: &Telegram,
     layers: Result<Layers, Reason>,
     message: &mut Scratch,
-) -> Heard
+) -> Judged
     requires exact { layers ≡ received opening.now.mode telegram.now }
     requires within { IfOk layers (λ l. l.body ≤ length telegram.now) }
     requires found { IfOk layers (λ l. IsLayers telegram.now l) }
-    requires counted { IfOk layers (λ l. IsCounted l.afl) }
+    requires counted { IfOk layers (λ l. HasPlace l.afl) }
     ensures verdict { (told : List Told) → StandsFor parts.old told → verdict_as message.new result.verdict ≡ judged opening.now last (brought told telegram.now (received opening.now.mode telegram.now)) }
     ensures access { result.access ≡ access_of (received opening.now.mode telegram.now) (verdict_as message.new result.verdict) }
-    ensures parts { (told : List Told) → StandsFor parts.old told → StandsFor parts.new (told_by_received telegram.now (received opening.now.mode telegram.now) (settled_by (verdict_as message.new result.verdict)) ++ told) }
+    ensures parts { (told : List Told) → StandsFor parts.old told → StandsFor parts.new (told_by_received telegram.now (received opening.now.mode telegram.now) (given_up (stored_by (verdict_as message.new result.verdict))) ++ told) }
     ensures fits { VerdictFits opening.now.mode message.new (most_brought layers parts.old telegram.now) result.verdict }
 {
     match layers {
-        Err(reason) => Heard {
+        Err(reason) => Judged {
             verdict: Err(reason),
             access: Access::None,
         },
         Ok(layers) => {
             let bytes = bytes_behind(telegram, &layers);
             let verdict = hear_content(opening, last, parts, layers.afl, bytes, message);
-            Heard {
+            Judged {
                 verdict,
                 access: access_after(layers.ell, &verdict),
             }

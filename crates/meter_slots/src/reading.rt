@@ -25,13 +25,6 @@ impl Bytes {
         Bytes { bytes }
     }
 
-    /// The vector of the bytes, with the room that it has.
-    pub fn into_vec(self) -> Vec<u8>
-        ensures { result.items ≡ self }
-    {
-        self.bytes
-    }
-
     /// The bytes.
     pub fn bytes(&self) -> &[u8]
         ensures { result.now ≡ self.now }

@@ -1,8 +1,8 @@
 //! All slots, and the strangers that none of them is for.
 ghost use Rattle.std.specs.Prelude.{◌≡◌, ◌<◌, List, map, length, vec_len, IfOk, OnErr, slice_index_or, slice_set, reverse};
 ghost use Rattle.meter_address.specs.declared.address.Address.{Address};
-ghost use Rattle.meter_slots.specs.Journal.{Book};
-ghost use Rattle.meter_slots.specs.World.{fresh_book, outcome_at, stepped_book};
+ghost use Rattle.meter_slots.specs.Journal.{SlotView};
+ghost use Rattle.meter_slots.specs.World.{fresh_slot, outcome_at, stepped_slot};
 
 use crate::book::SlotBook;
 use crate::directory::Directory;
@@ -36,12 +36,12 @@ impl Model for World {
 }
 
 // The slots before any step.
-fn fresh_books(
+fn fresh_slots(
     alloc: Global,
     own: Address,
     commissions: &[Commission],
 ) -> Result<Vec<SlotBook>, Memory>
-    ensures { IfOk result (λ slots. slots.items ≡ map (fresh_book own) commissions.now) }
+    ensures { IfOk result (λ slots. slots.items ≡ map (fresh_slot own) commissions.now) }
 {
     let slots = commissions
         .iter()
@@ -66,8 +66,8 @@ fn step_at(
     message: &mut Scratch,
 ) -> Result<Outcome, Memory>
     requires { place < vec_len slots.old }
-    ensures outcome { IfOk result (λ given. (b : Book) → given ≡ outcome_at (slice_index_or slots.old.items place b) step) }
-    ensures ok { IfOk result (λ _. (b : Book) → slots.new.items ≡ slice_set slots.old.items place (stepped_book step (slice_index_or slots.old.items place b))) }
+    ensures outcome { IfOk result (λ given. (b : SlotView) → given ≡ outcome_at (slice_index_or slots.old.items place b) step) }
+    ensures ok { IfOk result (λ _. (b : SlotView) → slots.new.items ≡ slice_set slots.old.items place (stepped_slot step (slice_index_or slots.old.items place b))) }
     ensures err { OnErr result (slots.new.items ≡ slots.old.items) }
 {
     let slot = &mut slots[place];
@@ -89,7 +89,7 @@ impl World {
     {
         let addresses = addresses_of(alloc, commissions.as_slice())?;
         Ok(World {
-            slots: fresh_books(alloc, own, commissions.as_slice())?,
+            slots: fresh_slots(alloc, own, commissions.as_slice())?,
             directory: Directory::new(alloc, addresses.as_slice())?,
             strangers: Strangers::new(alloc)?,
             message: Scratch::new(),

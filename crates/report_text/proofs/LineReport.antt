@@ -15,12 +15,12 @@ use Rattle.meter_slots.specs.declared.counts.Ended.{Ended}
 use Rattle.meter_slots.specs.declared.counts.Ended.TheVariants as ends
 use Rattle.meter_slots.specs.declared.entry.Entry.{Entry}
 use Rattle.meter_slots.specs.declared.reading.Reading.{Reading}
-use Rattle.meter_slots.specs.Journal.{Book, last_counter, readings}
+use Rattle.meter_slots.specs.Journal.{SlotView, last_counter, readings}
 use Rattle.record_text.specs.RecordText.{records_text}
 use Rattle.report_text.specs.declared.lent.ReceiverEnd.{ReceiverEnd}
 use Rattle.report_text.specs.Orders.{Told, lines_in, told, orders, with_line, with_steps, meter_heading, strangers_heading}
 use Rattle.report_text.specs.OrdersLaw.{IsCounted, place_of_step, place_of_stranger, order_of, orders_of}
-use Rattle.report_text.specs.Pieces.{optional_text, labelled, labelled_two, labelled_bytes, text_if}
+use Rattle.paper.specs.Pieces.{optional_text, labelled, labelled_two, labelled_bytes, text_if}
 use Rattle.report_text.specs.Report.{ended_text, counts_text, receiver_text, mode_text, commission_text, numbers_text, step_text, readings_after, steps_text, last_text, pending_text, journal_text, orders_now, meter_text, stranger_text, ring_text, strangers_text, report_text}
 use Rattle.report_text.proofs.LineWalks.{IsWithout, ◌⌢◌, literal, Tells, Passes, nothing, ◌⨾◌, one_line, same_text}
 use Rattle.report_text.proofs.LinePieces.{letters, number_or_dash, worded_number, worded_two, worded_bytes}
@@ -102,23 +102,23 @@ journal_tells : (kept : List Reading) (journal : List Entry) (commands : List Co
 unfolding journal_text
 journal_tells kept journal commands small = steps_tell kept journal small ⨾ last_passes kept ⨾ all_pass pending_text pending_passes commands
 
-meter_tells : (b : Book) → AllByRecursion IsCounted (order_of b) → Tells (meter_text b) (λ t. meter_heading (with_steps (order_of b) t))
+meter_tells : (b : SlotView) → AllByRecursion IsCounted (order_of b) → Tells (meter_text b) (λ t. meter_heading (with_steps (order_of b) t))
 unfolding meter_text
 meter_tells b small =
     meter_line b.commission.address b.commission.mode (last_counter b.commission (reverse b.journal)) (orders_now b).down (length b.journal) (length (readings b.commission b.journal))
     ⨾ journal_tells (readings b.commission b.journal) b.journal (orders_now b).queue.commands small
 
 -- the meters, one after another
-abbrev with_meters : List Book → Told → Told
+abbrev with_meters : List SlotView → Told → Told
 with_meters [] t = t
 with_meters (b ∷ slots) t = meter_heading (with_steps (order_of b) (with_meters slots t))
 
-meters_tell : (slots : List Book) → AllByRecursion (λ order. All IsCounted order) (map order_of slots) → Tells (flat_map meter_text slots) (with_meters slots)
+meters_tell : (slots : List SlotView) → AllByRecursion (λ order. All IsCounted order) (map order_of slots) → Tells (flat_map meter_text slots) (with_meters slots)
 meters_tell [] small = nothing
 meters_tell (b ∷ slots) small = meter_tells b (recursion_from_All IsCounted (order_of b) small.0) ⨾ meters_tell slots small.1
 
 -- below the meters no steps stand above the first heading
-with_meters_is : (slots : List Book) (strangers : List (ℕ × ℕ))
+with_meters_is : (slots : List SlotView) (strangers : List (ℕ × ℕ))
     → with_meters slots (record { above = []; meters = []; strangers = strangers }) ≡ record { above = []; meters = map order_of slots; strangers = strangers }
 with_meters_is [] strangers = refl
 with_meters_is (b ∷ slots) strangers =
@@ -164,13 +164,13 @@ nothing_told : told (lines_in []) ≡ no_lines
 unfolding with_line
 nothing_told = refl
 
-report_tells : (ends : List ReceiverEnd) (slots : List Book) (heard : List Heard) → AllByRecursion (λ order. All IsCounted order) (map order_of slots) → AllByRecursion IsCounted (map place_of_stranger heard)
+report_tells : (ends : List ReceiverEnd) (slots : List SlotView) (heard : List Heard) → AllByRecursion (λ order. All IsCounted order) (map order_of slots) → AllByRecursion IsCounted (map place_of_stranger heard)
     → Tells (report_text ends slots heard) (λ t. with_meters slots (strangers_heading (with_steps (map place_of_stranger heard) t)))
 unfolding report_text
 report_tells ends slots heard small_steps small_heard =
     first_passes ⨾ all_pass receiver_text receiver_passes (enumerate_from 1 ends) ⨾ meters_tell slots small_steps ⨾ strangers_tell heard small_heard ⨾ end_passes
 
-pub report_orders : (ends : List ReceiverEnd) (slots : List Book) (heard : List Heard)
+pub report_orders : (ends : List ReceiverEnd) (slots : List SlotView) (heard : List Heard)
     → All (λ order. All IsCounted order) (map order_of slots) → All IsCounted (map place_of_stranger heard) → orders (report_text ends slots heard) ≡ orders_of slots heard
 report_orders ends slots heard small_steps small_heard =
     let text = report_text ends slots heard in

@@ -17,10 +17,10 @@ use Rattle.meter_slots.specs.declared.entry.Entry.{Entry}
 use Rattle.meter_slots.specs.declared.entry.Outcome.{Outcome}
 use Rattle.meter_slots.specs.declared.entry.Outcome.TheVariants.{Stored}
 use Rattle.meter_slots.specs.declared.reading.Reading.{Reading}
-use Rattle.meter_slots.specs.Journal.{Book, last_counter, orders, readings}
+use Rattle.meter_slots.specs.Journal.{SlotView, last_counter, orders, readings}
 use Rattle.record_text.specs.RecordText.{records_text}
 use Rattle.report_text.specs.declared.lent.ReceiverEnd.{ReceiverEnd}
-use Rattle.report_text.specs.Pieces.{optional_text, labelled, labelled_two, labelled_bytes, text_if}
+use Rattle.paper.specs.Pieces.{optional_text, labelled, labelled_two, labelled_bytes, text_if}
 use Rattle.report_text.specs.Outcomes.{outcome_text}
 
 -- ---- a receiver
@@ -86,10 +86,10 @@ unfoldable pub journal_text : List Reading → List Entry → List Command → L
 journal_text kept journal commands = steps_text kept journal ++ last_text kept ++ flat_map pending_text commands
 
 -- the commands after the journal
-abbrev pub orders_now : Book → Orders
+abbrev pub orders_now : SlotView → Orders
 orders_now b = orders b.commission (reverse b.journal)
 
-unfoldable pub meter_text : Book → List ℕ
+unfoldable pub meter_text : SlotView → List ℕ
 meter_text b =
     commission_text b.commission.address b.commission.mode
     ++ numbers_text (last_counter b.commission (reverse b.journal)) (orders_now b).down (length b.journal) (length (readings b.commission b.journal))
@@ -107,6 +107,6 @@ unfoldable pub strangers_text : List Heard → List ℕ
 strangers_text heard = labelled (codes "strangers ") (length heard) ++ codes "\n" ++ flat_map stranger_text heard ++ flat_map ring_text (ring_of heard)
 
 -- the report of a session: its receivers, which are numbered from 1, its slots, and its strangers
-unfoldable pub report_text : List ReceiverEnd → List Book → List Heard → List ℕ
+unfoldable pub report_text : List ReceiverEnd → List SlotView → List Heard → List ℕ
 report_text ends slots heard =
     codes "wmbus-report 1\n" ++ flat_map receiver_text (enumerate_from 1 ends) ++ flat_map meter_text slots ++ strangers_text heard ++ codes "end\n"

@@ -6,7 +6,7 @@ use std::alloc::Global;
 use std::marker::Model;
 
 /// How many of the last strangers the ring has.
-pub const RING_MAX: usize = 64;
+pub const RING_MAX: usize = 256;
 
 /// A line of a stranger: its receiver, its number there, and the address.
 #[derive(Clone, Copy, Debug, PartialEq, Eq)]
@@ -19,7 +19,7 @@ pub struct Heard {
     pub address: Address,
 }
 
-/// All lines of strangers in the order in which they came, and a ring of the last 64 addresses.
+/// All lines of strangers in the order in which they came, and a ring of the last 256 addresses.
 #[derive(Drop)]
 pub struct Strangers {
     heard: Vec<Heard>,
@@ -41,7 +41,7 @@ impl Model for Strangers {
 }
 
 impl Strangers {
-    ghost use Rattle.std.specs.Prelude.{◌≡◌, [], ◌∷◌, ◌++◌, length, slice_get, IfOk, OnOk, OnErr};
+    ghost use Rattle.std.specs.Prelude.{◌≡◌, ◌≤◌, [], ◌∷◌, ◌++◌, length, slice_get, IfOk, OnOk, OnErr};
     ghost use Rattle.stranger_ring.specs.Ring.{ring_of};
 
     /// No stranger yet.
@@ -79,9 +79,10 @@ impl Strangers {
         self.heard.as_slice()
     }
 
-    /// How many addresses the ring has: all, or 64 where there are more.
+    /// How many addresses the ring has: all, or 256 where there are more.
     pub fn ring_len(&self) -> usize
-        ensures { result ≡ length (ring_of self.now) }
+        ensures count { result ≡ length (ring_of self.now) }
+        ensures few { result ≤ 256 }
     {
         self.ring.len()
     }

@@ -2,16 +2,18 @@ use crate::Strangers;
 use meter_address::Address;
 use std::test::Fail;
 
+// Many more lines than a list of strangers begins with room for.
 #[test]
-fn keeps_the_last_sixty_four(rt: HostRuntime) -> Result<(), Fail> {
+fn keeps_all_lines_and_the_last_256_addresses(rt: HostRuntime) -> Result<(), Fail> {
     let mut strangers = Strangers::new(rt.alloc())?;
-    for line in 1..71u32 {
+    for line in 1..=200_000u32 {
         strangers.note(1, line, Address(u64::from(line)))?;
+        let kept = (line as usize).min(256);
+        assert_eq!(rt; strangers.ring_len(), kept);
     }
-    assert_eq!(rt; strangers.heard().len(), 70);
-    assert_eq!(rt; strangers.ring_len(), 64);
-    assert_eq!(rt; strangers.ring_at(0), Some(Address(7)));
-    assert_eq!(rt; strangers.ring_at(63), Some(Address(70)));
-    assert_eq!(rt; strangers.ring_at(64), None);
+    assert_eq!(rt; strangers.heard().len(), 200_000);
+    assert_eq!(rt; strangers.ring_at(0), Some(Address(199_745)));
+    assert_eq!(rt; strangers.ring_at(255), Some(Address(200_000)));
+    assert_eq!(rt; strangers.ring_at(256), None);
     Ok(())
 }

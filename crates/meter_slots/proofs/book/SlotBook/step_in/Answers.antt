@@ -1,6 +1,6 @@
 use Rattle.std.proofs.Common.{◌≡◌, List, [], ◌∷◌, ◌++◌, reverse, refl, sym, ap, ◌∙◌, subst}
 use Rattle.meter_slots.specs.declared.entry.Entry.{Entry}
-use Rattle.meter_slots.specs.Journal.{Book, Legal, outcome}
+use Rattle.meter_slots.specs.Journal.{SlotView, Legal, outcome}
 use Rattle.meter_slots.specs.Laws.{IsLeft}
 use Rattle.meter_slots.proofs.JournalLaws.{refused_left}
 use Rattle.meter_slots.proofs.Journals.{answer_kept, kept_after}
@@ -30,8 +30,8 @@ returns-clause-refused c r =
     let b = c.self.inside in
     let x : Entry = record { source = c.args.source; line = c.args.line; event = c.args.event; outcome = c.in_ok-served.served.outcome } in
     let made : c.push_reserved.new.self.items ≡ b.entries.items ++ x ∷ [] = rw (c.push_reserved.ensures.items, c.reserve.ensures.items, c.copied.ensures) refl in
-    let old : Book = record { own = b.own; commission = b.opening; journal = b.entries.items } in
+    let old : SlotView = record { own = b.own; commission = b.opening; journal = b.entries.items } in
     let legal = subst (Legal b.opening b.own) made (invariant_of-self-2 c).legal in
     let left = refused_left b.opening b.own b.entries.items x legal r in
-    subst (λ (v : Book). IsLeft v (record { own = b.own; commission = b.opening; journal = c.push_reserved.new.self.items })) c.self.view_is
+    subst (λ (v : SlotView). IsLeft v (record { own = b.own; commission = b.opening; journal = c.push_reserved.new.self.items })) c.self.view_is
     (subst (λ (js : List Entry). IsLeft old (record { own = b.own; commission = b.opening; journal = js })) (sym made) left)
