@@ -1,6 +1,6 @@
 use Rattle.std.proofs.Common.{arith}
 use Rattle.frame_formats.proofs.Division.{each_byte, nothing_left, all_through, one_more, is_crc, same_crc}
-use Rattle.frame_formats.proofs.check.crc.Goals as goal
+use Rattle.frame_formats.proofs.crc16.crc.Goals as goal
 
 pub loop-byte-init : goal.loop-byte-init
 loop-byte-init c = nothing_left

@@ -1,6 +1,6 @@
 use Rattle.std.proofs.Common.{◌*◌, ◌^◌, take}
 use Rattle.frame_formats.specs.Crc.{HasRemainder, polynomial}
-use Rattle.frame_formats.proofs.check.crc.Given as goal
+use Rattle.frame_formats.proofs.crc16.crc.Given as goal
 
 -- the register holds the remainder of the bytes so far
 abbrev pub invariant-loop-byte : goal.invariant-loop-byte
