@@ -1,5 +1,5 @@
 -- What is encrypted for a meter is decrypted by it, and a downlink's telegram is laid out as one.
-use Rattle.std.proofs.Common.{◌≡◌, ℕ, ◌-◌, ◌*◌, ◌%◌, ◌^◌, ◌<◌, List, [], ◌∷◌, ◌++◌, length, take, replicate, Ok, refl, sym, arith, append_assoc, length-append}
+use Rattle.std.proofs.Common.{◌≡◌, ℕ, ◌-◌, ◌*◌, ◌%◌, ◌^◌, ◌<◌, List, [], ◌∷◌, ◌++◌, ◌∙◌, length, take, replicate, Ok, refl, sym, arith, append_assoc, length-append}
 use Rattle.std.proofs.lemmas.List.{length-replicate, length-take}
 use Rattle.std.proofs.lemmas.List.Elements.{All-cons, All-append, All-replicate, All-take}
 use Rattle.std.specs.Int.{w32, to_le_bytes}

@@ -30,7 +30,11 @@ pub record HasParts (own meter : Address) (p : Parts) (t : List ℕ) : Type 0 wh
 -- the parts of the downlink that carries a payload
 abbrev pub parts_to : Commissioned → ℕ → List ℕ → Parts
 parts_to c down payload = record {
-  blocks = blocks_for (length payload); down = down; mac = mac_of c down payload; content = encrypted_content c down payload }
+  blocks = blocks_for (length payload);
+  down = down;
+  mac = mac_of c down payload;
+  content = encrypted_content c down payload;
+}
 
 -- 1 to 94 bytes
 pub record IsPayload (payload : List ℕ) : Type 0 where
