@@ -8,7 +8,7 @@ use Rattle.meter_slots.specs.declared.entry.Event.TheVariants.{Hear}
 use Rattle.meter_slots.specs.declared.entry.Outcome.{Outcome}
 use Rattle.meter_slots.specs.declared.entry.Outcome.TheVariants.{Stored, Refused}
 use Rattle.meter_slots.specs.declared.reading.Reading.{Reading}
-use Rattle.meter_slots.specs.Journal.{SlotView, Legal, stored_counter, last_counter, orders, reading_of, readings}
+use Rattle.meter_slots.specs.Journal.{SlotView, Legal, stored_counter, other_key, last_counter, orders, reading_of, readings}
 use Rattle.meter_slots.specs.World.{Call}
 
 -- the stored counters of a journal
@@ -70,8 +70,9 @@ abbrev pub IsRefused : Outcome → Type 0
 IsRefused (Refused reason) = Unit {0}
 IsRefused _ = ⊥
 
--- the last counter, the commands with their window, and the readings are as they were
+-- the second key, the last counter, the commands with their window, and the readings are as they were
 pub record IsLeft (old new : SlotView) : Type 0 where
+  pub other : other_key new.commission (reverse new.journal) ≡ other_key old.commission (reverse old.journal)
   pub last : last_counter new.commission (reverse new.journal) ≡ last_counter old.commission (reverse old.journal)
   pub orders : orders new.commission (reverse new.journal) ≡ orders old.commission (reverse old.journal)
   pub readings : readings new.commission new.journal ≡ readings old.commission old.journal

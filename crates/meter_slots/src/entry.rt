@@ -33,6 +33,8 @@ pub enum Event {
     Put(Payload),
     /// The command with this id isn't to be sent any more.
     Cancel(u32),
+    /// The meter's second key is this one from now on.
+    Rekey([u8; 16]),
 }
 
 /// What a slot answers.
@@ -58,6 +60,8 @@ pub enum Outcome {
     Queued(u32),
     /// The command with this id is taken out of the queue.
     Cancelled(u32),
+    /// The second key is taken.
+    Rekeyed,
     /// The event is refused. Nothing but the journal changes, and the fragments that are held.
     Refused(Reason),
 }
@@ -90,6 +94,7 @@ impl Outcome {
             Outcome::Ticked { expired } => Outcome::Ticked { expired: *expired },
             Outcome::Queued(id) => Outcome::Queued(*id),
             Outcome::Cancelled(id) => Outcome::Cancelled(*id),
+            Outcome::Rekeyed => Outcome::Rekeyed,
             Outcome::Refused(reason) => Outcome::Refused(*reason),
         }
     }

@@ -11,7 +11,7 @@ ghost use Rattle.message_check.specs.Opening.{Found, Genuine7};
 ghost use Rattle.meter_slots.specs.declared.entry.Format.{Format};
 ghost use Rattle.meter_slots.specs.declared.entry.Event.TheVariants.{Hear};
 ghost use Rattle.meter_slots.specs.Hearing.{received, brought};
-ghost use Rattle.meter_slots.specs.Journal.{SlotView, Legal, told, genuine, counters, readings, stored_counter};
+ghost use Rattle.meter_slots.specs.Journal.{SlotView, Legal, told, other_key, rekeyed, genuine, counters, readings, stored_counter};
 ghost use Rattle.meter_slots.specs.World.{Call, journal_of, is_for, slot_of, world_of, after_step};
 ghost use Rattle.meter_slots.specs.Laws.{stored_counters, moment_read, stored_moments, reading_added, sent_counters, IsAbove, last_stored, IsRising, AreBelow, IsRefused, IsLeft, IsLegal, call_in};
 
@@ -32,7 +32,8 @@ pub fn sent_counters_rise()
 pub fn stored_exactly()
     ensures { (c : Commissioned) (own : Address) (before : List Entry) (x : Entry) (after : List Entry) (n : ℕ) → c.mode ≡ Seven
         → Legal c own (before ++ x ∷ after) → (stored_counter x.outcome ≡ Some n)
-        ↔ ((option_map (λ f. f.counter) (genuine c (reverse before) x.event) ≡ Some n) × AreBelow n (counters c (reverse before) ++ option_to_list c.last)) }
+        ↔ ((option_map (λ f. f.counter) (genuine c (reverse before) x.event) ≡ Some n)
+        × AreBelow n (counters c (reverse before) ++ option_to_list c.last)) }
 {}
 
 /// In mode 7 a message is stored exactly where it is genuine and its counter exceeds that of the message stored last, or the
@@ -43,10 +44,12 @@ pub fn stored_above_the_last()
         ↔ ((option_map (λ f. f.counter) (genuine c (reverse before) x.event) ≡ Some n) × IsAbove n (last_stored c before)) }
 {}
 
-/// In mode 7 a message that a telegram brings is genuine exactly where it is so by itself: for this meter, whole, and with the MAC of its bytes.
+/// In mode 7 a message that a telegram brings is genuine exactly where it is so by itself: for this meter, whole, and with the MAC of
+/// its bytes under the meter's keys as they are then.
 pub fn genuine_by_its_mac()
     ensures { (c : Commissioned) (earlier : List Entry) (format : Format) (at : ℕ) (t : List ℕ) (m : Message) (f : Found) → c.mode ≡ Seven
-        → brought (told c earlier) t (received c.mode t) ≡ Ok (Some m) → IsBytes m.bytes → (genuine c earlier (Hear format at t) ≡ Some f) ↔ Genuine7 c m.auth m.bytes f }
+        → brought (told c earlier) t (received c.mode t) ≡ Ok (Some m) → IsBytes m.bytes
+        → (genuine c earlier (Hear format at t) ≡ Some f) ↔ Genuine7 (rekeyed c (other_key c earlier)) m.auth m.bytes f }
 {}
 
 /// Each stored message has one reading, in the order of the journal, with the moment at which it was stored and its counter.
@@ -64,7 +67,7 @@ pub fn readings_are_genuine()
         → readings c (journal ++ x ∷ []) ≡ readings c journal ++ reading_added x.outcome x.event (genuine c (reverse journal) x.event) }
 {}
 
-/// A refusal leaves the last counter, the commands with their window, and the readings as they were.
+/// A refusal leaves the second key, the last counter, the commands with their window, and the readings as they were.
 pub fn refused_leaves()
     ensures { (c : Commissioned) (own : Address) (journal : List Entry) (x : Entry) → Legal c own (journal ++ x ∷ []) → IsRefused x.outcome
         → IsLeft (record { own = own; commission = c; journal = journal }) (record { own = own; commission = c; journal = journal ++ x ∷ [] }) }
