@@ -16,11 +16,11 @@ def derived(key, constant, counter, address):
     return cmac(key, bytes([constant]) + counter.to_bytes(4, "little") + address[2:6] + bytes([7]) * 7)
 
 
-def message(key, address, counter, payload):
-    """The transport header and the payload, all of it encrypted, and the MAC over it."""
+def message(key, address, counter, payload, key_id=0):
+    """The transport header, which names the key, and the payload, all of it encrypted, and the MAC over it."""
     plain = payload + b"\x2f" * (-len(payload) % 16)
     cipher = Cipher(algorithms.AES(derived(key, METER_CIPHER, counter, address)), modes.CBC(bytes(16))).encryptor()
-    text = bytes([0x7A, counter % 256, 0, len(plain) // 16 << 4, 7, 0x10]) + cipher.update(plain)
+    text = bytes([0x7A, counter % 256, 0, len(plain) // 16 << 4, 7, 0x10 | key_id]) + cipher.update(plain)
     mac = cmac(derived(key, METER_MAC, counter, address), bytes([MCL]) + counter.to_bytes(4, "little") + text)[:8]
     return text, mac
 
@@ -29,16 +29,16 @@ def telegram(control, address, body):
     return bytes([9 + len(body), control]) + address + body
 
 
-def whole(key, address, counter, payload, control=0x44, access=None):
+def whole(key, address, counter, payload, control=0x44, access=None, key_id=0):
     """A telegram with a whole message, and with an extended link layer where `access` is its CC."""
-    text, mac = message(key, address, counter, payload)
+    text, mac = message(key, address, counter, payload, key_id)
     ell = b"" if access is None else bytes([0x8C, access, counter % 256])
     return telegram(control, address, ell + bytes.fromhex("900f002c") + bytes([MCL]) + counter.to_bytes(4, "little") + mac + text)
 
 
-def fragments(key, address, counter, payload, count):
+def fragments(key, address, counter, payload, count, key_id=0):
     """The telegrams of a message in so many fragments."""
-    text, mac = message(key, address, counter, payload)
+    text, mac = message(key, address, counter, payload, key_id)
     size = -(-len(text) // count)
     made = []
     for fid in range(1, count + 1):

@@ -5,6 +5,7 @@ pub mod Takes
 pub mod Again
 pub mod Spans
 pub mod Listings
+pub mod Listed
 pub mod Lowest
 pub mod Stopping
 pub mod Stopped

@@ -8,7 +8,7 @@ use Rattle.dif_vif.specs.declared.span.RecordSpan.{RecordSpan}
 use Rattle.dif_vif.specs.Spelling.{DataRecord, IsRecord, spelling}
 use Rattle.dif_vif.specs.Spans.{IsSpanOf, AreFillers, IsNext, NoneBegins}
 use Rattle.dif_vif.specs.Reading.{record_at, span_at, next_of}
-use Rattle.dif_vif.specs.Listing.{IsEnding, IsListing, Listing}
+use Rattle.dif_vif.specs.Listing.{IsEnding, IsListing, Listing, answer_of_ending}
 use Rattle.dif_vif.proofs.Steps.{ok_is}
 use Rattle.dif_vif.proofs.Again.{record_again}
 use Rattle.dif_vif.proofs.Endings.{ends_found, ends_only}
@@ -69,27 +69,20 @@ some_listing bytes = listing_in (length bytes + 1) bytes 0 (omega arith) (omega 
 
 -- ---- and no other one
 
-answer_of_ending : Option RecordFault → Result (Option RecordSpan) RecordFault
-answer_of_ending None = Ok None
-answer_of_ending (Some fault) = Err fault
-
-ending_is : (bytes : List ℕ) (from : ℕ) (ending : Option RecordFault) → IsEnding bytes from ending → next_of bytes from ≡ answer_of_ending ending
-unfolding answer_of_ending
+pub ending_is : (bytes : List ℕ) (from : ℕ) (ending : Option RecordFault) → IsEnding bytes from ending → next_of bytes from ≡ answer_of_ending ending
 ending_is bytes from None is = next_only bytes from None is.ordered is
 ending_is bytes from (Some fault) is = ends_only bytes from fault is.1
 
-next_is : (bytes : List ℕ) (from : ℕ) (span : RecordSpan) → IsNext bytes from (Some span) → next_of bytes from ≡ Ok (Some span)
+pub next_is : (bytes : List ℕ) (from : ℕ) (span : RecordSpan) → IsNext bytes from (Some span) → next_of bytes from ≡ Ok (Some span)
 next_is bytes from span n = next_only bytes from (Some span) (omega (arith, n.0.ordered, n.0.within)) n
 
 same_ending : (e f : Option RecordFault) → answer_of_ending e ≡ answer_of_ending f → e ≡ f
-unfolding answer_of_ending
 same_ending None None same = refl
 same_ending None (Some f) same = absurd cc
 same_ending (Some e) None same = absurd cc
 same_ending (Some e) (Some f) same = cc
 
 no_more : (ending : Option RecordFault) (span : RecordSpan) → answer_of_ending ending ≡ Ok (Some span) → ⊥
-unfolding answer_of_ending
 no_more None span same = cc
 no_more (Some fault) span same = cc
 

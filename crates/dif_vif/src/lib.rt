@@ -10,7 +10,10 @@ mod records;
 mod span;
 
 pub use fault::RecordFault;
-pub use laws::{digits_in_reverse, no_record_begins_another, one_listing, one_span_at_a_place};
+pub use laws::{
+    digits_in_reverse, listing_is_read, no_record_begins_another, one_listing, one_span_at_a_place,
+    records_are_listed,
+};
 pub use records::next_record;
 pub use span::RecordSpan;
 

@@ -1,4 +1,6 @@
 pub mod Faults
 pub mod Bytes
+pub mod Each
 pub mod InMemory
+pub mod Shown
 pub mod Standard

@@ -2,13 +2,16 @@
 //! and faults are known, and over std's readers and writers, where nothing but the count of faults is.
 #![tactic(auto)]
 
+mod all_bytes;
 mod failures;
 mod in_memory;
 mod listed;
+mod retrying;
 mod sinks;
 mod sources;
 mod standard;
 
+pub use all_bytes::{ReadError, read_all};
 pub use failures::{Failed, Memory};
 pub use in_memory::{MemorySink, MemorySource};
 pub use sinks::{Sink, write_all};

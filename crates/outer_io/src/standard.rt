@@ -1,11 +1,13 @@
-//! Sources and sinks over std's readers and writers. They tell no bytes.
+//! Sources and sinks over std's readers and writers: thin adapters that count the errors and tell no bytes. What a file, the
+//! standard input or the standard output really gives and takes is trusted, and shown by tests alone.
 ghost use Rattle.std.specs.Prelude.{◌≡◌, ◌<◌, ◌≤◌, ℕ, false, [], length, Ok, Some, IfSome, IfOk, OnOk, OnErr};
 ghost use Rattle.outer_io.specs.Faults.{Rose, next_count};
 ghost use Rattle.outer_io.specs.Standard.{OverNothing, input_stream, output_stream};
 
+use crate::retrying::{read_retrying, write_retrying};
 use crate::{Failed, Sink, Source};
 use std::fs::File;
-use std::io::{Read, Stdin, Stdout, Write};
+use std::io::{Stdin, Stdout};
 use std::marker::Model;
 
 #[derive(Drop)]
@@ -21,15 +23,15 @@ fn read_once(input: &mut Input, into: &mut [u8]) -> Option<usize>
     ensures nothing { input_stream input.old ≡ OverNothing → result ≡ Some 0 }
     ensures same_stream { input_stream input.new ≡ input_stream input.old }
 {
-    let read = match input {
-        Input::File(file) => file.read(into),
-        Input::Standard(stdin) => stdin.read(into),
-        Input::Nothing => Ok(0),
-    };
-    read.ok()
+    match input {
+        Input::File(file) => read_retrying(file, into),
+        Input::Standard(stdin) => read_retrying(stdin, into),
+        Input::Nothing => Some(0),
+    }
 }
 
-/// A file or the standard input, or nothing, which is at its end from the start.
+/// A file or the standard input, or nothing, which is at its end from the start. A read that a signal interrupts is made
+/// again; each other error counts as a fault.
 #[derive(Drop)]
 pub struct StdSource {
     input: Input,
@@ -126,15 +128,15 @@ fn write_once(output: &mut Output, bytes: &[u8]) -> usize
     ensures nothing { output_stream output.old ≡ OverNothing → result ≡ length bytes.now }
     ensures same_stream { output_stream output.new ≡ output_stream output.old }
 {
-    let written = match output {
-        Output::File(file) => file.write(bytes),
-        Output::Standard(stdout) => stdout.write(bytes),
-        Output::Nothing => Ok(bytes.len()),
-    };
-    written.unwrap_or(0)
+    match output {
+        Output::File(file) => write_retrying(file, bytes),
+        Output::Standard(stdout) => write_retrying(stdout, bytes),
+        Output::Nothing => bytes.len(),
+    }
 }
 
-/// A file or the standard output, or nothing, which takes all bytes and keeps none.
+/// A file or the standard output, or nothing, which takes all bytes and keeps none. A write that a signal interrupts is
+/// made again; each other error counts as a fault, and so does a write that takes nothing.
 #[derive(Drop)]
 pub struct StdSink {
     output: Output,

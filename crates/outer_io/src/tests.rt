@@ -1,6 +1,11 @@
 //! The objects in memory and the adapters over std, each called as its users call it.
+ghost use Rattle.std.specs.Prelude.{◌≤◌, IfOk};
+
 use super::*;
+use crate::retrying::{read_retrying, write_retrying};
+use std::alloc::{AllocError, Global};
 use std::fs::{File, remove_file};
+use std::io::{Error, ErrorKind, Read, Write};
 use std::test::Fail;
 
 #[test]
@@ -36,22 +41,90 @@ fn listed_writes_fail_and_the_others_take_all(rt: HostRuntime) -> Result<(), Fai
 }
 
 #[test]
+fn pieces_are_no_larger_than_their_size(rt: HostRuntime) -> Result<(), Fail> {
+    let alloc = rt.alloc();
+    let mut source = MemorySource::pieces(b"abcde".to_vec(alloc)?, 2, vec![in alloc; 2]?);
+    let mut into = [0; 4];
+    for count in [Ok(2), Err(Failed), Ok(2), Ok(1), Ok(0)] {
+        assert_eq!(rt; source.read(&mut into), count);
+    }
+    let mut sink = MemorySink::pieces(alloc, 2, vec![in alloc; 3]?);
+    assert_eq!(rt; write_all(&mut sink, b"abcde"), Err(Failed));
+    assert_eq!(rt; sink.bytes(), b"abcd".as_slice());
+    assert_eq!(rt; sink.write(b"efg"), Ok(2));
+    Ok(())
+}
+
+#[test]
+fn a_source_is_read_to_its_end_and_a_sink_grows_as_it_needs(rt: HostRuntime) -> Result<(), Fail> {
+    let alloc = rt.alloc();
+    let mut sink = MemorySink::steady(alloc);
+    for _ in 0..1_000 {
+        assert_eq!(rt; write_all(&mut sink, &[0xa5; 1_000]), Ok(()));
+    }
+    let mut source = MemorySource::pieces(sink.bytes().to_vec(alloc)?, 997, Vec::new(alloc));
+    assert_eq!(rt;
+        read_all(alloc, &mut source, 1_000_000)?.as_slice(),
+        sink.bytes()
+    );
+    Ok(())
+}
+
+// What reading all of some bytes is answered, at most four of them, where this read fails.
+fn read_four(
+    alloc: Global,
+    bytes: &[u8],
+    fail: u64,
+) -> Result<Result<usize, ReadError>, AllocError> {
+    let mut source = MemorySource::pieces(bytes.to_vec(alloc)?, 3, vec![in alloc; fail]?);
+    Ok(read_all(alloc, &mut source, 4).map(|bytes| bytes.len()))
+}
+
+#[test]
+fn more_bytes_than_asked_for_and_a_failed_read_are_told_apart(rt: HostRuntime) -> Result<(), Fail> {
+    let alloc = rt.alloc();
+    assert_eq!(rt; read_four(alloc, b"abcd", 0)?, Ok(4));
+    assert_eq!(rt; read_four(alloc, b"abcde", 0)?, Err(ReadError::TooMany));
+    assert_eq!(rt; read_four(alloc, b"abcd", 3)?, Err(ReadError::Failed));
+    Ok(())
+}
+
+// What the adapters answer over a file of this name, one by one.
+fn over_file(rt: &HostRuntime, name: &str) -> Result<[Result<usize, Failed>; 6], Fail> {
+    let mut sink = StdSink::file(File::create(rt, name)?);
+    let written = sink.write(b"abc");
+    drop(sink);
+    let mut source = StdSource::file(File::open(rt, name)?);
+    let mut into = [0; 8];
+    let read = source.read(&mut into);
+    let same = if &into[..3] == b"abc".as_slice() {
+        Ok(3)
+    } else {
+        Err(Failed)
+    };
+    let at_end = source.read(&mut into);
+    let unwritable = StdSink::file(File::open(rt, name)?).write(b"abc");
+    let unreadable = StdSource::file(File::create(rt, name)?).read(&mut into);
+    Ok([written, read, same, at_end, unwritable, unreadable])
+}
+
+#[test]
 fn adapters_write_and_read_files(rt: HostRuntime) -> Result<(), Fail> {
     let name = "outer_io_adapters.tmp";
-    let mut sink = StdSink::file(File::create(&rt, name)?);
-    assert_eq!(rt; write_all(&mut sink, b"abc"), Ok(()));
-    drop(sink);
-    let mut source = StdSource::file(File::open(&rt, name)?);
-    let mut into = [0; 8];
-    assert_eq!(rt; source.read(&mut into), Ok(3));
-    assert_eq!(rt; &into[..3], b"abc".as_slice());
-    assert_eq!(rt; source.read(&mut into), Ok(0));
-    assert_eq!(rt; StdSource::nothing().read(&mut into), Ok(0));
-    let mut unwritable = StdSink::file(File::open(&rt, name)?);
-    assert_eq!(rt; unwritable.write(b"abc"), Err(Failed));
-    let mut unreadable = StdSource::file(File::create(&rt, name)?);
-    assert_eq!(rt; unreadable.read(&mut into), Err(Failed));
-    remove_file(&rt, name)?;
+    let answers = over_file(&rt, name);
+    let removed = remove_file(&rt, name);
+    assert_eq!(rt;
+        answers?,
+        [Ok(3), Ok(3), Ok(3), Ok(0), Err(Failed), Err(Failed)]
+    );
+    removed?;
+    Ok(())
+}
+
+#[test]
+fn a_write_to_a_full_file_fails(rt: HostRuntime) -> Result<(), Fail> {
+    let mut full = StdSink::file(File::create(&rt, "/dev/full")?);
+    assert_eq!(rt; write_all(&mut full, b"abc"), Err(Failed));
     Ok(())
 }
 
@@ -62,7 +135,52 @@ fn standard_streams_and_nothing_take_bytes(rt: HostRuntime) {
         Ok(())
     );
     assert_eq!(rt; write_all(&mut StdSink::nothing(), b"abc"), Ok(()));
+    assert_eq!(rt; StdSource::nothing().read(&mut [0; 8]), Ok(0));
     let _source = StdSource::standard(rt.stdin());
+}
+
+// A file whose calls are interrupted so often before one is not.
+#[derive(Drop)]
+struct Interrupted {
+    left: u8,
+}
+
+impl Interrupted {
+    // How many bytes the call moves, if it isn't interrupted.
+    fn call(&mut self, most: usize) -> std::io::Result<usize>
+        ensures { IfOk result (λ n. n ≤ most) }
+    {
+        if self.left == 0 {
+            return Ok(most.min(2));
+        }
+        self.left -= 1;
+        Err(Error::from(ErrorKind::Interrupted))
+    }
+}
+
+impl Read for Interrupted {
+    fn read(&mut self, into: &mut [u8]) -> std::io::Result<usize> {
+        self.call(into.len())
+    }
+}
+
+impl Write for Interrupted {
+    fn write(&mut self, bytes: &[u8]) -> std::io::Result<usize> {
+        self.call(bytes.len())
+    }
+
+    fn flush(&mut self) -> std::io::Result<()> {
+        Ok(())
+    }
+}
+
+#[test]
+fn an_interrupted_call_is_made_again(rt: HostRuntime) {
+    assert_eq!(rt;
+        read_retrying(&mut Interrupted { left: 3 }, &mut [0; 8]),
+        Some(2)
+    );
+    assert_eq!(rt; write_retrying(&mut Interrupted { left: 3 }, b"abc"), 2);
 }
 
 // Takes a value as a thread that is started with it does.

@@ -1,4 +1,3 @@
 pub mod Lines
 pub mod RecordText
 pub mod Values
-pub mod Words

@@ -1,6 +1,6 @@
 -- The line of a data record, of manufacturer data and of a fault.
 use Rattle.std.specs.Prelude.{ℕ, List, [], ◌∷◌, ◌++◌, take, drop, codes, if◌then◌else◌}
-use Rattle.std.specs.Fmt.{decimal, signed_decimal}
+use Rattle.std.specs.Fmt.{decimal}
 use Rattle.hex.specs.Hex.{encode_lower}
 use Rattle.dif_vif.specs.declared.fault.RecordFault.{RecordFault}
 use Rattle.dif_vif.specs.declared.fault.RecordFault.TheVariants.{Truncated, TooManyExtensions, Lvar, Selection, Special}
@@ -9,7 +9,8 @@ use Rattle.record_values.specs.declared.units.Unit.{Unit}
 use Rattle.record_values.specs.declared.values.Value.{Value}
 use Rattle.record_values.specs.Units.{unit}
 use Rattle.record_values.specs.Values.{value}
-use Rattle.record_text.specs.Words.{function_text, quantity_text, name_text}
+use Rattle.unit_text.specs.Words.{function_text}
+use Rattle.unit_text.specs.Pieces.{register_text, unit_text}
 use Rattle.record_text.specs.Values.{hex_text, value_text}
 
 -- so many bytes from a place on
@@ -20,17 +21,13 @@ bytes_at bytes place count = take count (drop place bytes)
 abbrev pub byte_text : ℕ → List ℕ
 byte_text byte = encode_lower (byte ∷ [])
 
--- a space and a number
-unfoldable pub spaced : ℕ → List ℕ
-spaced n = codes " " ++ decimal n
-
--- what the DIF and its extensions say: the function, the storage number, the tariff and the subunit
+-- what the DIF and its extensions say: the function and the register
 unfoldable pub place_text : RecordSpan → List ℕ
-place_text span = function_text span.function ++ spaced span.storage ++ spaced span.tariff ++ spaced span.subunit
+place_text span = function_text span.function ++ register_text span.storage span.tariff span.subunit
 
--- what the VIF says: the quantity, the unit and the power of ten
-unfoldable pub unit_text : Unit → List ℕ
-unit_text u = codes " " ++ quantity_text u.quantity ++ codes " " ++ name_text u.name ++ codes " " ++ signed_decimal u.exponent
+-- what the VIF says: the quantity and the unit
+abbrev pub measure_text : Unit → List ℕ
+measure_text u = unit_text u.quantity u.name u.exponent
 
 -- the modifiers, the value and the data as sent
 unfoldable pub data_text : List ℕ → Value → List ℕ → List ℕ
@@ -39,10 +36,13 @@ data_text modifiers v sent = codes " " ++ hex_text modifiers ++ codes " " ++ val
 unfoldable pub record_line : List ℕ → RecordSpan → List ℕ
 record_line bytes span =
     let u = unit bytes span in
-    codes "record " ++ place_text span ++ unit_text u ++ data_text (bytes_at bytes u.modifiers_at u.modifiers) (value bytes span) (bytes_at bytes span.data_at span.data_len) ++ codes "\n"
+    let modifiers = bytes_at bytes u.modifiers_at u.modifiers in
+    let sent = bytes_at bytes span.data_at span.data_len in
+    codes "record " ++ place_text span ++ measure_text u ++ data_text modifiers (value bytes span) sent ++ codes "\n"
 
 unfoldable pub maker_line : List ℕ → RecordSpan → List ℕ
-maker_line bytes span = codes "maker " ++ byte_text span.dif ++ codes " " ++ hex_text (bytes_at bytes span.data_at span.data_len) ++ codes "\n"
+maker_line bytes span =
+    codes "maker " ++ byte_text span.dif ++ codes " " ++ hex_text (bytes_at bytes span.data_at span.data_len) ++ codes "\n"
 
 abbrev pub span_line : List ℕ → RecordSpan → List ℕ
 span_line bytes span = if span.maker then maker_line bytes span else record_line bytes span

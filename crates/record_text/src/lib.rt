@@ -1,11 +1,12 @@
 //! The lines of the report for the data records of a payload.
 #![tactic(auto)]
 
+mod laws;
 mod lines;
 mod listing;
 mod value_text;
-mod words;
 
+pub use laws::records_are_listed;
 pub use listing::put_records;
 pub use value_text::put_bytes;
 

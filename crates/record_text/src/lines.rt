@@ -4,13 +4,14 @@ ghost use Rattle.std.specs.Prelude.{◌≡◌, ◌++◌};
 ghost use Rattle.std.specs.Fmt.{decimal};
 ghost use Rattle.paper.specs.Puts.{Puts};
 ghost use Rattle.dif_vif.specs.Spans.{IsSpanOf};
-ghost use Rattle.record_text.specs.Lines.{bytes_at, byte_text, spaced, place_text, unit_text, data_text, record_line, maker_line, span_line, worded, fault_text, fault_line};
+ghost use Rattle.record_text.specs.Lines.{bytes_at, byte_text, place_text, measure_text, data_text};
+ghost use Rattle.record_text.specs.Lines.{record_line, maker_line, span_line, worded, fault_text, fault_line};
 
 use crate::value_text::{put_bytes, put_value};
-use crate::words::{function_word, name_word, quantity_word};
 use dif_vif::{RecordFault, RecordSpan};
-use paper::{Paper, put_hex, put_number, put_signed, put_text};
+use paper::{Paper, put_hex, put_number, put_text};
 use record_values::{Unit, Value, unit_of, value_of};
+use unit_text::{function_word, put_register, put_unit};
 
 /// So many bytes from a place on, or those of them that there are.
 fn bytes_at(bytes: &[u8], place: usize, count: usize) -> &[u8]
@@ -27,34 +28,18 @@ fn put_byte<P: Paper>(paper: &mut P, byte: u8)
     put_hex(paper, &[byte]);
 }
 
-#[tactic(auto, unfolding(crate::specs::Lines::spaced), using(paper::proofs::Calls::two_make))]
-fn put_spaced<P: Paper>(paper: &mut P, number: u64)
-    ensures { Puts P.takes paper.old (spaced number) paper.new }
-{
-    put_text(paper, " ");
-    put_number(paper, number);
-}
-
-#[tactic(auto, unfolding(crate::specs::Lines::place_text), using(paper::proofs::Calls::four_make))]
+#[tactic(auto, unfolding(crate::specs::Lines::place_text), using(paper::proofs::Calls::two_make))]
 fn put_place<P: Paper>(paper: &mut P, span: &RecordSpan)
     ensures { Puts P.takes paper.old (place_text span.now) paper.new }
 {
     put_text(paper, function_word(span.function));
-    put_spaced(paper, span.storage);
-    put_spaced(paper, u64::from(span.tariff));
-    put_spaced(paper, u64::from(span.subunit));
+    put_register(paper, span.storage, span.tariff, span.subunit);
 }
 
-#[tactic(auto, unfolding(crate::specs::Lines::unit_text), using(paper::proofs::Calls::six_make))]
-fn put_unit<P: Paper>(paper: &mut P, unit: Unit)
-    ensures { Puts P.takes paper.old (unit_text unit) paper.new }
+fn put_measure<P: Paper>(paper: &mut P, unit: Unit)
+    ensures { Puts P.takes paper.old (measure_text unit) paper.new }
 {
-    put_text(paper, " ");
-    put_text(paper, quantity_word(unit.quantity));
-    put_text(paper, " ");
-    put_text(paper, name_word(unit.name));
-    put_text(paper, " ");
-    put_signed(paper, i128::from(unit.exponent));
+    put_unit(paper, unit.quantity, unit.name, unit.exponent);
 }
 
 #[tactic(auto, unfolding(crate::specs::Lines::data_text), using(paper::proofs::Calls::six_make))]
@@ -80,7 +65,7 @@ fn put_record<P: Paper>(paper: &mut P, bytes: &[u8], span: &RecordSpan)
     let sent = bytes_at(bytes, span.data_at, span.data_len);
     put_text(paper, "record ");
     put_place(paper, span);
-    put_unit(paper, unit);
+    put_measure(paper, unit);
     put_data(paper, modifiers, value, sent);
     put_text(paper, "\n");
 }

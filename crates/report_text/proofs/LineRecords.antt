@@ -1,5 +1,5 @@
 -- The lines of records, which change no list of steps.
-use Rattle.std.proofs.Common.{ℕ, zero, suc, ◌/◌, ◌%◌, ◌==◌, Bool, true, false, cond, List, [], ◌∷◌, Option, Some, None, Result, Ok, Err, refl, arith}
+use Rattle.std.proofs.Common.{ℕ, ℤ, zero, suc, ◌/◌, ◌%◌, ◌==◌, Bool, true, false, cond, List, [], ◌∷◌, Option, Some, None, Result, Ok, Err, refl, arith}
 use Rattle.std.specs.Prelude.{codes}
 use Rattle.dif_vif.specs.declared.fault.RecordFault.{RecordFault}
 use Rattle.dif_vif.specs.declared.fault.RecordFault.TheVariants.{Truncated, TooManyExtensions, Lvar, Selection, Special}
@@ -7,17 +7,17 @@ use Rattle.dif_vif.specs.declared.span.RecordSpan.{RecordSpan}
 use Rattle.dif_vif.specs.Reading.{next_of}
 use Rattle.record_values.specs.declared.units.Quantity.{Quantity}
 use Rattle.record_values.specs.declared.units.Quantity.TheVariants as quantities
-use Rattle.record_values.specs.declared.units.Unit.{Unit as Measure}
 use Rattle.record_values.specs.declared.units.UnitName.{UnitName}
 use Rattle.record_values.specs.declared.units.UnitName.TheVariants as units
 use Rattle.record_values.specs.declared.values.Value.{Value}
 use Rattle.record_values.specs.declared.values.Value.TheVariants as values
 use Rattle.record_values.specs.Units.{unit}
 use Rattle.record_values.specs.Values.{value}
-use Rattle.record_text.specs.Lines.{bytes_at, spaced, place_text, unit_text, data_text, record_line, maker_line, span_line, worded, fault_text, fault_line}
+use Rattle.record_text.specs.Lines.{bytes_at, place_text, data_text, record_line, maker_line, span_line, worded, fault_text, fault_line}
 use Rattle.record_text.specs.RecordText.{more_text, next_text, listed, records_text}
 use Rattle.record_text.specs.Values.{two_digits, four_digits, day_text, time_text, marked, value_text}
-use Rattle.record_text.specs.Words.{function_text, quantity_text, name_text}
+use Rattle.unit_text.specs.Pieces.{spaced, register_text, unit_text}
+use Rattle.unit_text.specs.Words.{function_text, quantity_text, name_text}
 use Rattle.report_text.specs.Orders.{with_line}
 use Rattle.report_text.proofs.LineWalks.{IsWithout, ◌⌢◌, literal, Passes, nothing, ◌⨾◌, one_line}
 use Rattle.report_text.proofs.LinePieces.{number, signed, hex, hex_or_dash}
@@ -79,13 +79,18 @@ spaced_is : (n : ℕ) → IsWithout 10 (spaced n)
 unfolding spaced
 spaced_is n = literal (codes " ") refl ⌢ number n (omega arith)
 
+register_is : (storage tariff subunit : ℕ) → IsWithout 10 (register_text storage tariff subunit)
+unfolding register_text
+register_is storage tariff subunit = spaced_is storage ⌢ spaced_is tariff ⌢ spaced_is subunit
+
 place_is : (span : RecordSpan) → IsWithout 10 (place_text span)
 unfolding place_text
-place_is span = function_is span.function ⌢ spaced_is span.storage ⌢ spaced_is span.tariff ⌢ spaced_is span.subunit
+place_is span = function_is span.function ⌢ register_is span.storage span.tariff span.subunit
 
-unit_is : (u : Measure) → IsWithout 10 (unit_text u)
+unit_is : (quantity : Quantity) (name : UnitName) (exponent : ℤ) → IsWithout 10 (unit_text quantity name exponent)
 unfolding unit_text
-unit_is u = literal (codes " ") refl ⌢ quantity_is u.quantity ⌢ literal (codes " ") refl ⌢ name_is u.name ⌢ literal (codes " ") refl ⌢ signed u.exponent
+unit_is quantity name exponent =
+    literal (codes " ") refl ⌢ quantity_is quantity ⌢ literal (codes " ") refl ⌢ name_is name ⌢ literal (codes " ") refl ⌢ signed exponent
 
 data_is : (modifiers : List ℕ) (v : Value) (sent : List ℕ) → IsWithout 10 (data_text modifiers v sent)
 unfolding data_text
@@ -96,7 +101,7 @@ record_passes : (bytes : List ℕ) (span : RecordSpan) → Passes (record_line b
 unfolding record_line with_line
 record_passes bytes span =
     let u = unit bytes span in
-    one_line _ (literal (codes "record ") refl ⌢ place_is span ⌢ unit_is u
+    one_line _ (literal (codes "record ") refl ⌢ place_is span ⌢ unit_is u.quantity u.name u.exponent
     ⌢ data_is (bytes_at bytes u.modifiers_at u.modifiers) (value bytes span) (bytes_at bytes span.data_at span.data_len))
 
 maker_passes : (bytes : List ℕ) (span : RecordSpan) → Passes (maker_line bytes span)
