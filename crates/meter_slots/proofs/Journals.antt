@@ -5,6 +5,7 @@ use Rattle.std.specs.Option.{ForSome}
 use Rattle.std.specs.Result.{result_ok}
 use Rattle.std.proofs.lemmas.Bool.Decides.{nat_tests}
 use Rattle.std.proofs.lemmas.List.{reverse-append}
+use Rattle.std.proofs.lemmas.List.Elements.{All-nil, All-push}
 use Rattle.meter_address.specs.declared.address.Address.{Address}
 use Rattle.meter_address.specs.declared.commission.Mode.{Mode}
 use Rattle.meter_address.specs.declared.commission.Mode.TheVariants.{Five, Seven}
@@ -34,6 +35,7 @@ use Rattle.meter_slots.specs.Hearing.{is_response, received, brought}
 use Rattle.meter_slots.specs.Journal.{told, told_by, other_after, other_key, rekeyed, opened_in, compared, genuine_in, genuine, counters, greater, greatest, last_among, last_counter}
 use Rattle.meter_slots.specs.Journal.{Standing, standing, stored_or_refused, judged, verdict, access_at, orders_after, orders, downlink_with, heard, queued, cancelled, key_answer, answer, outcome}
 use Rattle.meter_slots.specs.Journal.{stored, reading_of, readings_back, readings}
+use Rattle.meter_slots.specs.Laws.{PutsPayload}
 use Rattle.meter_slots.specs.Keeping.{Kept, standing_for, Keeps, last_after, Moves, StoresInRange}
 
 -- ---- the last number
@@ -185,11 +187,15 @@ answer_rekeyed c own s (Rekey key) = refl
 
 -- ---- what is kept
 
+abbrev pub PutsIn : Entry → Type 0
+PutsIn x = PutsPayload x.event
+
 pub empty_kept : (c : Commissioned) (own : Address) (k : Kept) → k.commission ≡ c → k.last ≡ c.last → ForSome c.last (λ n. n ≤ most_last c.mode)
     → StandsFor k.parts [] → k.orders ≡ fresh_orders c.ids c.down → Keeps c own [] k []
 unfolding last_counter readings told
 empty_kept c own k same last fits parts commands = record {
   legal = tt;
+  payloads = All-nil PutsIn;
   commission_is = same;
   last_is = last ∙ floor_last c.mode c.last;
   last_fits = subst (λ (o : Option ℕ). ForSome o (λ n. n ≤ most_last c.mode)) (sym last) fits;
@@ -223,12 +229,13 @@ answer_kept c own journal k kept event given h answered =
 -- what is kept after one more entry
 pub kept_after : (c : Commissioned) (own : Address) (journal : List Entry) (k : Kept) (kept : List Reading) (x : Entry) (k' : Kept) (new : List Reading)
     → Keeps c own journal k kept
+    → PutsPayload x.event
     → x.outcome ≡ outcome c own (reverse journal) x.event
     → StoresInRange k.commission.mode x.outcome
     → ((t : List Told) → StandsFor k.parts t → new ≡ reading_of x.event (stored k.commission (standing_for k t) x.event))
     → ((t : List Told) → StandsFor k.parts t → Moves k k' t x.event x.outcome)
     → Keeps c own (journal ++ x ∷ []) k' (kept ++ new)
-kept_after c own journal k kept x k' new h judged fits reads moves =
+kept_after c own journal k kept x k' new h puts judged fits reads moves =
     let earlier = reverse journal in
     let fragments = told c earlier in
     let m = moves fragments h.parts_are in
@@ -236,6 +243,7 @@ kept_after c own journal k kept x k' new h judged fits reads moves =
     let in_mode = subst (λ (n : Commissioned). StoresInRange n.mode x.outcome) h.commission_is fits in
     record {
       legal = rw (back journal x) (judged, h.legal);
+      payloads = All-push PutsIn journal x h.payloads puts;
       commission_is = rw (back journal x) (m.commission
           ∙ ap (λ (n : Commissioned). rekeyed n (other_after n.mode x.event n.other)) h.commission_is);
       last_is = rw (back journal x, last_counter-cons c own earlier x judged) (m.last ∙ ap (λ l. last_after l x.outcome) h.last_is);

@@ -1,5 +1,6 @@
 -- Words of private contracts: what a slot keeps beside its journal, and what its steps answer.
 use Rattle.std.specs.Prelude.{ℕ, ◌≡◌, ◌+◌, ◌≤◌, min, true, if◌then◌else◌, List, ◌++◌, length, reverse, Option, Some, None, option_map, Result, Ok, Err}
+use Rattle.std.specs.List.{All}
 use Rattle.std.specs.Option.{ForSome}
 use Rattle.meter_address.specs.declared.address.Address.{Address}
 use Rattle.meter_address.specs.declared.commission.Mode.{Mode}
@@ -17,6 +18,7 @@ use Rattle.message_check.specs.declared.headers.Layers.{Layers}
 use Rattle.message_check.specs.declared.opening.Opened.{Opened}
 use Rattle.message_check.specs.declared.refusal.Reason.{Reason}
 use Rattle.meter_slots.specs.Journal.{Standing, Legal, other_after, other_key, rekeyed, last_counter, told_by, told, access_at, orders_after, orders, judged, readings}
+use Rattle.meter_slots.specs.Laws.{PutsPayload}
 use Rattle.meter_slots.specs.declared.entry.Entry.{Entry}
 use Rattle.meter_slots.specs.declared.entry.Event.{Event}
 use Rattle.meter_slots.specs.declared.entry.Outcome.{Outcome}
@@ -42,6 +44,7 @@ standing_for k told = record { other = k.commission.other; last = k.last; told =
 -- what a slot keeps is what its journal comes to
 pub record Keeps (c : Commissioned) (own : Address) (journal : List Entry) (k : Kept) (kept : List Reading) : Type 0 where
   pub legal : Legal c own journal
+  pub payloads : All (λ x. PutsPayload x.event) journal
   pub commission_is : k.commission ≡ rekeyed c (other_key c (reverse journal))
   pub last_is : k.last ≡ last_counter c (reverse journal)
   pub last_fits : ForSome k.last (λ n. n ≤ most_last c.mode)

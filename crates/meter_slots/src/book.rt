@@ -44,8 +44,8 @@ fn note(readings: &mut Vec<Reading>, reading: Option<Reading>)
 }
 
 impl SlotBook {
-    ghost use Rattle.std.specs.Prelude.{◌≡◌, [], ◌∷◌, ◌++◌, reverse, IfOk, OnErr, ℕ, List};
-    ghost use Rattle.meter_slots.specs.Laws.{IsRefused, IsLeft};
+    ghost use Rattle.std.specs.Prelude.{◌≡◌, [], ◌∷◌, ◌++◌, reverse, All, IfOk, OnErr};
+    ghost use Rattle.meter_slots.specs.Laws.{PutsPayload, IsRefused, IsLeft};
     ghost use Rattle.meter_slots.specs.Journal.{SlotView, Legal, outcome, readings, other_key, last_counter, orders};
 
     /// A slot with an empty journal.
@@ -66,6 +66,7 @@ impl SlotBook {
     pub fn journal(&self) -> &[Entry]
         ensures entries { result.now ≡ self.now.journal }
         ensures legal { Legal self.now.commission self.now.own self.now.journal }
+        ensures payloads { All (λ x. PutsPayload x.event) self.now.journal }
     {
         self.entries.as_slice()
     }
@@ -122,6 +123,7 @@ impl SlotBook {
     {
         self.entries.reserve(1)?;
         self.readings.reserve(1)?;
+        event.show_payload();
         let served = self.standing.answer(self.alloc, self.own, &event)?;
         note(&mut self.readings, served.reading);
         self.entries.push_reserved(Entry {

@@ -1,5 +1,6 @@
 //! What a slot hears and what it answers.
-ghost use Rattle.std.specs.Prelude.{◌≡◌};
+ghost use Rattle.std.specs.Prelude.{◌≡◌, ◌≤◌, length};
+ghost use Rattle.meter_slots.specs.Laws.{IsPayload};
 
 use downlink_maker::Downlink;
 use frame_formats::Telegram;
@@ -35,6 +36,28 @@ pub enum Event {
     Cancel(u32),
     /// The meter's second key is this one from now on.
     Rekey([u8; 16]),
+}
+
+// What a payload shows of its bytes.
+fn show_payload(bytes: &[u8])
+    requires least { 1 ≤ length bytes.now }
+    requires most { length bytes.now ≤ 94 }
+    ensures { IsPayload bytes.now }
+{
+    let (_front, _rest) = bytes.split_at(0);
+}
+
+impl Event {
+    ghost use Rattle.meter_slots.specs.Laws.{PutsPayload};
+
+    // A command that is put has 1 to 94 bytes. Nothing is done: the journal's proof needs it.
+    pub(crate) fn show_payload(&self)
+        ensures { PutsPayload self.now }
+    {
+        if let Event::Put(payload) = self {
+            show_payload(payload.bytes());
+        }
+    }
 }
 
 /// What a slot answers.
