@@ -1,0 +1,4 @@
+pub mod Lone
+pub mod Numbers
+pub mod OneSession
+pub mod Tellings
