@@ -1,2 +1,4 @@
 pub mod Puts
 pub mod Filing
+pub mod InMemory
+pub mod Pieces

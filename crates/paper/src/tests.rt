@@ -79,6 +79,8 @@ fn numbers_are_written_in_decimal(rt: HostRuntime) -> Result<(), Fail> {
         let answer = write(&mut sink, &Numbers { number, signed });
         assert!(rt; answer.is_ok());
         assert_eq!(rt; sink.bytes(), text.as_bytes());
+        let bytes = written(rt.alloc(), &Numbers { number, signed })?;
+        assert_eq!(rt; bytes.as_slice(), text.as_bytes());
     }
     Ok(())
 }

@@ -8,7 +8,7 @@ use Rattle.hex.specs.Hex.{encode_with, encode_lower, lower_digits}
 use Rattle.meter_address.specs.declared.address.Address.{Address}
 use Rattle.meter_address.specs.Letters.{letters_of, letters_of_number, manufacturer_of, is_letter}
 use Rattle.record_text.specs.Values.{hex_text}
-use Rattle.report_text.specs.Pieces.{optional_text, labelled, labelled_two, labelled_if, labelled_bytes, text_if}
+use Rattle.paper.specs.Pieces.{optional_text, labelled, labelled_two, labelled_if, labelled_bytes, text_if}
 use Rattle.report_text.specs.Report.{letters_text}
 use Rattle.report_text.proofs.LineWalks.{IsWithout, ◌⌢◌, literal, differs, byte_differs, found_differs}
 

@@ -20,7 +20,7 @@ use Rattle.record_text.specs.RecordText.{records_text}
 use Rattle.report_text.specs.declared.lent.ReceiverEnd.{ReceiverEnd}
 use Rattle.report_text.specs.Orders.{Told, lines_in, told, orders, with_line, with_steps, meter_heading, strangers_heading}
 use Rattle.report_text.specs.OrdersLaw.{IsCounted, place_of_step, place_of_stranger, order_of, orders_of}
-use Rattle.report_text.specs.Pieces.{optional_text, labelled, labelled_two, labelled_bytes, text_if}
+use Rattle.paper.specs.Pieces.{optional_text, labelled, labelled_two, labelled_bytes, text_if}
 use Rattle.report_text.specs.Report.{ended_text, counts_text, receiver_text, mode_text, commission_text, numbers_text, step_text, readings_after, steps_text, last_text, pending_text, journal_text, orders_now, meter_text, stranger_text, ring_text, strangers_text, report_text}
 use Rattle.report_text.proofs.LineWalks.{IsWithout, ◌⌢◌, literal, Tells, Passes, nothing, ◌⨾◌, one_line, same_text}
 use Rattle.report_text.proofs.LinePieces.{letters, number_or_dash, worded_number, worded_two, worded_bytes}

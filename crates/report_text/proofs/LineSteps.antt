@@ -8,7 +8,7 @@ use Rattle.std.proofs.lemmas.Bool.{and_from, cond-true}
 use Rattle.std.proofs.lemmas.Str.Parse.{IsNumeralModel, numerals_by_value, tells_all_ascii_digits}
 use Rattle.std.proofs.lemmas.Fmt.{digits_decimal, digits_value-decimal}
 use Rattle.report_text.specs.Orders.{pair_in, fields_in, with_steps, with_line}
-use Rattle.report_text.specs.Pieces.{labelled_two}
+use Rattle.paper.specs.Pieces.{labelled_two}
 use Rattle.report_text.proofs.LineWalks.{IsWithout, ◌⌢◌, literal, cut_first, cut_last, Tells, one_line, same_turn}
 use Rattle.report_text.proofs.LinePieces.{number, worded_two}
 

@@ -16,7 +16,7 @@ use Rattle.meter_slots.specs.declared.entry.Outcome.{Outcome}
 use Rattle.meter_slots.specs.declared.entry.Outcome.TheVariants.{Stored, PartKept, Ticked, Queued, Cancelled, Refused}
 use Rattle.meter_slots.specs.declared.reading.Reading.{Reading}
 use Rattle.record_text.specs.Values.{hex_text}
-use Rattle.report_text.specs.Pieces.{labelled, labelled_two, labelled_if, labelled_bytes, text_if}
+use Rattle.paper.specs.Pieces.{labelled, labelled_two, labelled_if, labelled_bytes, text_if}
 
 -- ---- refusals
 

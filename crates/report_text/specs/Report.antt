@@ -20,7 +20,7 @@ use Rattle.meter_slots.specs.declared.reading.Reading.{Reading}
 use Rattle.meter_slots.specs.Journal.{SlotView, last_counter, orders, readings}
 use Rattle.record_text.specs.RecordText.{records_text}
 use Rattle.report_text.specs.declared.lent.ReceiverEnd.{ReceiverEnd}
-use Rattle.report_text.specs.Pieces.{optional_text, labelled, labelled_two, labelled_bytes, text_if}
+use Rattle.paper.specs.Pieces.{optional_text, labelled, labelled_two, labelled_bytes, text_if}
 use Rattle.report_text.specs.Outcomes.{outcome_text}
 
 -- ---- a receiver

@@ -4,7 +4,6 @@
 mod laws;
 mod lent;
 mod outcomes;
-mod pieces;
 mod writing;
 
 pub use laws::orders_are_told;

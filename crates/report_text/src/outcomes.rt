@@ -1,14 +1,13 @@
 //! The text of what a slot answers.
 ghost use Rattle.std.specs.Prelude.{◌≡◌, option_map, option_copied};
 ghost use Rattle.paper.specs.Puts.{Puts};
-ghost use Rattle.report_text.specs.Pieces.{text_if};
+ghost use Rattle.paper.specs.Pieces.{text_if};
 ghost use Rattle.report_text.specs.Outcomes.{ell_fault_text, afl_fault_text, tpl_fault_text, layer_fault_text, message_fault_text, reason_text, reading_text, stored_text, refused_text, ticked_text, outcome_text};
 
-use crate::pieces::{put_labelled, put_labelled_bytes, put_labelled_if, put_labelled_two};
 use afl_layer::AflFault;
 use ell_layer::EllFault;
 use meter_slots::{Downlink, LayerFault, Outcome, Reading, Reason};
-use paper::{Paper, put_text};
+use paper::{Paper, put_labelled, put_labelled_bytes, put_labelled_if, put_labelled_two, put_text};
 use record_text::put_bytes;
 use tpl_headers::TplFault;
 

@@ -7,17 +7,16 @@ ghost use Rattle.paper.specs.Puts.{Puts};
 ghost use Rattle.meter_address.specs.Letters.{letters_of};
 ghost use Rattle.stranger_ring.specs.Ring.{ring_of};
 ghost use Rattle.record_text.specs.RecordText.{records_text};
-ghost use Rattle.report_text.specs.Pieces.{text_if};
+ghost use Rattle.paper.specs.Pieces.{text_if};
 ghost use Rattle.report_text.specs.Report.{ended_text, counts_text, receiver_text, letters_text, mode_text, commission_text, numbers_text, step_text, readings_after, steps_text, last_text, pending_text, journal_text, meter_text, stranger_text, ring_text, strangers_text, report_text};
 
 use crate::lent::{ReceiverEnd, Session};
 use crate::outcomes::put_outcome;
-use crate::pieces::{put_labelled, put_labelled_bytes, put_labelled_two, put_optional};
 use command_queue::{Command, Queue};
 use meter_address::{Address, Mode};
 use meter_slots::{Counts, Ended, Entry, Outcome, Reading, SlotBook};
 use outer_io::{Failed, Sink};
-use paper::{Paper, Printed, put_text, write};
+use paper::{Paper, Printed, put_labelled, put_labelled_bytes, put_labelled_two, put_optional, put_text, write};
 use record_text::put_records;
 use stranger_ring::{Heard, Strangers};
 

@@ -1,1 +1,2 @@
+pub mod Enrolling
 pub mod RosterLines

@@ -1,1 +1,4 @@
 pub mod Roster
+pub mod Columns
+pub mod Text
+pub mod Enrolled

@@ -3,9 +3,13 @@
 
 mod entries;
 mod fields;
+mod laws;
+mod load;
 mod reader;
 mod roster;
 
+pub use laws::read_rosters_are_enrolled;
+pub use load::{LoadFault, load_roster};
 pub use reader::{MOST_BYTES, MOST_METERS, read_roster};
 pub use roster::{LineCause, Roster, RosterFault};
 

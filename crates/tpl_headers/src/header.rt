@@ -1,6 +1,6 @@
 //! Reading a transport header.
 ghost use Rattle.std.specs.Prelude.{◌≡◌, ◌+◌, ◌<◌, ◌↔◌, length, Ok, Err, IfOk, option_map};
-ghost use Rattle.tpl_headers.specs.Configuration.{mode_of, blocks_of, derivation_of, is_bidirectional, is_accessible};
+ghost use Rattle.tpl_headers.specs.Configuration.{mode_of, blocks_of, derivation_of, key_id_of, is_bidirectional, is_accessible};
 ghost use Rattle.tpl_headers.specs.Header.{BeginsWithTpl, IsTplFault, address_at, short_at, long_at, tpl_at, cfe_bytes, with_tail};
 ghost use Rattle.tpl_headers.specs.declared.header.Tpl.{Tpl};
 ghost use Rattle.tpl_headers.specs.declared.header.TplFault.{TplFault};
@@ -71,6 +71,13 @@ impl Tpl {
         ensures { result ≡ option_map derivation_of self.now.cfe }
     {
         self.cfe.map(|cfe| cfe >> 4 & 3)
+    }
+
+    /// The id of the key under which a message of mode 7 is secured.
+    pub fn key_id(&self) -> Option<u8>
+        ensures { result ≡ option_map key_id_of self.now.cfe }
+    {
+        self.cfe.map(|cfe| cfe & 0xF)
     }
 }
 

@@ -1,5 +1,5 @@
 use Rattle.report_text.specs.Report.{stranger_text}
-use Rattle.report_text.proofs.Texts.{one_at}
+use Rattle.paper.proofs.Items.{one_at}
 use Rattle.report_text.proofs.writing.put_heard.Goals as goal
 
 pub loop-stranger-preserved : goal.loop-stranger-preserved

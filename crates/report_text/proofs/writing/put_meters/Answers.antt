@@ -1,5 +1,5 @@
 use Rattle.report_text.specs.Report.{meter_text}
-use Rattle.report_text.proofs.Texts.{one_item}
+use Rattle.paper.proofs.Items.{one_item}
 use Rattle.report_text.proofs.writing.put_meters.Goals as goal
 
 pub loop-slot-preserved : goal.loop-slot-preserved

@@ -1,5 +1,5 @@
 use Rattle.report_text.specs.Report.{pending_text}
-use Rattle.report_text.proofs.Texts.{one_more}
+use Rattle.paper.proofs.Items.{one_more}
 use Rattle.report_text.proofs.writing.put_pending.Goals as goal
 
 pub loop-place-preserved : goal.loop-place-preserved

@@ -1,6 +1,6 @@
 use Rattle.stranger_ring.specs.Ring.{ring_of}
 use Rattle.report_text.specs.Report.{ring_text}
-use Rattle.report_text.proofs.Texts.{one_more}
+use Rattle.paper.proofs.Items.{one_more}
 use Rattle.report_text.proofs.writing.put_ring.Goals as goal
 
 pub loop-place-preserved : goal.loop-place-preserved
