@@ -1,5 +1,6 @@
 //! What a meter's messages are judged by, and the verdict on a message.
 ghost use Rattle.std.specs.Prelude.{◌≡◌, ◌≤◌, ℕ, length, Some, Ok, Err, IfOk, IfErr, OnOk, OnSome};
+ghost use Rattle.std.specs.Option.{ForSome};
 ghost use Rattle.meter_address.specs.Commission.{most_last};
 ghost use Rattle.afl_fragments.specs.Held.{message_with};
 ghost use Rattle.message_check.specs.Opened.{found_in};
@@ -61,7 +62,8 @@ fn open(
 
 impl Judge {
     pub(crate) fn new(commission: Commission) -> Judge
-        ensures { result ≡ record { commission = commission; last = commission.last } }
+        ensures bar { result ≡ record { commission = commission; last = commission.last } }
+        ensures fits { ForSome commission.last (λ n. n ≤ most_last commission.mode) }
     {
         Judge {
             commission,

@@ -111,18 +111,21 @@ fn plain(outcome: Outcome) -> Served
 }
 
 impl Standing {
-    ghost use Rattle.std.specs.Prelude.{◌≡◌, List, option_to_list, IfOk, OnErr};
+    ghost use Rattle.std.specs.Prelude.{◌≡◌, ◌≤◌, ◌++◌, List, option_to_list, IfOk, OnErr};
+    ghost use Rattle.std.specs.Option.{ForSome};
+    ghost use Rattle.meter_address.specs.Commission.{most_last};
     ghost use Rattle.access_window.specs.Moves.{fresh_orders};
     ghost use Rattle.afl_fragments.specs.Held.{Told, StandsFor};
     ghost use Rattle.meter_slots.specs.declared.entry.Event.TheVariants.{Hear};
     ghost use Rattle.meter_slots.specs.declared.entry.Format.{Format};
-    ghost use Rattle.meter_slots.specs.Journal.{answer, stored, reading_of};
-    ghost use Rattle.meter_slots.specs.Keeping.{standing_for, Moves, StoresInRange};
+    ghost use Rattle.meter_slots.specs.Journal.{told_by, access_at, orders_after, answer, stored, reading_of};
+    ghost use Rattle.meter_slots.specs.Keeping.{standing_for, last_after, Moves, StoresInRange};
 
     /// Nothing came yet.
     pub(crate) fn new(commission: Commission) -> Standing
         ensures commission { result.commission ≡ commission }
         ensures last { result.last ≡ commission.last }
+        ensures fits { ForSome commission.last (λ n. n ≤ most_last commission.mode) }
         ensures parts { StandsFor result.parts [] }
         ensures orders { result.orders ≡ fresh_orders commission.ids commission.down }
     {
@@ -176,8 +179,14 @@ impl Standing {
         ensures reading { IfOk result (λ served. (format : Format) (told : List Told) → StandsFor self.old.parts told
             → option_to_list served.reading
             ≡ reading_at at (stored self.old.commission (standing_for self.old told) (Hear format at telegram.now))) }
-        ensures moves { IfOk result (λ served. (format : Format) (told : List Told) → StandsFor self.old.parts told
-            → Moves self.old self.new told (Hear format at telegram.now) served.outcome) }
+        ensures commission { IfOk result (λ _. self.new.commission ≡ self.old.commission) }
+        ensures last { IfOk result (λ served. self.new.last ≡ last_after self.old.last served.outcome) }
+        ensures parts { IfOk result (λ served. (format : Format) (told : List Told) → StandsFor self.old.parts told
+            → StandsFor self.new.parts (told_by self.old.commission (Hear format at telegram.now) served.outcome ++ told)) }
+        ensures orders { IfOk result (λ served. (format : Format) (told : List Told) → StandsFor self.old.parts told
+            → self.new.orders ≡ orders_after self.old.orders
+            (access_at self.old.commission (standing_for self.old told) (Hear format at telegram.now))
+            (Hear format at telegram.now) served.outcome) }
         ensures number { IfOk result (λ served. StoresInRange self.old.commission.mode served.outcome) }
         ensures err { OnErr result (self.new ≡ self.old) }
     {
@@ -205,7 +214,7 @@ impl Standing {
         ensures err { OnErr result (self.new ≡ self.old) }
     {
         match event {
-            Event::Hear { at, telegram, .. } => self.hear(alloc, own, *at, telegram),
+            Event::Hear { at, telegram, .. } => Ok(self.hear(alloc, own, *at, telegram)?),
             Event::Tick => {
                 self.parts.tick();
                 Ok(plain(self.commands.tick()))
