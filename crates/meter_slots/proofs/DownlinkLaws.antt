@@ -20,7 +20,7 @@ use Rattle.message_check.specs.declared.refusal.Reason.{Reason}
 use Rattle.meter_slots.specs.declared.entry.Entry.{Entry}
 use Rattle.meter_slots.specs.declared.entry.Event.{Event}
 use Rattle.meter_slots.specs.declared.entry.Event.TheVariants.{Hear, Tick, Put, Cancel, Rekey}
-use Rattle.meter_slots.specs.Journal.{standing, told, last_counter, verdict, access_at, orders_heard, orders_after, orders, downlink_with, heard, queued, cancelled, key_answer, answer, outcome, IsJudged, Legal}
+use Rattle.meter_slots.specs.Journal.{standing, verdict, access_at, orders_heard, orders_after, orders, downlink_with, heard, queued, cancelled, key_answer, answer, outcome, IsJudged, Legal}
 use Rattle.meter_slots.specs.Laws.{sent_counter, sent_counters, last_or, IsRising}
 use Rattle.meter_slots.proofs.JournalLaws.{front_back, IsRising-push, last_or-push}
 

@@ -18,7 +18,6 @@ use Rattle.command_queue.specs.declared.command.QueueFault.TheVariants.{Full, Id
 use Rattle.command_queue.specs.Pending.{put_answer, take_answer}
 use Rattle.access_window.specs.Orders.{Orders, confirmed, sent_at, after_stored}
 use Rattle.access_window.specs.Moves.{fresh_orders}
-use Rattle.afl_fragments.specs.declared.places.HeldPart.{HeldPart}
 use Rattle.afl_fragments.specs.Held.{Told, Message, StandsFor}
 use Rattle.message_check.specs.Steps.{◌>>=◌}
 use Rattle.message_check.specs.Opening.{Found, Passed, compared5, compared7}

@@ -1,5 +1,5 @@
 -- Proof that each downlink that a journal sent carries a payload.
-use Rattle.std.proofs.Common.{◌≡◌, ℕ, ◌+◌, ◌-◌, ◌^◌, ◌<◌, ◌&&◌, Bool, true, false, not, cond, ltb, List, [], ◌∷◌, ◌++◌, reverse, Option, Some, None, Result, Ok, Err, refl, sym, arith, subst}
+use Rattle.std.proofs.Common.{◌≡◌, ℕ, ◌+◌, ◌-◌, ◌^◌, ◌<◌, ◌&&◌, Bool, true, false, not, cond, ltb, List, [], ◌∷◌, reverse, Option, Some, None, Result, Ok, Err, refl, sym, arith, subst}
 use Rattle.std.specs.Prelude.{option_map, option_to_list}
 use Rattle.std.specs.List.{All}
 use Rattle.std.proofs.lemmas.Bool.{and_parts, ltb-true}
@@ -21,8 +21,6 @@ use Rattle.access_window.specs.Orders.{Orders, after_put, after_cancel, window_w
 use Rattle.access_window.specs.Orders.{is_open, oldest_where_idle, sent, sent_orders, after_sent, sent_at, after_stored}
 use Rattle.message_check.specs.Opening.{Found}
 use Rattle.message_check.specs.declared.refusal.Reason.{Reason}
-use Rattle.downlink_maker.specs.Sent.{Sent}
-use Rattle.downlink_maker.specs.Downlink.{downlink}
 use Rattle.meter_slots.specs.declared.entry.Entry.{Entry}
 use Rattle.meter_slots.specs.declared.entry.Event.{Event}
 use Rattle.meter_slots.specs.declared.entry.Event.TheVariants.{Hear, Tick, Put, Cancel, Rekey}

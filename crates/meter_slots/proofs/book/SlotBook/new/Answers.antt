@@ -1,4 +1,3 @@
-use Rattle.std.proofs.Common.{[]}
 use Rattle.meter_slots.proofs.Journals.{empty_kept}
 use Rattle.meter_slots.proofs.book.SlotBook.new.Goals as goal
 
