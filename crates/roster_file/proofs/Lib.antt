@@ -1,2 +1,3 @@
 pub mod Enrolling
 pub mod RosterLines
+pub mod LinePieces
