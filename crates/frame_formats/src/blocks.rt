@@ -3,7 +3,7 @@ ghost use Rattle.std.specs.Prelude.{◌≡◌, ◌≤◌, ◌+◌, ◌-◌, ◌+
 ghost use Rattle.frame_formats.specs.Decoding.{block_of, with_crc};
 
 use crate::FrameFault;
-use crate::check::crc;
+use crate::crc16::crc;
 
 /// The block of the piece with this number: what stands before its last two bytes, where these are its CRC.
 #[tactic(auto, unfolding(crate::specs::Decoding::block_of))]
