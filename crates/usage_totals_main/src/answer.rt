@@ -138,8 +138,8 @@ fn answer_request<K: Sink>(totals: &mut Totals, out: &mut K, request: &RequestRe
     }
 }
 
-// Writes that a line asks for nothing.
-fn write_bad<K: Sink>(out: &mut K) -> Result<(), Stop>
+/// Writes that a line asks for nothing.
+pub(crate) fn write_bad<K: Sink>(out: &mut K) -> Result<(), Stop>
     ensures writes { IsTrue K.tells → Writes (codes "bad\n") (sink_change K.Sink out.old out.new) result }
     ensures cause { result ≡ Err Stop.Write → WriteFailed (sink_change K.Sink out.old out.new) }
     ensures later { K.faults out.old ≤ K.faults out.new }

@@ -3,6 +3,9 @@
 
 mod answer;
 mod request;
+mod status;
 mod texts;
 
 pub use meter_usage::{Totals, TotalsFault, UsageKey};
+pub use request::LINE_MAX;
+pub use status::TotalsStatus;
