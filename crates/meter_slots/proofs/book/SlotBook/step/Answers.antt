@@ -4,22 +4,22 @@ use Rattle.meter_slots.specs.Journal.{SlotView, Legal, outcome}
 use Rattle.meter_slots.specs.Laws.{IsLeft}
 use Rattle.meter_slots.proofs.JournalLaws.{refused_left}
 use Rattle.meter_slots.proofs.Journals.{answer_kept, kept_after}
-use Rattle.meter_slots.proofs.book.SlotBook.step_in.Goals as goal
+use Rattle.meter_slots.proofs.book.SlotBook.step.Goals as goal
 
 pub invariant_of-self-2 : goal.invariant_of-self-2
 invariant_of-self-2 c =
     let b = c.self.inside in
     let given = c.in_ok-served.served.outcome in
     let x : Entry = record { source = c.args.source; line = c.args.line; event = c.args.event; outcome = given } in
-    rw (c.push_reserved.ensures.items, c.counted-self-inside.ensures, c.note.ensures, c.reserve.ensures.items, c.reserve-2.ensures.items, c.copied.ensures)
-    (kept_after b.opening b.own b.entries.items b.last b.parts b.commands b.readings.items x _ c.serve.new.parts c.serve.new.commands c.self.invariant
-    (answer_kept b.opening b.own b.entries.items b.last b.parts b.commands b.readings.items c.args.event given c.self.invariant c.in_ok-served.ensures.outcome)
-    c.in_ok-served.ensures.number c.in_ok-served.ensures.stored c.in_ok-served.ensures.parts c.in_ok-served.ensures.commands)
+    let judged = answer_kept b.opening b.own b.entries.items b.standing b.readings.items c.args.event given c.self.invariant c.in_ok-served.ensures.outcome in
+    rw (c.push_reserved.ensures.items, c.note.ensures, c.reserve.ensures.items, c.reserve-2.ensures.items, c.copied.ensures)
+    (kept_after b.opening b.own b.entries.items b.standing b.readings.items x c.answer.new.self _ c.self.invariant c.show_payload.ensures judged
+    c.in_ok-served.ensures.number c.in_ok-served.ensures.reading c.in_ok-served.ensures.moves)
 
 pub returns-clause-outcome : goal.returns-clause-outcome
 returns-clause-outcome c =
     let b = c.self.inside in
-    answer_kept b.opening b.own b.entries.items b.last b.parts b.commands b.readings.items c.args.event c.in_ok-served.served.outcome c.self.invariant c.in_ok-served.ensures.outcome
+    answer_kept b.opening b.own b.entries.items b.standing b.readings.items c.args.event c.in_ok-served.served.outcome c.self.invariant c.in_ok-served.ensures.outcome
     ∙ ap (λ v. outcome v.commission v.own (reverse v.journal) c.args.event) c.self.view_is
 
 pub returns-clause-legal : goal.returns-clause-legal
