@@ -34,7 +34,7 @@ pub fn edits_that_change_nothing()
         → rows_after (edits ++ replacement address place payload ∷ []) ≡ rows_after edits }
     ensures again { (edits : List Edit) (address : Address) (payload : List ℕ)
         → rows_after (edits ++ addition address payload ∷ removal address (length (rows_at address (rows_after edits))) ∷ [])
-            ≡ rows_after edits }
+        ≡ rows_after edits }
 {}
 
 /// The total of a key is over all meters: how many have a usage, and the sum of these. Each meter stands once among

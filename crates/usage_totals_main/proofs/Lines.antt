@@ -8,6 +8,9 @@ use Rattle.std.proofs.Math.Seq.{take-append_seam, take-append-add}
 use Rattle.outer_io.specs.Bytes.{AppendsFront}
 use Rattle.outer_io.specs.Shown.{Change, SinkShown}
 use Rattle.plain_text.specs.Parts.{fields_of}
+use Rattle.line_reader.specs.declared.next.NextText.{NextText}
+use Rattle.line_reader.specs.declared.next.NextText.TheVariants as texts
+use Rattle.line_reader.specs.Reader.{GivesText, GivesLongLine}
 use Rattle.meter_usage.specs.Amounts.{Row}
 use Rattle.meter_usage.specs.Table.{Table}
 use Rattle.usage_totals_main.specs.declared.answer.Stop.{Stop}
@@ -15,7 +18,7 @@ use Rattle.usage_totals_main.specs.declared.answer.Stop.TheVariants as stops
 use Rattle.usage_totals_main.specs.declared.status.TotalsStatus.{TotalsStatus}
 use Rattle.usage_totals_main.specs.declared.status.TotalsStatus.TheVariants as statuses
 use Rattle.usage_totals_main.specs.Requests.{request_of, by_sign}
-use Rattle.usage_totals_main.specs.Texts.{answer_text, answers, rows_after_line, rows_told}
+use Rattle.usage_totals_main.specs.Texts.{answer_text, answers, rows_by, rows_after_line, rows_told}
 use Rattle.usage_totals_main.specs.Answering.{Keeps, Writes}
 use Rattle.usage_totals_main.specs.Run.{printed}
 use Rattle.usage_totals_main.specs.Running.{AreAnswered, ended_by}
@@ -97,7 +100,7 @@ stopped_write lines all line n before now e text front =
     let answer = answer_text (rows_told lines) (request_of line) in
     let more = answers (rows_told (lines ++ line ∷ [])) (drop n all) in
     let whole : printed all ≡ (printed lines ++ answer) ++ more =
-        ap printed (all_are all lines line n e) ∙ answers-append [] (lines ++ line ∷ []) (drop n all) ∙ ap (λ t. t ++ more) (printed_more lines line) in
+    ap printed (all_are all lines line n e) ∙ answers-append [] (lines ++ line ∷ []) (drop n all) ∙ ap (λ t. t ++ more) (printed_more lines line) in
     record {
       count = length (printed lines) + front.count;
       within = subst (λ t. length (printed lines) + front.count ≤ length t) (sym whole)
@@ -105,3 +108,34 @@ stopped_write lines all line n before now e text front =
       appended = front.appended ∙ ap (λ t. t ++ take front.count answer) text ∙ front_of (printed lines) answer more front.count front.within
           ∙ ap (take (length (printed lines) + front.count)) (sym whole);
     }
+
+-- ---- a step
+
+pub step_answered : (stop : Result (Unit {0}) Stop) (status : Result (Unit {0}) TotalsStatus) (X : Type 0) → status ≡ ended_by stop → (stop ≡ fine → X) → OnOk status X
+step_answered stop status X e then = subst (λ s. OnOk s X) (sym e) (ok_case stop X then)
+
+pub step_ended : (stop : Result (Unit {0}) Stop) (status : Result (Unit {0}) TotalsStatus) (X : TotalsStatus → Type 0) → status ≡ ended_by stop
+    → (stop ≡ Err stops.Write → X statuses.Write) → (stop ≡ Err stops.Memory → X statuses.Memory) → IfErr status X
+step_ended stop status X e write memory = subst (λ s. IfErr s X) (sym e) (err_case stop X write memory)
+
+-- ---- a line that asks for nothing
+
+on_any : (stop : Result (Unit {0}) Stop) (X : Type 0) → X → OnOk stop X
+on_any (Ok done) X x = x
+on_any (Err e) X x = tt
+
+pub bad_rows : (line : List ℕ) (old : Table Row) (stop : Result (Unit {0}) Stop) → request_of line ≡ None
+    → OnOk stop ((table : Table (List ℕ)) → Keeps table old → Keeps (rows_after_line table line) old)
+bad_rows line old stop none = on_any stop _ (λ table k. subst (λ o. Keeps (rows_by table o) old) (sym none) k)
+
+pub bad_writes : (line : List ℕ) (sink : Change SinkShown) (stop : Result (Unit {0}) Stop) → request_of line ≡ None → Writes (codes "bad\n") sink stop
+    → (table : Table (List ℕ)) → Writes (answer_text table (request_of line)) sink stop
+bad_writes line sink stop none writes table = subst (λ o. Writes (answer_text table o) sink stop) (sym none) writes
+
+-- ---- what the reader gives
+
+pub lent : (next : NextText) (longest : ℕ) (text : List ℕ) (old new : List (List ℕ)) → next ≡ texts.Line → GivesText (Ok next) longest text old new → new ≡ old ++ text ∷ []
+lent next longest text old new is gives = subst (λ n. GivesText (Ok n) longest text old new) is gives
+
+pub too_long : (next : NextText) (longest : ℕ) (text : List ℕ) (old new : List (List ℕ)) → next ≡ texts.TooLong → GivesText (Ok next) longest text old new → GivesLongLine longest old new
+too_long next longest text old new is gives = subst (λ n. GivesText (Ok n) longest text old new) is gives

@@ -9,7 +9,7 @@ use Rattle.usage_totals_main.specs.declared.status.TotalsStatus.{TotalsStatus}
 use Rattle.usage_totals_main.specs.declared.status.TotalsStatus.TheVariants as statuses
 use Rattle.usage_totals_main.specs.Texts.{rows_told}
 use Rattle.usage_totals_main.specs.Answering.{Keeps}
-use Rattle.usage_totals_main.specs.Run.{printed, IsAnswered}
+use Rattle.usage_totals_main.specs.Run.{printed}
 
 -- The rows that lines leave are kept, and the answers to the lines are written.
 pub record AreAnswered (lines : List (List ℕ)) (value : Table Row) (written : List ℕ) : Type 0 where
@@ -21,11 +21,6 @@ abbrev pub SourceEnds : TotalsStatus → (taken left : List ℕ) → Type 0
 SourceEnds statuses.Done taken left = (left ≡ []) × (is_over taken ≡ false)
 SourceEnds statuses.Cut taken left = is_over (taken ++ left) ≡ true
 SourceEnds _ taken left = Unit {0}
-
--- what is there once lines end
-pub record EndsSo (status : TotalsStatus) (taken left written : List ℕ) : Type 0 where
-  pub source : SourceEnds status taken left
-  pub answered : IsAnswered status taken written
 
 -- the status by which a line's answer ends the lines, if it does
 abbrev pub ended_by : Result (Unit {0}) Stop → Result (Unit {0}) TotalsStatus

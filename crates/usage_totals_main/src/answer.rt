@@ -123,7 +123,11 @@ fn answer_edit<K: Sink>(totals: &mut Totals, out: &mut K, edit: &EditRead) -> Re
 }
 
 // Does what a line asks for and writes the answer.
-fn answer_request<K: Sink>(totals: &mut Totals, out: &mut K, request: &RequestRead) -> Result<(), Stop>
+fn answer_request<K: Sink>(
+    totals: &mut Totals,
+    out: &mut K,
+    request: &RequestRead,
+) -> Result<(), Stop>
     ensures rows { OnOk result ((table : Table (List ℕ)) → Keeps table totals.old →
         Keeps (rows_by table (Some (request_read request.now))) totals.new) }
     ensures writes { IsTrue K.tells → (table : Table (List ℕ)) → Keeps table totals.old →

@@ -94,9 +94,12 @@ fn read_addition(alloc: Global, mut fields: Fields<'_>) -> Result<RequestRead, U
 fn read_replacement(alloc: Global, mut fields: Fields<'_>) -> Result<RequestRead, Unread>
     ensures { Means request_read result (replacement_in fields.entry) }
 {
-    let (Some(text), Some(number), Some(digits), None) =
-        (fields.next(), fields.next(), fields.next(), fields.next())
-    else {
+    let (Some(text), Some(number), Some(digits), None) = (
+        fields.next(),
+        fields.next(),
+        fields.next(),
+        fields.next(),
+    ) else {
         return Err(Unread::Bad);
     };
     let address = read_address(text)?;
