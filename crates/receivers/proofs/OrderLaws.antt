@@ -88,7 +88,7 @@ calls_exist [] lists fits = ([], record { in_order = refl; parts = λ w. sym (no
     nothing : (l : List (ℕ × Event)) → map (λ (x : ℕ × Event). x.0) l ≡ [] → l ≡ []
     nothing [] e = refl
     nothing (x ∷ xs) e = absurd cc
-calls_exist (p ∷ order) lists fits = first (lists p.0) refl
+calls_exist (p ∷ order) lists fits = first (calls_exist order) (lists p.0) refl
   where
     numbers : (w : ℕ) (b : Bool) → (p.0 == w) ≡ b → numbers_by w (p ∷ order) ≡ cond b (p.1 ∷ numbers_by w order) (numbers_by w order)
     numbers w true e = ap (λ b. map (λ (q : ℕ × ℕ). q.1) (cond b (p ∷ filter (λ (q : ℕ × ℕ). q.0 == w) order) (filter (λ (q : ℕ × ℕ). q.0 == w) order))) e
@@ -97,11 +97,12 @@ calls_exist (p ∷ order) lists fits = first (lists p.0) refl
     here : numbers_by p.0 (p ∷ order) ≡ p.1 ∷ numbers_by p.0 order
     here = numbers p.0 true (same_number p.0)
 
-    first : (l : List (ℕ × Event)) → lists p.0 ≡ l → (calls : List Call) × IsCallsOf (p ∷ order) lists calls
-    first [] is = absurd (let none = sym here ∙ (fits p.0 ∙ ap (map (λ (x : ℕ × Event). x.0)) is) in cc)
-    first (x ∷ xs) is =
+    first : ((ls : ℕ → List (ℕ × Event)) → ((w : ℕ) → numbers_by w order ≡ map (λ (l : ℕ × Event). l.0) (ls w)) → (calls : List Call) × IsCallsOf order ls calls)
+        → (l : List (ℕ × Event)) → lists p.0 ≡ l → (calls : List Call) × IsCallsOf (p ∷ order) lists calls
+    first go [] is = absurd (let none = sym here ∙ (fits p.0 ∙ ap (map (λ (x : ℕ × Event). x.0)) is) in cc)
+    first go (x ∷ xs) is =
         let all : p.1 ∷ numbers_by p.0 order ≡ x.0 ∷ map (λ (y : ℕ × Event). y.0) xs = sym here ∙ (fits p.0 ∙ ap (map (λ (y : ℕ × Event). y.0)) is) in
-        let rest = calls_exist order (without lists p.0 xs) (λ w. rest_fits xs all w (p.0 == w) refl) in
+        let rest = go (without lists p.0 xs) (λ w. rest_fits xs all w (p.0 == w) refl) in
         let k : Call = record { source = p.0; line = p.1; event = x.1 } in
         (k ∷ rest.0, record {
           in_order = ap (λ l. p ∷ l) rest.1.in_order;
