@@ -6,7 +6,8 @@ use Rattle.frame_formats.specs.declared.fault.FrameFault.{FrameFault}
 use Rattle.frame_formats.specs.declared.fault.FrameFault.TheVariants as faults
 use Rattle.frame_formats.specs.Crc.{IsBytes}
 use Rattle.frame_formats.specs.Faults.{BeginsWith, IsLengthB, IsFirstWrong, FaultA, FaultB}
-use Rattle.frame_formats.specs.Decoding.{◌>>=◌, frame_len, pieces_a, pieces_b, content_of, counted, decoded_a, telegram_b, decoded_b}
+use Rattle.steps.specs.Steps.{◌>>=◌}
+use Rattle.frame_formats.specs.Decoding.{frame_len, pieces_a, pieces_b, content_of, counted, decoded, decoded_a, telegram_b, decoded_b}
 use Rattle.frame_formats.proofs.Chain.{chain_err, chain_first, chain_second, chain_third, chain_last, chain_passed}
 use Rattle.frame_formats.proofs.Checked.{bytes-take, bytes-drop}
 use Rattle.frame_formats.proofs.FirstWrong.{ArePieces, IsAt, wrong_found, first_wrong_again, are_pieces_a}
@@ -35,7 +36,7 @@ whole_a : (bytes : List ℕ) (l : ℕ) → IsBytes bytes → 10 ≤ l → length
 whole_a bytes l all least len = are_pieces_a bytes (l - 9) all (omega arith)
 
 pub fault_found_a : (bytes : List ℕ) (e : FrameFault) → IsBytes bytes → decoded_a bytes ≡ Err e → FaultA bytes e
-unfolding decoded_a
+unfolding decoded
 fault_found_a bytes e all is =
     let l : ℕ = get_or bytes 0 0
     in chain_err (FaultA bytes e) (eqb (length bytes) 0) (ltb l 10) false (eqb (length bytes) (frame_len l)) faults.Empty (faults.Short l) faults.Empty (faults.Length (frame_len l) (length bytes)) (content_of 1 (pieces_a bytes)) e is
@@ -50,7 +51,7 @@ fault_found_a bytes e all is =
     in fault_same_a bytes _ _ (sym at.1) (l, begins bytes some, least, len, at.2))
 
 pub fault_only_a : (bytes : List ℕ) (e : FrameFault) → IsBytes bytes → FaultA bytes e → decoded_a bytes ≡ Err e
-unfolding decoded_a
+unfolding decoded
 fault_only_a bytes faults.Empty all is =
     let k : ℕ = get_or bytes 0 0
     in chain_first (eqb (length bytes) 0) (ltb k 10) false (eqb (length bytes) (frame_len k)) faults.Empty (faults.Short k) faults.Empty (faults.Length (frame_len k) (length bytes)) (content_of 1 (pieces_a bytes))
@@ -126,7 +127,7 @@ content_err bytes e is = bind_err (content_of 1 (pieces_b bytes)) is
     bind_err (Err f) is = is
 
 pub fault_found_b : (bytes : List ℕ) (e : FrameFault) → IsBytes bytes → decoded_b bytes ≡ Err e → FaultB bytes e
-unfolding decoded_b
+unfolding decoded
 fault_found_b bytes e all is =
     let l : ℕ = get_or bytes 0 0
     in chain_err (FaultB bytes e) (eqb (length bytes) 0) (ltb l 12) (eqb l 128 || eqb l 129) (eqb (length bytes) (l + 1)) faults.Empty (faults.Short l) (faults.Gap l) (faults.Length (l + 1) (length bytes)) (telegram_b bytes) e is
@@ -141,7 +142,7 @@ fault_found_b bytes e all is =
     in fault_same_b bytes _ _ (sym at.1) (l, begins bytes some, lengths, len, at.2))
 
 pub fault_only_b : (bytes : List ℕ) (e : FrameFault) → IsBytes bytes → FaultB bytes e → decoded_b bytes ≡ Err e
-unfolding decoded_b
+unfolding decoded
 fault_only_b bytes faults.Empty all is =
     let k : ℕ = get_or bytes 0 0
     in chain_first (eqb (length bytes) 0) (ltb k 12) (eqb k 128 || eqb k 129) (eqb (length bytes) (k + 1)) faults.Empty (faults.Short k) (faults.Gap k) (faults.Length (k + 1) (length bytes)) (telegram_b bytes)

@@ -12,3 +12,4 @@ pub mod RelationB
 pub mod FirstWrong
 pub mod FirstFault
 pub mod FrameLaws
+pub mod EitherFormat

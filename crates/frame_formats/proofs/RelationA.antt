@@ -6,7 +6,7 @@ use Rattle.std.specs.List.{flat_map, concat}
 use Rattle.frame_formats.specs.declared.fault.FrameFault.TheVariants as faults
 use Rattle.frame_formats.specs.Crc.{crc_of, IsBytes}
 use Rattle.frame_formats.specs.Frames.{AreSixteens, FrameA}
-use Rattle.frame_formats.specs.Decoding.{with_crc, frame_len, cut, pieces_a, content_of, block_of, decoded_a}
+use Rattle.frame_formats.specs.Decoding.{with_crc, frame_len, cut, pieces_a, content_of, block_of, decoded, decoded_a}
 use Rattle.frame_formats.proofs.Chain.{chain_ok, chain_passed}
 use Rattle.frame_formats.proofs.Pieces.{with_front, first_read, nothing_read, cut_none}
 use Rattle.frame_formats.proofs.Checked.{bytes-take, bytes-drop, bytes_same, byte_at, checked_is, is_checked, checked_same, content_bytes, block_found, block_again, length-with_crc, bind_ok}
@@ -49,7 +49,7 @@ blocks_found (suc (suc k)) n left bytes t all some is whole read =
     )
 
 decoded_ok : (bytes t : List ℕ) → decoded_a bytes ≡ Ok t → (10 ≤ get_or bytes 0 0) × (length bytes ≡ frame_len (get_or bytes 0 0)) × (content_of 1 (pieces_a bytes) ≡ Ok t)
-unfolding decoded_a
+unfolding decoded
 decoded_ok bytes t is =
     let l : ℕ = get_or bytes 0 0
     in let all : (ltb l 10 ≡ false) × (false ≡ false) × (eqb (length bytes) (frame_len l) ≡ true) × (content_of 1 (pieces_a bytes) ≡ Ok t) =
@@ -57,7 +57,7 @@ decoded_ok bytes t is =
     in (ltb-false _ _ all.0, eqb-true _ _ all.2, all.3)
 
 decoded_again : (bytes : List ℕ) → 10 ≤ get_or bytes 0 0 → length bytes ≡ frame_len (get_or bytes 0 0) → decoded_a bytes ≡ content_of 1 (pieces_a bytes)
-unfolding decoded_a
+unfolding decoded
 decoded_again bytes least whole =
     let l : ℕ = get_or bytes 0 0
     in chain_passed (eqb (length bytes) 0) (ltb l 10) false (eqb (length bytes) (frame_len l)) faults.Empty (faults.Short l) faults.Empty (faults.Length (frame_len l) (length bytes)) (content_of 1 (pieces_a bytes))

@@ -7,7 +7,8 @@ use Rattle.frame_formats.specs.declared.fault.FrameFault.{FrameFault}
 use Rattle.frame_formats.specs.declared.fault.FrameFault.TheVariants as faults
 use Rattle.frame_formats.specs.Crc.{IsBytes}
 use Rattle.frame_formats.specs.Frames.{AreChecked, IsTelegram, OneBlock, TwoBlocks, FrameB}
-use Rattle.frame_formats.specs.Decoding.{◌>>=◌, with_crc, pieces_b, content_of, block_of, counted, telegram_b, decoded_b}
+use Rattle.steps.specs.Steps.{◌>>=◌}
+use Rattle.frame_formats.specs.Decoding.{with_crc, pieces_b, content_of, block_of, counted, telegram_b, decoded, decoded_b}
 use Rattle.frame_formats.proofs.Chain.{chain_ok, chain_passed}
 use Rattle.frame_formats.proofs.Pieces.{with_front, first_read, first_fault, nothing_read}
 use Rattle.frame_formats.proofs.Checked.{bytes-take, bytes-drop, bytes_same, byte_at, checked_is, is_checked, checked_same, content_bytes, block_found, block_again, length-with_crc, bind_ok}
@@ -88,7 +89,7 @@ neither_again false true p q = cc
 neither_again false false p q = refl
 
 decoded_ok : (bytes t : List ℕ) → decoded_b bytes ≡ Ok t → (12 ≤ get_or bytes 0 0) × (get_or bytes 0 0 ≢ 128) × (get_or bytes 0 0 ≢ 129) × (length bytes ≡ get_or bytes 0 0 + 1) × (telegram_b bytes ≡ Ok t)
-unfolding decoded_b
+unfolding decoded
 decoded_ok bytes t is =
     let l : ℕ = get_or bytes 0 0
     in let all : (ltb l 12 ≡ false) × ((eqb l 128 || eqb l 129) ≡ false) × (eqb (length bytes) (l + 1) ≡ true) × (telegram_b bytes ≡ Ok t) =
@@ -97,7 +98,7 @@ decoded_ok bytes t is =
     in (ltb-false _ _ all.0, eqb-false _ _ gap.0, eqb-false _ _ gap.1, eqb-true _ _ all.2, all.3)
 
 decoded_again : (bytes : List ℕ) (l : ℕ) → l ≡ get_or bytes 0 0 → 12 ≤ l → l ≢ 128 → l ≢ 129 → length bytes ≡ l + 1 → decoded_b bytes ≡ telegram_b bytes
-unfolding decoded_b
+unfolding decoded
 decoded_again bytes l is least gap gap' whole =
     let k : ℕ = get_or bytes 0 0
     in chain_passed (eqb (length bytes) 0) (ltb k 12) (eqb k 128 || eqb k 129) (eqb (length bytes) (k + 1)) faults.Empty (faults.Short k) (faults.Gap k) (faults.Length (k + 1) (length bytes)) (telegram_b bytes)

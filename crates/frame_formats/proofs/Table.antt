@@ -2,7 +2,7 @@
 use Rattle.std.proofs.Common.{◌≡◌, ℕ, zero, suc, ◌*◌, ◌^◌, ◌<◌, ◌==◌, ◌&&◌, Bool, true, get_or, refl, arith, inl, inr}
 use Rattle.std.proofs.lemmas.Bool.{eqb-true, cases_eq, and_parts}
 use Rattle.frame_formats.specs.Crc.{remainder}
-use Rattle.frame_formats.specs.declared.check.TheConstants.{REMAINDERS}
+use Rattle.frame_formats.specs.declared.crc16.TheConstants.{REMAINDERS}
 
 -- a test passes at each number below n
 unfoldable holds_below : ℕ → (ℕ → Bool) → Bool

@@ -1,15 +1,12 @@
 -- What a decoder answers: the telegram of a frame, or the first fault. And the frame that an encoder writes.
-use Rattle.std.specs.Prelude.{ℕ, zero, suc, ◌+◌, ◌-◌, ◌*◌, ◌/◌, ◌%◌, ◌||◌, List, [], ◌∷◌, ◌++◌, length, take, drop, slice_index, Result, Ok, Err, nat_lt, nat_eq, if◌then◌else◌}
+use Rattle.std.specs.Prelude.{ℕ, zero, suc, Bool, false, ◌+◌, ◌-◌, ◌*◌, ◌/◌, ◌%◌, ◌||◌, List, [], ◌∷◌, ◌++◌, length, take, drop, slice_index, Result, Ok, Err, nat_lt, nat_eq, if◌then◌else◌}
 use Rattle.std.specs.List.{flat_map}
+use Rattle.steps.specs.Steps.{◌>>=◌}
 use Rattle.frame_formats.specs.Crc.{crc_of}
 use Rattle.frame_formats.specs.declared.fault.FrameFault.{FrameFault}
 use Rattle.frame_formats.specs.declared.fault.FrameFault.TheVariants as faults
-
--- reading from left to right, with the first fault
-infixl 10 ◌>>=◌
-abbrev pub ◌>>=◌ : {A B : Type 0} → Result A FrameFault → (A → Result B FrameFault) → Result B FrameFault
-(Ok x) >>= f = f x
-(Err e) >>= f = Err e
+use Rattle.frame_formats.specs.declared.format.Format.{Format}
+use Rattle.frame_formats.specs.declared.format.Format.TheVariants as formats
 
 -- so many pieces of this size, of which the last may be shorter
 unfoldable pub cut : ℕ → ℕ → List ℕ → List (List ℕ)
@@ -20,7 +17,8 @@ cut (suc k) size bytes = take size bytes ∷ cut k size (drop size bytes)
 unfoldable pub block_of : ℕ → List ℕ → Result (List ℕ) FrameFault
 block_of n piece =
     let size : ℕ = length piece - 2 in
-    if nat_eq (crc_of (take size piece)) (slice_index piece size * 256 + slice_index piece (size + 1)) then Ok (take size piece) else Err (faults.Crc n)
+    if nat_eq (crc_of (take size piece)) (slice_index piece size * 256 + slice_index piece (size + 1)) then Ok (take size piece)
+    else Err (faults.Crc n)
 
 -- the blocks of these pieces, joined; the first piece is the n-th
 unfoldable pub content_of : ℕ → List (List ℕ) → Result (List ℕ) FrameFault
@@ -38,15 +36,6 @@ frame_len l = l + 1 + 2 * (1 + (l - 9 + 15) / 16)
 abbrev pub pieces_a : List ℕ → List (List ℕ)
 pieces_a bytes = take 12 bytes ∷ cut ((length bytes - 12 + 17) / 18) 18 (drop 12 bytes)
 
--- the telegram of a frame of format A, or the first fault
-unfoldable pub decoded_a : List ℕ → Result (List ℕ) FrameFault
-decoded_a bytes =
-    let l : ℕ = slice_index bytes 0 in
-    if nat_eq (length bytes) 0 then Err faults.Empty
-    else if nat_lt l 10 then Err (faults.Short l)
-    else if nat_eq (length bytes) (frame_len l) then content_of 1 (pieces_a bytes)
-    else Err (faults.Length (frame_len l) (length bytes))
-
 -- a frame of format B in its blocks, each with its CRC
 abbrev pub pieces_b : List ℕ → List (List ℕ)
 pieces_b bytes = if nat_lt (length bytes) 129 then bytes ∷ [] else take 128 bytes ∷ drop 128 bytes ∷ []
@@ -61,15 +50,45 @@ telegram_b bytes = do
   sent ← content_of 1 (pieces_b bytes)
   Ok (counted sent)
 
--- the telegram of a frame of format B, or the first fault
-unfoldable pub decoded_b : List ℕ → Result (List ℕ) FrameFault
-decoded_b bytes =
+-- ---- either format
+
+-- the least L
+abbrev pub least : Format → ℕ
+least formats.A = 10
+least formats.B = 12
+
+-- format B leaves out L of 128 and 129
+abbrev pub leaves_out : Format → ℕ → Bool
+leaves_out formats.A l = false
+leaves_out formats.B l = nat_eq l 128 || nat_eq l 129
+
+-- how many bytes a frame with this L has
+abbrev pub whole_len : Format → ℕ → ℕ
+whole_len formats.A l = frame_len l
+whole_len formats.B l = l + 1
+
+-- the telegram in the blocks of as many bytes as L says, or the fault of the first wrong block
+abbrev pub telegram_in : Format → List ℕ → Result (List ℕ) FrameFault
+telegram_in formats.A bytes = content_of 1 (pieces_a bytes)
+telegram_in formats.B bytes = telegram_b bytes
+
+-- the telegram of a frame, or the first fault
+unfoldable pub decoded : Format → List ℕ → Result (List ℕ) FrameFault
+decoded format bytes =
     let l : ℕ = slice_index bytes 0 in
     if nat_eq (length bytes) 0 then Err faults.Empty
-    else if nat_lt l 12 then Err (faults.Short l)
-    else if nat_eq l 128 || nat_eq l 129 then Err (faults.Gap l)
-    else if nat_eq (length bytes) (l + 1) then telegram_b bytes
-    else Err (faults.Length (l + 1) (length bytes))
+    else if nat_lt l (least format) then Err (faults.Short l)
+    else if leaves_out format l then Err (faults.Gap l)
+    else if nat_eq (length bytes) (whole_len format l) then telegram_in format bytes
+    else Err (faults.Length (whole_len format l) (length bytes))
+
+abbrev pub decoded_a : List ℕ → Result (List ℕ) FrameFault
+decoded_a bytes = decoded formats.A bytes
+
+abbrev pub decoded_b : List ℕ → Result (List ℕ) FrameFault
+decoded_b bytes = decoded formats.B bytes
+
+-- ---- writing
 
 -- a block, followed by its CRC, high byte first
 abbrev pub with_crc : List ℕ → List ℕ

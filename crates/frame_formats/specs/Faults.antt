@@ -2,6 +2,8 @@
 use Rattle.std.specs.Prelude.{ℕ, ◌≡◌, ◌≢◌, ◌+◌, ◌<◌, ◌≤◌, ◌⊎◌, List, [], ◌∷◌, ◌++◌, length}
 use Rattle.frame_formats.specs.declared.fault.FrameFault.{FrameFault}
 use Rattle.frame_formats.specs.declared.fault.FrameFault.TheVariants as faults
+use Rattle.frame_formats.specs.declared.format.Format.{Format}
+use Rattle.frame_formats.specs.declared.format.Format.TheVariants as formats
 use Rattle.frame_formats.specs.Frames.{AreChecked}
 use Rattle.frame_formats.specs.Decoding.{frame_len, pieces_a, pieces_b}
 
@@ -50,3 +52,8 @@ FaultB bytes (faults.Short l) = BeginsWith bytes l × (l < 12)
 FaultB bytes (faults.Gap l) = BeginsWith bytes l × ((l ≡ 128) ⊎ (l ≡ 129))
 FaultB bytes (faults.Length want have) = (l : ℕ) × BeginsWith bytes l × IsLengthB l × (want ≡ l + 1) × (have ≡ length bytes) × (have ≢ want)
 FaultB bytes (faults.Crc n) = (l : ℕ) × BeginsWith bytes l × IsLengthB l × (length bytes ≡ l + 1) × IsFirstWrong n (pieces_b bytes)
+
+-- why bytes are no frame of this format
+abbrev pub Fault : Format → List ℕ → FrameFault → Type 0
+Fault formats.A bytes fault = FaultA bytes fault
+Fault formats.B bytes fault = FaultB bytes fault

@@ -2,6 +2,8 @@
 use Rattle.std.specs.Prelude.{ℕ, ◌≡◌, ◌+◌, ◌/◌, ◌%◌, ◌<◌, ◌≤◌, ◌⊎◌, List, [], ◌∷◌, ◌++◌, length, take, drop, slice_index}
 use Rattle.std.specs.List.{concat}
 use Rattle.frame_formats.specs.Crc.{IsCrc}
+use Rattle.frame_formats.specs.declared.format.Format.{Format}
+use Rattle.frame_formats.specs.declared.format.Format.TheVariants as formats
 
 -- a telegram, without CRCs: its first byte counts those behind it
 pub record IsTelegram (t : List ℕ) : Type 0 where
@@ -48,3 +50,8 @@ pub record FrameB (bytes t : List ℕ) : Type 0 where
   pub l : ℕ
   pub counted : l + 1 ≡ length bytes
   pub blocks : OneBlock l (l ∷ drop 1 t) bytes ⊎ TwoBlocks l (l ∷ drop 1 t) bytes
+
+-- the bytes are a frame of this format of the telegram
+abbrev pub Frame : Format → List ℕ → List ℕ → Type 0
+Frame formats.A bytes t = FrameA bytes t
+Frame formats.B bytes t = FrameB bytes t

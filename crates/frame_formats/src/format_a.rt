@@ -1,21 +1,14 @@
 //! Format A: a block of 10 bytes, then blocks of 16, each with its CRC.
-ghost use Rattle.std.specs.Prelude.{◌≡◌, ◌≤◌, ◌<◌, ◌+◌, ◌-◌, ◌*◌, ◌/◌, ◌++◌, List, ℕ, length, take, slice_index, Ok, Err, IsOk, OnOk, OnErr, IfErr, MatchResult};
+ghost use Rattle.std.specs.Prelude.{◌≡◌, ◌≤◌, ◌<◌, ◌+◌, ◌-◌, ◌*◌, ◌/◌, ◌++◌, List, ℕ, length, take, drop, slice_index, Ok, Err, OnOk, MatchResult};
 ghost use Rattle.std.specs.List.{flat_map};
 ghost use Rattle.frame_formats.specs.Frames.{FrameA};
-ghost use Rattle.frame_formats.specs.declared.fault.FrameFault.{FrameFault};
-ghost use Rattle.frame_formats.specs.Faults.{FaultA};
+ghost use Rattle.frame_formats.specs.Decodes.{Decodes};
 ghost use Rattle.frame_formats.specs.Decoding.{cut, content_of, frame_len, pieces_a, decoded_a, frame_a, with_crc};
 
-use crate::blocks::{checked_block, put, put_with_crc};
+use crate::blocks::{checked_block, put_with_crc};
+use crate::format::{Format, decode};
 use crate::{FrameFault, Telegram};
-
-// How many bytes a frame with this L has.
-fn whole_len(length: u8) -> usize
-    ensures { result ≡ frame_len length }
-{
-    let length = length as usize;
-    length + 1 + 2 * (1 + (length.saturating_sub(9) + 15) / 16)
-}
+use steps::put;
 
 // Fills `into` from the blocks behind the first, each with its CRC.
 fn read_others(bytes: &[u8], into: &mut [u8]) -> Result<(), FrameFault>
@@ -54,7 +47,7 @@ fn read_blocks(bytes: &[u8], into: &mut [u8]) -> Result<(), FrameFault>
 }
 
 // The telegram of as many bytes as its first one says.
-fn read_telegram(bytes: &[u8]) -> Result<Telegram, FrameFault>
+pub(crate) fn read_telegram_a(bytes: &[u8]) -> Result<Telegram, FrameFault>
     requires counted { 10 ≤ slice_index bytes.now 0 }
     requires whole { length bytes.now ≡ frame_len (slice_index bytes.now 0) }
     ensures { MatchResult result
@@ -69,45 +62,12 @@ fn read_telegram(bytes: &[u8]) -> Result<Telegram, FrameFault>
     })
 }
 
-// The telegram, or the first fault.
-#[tactic(auto, unfolding(crate::specs::Decoding::decoded_a))]
-fn decode(bytes: &[u8], out: &mut Telegram) -> Result<(), FrameFault>
-    ensures exact { MatchResult result (λ _. decoded_a bytes.now ≡ Ok out.new) (λ e. decoded_a bytes.now ≡ Err e) }
-    ensures err { OnErr result (out.new ≡ out.old) }
-{
-    let Some(length) = bytes.first().copied() else {
-        return Err(FrameFault::Empty);
-    };
-    if length < 10 {
-        return Err(FrameFault::Short(length));
-    }
-    let want = whole_len(length);
-    if bytes.len() != want {
-        return Err(FrameFault::Length {
-            want,
-            have: bytes.len(),
-        });
-    }
-    *out = read_telegram(bytes)?;
-    Ok(())
-}
-
-/// Reads a frame of format A (EN 13757-4). Each error is the first that the bytes show, in the order of `FrameFault`,
-/// and leaves `out` as it was.
+/// Reads a frame of format A (EN 13757-4), as `decode` does.
 pub fn decode_a(bytes: &[u8], out: &mut Telegram) -> Result<(), FrameFault>
-    // What is read is a frame of its telegram, and each frame is read.
-    ensures found { OnOk result (FrameA bytes.now out.new) }
-    ensures only { (t : List ℕ) → FrameA bytes.now t → IsOk result × (out.new ≡ t) }
-
-    // A fault is the first that the bytes show, and the first that they show is answered.
-    ensures fault { IfErr result (FaultA bytes.now) }
-    ensures each_fault { (fault : FrameFault) → FaultA bytes.now fault → result ≡ Err fault }
-    ensures err { OnErr result (out.new ≡ out.old) }
-
-    // Both as one function of the bytes.
+    ensures decodes { Decodes Format.A bytes.now out.old out.new result }
     ensures exact { MatchResult result (λ _. decoded_a bytes.now ≡ Ok out.new) (λ e. decoded_a bytes.now ≡ Err e) }
 {
-    decode(bytes, out)
+    decode(Format::A, bytes, out)
 }
 
 // Writes the blocks behind the first, and answers the place behind them.
@@ -116,6 +76,7 @@ fn put_others(out: &mut [u8], at: usize, bytes: &[u8]) -> usize
     ensures end { result ≡ at + length bytes.now + 2 * ((length bytes.now + 15) / 16) }
     ensures written { take result out.new
         ≡ take at out.old ++ flat_map with_crc (cut ((length bytes.now + 15) / 16) 16 bytes.now) }
+    ensures behind { drop result out.new ≡ drop result out.old }
 {
     let mut end = at;
     let mut rest = bytes;
@@ -132,6 +93,9 @@ pub fn encode_a(telegram: &Telegram, out: &mut [u8; 290]) -> usize
     ensures len { result ≡ frame_len (length telegram.now - 1) }
     ensures written { take result out.new ≡ frame_a telegram.now }
     ensures frame { FrameA (take result out.new) telegram.now }
+
+    // What stands behind the frame stays.
+    ensures behind { drop result out.new ≡ drop result out.old }
 {
     let (first, others) = telegram.bytes().split_at(10);
     let end = put_with_crc(out, 0, first);

@@ -1,12 +1,12 @@
 //! Format B: one block or two, each with its CRC. L counts the CRCs too.
-ghost use Rattle.std.specs.Prelude.{◌≡◌, ◌≤◌, ◌<◌, ◌+◌, List, ℕ, length, slice_index, Ok, Err, IsOk, OnOk, OnErr, IfErr, MatchResult};
-ghost use Rattle.frame_formats.specs.Frames.{FrameB};
-ghost use Rattle.frame_formats.specs.declared.fault.FrameFault.{FrameFault};
-ghost use Rattle.frame_formats.specs.Faults.{FaultB};
+ghost use Rattle.std.specs.Prelude.{◌≡◌, ◌≤◌, ◌<◌, ◌+◌, length, slice_index, Ok, Err, OnOk, MatchResult};
+ghost use Rattle.frame_formats.specs.Decodes.{Decodes};
 ghost use Rattle.frame_formats.specs.Decoding.{content_of, pieces_b, telegram_b, decoded_b};
 
-use crate::blocks::{checked_block, put};
+use crate::blocks::checked_block;
+use crate::format::{Format, decode};
 use crate::{FrameFault, Telegram};
+use steps::put;
 
 // Fills `into` from one block with its CRC.
 fn read_one(bytes: &[u8], into: &mut [u8]) -> Result<(), FrameFault>
@@ -64,7 +64,7 @@ fn read_counted(bytes: &[u8], into: &mut [u8]) -> Result<(), FrameFault>
 }
 
 // The telegram of as many bytes as its first one says.
-fn read_telegram(bytes: &[u8]) -> Result<Telegram, FrameFault>
+pub(crate) fn read_telegram_b(bytes: &[u8]) -> Result<Telegram, FrameFault>
     requires least { 13 ≤ length bytes.now }
     requires most { length bytes.now ≤ 256 }
     requires no_gap { 128 < length bytes.now → 131 ≤ length bytes.now }
@@ -80,46 +80,10 @@ fn read_telegram(bytes: &[u8]) -> Result<Telegram, FrameFault>
     })
 }
 
-// The telegram, or the first fault.
-#[tactic(auto, unfolding(crate::specs::Decoding::decoded_b))]
-fn decode(bytes: &[u8], out: &mut Telegram) -> Result<(), FrameFault>
-    ensures exact { MatchResult result (λ _. decoded_b bytes.now ≡ Ok out.new) (λ e. decoded_b bytes.now ≡ Err e) }
-    ensures err { OnErr result (out.new ≡ out.old) }
-{
-    let Some(length) = bytes.first().copied() else {
-        return Err(FrameFault::Empty);
-    };
-    if length < 12 {
-        return Err(FrameFault::Short(length));
-    }
-    if length == 128 || length == 129 {
-        return Err(FrameFault::Gap(length));
-    }
-    let want = length as usize + 1;
-    if bytes.len() != want {
-        return Err(FrameFault::Length {
-            want,
-            have: bytes.len(),
-        });
-    }
-    *out = read_telegram(bytes)?;
-    Ok(())
-}
-
-/// Reads a frame of format B (EN 13757-4). Each error is the first that the bytes show, in the order of `FrameFault`,
-/// and leaves `out` as it was.
+/// Reads a frame of format B (EN 13757-4), as `decode` does.
 pub fn decode_b(bytes: &[u8], out: &mut Telegram) -> Result<(), FrameFault>
-    // What is read is a frame of its telegram, and each frame is read.
-    ensures found { OnOk result (FrameB bytes.now out.new) }
-    ensures only { (t : List ℕ) → FrameB bytes.now t → IsOk result × (out.new ≡ t) }
-
-    // A fault is the first that the bytes show, and the first that they show is answered.
-    ensures fault { IfErr result (FaultB bytes.now) }
-    ensures each_fault { (fault : FrameFault) → FaultB bytes.now fault → result ≡ Err fault }
-    ensures err { OnErr result (out.new ≡ out.old) }
-
-    // Both as one function of the bytes.
+    ensures decodes { Decodes Format.B bytes.now out.old out.new result }
     ensures exact { MatchResult result (λ _. decoded_b bytes.now ≡ Ok out.new) (λ e. decoded_b bytes.now ≡ Err e) }
 {
-    decode(bytes, out)
+    decode(Format::B, bytes, out)
 }

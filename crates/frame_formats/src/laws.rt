@@ -1,6 +1,6 @@
 //! What holds of frames as such. These functions do nothing: each one's contract is a law.
 ghost use Rattle.frame_formats.specs.Crc.{OneCrc};
-ghost use Rattle.frame_formats.specs.Laws.{OneTelegramA, OneTelegramB, OneFrameA};
+ghost use Rattle.frame_formats.specs.Laws.{OneTelegramA, OneTelegramB, OneFrameA, FramesAreDecoded, TelegramsAreBytes};
 
 /// Every block of bytes has one CRC.
 pub fn one_crc()
@@ -20,4 +20,14 @@ pub fn one_telegram_b()
 /// A telegram has one frame of format A, which is read back.
 pub fn one_frame_a()
     ensures { OneFrameA }
+{}
+
+/// What bytes are decoded to is the telegram whose frame they are.
+pub fn frames_are_decoded()
+    ensures { FramesAreDecoded }
+{}
+
+/// A frame of bytes has a telegram of bytes.
+pub fn telegrams_are_bytes()
+    ensures { TelegramsAreBytes }
 {}

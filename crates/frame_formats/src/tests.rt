@@ -70,6 +70,14 @@ fn the_gas_meters_telegram_is_read_in_both_formats(rt: HostRuntime) {
     let mut other = Telegram::shortest();
     assert_eq!(rt; decode_b(&IN_FORMAT_B, &mut other), Ok(()));
     assert_eq!(rt; other.bytes(), TELEGRAM.as_slice());
+    for (format, frame) in [
+        (Format::A, IN_FORMAT_A.as_slice()),
+        (Format::B, IN_FORMAT_B.as_slice()),
+    ] {
+        let mut again = Telegram::shortest();
+        assert_eq!(rt; decode(format, frame, &mut again), Ok(()));
+        assert_eq!(rt; again, telegram);
+    }
     assert_eq!(rt; telegram.control(), 0x44);
     assert_eq!(rt;
         telegram.link_address_bytes().as_slice(),

@@ -20,9 +20,10 @@ use Rattle.tpl_headers.proofs.Headers.{is_found, is_only}
 use Rattle.message_check.specs.declared.signature.Signature.{Signature}
 use Rattle.message_check.specs.declared.refusal.Reason.{Reason}
 use Rattle.message_check.specs.declared.refusal.Reason.TheVariants.{OtherAddress, BadMac, CheckBytes, BadMessage}
-use Rattle.message_check.specs.Opening.{Found, encrypted_of, rest_of, access_in_configuration, decrypted5, decrypted7, mac_of, IsFor, IsSecured, Checked5, Genuine7, Passed, header_in, address_passed, mode_passed, header_for, blocks_passed, some_passed, check_bytes_passed, opened5, part_there, control_passed, signature_of, derivation_in, derivation_passed, mac_passed, opened7, CheckedAreOpened, GenuineAreOpened}
-use Rattle.message_check.specs.Steps.{◌>>=◌}
-use Rattle.message_check.proofs.StepLaws.{bind_ok, map_both_ok}
+use Rattle.message_check.specs.Keys.{key_id_in, OneKeyAlone}
+use Rattle.message_check.specs.Opening.{Found, encrypted_of, rest_of, access_in_configuration, decrypted5, decrypted7, mac_key, cipher_key, mac_of, IsFor, IsSecured, Checked5, Genuine7, Passed, header_in, address_passed, mode_passed, header_for, blocks_passed, some_passed, check_bytes_passed, opened5, part_there, control_passed, signature_of, derivation_in, derivation_passed, mac_passed, opened7, CheckedAreOpened, GenuineAreOpened}
+use Rattle.steps.specs.Steps.{◌>>=◌}
+use Rattle.steps.proofs.StepLaws.{bind_ok, map_both_ok}
 
 abbrev pub passed : Passed
 passed = Ok tt
@@ -205,6 +206,13 @@ signed auth s e =
       by_cmac = eqb-true _ _ (if_passed _ _ control.1);
     })
 
+same_either_way : (b : Bool) (x : List ℕ) → cond b x x ≡ x
+same_either_way true x = refl
+same_either_way false x = refl
+
+pub one_key_alone : OneKeyAlone
+one_key_alone c h none = rw none (same_either_way (eqb (key_id_in h) 1) c.key)
+
 genuine7 : (c : Commissioned) (auth : Auth) (m : List ℕ) (f : Found) → IsBytes m → opened7 c auth m ≡ Ok f → Genuine7 c auth m f
 unfolding opened7 decrypted7
 genuine7 c auth m f fits e =
@@ -214,11 +222,12 @@ genuine7 c auth m f fits e =
     let s : Signature = signature.0 in
     let derivation = bind_ok (derivation_passed h) _ f signature.2 in
     let enough = bind_ok (blocks_passed h m) _ f derivation.2 in
-    let mac = bind_ok (mac_passed c s m) _ f enough.2 in
-    let made : Found = record { counter = s.counter; access = access.None; payload = decrypted7 c s.counter h m ++ rest_of h m } in
+    let key : List ℕ = mac_key c h s.counter in
+    let mac = bind_ok (mac_passed key s m) _ f enough.2 in
+    let made : Found = record { counter = s.counter; access = access.None; payload = decrypted7 (cipher_key c h s.counter) h m ++ rest_of h m } in
     let same : made ≡ f = cc mac.2 in
     let is = signed auth s signature.1 in
-    let mac_is : mac_of c s.mcl s.counter s.ml m ≡ s.mac = (bytes_eq-Decides _ _).0 (if_passed (bytes_eq (mac_of c s.mcl s.counter s.ml m) s.mac) BadMac mac.1) in
+    let mac_is : mac_of key s.mcl s.counter s.ml m ≡ s.mac = (bytes_eq-Decides _ _).0 (if_passed (bytes_eq (mac_of key s.mcl s.counter s.ml m) s.mac) BadMac mac.1) in
     subst (Genuine7 c auth m) same (record {
       header = h;
       encrypted = encrypted_of h m;
@@ -229,7 +238,7 @@ genuine7 c auth m f fits e =
       control = is.mcl;
       by_cmac = is.by_cmac;
       counter = is.counter;
-      mac = is.mac ∙ ap Some (sym mac_is ∙ ap (λ (x : Option ℕ). mac_of c s.mcl s.counter x m) (sym is.ml));
+      mac = is.mac ∙ ap Some (sym mac_is ∙ ap (λ (x : Option ℕ). mac_of key s.mcl s.counter x m) (sym is.ml));
       access = refl;
       payload = refl;
     })
@@ -244,12 +253,13 @@ unfolding opened7 decrypted7
 opened7_again c auth m f g =
     let h : Tpl = g.header in
     let r = read_again c.address 7 m h g.encrypted g.rest g.message in
-    let mac : List ℕ = mac_of c g.mcl f.counter auth.ml m in
+    let key : List ℕ = cipher_key c h f.counter in
+    let mac : List ℕ = mac_of (mac_key c h f.counter) g.mcl f.counter auth.ml m in
     let signature = signature_again auth g.mcl f.counter mac g.control g.counter g.mac g.by_cmac in
     let derivation : eqb (derivation_in h) 1 ≡ true = eq-eqb _ _ (ap (λ (x : Option ℕ). unwrap_or x 0) g.derivation) in
     let same : bytes_eq mac mac ≡ true = (bytes_eq-Decides mac mac).1 refl in
-    let payload : f.payload ≡ decrypted7 c f.counter h m ++ rest_of h m = rw (r.encrypted_is, r.rest_is) g.payload in
-    rw (r.header, signature, derivation, r.blocks, same) (found_is f.counter access.None (decrypted7 c f.counter h m ++ rest_of h m) f refl g.access payload)
+    let payload : f.payload ≡ decrypted7 key h m ++ rest_of h m = rw (r.encrypted_is, r.rest_is) g.payload in
+    rw (r.header, signature, derivation, r.blocks, same) (found_is f.counter access.None (decrypted7 key h m ++ rest_of h m) f refl g.access payload)
 
 pub genuine_are_opened : GenuineAreOpened
 genuine_are_opened c auth m f fits = (genuine7 c auth m f fits, opened7_again c auth m f)

@@ -12,9 +12,9 @@ use Rattle.tpl_headers.specs.Configuration.{derivation_of}
 use Rattle.message_check.specs.declared.signature.Signature.{Signature}
 use Rattle.message_check.specs.declared.refusal.Reason.{Reason}
 use Rattle.message_check.specs.declared.refusal.Reason.TheVariants.{NoAuth, Kdf, ShortBlocks, BadMac, Stale}
-use Rattle.message_check.specs.Opening.{Found, encrypted_of, rest_of, mac_of, IsFor, header_for, blocks_passed, part_there, control_passed, signature_of, derivation_in, derivation_passed, mac_passed, counter_passed, opened7, compared7, opened7_after}
+use Rattle.message_check.specs.Opening.{Found, encrypted_of, rest_of, mac_key, mac_of, IsFor, header_for, blocks_passed, part_there, control_passed, signature_of, derivation_in, derivation_passed, mac_passed, counter_passed, opened7, compared7, opened7_after}
 use Rattle.message_check.specs.Refusals.{HeaderRefusal, HasAuth, Refusal7, RefusedExactly7}
-use Rattle.message_check.proofs.StepLaws.{bind_err}
+use Rattle.steps.proofs.StepLaws.{bind_err}
 use Rattle.message_check.proofs.OpeningLaws.{passed, if_passed, part_is, derivation_is, genuine_are_opened, for_is, is_for, secured, read_again, Signed, signed, signature_again}
 use Rattle.message_check.proofs.RefusalLaws.{failed, if_refused, header_refused, header_refuses, differ, blocks_refused, blocks_refuse}
 
@@ -146,9 +146,10 @@ not_opened7 last c auth m r fits e =
                             let cause : P (ShortBlocks short.want short.have) = (h, header, there, by_cmac, short.short) in
                             subst P short.reason cause
                         | inr enough ↦
-                            elim (bind_err (mac_passed c s m) _ r enough.2) [
+                            elim (bind_err (mac_passed (mac_key c h s.counter) s m) _ r enough.2) [
                               | inl other ↦
-                                  let mac : List ℕ = mac_of c s.mcl s.counter s.ml m in
+                                  let key : List ℕ = mac_key c h s.counter in
+                                  let mac : List ℕ = mac_of key s.mcl s.counter s.ml m in
                                   let test = if_refused (bytes_eq mac s.mac) BadMac r other in
                                   let cause : P BadMac = record {
                                     header = h;
@@ -157,7 +158,7 @@ not_opened7 last c auth m r fits e =
                                     message = secured c.address 7 m h fits read.1 enough.1;
                                     derivation = by_cmac;
                                     there = there;
-                                    other = λ same. absurd (cc ((bytes_eq-Decides mac s.mac).1 (ap (λ (x : Option ℕ). mac_of c s.mcl s.counter x m) (sym is.ml) ∙ same), test.0));
+                                    other = λ same. absurd (cc ((bytes_eq-Decides mac s.mac).1 (ap (λ (x : Option ℕ). mac_of key s.mcl s.counter x m) (sym is.ml) ∙ same), test.0));
                                   } in
                                   subst P test.1 cause
                               | inr all ↦ absurd (cc all.2)
@@ -198,7 +199,7 @@ refuses7 last c auth m (ShortBlocks want have) fits k =
 refuses7 last c auth m BadMac fits k =
     let h : Tpl = k.header in
     let r = read_again c.address 7 m h k.encrypted k.rest k.message in
-    let mac : List ℕ = mac_of c k.there.mcl k.there.counter auth.ml m in
+    let mac : List ℕ = mac_of (mac_key c h k.there.counter) k.there.mcl k.there.counter auth.ml m in
     let test : bytes_eq mac k.there.mac ≡ false = false_from_ne_true _ (λ same. k.other ((bytes_eq-Decides mac k.there.mac).0 same)) in
     rw (r.header, signature_there auth k.there, derivation_pass h k.derivation, r.blocks, test) refl
 refuses7 last c auth m (Stale got before) fits k =

@@ -1,6 +1,7 @@
-pub mod Steps
+pub use Rattle.steps.specs.Steps
 pub mod Layers
 pub mod Target
+pub mod Keys
 pub mod Opening
 pub mod Refusals
 pub mod Opened

@@ -19,7 +19,8 @@ use Rattle.cbc_cmac.specs.Cbc.{cbc_decrypted}
 use Rattle.cbc_cmac.specs.Mac.{zeros, cmac}
 use Rattle.key_derivation.specs.declared.KeyUse.TheVariants.{MeterCipher, MeterMac}
 use Rattle.key_derivation.specs.Derivation.{derived}
-use Rattle.message_check.specs.Steps.{◌>>=◌}
+use Rattle.steps.specs.Steps.{◌>>=◌}
+use Rattle.message_check.specs.Keys.{key_of}
 use Rattle.message_check.specs.declared.signature.Signature.{Signature}
 use Rattle.message_check.specs.declared.refusal.Reason.{Reason}
 use Rattle.message_check.specs.declared.refusal.Reason.TheVariants.{BadMessage, OtherAddress, Mode, NoAuth, Kdf, ShortBlocks, Unchecked, BadMac, Stale, CheckBytes, SameAccess}
@@ -61,13 +62,20 @@ length_bytes (Some ml) = to_le_bytes w16 ml
 abbrev pub mac_input : ℕ → ℕ → Option ℕ → List ℕ → List ℕ
 mac_input mcl counter ml m = mcl ∷ [] ++ to_le_bytes w32 counter ++ length_bytes ml ++ m
 
--- mode 7: the MAC of a message: the first eight bytes of its CMAC under the derived MAC key
-unfoldable pub mac_of : Commissioned → ℕ → ℕ → Option ℕ → List ℕ → List ℕ
-mac_of c mcl counter ml m = take 8 (cmac (derived c.key MeterMac counter (identification_of c.address)) (mac_input mcl counter ml m))
+-- mode 7: the keys that are derived from the meter's key for a message: that of its MAC, and that of its encryption
+abbrev pub mac_key : Commissioned → Tpl → ℕ → List ℕ
+mac_key c h counter = derived (key_of c h) MeterMac counter (identification_of c.address)
 
--- mode 7: the blocks, decrypted under the derived cipher key; CBC begins with zeros
-unfoldable pub decrypted7 : Commissioned → ℕ → Tpl → List ℕ → List ℕ
-decrypted7 c counter h m = cbc_decrypted (derived c.key MeterCipher counter (identification_of c.address)) zeros (encrypted_of h m)
+abbrev pub cipher_key : Commissioned → Tpl → ℕ → List ℕ
+cipher_key c h counter = derived (key_of c h) MeterCipher counter (identification_of c.address)
+
+-- mode 7: the MAC of a message: the first eight bytes of its CMAC under the MAC key
+unfoldable pub mac_of : List ℕ → ℕ → ℕ → Option ℕ → List ℕ → List ℕ
+mac_of key mcl counter ml m = take 8 (cmac key (mac_input mcl counter ml m))
+
+-- mode 7: the blocks, decrypted under the cipher key; CBC begins with zeros
+unfoldable pub decrypted7 : List ℕ → Tpl → List ℕ → List ℕ
+decrypted7 key h m = cbc_decrypted key zeros (encrypted_of h m)
 
 -- ---- messages in the standard's words
 
@@ -96,7 +104,8 @@ pub record Checked5 (c : Commissioned) (m : List ℕ) (f : Found) : Type 0 where
   pub access : f.access ≡ access_in_configuration header.cf
   pub payload : f.payload ≡ 0x2F ∷ 0x2F ∷ (content ++ rest)
 
--- a genuine message of mode 7: its MAC, by AES-CMAC-128 cut to eight bytes, is that of its bytes as they were sent
+-- a genuine message of mode 7: its MAC, by AES-CMAC-128 cut to eight bytes, is that of its bytes as they were sent. Both derived keys
+-- are those of the key that its header names, the meter's first or its second
 pub record Genuine7 (c : Commissioned) (auth : Auth) (m : List ℕ) (f : Found) : Type 0 where
   pub header : Tpl
   pub encrypted : List ℕ
@@ -107,9 +116,9 @@ pub record Genuine7 (c : Commissioned) (auth : Auth) (m : List ℕ) (f : Found) 
   pub control : auth.mcl ≡ Some mcl
   pub by_cmac : mcl % 16 ≡ 5
   pub counter : auth.mcr ≡ Some f.counter
-  pub mac : auth.mac ≡ Some (mac_of c mcl f.counter auth.ml m)
+  pub mac : auth.mac ≡ Some (mac_of (mac_key c header f.counter) mcl f.counter auth.ml m)
   pub access : f.access ≡ access.None
-  pub payload : f.payload ≡ cbc_decrypted (derived c.key MeterCipher f.counter (identification_of c.address)) zeros encrypted ++ rest
+  pub payload : f.payload ≡ cbc_decrypted (cipher_key c header f.counter) zeros encrypted ++ rest
 
 -- ---- the refusals, in their order
 
@@ -207,9 +216,9 @@ derivation_in h = unwrap_or (option_map derivation_of h.cfe) 0
 abbrev pub derivation_passed : Tpl → Passed
 derivation_passed h = if derivation_in h == 1 then Ok tt else Err (Kdf (derivation_in h))
 
--- another MAC than that of the message
-abbrev pub mac_passed : Commissioned → Signature → List ℕ → Passed
-mac_passed c s m = if bytes_eq (mac_of c s.mcl s.counter s.ml m) s.mac then Ok tt else Err BadMac
+-- another MAC than that of the message under the MAC key
+abbrev pub mac_passed : List ℕ → Signature → List ℕ → Passed
+mac_passed key s m = if bytes_eq (mac_of key s.mcl s.counter s.ml m) s.mac then Ok tt else Err BadMac
 
 -- a counter that isn't above the last one
 abbrev pub counter_passed : Option ℕ → ℕ → Passed
@@ -223,8 +232,8 @@ opened7 c auth m = do
   s ← signature_of auth
   _ ← derivation_passed h
   _ ← blocks_passed h m
-  _ ← mac_passed c s m
-  Ok (record { counter = s.counter; access = access.None; payload = decrypted7 c s.counter h m ++ rest_of h m })
+  _ ← mac_passed (mac_key c h s.counter) s m
+  Ok (record { counter = s.counter; access = access.None; payload = decrypted7 (cipher_key c h s.counter) h m ++ rest_of h m })
 
 -- what is found, where its counter is above the last one
 unfoldable pub compared7 : Option ℕ → Found → Result Found Reason

@@ -10,7 +10,7 @@ use Rattle.tpl_headers.specs.Header.{BeginsWithTpl, IsTplFault}
 use Rattle.cbc_cmac.specs.Cbc.{cbc_decrypted}
 use Rattle.message_check.specs.declared.refusal.Reason.{Reason}
 use Rattle.message_check.specs.declared.refusal.Reason.TheVariants.{BadMessage, OtherAddress, Mode, NoAuth, Kdf, ShortBlocks, Unchecked, BadMac, Stale, CheckBytes, SameAccess}
-use Rattle.message_check.specs.Opening.{Found, initialization_vector, mac_of, IsFor, IsSecured, Checked5, Genuine7, opened5_after, opened7_after}
+use Rattle.message_check.specs.Opening.{Found, initialization_vector, mac_key, mac_of, IsFor, IsSecured, Checked5, Genuine7, opened5_after, opened7_after}
 
 -- no header of a message to this meter in this security mode: none at all, one of another meter, one of another mode
 abbrev pub HeaderRefusal : Address → ℕ → List ℕ → Reason → Type 0
@@ -26,7 +26,7 @@ pub record IsShort (m : List ℕ) (h : Tpl) (want have : ℕ) : Type 0 where
   pub fewer : have < want
 
 -- the decrypted blocks of a message of mode 5 begin with these two bytes, which aren't 2F 2F
-pub record IsUnchecked (c : Commissioned) (m two : List ℕ) : Type 0 where
+pub record HasOtherCheckBytes (c : Commissioned) (m two : List ℕ) : Type 0 where
   pub header : Tpl
   pub encrypted : List ℕ
   pub rest : List ℕ
@@ -39,7 +39,7 @@ pub record IsUnchecked (c : Commissioned) (m two : List ℕ) : Type 0 where
 abbrev pub Refusal5 : Option ℕ → Commissioned → List ℕ → Reason → Type 0
 Refusal5 last c m (ShortBlocks want have) = (h : Tpl) × IsFor c.address 5 m h × IsShort m h want have
 Refusal5 last c m Unchecked = (h : Tpl) × IsFor c.address 5 m h × (blocks_of h.cf ≡ 0)
-Refusal5 last c m (CheckBytes two) = IsUnchecked c m two
+Refusal5 last c m (CheckBytes two) = HasOtherCheckBytes c m two
 Refusal5 last c m (SameAccess acc) = (f : Found) × Checked5 c m f × (f.counter ≡ acc) × (last ≡ Some acc)
 Refusal5 last c m r = HeaderRefusal c.address 5 m r
 
@@ -65,7 +65,7 @@ pub record IsForged (c : Commissioned) (auth : Auth) (m : List ℕ) : Type 0 whe
   pub message : IsSecured c.address 7 m header encrypted rest
   pub derivation : option_map derivation_of header.cfe ≡ Some 1
   pub there : HasAuth auth
-  pub other : mac_of c there.mcl there.counter auth.ml m ≢ there.mac
+  pub other : mac_of (mac_key c header there.counter) there.mcl there.counter auth.ml m ≢ there.mac
 
 -- why a message of mode 7 is refused
 abbrev pub Refusal7 : Option ℕ → Commissioned → Auth → List ℕ → Reason → Type 0

@@ -10,6 +10,13 @@ use crate::reading::layers;
 use frame_formats::Telegram;
 use meter_address::Address;
 
+/// The address of the link layer: that of the sender, M and A as they are sent.
+pub fn link_address(telegram: &Telegram) -> Address
+    ensures { result ≡ link_address telegram.now }
+{
+    Address::from_bytes(telegram.link_address_bytes())
+}
+
 /// The meter that a telegram is for: the one that a long transport header names, where the layers can be read and there
 /// is such a header; in every other case the one with the link address.
 #[tactic(auto, unfolding(crate::specs::Target::target_of))]
@@ -20,7 +27,7 @@ pub fn target(telegram: &Telegram) -> Address
     ensures long { (l : Layers) (a : Address) → IsLayers telegram.now l → long_address l ≡ Some a → result ≡ a }
     ensures link { ((l : Layers) → IsLayers telegram.now l → long_address l ≡ None) → result ≡ link_address telegram.now }
 {
-    let link = Address::from_bytes(telegram.link_address_bytes());
+    let link = link_address(telegram);
     match layers(telegram) {
         Ok(layers) => layers.long_address().unwrap_or(link),
         Err(_) => link,

@@ -1,4 +1,5 @@
 //! What holds of the definitions themselves: each function's contract is a law.
+ghost use Rattle.message_check.specs.Keys.{OneKeyAlone};
 ghost use Rattle.message_check.specs.Layers.{OneReading, ContentAtBody};
 ghost use Rattle.message_check.specs.Opening.{CheckedAreOpened, GenuineAreOpened};
 ghost use Rattle.message_check.specs.Refusals.{RefusedExactly5, RefusedExactly7};
@@ -11,6 +12,11 @@ pub fn a_telegram_has_one_reading()
 /// The piece or the message of a telegram stands at the place that its reading names, and goes to the telegram's end.
 pub fn content_stands_at_body()
     ensures { ContentAtBody }
+{}
+
+/// A meter without a second key has its first one for every message, whatever key id a header names.
+pub fn one_key_is_for_all_messages()
+    ensures { OneKeyAlone }
 {}
 
 /// What is opened in mode 5 are the checked messages, and they say what they are opened to.

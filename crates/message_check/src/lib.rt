@@ -4,6 +4,7 @@
 
 mod addressee;
 mod headers;
+mod keys;
 mod mode_five;
 mod mode_seven;
 mod opening;
@@ -11,10 +12,11 @@ mod reading;
 mod refusal;
 mod signature;
 
-pub use addressee::target;
+pub use addressee::{link_address, target};
 pub use headers::Layers;
-pub use mode_five::{open5, open5_with_key};
-pub use mode_seven::{open7, open7_with_key};
+pub use keys::MeterKeys;
+pub use mode_five::{open5, open5_with_keys};
+pub use mode_seven::{open7, open7_with_keys};
 pub use opening::Opened;
 pub use reading::layers;
 pub use refusal::{LayerFault, Reason};

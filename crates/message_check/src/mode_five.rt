@@ -1,19 +1,20 @@
 //! Messages of security mode 5 (OMS Volume 2): AES-128-CBC under the meter's key, checked by two bytes.
-ghost use Rattle.std.specs.Prelude.{◌≡◌, ◌+◌, ◌*◌, ◌^◌, ◌<◌, ◌≤◌, ◌↔◌, [], ◌++◌, length, drop, replicate, Ok, Err, IfOk, IfErr, OnOk, OnErr};
+ghost use Rattle.std.specs.Prelude.{◌≡◌, ◌+◌, ◌*◌, ◌^◌, ◌<◌, ◌≤◌, ◌++◌, length, take, drop, replicate, Ok, Err, IfOk, IfErr};
 ghost use Rattle.frame_formats.specs.Crc.{IsBytes};
 ghost use Rattle.meter_address.specs.Address.{bytes_of};
 ghost use Rattle.tpl_headers.specs.Configuration.{blocks_of};
 ghost use Rattle.message_check.specs.Opening.{initialization_vector, decrypted5, rest_of, Checked5, some_passed, check_bytes_passed, access_number_passed, opened5_after};
-ghost use Rattle.message_check.specs.Opened.{found_in};
+ghost use Rattle.message_check.specs.Keys.{keys_of};
+ghost use Rattle.message_check.specs.Opened.{found_in, Opens, Says};
 ghost use Rattle.message_check.specs.Refusals.{Refusal5};
 ghost use Rattle.message_check.specs.declared.refusal.Reason.{Reason};
 
+use crate::keys::MeterKeys;
 use crate::opening::{Opened, check_blocks, decrypt, emptied_if_refused, read_header_for};
 use crate::refusal::Reason;
 use aes_block::Keys;
 use afl_layer::Scratch;
 use ell_layer::Access;
-use key_derivation::MeterKey;
 use meter_address::{Address, Commission, Mode};
 use tpl_headers::Tpl;
 
@@ -65,6 +66,7 @@ fn decrypt_for(keys: &Keys, commission: &Commission, tpl: &Tpl, message: &mut [u
     requires key { keys.now ≡ commission.now.key }
     requires blocks { tpl.now.len + 16 * blocks_of tpl.now.cf ≤ length message.old }
     ensures payload { drop tpl.now.len message.new ≡ decrypted5 commission.now tpl.now message.old ++ rest_of tpl.now message.old }
+    ensures front { take tpl.now.len message.new ≡ take tpl.now.len message.old }
     ensures long { length (decrypted5 commission.now tpl.now message.old) ≡ 16 * blocks_of tpl.now.cf }
 {
     let iv = first_block(commission.address, tpl.acc);
@@ -83,6 +85,7 @@ fn open_message(
     ensures bytes { IsBytes message.old }
     ensures opened { IfOk result (λ o. opened5_after last commission.now message.old ≡ Ok (found_in message.new o)) }
     ensures within { IfOk result (λ o. o.from ≤ length message.new) }
+    ensures front { IfOk result (λ o. take o.from message.new ≡ take o.from message.old) }
     ensures number { IfOk result (λ o. o.counter < 2 ^ 8) }
     ensures refused { IfErr result (λ r. opened5_after last commission.now message.old ≡ Err r) }
 {
@@ -100,41 +103,34 @@ fn open_message(
     })
 }
 
-/// The same as `open5`, with the meter's key made ready beforehand: where many messages of a meter are opened, this saves
-/// making it ready for each. The key has to be the commissioned one, and the commissioned mode 5.
-pub fn open5_with_key(
-    meter_key: &MeterKey,
+/// The same as `open5`, with the meter's keys made ready beforehand, which have to be those of the commission.
+pub fn open5_with_keys(
+    keys: &MeterKeys,
     commission: &Commission,
     last: Option<u32>,
     message: &mut Scratch,
 ) -> Result<Opened, Reason>
-    requires key { meter_key.now ≡ commission.now.key }
+    requires keys { keys.now ≡ keys_of commission.now }
     requires mode { commission.now.mode ≡ Mode.Five }
 
-    // The payload is what the message has become, from the place `from` on.
-    ensures opened { IfOk result (λ o. opened5_after last commission.now message.old ≡ Ok (found_in message.new o)) }
-    ensures within { IfOk result (λ o. o.from ≤ length message.new) }
-    ensures same_len { OnOk result (length message.new ≡ length message.old) }
+    // What is opened is a checked message, and what is refused has the cause that its reason names.
+    ensures opens { Opens message.old message.new result
+        (Checked5 commission.now message.old) (Refusal5 last commission.now message.old) }
 
     // An access number is one byte.
     ensures number { IfOk result (λ o. o.counter < 2 ^ 8) }
 
-    // A refused message is emptied.
-    ensures refused { IfErr result (λ r. opened5_after last commission.now message.old ≡ Err r) }
-    ensures emptied { OnErr result (message.new ≡ []) }
-
-    // What is opened is a checked message, and what is refused has the cause that its reason names.
-    ensures checked { IfOk result (λ o. Checked5 commission.now message.old (found_in message.new o)) }
-    ensures cause { (r : Reason) → (result ≡ Err r) ↔ Refusal5 last commission.now message.old r }
+    // All of it as one function of the message.
+    ensures exact { Says message.new result (opened5_after last commission.now message.old) }
 {
-    let answer = open_message(meter_key.keys(), commission, last, message.bytes_mut());
+    let answer = open_message(keys.first().keys(), commission, last, message.bytes_mut());
     emptied_if_refused(answer, message)
 }
 
 /// Checks a message of security mode 5, which begins with its transport header, and decrypts it in place under the
-/// meter's key. `last` is the meter's last stored access number. A refusal is the first that applies of `BadMessage`,
-/// `OtherAddress`, `Mode`, `ShortBlocks`, `Unchecked`, `CheckBytes` and `SameAccess`. The meter has to be commissioned in
-/// mode 5.
+/// meter's key: the message becomes its payload, behind the header. `last` is the meter's last stored access number. A
+/// refusal is the first that applies of `BadMessage`, `OtherAddress`, `Mode`, `ShortBlocks`, `Unchecked`, `CheckBytes`
+/// and `SameAccess`, and empties the message. The meter has to be commissioned in mode 5.
 pub fn open5(
     commission: &Commission,
     last: Option<u32>,
@@ -142,22 +138,16 @@ pub fn open5(
 ) -> Result<Opened, Reason>
     requires { commission.now.mode ≡ Mode.Five }
 
-    // The payload is what the message has become, from the place `from` on.
-    ensures opened { IfOk result (λ o. opened5_after last commission.now message.old ≡ Ok (found_in message.new o)) }
-    ensures within { IfOk result (λ o. o.from ≤ length message.new) }
-    ensures same_len { OnOk result (length message.new ≡ length message.old) }
+    // What is opened is a checked message, and what is refused has the cause that its reason names.
+    ensures opens { Opens message.old message.new result
+        (Checked5 commission.now message.old) (Refusal5 last commission.now message.old) }
 
     // An access number is one byte.
     ensures number { IfOk result (λ o. o.counter < 2 ^ 8) }
 
-    // A refused message is emptied.
-    ensures refused { IfErr result (λ r. opened5_after last commission.now message.old ≡ Err r) }
-    ensures emptied { OnErr result (message.new ≡ []) }
-
-    // What is opened is a checked message, and what is refused has the cause that its reason names.
-    ensures checked { IfOk result (λ o. Checked5 commission.now message.old (found_in message.new o)) }
-    ensures cause { (r : Reason) → (result ≡ Err r) ↔ Refusal5 last commission.now message.old r }
+    // All of it as one function of the message.
+    ensures exact { Says message.new result (opened5_after last commission.now message.old) }
 {
-    let meter_key = MeterKey::new(&commission.key);
-    open5_with_key(&meter_key, commission, last, message)
+    let keys = MeterKeys::new(commission);
+    open5_with_keys(&keys, commission, last, message)
 }

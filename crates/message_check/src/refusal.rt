@@ -70,4 +70,6 @@ pub enum Reason {
     IdsSpent,
     /// No pending command has this id.
     NoSuch(u32),
+    /// A second key came for a meter that is commissioned in security mode 5, which has one key alone.
+    KeyInMode5,
 }

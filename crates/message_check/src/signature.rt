@@ -8,8 +8,6 @@ use crate::refusal::Reason;
 use aes_block::Keys;
 use afl_layer::Auth;
 use cbc_cmac::Cmac;
-use key_derivation::{KeyUse, MeterKey};
-use meter_address::Commission;
 
 // The parts of a message's authentication, all that have to be there.
 #[derive(Clone, Copy)]
@@ -73,36 +71,22 @@ fn cmac_of_message(key: &[u8; 16], signature: &Signature, message: &[u8]) -> [u8
     mac.finish()
 }
 
-// The MAC of a message: the first eight bytes of its CMAC under the derived MAC key.
+// The MAC of a message: the first eight bytes of its CMAC.
 #[tactic(auto, unfolding(crate::specs::Opening::mac_of))]
-fn mac_of_message(
-    meter_key: &MeterKey,
-    commission: &Commission,
-    signature: &Signature,
-    message: &[u8],
-) -> [u8; 8]
-    requires { meter_key.now ≡ commission.now.key }
-    ensures { result ≡ mac_of commission.now signature.now.mcl signature.now.counter signature.now.ml message.now }
+fn mac_of_message(key: &[u8; 16], signature: &Signature, message: &[u8]) -> [u8; 8]
+    ensures { result ≡ mac_of key.now signature.now.mcl signature.now.counter signature.now.ml message.now }
 {
-    let id = commission.address.identification();
-    let key = meter_key.derive(KeyUse::MeterMac, signature.counter, id);
-    let whole = cmac_of_message(&key, signature, message);
+    let whole = cmac_of_message(key, signature, message);
     let mut mac = [0; 8];
     mac.copy_from_slice(&whole[..8]);
     mac
 }
 
-// Whether the MAC is that of the message.
-pub(crate) fn check_mac(
-    meter_key: &MeterKey,
-    commission: &Commission,
-    signature: &Signature,
-    message: &[u8],
-) -> Result<(), Reason>
-    requires { meter_key.now ≡ commission.now.key }
-    ensures { result ≡ mac_passed commission.now signature.now message.now }
+// Whether the MAC is that of the message under the MAC key.
+pub(crate) fn check_mac(key: &[u8; 16], signature: &Signature, message: &[u8]) -> Result<(), Reason>
+    ensures { result ≡ mac_passed key.now signature.now message.now }
 {
-    if mac_of_message(meter_key, commission, signature, message) == signature.mac {
+    if mac_of_message(key, signature, message) == signature.mac {
         Ok(())
     } else {
         Err(Reason::BadMac)

@@ -1,5 +1,6 @@
 //! The layers of telegrams, the meters that they are for, and messages that are opened and refused.
 ghost use Rattle.std.specs.Prelude.{◌≡◌};
+ghost use Rattle.message_check.specs.Keys.{keys_of};
 
 use super::*;
 use afl_layer::{AflFault, Auth, SCRATCH_MAX, Scratch};
@@ -107,6 +108,12 @@ fn layers_are_read_or_refused_and_name_the_meter(rt: HostRuntime) -> Result<(), 
         let telegram = Telegram::from_bytes(&bytes).ok_or("no telegram")?;
         assert_eq!(rt; layers(&telegram).map(seen), answer, "{text}");
         assert_eq!(rt; target(&telegram), Address(meter), "{text}");
+        let link = telegram.link_address_bytes();
+        assert_eq!(rt;
+            link_address(&telegram),
+            Address::from_bytes(link),
+            "{text}"
+        );
     }
     Ok(())
 }
@@ -467,5 +474,148 @@ fn authentication_and_header_are_judged_in_mode_7(rt: HostRuntime) -> Result<(),
             if answer.is_ok() { 18 } else { 0 }
         );
     }
+    Ok(())
+}
+
+// The second key of a meter.
+const OTHER: [u8; 16] = [
+    0xF0, 0xF1, 0xF2, 0xF3, 0xF4, 0xF5, 0xF6, 0xF7, 0xF8, 0xF9, 0xFA, 0xFB, 0xFC, 0xFD, 0xFE, 0xFF,
+];
+
+// The meter's second key, where it has one; counter, MAC and message, as another implementation made them under the first
+// key or the second; the answer. The header's last byte names the key in its low four bits.
+const UNDER_TWO_KEYS: [(Option<[u8; 16]>, u32, u64, &str, Result<Told, Reason>); 11] = [
+    // The first key, by key id 0.
+    (
+        Some(OTHER),
+        5,
+        0x70E9_657D_1ED6_1158,
+        "7a010010071079f0dc80708ec46fbaf74d0582fe3496",
+        Ok((5, 6, Access::None)),
+    ),
+    // The second key, by key id 0 and by key id 1.
+    (
+        Some(OTHER),
+        6,
+        0x9FA8_2D91_4DD4_663F,
+        "7a0100100710e4bba4da33492a497c80fd0b2390b79c",
+        Err(Reason::BadMac),
+    ),
+    (
+        Some(OTHER),
+        6,
+        0x01A4_A923_41C5_3D81,
+        "7a0100100711e4bba4da33492a497c80fd0b2390b79c",
+        Ok((6, 6, Access::None)),
+    ),
+    (
+        None,
+        6,
+        0x01A4_A923_41C5_3D81,
+        "7a0100100711e4bba4da33492a497c80fd0b2390b79c",
+        Err(Reason::BadMac),
+    ),
+    // The first key, by key id 1: only where there is no second one.
+    (
+        Some(OTHER),
+        6,
+        0x5F58_659E_3F9D_5B5C,
+        "7a0100100711f398085db061b2b5544516c4272984d3",
+        Err(Reason::BadMac),
+    ),
+    (
+        None,
+        6,
+        0x5F58_659E_3F9D_5B5C,
+        "7a0100100711f398085db061b2b5544516c4272984d3",
+        Ok((6, 6, Access::None)),
+    ),
+    // Every other key id is the first key's.
+    (
+        Some(OTHER),
+        7,
+        0xA8F8_F773_7A43_156F,
+        "7a0100100712ba3df578a536e48a8cc3223b5ce9991a",
+        Ok((7, 6, Access::None)),
+    ),
+    (
+        Some(OTHER),
+        7,
+        0xC19B_1475_F59E_0694,
+        "7a0100100712276e0545165b7046fea2aeb6da97e3eb",
+        Err(Reason::BadMac),
+    ),
+    (
+        Some(OTHER),
+        9,
+        0xABE1_1404_43A3_1974,
+        "7a010010071fd76cf3d4e79c0a245fadbc76f499c653",
+        Ok((9, 6, Access::None)),
+    ),
+    // The high bits of the byte name no key.
+    (
+        Some(OTHER),
+        8,
+        0xAD2A_E3D1_9D7F_17BA,
+        "7a0100100791e6ed375142ffd077e5894990617a73b5",
+        Ok((8, 6, Access::None)),
+    ),
+    (
+        Some(OTHER),
+        10,
+        0xE197_E72C_ADCC_1D38,
+        "7a01001007d18fe1994fb6b1b13178ff18a6873b929b",
+        Ok((10, 6, Access::None)),
+    ),
+];
+
+// The heat meter with these keys.
+fn heat(key: [u8; 16], other: Option<[u8; 16]>) -> Commission
+    ensures mode { result.mode ≡ Mode.Seven }
+    ensures keys { keys_of result ≡ record { first = key; other = other } }
+{
+    Commission {
+        address: Address(HEAT),
+        mode: Mode::Seven,
+        key,
+        other,
+        last: Some(4),
+        down: 0,
+        ids: 0,
+    }
+}
+
+fn auth(counter: u32, mac: u64) -> Auth {
+    Auth {
+        mcl: Some(0x25),
+        mcr: Some(counter),
+        ml: None,
+        mac: Some(mac.to_be_bytes()),
+    }
+}
+
+#[test]
+fn a_message_is_judged_under_the_key_that_its_header_names(rt: HostRuntime) -> Result<(), Fail> {
+    for (other, counter, mac, text, wanted) in UNDER_TWO_KEYS {
+        let meter = heat(KEY.to_be_bytes(), other);
+        let message = hex::decode(rt.alloc(), text)?;
+        let mut message = scratch(&rt, &message);
+        let answer = open7(&meter, meter.last, &auth(counter, mac), &mut message);
+        assert_eq!(rt; answer.map(told), wanted, "{text}");
+    }
+    Ok(())
+}
+
+#[test]
+fn a_second_key_is_renewed(rt: HostRuntime) -> Result<(), Fail> {
+    let key = KEY.to_be_bytes();
+    let mut keys = MeterKeys::new(&heat(key, None));
+    keys.renew_other(&key);
+    keys.renew_other(&OTHER);
+    let message = hex::decode(rt.alloc(), "7a0100100711e4bba4da33492a497c80fd0b2390b79c")?;
+    let mut message = scratch(&rt, &message);
+    let auth = auth(6, 0x01A4_A923_41C5_3D81);
+    let answer = open7_with_keys(&keys, &heat(key, Some(OTHER)), None, &auth, &mut message);
+    assert_eq!(rt; answer.map(told), Ok((6, 6, Access::None)));
     Ok(())
 }

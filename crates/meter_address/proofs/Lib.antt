@@ -1,2 +1,3 @@
 pub mod HeaderOrder
 pub mod Texts
+pub mod Keys

@@ -1,5 +1,5 @@
 -- Addresses and their texts.
-use Rattle.std.proofs.Common.{◌≡◌, ℕ, zero, suc, ◌+◌, ◌*◌, ◌/◌, ◌%◌, ◌^◌, ◌<◌, ◌≤◌, ◌==◌, true, cond, ltb, ◌⊎◌, List, [], ◌∷◌, length, get_or, take, map, Option, Some, None, Result, Ok, Err, MatchResult, refl, sym, ap, subst, ◌∙◌, arith, inl, inr}
+use Rattle.std.proofs.Common.{◌≡◌, ℕ, zero, suc, ◌+◌, ◌*◌, ◌/◌, ◌%◌, ◌^◌, ◌<◌, ◌≤◌, ◌==◌, Bool, true, false, cond, ltb, ◌⊎◌, List, [], ◌∷◌, length, get_or, take, map, Option, Some, None, Result, Ok, Err, MatchResult, refl, sym, ap, subst, ◌∙◌, arith, inl, inr}
 use Rattle.std.specs.Char.{to_ascii_lowercase}
 use Rattle.std.specs.Str.{str_to_ascii_lowercase}
 use Rattle.std.proofs.lemmas.Bool.Decides.{nat_tests}
@@ -233,3 +233,36 @@ lowered_pairs i (a ∷ b ∷ rest) bytes h =
 -- the texts of an address differ in the case of their letters alone
 pub one_text : (text : List ℕ) (a : Address) → Spells text a → str_to_ascii_lowercase text ≡ text_of a
 one_text text a h = lowered_pairs 0 text (bytes_of a) (sym (decode_of-even text (decode_of-ok text (bytes_of a) h).0) ∙ h)
+
+-- the number of eight bytes
+below_64 : (a b c d e f g h n : ℕ) → a < 256 → b < 256 → c < 256 → d < 256 → e < 256 → f < 256 → g < 256 → h < 256
+    → n ≡ a + b * 256 + c * 65536 + d * 16777216 + e * 4294967296 + f * 1099511627776 + g * 281474976710656 + h * 72057594037927936 → n < 2 ^ 64
+below_64 a b c d e f g h n la lb lc ld le lf lg lh is = omega arith
+
+made_fits : (bytes : List ℕ) → IsBytes bytes → from_be_bytes w64 bytes < 2 ^ 64
+made_fits bytes h =
+    below_64 (get_or bytes 7 0) (get_or bytes 6 0) (get_or bytes 5 0) (get_or bytes 4 0) (get_or bytes 3 0) (get_or bytes 2 0) (get_or bytes 1 0) (get_or bytes 0 0) _
+    (h 7) (h 6) (h 5) (h 4) (h 3) (h 2) (h 1) (h 0) (omega arith)
+
+-- an address that is read has eight bytes
+pub read_fits : (text : List ℕ) (a : Address) → address_of text ≡ Some a → a.0 < 2 ^ 64
+unfolding address_of
+read_fits text a h = by_length (length text == 16) h
+  where
+    by_bytes : (d : Result (List ℕ) FromHexError) → decode_of text ≡ d → from_decoded d ≡ Some a → a.0 < 2 ^ 64
+    by_bytes (Ok bytes) is made =
+        let same : from_be_bytes w64 bytes ≡ a.0 = cc in
+        subst (λ n. n < 2 ^ 64) same (made_fits bytes (decode_of-ok text bytes is).3)
+    by_bytes (Err e) is made = absurd cc
+
+    by_length : (b : Bool) → cond b (from_decoded (decode_of text)) None ≡ Some a → a.0 < 2 ^ 64
+    by_length true made = by_bytes (decode_of text) refl made
+    by_length false made = absurd cc
+
+-- the text of an address is read back
+pub written_address : (a : Address) → a.0 < 2 ^ 64 → address_of (text_of a) ≡ Some a
+written_address a fits =
+    let spelt = written_spells (text_of a) a refl in
+    let value = from_be_bytes-bytes_of a fits in
+    address_of_decoded (text_of a) (Ok (bytes_of a)) (spelt-len (text_of a) a spelt) spelt
+    ∙ ap (λ (n : ℕ). let made : Address = record { 0 = n } in Some made) value

@@ -1,6 +1,6 @@
 -- The address of a meter, and its text.
-use Rattle.std.specs.Prelude.{ℕ, ◌≡◌, ◌≢◌, ◌<◌, ◌==◌, List, ◌++◌, length, take, drop, slice_index, false, Option, Some, None, Result, Ok, Err, if◌then◌else◌}
-use Rattle.std.specs.List.{AllPass}
+use Rattle.std.specs.Prelude.{ℕ, ◌≡◌, ◌≢◌, ◌<◌, ◌==◌, List, [], ◌∷◌, ◌++◌, length, take, drop, slice_index, false, Option, Some, None, Result, Ok, Err, if◌then◌else◌}
+use Rattle.std.specs.List.{AllPass, list_any}
 use Rattle.std.specs.Int.{w64, to_be_bytes, from_be_bytes}
 use Rattle.hex.specs.Hex.{decode_of, encode_lower, is_hex_digit}
 use Rattle.hex.specs.declared.error.FromHexError.{FromHexError}
@@ -46,3 +46,8 @@ pub record IsFirstOther (text : List ℕ) (place : ℕ) : Type 0 where
 abbrev pub IsFault : List ℕ → AddressFault → Type 0
 IsFault text (faults.Length n) = (length text ≢ 16) × (n ≡ length text)
 IsFault text (faults.Digit place) = (length text ≡ 16) × IsFirstOther text place
+
+-- no two addresses are equal
+abbrev pub AreApart : List Address → Type 0
+AreApart [] = Unit {0}
+AreApart (a ∷ others) = (list_any (λ b. b.0 == a.0) others ≡ false) × AreApart others

@@ -1,8 +1,8 @@
 -- What is commissioned of a meter.
-use Rattle.std.specs.Prelude.{ℕ, ◌≡◌, ◌==◌, ◌≤◌, ◌-◌, ◌^◌, List, length, Option, None, if◌then◌else◌}
+use Rattle.std.specs.Prelude.{ℕ, ◌≡◌, ◌==◌, ◌<◌, ◌≤◌, ◌-◌, ◌^◌, List, length, Option, None, if◌then◌else◌}
 use Rattle.std.specs.Option.{ForSome}
 use Rattle.std.specs.Result.{result_ok}
-use Rattle.hex.specs.Hex.{decode_of}
+use Rattle.hex.specs.Hex.{decode_of, IsBytes}
 use Rattle.meter_address.specs.declared.address.Address.{Address}
 use Rattle.meter_address.specs.declared.commission.Mode.{Mode}
 use Rattle.meter_address.specs.declared.commission.Mode.TheVariants.{Five, Seven}
@@ -22,6 +22,11 @@ pub record Commissioned : Type 0 where
 abbrev pub key_of : List ℕ → Option (List ℕ)
 key_of text = if length text == 32 then result_ok (decode_of text) else None
 
+-- sixteen bytes
+pub record IsKey (key : List ℕ) : Type 0 where
+  pub long : length key ≡ 16
+  pub bytes : IsBytes key
+
 -- the greatest number that counts a meter's messages: an access number of one byte in mode 5, a counter of four bytes in mode 7
 abbrev pub most_last : Mode → ℕ
 most_last Five = 255
@@ -31,3 +36,12 @@ most_last Seven = 2 ^ 32 - 1
 pub record FitsMode (mode : Mode) (other : Option (List ℕ)) (last : Option ℕ) : Type 0 where
   pub one_key : mode ≡ Five → other ≡ None
   pub in_range : ForSome last (λ n. n ≤ most_last mode)
+
+-- what holds of each commission: its parts have the sizes of their types, and its mode allows them
+pub record IsCommission (c : Commissioned) : Type 0 where
+  pub address : c.address.0 < 2 ^ 64
+  pub key : IsKey c.key
+  pub other : ForSome c.other IsKey
+  pub fits : FitsMode c.mode c.other c.last
+  pub down : c.down < 2 ^ 32
+  pub ids : c.ids < 2 ^ 32

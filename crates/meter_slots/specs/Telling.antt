@@ -8,7 +8,7 @@ use Rattle.line_reader.specs.declared.line.Line.TheVariants as line
 use Rattle.line_reader.specs.declared.line.LineFormat.TheVariants as line_formats
 use Rattle.message_check.specs.Target.{target_of}
 use Rattle.meter_slots.specs.declared.entry.Event.{Event}
-use Rattle.meter_slots.specs.declared.entry.Event.TheVariants.{Hear, Tick, Put, Cancel}
+use Rattle.meter_slots.specs.declared.entry.Event.TheVariants.{Hear, Tick, Put, Cancel, Rekey}
 use Rattle.meter_slots.specs.declared.entry.Format.{Format}
 use Rattle.meter_slots.specs.declared.entry.Format.TheVariants as formats
 
@@ -29,3 +29,4 @@ event_of_line (line.Frame line_formats.B at bytes) = heard_in formats.B at (deco
 event_of_line (line.Tick address) = Ok (address, Tick)
 event_of_line (line.Put address payload) = Ok (address, Put payload)
 event_of_line (line.Cancel address id) = Ok (address, Cancel id)
+event_of_line (line.Key address key) = Ok (address, Rekey key)

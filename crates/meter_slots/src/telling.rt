@@ -63,5 +63,6 @@ pub fn event_of(line: &Line) -> Result<(Address, Event), FrameFault>
         Line::Tick(address) => Ok((*address, Event::Tick)),
         Line::Put(address, payload) => Ok((*address, Event::Put(payload.copied()))),
         Line::Cancel(address, id) => Ok((*address, Event::Cancel(*id))),
+        Line::Key(address, key) => Ok((*address, Event::Rekey(*key))),
     }
 }

@@ -1,7 +1,6 @@
 -- The line of a data record, of manufacturer data and of a fault.
 use Rattle.std.specs.Prelude.{ℕ, List, [], ◌∷◌, ◌++◌, take, drop, codes, if◌then◌else◌}
-use Rattle.std.specs.Fmt.{decimal}
-use Rattle.hex.specs.Hex.{encode_lower}
+use Rattle.paper.specs.Pieces.{labelled, labelled_bytes}
 use Rattle.dif_vif.specs.declared.fault.RecordFault.{RecordFault}
 use Rattle.dif_vif.specs.declared.fault.RecordFault.TheVariants.{Truncated, TooManyExtensions, Lvar, Selection, Special}
 use Rattle.dif_vif.specs.declared.span.RecordSpan.{RecordSpan}
@@ -16,10 +15,6 @@ use Rattle.record_text.specs.Values.{hex_text, value_text}
 -- so many bytes from a place on
 abbrev pub bytes_at : List ℕ → ℕ → ℕ → List ℕ
 bytes_at bytes place count = take count (drop place bytes)
-
--- a byte in two digits
-abbrev pub byte_text : ℕ → List ℕ
-byte_text byte = encode_lower (byte ∷ [])
 
 -- what the DIF and its extensions say: the function and the register
 unfoldable pub place_text : RecordSpan → List ℕ
@@ -42,21 +37,17 @@ record_line bytes span =
 
 unfoldable pub maker_line : List ℕ → RecordSpan → List ℕ
 maker_line bytes span =
-    codes "maker " ++ byte_text span.dif ++ codes " " ++ hex_text (bytes_at bytes span.data_at span.data_len) ++ codes "\n"
+    labelled_bytes (codes "maker ") (span.dif ∷ []) ++ codes " " ++ hex_text (bytes_at bytes span.data_at span.data_len) ++ codes "\n"
 
 abbrev pub span_line : List ℕ → RecordSpan → List ℕ
 span_line bytes span = if span.maker then maker_line bytes span else record_line bytes span
 
--- a word and a byte
-unfoldable pub worded : List ℕ → ℕ → List ℕ
-worded word byte = word ++ byte_text byte
-
 abbrev pub fault_text : RecordFault → List ℕ
-fault_text (Truncated place) = codes "truncated " ++ decimal place
-fault_text (TooManyExtensions place) = codes "extensions " ++ decimal place
-fault_text (Lvar lvar) = worded (codes "lvar ") lvar
-fault_text (Selection place) = codes "selection " ++ decimal place
-fault_text (Special dif) = worded (codes "special ") dif
+fault_text (Truncated place) = labelled (codes "truncated ") place
+fault_text (TooManyExtensions place) = labelled (codes "extensions ") place
+fault_text (Lvar lvar) = labelled_bytes (codes "lvar ") (lvar ∷ [])
+fault_text (Selection place) = labelled (codes "selection ") place
+fault_text (Special dif) = labelled_bytes (codes "special ") (dif ∷ [])
 
 unfoldable pub fault_line : RecordFault → List ℕ
 fault_line fault = codes "fault " ++ fault_text fault ++ codes "\n"

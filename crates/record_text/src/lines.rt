@@ -1,15 +1,14 @@
 //! The line of a data record, of manufacturer data and of a fault.
 
-ghost use Rattle.std.specs.Prelude.{◌≡◌, ◌++◌};
-ghost use Rattle.std.specs.Fmt.{decimal};
+ghost use Rattle.std.specs.Prelude.{◌≡◌};
 ghost use Rattle.paper.specs.Puts.{Puts};
 ghost use Rattle.dif_vif.specs.Spans.{IsSpanOf};
-ghost use Rattle.record_text.specs.Lines.{bytes_at, byte_text, place_text, measure_text, data_text};
-ghost use Rattle.record_text.specs.Lines.{record_line, maker_line, span_line, worded, fault_text, fault_line};
+ghost use Rattle.record_text.specs.Lines.{bytes_at, place_text, measure_text, data_text};
+ghost use Rattle.record_text.specs.Lines.{record_line, maker_line, span_line, fault_text, fault_line};
 
 use crate::value_text::{put_bytes, put_value};
 use dif_vif::{RecordFault, RecordSpan};
-use paper::{Paper, put_hex, put_number, put_text};
+use paper::{Paper, put_labelled, put_labelled_bytes, put_text};
 use record_values::{Unit, Value, unit_of, value_of};
 use unit_text::{function_word, put_register, put_unit};
 
@@ -20,12 +19,6 @@ fn bytes_at(bytes: &[u8], place: usize, count: usize) -> &[u8]
     let (_, rest) = bytes.split_at(place.min(bytes.len()));
     let (found, _) = rest.split_at(count.min(rest.len()));
     found
-}
-
-fn put_byte<P: Paper>(paper: &mut P, byte: u8)
-    ensures { Puts P.takes paper.old (byte_text byte) paper.new }
-{
-    put_hex(paper, &[byte]);
 }
 
 #[tactic(auto, unfolding(crate::specs::Lines::place_text), using(paper::proofs::Calls::two_make))]
@@ -70,13 +63,12 @@ fn put_record<P: Paper>(paper: &mut P, bytes: &[u8], span: &RecordSpan)
     put_text(paper, "\n");
 }
 
-#[tactic(auto, unfolding(crate::specs::Lines::maker_line), using(paper::proofs::Calls::five_make))]
+#[tactic(auto, unfolding(crate::specs::Lines::maker_line), using(paper::proofs::Calls::four_make))]
 fn put_maker<P: Paper>(paper: &mut P, bytes: &[u8], span: &RecordSpan)
     ensures { Puts P.takes paper.old (maker_line bytes.now span.now) paper.new }
 {
     let sent = bytes_at(bytes, span.data_at, span.data_len);
-    put_text(paper, "maker ");
-    put_byte(paper, span.dif);
+    put_labelled_bytes(paper, "maker ", &[span.dif]);
     put_text(paper, " ");
     put_bytes(paper, sent);
     put_text(paper, "\n");
@@ -94,32 +86,15 @@ pub fn put_span<P: Paper>(paper: &mut P, bytes: &[u8], span: &RecordSpan)
     }
 }
 
-#[tactic(auto, unfolding(crate::specs::Lines::worded), using(paper::proofs::Calls::two_make))]
-fn put_worded<P: Paper>(paper: &mut P, word: &str, byte: u8)
-    ensures { Puts P.takes paper.old (worded word.now byte) paper.new }
-{
-    put_text(paper, word);
-    put_byte(paper, byte);
-}
-
-// A word and a place.
-#[tactic(auto, using(paper::proofs::Calls::two_make))]
-fn put_placed<P: Paper>(paper: &mut P, word: &str, place: usize)
-    ensures { Puts P.takes paper.old (word.now ++ decimal place) paper.new }
-{
-    put_text(paper, word);
-    put_number(paper, place as u64);
-}
-
 fn put_fault_words<P: Paper>(paper: &mut P, fault: RecordFault)
     ensures { Puts P.takes paper.old (fault_text fault) paper.new }
 {
     match fault {
-        RecordFault::Truncated(place) => put_placed(paper, "truncated ", place),
-        RecordFault::TooManyExtensions(place) => put_placed(paper, "extensions ", place),
-        RecordFault::Lvar(lvar) => put_worded(paper, "lvar ", lvar),
-        RecordFault::Selection(place) => put_placed(paper, "selection ", place),
-        RecordFault::Special(dif) => put_worded(paper, "special ", dif),
+        RecordFault::Truncated(place) => put_labelled(paper, "truncated ", place as u64),
+        RecordFault::TooManyExtensions(place) => put_labelled(paper, "extensions ", place as u64),
+        RecordFault::Lvar(lvar) => put_labelled_bytes(paper, "lvar ", &[lvar]),
+        RecordFault::Selection(place) => put_labelled(paper, "selection ", place as u64),
+        RecordFault::Special(dif) => put_labelled_bytes(paper, "special ", &[dif]),
     }
 }
 

@@ -1,5 +1,5 @@
 -- The text of an outcome holds no newline.
-use Rattle.std.proofs.Common.{ℕ, [], ◌∷◌, Option, refl}
+use Rattle.std.proofs.Common.{ℕ, List, [], ◌∷◌, Option, refl}
 use Rattle.std.specs.Prelude.{codes, option_map}
 use Rattle.std.specs.Int.{w16, to_be_bytes}
 use Rattle.meter_address.specs.Address.{bytes_of}
@@ -16,7 +16,8 @@ use Rattle.message_check.specs.declared.refusal.Reason.TheVariants.{NotUplink, B
 use Rattle.meter_slots.specs.declared.entry.Outcome.{Outcome}
 use Rattle.meter_slots.specs.declared.entry.Outcome.TheVariants.{Stored, PartKept, Ticked, Queued, Cancelled, Refused}
 use Rattle.meter_slots.specs.declared.reading.Reading.{Reading}
-use Rattle.report_text.specs.Outcomes.{ell_fault_text, afl_fault_text, tpl_fault_text, layer_fault_text, message_fault_text, reason_text, reading_text, stored_text, refused_text, ticked_text, outcome_text}
+use Rattle.layer_text.specs.Faults.{ell_fault_text, afl_fault_text, tpl_fault_text, named_fault_text, layer_fault_text}
+use Rattle.report_text.specs.Outcomes.{bad_layers_text, reason_text, reading_text, stored_text, refused_text, ticked_text, outcome_text}
 use Rattle.report_text.proofs.LineWalks.{IsWithout, ◌⌢◌, literal}
 use Rattle.report_text.proofs.LinePieces.{hex_or_dash, worded_number, worded_two, worded_if, worded_bytes, piece_if}
 
@@ -34,22 +35,25 @@ tpl_fault : (fault : TplFault) → IsWithout 10 (tpl_fault_text fault)
 tpl_fault (tpl.Truncated have) = worded_number (literal (codes " truncated ") refl) have
 tpl_fault (tpl.Unbuilt ci) = worded_bytes (literal (codes " unbuilt ") refl) (ci ∷ [])
 
-layer_fault : (fault : LayerFault) → IsWithout 10 (layer_fault_text fault)
-unfolding layer_fault_text
-layer_fault (Ell fault) = literal (codes "layers ") refl ⌢ ell_fault fault
-layer_fault (Afl fault) = literal (codes "layers ") refl ⌢ afl_fault fault
-layer_fault (Tpl fault) = literal (codes "layers tpl") refl ⌢ tpl_fault fault
+named_fault : (name : List ℕ) (fault : TplFault) → IsWithout 10 name → IsWithout 10 (named_fault_text name fault)
+unfolding named_fault_text
+named_fault name fault is = is ⌢ tpl_fault fault
 
-message_fault : (fault : TplFault) → IsWithout 10 (message_fault_text fault)
-unfolding message_fault_text
-message_fault fault = literal (codes "message") refl ⌢ tpl_fault fault
+layer_fault : (fault : LayerFault) → IsWithout 10 (layer_fault_text fault)
+layer_fault (Ell fault) = ell_fault fault
+layer_fault (Afl fault) = afl_fault fault
+layer_fault (Tpl fault) = named_fault (codes "tpl") fault (literal (codes "tpl") refl)
+
+bad_layers : (fault : LayerFault) → IsWithout 10 (bad_layers_text fault)
+unfolding bad_layers_text
+bad_layers fault = literal (codes "layers ") refl ⌢ layer_fault fault
 
 reason_is : (reason : Reason) → IsWithout 10 (reason_text reason)
 reason_is (NotUplink c) = worded_bytes (literal (codes "uplink ") refl) (c ∷ [])
-reason_is (BadLayers fault) = layer_fault fault
+reason_is (BadLayers fault) = bad_layers fault
 reason_is PartInMode5 = literal (codes "part5") refl
 reason_is (TooManyParts fid) = worded_number (literal (codes "parts ") refl) fid
-reason_is (BadMessage fault) = message_fault fault
+reason_is (BadMessage fault) = named_fault (codes "message") fault (literal (codes "message") refl)
 reason_is (OtherAddress a) = worded_bytes (literal (codes "other ") refl) (bytes_of a)
 reason_is (Mode found wanted) = worded_two (literal (codes "mode ") refl) found wanted
 reason_is NoAuth = literal (codes "noauth") refl

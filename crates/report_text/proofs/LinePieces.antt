@@ -9,7 +9,7 @@ use Rattle.meter_address.specs.declared.address.Address.{Address}
 use Rattle.meter_address.specs.Letters.{letters_of, letters_of_number, manufacturer_of, is_letter}
 use Rattle.record_text.specs.Values.{hex_text}
 use Rattle.paper.specs.Pieces.{optional_text, labelled, labelled_two, labelled_if, labelled_bytes, text_if}
-use Rattle.report_text.specs.Report.{letters_text}
+use Rattle.layer_text.specs.Letters.{letters_text}
 use Rattle.report_text.proofs.LineWalks.{IsWithout, ◌⌢◌, literal, differs, byte_differs, found_differs}
 
 -- ---- numbers

@@ -13,14 +13,14 @@ use Rattle.record_values.specs.declared.values.Value.{Value}
 use Rattle.record_values.specs.declared.values.Value.TheVariants as values
 use Rattle.record_values.specs.Units.{unit}
 use Rattle.record_values.specs.Values.{value}
-use Rattle.record_text.specs.Lines.{bytes_at, place_text, data_text, record_line, maker_line, span_line, worded, fault_text, fault_line}
+use Rattle.record_text.specs.Lines.{bytes_at, place_text, data_text, record_line, maker_line, span_line, fault_text, fault_line}
 use Rattle.record_text.specs.RecordText.{more_text, next_text, listed, records_text}
 use Rattle.record_text.specs.Values.{two_digits, four_digits, day_text, time_text, marked, value_text}
-use Rattle.unit_text.specs.Pieces.{spaced, register_text, unit_text}
+use Rattle.unit_text.specs.Pieces.{register_text, unit_text}
 use Rattle.unit_text.specs.Words.{function_text, quantity_text, name_text}
 use Rattle.report_text.specs.Orders.{with_line}
 use Rattle.report_text.proofs.LineWalks.{IsWithout, ◌⌢◌, literal, Passes, nothing, ◌⨾◌, one_line}
-use Rattle.report_text.proofs.LinePieces.{number, signed, hex, hex_or_dash}
+use Rattle.report_text.proofs.LinePieces.{number, signed, hex_or_dash, worded_number, worded_bytes}
 
 -- ---- words
 
@@ -75,13 +75,11 @@ value_is (values.Moment year month day hour minute invalid summer) =
 
 -- ---- lines
 
-spaced_is : (n : ℕ) → IsWithout 10 (spaced n)
-unfolding spaced
-spaced_is n = literal (codes " ") refl ⌢ number n (omega arith)
-
 register_is : (storage tariff subunit : ℕ) → IsWithout 10 (register_text storage tariff subunit)
 unfolding register_text
-register_is storage tariff subunit = spaced_is storage ⌢ spaced_is tariff ⌢ spaced_is subunit
+register_is storage tariff subunit =
+    worded_number (literal (codes " ") refl) storage ⌢ worded_number (literal (codes " ") refl) tariff
+    ⌢ worded_number (literal (codes " ") refl) subunit
 
 place_is : (span : RecordSpan) → IsWithout 10 (place_text span)
 unfolding place_text
@@ -107,7 +105,7 @@ record_passes bytes span =
 maker_passes : (bytes : List ℕ) (span : RecordSpan) → Passes (maker_line bytes span)
 unfolding maker_line with_line
 maker_passes bytes span =
-    one_line _ (literal (codes "maker ") refl ⌢ hex (span.dif ∷ []) ⌢ literal (codes " ") refl ⌢ hex_or_dash (bytes_at bytes span.data_at span.data_len))
+    one_line _ (worded_bytes (literal (codes "maker ") refl) (span.dif ∷ []) ⌢ literal (codes " ") refl ⌢ hex_or_dash (bytes_at bytes span.data_at span.data_len))
 
 one_of : (maker : Bool) {a b : List ℕ} → Passes a → Passes b → Passes (cond maker a b)
 one_of true x y = x
@@ -116,16 +114,12 @@ one_of false x y = y
 span_passes : (bytes : List ℕ) (span : RecordSpan) → Passes (span_line bytes span)
 span_passes bytes span = one_of span.maker (maker_passes bytes span) (record_passes bytes span)
 
-worded_is : {word : List ℕ} → IsWithout 10 word → (byte : ℕ) → IsWithout 10 (worded word byte)
-unfolding worded
-worded_is h byte = h ⌢ hex (byte ∷ [])
-
 fault_is : (fault : RecordFault) → IsWithout 10 (fault_text fault)
-fault_is (Truncated place) = literal (codes "truncated ") refl ⌢ number place (omega arith)
-fault_is (TooManyExtensions place) = literal (codes "extensions ") refl ⌢ number place (omega arith)
-fault_is (Lvar lvar) = worded_is (literal (codes "lvar ") refl) lvar
-fault_is (Selection place) = literal (codes "selection ") refl ⌢ number place (omega arith)
-fault_is (Special dif) = worded_is (literal (codes "special ") refl) dif
+fault_is (Truncated place) = worded_number (literal (codes "truncated ") refl) place
+fault_is (TooManyExtensions place) = worded_number (literal (codes "extensions ") refl) place
+fault_is (Lvar lvar) = worded_bytes (literal (codes "lvar ") refl) (lvar ∷ [])
+fault_is (Selection place) = worded_number (literal (codes "selection ") refl) place
+fault_is (Special dif) = worded_bytes (literal (codes "special ") refl) (dif ∷ [])
 
 fault_passes : (fault : RecordFault) → Passes (fault_line fault)
 unfolding fault_line with_line

@@ -1,54 +1,27 @@
 -- The text of what a slot answers.
 use Rattle.std.specs.Prelude.{ℕ, List, [], ◌∷◌, ◌++◌, codes, Option, option_map}
-use Rattle.std.specs.Int.{w16, to_be_bytes}
 use Rattle.meter_address.specs.Address.{bytes_of}
-use Rattle.ell_layer.specs.declared.extension.EllFault.{EllFault}
-use Rattle.ell_layer.specs.declared.extension.EllFault.TheVariants as ell
-use Rattle.afl_layer.specs.declared.header.AflFault.{AflFault}
-use Rattle.afl_layer.specs.declared.header.AflFault.TheVariants as afl
-use Rattle.tpl_headers.specs.declared.header.TplFault.{TplFault}
-use Rattle.tpl_headers.specs.declared.header.TplFault.TheVariants as tpl
 use Rattle.message_check.specs.declared.refusal.LayerFault.{LayerFault}
-use Rattle.message_check.specs.declared.refusal.LayerFault.TheVariants.{Ell, Afl, Tpl}
 use Rattle.message_check.specs.declared.refusal.Reason.{Reason}
 use Rattle.message_check.specs.declared.refusal.Reason.TheVariants.{NotUplink, BadLayers, PartInMode5, TooManyParts, BadMessage, OtherAddress, Mode, NoAuth, Kdf, ShortBlocks, Unchecked, BadMac, Stale, CheckBytes, SameAccess, QueueFull, IdsSpent, NoSuch}
 use Rattle.meter_slots.specs.declared.entry.Outcome.{Outcome}
 use Rattle.meter_slots.specs.declared.entry.Outcome.TheVariants.{Stored, PartKept, Ticked, Queued, Cancelled, Refused}
 use Rattle.meter_slots.specs.declared.reading.Reading.{Reading}
 use Rattle.record_text.specs.Values.{hex_text}
+use Rattle.layer_text.specs.Faults.{named_fault_text, layer_fault_text}
 use Rattle.paper.specs.Pieces.{labelled, labelled_two, labelled_if, labelled_bytes, text_if}
 
 -- ---- refusals
 
-abbrev pub ell_fault_text : EllFault → List ℕ
-ell_fault_text (ell.Truncated have) = labelled (codes "ell truncated ") have
-ell_fault_text (ell.Kind ci) = labelled_bytes (codes "ell kind ") (ci ∷ [])
-
-abbrev pub afl_fault_text : AflFault → List ℕ
-afl_fault_text (afl.Truncated have) = labelled (codes "afl truncated ") have
-afl_fault_text (afl.AflLength said fields) = labelled_two (codes "afl length ") said fields
-afl_fault_text (afl.FieldPlace fcl) = labelled_bytes (codes "afl place ") (to_be_bytes w16 fcl)
-afl_fault_text afl.FidZero = codes "afl fidzero"
-
--- behind the name of what can't be read
-abbrev pub tpl_fault_text : TplFault → List ℕ
-tpl_fault_text (tpl.Truncated have) = labelled (codes " truncated ") have
-tpl_fault_text (tpl.Unbuilt ci) = labelled_bytes (codes " unbuilt ") (ci ∷ [])
-
-unfoldable pub layer_fault_text : LayerFault → List ℕ
-layer_fault_text (Ell fault) = codes "layers " ++ ell_fault_text fault
-layer_fault_text (Afl fault) = codes "layers " ++ afl_fault_text fault
-layer_fault_text (Tpl fault) = codes "layers tpl" ++ tpl_fault_text fault
-
-unfoldable pub message_fault_text : TplFault → List ℕ
-message_fault_text fault = codes "message" ++ tpl_fault_text fault
+unfoldable pub bad_layers_text : LayerFault → List ℕ
+bad_layers_text fault = codes "layers " ++ layer_fault_text fault
 
 abbrev pub reason_text : Reason → List ℕ
 reason_text (NotUplink c) = labelled_bytes (codes "uplink ") (c ∷ [])
-reason_text (BadLayers fault) = layer_fault_text fault
+reason_text (BadLayers fault) = bad_layers_text fault
 reason_text PartInMode5 = codes "part5"
 reason_text (TooManyParts fid) = labelled (codes "parts ") fid
-reason_text (BadMessage fault) = message_fault_text fault
+reason_text (BadMessage fault) = named_fault_text (codes "message") fault
 reason_text (OtherAddress a) = labelled_bytes (codes "other ") (bytes_of a)
 reason_text (Mode found wanted) = labelled_two (codes "mode ") found wanted
 reason_text NoAuth = codes "noauth"
@@ -72,7 +45,8 @@ reading_text r = labelled (codes " ") r.at ++ codes " " ++ hex_text r.payload
 -- the counter and the reading, the command that it confirms, and the downlink that is sent
 unfoldable pub stored_text : ℕ → Option Reading → Option ℕ → Option ℕ → List ℕ
 stored_text counter reading confirmed sent =
-    labelled (codes "stored ") counter ++ text_if reading_text reading ++ labelled_if (codes " confirmed ") confirmed ++ labelled_if (codes " sent ") sent
+    labelled (codes "stored ") counter ++ text_if reading_text reading
+    ++ labelled_if (codes " confirmed ") confirmed ++ labelled_if (codes " sent ") sent
 
 -- ---- outcomes
 

@@ -1,5 +1,5 @@
 -- The text of the report.
-use Rattle.std.specs.Prelude.{ℕ, ◌-◌, List, [], ◌∷◌, ◌++◌, length, drop, reverse, slice_get, codes, Option, Some, None}
+use Rattle.std.specs.Prelude.{ℕ, ◌-◌, List, [], ◌∷◌, ◌++◌, length, drop, reverse, slice_get, codes, Option}
 use Rattle.std.specs.List.{flat_map, enumerate_from}
 use Rattle.meter_address.specs.declared.commission.Mode.{Mode}
 use Rattle.meter_address.specs.declared.commission.Mode.TheVariants.{Five, Seven}
@@ -20,6 +20,7 @@ use Rattle.meter_slots.specs.declared.reading.Reading.{Reading}
 use Rattle.meter_slots.specs.Journal.{SlotView, last_counter, orders, readings}
 use Rattle.record_text.specs.RecordText.{records_text}
 use Rattle.report_text.specs.declared.lent.ReceiverEnd.{ReceiverEnd}
+use Rattle.layer_text.specs.Letters.{letters_text}
 use Rattle.paper.specs.Pieces.{optional_text, labelled, labelled_two, labelled_bytes, text_if}
 use Rattle.report_text.specs.Outcomes.{outcome_text}
 
@@ -34,7 +35,8 @@ ended_text ends.Memory = codes "memory"
 
 unfoldable pub counts_text : Counts → List ℕ
 counts_text n =
-    labelled (codes " lines ") n.lines ++ labelled (codes " own ") n.own ++ labelled (codes " strangers ") n.strangers ++ labelled (codes " unframed ") n.unframed ++ labelled (codes " bad ") n.bad
+    labelled (codes " lines ") n.lines ++ labelled (codes " own ") n.own ++ labelled (codes " strangers ") n.strangers
+    ++ labelled (codes " unframed ") n.unframed ++ labelled (codes " bad ") n.bad
 
 -- a receiver's number, its counts, and how it ended
 unfoldable pub receiver_text : ℕ × ReceiverEnd → List ℕ
@@ -42,22 +44,20 @@ receiver_text r = labelled (codes "receiver ") r.0 ++ counts_text r.1.counts ++ 
 
 -- ---- a meter
 
-abbrev pub letters_text : Option (List ℕ) → List ℕ
-letters_text None = codes "-"
-letters_text (Some letters) = letters
-
 abbrev pub mode_text : Mode → List ℕ
 mode_text Five = codes "5"
 mode_text Seven = codes "7"
 
 -- the address, the manufacturer's letters and the mode
 unfoldable pub commission_text : Address → Mode → List ℕ
-commission_text a mode = labelled_bytes (codes "meter ") (bytes_of a) ++ codes " " ++ letters_text (letters_of a) ++ codes " mode " ++ mode_text mode
+commission_text a mode =
+    labelled_bytes (codes "meter ") (bytes_of a) ++ codes " " ++ letters_text (letters_of a) ++ codes " mode " ++ mode_text mode
 
 -- the last counter, that of the downlinks, and how many steps and readings there are
 unfoldable pub numbers_text : Option ℕ → ℕ → ℕ → ℕ → List ℕ
 numbers_text last down steps kept =
-    codes " last " ++ optional_text last ++ labelled (codes " down ") down ++ labelled (codes " steps ") steps ++ labelled (codes " readings ") kept ++ codes "\n"
+    codes " last " ++ optional_text last ++ labelled (codes " down ") down
+    ++ labelled (codes " steps ") steps ++ labelled (codes " readings ") kept ++ codes "\n"
 
 -- an entry, with the reading of what it stores
 unfoldable pub step_text : Option Reading → Entry → List ℕ
@@ -91,9 +91,11 @@ orders_now b = orders b.commission (reverse b.journal)
 
 unfoldable pub meter_text : SlotView → List ℕ
 meter_text b =
+    let last = last_counter b.commission (reverse b.journal) in
+    let kept = readings b.commission b.journal in
     commission_text b.commission.address b.commission.mode
-    ++ numbers_text (last_counter b.commission (reverse b.journal)) (orders_now b).down (length b.journal) (length (readings b.commission b.journal))
-    ++ journal_text (readings b.commission b.journal) b.journal (orders_now b).queue.commands
+    ++ numbers_text last (orders_now b).down (length b.journal) (length kept)
+    ++ journal_text kept b.journal (orders_now b).queue.commands
 
 -- ---- the strangers
 
@@ -104,9 +106,11 @@ unfoldable pub ring_text : Address → List ℕ
 ring_text a = labelled_bytes (codes "ring ") (bytes_of a) ++ codes "\n"
 
 unfoldable pub strangers_text : List Heard → List ℕ
-strangers_text heard = labelled (codes "strangers ") (length heard) ++ codes "\n" ++ flat_map stranger_text heard ++ flat_map ring_text (ring_of heard)
+strangers_text heard =
+    labelled (codes "strangers ") (length heard) ++ codes "\n" ++ flat_map stranger_text heard ++ flat_map ring_text (ring_of heard)
 
 -- the report of a session: its receivers, which are numbered from 1, its slots, and its strangers
 unfoldable pub report_text : List ReceiverEnd → List SlotView → List Heard → List ℕ
 report_text ends slots heard =
-    codes "wmbus-report 1\n" ++ flat_map receiver_text (enumerate_from 1 ends) ++ flat_map meter_text slots ++ strangers_text heard ++ codes "end\n"
+    codes "wmbus-report 1\n" ++ flat_map receiver_text (enumerate_from 1 ends) ++ flat_map meter_text slots
+    ++ strangers_text heard ++ codes "end\n"

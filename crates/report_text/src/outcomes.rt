@@ -2,72 +2,20 @@
 ghost use Rattle.std.specs.Prelude.{◌≡◌, option_map, option_copied};
 ghost use Rattle.paper.specs.Puts.{Puts};
 ghost use Rattle.paper.specs.Pieces.{text_if};
-ghost use Rattle.report_text.specs.Outcomes.{ell_fault_text, afl_fault_text, tpl_fault_text, layer_fault_text, message_fault_text, reason_text, reading_text, stored_text, refused_text, ticked_text, outcome_text};
+ghost use Rattle.report_text.specs.Outcomes.{bad_layers_text, reason_text, reading_text, stored_text};
+ghost use Rattle.report_text.specs.Outcomes.{refused_text, ticked_text, outcome_text};
 
-use afl_layer::AflFault;
-use ell_layer::EllFault;
+use layer_text::{put_layer_fault, put_named_fault};
 use meter_slots::{Downlink, LayerFault, Outcome, Reading, Reason};
 use paper::{Paper, put_labelled, put_labelled_bytes, put_labelled_if, put_labelled_two, put_text};
 use record_text::put_bytes;
-use tpl_headers::TplFault;
 
-fn put_ell_fault<P: Paper>(paper: &mut P, fault: EllFault)
-    ensures { Puts P.takes paper.old (ell_fault_text fault) paper.new }
+#[tactic(auto, unfolding(crate::specs::Outcomes::bad_layers_text), using(paper::proofs::Calls::two_make))]
+fn put_bad_layers<P: Paper>(paper: &mut P, fault: LayerFault)
+    ensures { Puts P.takes paper.old (bad_layers_text fault) paper.new }
 {
-    match fault {
-        EllFault::Truncated(have) => put_labelled(paper, "ell truncated ", have as u64),
-        EllFault::Kind(ci) => put_labelled_bytes(paper, "ell kind ", &[ci]),
-    }
-}
-
-fn put_afl_fault<P: Paper>(paper: &mut P, fault: AflFault)
-    ensures { Puts P.takes paper.old (afl_fault_text fault) paper.new }
-{
-    match fault {
-        AflFault::Truncated(have) => put_labelled(paper, "afl truncated ", have as u64),
-        AflFault::AflLength { said, fields } => {
-            put_labelled_two(paper, "afl length ", u64::from(said), u64::from(fields))
-        }
-        AflFault::FieldPlace(fcl) => { put_labelled_bytes(paper, "afl place ", &fcl.to_be_bytes()) }
-        AflFault::FidZero => put_text(paper, "afl fidzero"),
-    }
-}
-
-fn put_tpl_fault<P: Paper>(paper: &mut P, fault: TplFault)
-    ensures { Puts P.takes paper.old (tpl_fault_text fault) paper.new }
-{
-    match fault {
-        TplFault::Truncated(have) => put_labelled(paper, " truncated ", have as u64),
-        TplFault::Unbuilt(ci) => put_labelled_bytes(paper, " unbuilt ", &[ci]),
-    }
-}
-
-#[tactic(auto, unfolding(crate::specs::Outcomes::layer_fault_text), using(paper::proofs::Calls::two_make))]
-fn put_layer_fault<P: Paper>(paper: &mut P, fault: LayerFault)
-    ensures { Puts P.takes paper.old (layer_fault_text fault) paper.new }
-{
-    match fault {
-        LayerFault::Ell(fault) => {
-            put_text(paper, "layers ");
-            put_ell_fault(paper, fault)
-        }
-        LayerFault::Afl(fault) => {
-            put_text(paper, "layers ");
-            put_afl_fault(paper, fault)
-        }
-        LayerFault::Tpl(fault) => {
-            put_text(paper, "layers tpl");
-            put_tpl_fault(paper, fault)
-        }
-    }
-}
-
-#[tactic(auto, unfolding(crate::specs::Outcomes::message_fault_text), using(paper::proofs::Calls::two_make))]
-fn put_message_fault<P: Paper>(paper: &mut P, fault: TplFault)
-    ensures { Puts P.takes paper.old (message_fault_text fault) paper.new }
-{
-    put_text(paper, "message");
-    put_tpl_fault(paper, fault)
+    put_text(paper, "layers ");
+    put_layer_fault(paper, fault);
 }
 
 fn put_reason<P: Paper>(paper: &mut P, reason: Reason)
@@ -75,10 +23,10 @@ fn put_reason<P: Paper>(paper: &mut P, reason: Reason)
 {
     match reason {
         Reason::NotUplink(control) => put_labelled_bytes(paper, "uplink ", &[control]),
-        Reason::BadLayers(fault) => put_layer_fault(paper, fault),
+        Reason::BadLayers(fault) => put_bad_layers(paper, fault),
         Reason::PartInMode5 => put_text(paper, "part5"),
         Reason::TooManyParts(fid) => put_labelled(paper, "parts ", u64::from(fid)),
-        Reason::BadMessage(fault) => put_message_fault(paper, fault),
+        Reason::BadMessage(fault) => put_named_fault(paper, "message", fault),
         Reason::OtherAddress(address) => {
             put_labelled_bytes(paper, "other ", &address.to_bytes())
         }

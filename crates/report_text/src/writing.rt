@@ -4,15 +4,18 @@ ghost use Rattle.std.specs.List.{flat_map, enumerate_from};
 ghost use Rattle.outer_io.specs.Bytes.{AppendsFront};
 ghost use Rattle.outer_io.specs.Faults.{Rose};
 ghost use Rattle.paper.specs.Puts.{Puts};
-ghost use Rattle.meter_address.specs.Letters.{letters_of};
 ghost use Rattle.stranger_ring.specs.Ring.{ring_of};
 ghost use Rattle.record_text.specs.RecordText.{records_text};
 ghost use Rattle.paper.specs.Pieces.{text_if};
-ghost use Rattle.report_text.specs.Report.{ended_text, counts_text, receiver_text, letters_text, mode_text, commission_text, numbers_text, step_text, readings_after, steps_text, last_text, pending_text, journal_text, meter_text, stranger_text, ring_text, strangers_text, report_text};
+ghost use Rattle.report_text.specs.Report.{ended_text, counts_text, receiver_text};
+ghost use Rattle.report_text.specs.Report.{mode_text, commission_text, numbers_text, meter_text};
+ghost use Rattle.report_text.specs.Report.{step_text, readings_after, steps_text, last_text, pending_text, journal_text};
+ghost use Rattle.report_text.specs.Report.{stranger_text, ring_text, strangers_text, report_text};
 
 use crate::lent::{ReceiverEnd, Session};
 use crate::outcomes::put_outcome;
 use command_queue::{Command, Queue};
+use layer_text::put_letters;
 use meter_address::{Address, Mode};
 use meter_slots::{Counts, Ended, Entry, Outcome, Reading, SlotBook};
 use outer_io::{Failed, Sink};
@@ -156,16 +159,6 @@ fn put_journal<P: Paper>(paper: &mut P, readings: &[Reading], journal: &[Entry],
     put_pending(paper, queue);
 }
 
-#[tactic(auto, using(paper::proofs::Calls::once))]
-fn put_letters<P: Paper>(paper: &mut P, address: Address)
-    ensures { Puts P.takes paper.old (letters_text (letters_of address)) paper.new }
-{
-    match address.letters() {
-        None => put_text(paper, "-"),
-        Some(letters) => paper.put(&letters),
-    }
-}
-
 fn mode_digit(mode: Mode) -> &'static str
     ensures { result.now ≡ mode_text mode }
 {
@@ -291,7 +284,10 @@ fn put_report<P: Paper>(paper: &mut P, session: &Session<'_>)
 }
 
 impl Printed for Session<'_> {
-    ghost use Rattle.report_text.specs.Report.{report_text};
+    ghost use Rattle.report_text.specs.Report.{ended_text, counts_text, receiver_text};
+ghost use Rattle.report_text.specs.Report.{mode_text, commission_text, numbers_text, meter_text};
+ghost use Rattle.report_text.specs.Report.{step_text, readings_after, steps_text, last_text, pending_text, journal_text};
+ghost use Rattle.report_text.specs.Report.{stranger_text, ring_text, strangers_text, report_text};
 
     ghost text = { λ s. report_text s.ends.now s.slots.now s.strangers.now };
 

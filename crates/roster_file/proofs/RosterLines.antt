@@ -3,6 +3,7 @@ use Rattle.std.proofs.Common.{◌≡◌, ℕ, ◌+◌, List, [], ◌∷◌, true
 use Rattle.std.specs.Prelude.{filter}
 use Rattle.std.specs.List.{enumerate_from}
 use Rattle.meter_address.specs.Commission.{Commissioned}
+use Rattle.roster_file.specs.declared.fields.Version.{Version}
 use Rattle.roster_file.specs.declared.roster.RosterFault.{RosterFault}
 use Rattle.roster_file.specs.Roster.{entries_from, is_passed_over, enlisted_from, meters_of, ◌>>=◌}
 
@@ -22,14 +23,16 @@ pub one_fewer : (text : List ℕ) (lines texts : List (List ℕ)) → lines ≡ 
 one_fewer text lines texts h = ap length h ∙ (omega arith)
 
 -- meters, line by line
-pub meters_next : (meters more : List Commissioned) (e : ℕ × List ℕ) (entries : List (ℕ × List ℕ)) → enlisted_from meters e ≡ Ok more → meters_of meters (e ∷ entries) ≡ meters_of more entries
+pub meters_next : (version : Version) (meters more : List Commissioned) (e : ℕ × List ℕ) (entries : List (ℕ × List ℕ)) → enlisted_from version meters e ≡ Ok more
+    → meters_of version meters (e ∷ entries) ≡ meters_of version more entries
 unfolding meters_of
-meters_next meters more e entries h = ap (λ r. r >>= λ next. meters_of next entries) h
+meters_next version meters more e entries h = ap (λ r. r >>= λ next. meters_of version next entries) h
 
-pub meters_fault : (meters : List Commissioned) (fault : RosterFault) (e : ℕ × List ℕ) (entries : List (ℕ × List ℕ)) → enlisted_from meters e ≡ Err fault → meters_of meters (e ∷ entries) ≡ Err fault
+pub meters_fault : (version : Version) (meters : List Commissioned) (fault : RosterFault) (e : ℕ × List ℕ) (entries : List (ℕ × List ℕ)) → enlisted_from version meters e ≡ Err fault
+    → meters_of version meters (e ∷ entries) ≡ Err fault
 unfolding meters_of
-meters_fault meters fault e entries h = ap (λ r. r >>= λ next. meters_of next entries) h
+meters_fault version meters fault e entries h = ap (λ r. r >>= λ next. meters_of version next entries) h
 
-pub meters_end : (meters : List Commissioned) → meters_of meters [] ≡ Ok meters
+pub meters_end : (version : Version) (meters : List Commissioned) → meters_of version meters [] ≡ Ok meters
 unfolding meters_of
-meters_end meters = refl
+meters_end version meters = refl

@@ -1,13 +1,22 @@
 //! What one line of a roster says.
-ghost use Rattle.std.specs.Prelude.{◌≡◌, ◌∷◌, [], Err, List, ℕ, ◌≤◌, IfSome, MatchOption};
+ghost use Rattle.std.specs.Prelude.{◌≡◌, List, ℕ, ◌≤◌, None, Some, IfSome, MatchOption};
 ghost use Rattle.std.specs.Option.{ForSome};
 ghost use Rattle.meter_address.specs.Commission.{most_last};
-ghost use Rattle.roster_file.specs.Roster.{mode_of, last_of, counter_of, meter_of, meter_of_fields, own_of};
-ghost use Rattle.roster_file.specs.declared.roster.LineCause.TheVariants as causes;
+ghost use Rattle.roster_file.specs.Columns.{columns_in};
+ghost use Rattle.roster_file.specs.Roster.{mode_of, other_of, last_of, counter_of, columns_of, meter_of_columns, meter_of, own_of};
 
 use crate::roster::LineCause;
 use meter_address::{Address, Commission, Mode, read_key};
 use plain_text::{Fields, read_number};
+
+/// The version of a roster's text, which its head says.
+#[derive(Clone, Copy, Debug, PartialEq, Eq)]
+pub(crate) enum Version {
+    /// A meter has one key.
+    One,
+    /// A meter may have a second key.
+    Two,
+}
 
 fn read_mode(text: &[u8]) -> Option<Mode>
     ensures { result ≡ mode_of text.now }
@@ -16,6 +25,20 @@ fn read_mode(text: &[u8]) -> Option<Mode>
         b"5" => Some(Mode::Five),
         b"7" => Some(Mode::Seven),
         _ => None,
+    }
+}
+
+// A dash, or a second key, which a meter of mode 7 alone may have.
+fn read_other(mode: Mode, text: &[u8]) -> Option<Option<[u8; 16]>>
+    ensures other { result ≡ other_of mode text.now }
+    ensures one_key { IfSome result (λ other. mode ≡ Mode.Five → other ≡ None) }
+{
+    if text == b"-".as_slice() {
+        return Some(None);
+    }
+    match mode {
+        Mode::Five => None,
+        Mode::Seven => Some(Some(read_key(text)?)),
     }
 }
 
@@ -43,21 +66,22 @@ fn read_counter(text: &[u8]) -> Option<u32>
 
 // The texts behind `meter`.
 #[derive(Clone, Copy)]
-struct MeterFields<'a> {
+struct Columns<'a> {
     address: &'a [u8],
     mode: &'a [u8],
     key: &'a [u8],
+    other: &'a [u8],
     last: &'a [u8],
     down: &'a [u8],
     ids: &'a [u8],
 }
 
-// The six fields behind `meter`, where there are six.
-#[tactic(auto, unfolding(crate::specs::Roster::meter_of_fields))]
-fn meter_fields<'a>(fields: &mut Fields<'a>) -> Option<MeterFields<'a>>
+// The columns of version 1, which has no second key: a dash stands for it.
+#[tactic(auto, unfolding(crate::specs::Roster::columns_of))]
+fn first_columns<'a>(fields: &mut Fields<'a>) -> Option<Columns<'a>>
     ensures { MatchOption result
-        (meter_of_fields fields.old ≡ Err causes.Fields)
-        (λ f. fields.old ≡ f.address.now ∷ f.mode.now ∷ f.key.now ∷ f.last.now ∷ f.down.now ∷ f.ids.now ∷ []) }
+        (columns_of Version.One fields.old ≡ None)
+        (λ c. columns_of Version.One fields.old ≡ Some (columns_in c)) }
 {
     let address = fields.next()?;
     let mode = fields.next()?;
@@ -68,34 +92,76 @@ fn meter_fields<'a>(fields: &mut Fields<'a>) -> Option<MeterFields<'a>>
     if fields.next().is_some() {
         return None;
     }
-    Some(MeterFields {
+    Some(Columns {
         address,
         mode,
         key,
+        other: b"-".as_slice(),
         last,
         down,
         ids,
     })
 }
 
-// What the fields behind `meter` say.
-#[tactic(auto, unfolding(crate::specs::Roster::meter_of_fields))]
-fn read_meter_fields(fields: &MeterFields<'_>) -> Result<Commission, LineCause>
-    ensures { result ≡ meter_of_fields (fields.now.address.now ∷ fields.now.mode.now ∷ fields.now.key.now ∷ fields.now.last.now ∷ fields.now.down.now ∷ fields.now.ids.now ∷ []) }
+// The columns of version 2.
+#[tactic(auto, unfolding(crate::specs::Roster::columns_of))]
+fn second_columns<'a>(fields: &mut Fields<'a>) -> Option<Columns<'a>>
+    ensures { MatchOption result
+        (columns_of Version.Two fields.old ≡ None)
+        (λ c. columns_of Version.Two fields.old ≡ Some (columns_in c)) }
 {
-    let Ok(address) = Address::read_text(fields.address) else {
+    let address = fields.next()?;
+    let mode = fields.next()?;
+    let key = fields.next()?;
+    let other = fields.next()?;
+    let last = fields.next()?;
+    let down = fields.next()?;
+    let ids = fields.next()?;
+    if fields.next().is_some() {
+        return None;
+    }
+    Some(Columns {
+        address,
+        mode,
+        key,
+        other,
+        last,
+        down,
+        ids,
+    })
+}
+
+// The columns behind `meter`, where there are as many as the version asks for.
+fn columns_by<'a>(version: Version, fields: &mut Fields<'a>) -> Option<Columns<'a>>
+    ensures { MatchOption result
+        (columns_of version fields.old ≡ None)
+        (λ c. columns_of version fields.old ≡ Some (columns_in c)) }
+{
+    match version {
+        Version::One => first_columns(fields),
+        Version::Two => second_columns(fields),
+    }
+}
+
+// What a meter's columns say.
+#[tactic(auto, unfolding(crate::specs::Roster::meter_of_columns))]
+fn read_columns(columns: &Columns<'_>) -> Result<Commission, LineCause>
+    ensures { result ≡ meter_of_columns (columns_in columns.now) }
+{
+    let Ok(address) = Address::read_text(columns.address) else {
         return Err(LineCause::Address);
     };
-    let mode = read_mode(fields.mode).ok_or(LineCause::Mode)?;
-    let key = read_key(fields.key).ok_or(LineCause::Key)?;
-    let last = read_last(mode, fields.last).ok_or(LineCause::Last)?;
-    let down = read_counter(fields.down).ok_or(LineCause::Down)?;
-    let ids = read_counter(fields.ids).ok_or(LineCause::Ids)?;
+    let mode = read_mode(columns.mode).ok_or(LineCause::Mode)?;
+    let key = read_key(columns.key).ok_or(LineCause::Key)?;
+    let other = read_other(mode, columns.other).ok_or(LineCause::Other)?;
+    let last = read_last(mode, columns.last).ok_or(LineCause::Last)?;
+    let down = read_counter(columns.down).ok_or(LineCause::Down)?;
+    let ids = read_counter(columns.ids).ok_or(LineCause::Ids)?;
     Ok(Commission {
         address,
         mode,
         key,
-        other: None,
+        other,
         last,
         down,
         ids,
@@ -103,8 +169,8 @@ fn read_meter_fields(fields: &MeterFields<'_>) -> Result<Commission, LineCause>
 }
 
 // What a meter's line says by itself.
-pub(crate) fn read_meter(line: &[u8]) -> Result<Commission, LineCause>
-    ensures { result ≡ meter_of line.now }
+pub(crate) fn read_meter(version: Version, line: &[u8]) -> Result<Commission, LineCause>
+    ensures { result ≡ meter_of version line.now }
 {
     let mut fields = Fields::of_line(line);
     let Some(kind) = fields.next() else {
@@ -113,8 +179,8 @@ pub(crate) fn read_meter(line: &[u8]) -> Result<Commission, LineCause>
     if kind != b"meter".as_slice() {
         return Err(LineCause::Kind);
     }
-    let fields = meter_fields(&mut fields).ok_or(LineCause::Fields)?;
-    read_meter_fields(&fields)
+    let columns = columns_by(version, &mut fields).ok_or(LineCause::Fields)?;
+    read_columns(&columns)
 }
 
 // What the own line says.

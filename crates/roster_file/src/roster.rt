@@ -8,13 +8,13 @@ use thiserror::Error;
 pub enum LineCause {
     /// The text has more bytes than a roster may have. It has line number 0 and comes before all others.
     TooLong,
-    /// The first line isn't the head `wmbus-roster 1`.
+    /// The first line is neither `wmbus-roster 1` nor `wmbus-roster 2`.
     Head,
     /// The line after the head isn't `own` and an address.
     Own,
     /// The first field isn't `meter`.
     Kind,
-    /// The line hasn't seven fields.
+    /// The line hasn't as many fields as the head's version asks for: seven in version 1, eight in version 2.
     Fields,
     /// The second field is no address.
     Address,
@@ -22,6 +22,8 @@ pub enum LineCause {
     Mode,
     /// The key isn't 32 hexadecimal digits.
     Key,
+    /// The second key is neither `-` nor 32 hexadecimal digits; in mode 5 it isn't `-`.
+    Other,
     /// The last counter is neither `-` nor a plain number of the mode's range.
     Last,
     /// The last downlink counter is no plain number below 2^32.

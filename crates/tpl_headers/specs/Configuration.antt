@@ -14,6 +14,10 @@ blocks_of cf = cf / 2 ^ 4 % 2 ^ 4
 abbrev pub derivation_of : ℕ → ℕ
 derivation_of cfe = cfe / 2 ^ 4 % 2 ^ 2
 
+-- the id of the key under which a message is secured: bits 3 to 0 of the extension
+abbrev pub key_id_of : ℕ → ℕ
+key_id_of cfe = cfe % 2 ^ 4
+
 -- in mode 5, B and A, which say when the meter listens: bits 15 and 14 of the configuration field
 abbrev pub is_bidirectional : ℕ → Bool
 is_bidirectional cf = bit_at cf 15 == 1

@@ -84,6 +84,7 @@ fn written_headers_are_read_back(rt: HostRuntime) {
 fn the_configuration_field_says_mode_blocks_and_access(rt: HostRuntime) {
     let gas = tpl(0x7A, None, 0x0520, None, 5);
     assert_eq!(rt; (gas.mode(), gas.blocks(), gas.derivation()), (5, 2, None));
+    assert_eq!(rt; gas.key_id(), None);
     assert!(rt; !gas.is_bidirectional() && !gas.is_accessible());
     let open = tpl(0x7A, None, 0x8520, None, 5);
     assert!(rt; open.is_bidirectional() && !open.is_accessible());
@@ -92,4 +93,5 @@ fn the_configuration_field_says_mode_blocks_and_access(rt: HostRuntime) {
         (heat.mode(), heat.blocks(), heat.derivation()),
         (7, 15, Some(2))
     );
+    assert_eq!(rt; heat.key_id(), Some(15));
 }

@@ -1,19 +1,11 @@
 //! The register and the unit of a record, as text.
 
 ghost use Rattle.paper.specs.Puts.{Puts};
-ghost use Rattle.unit_text.specs.Pieces.{spaced, register_text, unit_text};
+ghost use Rattle.unit_text.specs.Pieces.{register_text, unit_text};
 
 use crate::words::{name_word, quantity_word};
-use paper::{Paper, put_number, put_signed, put_text};
+use paper::{Paper, put_labelled, put_signed, put_text};
 use record_values::{Quantity, UnitName};
-
-#[tactic(auto, unfolding(crate::specs::Pieces::spaced), using(paper::proofs::Calls::two_make))]
-fn put_spaced<P: Paper>(paper: &mut P, number: u64)
-    ensures { Puts P.takes paper.old (spaced number) paper.new }
-{
-    put_text(paper, " ");
-    put_number(paper, number);
-}
 
 /// The register that a record is of: its storage number, its tariff and its subunit, each behind a space
 /// (EN 13757-3, 6.3).
@@ -21,9 +13,9 @@ fn put_spaced<P: Paper>(paper: &mut P, number: u64)
 pub fn put_register<P: Paper>(paper: &mut P, storage: u64, tariff: u32, subunit: u16)
     ensures { Puts P.takes paper.old (register_text storage tariff subunit) paper.new }
 {
-    put_spaced(paper, storage);
-    put_spaced(paper, u64::from(tariff));
-    put_spaced(paper, u64::from(subunit));
+    put_labelled(paper, " ", storage);
+    put_labelled(paper, " ", u64::from(tariff));
+    put_labelled(paper, " ", u64::from(subunit));
 }
 
 /// What a record measures: its quantity, its unit and its power of ten, each behind a space (EN 13757-3, 6.4).

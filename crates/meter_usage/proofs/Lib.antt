@@ -1,0 +1,11 @@
+pub mod Records
+pub mod Small
+pub mod Ends
+pub mod SameKey
+pub mod KeyByKey
+pub mod Tables
+pub mod Payloads
+pub mod Edited
+pub mod Used
+pub mod KeysIn
+pub mod Accepted

@@ -1,0 +1,11 @@
+use Rattle.std.proofs.Common.{remove}
+use Rattle.meter_usage.specs.Usage.{side, usage_at}
+use Rattle.meter_usage.proofs.KeyByKey.{IsMending}
+use Rattle.meter_usage.proofs.mending.mend.Given as goal
+
+abbrev pub invariant-loop-key : goal.invariant-loop-key
+invariant-loop-key l =
+    (goal.iterator-loop-key).can_next l.key-iterator ×
+    (goal.iterator-loop-key).is_finite l.key-iterator ×
+    IsMending (λ q. usage_at q (side l.comes (remove l.rows l.place) l.rows)) (λ q. usage_at q (side l.comes l.rows (remove l.rows l.place)))
+    l.initial.sums.entries l.sums.entries l.key-iterator

@@ -1,0 +1,14 @@
+use Rattle.std.proofs.Common.{ap, ◌∙◌}
+use Rattle.meter_usage.specs.Usage.{usage_at}
+use Rattle.meter_usage.specs.Table.{rows_at}
+use Rattle.meter_usage.specs.Edits.{rows_after}
+use Rattle.meter_usage.proofs.Tables.{kept_rows}
+use Rattle.meter_usage.proofs.Payloads.{usage_kept}
+use Rattle.meter_usage.proofs.totals.Totals.usage.Goals as goal
+
+pub returns-clause-usage : goal.returns-clause-usage
+returns-clause-usage c = λ edits s.
+    let table = rows_after edits in
+    c.usage_of.ensures.is ∙ ap (usage_at c.args.key.now) c.rows_of.ensures
+    ∙ ap (λ t. usage_at c.args.key.now (rows_at c.args.address t)) (c.self.view_is ∙ s.rows)
+    ∙ ap (usage_at c.args.key.now) (kept_rows c.args.address table) ∙ usage_kept c.args.key.now (rows_at c.args.address table)
