@@ -21,7 +21,7 @@ use Rattle.access_window.proofs.Agreement.{cancel_refused}
 use Rattle.afl_fragments.specs.Held.{Message}
 use Rattle.message_check.specs.Steps.{◌>>=◌}
 use Rattle.frame_formats.specs.Crc.{IsBytes}
-use Rattle.meter_slots.specs.declared.entry.Format.{Format}
+use Rattle.frame_formats.specs.declared.format.Format.{Format}
 use Rattle.message_check.proofs.OpeningLaws.{genuine_are_opened}
 use Rattle.message_check.specs.Opening.{Found, Genuine7, opened7, compared7}
 use Rattle.message_check.specs.declared.refusal.Reason.{Reason}

@@ -27,7 +27,7 @@ use Rattle.meter_slots.specs.declared.entry.Event.TheVariants.{Hear, Tick, Put, 
 use Rattle.meter_slots.specs.declared.entry.Outcome.{Outcome}
 use Rattle.meter_slots.specs.declared.entry.Outcome.TheVariants.{Stored, PartKept, Ticked, Queued, Cancelled, Rekeyed, Refused}
 use Rattle.meter_slots.specs.Journal.{standing, verdict, access_at, orders_heard, orders_after, orders, downlink_with, heard, queued, cancelled, key_answer, answer, outcome, IsJudged, Legal}
-use Rattle.meter_slots.specs.Laws.{sent_by, sent_in, IsPayload, PutsPayload, CarriesPayload}
+use Rattle.meter_slots.specs.Laws.{downlinks_of, downlinks_in, IsPayload, PutsPayload, CarriesPayload}
 use Rattle.meter_slots.proofs.Journals.{PutsIn}
 use Rattle.meter_slots.proofs.JournalLaws.{front_back}
 
@@ -148,25 +148,25 @@ module _ (own : Address) (c : Commissioned) where
       let j = confirmed_orders k (confirmed k response) in
       command_sent j access (sent j access) refl (confirmed_ready k (confirmed k response) h)
 
-  heard_sent : (k : Orders) (access : Access) (response : Bool) (v : Result (Option Found) Reason) → AreReady k → All (CarriesPayload own c) (sent_by (heard own c k access response v))
+  heard_sent : (k : Orders) (access : Access) (response : Bool) (v : Result (Option Found) Reason) → AreReady k → All (CarriesPayload own c) (downlinks_of (heard own c k access response v))
   heard_sent k access response (Err reason) h = All-nil (CarriesPayload own c)
   heard_sent k access response (Ok None) h = All-nil (CarriesPayload own c)
   heard_sent k access response (Ok (Some f)) h = stored_sent k access response h
 
-  queued_sent : (r : Result ℕ QueueFault) → All (CarriesPayload own c) (sent_by (queued r))
+  queued_sent : (r : Result ℕ QueueFault) → All (CarriesPayload own c) (downlinks_of (queued r))
   queued_sent (Ok id) = All-nil (CarriesPayload own c)
   queued_sent (Err Full) = All-nil (CarriesPayload own c)
   queued_sent (Err IdsSpent) = All-nil (CarriesPayload own c)
 
-  cancelled_sent : (id : ℕ) (r : Result Command NoSuch) → All (CarriesPayload own c) (sent_by (cancelled id r))
+  cancelled_sent : (id : ℕ) (r : Result Command NoSuch) → All (CarriesPayload own c) (downlinks_of (cancelled id r))
   cancelled_sent id (Ok command) = All-nil (CarriesPayload own c)
   cancelled_sent id (Err missing) = All-nil (CarriesPayload own c)
 
-  key_sent : (mode : Mode) → All (CarriesPayload own c) (sent_by (key_answer mode))
+  key_sent : (mode : Mode) → All (CarriesPayload own c) (downlinks_of (key_answer mode))
   key_sent Five = All-nil (CarriesPayload own c)
   key_sent Seven = All-nil (CarriesPayload own c)
 
-  answer_sent : (earlier : List Entry) (event : Event) → AreReady (orders c earlier) → All (CarriesPayload own c) (sent_by (answer c own (standing c earlier) event))
+  answer_sent : (earlier : List Entry) (event : Event) → AreReady (orders c earlier) → All (CarriesPayload own c) (downlinks_of (answer c own (standing c earlier) event))
   answer_sent earlier (Hear format at t) h = heard_sent (orders c earlier) _ _ (verdict c (standing c earlier) t) h
   answer_sent earlier Tick h = All-nil (CarriesPayload own c)
   answer_sent earlier (Put payload) h = queued_sent (put_answer (orders c earlier).queue)
@@ -174,11 +174,11 @@ module _ (own : Address) (c : Commissioned) where
   answer_sent earlier (Rekey key) h = key_sent c.mode
 
   abbrev SendsRightly : Entry → Type 0
-  SendsRightly x = All (CarriesPayload own c) (sent_by x.outcome)
+  SendsRightly x = All (CarriesPayload own c) (downlinks_of x.outcome)
 
   entry_sent : (x : Entry) (earlier : List Entry) → IsJudged c own (x ∷ earlier) → All PutsIn earlier → SendsRightly x
   unfolding outcome
-  entry_sent x earlier j h = subst (λ (o : Outcome). All (CarriesPayload own c) (sent_by o)) (sym j.0) (answer_sent earlier x.event (orders_ready c earlier h))
+  entry_sent x earlier j h = subst (λ (o : Outcome). All (CarriesPayload own c) (downlinks_of o)) (sym j.0) (answer_sent earlier x.event (orders_ready c earlier h))
 
   journal_sent : (earlier : List Entry) → IsJudged c own earlier → All PutsIn earlier → All SendsRightly (reverse earlier)
   journal_sent [] j h = All-nil SendsRightly
@@ -187,12 +187,12 @@ module _ (own : Address) (c : Commissioned) where
       subst (All SendsRightly) (sym (front_back x earlier))
       (All-append SendsRightly (reverse earlier) (x ∷ []) (journal_sent earlier j.1 rest) (All-cons SendsRightly x [] (entry_sent x earlier j rest) (All-nil SendsRightly)))
 
-  all_sent : (entries : List Entry) → All SendsRightly entries → All (CarriesPayload own c) (sent_in entries)
+  all_sent : (entries : List Entry) → All SendsRightly entries → All (CarriesPayload own c) (downlinks_in entries)
   all_sent [] h = All-nil (CarriesPayload own c)
   all_sent (x ∷ entries) h =
-      All-append (CarriesPayload own c) (sent_by x.outcome) (sent_in entries) (All-head SendsRightly x entries h) (all_sent entries (All-tail SendsRightly x entries h))
+      All-append (CarriesPayload own c) (downlinks_of x.outcome) (downlinks_in entries) (All-head SendsRightly x entries h) (all_sent entries (All-tail SendsRightly x entries h))
 
-pub downlinks_carry : (own : Address) (c : Commissioned) (journal : List Entry) → Legal c own journal → All PutsIn journal → All (CarriesPayload own c) (sent_in journal)
+pub downlinks_carry : (own : Address) (c : Commissioned) (journal : List Entry) → Legal c own journal → All PutsIn journal → All (CarriesPayload own c) (downlinks_in journal)
 downlinks_carry own c journal j h =
     let sends = journal_sent own c (reverse journal) j (All-reverse PutsIn journal h) in
     all_sent own c journal (subst (All (SendsRightly own c)) (reverse-reverse journal) sends)

@@ -47,13 +47,13 @@ abbrev pub sent_counters : List Entry → List ℕ
 sent_counters journal = filter_map (λ x. sent_counter x.outcome) journal
 
 -- the downlink that an outcome sent
-abbrev pub sent_by : Outcome → List Sent
-sent_by (Stored counter confirmed sent) = option_to_list sent
-sent_by _ = []
+abbrev pub downlinks_of : Outcome → List Sent
+downlinks_of (Stored counter confirmed sent) = option_to_list sent
+downlinks_of _ = []
 
 -- the downlinks that a journal sent
-abbrev pub sent_in : List Entry → List Sent
-sent_in journal = flat_map (λ x. sent_by x.outcome) journal
+abbrev pub downlinks_in : List Entry → List Sent
+downlinks_in journal = flat_map (λ x. downlinks_of x.outcome) journal
 
 -- the payload of a command: 1 to 94 bytes
 pub record IsPayload (payload : List ℕ) : Type 0 where

@@ -3,18 +3,9 @@ ghost use Rattle.std.specs.Prelude.{◌≡◌, ◌≤◌, length};
 ghost use Rattle.meter_slots.specs.Laws.{IsPayload};
 
 use downlink_maker::Downlink;
-use frame_formats::Telegram;
+use frame_formats::{Format, Telegram};
 use message_check::Reason;
 use meter_address::Payload;
-
-/// The frame format in which a telegram was heard (EN 13757-4).
-#[derive(Clone, Copy, Debug, PartialEq, Eq)]
-pub enum Format {
-    /// Frame format A.
-    A,
-    /// Frame format B.
-    B,
-}
 
 /// What comes to a slot.
 #[derive(Drop)]

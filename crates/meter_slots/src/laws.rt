@@ -10,12 +10,12 @@ ghost use Rattle.afl_fragments.specs.Held.{Message};
 ghost use Rattle.message_check.specs.Keys.{key_of};
 ghost use Rattle.message_check.specs.Opening.{Found, Genuine7};
 ghost use Rattle.tpl_headers.specs.declared.header.Tpl.{Tpl};
-ghost use Rattle.meter_slots.specs.declared.entry.Format.{Format};
+ghost use Rattle.frame_formats.specs.declared.format.Format.{Format};
 ghost use Rattle.meter_slots.specs.declared.entry.Event.TheVariants.{Hear};
 ghost use Rattle.meter_slots.specs.Hearing.{received, brought};
 ghost use Rattle.meter_slots.specs.Journal.{SlotView, Legal, told, other_key, rekeyed, genuine, counters, readings, stored_counter};
 ghost use Rattle.meter_slots.specs.World.{Call, journal_of, is_for, slot_of, world_of, after_step};
-ghost use Rattle.meter_slots.specs.Laws.{stored_counters, moment_read, stored_moments, reading_added, sent_counters, sent_in, PutsPayload, CarriesPayload, LeavesKeys};
+ghost use Rattle.meter_slots.specs.Laws.{stored_counters, moment_read, stored_moments, reading_added, sent_counters, downlinks_in, PutsPayload, CarriesPayload, LeavesKeys};
 ghost use Rattle.meter_slots.specs.Laws.{IsAbove, last_stored, IsRising, AreBelow, IsRefused, IsLeft, IsLegal, call_in};
 
 /// In mode 7 the stored counters strictly rise, from above the commission's.
@@ -34,7 +34,7 @@ pub fn sent_counters_rise()
 /// that is put has such a payload. `SlotBook::journal` says that a slot's commands have.
 pub fn downlinks_carry_payloads()
     ensures { (c : Commissioned) (own : Address) (journal : List Entry) → Legal c own journal → All (λ x. PutsPayload x.event) journal
-        → All (CarriesPayload own c) (sent_in journal) }
+        → All (CarriesPayload own c) (downlinks_in journal) }
 {}
 
 /// In mode 7 a message is stored exactly where it is genuine and its counter is above those of all earlier genuine messages and

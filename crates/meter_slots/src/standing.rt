@@ -117,7 +117,7 @@ impl Standing {
     ghost use Rattle.access_window.specs.Moves.{fresh_orders};
     ghost use Rattle.afl_fragments.specs.Held.{Told, StandsFor};
     ghost use Rattle.meter_slots.specs.declared.entry.Event.TheVariants.{Hear};
-    ghost use Rattle.meter_slots.specs.declared.entry.Format.{Format};
+    ghost use Rattle.frame_formats.specs.declared.format.Format.{Format};
     ghost use Rattle.meter_slots.specs.Journal.{told_by, access_at, orders_after, answer, stored, reading_of};
     ghost use Rattle.meter_slots.specs.Keeping.{standing_for, last_after, Moves, StoresInRange};
 
