@@ -1,3 +1,2 @@
-pub mod Enrolling
 pub mod Orders
 pub mod Runs

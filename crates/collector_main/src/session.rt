@@ -3,37 +3,33 @@ ghost use Rattle.std.specs.Prelude.{◌≡◌, ◌≢◌, [], ◌∷◌, Ok, Non
 ghost use Rattle.outer_io.specs.Shown.{IsReadOut, LosesNothing, HasText, source_change, sink_change};
 ghost use Rattle.roster_file.specs.Roster.{roster_of};
 ghost use Rattle.report_text.specs.Report.{report_text};
-ghost use Rattle.collector_main.specs.Rosters.{IsEnrolled, IsRosterStatus};
+ghost use Rattle.roster_file.specs.Enrolled.{IsEnrolled};
+ghost use Rattle.collector_main.specs.Rosters.{IsRosterStatus};
 ghost use Rattle.collector_main.specs.Run.{IsRun};
 ghost use Rattle.collector_main.specs.Showing.{IsFresh, receiver_run, report_output};
 ghost use Rattle.collector_main.specs.Statuses.{IsUnread, IsFinished, status_at, after_failed_write};
 
 use crate::status::Status;
 use meter_slots::World;
-use outer_io::{ReadError, Sink, Source, read_all};
+use outer_io::{Sink, Source};
 use receivers::{Ended, Receiver};
 use report_text::{ReceiverEnd, Session, report};
-use roster_file::{LineCause, MOST_BYTES, Roster, RosterFault, read_roster};
+use roster_file::{LoadFault, Roster, load_roster};
 use std::alloc::Global;
 
 // The roster of all bytes of a source, or the status that says why there is none.
-fn load_roster<S: Source>(alloc: Global, source: &mut S) -> Result<Roster, Status>
+fn enrolled<S: Source>(alloc: Global, source: &mut S) -> Result<Roster, Status>
     ensures found { IfOk result (λ roster. IsTrue S.tells → roster_of (S.left source.old) ≡ Ok roster) }
     ensures enrolled { IfOk result IsEnrolled }
     ensures read { IfOk result (λ _. IsTrue S.tells → IsReadOut (source_change S.Source source.old source.new)) }
-    ensures status { IfErr result (λ status. IsRosterStatus S.tells (source_change S.Source source.old source.new) status) }
+    ensures status { IfErr result (IsRosterStatus S.tells (source_change S.Source source.old source.new)) }
     ensures no_loss { IsTrue S.tells → LosesNothing (source_change S.Source source.old source.new) }
 {
-    let bytes = match read_all(alloc, source, MOST_BYTES) {
-        Ok(bytes) => bytes,
-        Err(ReadError::Failed) => return Err(Status::ReadRoster),
-        Err(ReadError::TooMany) => return Err(Status::Roster(0, LineCause::TooLong)),
-        Err(ReadError::Memory) => return Err(Status::Memory),
-    };
-    match read_roster(alloc, bytes.as_slice()) {
+    match load_roster(alloc, source) {
         Ok(roster) => Ok(roster),
-        Err(RosterFault::Line(line, cause)) => Err(Status::Roster(line, cause)),
-        Err(RosterFault::Memory) => Err(Status::Memory),
+        Err(LoadFault::Read) => Err(Status::ReadRoster),
+        Err(LoadFault::Line(line, cause)) => Err(Status::Roster(line, cause)),
+        Err(LoadFault::Memory) => Err(Status::Memory),
     }
 }
 
@@ -124,7 +120,7 @@ pub fn hear_session<S: Source, K: Sink>(
     ensures unread { IsUnread result → receiver.new ≡ receiver.old }
     ensures tx { receiver.new.tx ≡ receiver.old.tx }
 {
-    let roster = match load_roster(alloc, roster) {
+    let roster = match enrolled(alloc, roster) {
         Ok(roster) => roster,
         Err(status) => return status,
     };
