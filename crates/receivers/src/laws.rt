@@ -6,16 +6,26 @@ ghost use Rattle.meter_address.specs.Commission.{Commissioned};
 ghost use Rattle.meter_slots.specs.declared.entry.Entry.{Entry};
 ghost use Rattle.meter_slots.specs.Journal.{SlotView, genuine, stored_counter};
 ghost use Rattle.meter_slots.specs.Laws.{IsAbove, IsRising, last_stored, stored_counters, sent_counters};
-ghost use Rattle.meter_slots.specs.World.{world_of};
+ghost use Rattle.meter_slots.specs.World.{WorldView, world_of};
+ghost use Rattle.outer_io.specs.Each.{Each};
 ghost use Rattle.receivers.specs.declared.told.Told.{Told};
 ghost use Rattle.receivers.specs.Alone.{steps_of};
+ghost use Rattle.receivers.specs.Collected.{IsCollected};
+ghost use Rattle.receivers.specs.HeardLines.{IsKnown, IsHeardSession};
 ghost use Rattle.receivers.specs.Orders.{order_of, IsOrderOf, IsOrderedSlot};
+ghost use Rattle.receivers.specs.Run.{ReceiverRun};
 ghost use Rattle.receivers.specs.Session.{heard_by, lines_for, IsMetersSlot, IsSession};
 
 /// The world of one receiver's lines is a session of that receiver.
 pub fn one_receiver_makes_a_session()
     ensures { (own : Address) (commissions : List Commissioned) (heard : List Told)
         → IsSession own commissions (heard ∷ []) (world_of own commissions (steps_of 1 heard)) }
+{}
+
+/// What `collect` says, where contracts know the bytes of all sources: one session of the lines that were taken from each receiver.
+pub fn runs_are_a_session_of_their_lines()
+    ensures { (own : Address) (commissions : List Commissioned) (runs : List ReceiverRun) (world : WorldView)
+        → Each IsKnown runs → IsCollected own commissions runs world → IsHeardSession own commissions runs world }
 {}
 
 /// A meter's slot is fixed by the meter's own lines and by the order in which its journal has them, whatever else the receivers heard.
