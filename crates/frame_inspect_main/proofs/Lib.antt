@@ -1,0 +1,3 @@
+pub mod EvenRuns
+pub mod Finished
+pub mod Runs

@@ -1,0 +1,26 @@
+-- What is shown of a line.
+use Rattle.std.specs.Prelude.{ℕ, List, Result, Ok, Err}
+use Rattle.line_reader.specs.Grammar.{line_of}
+use Rattle.line_reader.specs.declared.line.Line.{Line}
+use Rattle.line_reader.specs.declared.line.Line.TheVariants.{Frame}
+use Rattle.line_reader.specs.declared.line.LineFormat.{LineFormat}
+use Rattle.line_reader.specs.declared.line.LineFormat.TheVariants as lines
+use Rattle.frame_formats.specs.declared.format.Format.{Format}
+use Rattle.frame_formats.specs.declared.format.Format.TheVariants as formats
+use Rattle.line_reader.specs.declared.line.BadLine.{BadLine}
+use Rattle.frame_inspect_main.specs.declared.item.Item.{Item}
+use Rattle.frame_inspect_main.specs.declared.item.Item.TheVariants as items
+
+abbrev pub format_by : LineFormat → Format
+format_by lines.A = formats.A
+format_by lines.B = formats.B
+
+-- a frame, without the moment when it was heard; nothing of a line of another word, nor of one that says nothing
+abbrev pub item_by : Result Line BadLine → Item
+item_by (Ok (Frame format at bytes)) = items.Frame (format_by format) bytes
+item_by (Ok other) = items.Other
+item_by (Err bad) = items.Bad
+
+-- what is shown of a line's text
+abbrev pub item_of : List ℕ → Item
+item_of text = item_by (line_of text)

@@ -1,0 +1,86 @@
+//! What is looked at.
+ghost use Rattle.std.specs.Prelude.{◌≡◌};
+ghost use Rattle.frame_inspect_main.specs.Items.{format_by};
+
+use frame_formats::Format;
+use line_reader::{BadLine, Line, LineFormat};
+use outer_io::Memory;
+use std::alloc::{AllocError, Global};
+use std::marker::Model;
+
+/// The bytes that a line gives for a frame, kept by their length.
+#[derive(Drop)]
+pub struct HeardBytes {
+    bytes: Vec<u8>,
+}
+
+impl Model for HeardBytes {
+    ghost use Rattle.std.specs.Prelude.{ℕ, List};
+
+    ghost Value = { List ℕ };
+
+    ghost view = { λ h. h.bytes.items };
+}
+
+impl HeardBytes {
+    ghost use Rattle.std.specs.Prelude.{◌≡◌, IfOk};
+
+    /// A copy of these bytes.
+    pub fn copied(alloc: Global, bytes: &[u8]) -> Result<HeardBytes, AllocError>
+        ensures { IfOk result (λ heard. heard ≡ bytes.now) }
+    {
+        let bytes = Vec::from_slice(alloc, bytes)?;
+        Ok(HeardBytes { bytes })
+    }
+
+    /// The bytes.
+    pub fn bytes(&self) -> &[u8]
+        ensures { result.now ≡ self.now }
+    {
+        self.bytes.as_slice()
+    }
+}
+
+/// A line of a file of frames, as far as it is shown.
+#[derive(Drop)]
+pub enum Item {
+    /// A frame, heard in this format (EN 13757-4).
+    Frame {
+        /// The format.
+        format: Format,
+        /// Its bytes, which may be no frame at all.
+        bytes: HeardBytes,
+    },
+    /// A line of another word.
+    Other,
+    /// A line that says nothing.
+    Bad,
+}
+
+fn format_by(format: LineFormat) -> Format
+    ensures { result ≡ format_by format }
+{
+    match format {
+        LineFormat::A => Format::A,
+        LineFormat::B => Format::B,
+    }
+}
+
+impl Item {
+    ghost use Rattle.std.specs.Prelude.{◌≡◌, IfOk};
+    ghost use Rattle.frame_inspect_main.specs.Items.{item_by};
+
+    /// What is shown of a line, or of one that says nothing.
+    pub fn of(alloc: Global, said: &Result<Line, BadLine>) -> Result<Item, Memory>
+        ensures { IfOk result (λ item. item ≡ item_by said.now) }
+    {
+        match said {
+            Ok(Line::Frame { format, bytes, .. }) => Ok(Item::Frame {
+                format: format_by(*format),
+                bytes: HeardBytes::copied(alloc, bytes.bytes())?,
+            }),
+            Ok(_) => Ok(Item::Other),
+            Err(_) => Ok(Item::Bad),
+        }
+    }
+}
