@@ -1,19 +1,17 @@
 //! The program `frame_inspect`: opens the file that its words name, and shows every layer of its frames.
 #![tactic(auto)]
 
-ghost use Rattle.std.specs.Prelude.{◌≡◌, ◌⊎◌, [], true, false, IsTrue, IsSome, map, None};
+ghost use Rattle.std.specs.Prelude.{◌≡◌, ◌++◌, [], true, false, IsTrue, IsSome, map, None};
 ghost use Rattle.std.specs.String.{string_bytes};
 ghost use Rattle.std.specs.Process.{exit_status};
-ghost use Rattle.outer_io.specs.Shown.{source_change, sink_change};
-ghost use Rattle.line_reader.specs.Reader.{given};
-ghost use Rattle.frame_inspect_main.specs.Run.{IsRun};
-ghost use Rattle.frame_inspect_main.specs.Statuses.{code_of};
+ghost use Rattle.line_reader.specs.Lines.{all_lines};
+ghost use Rattle.frame_inspect_main.specs.Run.{inspected};
 ghost use Rattle.frame_inspect_main.specs.Words.{workers_of};
 ghost use Rattle.frame_inspect.specs.Exit.{own_text, asks_for_text, IsTold, IsRunExit};
 
 use frame_inspect_main::{InspectStatus, inspect_run, workers};
 use line_reader::Lines;
-use outer_io::{StdSink, StdSource};
+use outer_io::{Sink, Source, StdSink, StdSource};
 use std::env;
 use std::fs::{File, Files};
 use std::io::{self, ErrorKind};
@@ -95,6 +93,26 @@ fn tell<R: Print + Eprint>(rt: &R, text: &str) -> ExitCode
     }
 }
 
+// Shows the frames of a file, and ends with the status of that.
+fn show<R: Threads + Sync + Eprint + AllocGlobal, S: Source, K: Sink>(
+    rt: &R,
+    command: &[String],
+    frames: &mut Lines<S>,
+    out: &mut K,
+) -> ExitCode
+    requires words { IsSome (workers_of (map string_bytes command.now)) }
+    requires fresh { (frames.old.line ≡ 0) × (frames.old.done ≡ false) }
+    requires empty { IsTrue K.tells → K.written out.old ≡ [] }
+    ensures run { IsRunExit (exit_status result) }
+
+    // After status 0 the output is the text of all lines.
+    ensures done { exit_status result ≡ 0 → IsTrue S.tells → IsTrue K.tells →
+        K.written out.new ≡ inspected (all_lines (S.taken frames.old.source ++ S.left frames.old.source)) }
+{
+    let status = inspect_run(rt, rt.alloc(), command, frames, out);
+    end(rt, status.code())
+}
+
 // Does what the words behind the program's name ask for.
 fn perform<R: Threads + Sync + Print + Eprint + Files<File = File> + AllocGlobal>(
     rt: &R,
@@ -115,8 +133,7 @@ fn perform<R: Threads + Sync + Print + Eprint + Files<File = File> + AllocGlobal
         return end(rt, 11);
     };
     let mut frames = Lines::new(StdSource::file(file));
-    let status = inspect_run(rt, rt.alloc(), command, &mut frames, &mut out);
-    end(rt, status.code())
+    show(rt, command, &mut frames, &mut out)
 }
 
 // What it means that the words can't be had: there is no memory for them, or one isn't UTF-8, which makes them faulty.
