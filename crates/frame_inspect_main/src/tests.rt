@@ -99,8 +99,9 @@ fn each_layer_is_shown(rt: HostRuntime) -> Result<(), Fail> {
 }
 
 // The words for a file and so many workers.
-fn words(alloc: Global, workers: &str) -> Result<Vec<String>, AllocError> {
-    vec![in alloc; String::from_str(alloc, "frames")?, String::from_str(alloc, workers)?]
+fn words(alloc: Global, workers: &str) -> Result<Vec<String>, Fail> {
+    let words = vec![in alloc; String::from_str(alloc, "frames")?, String::from_str(alloc, workers)?]?;
+    Ok(words)
 }
 
 // Lines of each kind, so many times over.
