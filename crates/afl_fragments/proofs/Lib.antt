@@ -5,3 +5,4 @@ pub mod LatestLaws
 pub mod MessageLaws
 pub mod PlaceLaws
 pub mod Room
+pub mod HistoryLaws

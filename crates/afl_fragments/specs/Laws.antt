@@ -1,9 +1,9 @@
 -- What is held, and the message that it makes, in other words.
-use Rattle.std.specs.Prelude.{◌≡◌, ℕ, ◌+◌, ◌-◌, ◌≤◌, Bool, true, false, ◌==◌, List, ◌∷◌, ◌++◌, length, slice_get, count_by, Some, option_map}
+use Rattle.std.specs.Prelude.{◌≡◌, ◌↔◌, ℕ, ◌+◌, ◌-◌, ◌≤◌, Bool, true, false, ◌==◌, List, ◌∷◌, ◌++◌, length, slice_get, count_by, Some, option_map}
 use Rattle.std.specs.List.{list_any}
 use Rattle.afl_fragments.specs.Fragment.{Fragment}
 use Rattle.afl_fragments.specs.declared.places.HeldPart.{HeldPart}
-use Rattle.afl_fragments.specs.Held.{Told, Piece, Tick, Clear, piece_at, last_end, Message, joined}
+use Rattle.afl_fragments.specs.Held.{Told, Piece, Tick, Clear, is_fid, held, piece_at, last_end, Message, joined, assembled}
 
 -- a fragment with this number
 abbrev pub is_piece_of : ℕ → Told → Bool
@@ -49,3 +49,21 @@ pub record IsMessage (hs : List HeldPart) (m : Message) : Type 0 where
   pub held : (k : ℕ) (part : Fragment) → slice_get parts k ≡ Some part → option_map (λ h. h.part) (piece_at (k + 1) hs) ≡ Some part
   pub leads : (k : ℕ) (part : Fragment) → slice_get parts k ≡ Some part → part.afl.more ≡ true
   pub message : m ≡ joined parts last
+
+-- The message of a history, found by looking back over it alone: its last fragment is the end that was heard last, and before it stand, for each smaller number from 1 on, the latest fragment with that number, each with more to follow.
+pub record IsMessageOf (told : List Told) (m : Message) : Type 0 where
+  pub parts : List Fragment
+  pub last : Fragment
+  pub ends : IsLastEnd told last
+  pub counted : length parts ≡ last.afl.fid - 1
+  pub latest : (k : ℕ) (part : Fragment) → slice_get parts k ≡ Some part → IsLatest (k + 1) told part
+  pub leads : (k : ℕ) (part : Fragment) → slice_get parts k ≡ Some part → part.afl.more ≡ true
+  pub message : m ≡ joined parts last
+
+-- what is held makes a message exactly where the history has one, and it is that one
+abbrev pub MessagesAreThoseOfHistories : Type 0
+MessagesAreThoseOfHistories = (told : List Told) (m : Message) → (assembled (held told) ≡ Some m) ↔ IsMessageOf told m
+
+-- a number stands at most once among what is held
+abbrev pub EachNumberIsHeldOnce : Type 0
+EachNumberIsHeldOnce = (told : List Told) (fid : ℕ) → count_by (is_fid fid) (held told) ≤ 1

@@ -3,7 +3,7 @@ ghost use Rattle.std.specs.Prelude.{◌≡◌, ◌↔◌, ℕ, List, Some, optio
 ghost use Rattle.afl_fragments.specs.Fragment.{Fragment};
 ghost use Rattle.afl_fragments.specs.declared.places.HeldPart.{HeldPart};
 ghost use Rattle.afl_fragments.specs.Held.{Told, held, piece_at, last_end, Message, assembled};
-ghost use Rattle.afl_fragments.specs.Laws.{IsLatest, IsLastEnd, IsMessage};
+ghost use Rattle.afl_fragments.specs.Laws.{IsLatest, IsLastEnd, IsMessage, MessagesAreThoseOfHistories, EachNumberIsHeldOnce};
 
 /// A fragment is held exactly where it is the latest that was heard with its number, no message that fragments made was
 /// stored after it, and at most one tick came after it.
@@ -22,4 +22,15 @@ pub fn end_is_the_last_heard()
 /// each with more to follow. It is these fragments joined.
 pub fn message_is_joined()
     ensures { (hs : List HeldPart) (m : Message) → (assembled hs ≡ Some m) ↔ IsMessage hs m }
+{}
+
+/// The message that fragments make is found by looking back over what was told alone: at the end that was heard last, and
+/// at the latest fragment of each smaller number.
+pub fn message_is_that_of_the_history()
+    ensures { MessagesAreThoseOfHistories }
+{}
+
+/// A number stands at most once among the fragments that are held, so that none is counted twice in `held_bytes`.
+pub fn each_number_is_held_once()
+    ensures { EachNumberIsHeldOnce }
 {}

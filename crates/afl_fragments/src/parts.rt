@@ -1,6 +1,7 @@
 //! The fragments that are held.
-ghost use Rattle.std.specs.Prelude.{◌≡◌, ◌≤◌, ◌<◌, ◌+◌, ◌↔◌, List, [], ◌∷◌, length, IfNone, OnSome};
-ghost use Rattle.afl_fragments.specs.Held.{Told, Piece, Tick, Clear, StandsFor, message_with, assembled, held_bytes};
+ghost use Rattle.std.specs.Prelude.{◌≡◌, ◌≤◌, ◌<◌, ◌+◌, ◌↔◌, List, [], ◌∷◌, length, Some, IfNone, OnSome};
+ghost use Rattle.afl_fragments.specs.Held.{Told, Piece, Tick, Clear, StandsFor, Message, message_with, assembled, held_bytes};
+ghost use Rattle.afl_fragments.specs.Laws.{IsMessageOf};
 
 use crate::part::Part;
 use crate::places::{
@@ -88,6 +89,10 @@ impl Parts {
     /// make none.
     pub fn whole(&self, out: &mut Scratch) -> Option<Auth>
         ensures message { message_with result out.new ≡ assembled self.now }
+
+        // It is the message of what was told.
+        ensures told { (told : List Told) (m : Message) → StandsFor self.now told
+            → (message_with result out.new ≡ Some m) ↔ IsMessageOf told m }
         ensures unchanged { IfNone result (out.new ≡ out.old) }
         ensures room { OnSome result (length out.new ≤ held_bytes self.now) }
     {

@@ -5,7 +5,7 @@ ghost use Rattle.afl_fragments.specs.Held.{is_end, front, auth_of, message_with,
 ghost use Rattle.afl_fragments.specs.Places.{at_place, held_in, held_with, is_in, is_led, is_fresh, older, parts_in, IsPlace, AreOrdered};
 
 use crate::part::{PART_MAX, Part};
-use afl_layer::{Afl, Auth, SCRATCH_MAX, Scratch};
+use afl_layer::{Afl, Auth, Scratch};
 use arrayvec::ArrayVec;
 
 /// The most fragments of a message.
@@ -136,7 +136,7 @@ fn is_front_held(places: &[HeldPart; PLACES], order: &[u8], count: u8) -> bool
 
 // Puts the pieces behind one another.
 fn join(places: &[HeldPart], out: &mut Scratch)
-    requires { length out.old + PART_MAX * length places.now ≤ SCRATCH_MAX }
+    requires { length out.old + PART_MAX * length places.now ≤ 4096 }
     ensures { out.new ≡ out.old ++ flat_map (λ p. p.bytes) (parts_in places.now) }
 {
     for held in places {

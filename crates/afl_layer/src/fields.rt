@@ -3,6 +3,19 @@ ghost use Rattle.std.specs.Prelude.{◌≡◌, ◌<◌, ◌≤◌, ◌⊎◌, le
 ghost use Rattle.afl_layer.specs.Fields.{has_bit, where_so};
 ghost use Rattle.afl_layer.specs.Header.{byte_in, two_in, four_in, all_in};
 
+// The bits of FCL: MF, more fragments follow; and for each field the one that names it.
+pub(crate) const MORE: u8 = 14;
+
+pub(crate) const MCL: u8 = 13;
+
+pub(crate) const ML: u8 = 12;
+
+pub(crate) const MCR: u8 = 11;
+
+pub(crate) const MAC: u8 = 10;
+
+pub(crate) const KI: u8 = 9;
+
 // Whether a bit is set.
 pub(crate) fn has(fcl: u16, place: u8) -> bool
     requires { place < 16 }

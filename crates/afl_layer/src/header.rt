@@ -5,7 +5,10 @@ ghost use Rattle.afl_layer.specs.Header.{BeginsWithAfl, IsAflFault, misplaces, u
 ghost use Rattle.afl_layer.specs.declared.header.Afl.{Afl};
 ghost use Rattle.afl_layer.specs.declared.header.AflFault.{AflFault};
 
-use crate::fields::{eight, four, has, len_of, one, two};
+use crate::fields::{KI, MAC, MCL, MCR, ML, MORE, eight, four, has, len_of, one, two};
+
+/// The CI of the authentication and fragmentation layer (EN 13757-7).
+pub const AFL_CI: u8 = 0x90;
 
 /// The header of the authentication and fragmentation layer (EN 13757-7), of CI 90.
 #[derive(Clone, Copy, Debug, PartialEq, Eq)]
@@ -76,11 +79,11 @@ fn len_of_fields(fcl: u16) -> usize
     ensures exact { result ≡ fields_len fcl }
     ensures most { result ≤ 17 }
 {
-    len_of(has(fcl, 13), 1)
-        + len_of(has(fcl, 9), 2)
-        + len_of(has(fcl, 11), 4)
-        + len_of(has(fcl, 10), 8)
-        + len_of(has(fcl, 12), 2)
+    len_of(has(fcl, MCL), 1)
+        + len_of(has(fcl, KI), 2)
+        + len_of(has(fcl, MCR), 4)
+        + len_of(has(fcl, MAC), 8)
+        + len_of(has(fcl, ML), 2)
 }
 
 // Whether FCL names a field that doesn't stand in this fragment.
@@ -88,8 +91,8 @@ fn len_of_fields(fcl: u16) -> usize
 fn names_misplaced(fcl: u16) -> bool
     ensures { result ≡ misplaces fcl }
 {
-    let other = has(fcl, 13) || has(fcl, 9) || has(fcl, 11) || has(fcl, 12);
-    has(fcl, 14) && has(fcl, 10) || fcl & 0xFF >= 2 && other
+    let other = has(fcl, MCL) || has(fcl, KI) || has(fcl, MCR) || has(fcl, ML);
+    has(fcl, MORE) && has(fcl, MAC) || fcl & 0xFF >= 2 && other
 }
 
 // Whether FCL is that of a fragment of several, and doesn't number it.
@@ -97,7 +100,7 @@ fn names_misplaced(fcl: u16) -> bool
 fn is_unnumbered(fcl: u16) -> bool
     ensures { result ≡ uncounts fcl }
 {
-    has(fcl, 14) && fcl & 0xFF == 0
+    has(fcl, MORE) && fcl & 0xFF == 0
 }
 
 // The fields that FCL names, one behind the other.
@@ -106,13 +109,13 @@ fn read_fields(fcl: u16, bytes: &[u8]) -> Afl
     requires { fields_len fcl ≤ length bytes.now }
     ensures { result ≡ fields_at fcl bytes.now }
 {
-    let (mcl, rest) = bytes.split_at(len_of(has(fcl, 13), 1));
-    let (ki, rest) = rest.split_at(len_of(has(fcl, 9), 2));
-    let (mcr, rest) = rest.split_at(len_of(has(fcl, 11), 4));
-    let (mac, rest) = rest.split_at(len_of(has(fcl, 10), 8));
-    let (ml, _) = rest.split_at(len_of(has(fcl, 12), 2));
+    let (mcl, rest) = bytes.split_at(len_of(has(fcl, MCL), 1));
+    let (ki, rest) = rest.split_at(len_of(has(fcl, KI), 2));
+    let (mcr, rest) = rest.split_at(len_of(has(fcl, MCR), 4));
+    let (mac, rest) = rest.split_at(len_of(has(fcl, MAC), 8));
+    let (ml, _) = rest.split_at(len_of(has(fcl, ML), 2));
     Afl {
-        more: has(fcl, 14),
+        more: has(fcl, MORE),
         fid: (fcl & 0xFF) as u8,
         mcl: one(mcl),
         ki: two(ki),

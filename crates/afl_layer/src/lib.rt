@@ -6,7 +6,7 @@ mod header;
 mod scratch;
 mod writing;
 
-pub use header::{Afl, AflFault, Auth, read_afl};
+pub use header::{AFL_CI, Afl, AflFault, Auth, read_afl};
 pub use scratch::{SCRATCH_MAX, Scratch};
 pub use writing::write_afl;
 

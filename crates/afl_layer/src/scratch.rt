@@ -44,7 +44,7 @@ impl Scratch {
 
     /// Puts bytes behind those that are there. The buffer has to have room for them.
     pub fn extend(&mut self, bytes: &[u8])
-        requires { length self.old + length bytes.now ≤ SCRATCH_MAX }
+        requires { length self.old + length bytes.now ≤ 4096 }
         ensures { self.new ≡ self.old ++ bytes.now }
     {
         let put = self.bytes.try_extend_from_slice(bytes);
@@ -68,7 +68,7 @@ impl Scratch {
     /// The bytes.
     pub fn bytes(&self) -> &[u8]
         ensures bytes { result.now ≡ self.now }
-        ensures most { length self.now ≤ SCRATCH_MAX }
+        ensures most { length self.now ≤ 4096 }
     {
         self.bytes.as_slice()
     }

@@ -1,10 +1,12 @@
 //! Writing the header of the authentication and fragmentation layer.
-ghost use Rattle.std.specs.Prelude.{◌≡◌, ◌+◌, ◌≤◌, ◌<◌, ◌^◌, ◌++◌, ℕ, List, length, take, Ok, IfSome};
+ghost use Rattle.std.specs.Prelude.{◌≡◌, ◌+◌, ◌≤◌, ◌<◌, ◌^◌, ◌++◌, ℕ, List, length, take, drop, Ok, IfSome};
 ghost use Rattle.std.specs.Int.{w16, w32, to_le_bytes};
 ghost use Rattle.afl_layer.specs.Fields.{where_so, fcl_of, field_bytes, one_byte, fields_bytes};
 ghost use Rattle.afl_layer.specs.Header.{afl_bytes, Fits, IsPlaced, afl_at};
 
-use crate::header::Afl;
+use crate::fields::{KI, MAC, MCL, MCR, ML, MORE};
+use crate::header::{AFL_CI, Afl};
+use steps::put;
 
 // A bit of FCL, where it is set.
 fn bit_where(set: bool, bit: u16) -> u16
@@ -20,22 +22,11 @@ fn fcl_for(afl: &Afl) -> u16
     ensures is { result ≡ fcl_of afl.now }
     ensures fid { afl.now.fid < 2 ^ 8 }
 {
-    let low = bit_where(afl.mac.is_some(), 1 << 10)
-        + (bit_where(afl.ki.is_some(), 1 << 9) + u16::from(afl.fid));
-    let middle = bit_where(afl.ml.is_some(), 1 << 12)
-        + (bit_where(afl.mcr.is_some(), 1 << 11) + low);
-    bit_where(afl.more, 1 << 14) + (bit_where(afl.mcl.is_some(), 1 << 13) + middle)
-}
-
-// Writes bytes at this place, and answers the place behind them.
-fn put(out: &mut [u8], at: usize, bytes: &[u8]) -> usize
-    requires { at + length bytes.now ≤ length out.old }
-    ensures end { result ≡ at + length bytes.now }
-    ensures written { take result out.new ≡ take at out.old ++ bytes.now }
-{
-    let end = at + bytes.len();
-    out[at..end].copy_from_slice(bytes);
-    end
+    let low = bit_where(afl.mac.is_some(), 1 << MAC)
+        + (bit_where(afl.ki.is_some(), 1 << KI) + u16::from(afl.fid));
+    let middle = bit_where(afl.ml.is_some(), 1 << ML)
+        + (bit_where(afl.mcr.is_some(), 1 << MCR) + low);
+    bit_where(afl.more, 1 << MORE) + (bit_where(afl.mcl.is_some(), 1 << MCL) + middle)
 }
 
 fn put_one(out: &mut [u8], at: usize, field: Option<u8>) -> usize
@@ -108,25 +99,28 @@ fn put_fields(afl: &Afl, out: &mut [u8]) -> usize
 }
 
 // Writes the header.
+#[tactic(auto, using(steps::proofs::Puts::behind_both))]
 fn put_header(afl: &Afl, out: &mut [u8]) -> usize
     requires { length out.old ≡ 21 }
     ensures len { result ≡ length (afl_bytes (fcl_of afl.now) afl.now) }
     ensures spelt { take result out.new ≡ afl_bytes (fcl_of afl.now) afl.now }
+    ensures behind { drop result out.new ≡ drop result out.old }
     ensures fits { Fits afl.now }
 {
     let mut fields = [0; 17];
     let len = put_fields(afl, &mut fields);
     let fcl = fcl_for(afl).to_le_bytes();
-    let end = put(out, 0, &[0x90, 2 + len as u8]);
+    let end = put(out, 0, &[AFL_CI, 2 + len as u8]);
     let end = put(out, end, &fcl);
     put(out, end, &fields[..len])
 }
 
-/// Writes the header, with the bits of FCL that aren't used as 0, and answers how many bytes it has. What `afl.len` says
-/// doesn't matter.
+/// Writes the header, with the bits of FCL that aren't used as 0, and answers how many bytes it has. What stands behind them
+/// in `out` stays. What `afl.len` says doesn't matter.
 pub fn write_afl(afl: &Afl, out: &mut [u8; 21]) -> usize
     ensures len { result ≡ length (afl_bytes (fcl_of afl.now) afl.now) }
     ensures spelt { take result out.new ≡ afl_bytes (fcl_of afl.now) afl.now }
+    ensures behind { drop result out.new ≡ drop result out.old }
 
     // What is written is read back, whatever follows it, where its fields have places that are read.
     ensures again { IsPlaced afl.now → (rest : List ℕ)

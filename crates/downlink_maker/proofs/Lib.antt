@@ -1,2 +1,4 @@
 mod Rows
-mod ReadBack
+pub mod Bytes
+pub mod Parts
+pub mod ReadBack

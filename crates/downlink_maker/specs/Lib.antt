@@ -1,3 +1,4 @@
 pub mod Downlink
+pub mod Parts
 pub mod Sent
 pub mod Laws

@@ -1,4 +1,4 @@
-//! The layers in front of a downlink's message.
+//! The layers in front of a downlink's content.
 ghost use Rattle.std.specs.Prelude.{◌≡◌, ◌≤◌, ◌++◌, ℕ, List, Ok};
 ghost use Rattle.afl_layer.specs.Header.{afl_at};
 ghost use Rattle.downlink_maker.specs.Downlink.{link_bytes, authentication_bytes, authentication_of, header_bytes};
@@ -9,8 +9,8 @@ use meter_address::Address;
 // MCL of a whole message with a counter and a MAC: AES-CMAC-128, cut to eight bytes.
 pub(crate) const MESSAGE_CONTROL: u8 = 0x25;
 
-// The link layer: L, C, M and A.
-pub(crate) fn link_layer(own: Address, blocks: u8) -> [u8; 10]
+/// The link layer of a downlink whose content has so many blocks: L, C of SND-UD2, M and A of the collector's `own` address.
+pub fn link_layer(own: Address, blocks: u8) -> [u8; 10]
     requires { blocks ≤ 6 }
     ensures { result ≡ link_bytes own blocks }
 {
@@ -21,8 +21,8 @@ pub(crate) fn link_layer(own: Address, blocks: u8) -> [u8; 10]
     link
 }
 
-// The authentication and fragmentation layer.
-pub(crate) fn authentication_layer(down: u32, mac: [u8; 8]) -> [u8; 17]
+/// The authentication and fragmentation layer of a downlink with this counter and MAC.
+pub fn authentication_layer(down: u32, mac: [u8; 8]) -> [u8; 17]
     ensures exact { result ≡ authentication_bytes down mac }
     ensures again { (rest : List ℕ) → afl_at (result ++ rest) ≡ Ok (authentication_of down mac) }
 {
@@ -43,8 +43,8 @@ pub(crate) fn authentication_layer(down: u32, mac: [u8; 8]) -> [u8; 17]
     layer
 }
 
-// The transport header.
-pub(crate) fn transport_header(meter: Address, down: u32, blocks: u8) -> [u8; 14]
+/// The transport header of a downlink to this meter: of security mode 7, under the meter's first key.
+pub fn transport_header(meter: Address, down: u32, blocks: u8) -> [u8; 14]
     requires { blocks ≤ 6 }
     ensures { result ≡ header_bytes meter down blocks }
 {

@@ -9,7 +9,8 @@ mod making;
 mod message;
 
 pub use downlink::{DOWNLINK_MAX, Downlink};
-pub use laws::content_is_read_back;
+pub use laws::{content_is_read_back, downlinks_are_laid_out};
+pub use layers::{authentication_layer, link_layer, transport_header};
 pub use making::make_downlink;
 
 #[cfg(test)]

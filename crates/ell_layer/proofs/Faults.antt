@@ -6,7 +6,8 @@ use Rattle.std.proofs.lemmas.Bool.Decides.{nat_tests}
 use Rattle.ell_layer.specs.declared.extension.Ell.{Ell}
 use Rattle.ell_layer.specs.declared.extension.EllFault.{EllFault}
 use Rattle.ell_layer.specs.declared.extension.EllFault.TheVariants.{Truncated, Kind}
-use Rattle.ell_layer.specs.Extension.{IsEllFault, header_len, ◌>>=◌, ell_at}
+use Rattle.steps.specs.Steps.{◌>>=◌}
+use Rattle.ell_layer.specs.Extension.{IsEllFault, header_len, ell_at}
 use Rattle.ell_layer.proofs.Headers.{made, chosen, ci_of}
 
 abbrev no_header : EllFault → Result Ell EllFault

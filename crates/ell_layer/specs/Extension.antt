@@ -3,6 +3,7 @@ use Rattle.std.specs.Prelude.{ℕ, ◌≡◌, ◌≢◌, ◌<◌, ◌⊎◌, Lis
 use Rattle.ell_layer.specs.declared.extension.Ell.{Ell}
 use Rattle.ell_layer.specs.declared.extension.EllFault.{EllFault}
 use Rattle.ell_layer.specs.declared.extension.EllFault.TheVariants.{Truncated, Kind}
+use Rattle.steps.specs.Steps.{◌>>=◌}
 use Rattle.ell_layer.specs.Access.{access_in}
 
 -- the short header: CI 8C, the communication control, the access number
@@ -45,12 +46,6 @@ IsEllFault bytes (Kind ci) = (slice_get bytes 0 ≡ Some ci) × (ci ≢ 0x8C) ×
 unfoldable pub header_len : List ℕ → Result ℕ EllFault
 header_len [] = Err (Truncated 0)
 header_len (ci ∷ rest) = if ci == 0x8C then Ok 3 else if ci == 0x8E then Ok 11 else Err (Kind ci)
-
--- reading from left to right, with the first fault
-infixl 10 ◌>>=◌
-abbrev pub ◌>>=◌ : {A B : Type 0} → Result A EllFault → (A → Result B EllFault) → Result B EllFault
-(Ok x) >>= f = f x
-(Err e) >>= f = Err e
 
 -- the header with which the bytes begin, or the first fault
 unfoldable pub ell_at : List ℕ → Result Ell EllFault

@@ -6,6 +6,11 @@ ghost use Rattle.ell_layer.specs.declared.extension.EllFault.{EllFault};
 
 use crate::access::Access;
 
+// The CIs of the two headers that are read: with access alone, and with a second address behind it.
+const SHORT_CI: u8 = 0x8C;
+
+const LONG_CI: u8 = 0x8E;
+
 /// The header of the extended link layer (EN 13757-4), of CI 8C, or of CI 8E, whose second address isn't kept.
 #[derive(Clone, Copy, Debug, PartialEq, Eq)]
 pub struct Ell {
@@ -34,8 +39,8 @@ fn len_of_header(bytes: &[u8]) -> Result<usize, EllFault>
 {
     match bytes {
         [] => Err(EllFault::Truncated(0)),
-        [0x8C, ..] => Ok(3),
-        [0x8E, ..] => Ok(11),
+        [SHORT_CI, ..] => Ok(3),
+        [LONG_CI, ..] => Ok(11),
         [ci, ..] => Err(EllFault::Kind(*ci)),
     }
 }

@@ -6,7 +6,8 @@ use Rattle.std.specs.List.{flat_map, concat}
 use Rattle.frame_formats.specs.declared.fault.FrameFault.{FrameFault}
 use Rattle.frame_formats.specs.Crc.{crc_of, IsBytes}
 use Rattle.frame_formats.specs.Frames.{AreChecked}
-use Rattle.frame_formats.specs.Decoding.{◌>>=◌, with_crc, block_of}
+use Rattle.steps.specs.Steps.{◌>>=◌}
+use Rattle.frame_formats.specs.Decoding.{with_crc, block_of}
 use Rattle.frame_formats.proofs.Division.{is_crc, same_crc}
 
 pub bytes-take : (n : ℕ) (l : List ℕ) → IsBytes l → IsBytes (take n l)

@@ -7,7 +7,8 @@ use Rattle.frame_formats.specs.declared.fault.FrameFault.{FrameFault}
 use Rattle.frame_formats.specs.declared.fault.FrameFault.TheVariants as faults
 use Rattle.frame_formats.specs.Crc.{IsBytes}
 use Rattle.frame_formats.specs.Frames.{AreChecked, IsTelegram, OneBlock, TwoBlocks, FrameB}
-use Rattle.frame_formats.specs.Decoding.{◌>>=◌, with_crc, pieces_b, content_of, block_of, counted, telegram_b, decoded, decoded_b}
+use Rattle.steps.specs.Steps.{◌>>=◌}
+use Rattle.frame_formats.specs.Decoding.{with_crc, pieces_b, content_of, block_of, counted, telegram_b, decoded, decoded_b}
 use Rattle.frame_formats.proofs.Chain.{chain_ok, chain_passed}
 use Rattle.frame_formats.proofs.Pieces.{with_front, first_read, first_fault, nothing_read}
 use Rattle.frame_formats.proofs.Checked.{bytes-take, bytes-drop, bytes_same, byte_at, checked_is, is_checked, checked_same, content_bytes, block_found, block_again, length-with_crc, bind_ok}

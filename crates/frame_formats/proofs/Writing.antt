@@ -1,5 +1,5 @@
 -- Writing the blocks of a telegram.
-use Rattle.std.proofs.Common.{◌≡◌, ℕ, zero, suc, ◌+◌, ◌-◌, ◌/◌, ◌<◌, ◌≤◌, List, [], ◌∷◌, ◌++◌, length, take, drop, false, eqb, sym, ◌∙◌, ap, arith, append_assoc, append-nil, length-drop, min, inl, inr}
+use Rattle.std.proofs.Common.{◌≡◌, ℕ, zero, suc, ◌+◌, ◌-◌, ◌*◌, ◌/◌, ◌<◌, ◌≤◌, List, [], ◌∷◌, ◌++◌, length, take, drop, false, eqb, sym, ◌∙◌, ap, arith, append_assoc, append-nil, length-drop, min, inl, inr}
 use Rattle.std.proofs.lemmas.List.{take_all, take-append-drop, length-take}
 use Rattle.std.proofs.lemmas.Bool.{cases_lt, eqb-false}
 use Rattle.std.specs.List.{flat_map, concat}
@@ -12,6 +12,12 @@ use Rattle.frame_formats.proofs.Checked.{bytes_same, is_checked}
 -- the blocks behind the first, each with its CRC
 abbrev pub others_with_crc : List ℕ → List ℕ
 others_with_crc rest = flat_map with_crc (cut ((length rest + 15) / 16) 16 rest)
+
+-- the blocks up to end are written, and those of the rest would make all; what stands behind them is as it was
+pub record Written (at : ℕ) (bytes old : List ℕ) (end : ℕ) (rest out : List ℕ) : Type 0 where
+  pub count : end + length rest + 2 * ((length rest + 15) / 16) ≡ at + length bytes + 2 * ((length bytes + 15) / 16)
+  pub front : take end out ++ others_with_crc rest ≡ take at old ++ others_with_crc bytes
+  pub behind : drop end out ≡ drop end old
 
 pub one_more : (out out' rest block after : List ℕ) (end end' size : ℕ) → size ≡ min (length rest) 16 → 0 < length rest → block ≡ take size rest → after ≡ drop size rest → take end' out' ≡ take end out ++ with_crc block
     → take end' out' ++ others_with_crc after ≡ take end out ++ others_with_crc rest

@@ -1,17 +1,12 @@
 -- What a decoder answers: the telegram of a frame, or the first fault. And the frame that an encoder writes.
 use Rattle.std.specs.Prelude.{ℕ, zero, suc, Bool, false, ◌+◌, ◌-◌, ◌*◌, ◌/◌, ◌%◌, ◌||◌, List, [], ◌∷◌, ◌++◌, length, take, drop, slice_index, Result, Ok, Err, nat_lt, nat_eq, if◌then◌else◌}
 use Rattle.std.specs.List.{flat_map}
+use Rattle.steps.specs.Steps.{◌>>=◌}
 use Rattle.frame_formats.specs.Crc.{crc_of}
 use Rattle.frame_formats.specs.declared.fault.FrameFault.{FrameFault}
 use Rattle.frame_formats.specs.declared.fault.FrameFault.TheVariants as faults
 use Rattle.frame_formats.specs.declared.format.Format.{Format}
 use Rattle.frame_formats.specs.declared.format.Format.TheVariants as formats
-
--- reading from left to right, with the first fault
-infixl 10 ◌>>=◌
-abbrev pub ◌>>=◌ : {A B : Type 0} → Result A FrameFault → (A → Result B FrameFault) → Result B FrameFault
-(Ok x) >>= f = f x
-(Err e) >>= f = Err e
 
 -- so many pieces of this size, of which the last may be shorter
 unfoldable pub cut : ℕ → ℕ → List ℕ → List (List ℕ)

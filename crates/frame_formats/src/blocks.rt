@@ -1,9 +1,10 @@
 //! Blocks and their CRCs.
-ghost use Rattle.std.specs.Prelude.{◌≡◌, ◌≤◌, ◌+◌, ◌-◌, ◌++◌, length, take, Ok, Err, IfOk, MatchResult};
+ghost use Rattle.std.specs.Prelude.{◌≡◌, ◌≤◌, ◌+◌, ◌-◌, ◌++◌, length, take, drop, Ok, Err, IfOk, MatchResult};
 ghost use Rattle.frame_formats.specs.Decoding.{block_of, with_crc};
 
 use crate::FrameFault;
 use crate::crc16::crc;
+use steps::put;
 
 /// The block of the piece with this number: what stands before its last two bytes, where these are its CRC.
 #[tactic(auto, unfolding(crate::specs::Decoding::block_of))]
@@ -22,23 +23,14 @@ pub(crate) fn checked_block(piece: &[u8], number: usize) -> Result<&[u8], FrameF
     }
 }
 
-/// Writes a block at this place.
-pub(crate) fn put(into: &mut [u8], at: usize, block: &[u8])
-    requires { at + length block.now ≤ length into.old }
-    ensures { take (at + length block.now) into.new ≡ take at into.old ++ block.now }
-{
-    into[at..at + block.len()].copy_from_slice(block);
-}
-
 /// Writes a block and its CRC at this place, and answers the place behind them.
+#[tactic(auto, using(steps::proofs::Puts::behind_both))]
 pub(crate) fn put_with_crc(out: &mut [u8], at: usize, block: &[u8]) -> usize
     requires { at + length block.now + 2 ≤ length out.old }
     ensures end { result ≡ at + length block.now + 2 }
     ensures written { take result out.new ≡ take at out.old ++ with_crc block.now }
+    ensures behind { drop result out.new ≡ drop result out.old }
 {
-    let check = crc(block);
-    put(out, at, block);
-    let end = at + block.len();
-    put(out, end, &check.to_be_bytes());
-    end + 2
+    let end = put(out, at, block);
+    put(out, end, &crc(block).to_be_bytes())
 }

@@ -1,13 +1,14 @@
 //! Format A: a block of 10 bytes, then blocks of 16, each with its CRC.
-ghost use Rattle.std.specs.Prelude.{◌≡◌, ◌≤◌, ◌<◌, ◌+◌, ◌-◌, ◌*◌, ◌/◌, ◌++◌, List, ℕ, length, take, slice_index, Ok, Err, OnOk, MatchResult};
+ghost use Rattle.std.specs.Prelude.{◌≡◌, ◌≤◌, ◌<◌, ◌+◌, ◌-◌, ◌*◌, ◌/◌, ◌++◌, List, ℕ, length, take, drop, slice_index, Ok, Err, OnOk, MatchResult};
 ghost use Rattle.std.specs.List.{flat_map};
 ghost use Rattle.frame_formats.specs.Frames.{FrameA};
 ghost use Rattle.frame_formats.specs.Decodes.{Decodes};
 ghost use Rattle.frame_formats.specs.Decoding.{cut, content_of, frame_len, pieces_a, decoded_a, frame_a, with_crc};
 
-use crate::blocks::{checked_block, put, put_with_crc};
+use crate::blocks::{checked_block, put_with_crc};
 use crate::format::{Format, decode};
 use crate::{FrameFault, Telegram};
+use steps::put;
 
 // Fills `into` from the blocks behind the first, each with its CRC.
 fn read_others(bytes: &[u8], into: &mut [u8]) -> Result<(), FrameFault>
@@ -75,6 +76,7 @@ fn put_others(out: &mut [u8], at: usize, bytes: &[u8]) -> usize
     ensures end { result ≡ at + length bytes.now + 2 * ((length bytes.now + 15) / 16) }
     ensures written { take result out.new
         ≡ take at out.old ++ flat_map with_crc (cut ((length bytes.now + 15) / 16) 16 bytes.now) }
+    ensures behind { drop result out.new ≡ drop result out.old }
 {
     let mut end = at;
     let mut rest = bytes;
@@ -91,6 +93,9 @@ pub fn encode_a(telegram: &Telegram, out: &mut [u8; 290]) -> usize
     ensures len { result ≡ frame_len (length telegram.now - 1) }
     ensures written { take result out.new ≡ frame_a telegram.now }
     ensures frame { FrameA (take result out.new) telegram.now }
+
+    // What stands behind the frame stays.
+    ensures behind { drop result out.new ≡ drop result out.old }
 {
     let (first, others) = telegram.bytes().split_at(10);
     let end = put_with_crc(out, 0, first);

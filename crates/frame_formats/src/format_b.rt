@@ -3,9 +3,10 @@ ghost use Rattle.std.specs.Prelude.{◌≡◌, ◌≤◌, ◌<◌, ◌+◌, leng
 ghost use Rattle.frame_formats.specs.Decodes.{Decodes};
 ghost use Rattle.frame_formats.specs.Decoding.{content_of, pieces_b, telegram_b, decoded_b};
 
-use crate::blocks::{checked_block, put};
+use crate::blocks::checked_block;
 use crate::format::{Format, decode};
 use crate::{FrameFault, Telegram};
+use steps::put;
 
 // Fills `into` from one block with its CRC.
 fn read_one(bytes: &[u8], into: &mut [u8]) -> Result<(), FrameFault>

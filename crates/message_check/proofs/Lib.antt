@@ -1,4 +1,3 @@
-pub mod StepLaws
 pub mod LayerLaws
 pub mod OpeningLaws
 pub mod RefusalLaws

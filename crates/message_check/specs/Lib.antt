@@ -1,4 +1,4 @@
-pub mod Steps
+pub use Rattle.steps.specs.Steps
 pub mod Layers
 pub mod Target
 pub mod Keys

@@ -6,10 +6,15 @@ ghost use Rattle.message_check.specs.declared.refusal.LayerFault.{LayerFault};
 
 use crate::headers::{Layers, piece_follows};
 use crate::refusal::LayerFault;
-use afl_layer::{Afl, read_afl};
+use afl_layer::{AFL_CI, Afl, read_afl};
 use ell_layer::{Ell, read_ell};
 use frame_formats::Telegram;
 use tpl_headers::{Tpl, read_tpl};
+
+// The CIs of an extended link layer, the first and the last; two of them are read.
+const FIRST_ELL_CI: u8 = 0x8C;
+
+const LAST_ELL_CI: u8 = 0x8F;
 
 // How many bytes stand before the layers: L, C, M and A.
 const LINK_LEN: usize = 10;
@@ -49,7 +54,7 @@ fn read_extension(bytes: &[u8]) -> Result<Option<Ell>, LayerFault>
     ensures within { IfOk result (λ ell. extension_len ell ≤ length bytes.now) }
 {
     match bytes {
-        [0x8C..=0x8F, ..] => read_ell(bytes).map(Some).map_err(LayerFault::Ell),
+        [FIRST_ELL_CI..=LAST_ELL_CI, ..] => read_ell(bytes).map(Some).map_err(LayerFault::Ell),
         _ => Ok(None),
     }
 }
@@ -60,7 +65,7 @@ fn read_fragmentation(bytes: &[u8]) -> Result<Option<Afl>, LayerFault>
     ensures within { IfOk result (λ afl. fragmentation_len afl ≤ length bytes.now) }
 {
     match bytes {
-        [0x90, ..] => read_afl(bytes).map(Some).map_err(LayerFault::Afl),
+        [AFL_CI, ..] => read_afl(bytes).map(Some).map_err(LayerFault::Afl),
         _ => Ok(None),
     }
 }

@@ -5,6 +5,8 @@ use Rattle.std.specs.List.{cons_option}
 use Rattle.std.proofs.lemmas.List.Elements.{filter_map-append}
 use Rattle.std.proofs.lemmas.List.{reverse-reverse, append-nil}
 use Rattle.meter_address.specs.declared.address.Address.{Address}
+use Rattle.meter_address.specs.declared.commission.Mode.{Mode}
+use Rattle.meter_address.specs.declared.commission.Mode.TheVariants.{Five, Seven}
 use Rattle.meter_address.specs.Commission.{Commissioned}
 use Rattle.ell_layer.specs.declared.access.Access.{Access}
 use Rattle.command_queue.specs.declared.command.Command.{Command}
@@ -17,8 +19,8 @@ use Rattle.message_check.specs.Opening.{Found}
 use Rattle.message_check.specs.declared.refusal.Reason.{Reason}
 use Rattle.meter_slots.specs.declared.entry.Entry.{Entry}
 use Rattle.meter_slots.specs.declared.entry.Event.{Event}
-use Rattle.meter_slots.specs.declared.entry.Event.TheVariants.{Hear, Tick, Put, Cancel}
-use Rattle.meter_slots.specs.Journal.{standing, told, last_counter, verdict, access_at, orders_heard, orders_after, orders, downlink_with, heard, queued, cancelled, answer, outcome, IsJudged, Legal}
+use Rattle.meter_slots.specs.declared.entry.Event.TheVariants.{Hear, Tick, Put, Cancel, Rekey}
+use Rattle.meter_slots.specs.Journal.{standing, verdict, access_at, orders_heard, orders_after, orders, downlink_with, heard, queued, cancelled, key_answer, answer, outcome, IsJudged, Legal}
 use Rattle.meter_slots.specs.Laws.{sent_counter, sent_counters, last_or, IsRising}
 use Rattle.meter_slots.proofs.JournalLaws.{front_back, IsRising-push, last_or-push}
 
@@ -67,6 +69,10 @@ cancelled_sent : (id : ℕ) (r : Result Command NoSuch) → sent_counter (cancel
 cancelled_sent id (Ok command) = refl
 cancelled_sent id (Err missing) = refl
 
+key_sent : (mode : Mode) → sent_counter (key_answer mode) ≡ None
+key_sent Five = refl
+key_sent Seven = refl
+
 cond_down : (b : Bool) (j k : Orders) → j.down ≡ k.down → (cond b j k).down ≡ k.down
 cond_down true j k e = e
 cond_down false j k e = refl
@@ -83,13 +89,14 @@ tick_down k = refl
 
 answer_counts : (c : Commissioned) (own : Address) (earlier : List Entry) (event : Event)
     → Counts (orders c earlier).down
-    (orders_after (orders c earlier) (access_at c (last_counter c earlier) (told c earlier) event) event (answer c own (standing c earlier) event)).down
+    (orders_after (orders c earlier) (access_at c (standing c earlier) event) event (answer c own (standing c earlier) event)).down
     (sent_counter (answer c own (standing c earlier) event))
 answer_counts c own earlier (Hear format at t) =
-    heard_counts own c (orders c earlier) _ _ (verdict c (last_counter c earlier) (told c earlier) t)
+    heard_counts own c (orders c earlier) _ _ (verdict c (standing c earlier) t)
 answer_counts c own earlier Tick = tick_down (orders c earlier)
 answer_counts c own earlier (Put payload) = nothing_sent _ _ _ (queued_sent (put_answer (orders c earlier).queue)) refl
 answer_counts c own earlier (Cancel id) = nothing_sent _ _ _ (cancelled_sent id (take_answer id (orders c earlier).queue)) (cancel_down (orders c earlier) id)
+answer_counts c own earlier (Rekey key) = nothing_sent _ _ _ (key_sent c.mode) refl
 
 entry_counts : (c : Commissioned) (own : Address) (x : Entry) (earlier : List Entry) → IsJudged c own (x ∷ earlier)
     → Counts (orders c earlier).down (orders c (x ∷ earlier)).down (sent_counter x.outcome)

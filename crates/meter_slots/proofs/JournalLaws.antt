@@ -21,18 +21,20 @@ use Rattle.access_window.proofs.Agreement.{cancel_refused}
 use Rattle.afl_fragments.specs.Held.{Message}
 use Rattle.message_check.specs.Steps.{◌>>=◌}
 use Rattle.frame_formats.specs.Crc.{IsBytes}
-use Rattle.meter_slots.specs.declared.entry.Format.{Format}
+use Rattle.frame_formats.specs.declared.format.Format.{Format}
 use Rattle.message_check.proofs.OpeningLaws.{genuine_are_opened}
 use Rattle.message_check.specs.Opening.{Found, Genuine7, opened7, compared7}
 use Rattle.message_check.specs.declared.refusal.Reason.{Reason}
 use Rattle.message_check.specs.declared.refusal.Reason.TheVariants.{Stale}
 use Rattle.meter_slots.specs.declared.entry.Entry.{Entry}
 use Rattle.meter_slots.specs.declared.entry.Event.{Event}
-use Rattle.meter_slots.specs.declared.entry.Event.TheVariants.{Hear, Tick, Put, Cancel}
+use Rattle.meter_slots.specs.declared.entry.Event.TheVariants.{Hear, Tick, Put, Cancel, Rekey}
 use Rattle.meter_slots.specs.declared.entry.Outcome.{Outcome}
-use Rattle.meter_slots.specs.declared.entry.Outcome.TheVariants.{Stored, PartKept, Ticked, Queued, Cancelled, Refused}
+use Rattle.meter_slots.specs.declared.entry.Outcome.TheVariants.{Stored, PartKept, Ticked, Queued, Cancelled, Rekeyed, Refused}
 use Rattle.meter_slots.specs.Hearing.{received, brought}
-use Rattle.meter_slots.specs.Journal.{Standing, standing, told, opened_in, compared, genuine_in, genuine, counters, greater, greatest, last_among, last_counter, stored_or_refused, judged, verdict, access_at, orders_heard, orders_after, orders, heard, queued, cancelled, answer, outcome, IsJudged, Legal, stored_in, stored, reading_at, reading_of, readings, stored_counter}
+use Rattle.meter_slots.specs.Journal.{Standing, standing, stored_counter, told, other_given, other_after, other_key, rekeyed, opened_in, compared, genuine_in, genuine, counters, greater, greatest, last_among, last_counter}
+use Rattle.meter_slots.specs.Journal.{stored_or_refused, judged, verdict, access_at, orders_heard, orders_after, orders, heard, queued, cancelled, key_answer, answer, outcome, IsJudged, Legal}
+use Rattle.meter_slots.specs.Journal.{stored_in, stored, reading_at, reading_of, readings}
 use Rattle.meter_slots.specs.Keeping.{stored_by, last_after}
 use Rattle.meter_slots.specs.World.{Call, judged_journal, journal_of}
 use Rattle.meter_slots.specs.Laws.{stored_counters, IsAbove, last_or, last_stored, IsRising, AreBelow, IsRefused, IsLeft, call_in}
@@ -122,16 +124,21 @@ pub cancelled_stored : (id : ℕ) (r : Result Command NoSuch) → stored_counter
 cancelled_stored id (Ok command) = refl
 cancelled_stored id (Err missing) = refl
 
+pub key_stored : (mode : Mode) → stored_counter (key_answer mode) ≡ None
+key_stored Five = refl
+key_stored Seven = refl
+
 none_stored : (n : ℕ) (last o : Option ℕ) → o ≡ None → (o ≡ Some n) ↔ ((None ≡ Some n) × IsAbove n last)
 none_stored n last o h = (λ s. cc, λ p. cc (p.0))
 
 answer_stored : (c : Commissioned) (own : Address) (n : ℕ) (earlier : List Entry) (event : Event) → c.mode ≡ Seven
     → (stored_counter (answer c own (standing c earlier) event) ≡ Some n) ↔ ((counter (genuine c earlier event) ≡ Some n) × IsAbove n (last_counter c earlier))
 answer_stored c own n earlier (Hear format at t) m =
-    rw heard_stored (judged_stored c m n (last_counter c earlier) (brought (told c earlier) t (received c.mode t)))
+    rw heard_stored (judged_stored (rekeyed c (other_key c earlier)) m n (last_counter c earlier) (brought (told c earlier) t (received c.mode t)))
 answer_stored c own n earlier Tick m = none_stored n (last_counter c earlier) None refl
 answer_stored c own n earlier (Put payload) m = none_stored n (last_counter c earlier) _ (queued_stored (put_answer (orders c earlier).queue))
 answer_stored c own n earlier (Cancel id) m = none_stored n (last_counter c earlier) _ (cancelled_stored id (take_answer id (orders c earlier).queue))
+answer_stored c own n earlier (Rekey key) m = none_stored n (last_counter c earlier) _ (key_stored c.mode)
 
 last_seven : (c : Commissioned) (earlier : List Entry) → c.mode ≡ Seven → last_counter c earlier ≡ greatest (counters c earlier ++ option_to_list c.last)
 unfolding last_counter
@@ -172,6 +179,7 @@ stored_last last PartKept n h = cc
 stored_last last (Ticked expired) n h = cc
 stored_last last (Queued id) n h = cc
 stored_last last (Cancelled id) n h = cc
+stored_last last Rekeyed n h = cc
 stored_last last (Refused reason) n h = cc
 
 kept_last : (last : Option ℕ) (o : Outcome) → stored_counter o ≡ None → last_after last o ≡ last
@@ -180,6 +188,7 @@ kept_last last PartKept h = refl
 kept_last last (Ticked expired) h = refl
 kept_last last (Queued id) h = refl
 kept_last last (Cancelled id) h = refl
+kept_last last Rekeyed h = refl
 kept_last last (Refused reason) h = refl
 
 rises_step : (c : Commissioned) (own : Address) (x : Entry) (earlier : List Entry) (ns : List ℕ) (s : Option ℕ) → c.mode ≡ Seven → IsJudged c own (x ∷ earlier)
@@ -238,11 +247,13 @@ opened_seven Five c m h = cc
 opened_seven Seven c m h = refl
 
 pub genuine_by_mac : (c : Commissioned) (earlier : List Entry) (format : Format) (at : ℕ) (t : List ℕ) (m : Message) (f : Found) → c.mode ≡ Seven
-    → brought (told c earlier) t (received c.mode t) ≡ Ok (Some m) → IsBytes m.bytes → (genuine c earlier (Hear format at t) ≡ Some f) ↔ Genuine7 c m.auth m.bytes f
+    → brought (told c earlier) t (received c.mode t) ≡ Ok (Some m) → IsBytes m.bytes
+    → (genuine c earlier (Hear format at t) ≡ Some f) ↔ Genuine7 (rekeyed c (other_key c earlier)) m.auth m.bytes f
 genuine_by_mac c earlier format at t m f h b bytes =
-    let is : genuine c earlier (Hear format at t) ≡ result_ok (opened7 c m.auth m.bytes) = ap (genuine_in c) b ∙ ap result_ok (opened_seven c.mode c m h) in
-    subst (λ (o : Option Found). (o ≡ Some f) ↔ Genuine7 c m.auth m.bytes f) (sym is)
-      (both_ways (result_there (opened7 c m.auth m.bytes) f) (genuine_are_opened c m.auth m.bytes f bytes))
+    let k = rekeyed c (other_key c earlier) in
+    let is : genuine c earlier (Hear format at t) ≡ result_ok (opened7 k m.auth m.bytes) = ap (genuine_in k) b ∙ ap result_ok (opened_seven c.mode k m h) in
+    subst (λ (o : Option Found). (o ≡ Some f) ↔ Genuine7 k m.auth m.bytes f) (sym is)
+      (both_ways (result_there (opened7 k m.auth m.bytes) f) (genuine_are_opened k m.auth m.bytes f bytes))
 
 -- ---- a refusal leaves all as it was
 
@@ -253,6 +264,7 @@ refused_last last PartKept r = absurd r
 refused_last last (Ticked expired) r = absurd r
 refused_last last (Queued id) r = absurd r
 refused_last last (Cancelled id) r = absurd r
+refused_last last Rekeyed r = absurd r
 
 refused_verdict : (own : Address) (c : Commissioned) (k : Orders) (access : Access) (response : Bool) (at : ℕ) (v : Result (Option Found) Reason)
     → IsRefused (heard own c k access response v) → reading_at at (stored_in v) ≡ []
@@ -260,11 +272,12 @@ refused_verdict own c k access response at (Err reason) r = refl
 refused_verdict own c k access response at (Ok None) r = absurd r
 refused_verdict own c k access response at (Ok (Some f)) r = absurd r
 
-refused_reading : (c : Commissioned) (own : Address) (s : Standing) (event : Event) → IsRefused (answer c own s event) → reading_of event (stored c s.last s.told event) ≡ []
-refused_reading c own s (Hear format at t) r = refused_verdict own c s.orders _ _ at (verdict c s.last s.told t) r
+refused_reading : (c : Commissioned) (own : Address) (s : Standing) (event : Event) → IsRefused (answer c own s event) → reading_of event (stored c s event) ≡ []
+refused_reading c own s (Hear format at t) r = refused_verdict own c s.orders _ _ at (verdict c s t) r
 refused_reading c own s Tick r = refl
 refused_reading c own s (Put payload) r = refl
 refused_reading c own s (Cancel id) r = refl
+refused_reading c own s (Rekey key) r = refl
 
 heard_refused : (k : Orders) (access : Access) (response : Bool) (o : Outcome) → IsRefused o → orders_heard k access response o ≡ k
 heard_refused k access response (Refused reason) r = refl
@@ -273,6 +286,7 @@ heard_refused k access response PartKept r = absurd r
 heard_refused k access response (Ticked expired) r = absurd r
 heard_refused k access response (Queued id) r = absurd r
 heard_refused k access response (Cancelled id) r = absurd r
+heard_refused k access response Rekeyed r = absurd r
 
 put_refused : (k : Orders) (payload : List ℕ) (r : Result ℕ QueueFault) → IsRefused (queued r) → record k { queue = with_command_by k.queue payload r } ≡ k
 put_refused k payload (Ok id) r = absurd r
@@ -288,6 +302,26 @@ answer_refused c own s access (Hear format at t) o e r = heard_refused s.orders 
 answer_refused c own s access Tick o e r = absurd (subst IsRefused e r)
 answer_refused c own s access (Put payload) o e r = put_refused s.orders payload (put_answer s.orders.queue) (subst IsRefused e r)
 answer_refused c own s access (Cancel id) o e r = cancel_leaves s.orders id (take_answer id s.orders.queue) refl (subst IsRefused e r)
+answer_refused c own s access (Rekey key) o e r = refl
+
+key_refused : (mode : Mode) (key : List ℕ) (other : Option (List ℕ)) → IsRefused (key_answer mode) → other_given mode key other ≡ other
+key_refused Five key other r = refl
+key_refused Seven key other r = absurd r
+
+answer_leaves_key : (c : Commissioned) (own : Address) (s : Standing) (event : Event) (other : Option (List ℕ)) → IsRefused (answer c own s event) → other_after c.mode event other ≡ other
+answer_leaves_key c own s (Hear format at t) other r = refl
+answer_leaves_key c own s Tick other r = refl
+answer_leaves_key c own s (Put payload) other r = refl
+answer_leaves_key c own s (Cancel id) other r = refl
+answer_leaves_key c own s (Rekey key) other r = key_refused c.mode key other r
+
+left_other : (c : Commissioned) (own : Address) (journal : List Entry) (x : Entry) → Legal c own (journal ++ x ∷ []) → IsRefused x.outcome
+    → other_key c (reverse (journal ++ x ∷ [])) ≡ other_key c (reverse journal)
+unfolding outcome
+left_other c own journal x j r =
+    let earlier = reverse journal in
+    let h = subst (IsJudged c own) (back journal x) j in
+    ap (other_key c) (back journal x) ∙ answer_leaves_key c own (standing c earlier) x.event (other_key c earlier) (subst IsRefused h.0 r)
 
 left_last : (c : Commissioned) (own : Address) (journal : List Entry) (x : Entry) → Legal c own (journal ++ x ∷ []) → IsRefused x.outcome
     → last_counter c (reverse (journal ++ x ∷ [])) ≡ last_counter c (reverse journal)
@@ -302,7 +336,7 @@ unfolding outcome
 left_orders c own journal x j r =
     let earlier = reverse journal in
     let h = subst (IsJudged c own) (back journal x) j in
-    ap (orders c) (back journal x) ∙ answer_refused c own (standing c earlier) (access_at c (last_counter c earlier) (told c earlier) x.event) x.event x.outcome h.0 r
+    ap (orders c) (back journal x) ∙ answer_refused c own (standing c earlier) (access_at c (standing c earlier) x.event) x.event x.outcome h.0 r
 
 left_readings : (c : Commissioned) (own : Address) (journal : List Entry) (x : Entry) → Legal c own (journal ++ x ∷ []) → IsRefused x.outcome
     → readings c (journal ++ x ∷ []) ≡ readings c journal
@@ -315,6 +349,7 @@ left_readings c own journal x j r =
 pub refused_left : (c : Commissioned) (own : Address) (journal : List Entry) (x : Entry) → Legal c own (journal ++ x ∷ []) → IsRefused x.outcome
     → IsLeft (record { own = own; commission = c; journal = journal }) (record { own = own; commission = c; journal = journal ++ x ∷ [] })
 refused_left c own journal x j r = record {
+  other = left_other c own journal x j r;
   last = left_last c own journal x j r;
   orders = left_orders c own journal x j r;
   readings = left_readings c own journal x j r;

@@ -1,10 +1,11 @@
 -- What one more entry changes.
-use Rattle.std.proofs.Common.{◌≡◌, ℕ, ◌≤◌, max, Bool, true, false, cond, nat_lt, ◌==◌, List, [], ◌∷◌, ◌++◌, reverse, Option, Some, None, Result, Ok, Err, refl, ap, sym, ◌∙◌, arith}
-use Rattle.std.specs.Prelude.{option_to_list, option_map}
+use Rattle.std.proofs.Common.{◌≡◌, ℕ, ◌≤◌, max, Bool, true, false, cond, nat_lt, ◌==◌, List, [], ◌∷◌, ◌++◌, reverse, Option, Some, None, Result, Ok, Err, refl, ap, sym, ◌∙◌, arith, subst}
+use Rattle.std.specs.Prelude.{option_to_list, option_map, slice_index}
 use Rattle.std.specs.Option.{ForSome}
 use Rattle.std.specs.Result.{result_ok}
 use Rattle.std.proofs.lemmas.Bool.Decides.{nat_tests}
 use Rattle.std.proofs.lemmas.List.{reverse-append}
+use Rattle.std.proofs.lemmas.List.Elements.{All-nil, All-push}
 use Rattle.meter_address.specs.declared.address.Address.{Address}
 use Rattle.meter_address.specs.declared.commission.Mode.{Mode}
 use Rattle.meter_address.specs.declared.commission.Mode.TheVariants.{Five, Seven}
@@ -15,9 +16,8 @@ use Rattle.command_queue.specs.declared.command.NoSuch.{NoSuch}
 use Rattle.command_queue.specs.declared.command.QueueFault.{QueueFault}
 use Rattle.command_queue.specs.declared.command.QueueFault.TheVariants.{Full, IdsSpent}
 use Rattle.command_queue.specs.Pending.{put_answer, take_answer}
-use Rattle.access_window.specs.Orders.{Orders}
+use Rattle.access_window.specs.Orders.{Orders, confirmed, sent_at, after_stored}
 use Rattle.access_window.specs.Moves.{fresh_orders}
-use Rattle.afl_fragments.specs.declared.places.HeldPart.{HeldPart}
 use Rattle.afl_fragments.specs.Held.{Told, Message, StandsFor}
 use Rattle.message_check.specs.Steps.{◌>>=◌}
 use Rattle.message_check.specs.Opening.{Found, Passed, compared5, compared7}
@@ -25,13 +25,17 @@ use Rattle.message_check.specs.declared.refusal.Reason.{Reason}
 use Rattle.message_check.specs.declared.refusal.Reason.TheVariants.{Stale, SameAccess}
 use Rattle.meter_slots.specs.declared.entry.Entry.{Entry}
 use Rattle.meter_slots.specs.declared.entry.Event.{Event}
-use Rattle.meter_slots.specs.declared.entry.Event.TheVariants.{Hear, Tick, Put, Cancel}
+use Rattle.meter_slots.specs.declared.entry.Event.TheVariants.{Hear, Tick, Put, Cancel, Rekey}
 use Rattle.meter_slots.specs.declared.entry.Outcome.{Outcome}
-use Rattle.meter_slots.specs.declared.entry.Outcome.TheVariants.{Stored, PartKept, Ticked, Queued, Cancelled, Refused}
+use Rattle.meter_slots.specs.declared.entry.Outcome.TheVariants.{Stored, PartKept, Ticked, Queued, Cancelled, Rekeyed, Refused}
 use Rattle.meter_slots.specs.declared.reading.Reading.{Reading}
-use Rattle.meter_slots.specs.Hearing.{received, brought}
-use Rattle.meter_slots.specs.Journal.{told, told_by, opened_in, compared, genuine_in, genuine, counters, greater, greatest, last_among, last_counter, Standing, standing, stored_or_refused, judged, verdict, access_at, orders_after, orders, heard, queued, cancelled, answer, outcome, stored, reading_of, readings_back, readings}
-use Rattle.meter_slots.specs.Keeping.{Keeps, last_after, FitsMode}
+use Rattle.downlink_maker.specs.Downlink.{encrypted_content, message_bytes, mac_of, telegram_to, downlink}
+use Rattle.meter_slots.specs.Hearing.{is_response, received, brought}
+use Rattle.meter_slots.specs.Journal.{told, told_by, other_after, other_key, rekeyed, opened_in, compared, genuine_in, genuine, counters, greater, greatest, last_among, last_counter}
+use Rattle.meter_slots.specs.Journal.{Standing, standing, stored_or_refused, judged, verdict, access_at, orders_after, orders, downlink_with, heard, queued, cancelled, key_answer, answer, outcome}
+use Rattle.meter_slots.specs.Journal.{stored, reading_of, readings_back, readings}
+use Rattle.meter_slots.specs.Laws.{PutsPayload}
+use Rattle.meter_slots.specs.Keeping.{Kept, standing_for, Keeps, last_after, Moves, StoresInRange}
 
 -- ---- the last number
 
@@ -101,15 +105,20 @@ cancelled_last : (last : Option ℕ) (id : ℕ) (r : Result Command NoSuch) → 
 cancelled_last last id (Ok command) = refl
 cancelled_last last id (Err missing) = refl
 
+key_last : (last : Option ℕ) (mode : Mode) → last ≡ last_after last (key_answer mode)
+key_last last Five = refl
+key_last last Seven = refl
+
 answer_last : (c : Commissioned) (own : Address) (earlier : List Entry) (event : Event) → last_among c.mode ((counter_in (genuine c earlier event) ++ counters c earlier) ++ option_to_list c.last)
     ≡ last_after (last_counter c earlier) (answer c own (standing c earlier) event)
 unfolding last_counter
 answer_last c own earlier (Hear format at t) =
-    judged_last c (brought (told c earlier) t (received c.mode t)) (counters c earlier) (option_to_list c.last)
-    ∙ heard_last own c (orders c earlier) _ _ (last_counter c earlier) (verdict c (last_counter c earlier) (told c earlier) t)
+    judged_last (rekeyed c (other_key c earlier)) (brought (told c earlier) t (received c.mode t)) (counters c earlier) (option_to_list c.last)
+    ∙ heard_last own c (orders c earlier) _ _ (last_counter c earlier) (verdict c (standing c earlier) t)
 answer_last c own earlier Tick = refl
 answer_last c own earlier (Put payload) = queued_last (last_counter c earlier) (put_answer (orders c earlier).queue)
 answer_last c own earlier (Cancel id) = cancelled_last (last_counter c earlier) id (take_answer id (orders c earlier).queue)
+answer_last c own earlier (Rekey key) = key_last (last_counter c earlier) c.mode
 
 -- the last number after one more entry
 pub last_counter-cons : (c : Commissioned) (own : Address) (earlier : List Entry) (x : Entry) → x.outcome ≡ outcome c own earlier x.event
@@ -117,12 +126,13 @@ pub last_counter-cons : (c : Commissioned) (own : Address) (earlier : List Entry
 unfolding last_counter outcome
 last_counter-cons c own earlier x h = answer_last c own earlier x.event ∙ ap (last_after (last_counter c earlier)) (sym h)
 
-pub last_after_fits : (mode : Mode) (last : Option ℕ) (o : Outcome) → ForSome last (λ n. n ≤ most_last mode) → FitsMode mode o → ForSome (last_after last o) (λ n. n ≤ most_last mode)
+pub last_after_fits : (mode : Mode) (last : Option ℕ) (o : Outcome) → ForSome last (λ n. n ≤ most_last mode) → StoresInRange mode o → ForSome (last_after last o) (λ n. n ≤ most_last mode)
 last_after_fits mode last (Stored counter confirmed sent) h f = λ n e. let same : counter ≡ n = cc e in rw (sym same) f
 last_after_fits mode last PartKept h f = h
 last_after_fits mode last (Ticked expired) h f = h
 last_after_fits mode last (Queued id) h f = h
 last_after_fits mode last (Cancelled id) h f = h
+last_after_fits mode last Rekeyed h f = h
 last_after_fits mode last (Refused reason) h f = h
 
 -- ---- a journal and one more entry
@@ -135,7 +145,7 @@ told-cons : (c : Commissioned) (earlier : List Entry) (x : Entry) → told c (x 
 unfolding told
 told-cons c earlier x = refl
 
-pub readings-append : (c : Commissioned) (journal : List Entry) (x : Entry) → readings c (journal ++ x ∷ []) ≡ readings c journal ++ reading_of x.event (stored c (last_counter c (reverse journal)) (told c (reverse journal)) x.event)
+pub readings-append : (c : Commissioned) (journal : List Entry) (x : Entry) → readings c (journal ++ x ∷ []) ≡ readings c journal ++ reading_of x.event (stored c (standing c (reverse journal)) x.event)
 unfolding readings
 readings-append c journal x = ap (readings_back c) (back journal x)
 
@@ -145,50 +155,106 @@ floor_last Five (Some n) = refl
 floor_last Seven None = refl
 floor_last Seven (Some n) = refl
 
+-- ---- a downlink is under the first key
+
+downlink_rekeyed : (own : Address) (c : Commissioned) (other : Option (List ℕ)) (down : ℕ) (payload : List ℕ)
+    → downlink own (rekeyed c other) down payload ≡ downlink own c down payload
+unfolding telegram_to message_bytes encrypted_content mac_of
+downlink_rekeyed own c other down payload = refl
+
+sent_rekeyed : (own : Address) (c : Commissioned) (other : Option (List ℕ)) (down : ℕ) (command : Option Command)
+    → option_map (downlink_with own (rekeyed c other) down) command ≡ option_map (downlink_with own c down) command
+sent_rekeyed own c other down None = refl
+sent_rekeyed own c other down (Some command) =
+    ap (λ bytes. Some (record { bytes = bytes; id = command.id; down = down })) (downlink_rekeyed own c other down command.payload)
+
+heard_rekeyed : (own : Address) (c : Commissioned) (other : Option (List ℕ)) (k : Orders) (access : Access) (response : Bool) (v : Result (Option Found) Reason)
+    → heard own (rekeyed c other) k access response v ≡ heard own c k access response v
+heard_rekeyed own c other k access response (Err reason) = refl
+heard_rekeyed own c other k access response (Ok None) = refl
+heard_rekeyed own c other k access response (Ok (Some f)) =
+    ap (λ sent. Stored f.counter (confirmed k response) sent)
+    (sent_rekeyed own c other (after_stored k access response).down (sent_at k access response))
+
+-- the commission with the second key as it is now gives the same answer
+answer_rekeyed : (c : Commissioned) (own : Address) (s : Standing) (event : Event) → answer (rekeyed c s.other) own s event ≡ answer c own s event
+answer_rekeyed c own s (Hear format at t) = heard_rekeyed own c s.other s.orders (access_at c s (Hear format at t)) (is_response (slice_index t 1)) (verdict c s t)
+answer_rekeyed c own s Tick = refl
+answer_rekeyed c own s (Put payload) = refl
+answer_rekeyed c own s (Cancel id) = refl
+answer_rekeyed c own s (Rekey key) = refl
+
 -- ---- what is kept
 
-pub empty_kept : (c : Commissioned) (own : Address) (parts : List HeldPart) → ForSome c.last (λ n. n ≤ most_last c.mode) → StandsFor parts [] → Keeps c own [] c.last parts (fresh_orders c.ids c.down) []
-unfolding last_counter readings told
-empty_kept c own parts fits h = record { legal = tt; last_is = floor_last c.mode c.last; last_fits = fits; parts_are = h; commands_are = refl; kept_is = refl }
+abbrev pub PutsIn : Entry → Type 0
+PutsIn x = PutsPayload x.event
 
--- what is kept is what the entries come to
-kept_standing : (c : Commissioned) (own : Address) (journal : List Entry) (last : Option ℕ) (parts : List HeldPart) (commands : Orders) (kept : List Reading)
-    → Keeps c own journal last parts commands kept → record { last = last; told = told c (reverse journal); orders = commands } ≡ standing c (reverse journal)
-kept_standing c own journal last parts commands kept k =
+pub empty_kept : (c : Commissioned) (own : Address) (k : Kept) → k.commission ≡ c → k.last ≡ c.last → ForSome c.last (λ n. n ≤ most_last c.mode)
+    → StandsFor k.parts [] → k.orders ≡ fresh_orders c.ids c.down → Keeps c own [] k []
+unfolding last_counter readings told
+empty_kept c own k same last fits parts commands = record {
+  legal = tt;
+  payloads = All-nil PutsIn;
+  commission_is = same;
+  last_is = last ∙ floor_last c.mode c.last;
+  last_fits = subst (λ (o : Option ℕ). ForSome o (λ n. n ≤ most_last c.mode)) (sym last) fits;
+  parts_are = parts;
+  orders_are = commands;
+  readings_are = refl;
+}
+
+-- what is kept stands for what the entries come to
+kept_standing : (c : Commissioned) (own : Address) (journal : List Entry) (k : Kept) (kept : List Reading)
+    → Keeps c own journal k kept → standing_for k (told c (reverse journal)) ≡ standing c (reverse journal)
+kept_standing c own journal k kept h =
     let earlier = reverse journal in
-    ap (λ l. record { last = l; told = told c earlier; orders = commands }) k.last_is
-    ∙ ap (λ o. record { last = last_counter c earlier; told = told c earlier; orders = o }) k.commands_are
+    ap (λ (m : Commissioned). record { other = m.other; last = k.last; told = told c earlier; orders = k.orders }) h.commission_is
+    ∙ ap (λ l. record { other = other_key c earlier; last = l; told = told c earlier; orders = k.orders }) h.last_is
+    ∙ ap (λ o. record { other = other_key c earlier; last = last_counter c earlier; told = told c earlier; orders = o }) h.orders_are
 
 -- what the kept state answers is what the journal answers
-pub answer_kept : (c : Commissioned) (own : Address) (journal : List Entry) (last : Option ℕ) (parts : List HeldPart) (commands : Orders) (kept : List Reading) (event : Event) (given : Outcome)
-    → Keeps c own journal last parts commands kept
-    → ((t : List Told) → StandsFor parts t → given ≡ answer c own (record { last = last; told = t; orders = commands }) event)
+pub answer_kept : (c : Commissioned) (own : Address) (journal : List Entry) (k : Kept) (kept : List Reading) (event : Event) (given : Outcome)
+    → Keeps c own journal k kept
+    → ((t : List Told) → StandsFor k.parts t → given ≡ answer k.commission own (standing_for k t) event)
     → given ≡ outcome c own (reverse journal) event
 unfolding outcome
-answer_kept c own journal last parts commands kept event given k answered =
-    answered (told c (reverse journal)) k.parts_are ∙ ap (λ (s : Standing). answer c own s event) (kept_standing c own journal last parts commands kept k)
+answer_kept c own journal k kept event given h answered =
+    let earlier = reverse journal in
+    answered (told c earlier) h.parts_are
+    ∙ ap (λ (m : Commissioned). answer m own (standing_for k (told c earlier)) event) h.commission_is
+    ∙ ap (λ (s : Standing). answer (rekeyed c (other_key c earlier)) own s event) (kept_standing c own journal k kept h)
+    ∙ answer_rekeyed c own (standing c earlier) event
 
 -- what is kept after one more entry
-pub kept_after : (c : Commissioned) (own : Address) (journal : List Entry) (last : Option ℕ) (parts : List HeldPart) (commands : Orders) (kept : List Reading) (x : Entry) (found : Option Found) (parts' : List HeldPart) (commands' : Orders)
-    → Keeps c own journal last parts commands kept
+pub kept_after : (c : Commissioned) (own : Address) (journal : List Entry) (k : Kept) (kept : List Reading) (x : Entry) (k' : Kept) (new : List Reading)
+    → Keeps c own journal k kept
+    → PutsPayload x.event
     → x.outcome ≡ outcome c own (reverse journal) x.event
-    → FitsMode c.mode x.outcome
-    → ((t : List Told) → StandsFor parts t → found ≡ stored c last t x.event)
-    → ((t : List Told) → StandsFor parts t → StandsFor parts' (told_by c x.event x.outcome ++ t))
-    → ((t : List Told) → StandsFor parts t → commands' ≡ orders_after commands (access_at c last t x.event) x.event x.outcome)
-    → Keeps c own (journal ++ x ∷ []) (last_after last x.outcome) parts' commands' (kept ++ reading_of x.event found)
-kept_after c own journal last parts commands kept x found parts' commands' k h fits finds tells moves =
+    → StoresInRange k.commission.mode x.outcome
+    → ((t : List Told) → StandsFor k.parts t → new ≡ reading_of x.event (stored k.commission (standing_for k t) x.event))
+    → ((t : List Told) → StandsFor k.parts t → Moves k k' t x.event x.outcome)
+    → Keeps c own (journal ++ x ∷ []) k' (kept ++ new)
+kept_after c own journal k kept x k' new h puts judged fits reads moves =
     let earlier = reverse journal in
     let fragments = told c earlier in
+    let m = moves fragments h.parts_are in
+    let stands = kept_standing c own journal k kept h in
+    let in_mode = subst (λ (n : Commissioned). StoresInRange n.mode x.outcome) h.commission_is fits in
     record {
-      legal = rw (back journal x) (h, k.legal);
-      last_is = rw (back journal x, last_counter-cons c own earlier x h) (ap (λ l. last_after l x.outcome) k.last_is);
-      last_fits = last_after_fits c.mode last x.outcome k.last_fits fits;
-      parts_are = rw (back journal x, told-cons c earlier x) (tells fragments k.parts_are);
-      commands_are = rw (back journal x) (moves fragments k.parts_are
-          ∙ ap (λ o. orders_after o (access_at c last fragments x.event) x.event x.outcome) k.commands_are
-          ∙ ap (λ l. orders_after (orders c earlier) (access_at c l fragments x.event) x.event x.outcome) k.last_is);
-      kept_is = rw (readings-append c journal x) (ap (λ rs. rs ++ reading_of x.event found) k.kept_is
-          ∙ ap (λ f. readings c journal ++ reading_of x.event f) (finds fragments k.parts_are
-          ∙ ap (λ l. stored c l fragments x.event) k.last_is));
+      legal = rw (back journal x) (judged, h.legal);
+      payloads = All-push PutsIn journal x h.payloads puts;
+      commission_is = rw (back journal x) (m.commission
+          ∙ ap (λ (n : Commissioned). rekeyed n (other_after n.mode x.event n.other)) h.commission_is);
+      last_is = rw (back journal x, last_counter-cons c own earlier x judged) (m.last ∙ ap (λ l. last_after l x.outcome) h.last_is);
+      last_fits = subst (λ (o : Option ℕ). ForSome o (λ n. n ≤ most_last c.mode)) (sym m.last)
+          (last_after_fits c.mode k.last x.outcome h.last_fits in_mode);
+      parts_are = rw (back journal x, told-cons c earlier x)
+          (subst (λ (n : Commissioned). StandsFor k'.parts (told_by n x.event x.outcome ++ fragments)) h.commission_is m.parts);
+      orders_are = rw (back journal x) (m.orders
+          ∙ ap (λ (n : Commissioned). orders_after k.orders (access_at n (standing_for k fragments) x.event) x.event x.outcome) h.commission_is
+          ∙ ap (λ (s : Standing). orders_after s.orders (access_at c s x.event) x.event x.outcome) stands);
+      readings_are = rw (readings-append c journal x) (ap (λ rs. rs ++ new) h.readings_are
+          ∙ ap (λ rs. readings c journal ++ rs) (reads fragments h.parts_are
+          ∙ ap (λ (n : Commissioned). reading_of x.event (stored n (standing_for k fragments) x.event)) h.commission_is
+          ∙ ap (λ (s : Standing). reading_of x.event (stored c s x.event)) stands));
     }

@@ -1,6 +1,8 @@
 pub mod DownlinkLaws
 pub mod JournalLaws
 pub mod Journals
+pub mod KeyLaws
+pub mod PayloadLaws
 pub mod Pieces
 pub mod Places
 pub mod ReadingLaws

@@ -18,25 +18,25 @@ use Rattle.message_check.specs.Opening.{Found, Passed, access_number_passed, cou
 use Rattle.message_check.specs.declared.refusal.Reason.{Reason}
 use Rattle.meter_slots.specs.declared.entry.Entry.{Entry}
 use Rattle.meter_slots.specs.declared.entry.Event.{Event}
-use Rattle.meter_slots.specs.declared.entry.Event.TheVariants.{Hear, Tick, Put, Cancel}
-use Rattle.meter_slots.specs.declared.entry.Format.{Format}
+use Rattle.meter_slots.specs.declared.entry.Event.TheVariants.{Hear, Tick, Put, Cancel, Rekey}
+use Rattle.frame_formats.specs.declared.format.Format.{Format}
 use Rattle.meter_slots.specs.declared.entry.Outcome.{Outcome}
-use Rattle.meter_slots.specs.declared.entry.Outcome.TheVariants.{Stored, PartKept, Ticked, Queued, Cancelled, Refused}
+use Rattle.meter_slots.specs.declared.entry.Outcome.TheVariants.{Stored, PartKept, Ticked, Queued, Cancelled, Rekeyed, Refused}
 use Rattle.meter_slots.specs.declared.reading.Reading.{Reading}
 use Rattle.meter_slots.specs.Hearing.{received, brought}
-use Rattle.meter_slots.specs.Journal.{Standing, standing, told, opened_in, compared, genuine_in, genuine, stored_or_refused, judged, orders, last_counter, verdict, heard, answer, outcome, IsJudged, Legal, stored_in, stored, reading_at, reading_of, readings_back, readings, stored_counter}
+use Rattle.meter_slots.specs.Journal.{Standing, standing, told, other_key, rekeyed, opened_in, compared, genuine_in, genuine, stored_or_refused, judged, orders, last_counter, verdict, heard, answer, outcome, IsJudged, Legal, stored_in, stored, reading_at, reading_of, readings_back, readings, stored_counter}
 use Rattle.meter_slots.specs.Laws.{stored_counters, moment_read, stored_moment, stored_moments, reading_added}
 use Rattle.meter_slots.proofs.Journals.{back, found_where, readings-append}
-use Rattle.meter_slots.proofs.JournalLaws.{front_back, queued_stored, cancelled_stored}
+use Rattle.meter_slots.proofs.JournalLaws.{front_back, queued_stored, cancelled_stored, key_stored}
 
 -- what a fact says of one entry it says of all
 each_stored : {X : Type 0} (f : Reading → X) (g : Entry → Option X) (c : Commissioned) (own : Address)
-    → ((x : Entry) (earlier : List Entry) → IsJudged c own (x ∷ earlier) → map f (reading_of x.event (stored c (last_counter c earlier) (told c earlier) x.event)) ≡ cons_option (g x) [])
+    → ((x : Entry) (earlier : List Entry) → IsJudged c own (x ∷ earlier) → map f (reading_of x.event (stored c (standing c earlier) x.event)) ≡ cons_option (g x) [])
     → (earlier : List Entry) → IsJudged c own earlier → map f (readings_back c earlier) ≡ filter_map g (reverse earlier)
 each_stored f g c own one [] j = refl
 each_stored f g c own one (x ∷ earlier) j =
-    map-append f (readings_back c earlier) (reading_of x.event (stored c (last_counter c earlier) (told c earlier) x.event))
-    ∙ ap (λ xs. xs ++ map f (reading_of x.event (stored c (last_counter c earlier) (told c earlier) x.event))) (each_stored f g c own one earlier j.1)
+    map-append f (readings_back c earlier) (reading_of x.event (stored c (standing c earlier) x.event))
+    ∙ ap (λ xs. xs ++ map f (reading_of x.event (stored c (standing c earlier) x.event))) (each_stored f g c own one earlier j.1)
     ∙ ap (λ xs. filter_map g (reverse earlier) ++ xs) (one x earlier j)
     ∙ sym (ap (filter_map g) (front_back x earlier) ∙ filter_map-append g (reverse earlier) (x ∷ []))
 
@@ -53,14 +53,15 @@ none_of None h = refl
 none_of (Some n) h = cc
 
 answer_counter : (c : Commissioned) (own : Address) (s : Standing) (event : Event)
-    → map (λ (r : Reading). r.counter) (reading_of event (stored c s.last s.told event)) ≡ cons_option (stored_counter (answer c own s event)) []
-answer_counter c own s (Hear format at t) = heard_counter own c s.orders _ _ at (verdict c s.last s.told t)
+    → map (λ (r : Reading). r.counter) (reading_of event (stored c s event)) ≡ cons_option (stored_counter (answer c own s event)) []
+answer_counter c own s (Hear format at t) = heard_counter own c s.orders _ _ at (verdict c s t)
 answer_counter c own s Tick = refl
 answer_counter c own s (Put payload) = none_of _ (queued_stored (put_answer s.orders.queue))
 answer_counter c own s (Cancel id) = none_of _ (cancelled_stored id (take_answer id s.orders.queue))
+answer_counter c own s (Rekey key) = none_of _ (key_stored c.mode)
 
 entry_counter : (c : Commissioned) (own : Address) (x : Entry) (earlier : List Entry) → IsJudged c own (x ∷ earlier)
-    → map (λ (r : Reading). r.counter) (reading_of x.event (stored c (last_counter c earlier) (told c earlier) x.event)) ≡ cons_option (stored_counter x.outcome) []
+    → map (λ (r : Reading). r.counter) (reading_of x.event (stored c (standing c earlier) x.event)) ≡ cons_option (stored_counter x.outcome) []
 unfolding outcome
 entry_counter c own x earlier j = answer_counter c own (standing c earlier) x.event ∙ ap (λ o. cons_option (stored_counter o) []) (sym j.0)
 
@@ -79,14 +80,15 @@ heard_moment own c k access response format at t (Ok None) = refl
 heard_moment own c k access response format at t (Ok (Some f)) = refl
 
 answer_moment : (c : Commissioned) (own : Address) (s : Standing) (event : Event)
-    → map moment_read (reading_of event (stored c s.last s.told event)) ≡ cons_option (stored_moment event (answer c own s event)) []
-answer_moment c own s (Hear format at t) = heard_moment own c s.orders _ _ format at t (verdict c s.last s.told t)
+    → map moment_read (reading_of event (stored c s event)) ≡ cons_option (stored_moment event (answer c own s event)) []
+answer_moment c own s (Hear format at t) = heard_moment own c s.orders _ _ format at t (verdict c s t)
 answer_moment c own s Tick = refl
 answer_moment c own s (Put payload) = refl
 answer_moment c own s (Cancel id) = refl
+answer_moment c own s (Rekey key) = refl
 
 entry_moment : (c : Commissioned) (own : Address) (x : Entry) (earlier : List Entry) → IsJudged c own (x ∷ earlier)
-    → map moment_read (reading_of x.event (stored c (last_counter c earlier) (told c earlier) x.event)) ≡ cons_option (stored_moment x.event x.outcome) []
+    → map moment_read (reading_of x.event (stored c (standing c earlier) x.event)) ≡ cons_option (stored_moment x.event x.outcome) []
 unfolding outcome
 entry_moment c own x earlier j = answer_moment c own (standing c earlier) x.event ∙ ap (λ o. cons_option (stored_moment x.event o) []) (sym j.0)
 
@@ -123,6 +125,7 @@ none_read (Hear format at t) = refl
 none_read Tick = refl
 none_read (Put payload) = refl
 none_read (Cancel id) = refl
+none_read (Rekey key) = refl
 
 heard_added : (own : Address) (c : Commissioned) (k : Orders) (access : Access) (response : Bool) (event : Event) (found : Option Found) (v : Result (Option Found) Reason)
     → ((f : Found) → v ≡ Ok (Some f) → found ≡ Some f)
@@ -137,16 +140,18 @@ none_added event found PartKept h = refl
 none_added event found (Ticked expired) h = refl
 none_added event found (Queued id) h = refl
 none_added event found (Cancelled id) h = refl
+none_added event found Rekeyed h = refl
 none_added event found (Refused reason) h = refl
 
 answer_added : (c : Commissioned) (own : Address) (earlier : List Entry) (event : Event)
-    → reading_of event (stored c (last_counter c earlier) (told c earlier) event) ≡ reading_added (answer c own (standing c earlier) event) event (genuine c earlier event)
+    → reading_of event (stored c (standing c earlier) event) ≡ reading_added (answer c own (standing c earlier) event) event (genuine c earlier event)
 answer_added c own earlier (Hear format at t) =
-    heard_added own c (orders c earlier) _ _ (Hear format at t) (genuine c earlier (Hear format at t)) (verdict c (last_counter c earlier) (told c earlier) t)
-    (judged_found c (last_counter c earlier) (brought (told c earlier) t (received c.mode t)))
+    heard_added own c (orders c earlier) _ _ (Hear format at t) (genuine c earlier (Hear format at t)) (verdict c (standing c earlier) t)
+    (judged_found (rekeyed c (other_key c earlier)) (last_counter c earlier) (brought (told c earlier) t (received c.mode t)))
 answer_added c own earlier Tick = refl
 answer_added c own earlier (Put payload) = none_added (Put payload) None _ refl
 answer_added c own earlier (Cancel id) = none_added (Cancel id) None _ refl
+answer_added c own earlier (Rekey key) = none_added (Rekey key) None _ refl
 
 -- the readings after one more entry
 pub added_read : (c : Commissioned) (own : Address) (journal : List Entry) (x : Entry) → Legal c own (journal ++ x ∷ [])

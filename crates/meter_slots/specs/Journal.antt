@@ -22,13 +22,13 @@ use Rattle.message_check.specs.Steps.{◌>>=◌}
 use Rattle.message_check.specs.Opening.{Found, opened5, opened7, compared5, compared7}
 use Rattle.message_check.specs.declared.headers.Layers.{Layers}
 use Rattle.message_check.specs.declared.refusal.Reason.{Reason}
-use Rattle.message_check.specs.declared.refusal.Reason.TheVariants.{QueueFull, IdsSpent, NoSuch}
+use Rattle.message_check.specs.declared.refusal.Reason.TheVariants.{QueueFull, IdsSpent, NoSuch, KeyInMode5}
 use Rattle.meter_slots.specs.Hearing.{Content, Whole, Part, content_behind, is_response, received, brought}
 use Rattle.meter_slots.specs.declared.entry.Entry.{Entry}
 use Rattle.meter_slots.specs.declared.entry.Event.{Event}
-use Rattle.meter_slots.specs.declared.entry.Event.TheVariants.{Hear, Tick, Put, Cancel}
+use Rattle.meter_slots.specs.declared.entry.Event.TheVariants.{Hear, Tick, Put, Cancel, Rekey}
 use Rattle.meter_slots.specs.declared.entry.Outcome.{Outcome}
-use Rattle.meter_slots.specs.declared.entry.Outcome.TheVariants.{Stored, PartKept, Ticked, Queued, Cancelled, Refused}
+use Rattle.meter_slots.specs.declared.entry.Outcome.TheVariants.{Stored, PartKept, Ticked, Queued, Cancelled, Rekeyed, Refused}
 use Rattle.downlink_maker.specs.Sent.{Sent}
 use Rattle.downlink_maker.specs.Downlink.{downlink}
 use Rattle.meter_slots.specs.declared.reading.Reading.{Reading}
@@ -60,9 +60,31 @@ told_by c (Hear format at t) outcome = told_by_received t (received c.mode t) (g
 told_by c Tick outcome = fragments.Tick ∷ []
 told_by c (Put payload) outcome = []
 told_by c (Cancel id) outcome = []
+told_by c (Rekey key) outcome = []
 
 unfoldable pub told : Commissioned → List Entry → List Told
 told c earlier = flat_map (λ x. told_by c x.event x.outcome) earlier
+
+-- ---- the second key
+
+-- a second key that comes: a meter of mode 7 takes it, and one of mode 5 has one key alone
+abbrev pub other_given : Mode → List ℕ → Option (List ℕ) → Option (List ℕ)
+other_given Five key other = other
+other_given Seven key other = Some key
+
+-- the second key after an event
+abbrev pub other_after : Mode → Event → Option (List ℕ) → Option (List ℕ)
+other_after mode (Rekey key) other = other_given mode key other
+other_after mode _ other = other
+
+-- the second key after some entries: that of the latest rekeying, or the commission's where there is none
+abbrev pub other_key : Commissioned → List Entry → Option (List ℕ)
+other_key c [] = c.other
+other_key c (x ∷ earlier) = other_after c.mode x.event (other_key c earlier)
+
+-- the commission with this second key: that with which a message is opened
+abbrev pub rekeyed : Commissioned → Option (List ℕ) → Commissioned
+rekeyed c other = record c { other = other }
 
 -- ---- messages and counters
 
@@ -80,9 +102,9 @@ abbrev pub genuine_in : Commissioned → Result (Option Message) Reason → Opti
 genuine_in c (Ok (Some m)) = result_ok (opened_in c.mode c m)
 genuine_in c _ = None
 
--- what a telegram's message says, where it brings one that is checked (mode 5) or genuine (mode 7)
+-- what a telegram's message says, where it brings one that is checked (mode 5) or genuine (mode 7), under the keys that there are then
 abbrev pub genuine : Commissioned → List Entry → Event → Option Found
-genuine c earlier (Hear format at t) = genuine_in c (brought (told c earlier) t (received c.mode t))
+genuine c earlier (Hear format at t) = genuine_in (rekeyed c (other_key c earlier)) (brought (told c earlier) t (received c.mode t))
 genuine c earlier _ = None
 
 -- the counters (mode 7) or access numbers (mode 5) of all genuine messages, stored or not
@@ -99,14 +121,14 @@ abbrev pub greatest : List ℕ → Option ℕ
 greatest [] = None
 greatest (n ∷ ns) = greater n (greatest ns)
 
--- the first of some numbers
-abbrev pub latest_of : List ℕ → Option ℕ
-latest_of [] = None
-latest_of (n ∷ ns) = Some n
+-- the latest of some numbers, of which the latest stands first
+abbrev pub latest : List ℕ → Option ℕ
+latest [] = None
+latest (n ∷ ns) = Some n
 
 -- the number with which the next is compared, of all so far, the latest first: in mode 7 the greatest, in mode 5 the latest
 abbrev pub last_among : Mode → List ℕ → Option ℕ
-last_among Five ns = latest_of ns
+last_among Five ns = latest ns
 last_among Seven ns = greatest ns
 
 -- the last number; the commissioned one stands before all others
@@ -114,6 +136,13 @@ unfoldable pub last_counter : Commissioned → List Entry → Option ℕ
 last_counter c earlier = last_among c.mode (counters c earlier ++ option_to_list c.last)
 
 -- ---- verdicts
+
+-- what some entries come to: the second key, the last number, what was told of fragments, and the commands
+pub record Standing : Type 0 where
+  pub other : Option (List ℕ)
+  pub last : Option ℕ
+  pub told : List Told
+  pub orders : Orders
 
 abbrev pub stored_or_refused : Result Found Reason → Result (Option Found) Reason
 stored_or_refused (Ok f) = Ok (Some f)
@@ -129,9 +158,9 @@ judged c last (Err reason) = Err reason
 judged c last (Ok None) = Ok None
 judged c last (Ok (Some m)) = stored_or_refused (judged_in c.mode c last m)
 
--- the same of a telegram, with the last number and what was told of fragments
-abbrev pub verdict : Commissioned → Option ℕ → List Told → List ℕ → Result (Option Found) Reason
-verdict c last told t = judged c last (brought told t (received c.mode t))
+-- the same of a telegram
+abbrev pub verdict : Commissioned → Standing → List ℕ → Result (Option Found) Reason
+verdict c s t = judged (rekeyed c s.other) s.last (brought s.told t (received c.mode t))
 
 -- ---- commands
 
@@ -145,9 +174,9 @@ abbrev pub access_of : Result Layers Reason → Result (Option Found) Reason →
 access_of (Ok l) (Ok (Some f)) = access_by l.ell f.access
 access_of _ _ = access.None
 
-abbrev pub access_at : Commissioned → Option ℕ → List Told → Event → Access
-access_at c last told (Hear format at t) = access_of (received c.mode t) (verdict c last told t)
-access_at c last told _ = access.None
+abbrev pub access_at : Commissioned → Standing → Event → Access
+access_at c s (Hear format at t) = access_of (received c.mode t) (verdict c s t)
+access_at c s _ = access.None
 
 -- a stored message moves the commands
 abbrev pub orders_heard : Orders → Access → Bool → Outcome → Orders
@@ -160,22 +189,22 @@ orders_after k access (Hear format at t) outcome = orders_heard k access (is_res
 orders_after k access Tick outcome = after_tick k
 orders_after k access (Put payload) outcome = after_put k payload
 orders_after k access (Cancel id) outcome = after_cancel k id
+orders_after k access (Rekey key) outcome = k
+
+-- what some entries come to, and these commands
+abbrev pub standing_with : Commissioned → List Entry → Orders → Standing
+standing_with c earlier k = record { other = other_key c earlier; last = last_counter c earlier; told = told c earlier; orders = k }
 
 -- the commands that wait, the window, and the last counter of a downlink
 abbrev pub orders : Commissioned → List Entry → Orders
 orders c [] = fresh_orders c.ids c.down
-orders c (x ∷ earlier) = orders_after (orders c earlier) (access_at c (last_counter c earlier) (told c earlier) x.event) x.event x.outcome
+orders c (x ∷ earlier) = let k = orders c earlier in orders_after k (access_at c (standing_with c earlier k) x.event) x.event x.outcome
+
+-- what some entries come to
+abbrev pub standing : Commissioned → List Entry → Standing
+standing c earlier = standing_with c earlier (orders c earlier)
 
 -- ---- outcomes
-
--- what some entries come to: the last number, what was told of fragments, and the commands
-pub record Standing : Type 0 where
-  pub last : Option ℕ
-  pub told : List Told
-  pub orders : Orders
-
-abbrev pub standing : Commissioned → List Entry → Standing
-standing c earlier = record { last = last_counter c earlier; told = told c earlier; orders = orders c earlier }
 
 -- the downlink of a command under this counter
 abbrev pub downlink_with : Address → Commissioned → ℕ → Command → Sent
@@ -197,12 +226,18 @@ abbrev pub cancelled : ℕ → Result Command Missing → Outcome
 cancelled id (Ok command) = Cancelled id
 cancelled id (Err missing) = Refused (NoSuch id)
 
+-- what a second key is answered
+abbrev pub key_answer : Mode → Outcome
+key_answer Five = Refused KeyInMode5
+key_answer Seven = Rekeyed
+
 -- what an event is answered
 abbrev pub answer : Commissioned → Address → Standing → Event → Outcome
-answer c own s (Hear format at t) = heard own c s.orders (access_at c s.last s.told (Hear format at t)) (is_response (slice_index t 1)) (verdict c s.last s.told t)
+answer c own s (Hear format at t) = heard own c s.orders (access_at c s (Hear format at t)) (is_response (slice_index t 1)) (verdict c s t)
 answer c own s Tick = Ticked (expired s.orders)
 answer c own s (Put payload) = queued (put_answer s.orders.queue)
 answer c own s (Cancel id) = cancelled id (take_answer id s.orders.queue)
+answer c own s (Rekey key) = key_answer c.mode
 
 -- what an event is answered after the earlier entries
 unfoldable pub outcome : Commissioned → Address → List Entry → Event → Outcome
@@ -224,9 +259,9 @@ stored_in (Ok found) = found
 stored_in (Err reason) = None
 
 -- what an event stores
-abbrev pub stored : Commissioned → Option ℕ → List Told → Event → Option Found
-stored c last told (Hear format at t) = stored_in (verdict c last told t)
-stored c last told _ = None
+abbrev pub stored : Commissioned → Standing → Event → Option Found
+stored c s (Hear format at t) = stored_in (verdict c s t)
+stored c s _ = None
 
 -- the reading of what is stored: its moment, its counter and its payload
 abbrev pub reading_at : ℕ → Option Found → List Reading
@@ -239,7 +274,7 @@ reading_of _ found = []
 
 abbrev pub readings_back : Commissioned → List Entry → List Reading
 readings_back c [] = []
-readings_back c (x ∷ earlier) = readings_back c earlier ++ reading_of x.event (stored c (last_counter c earlier) (told c earlier) x.event)
+readings_back c (x ∷ earlier) = readings_back c earlier ++ reading_of x.event (stored c (standing c earlier) x.event)
 
 -- the readings of a journal, the oldest first
 unfoldable pub readings : Commissioned → List Entry → List Reading

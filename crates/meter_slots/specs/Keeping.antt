@@ -1,5 +1,6 @@
 -- Words of private contracts: what a slot keeps beside its journal, and what its steps answer.
-use Rattle.std.specs.Prelude.{ℕ, ◌≡◌, ◌+◌, ◌≤◌, min, true, if◌then◌else◌, List, [], ◌∷◌, length, reverse, Option, Some, None, option_map, Result, Ok, Err}
+use Rattle.std.specs.Prelude.{ℕ, ◌≡◌, ◌+◌, ◌≤◌, min, true, if◌then◌else◌, List, ◌++◌, length, reverse, Option, Some, None, option_map, Result, Ok, Err}
+use Rattle.std.specs.List.{All}
 use Rattle.std.specs.Option.{ForSome}
 use Rattle.meter_address.specs.declared.address.Address.{Address}
 use Rattle.meter_address.specs.declared.commission.Mode.{Mode}
@@ -9,37 +10,64 @@ use Rattle.access_window.specs.Orders.{Orders}
 use Rattle.afl_fragments.specs.declared.places.HeldPart.{HeldPart}
 use Rattle.afl_fragments.specs.Fragment.{IsFragment}
 use Rattle.afl_layer.specs.Fields.{is_fragment}
-use Rattle.afl_fragments.specs.Held.{Told, StandsFor, held_bytes}
+use Rattle.afl_fragments.specs.Held.{Told, Message, StandsFor, held_bytes}
 use Rattle.message_check.specs.Layers.{has_piece}
 use Rattle.message_check.specs.Opening.{Found}
 use Rattle.message_check.specs.Opened.{found_in}
 use Rattle.message_check.specs.declared.headers.Layers.{Layers}
 use Rattle.message_check.specs.declared.opening.Opened.{Opened}
 use Rattle.message_check.specs.declared.refusal.Reason.{Reason}
-use Rattle.meter_slots.specs.Journal.{Legal, last_counter, told, orders, readings}
+use Rattle.meter_slots.specs.Journal.{Standing, Legal, other_after, other_key, rekeyed, last_counter, told_by, told, access_at, orders_after, orders, judged, readings}
+use Rattle.meter_slots.specs.Laws.{PutsPayload}
 use Rattle.meter_slots.specs.declared.entry.Entry.{Entry}
+use Rattle.meter_slots.specs.declared.entry.Event.{Event}
 use Rattle.meter_slots.specs.declared.entry.Outcome.{Outcome}
 use Rattle.meter_slots.specs.declared.entry.Outcome.TheVariants.{Stored}
 use Rattle.meter_slots.specs.declared.reading.Reading.{Reading}
 
+-- what a meter's messages are judged by: its commission with the second key that it has now, and the last number
+pub record Bar : Type 0 where
+  pub commission : Commissioned
+  pub last : Option ℕ
+
+-- what a slot keeps of what its entries come to: the same, the fragments that are held, and the commands
+pub record Kept : Type 0 where
+  pub commission : Commissioned
+  pub last : Option ℕ
+  pub parts : List HeldPart
+  pub orders : Orders
+
+-- what it stands for, where its fragments are those that are held after what was told
+abbrev pub standing_for : Kept → List Told → Standing
+standing_for k told = record { other = k.commission.other; last = k.last; told = told; orders = k.orders }
+
 -- what a slot keeps is what its journal comes to
-pub record Keeps (c : Commissioned) (own : Address) (journal : List Entry) (last : Option ℕ) (parts : List HeldPart) (commands : Orders) (kept : List Reading) : Type 0 where
+pub record Keeps (c : Commissioned) (own : Address) (journal : List Entry) (k : Kept) (kept : List Reading) : Type 0 where
   pub legal : Legal c own journal
-  pub last_is : last ≡ last_counter c (reverse journal)
-  pub last_fits : ForSome last (λ n. n ≤ most_last c.mode)
-  pub parts_are : StandsFor parts (told c (reverse journal))
-  pub commands_are : commands ≡ orders c (reverse journal)
-  pub kept_is : kept ≡ readings c journal
+  pub payloads : All (λ x. PutsPayload x.event) journal
+  pub commission_is : k.commission ≡ rekeyed c (other_key c (reverse journal))
+  pub last_is : k.last ≡ last_counter c (reverse journal)
+  pub last_fits : ForSome k.last (λ n. n ≤ most_last c.mode)
+  pub parts_are : StandsFor k.parts (told c (reverse journal))
+  pub orders_are : k.orders ≡ orders c (reverse journal)
+  pub readings_are : kept ≡ readings c journal
 
 -- the last number after an outcome
 abbrev pub last_after : Option ℕ → Outcome → Option ℕ
 last_after last (Stored counter confirmed sent) = Some counter
 last_after last _ = last
 
+-- what is kept after an event with this outcome, where these were told before
+pub record Moves (old new : Kept) (told : List Told) (event : Event) (outcome : Outcome) : Type 0 where
+  pub commission : new.commission ≡ rekeyed old.commission (other_after old.commission.mode event old.commission.other)
+  pub last : new.last ≡ last_after old.last outcome
+  pub parts : StandsFor new.parts (told_by old.commission event outcome ++ told)
+  pub orders : new.orders ≡ orders_after old.orders (access_at old.commission (standing_for old told) event) event outcome
+
 -- what is stored is a number of the meter's mode
-abbrev pub FitsMode : Mode → Outcome → Type 0
-FitsMode mode (Stored counter confirmed sent) = counter ≤ most_last mode
-FitsMode mode _ = Unit {0}
+abbrev pub StoresInRange : Mode → Outcome → Type 0
+StoresInRange mode (Stored counter confirmed sent) = counter ≤ most_last mode
+StoresInRange mode _ = Unit {0}
 
 -- the counter that a verdict stores
 abbrev pub stored_by : Result (Option Found) Reason → Option ℕ
@@ -64,9 +92,14 @@ HasPlace (Some a) = is_fragment a ≡ true → a.fid ≤ 16
 abbrev pub found_as : List ℕ → Option Opened → Option Found
 found_as bytes opened = option_map (found_in bytes) opened
 
+-- the verdict that was reached in a buffer
 abbrev pub verdict_as : List ℕ → Result (Option Opened) Reason → Result (Option Found) Reason
 verdict_as bytes (Ok opened) = Ok (found_as bytes opened)
 verdict_as bytes (Err reason) = Err reason
+
+-- the verdict on a message by what is kept
+abbrev pub judged_by : Bar → Result (Option Message) Reason → Result (Option Found) Reason
+judged_by b m = judged b.commission b.last m
 
 -- how many bytes a message has at most that is made with these: a piece may be joined to all that are held
 abbrev pub most_joined : Option Afl → List HeldPart → List ℕ → ℕ
@@ -95,3 +128,7 @@ VerdictFits mode bytes room (Err reason) = Unit {0}
 abbrev pub OpenedHasRoom : List ℕ → ℕ → Option Opened → Type 0
 OpenedHasRoom bytes room None = Unit {0}
 OpenedHasRoom bytes room (Some o) = (o.from ≤ length bytes) × (min (length bytes) 4096 ≤ room)
+
+abbrev pub VerdictHasRoom : List ℕ → ℕ → Result (Option Opened) Reason → Type 0
+VerdictHasRoom bytes room (Ok opened) = OpenedHasRoom bytes room opened
+VerdictHasRoom bytes room (Err reason) = Unit {0}

@@ -1,14 +1,18 @@
 -- Words for laws of journals.
-use Rattle.std.specs.Prelude.{ℕ, ◌≡◌, ◌<◌, List, [], ◌∷◌, reverse, Option, Some, None, option_map, filter_map}
+use Rattle.std.specs.Prelude.{ℕ, ◌≡◌, ◌^◌, ◌<◌, ◌≤◌, List, [], ◌∷◌, length, reverse, Option, Some, None, option_map, option_to_list, filter_map}
+use Rattle.std.specs.List.{All, flat_map}
+use Rattle.meter_address.specs.declared.address.Address.{Address}
 use Rattle.meter_address.specs.Commission.{Commissioned}
 use Rattle.message_check.specs.Opening.{Found}
+use Rattle.downlink_maker.specs.Sent.{Sent}
+use Rattle.downlink_maker.specs.Downlink.{downlink}
 use Rattle.meter_slots.specs.declared.entry.Entry.{Entry}
 use Rattle.meter_slots.specs.declared.entry.Event.{Event}
-use Rattle.meter_slots.specs.declared.entry.Event.TheVariants.{Hear}
+use Rattle.meter_slots.specs.declared.entry.Event.TheVariants.{Hear, Put, Rekey}
 use Rattle.meter_slots.specs.declared.entry.Outcome.{Outcome}
 use Rattle.meter_slots.specs.declared.entry.Outcome.TheVariants.{Stored, Refused}
 use Rattle.meter_slots.specs.declared.reading.Reading.{Reading}
-use Rattle.meter_slots.specs.Journal.{SlotView, Legal, stored_counter, last_counter, orders, reading_of, readings}
+use Rattle.meter_slots.specs.Journal.{SlotView, Legal, stored_counter, other_key, last_counter, orders, reading_of, readings}
 use Rattle.meter_slots.specs.World.{Call}
 
 -- the stored counters of a journal
@@ -42,6 +46,38 @@ sent_counter _ = None
 abbrev pub sent_counters : List Entry → List ℕ
 sent_counters journal = filter_map (λ x. sent_counter x.outcome) journal
 
+-- the downlink that an outcome sent
+abbrev pub downlinks_of : Outcome → List Sent
+downlinks_of (Stored counter confirmed sent) = option_to_list sent
+downlinks_of _ = []
+
+-- the downlinks that a journal sent
+abbrev pub downlinks_in : List Entry → List Sent
+downlinks_in journal = flat_map (λ x. downlinks_of x.outcome) journal
+
+-- the payload of a command: 1 to 94 bytes
+pub record IsPayload (payload : List ℕ) : Type 0 where
+  pub least : 1 ≤ length payload
+  pub most : length payload ≤ 94
+  pub bytes : All (λ b. b < 256) payload
+
+-- a command that is put has a payload
+abbrev pub PutsPayload : Event → Type 0
+PutsPayload (Put payload) = IsPayload payload
+PutsPayload _ = Unit {0}
+
+-- what is sent is the downlink of a payload under its counter, to the meter of this commission under its first key
+pub record CarriesPayload (own : Address) (c : Commissioned) (s : Sent) : Type 0 where
+  pub payload : List ℕ
+  pub is_payload : IsPayload payload
+  pub counter : s.down < 2 ^ 32
+  pub bytes : s.bytes ≡ downlink own c s.down payload
+
+-- it brings no second key
+abbrev pub LeavesKeys : Event → Type 0
+LeavesKeys (Rekey key) = ⊥
+LeavesKeys _ = Unit {0}
+
 -- above a floor, if there is one
 abbrev pub IsAbove : ℕ → Option ℕ → Type 0
 IsAbove n None = Unit {0}
@@ -70,8 +106,9 @@ abbrev pub IsRefused : Outcome → Type 0
 IsRefused (Refused reason) = Unit {0}
 IsRefused _ = ⊥
 
--- the last counter, the commands with their window, and the readings are as they were
+-- the second key, the last counter, the commands with their window, and the readings are as they were
 pub record IsLeft (old new : SlotView) : Type 0 where
+  pub other : other_key new.commission (reverse new.journal) ≡ other_key old.commission (reverse old.journal)
   pub last : last_counter new.commission (reverse new.journal) ≡ last_counter old.commission (reverse old.journal)
   pub orders : orders new.commission (reverse new.journal) ≡ orders old.commission (reverse old.journal)
   pub readings : readings new.commission new.journal ≡ readings old.commission old.journal

@@ -1,19 +1,11 @@
 //! What a slot hears and what it answers.
-ghost use Rattle.std.specs.Prelude.{◌≡◌};
+ghost use Rattle.std.specs.Prelude.{◌≡◌, ◌≤◌, length};
+ghost use Rattle.meter_slots.specs.Laws.{IsPayload};
 
 use downlink_maker::Downlink;
-use frame_formats::Telegram;
+use frame_formats::{Format, Telegram};
 use message_check::Reason;
 use meter_address::Payload;
-
-/// The frame format in which a telegram was heard (EN 13757-4).
-#[derive(Clone, Copy, Debug, PartialEq, Eq)]
-pub enum Format {
-    /// Frame format A.
-    A,
-    /// Frame format B.
-    B,
-}
 
 /// What comes to a slot.
 #[derive(Drop)]
@@ -33,6 +25,30 @@ pub enum Event {
     Put(Payload),
     /// The command with this id isn't to be sent any more.
     Cancel(u32),
+    /// The meter's second key is this one from now on.
+    Rekey([u8; 16]),
+}
+
+// What a payload shows of its bytes.
+fn show_payload(bytes: &[u8])
+    requires least { 1 ≤ length bytes.now }
+    requires most { length bytes.now ≤ 94 }
+    ensures { IsPayload bytes.now }
+{
+    let (_front, _rest) = bytes.split_at(0);
+}
+
+impl Event {
+    ghost use Rattle.meter_slots.specs.Laws.{PutsPayload};
+
+    // A command that is put has 1 to 94 bytes. Nothing is done: the journal's proof needs it.
+    pub(crate) fn show_payload(&self)
+        ensures { PutsPayload self.now }
+    {
+        if let Event::Put(payload) = self {
+            show_payload(payload.bytes());
+        }
+    }
 }
 
 /// What a slot answers.
@@ -58,6 +74,8 @@ pub enum Outcome {
     Queued(u32),
     /// The command with this id is taken out of the queue.
     Cancelled(u32),
+    /// The second key is taken.
+    Rekeyed,
     /// The event is refused. Nothing but the journal changes, and the fragments that are held.
     Refused(Reason),
 }
@@ -90,6 +108,7 @@ impl Outcome {
             Outcome::Ticked { expired } => Outcome::Ticked { expired: *expired },
             Outcome::Queued(id) => Outcome::Queued(*id),
             Outcome::Cancelled(id) => Outcome::Cancelled(*id),
+            Outcome::Rekeyed => Outcome::Rekeyed,
             Outcome::Refused(reason) => Outcome::Refused(*reason),
         }
     }

@@ -1,24 +1,20 @@
 //! Hearing a telegram: its refusals, the message that it brings, and the verdict on that message.
-ghost use Rattle.std.specs.Prelude.{◌≡◌, ◌+◌, ◌≤◌, ◌<◌, ◌^◌, ◌++◌, ◌∷◌, [], ℕ, List, length, drop, Some, Ok, Err, IfOk, IfErr, OnOk, OnSome};
-ghost use Rattle.meter_address.specs.Commission.{most_last};
-ghost use Rattle.afl_fragments.specs.Held.{Told, Piece, StandsFor, message_with, assembled, held, held_bytes};
-ghost use Rattle.message_check.specs.Opened.{found_in};
+ghost use Rattle.std.specs.Prelude.{◌≡◌, ◌+◌, ◌≤◌, ◌<◌, ◌++◌, ◌∷◌, ℕ, List, length, drop, Some, Ok, IfOk, OnOk};
+ghost use Rattle.afl_fragments.specs.Held.{Told, Piece, StandsFor, assembled, held, held_bytes};
 ghost use Rattle.message_check.specs.Layers.{IsLayers, layers_of};
 ghost use Rattle.message_check.specs.declared.headers.Layers.{Layers};
-ghost use Rattle.meter_slots.specs.Hearing.{is_unasked, is_response, is_uplink, uplink_passed, layers_passed, number_passed, fragment_passed, received, auth_in, content_of, message_in, brought};
-ghost use Rattle.meter_slots.specs.Journal.{given_up, told_with, told_by_received, access_of, judged_in, judged};
-ghost use Rattle.meter_slots.specs.Keeping.{HasPlace, PieceFits, stored_by, verdict_as, most_joined, most_brought, VerdictFits};
+ghost use Rattle.meter_slots.specs.Hearing.{is_unasked, is_response, is_uplink, uplink_passed, layers_passed, number_passed, fragment_passed};
+ghost use Rattle.meter_slots.specs.Hearing.{received, auth_in, content_of, message_in, brought};
+ghost use Rattle.meter_slots.specs.Journal.{given_up, told_with, told_by_received, access_of};
+ghost use Rattle.meter_slots.specs.Keeping.{HasPlace, PieceFits, stored_by, verdict_as, judged_by, most_joined, most_brought, VerdictFits};
 
-use crate::keyed::KeyedCommission;
+use crate::judge::{Judge, Verdict};
 use afl_fragments::{PARTS_MAX, Part, Parts};
 use afl_layer::{Afl, Auth, Scratch};
 use ell_layer::{Access, Ell};
 use frame_formats::Telegram;
-use message_check::{Layers, Opened, Reason, layers, open5_with_key, open7_with_key};
+use message_check::{Layers, Reason, layers};
 use meter_address::Mode;
-
-/// What a telegram comes to: a message that is opened and to be stored, a fragment that is kept, or a refusal.
-pub(crate) type Verdict = Result<Option<Opened>, Reason>;
 
 // C fields of what a meter sends unasked (EN 13757-4).
 const SND_NR: u8 = 0x44;
@@ -147,50 +143,10 @@ fn auth_of(afl: Option<Afl>) -> Auth
     }
 }
 
-// Checks a message and decrypts it in place, and compares its number with the last one.
-#[tactic(auto, unfolding(message_check::specs::Opening::opened5_after, message_check::specs::Opening::opened7_after))]
-fn open(
-    mode: Mode,
-    opening: &KeyedCommission,
-    last: Option<u32>,
-    auth: &Auth,
-    message: &mut Scratch,
-) -> Result<Opened, Reason>
-    requires { opening.now.mode ≡ mode }
-    ensures opened { IfOk result (λ o. judged_in mode opening.now last (record { auth = auth.now; bytes = message.old }) ≡ Ok (found_in message.new o)) }
-    ensures refused { IfErr result (λ r. judged_in mode opening.now last (record { auth = auth.now; bytes = message.old }) ≡ Err r) }
-    ensures within { IfOk result (λ o. o.from ≤ length message.new) }
-    ensures number { IfOk result (λ o. o.counter ≤ most_last mode) }
-    ensures len { OnOk result (length message.new ≡ length message.old) }
-{
-    match mode {
-        Mode::Five => open5_with_key(opening.key(), opening.commission(), last, message),
-        Mode::Seven => open7_with_key(opening.key(), opening.commission(), last, auth, message),
-    }
-}
-
-// The verdict on the message, where there is one.
-fn judge(
-    opening: &KeyedCommission,
-    last: Option<u32>,
-    auth: Option<Auth>,
-    message: &mut Scratch,
-) -> Verdict
-    ensures verdict { verdict_as message.new result ≡ judged opening.now last (Ok (message_with auth message.old)) }
-    ensures fits { (room : ℕ) → OnSome auth (length message.old ≤ room) → VerdictFits opening.now.mode message.new room result }
-{
-    let Some(auth) = auth else {
-        return Ok(None);
-    };
-    match open(opening.mode(), opening, last, &auth, message) {
-        Err(reason) => Err(reason),
-        Ok(opened) => Ok(Some(opened)),
-    }
-}
-
 // Gives the fragments up where their message is to be stored.
 fn settle(parts: &mut Parts, verdict: &Verdict)
-    ensures { (bytes : List ℕ) (told : List Told) → StandsFor parts.old told → StandsFor parts.new (given_up (stored_by (verdict_as bytes verdict.now)) ++ told) }
+    ensures { (bytes : List ℕ) (told : List Told) → StandsFor parts.old told
+        → StandsFor parts.new (given_up (stored_by (verdict_as bytes verdict.now)) ++ told) }
 {
     if let Ok(Some(_)) = verdict {
         parts.clear();
@@ -199,45 +155,44 @@ fn settle(parts: &mut Parts, verdict: &Verdict)
 
 // Hears a fragment.
 fn hear_part(
-    opening: &KeyedCommission,
-    last: Option<u32>,
+    judge: &Judge,
     parts: &mut Parts,
     part: Part,
     message: &mut Scratch,
 ) -> Verdict
     requires { part.afl.fid ≤ PARTS_MAX }
-    ensures verdict { (told : List Told) → StandsFor parts.old told → verdict_as message.new result ≡ judged opening.now last (Ok (assembled (held (Piece part ∷ told)))) }
-    ensures parts { (told : List Told) → StandsFor parts.old told → StandsFor parts.new (given_up (stored_by (verdict_as message.new result)) ++ Piece part ∷ told) }
-    ensures fits { VerdictFits opening.now.mode message.new (held_bytes parts.old + length part.bytes) result }
+    ensures verdict { (told : List Told) → StandsFor parts.old told
+        → verdict_as message.new result ≡ judged_by judge.now (Ok (assembled (held (Piece part ∷ told)))) }
+    ensures parts { (told : List Told) → StandsFor parts.old told
+        → StandsFor parts.new (given_up (stored_by (verdict_as message.new result)) ++ Piece part ∷ told) }
+    ensures fits { VerdictFits judge.now.commission.mode message.new (held_bytes parts.old + length part.bytes) result }
 {
     parts.hold(part);
     let auth = parts.whole(message);
-    let verdict = judge(opening, last, auth, message);
+    let verdict = judge.judge(auth, message);
     settle(parts, &verdict);
     verdict
 }
 
 // Hears a whole message.
 fn hear_whole(
-    opening: &KeyedCommission,
-    last: Option<u32>,
+    judge: &Judge,
     auth: Auth,
     bytes: &[u8],
     message: &mut Scratch,
 ) -> Verdict
     requires { length bytes.now ≤ 256 }
-    ensures verdict { verdict_as message.new result ≡ judged opening.now last (Ok (Some (record { auth = auth; bytes = bytes.now }))) }
-    ensures fits { VerdictFits opening.now.mode message.new (length bytes.now) result }
+    ensures verdict { verdict_as message.new result ≡ judged_by judge.now (Ok (Some (record { auth = auth; bytes = bytes.now }))) }
+    ensures fits { VerdictFits judge.now.commission.mode message.new (length bytes.now) result }
 {
     message.clear();
     message.extend(bytes);
-    judge(opening, last, Some(auth), message)
+    judge.judge(Some(auth), message)
 }
 
 // Hears what stands behind the layers.
 fn hear_content(
-    opening: &KeyedCommission,
-    last: Option<u32>,
+    judge: &Judge,
     parts: &mut Parts,
     afl: Option<Afl>,
     bytes: &[u8],
@@ -246,15 +201,17 @@ fn hear_content(
     requires few { length bytes.now ≤ 256 }
     requires piece { PieceFits afl bytes.now }
     requires counted { HasPlace afl }
-    ensures verdict { (told : List Told) → StandsFor parts.old told → verdict_as message.new result ≡ judged opening.now last (Ok (message_in told (content_of afl bytes.now))) }
-    ensures parts { (told : List Told) → StandsFor parts.old told → StandsFor parts.new (told_with (content_of afl bytes.now) (given_up (stored_by (verdict_as message.new result))) ++ told) }
-    ensures fits { VerdictFits opening.now.mode message.new (most_joined afl parts.old bytes.now) result }
+    ensures verdict { (told : List Told) → StandsFor parts.old told
+        → verdict_as message.new result ≡ judged_by judge.now (Ok (message_in told (content_of afl bytes.now))) }
+    ensures parts { (told : List Told) → StandsFor parts.old told
+        → StandsFor parts.new (told_with (content_of afl bytes.now) (given_up (stored_by (verdict_as message.new result))) ++ told) }
+    ensures fits { VerdictFits judge.now.commission.mode message.new (most_joined afl parts.old bytes.now) result }
 {
     match afl {
         Some(afl) if afl.is_fragment() => {
-            hear_part(opening, last, parts, Part::new(afl, bytes), message)
+            hear_part(judge, parts, Part::new(afl, bytes), message)
         }
-        afl => hear_whole(opening, last, auth_of(afl), bytes, message),
+        afl => hear_whole(judge, auth_of(afl), bytes, message),
     }
 }
 
@@ -278,21 +235,22 @@ pub(crate) struct Judged {
 
 /// Hears a telegram with these layers: the message that is to be stored stands in `message` then.
 pub(crate) fn hear(
-    opening: &KeyedCommission,
-    last: Option<u32>,
+    judge: &Judge,
     parts: &mut Parts,
     telegram: &Telegram,
     layers: Result<Layers, Reason>,
     message: &mut Scratch,
 ) -> Judged
-    requires exact { layers ≡ received opening.now.mode telegram.now }
+    requires exact { layers ≡ received judge.now.commission.mode telegram.now }
     requires within { IfOk layers (λ l. l.body ≤ length telegram.now) }
     requires found { IfOk layers (λ l. IsLayers telegram.now l) }
     requires counted { IfOk layers (λ l. HasPlace l.afl) }
-    ensures verdict { (told : List Told) → StandsFor parts.old told → verdict_as message.new result.verdict ≡ judged opening.now last (brought told telegram.now (received opening.now.mode telegram.now)) }
-    ensures access { result.access ≡ access_of (received opening.now.mode telegram.now) (verdict_as message.new result.verdict) }
-    ensures parts { (told : List Told) → StandsFor parts.old told → StandsFor parts.new (told_by_received telegram.now (received opening.now.mode telegram.now) (given_up (stored_by (verdict_as message.new result.verdict))) ++ told) }
-    ensures fits { VerdictFits opening.now.mode message.new (most_brought layers parts.old telegram.now) result.verdict }
+    ensures verdict { (told : List Told) → StandsFor parts.old told → verdict_as message.new result.verdict
+        ≡ judged_by judge.now (brought told telegram.now (received judge.now.commission.mode telegram.now)) }
+    ensures access { result.access ≡ access_of (received judge.now.commission.mode telegram.now) (verdict_as message.new result.verdict) }
+    ensures parts { (told : List Told) → StandsFor parts.old told → StandsFor parts.new (told_by_received telegram.now
+        (received judge.now.commission.mode telegram.now) (given_up (stored_by (verdict_as message.new result.verdict))) ++ told) }
+    ensures fits { VerdictFits judge.now.commission.mode message.new (most_brought layers parts.old telegram.now) result.verdict }
 {
     match layers {
         Err(reason) => Judged {
@@ -301,7 +259,7 @@ pub(crate) fn hear(
         },
         Ok(layers) => {
             let bytes = bytes_behind(telegram, &layers);
-            let verdict = hear_content(opening, last, parts, layers.afl, bytes, message);
+            let verdict = hear_content(judge, parts, layers.afl, bytes, message);
             Judged {
                 verdict,
                 access: access_after(layers.ell, &verdict),

@@ -1,10 +1,11 @@
 //! What a line tells of a meter.
-ghost use Rattle.std.specs.Prelude.{◌≡◌, Ok, Err, OnOk, IfErr};
+ghost use Rattle.std.specs.Prelude.{◌≡◌};
 ghost use Rattle.message_check.specs.Target.{target_of};
-ghost use Rattle.meter_slots.specs.Telling.{heard_in, decoded_in, event_of_line};
+ghost use Rattle.frame_formats.specs.Decoding.{decoded};
+ghost use Rattle.meter_slots.specs.Telling.{heard_in, event_of_line};
 
-use crate::entry::{Event, Format};
-use frame_formats::{FrameFault, Telegram, decode_a, decode_b};
+use crate::entry::Event;
+use frame_formats::{Format, FrameFault, Telegram, decode};
 use line_reader::{Line, LineFormat};
 use message_check::target;
 use meter_address::Address;
@@ -22,20 +23,9 @@ fn hear_telegram(format: Format, at: u64, telegram: Telegram) -> (Address, Event
     (address, event)
 }
 
-// The telegram of a frame of this format.
-fn decode(format: Format, bytes: &[u8], out: &mut Telegram) -> Result<(), FrameFault>
-    ensures telegram { OnOk result (decoded_in format bytes.now ≡ Ok out.new) }
-    ensures fault { IfErr result (λ fault. decoded_in format bytes.now ≡ Err fault) }
-{
-    match format {
-        Format::A => decode_a(bytes, out),
-        Format::B => decode_b(bytes, out),
-    }
-}
-
 // The telegram of a frame, for its target.
 fn hear_frame(format: Format, at: u64, bytes: &[u8]) -> Result<(Address, Event), FrameFault>
-    ensures { result ≡ heard_in format at (decoded_in format bytes.now) }
+    ensures { result ≡ heard_in format at (decoded format bytes.now) }
 {
     let mut telegram = Telegram::shortest();
     match decode(format, bytes, &mut telegram) {
@@ -63,5 +53,6 @@ pub fn event_of(line: &Line) -> Result<(Address, Event), FrameFault>
         Line::Tick(address) => Ok((*address, Event::Tick)),
         Line::Put(address, payload) => Ok((*address, Event::Put(payload.copied()))),
         Line::Cancel(address, id) => Ok((*address, Event::Cancel(*id))),
+        Line::Key(address, key) => Ok((*address, Event::Rekey(*key))),
     }
 }

@@ -15,6 +15,8 @@ const HEAT: u64 = 0x9315_0102_0304_0107;
 
 const HEAT_KEY: u128 = 0x0001_0203_0405_0607_0809_0a0b_0c0d_0e0f;
 
+const OTHER_KEY: u128 = 0xf0f1_f2f3_f4f5_f6f7_f8f9_fafb_fcfd_feff;
+
 const WATER: u64 = 0x2d2c_0968_0610_0507;
 
 const WATER_KEY: u128 = 0x2e7a_00ef_b31b_75e9_81bc_8fb5_37f2_3e13;
@@ -27,6 +29,7 @@ enum Answer {
     Ticked(Option<u32>),
     Queued(u32),
     Cancelled(u32),
+    Rekeyed,
     Refused(Reason),
 }
 
@@ -48,6 +51,7 @@ fn shown(outcome: &Outcome) -> Answer {
         Outcome::Ticked { expired } => Answer::Ticked(*expired),
         Outcome::Queued(id) => Answer::Queued(*id),
         Outcome::Cancelled(id) => Answer::Cancelled(*id),
+        Outcome::Rekeyed => Answer::Rekeyed,
         Outcome::Refused(reason) => Answer::Refused(*reason),
     }
 }
@@ -300,6 +304,42 @@ const COMMAND_LINES: [(&str, Answer); 15] = [
     ("X 9315010203040107 3", Answer::Cancelled(3)),
 ];
 
+// A second key for the heat meter, and messages under each of its keys, made by another implementation.
+const KEY_LINES: [(&str, Answer); 8] = [
+    (
+        "A 100 30449315010203040107b178900f002c2501000000299279897fd337f473137a010010071175cd768d463ef9c3a0c283bfeccde662d2042b56",
+        Answer::Refused(Reason::BadMac),
+    ),
+    (
+        "K 9315010203040107 f0f1f2f3f4f5f6f7f8f9fafbfcfdfeff",
+        Answer::Rekeyed,
+    ),
+    (
+        "A 100 30449315010203040107b178900f002c2501000000299279897fd337f473137a010010071175cd768d463ef9c3a0c283bfeccde662d2042b56",
+        Answer::Stored(1, None, None),
+    ),
+    (
+        "A 100 30449315010203040107b178900f002c25020000007e57ee18f34dd589c3ec7a0100100710f382a1c03fa65a72464cd9a96e7d5122289acc2d",
+        Answer::Stored(2, None, None),
+    ),
+    (
+        "A 100 30449315010203040107b178900f002c2503000000ea49b26b8eeb44728ffc7a01001007126c8980122f007d776cce50183dbaefda5b42bcc9",
+        Answer::Stored(3, None, None),
+    ),
+    (
+        "A 100 30449315010203040107b178900f002c2503000000365e674a6a0db07ec87b7a010010071181b515c27d328b7defb30f7c03c15aef1606e50b",
+        Answer::Refused(Reason::Stale { got: 3, last: 3 }),
+    ),
+    (
+        "A 100 30449315010203040107b178900f002c2504000000a0affb3d141842140ed37a0100100710a57e11e3d4135baba4cccda78eef5d4cadc817ac",
+        Answer::Refused(Reason::BadMac),
+    ),
+    (
+        "A 100 30449315010203040107b178900f002c2504000000104ae6a49f37194acc4d7a01001007117df736f93c61da56a8ee724d08eaf8a5a5a01056",
+        Answer::Refused(Reason::BadMac),
+    ),
+];
+
 #[test]
 fn messages_of_mode_5(rt: HostRuntime) -> Result<(), Fail> {
     let meter = commission(GAS, Mode::Five, GAS_KEY);
@@ -324,6 +364,27 @@ fn messages_of_mode_7(rt: HostRuntime) -> Result<(), Fail> {
     step_all(&rt, &mut slot, HEAT, &COUNTER_LINES)?;
     assert_eq!(rt; slot.readings().len(), 3);
     assert_eq!(rt; slot.journal().len(), COUNTER_LINES.len());
+    Ok(())
+}
+
+#[test]
+fn messages_under_two_keys(rt: HostRuntime) -> Result<(), Fail> {
+    let meter = commission(HEAT, Mode::Seven, HEAT_KEY);
+    let mut slot = SlotBook::new(rt.alloc(), Address(1), meter);
+    step_all(&rt, &mut slot, HEAT, &KEY_LINES)?;
+    let now = slot.commission();
+    assert_eq!(rt; now.other.map(u128::from_be_bytes), Some(OTHER_KEY));
+    assert_eq!(rt; (now.key, now.last), (HEAT_KEY.to_be_bytes(), Some(3)));
+    Ok(())
+}
+
+#[test]
+fn a_meter_of_mode_5_has_one_key(rt: HostRuntime) -> Result<(), Fail> {
+    let meter = commission(GAS, Mode::Five, GAS_KEY);
+    let mut slot = SlotBook::new(rt.alloc(), Address(1), meter);
+    let outcome = slot.step(1, 1, Event::Rekey(OTHER_KEY.to_be_bytes()))?;
+    assert_eq!(rt; shown(&outcome), Answer::Refused(Reason::KeyInMode5));
+    assert_eq!(rt; slot.commission().other, None);
     Ok(())
 }
 

@@ -8,7 +8,6 @@ use crate::book::SlotBook;
 use crate::directory::Directory;
 use crate::entry::Outcome;
 use crate::step::{Landed, Step};
-use afl_layer::Scratch;
 use meter_address::{Address, Commission};
 use outer_io::Memory;
 use std::alloc::Global;
@@ -21,8 +20,6 @@ pub struct World {
     slots: Vec<SlotBook>,
     directory: Directory,
     strangers: Strangers,
-    // Room for the message of a step.
-    message: Scratch,
 }
 
 impl Model for World {
@@ -59,19 +56,15 @@ fn addresses_of(alloc: Global, commissions: &[Commission]) -> Result<Vec<Address
 }
 
 // One step of the slot at a place.
-fn step_at(
-    slots: &mut Vec<SlotBook>,
-    place: usize,
-    step: Step,
-    message: &mut Scratch,
-) -> Result<Outcome, Memory>
+fn step_at(slots: &mut Vec<SlotBook>, place: usize, step: Step) -> Result<Outcome, Memory>
     requires { place < vec_len slots.old }
     ensures outcome { IfOk result (λ given. (b : SlotView) → given ≡ outcome_at (slice_index_or slots.old.items place b) step) }
-    ensures ok { IfOk result (λ _. (b : SlotView) → slots.new.items ≡ slice_set slots.old.items place (stepped_slot step (slice_index_or slots.old.items place b))) }
+    ensures ok { IfOk result (λ _. (b : SlotView)
+        → slots.new.items ≡ slice_set slots.old.items place (stepped_slot step (slice_index_or slots.old.items place b))) }
     ensures err { OnErr result (slots.new.items ≡ slots.old.items) }
 {
     let slot = &mut slots[place];
-    slot.step_in(step.source, step.line, step.event, message)
+    slot.step(step.source, step.line, step.event)
 }
 
 impl World {
@@ -92,7 +85,6 @@ impl World {
             slots: fresh_slots(alloc, own, commissions.as_slice())?,
             directory: Directory::new(alloc, addresses.as_slice())?,
             strangers: Strangers::new(alloc)?,
-            message: Scratch::new(),
         })
     }
 
@@ -104,8 +96,10 @@ impl World {
         ensures slot { IfOk result (λ landed. AnsweredBy self.old.slots step landed) }
 
         // A world that stands for some steps then stands for these and this one.
-        ensures ok { IfOk result (λ _. (own : Address) (commissions : List Commissioned) (steps : List Step) → self.old ≡ world_of own commissions steps → self.new ≡ world_of own commissions (steps ++ step ∷ [])) }
-        ensures landed { IfOk result (λ landed. (own : Address) (commissions : List Commissioned) (steps : List Step) → self.old ≡ world_of own commissions steps → Lands own commissions steps step landed) }
+        ensures ok { IfOk result (λ _. (own : Address) (commissions : List Commissioned) (steps : List Step)
+            → self.old ≡ world_of own commissions steps → self.new ≡ world_of own commissions (steps ++ step ∷ [])) }
+        ensures landed { IfOk result (λ landed. (own : Address) (commissions : List Commissioned) (steps : List Step)
+            → self.old ≡ world_of own commissions steps → Lands own commissions steps step landed) }
         ensures err { OnErr result (self.new ≡ self.old) }
     {
         match self.directory.find(step.address) {
@@ -114,7 +108,7 @@ impl World {
                 Ok(Landed::Stranger)
             }
             Some(place) => {
-                let outcome = step_at(&mut self.slots, place as usize, step, &mut self.message)?;
+                let outcome = step_at(&mut self.slots, place as usize, step)?;
                 Ok(Landed::Slot(place, outcome))
             }
         }

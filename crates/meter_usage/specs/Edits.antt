@@ -1,8 +1,9 @@
 -- Edits of the rows, one after another, and what a value stands for after them.
-use Rattle.std.specs.Prelude.{◌≡◌, ℕ, List, [], fold, Option}
+use Rattle.std.specs.Prelude.{◌≡◌, ◌⊎◌, ℕ, List, [], ◌∷◌, ◌++◌, fold, Option, Some, Result, Err, OnOk, OnErr, IfErr}
 use Rattle.meter_address.specs.declared.address.Address.{Address}
 use Rattle.meter_usage.specs.Amounts.{Row}
 use Rattle.meter_usage.specs.declared.fault.TotalsFault.{TotalsFault}
+use Rattle.meter_usage.specs.declared.fault.TotalsFault.TheVariants.{Memory}
 use Rattle.meter_usage.specs.Table.{Table, added, replaced, removed, kept}
 use Rattle.meter_usage.specs.Faults.{add_fault, place_fault}
 
@@ -31,3 +32,10 @@ rows_after edits = fold edited [] edits
 -- A value stands for the edits that were accepted: it keeps the amounts of the rows that they leave.
 pub record StandsFor (edits : List Edit) (value : Table Row) : Type 0 where
   pub rows : value ≡ kept (rows_after edits)
+
+-- An edit is accepted, or it is refused and nothing has changed: for a fault of the rows, or there was no memory.
+pub record IsAnswered (edit : Edit) (old : Table Row) (answer : Result (Unit {0}) TotalsFault) (new : Table Row) : Type 0 where
+  pub accepted : OnOk answer ((edits : List Edit) → StandsFor edits old → StandsFor (edits ++ edit ∷ []) new)
+  pub unchanged : OnErr answer (new ≡ old)
+  pub refused : (edits : List Edit) (fault : TotalsFault) → StandsFor edits old → fault_of (rows_after edits) edit ≡ Some fault → answer ≡ Err fault
+  pub caused : (edits : List Edit) → StandsFor edits old → IfErr answer (λ fault. (fault ≡ Memory) ⊎ (fault_of (rows_after edits) edit ≡ Some fault))

@@ -104,13 +104,13 @@ fn used_keys(alloc: Global, sums: &BTreeMap<UsageKey, Sum>) -> Result<Vec<UsageK
 }
 
 impl Totals {
-    ghost use Rattle.std.specs.Prelude.{◌≡◌, ◌⊎◌, ◌^◌, ◌++◌, ◌∷◌, [], List, Some, Err, OnOk, OnErr, IfOk, IfErr, IfSome};
+    ghost use Rattle.std.specs.Prelude.{◌≡◌, ◌≢◌, ◌^◌, [], List, Err, IfOk, IfSome};
     ghost use Rattle.meter_usage.specs.declared.fault.TotalsFault.{TotalsFault};
-    ghost use Rattle.meter_usage.specs.Amounts.{row_of, IsWithin};
-    ghost use Rattle.meter_usage.specs.Usage.{usage};
+    ghost use Rattle.meter_usage.specs.Amounts.{IsWithin};
+    ghost use Rattle.meter_usage.specs.Usage.{usage, usage_at};
     ghost use Rattle.meter_usage.specs.Sums.{total, total_at, as_pair, keys_in};
     ghost use Rattle.meter_usage.specs.Table.{rows_at};
-    ghost use Rattle.meter_usage.specs.Edits.{Edit, addition, replacement, removal, fault_of, rows_after, StandsFor};
+    ghost use Rattle.meter_usage.specs.Edits.{Edit, addition, replacement, removal, rows_after, StandsFor, IsAnswered};
 
     /// No meter has a row.
     pub fn new(alloc: Global) -> Totals
@@ -126,6 +126,7 @@ impl Totals {
     /// What a meter used: the last amount that its rows have of this key less the first one, none where no row has one.
     pub fn usage(&self, address: Address, key: &UsageKey) -> Option<i128>
         ensures usage { (edits : List Edit) → StandsFor edits self.now → result ≡ usage (rows_at address (rows_after edits)) key.now }
+        ensures kept { result ≡ usage_at key.now (rows_at address self.now) }
         ensures below { IfSome result (IsWithin (2 ^ 81)) }
     {
         usage_of(rows_of(&self.meters, address), key)
@@ -136,13 +137,7 @@ impl Totals {
     /// It is `Meters` exactly where the address has no row and 4,096 addresses have one, and `Rows` exactly where it has
     /// 65,536 rows; otherwise only memory may be wanting.
     pub fn add(&mut self, address: Address, payload: &[u8]) -> Result<(), TotalsFault>
-        ensures accepted { OnOk result ((edits : List Edit) → StandsFor edits self.old
-            → StandsFor (edits ++ addition address payload.now ∷ []) self.new) }
-        ensures err { OnErr result (self.new ≡ self.old) }
-        ensures refused { (edits : List Edit) (fault : TotalsFault) → StandsFor edits self.old
-            → fault_of (rows_after edits) (addition address payload.now) ≡ Some fault → result ≡ Err fault }
-        ensures only { (edits : List Edit) → StandsFor edits self.old
-            → IfErr result (λ fault. (fault ≡ TotalsFault.Memory) ⊎ (fault_of (rows_after edits) (addition address payload.now) ≡ Some fault)) }
+        ensures { IsAnswered (addition address payload.now) self.old result self.new }
     {
         if let Some(fault) = add_fault(&self.meters, address) {
             return Err(fault);
@@ -168,13 +163,7 @@ impl Totals {
         place: u32,
         payload: &[u8],
     ) -> Result<(), TotalsFault>
-        ensures accepted { OnOk result ((edits : List Edit) → StandsFor edits self.old
-            → StandsFor (edits ++ replacement address place payload.now ∷ []) self.new) }
-        ensures err { OnErr result (self.new ≡ self.old) }
-        ensures refused { (edits : List Edit) (fault : TotalsFault) → StandsFor edits self.old
-            → fault_of (rows_after edits) (replacement address place payload.now) ≡ Some fault → result ≡ Err fault }
-        ensures only { (edits : List Edit) → StandsFor edits self.old
-            → IfErr result (λ fault. (fault ≡ TotalsFault.Memory) ⊎ (fault_of (rows_after edits) (replacement address place payload.now) ≡ Some fault)) }
+        ensures { IsAnswered (replacement address place payload.now) self.old result self.new }
     {
         if let Some(fault) = place_fault(&self.meters, address, place) {
             return Err(fault);
@@ -196,13 +185,8 @@ impl Totals {
     ///
     /// It is `NoSuch` exactly where the address has no row at this place, from 0 on, and no other fault comes.
     pub fn remove(&mut self, address: Address, place: u32) -> Result<(), TotalsFault>
-        ensures accepted { OnOk result ((edits : List Edit) → StandsFor edits self.old
-            → StandsFor (edits ++ removal address place ∷ []) self.new) }
-        ensures err { OnErr result (self.new ≡ self.old) }
-        ensures refused { (edits : List Edit) (fault : TotalsFault) → StandsFor edits self.old
-            → fault_of (rows_after edits) (removal address place) ≡ Some fault → result ≡ Err fault }
-        ensures only { (edits : List Edit) → StandsFor edits self.old
-            → IfErr result (λ fault. fault_of (rows_after edits) (removal address place) ≡ Some fault) }
+        ensures answered { IsAnswered (removal address place) self.old result self.new }
+        ensures sure { result ≢ Err TotalsFault.Memory }
     {
         if let Some(fault) = place_fault(&self.meters, address, place) {
             return Err(fault);
@@ -228,6 +212,7 @@ impl Totals {
     /// How many meters have a usage of this key, and what these usages come to.
     pub fn total(&self, key: &UsageKey) -> (u32, i128)
         ensures total { (edits : List Edit) → StandsFor edits self.now → result ≡ as_pair (total (rows_after edits) key.now) }
+        ensures kept { result ≡ as_pair (total_at key.now self.now) }
         ensures below { IsWithin (2 ^ 93) result.1 }
     {
         pair_of(self.sum(key))

@@ -1,4 +1,16 @@
+pub mod Closings
+pub mod Collecting
+pub mod Dismissals
+pub mod Handings
+pub mod Hirings
+pub mod Joinings
 pub mod Lone
+pub mod Makings
 pub mod Numbers
 pub mod OneSession
+pub mod Runs
+pub mod SessionLines
+pub mod Sessions
+pub mod Stacks
 pub mod Tellings
+pub mod Working

@@ -6,3 +6,10 @@ pub mod Ending
 pub mod Run
 pub mod Alone
 pub mod Session
+pub mod Passes
+pub mod Works
+pub mod Workers
+pub mod Roots
+pub mod Crews
+pub mod Running
+pub mod Collected

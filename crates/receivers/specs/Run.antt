@@ -1,6 +1,7 @@
 -- A receiver's one run of work, as contracts see it.
-use Rattle.std.specs.Prelude.{ℕ, ◌≡◌, ◌≤◌, Bool, List, take, map, IsTrue}
+use Rattle.std.specs.Prelude.{ℕ, ◌≡◌, ◌≤◌, Bool, List, [], ◌∷◌, take, map, Option, IsTrue}
 use Rattle.outer_io.specs.declared.sources.Source as sources
+use Rattle.outer_io.specs.declared.sinks.Sink as sinks
 use Rattle.line_reader.specs.Lines.{all_lines}
 use Rattle.meter_address.specs.declared.address.Address.{Address}
 use Rattle.meter_slots.specs.declared.counts.Counts.{Counts}
@@ -10,7 +11,8 @@ use Rattle.receivers.specs.declared.told.Told.{Told}
 use Rattle.receivers.specs.Told.{told_of}
 use Rattle.receivers.specs.Classes.{counts_of}
 use Rattle.receivers.specs.Ending.{IsEnding}
-use Rattle.outer_io.specs.Shown.{Change, SourceShown, source_change, ReadFailed, LosesNothing}
+use Rattle.receivers.specs.Receiver.{Receiving}
+use Rattle.outer_io.specs.Shown.{Change, SourceShown, SinkShown, source_change, sink_change, ReadFailed, LosesNothing}
 
 -- what a run shows of its hearing: the source before and now, whether contracts know its bytes, the counts of the lines, and how the run ended
 pub record Hearing : Type 0 where
@@ -39,3 +41,37 @@ pub record HasHeard (directory : List Address) (h : Hearing) (heard : List Told)
   pub read_fault : h.ended ≡ ends.ReadFault → ReadFailed h.source
   pub later : h.source.before.faults ≤ h.source.now.faults
   pub no_loss : IsTrue h.tells → LosesNothing h.source
+
+-- ---- with a sink
+
+-- what a run shows of a receiver: its source and its sink before and now, whether contracts know their bytes, the counts of its lines, and how it ended, if it worked
+pub record ReceiverRun : Type 0 where
+  pub source_tells : Bool
+  pub source : Change SourceShown
+  pub tx_tells : Bool
+  pub tx : Change SinkShown
+  pub counts : Counts
+  pub ended : Option Ended
+
+abbrev pub run_between : {S K : Type 0} → sources.Ghosts S → sinks.Ghosts K → (old new : S) → (tx tx' : K) → Counts → Option Ended → ReceiverRun
+run_between s k old new tx tx' counts ended = record {
+  source_tells = s.tells;
+  source = source_change s old new;
+  tx_tells = k.tells;
+  tx = sink_change k tx tx';
+  counts = counts;
+  ended = ended;
+}
+
+abbrev pub receiver_run : {S K : Type 0} → sources.Ghosts S → sinks.Ghosts K → (old new : Receiving S K) → ReceiverRun
+receiver_run s k old new = run_between s k old.source new.source old.tx new.tx new.counts new.ended
+
+-- each receiver before the run with the same one after it
+abbrev pub receiver_runs : {S K : Type 0} → sources.Ghosts S → sinks.Ghosts K → (old new : List (Receiving S K)) → List ReceiverRun
+receiver_runs s k [] news = []
+receiver_runs s k (old ∷ olds) [] = []
+receiver_runs s k (old ∷ olds) (new ∷ news) = receiver_run s k old new ∷ receiver_runs s k olds news
+
+-- its hearing, where it ended so
+abbrev pub hearing_of : ReceiverRun → Ended → Hearing
+hearing_of run ended = record { tells = run.source_tells; source = run.source; counts = run.counts; ended = ended }

@@ -3,12 +3,23 @@
 
 mod alone;
 mod class;
+mod crews;
+mod downlinks;
+mod hearing;
 pub mod laws;
 mod receiver;
+mod roots;
+mod running;
+mod session;
+mod stepping;
 mod telling;
 mod told;
+mod work;
+mod workers;
 
 pub use class::Class;
 pub use meter_slots::{Counts, Ended};
 pub use receiver::Receiver;
+pub use session::{Collected, collect};
 pub use told::{Told, tell};
+pub use workers::{Worker, work_all};

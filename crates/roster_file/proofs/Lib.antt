@@ -1,2 +1,5 @@
 pub mod Enrolling
+pub mod LinePieces
+pub mod ReadBack
 pub mod RosterLines
+pub mod Words

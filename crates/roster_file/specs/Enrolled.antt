@@ -17,6 +17,10 @@ pub record IsEnrolled (r : Enrolled) : Type 0 where
 abbrev pub ReadAreEnrolled : Type 0
 ReadAreEnrolled = (bytes : List ℕ) (r : Enrolled) → roster_of bytes ≡ Ok r → IsEnrolled r
 
--- each of them is read again from its text
+-- a roster of which this holds is read back from its text
 abbrev pub WrittenAreRead : Type 0
 WrittenAreRead = (r : Enrolled) → IsEnrolled r → roster_of (roster_text r) ≡ Ok r
+
+-- each roster that can be read is read again from its text
+abbrev pub ReadAreReadAgain : Type 0
+ReadAreReadAgain = (bytes : List ℕ) (r : Enrolled) → roster_of bytes ≡ Ok r → roster_of (roster_text r) ≡ Ok r

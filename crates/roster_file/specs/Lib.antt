@@ -1,4 +1,5 @@
 pub mod Roster
 pub mod Columns
 pub mod Text
+pub mod Writing
 pub mod Enrolled

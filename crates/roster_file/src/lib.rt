@@ -7,11 +7,13 @@ mod laws;
 mod load;
 mod reader;
 mod roster;
+mod writing;
 
-pub use laws::read_rosters_are_enrolled;
+pub use laws::{read_rosters_are_enrolled, written_rosters_are_read_back};
 pub use load::{LoadFault, load_roster};
 pub use reader::{MOST_BYTES, MOST_METERS, read_roster};
 pub use roster::{LineCause, Roster, RosterFault};
+pub use writing::write_roster;
 
 #[cfg(test)]
 mod tests;

@@ -1,5 +1,8 @@
-use crate::{LineCause, RosterFault, read_roster};
+//! Rosters of both versions, their faults, and rosters that are written.
+use crate::{LineCause, LoadFault, RosterFault, load_roster, read_roster, write_roster};
 use meter_address::Mode;
+use outer_io::MemorySource;
+use std::alloc::{AllocError, Global};
 use std::test::Fail;
 
 #[test]
@@ -22,11 +25,12 @@ fn reads_a_roster(rt: HostRuntime) -> Result<(), Fail> {
 
 #[test]
 fn names_the_first_fault(rt: HostRuntime) {
-    let cases: [(&[u8], u32, LineCause); 14] = [
+    let cases: [(&[u8], u32, LineCause); 18] = [
         (b"", 1, LineCause::Missing),
         (b"#\n#\n#\n", 4, LineCause::Missing),
         (b"wmbus-roster 1\n", 2, LineCause::Missing),
         (b"wmbus-roster 9\n", 1, LineCause::Head),
+        (b"wmbus-roster  2\n", 1, LineCause::Head),
         (b"wmbus-roster 1\nown 93150100000001\n", 2, LineCause::Own),
         (
             b"wmbus-roster 1\nown 9315010000000131\nown 9315010000000131\n",
@@ -42,6 +46,21 @@ fn names_the_first_fault(rt: HostRuntime) {
             b"wmbus-roster 1\nown 9315010000000131\nmeter 9315785634123303 5 0102030405060708090a0b0c0d0e0f11 - 0\n",
             3,
             LineCause::Fields,
+        ),
+        (
+            b"wmbus-roster 1\nown 9315010000000131\nmeter 9315785634123303 5 0102030405060708090a0b0c0d0e0f11 - - 0 0\n",
+            3,
+            LineCause::Fields,
+        ),
+        (
+            b"wmbus-roster 2\nown 9315010000000131\nmeter 9315785634123303 5 0102030405060708090a0b0c0d0e0f11 - 0 0\n",
+            3,
+            LineCause::Fields,
+        ),
+        (
+            b"wmbus-roster 2\nown 9315010000000131\nmeter 9315785634123303 7 0102030405060708090a0b0c0d0e0f11 f0f1 x 0 0\n",
+            3,
+            LineCause::Other,
         ),
         (
             b"wmbus-roster 1\nown 9315010000000131\nmeter 931578563412330 6 01 - 0 0\n",
@@ -86,4 +105,86 @@ fn refuses_an_address_that_stands_already(rt: HostRuntime) {
         b"wmbus-roster 1\nown 9315010000000131\nmeter 9315785634123303 5 0102030405060708090a0b0c0d0e0f11 - 0 0\nmeter 9315785634123303 7 0102030405060708090a0b0c0d0e0f11 - 0 0\n";
     let fault = read_roster(rt.alloc(), text).err();
     assert_eq!(rt; fault, Some(RosterFault::Line(4, LineCause::Same)));
+}
+
+// The gas meter and the heat meter in version 2, as a roster is written.
+const WRITTEN: &[u8] =
+    b"wmbus-roster 2\nown 9315010000000131\nmeter 9315785634123303 5 0102030405060708090a0b0c0d0e0f11 - 42 7 8\nmeter 9315010203040107 7 000102030405060708090a0b0c0d0e0f f0f1f2f3f4f5f6f7f8f9fafbfcfdfeff 4294967295 0 4294967295\n";
+
+#[test]
+fn a_roster_is_written_in_version_2(rt: HostRuntime) -> Result<(), Fail> {
+    let alloc = rt.alloc();
+    let roster = read_roster(alloc, WRITTEN)?;
+    assert_eq!(rt; roster.meters().len(), 2);
+    assert_eq!(rt; roster.meters()[0].other, None);
+    assert_eq!(rt; roster.meters()[1].other.map(|key| key[15]), Some(0xff));
+    assert_eq!(rt; write_roster(alloc, &roster)?.as_slice(), WRITTEN);
+    let first = read_roster(
+        alloc,
+        b"wmbus-roster 1\nown 9315010000000131\nmeter 9315010203040107 7 000102030405060708090A0B0C0D0E0F - 0 0",
+    )?;
+    assert_eq!(rt;
+        write_roster(alloc, &first)?.as_slice(),
+        b"wmbus-roster 2\nown 9315010000000131\nmeter 9315010203040107 7 000102030405060708090a0b0c0d0e0f - - 0 0\n".as_slice()
+    );
+    Ok(())
+}
+
+#[test]
+fn mode_5_has_no_second_key(rt: HostRuntime) {
+    let text =
+        b"wmbus-roster 2\nown 9315010000000131\nmeter 9315785634123303 5 0102030405060708090a0b0c0d0e0f11 f0f1f2f3f4f5f6f7f8f9fafbfcfdfeff - 0 0\n";
+    let fault = read_roster(rt.alloc(), text).err();
+    assert_eq!(rt; fault, Some(RosterFault::Line(3, LineCause::Other)));
+}
+
+// A roster of so many meters, with addresses from 0.
+fn roster_of(alloc: Global, meters: u64) -> Result<Vec<u8>, AllocError> {
+    let mut text = String::from_str(alloc, "wmbus-roster 2\nown 9315010000000131\n")?;
+    for number in 0..meters {
+        let line = format!(in alloc; "meter {number:016x} 7 {number:032x} - - 0 0\n")?;
+        text.push_str(&line)?;
+    }
+    Ok(text.into_bytes())
+}
+
+#[test]
+fn a_roster_has_at_most_4096_meters(rt: HostRuntime) -> Result<(), Fail> {
+    let alloc = rt.alloc();
+    let roster = read_roster(alloc, &roster_of(alloc, 4_096)?)?;
+    assert_eq!(rt; roster.meters().len(), 4_096);
+    let fault = read_roster(alloc, &roster_of(alloc, 4_097)?).err();
+    assert_eq!(rt; fault, Some(RosterFault::Line(4_099, LineCause::TooMany)));
+    Ok(())
+}
+
+#[test]
+fn a_roster_is_read_from_a_source(rt: HostRuntime) -> Result<(), Fail> {
+    let alloc = rt.alloc();
+    let mut source = MemorySource::steady(alloc, WRITTEN.to_vec(alloc)?);
+    let roster = load_roster(alloc, &mut source).map_err(|_| "a roster")?;
+    assert_eq!(rt; roster.own().0, 0x9315_0100_0000_0131);
+    let mut broken = MemorySource::new(WRITTEN.to_vec(alloc)?, vec![in alloc; 1]?);
+    assert_eq!(rt;
+        load_roster(alloc, &mut broken).err(),
+        Some(LoadFault::Read)
+    );
+    let mut faulty = MemorySource::steady(alloc, b"wmbus-roster 2\n".to_vec(alloc)?);
+    let missing = LoadFault::Line(2, LineCause::Missing);
+    assert_eq!(rt; load_roster(alloc, &mut faulty).err(), Some(missing));
+    let mut long = MemorySource::steady(alloc, vec![in alloc; b'#'; 1_048_577]?);
+    let too_long = LoadFault::Line(0, LineCause::TooLong);
+    assert_eq!(rt; load_roster(alloc, &mut long).err(), Some(too_long));
+    Ok(())
+}
+
+#[test]
+fn a_roster_prints_no_key(rt: HostRuntime) -> Result<(), Fail> {
+    let roster = read_roster(rt.alloc(), WRITTEN)?;
+    let text = format!(in rt.alloc(); "{roster:?} {roster:#?}")?;
+    for key in ["f0", "F0", "240", "241"] {
+        assert!(rt; !text.contains(key), "{text}");
+    }
+    assert!(rt; text.contains("ids: 8"), "{text}");
+    Ok(())
 }

@@ -8,6 +8,16 @@ ghost use Rattle.tpl_headers.specs.declared.header.TplFault.{TplFault};
 use crate::tail::{Tail, mode, read_tail};
 use meter_address::Address;
 
+// The CIs of headers from a meter: of a response, and of a message without application layer; each without an address and
+// with one.
+const SHORT_RESPONSE: u8 = 0x7A;
+
+const SHORT_TRANSPORT: u8 = 0x8A;
+
+const LONG_RESPONSE: u8 = 0x72;
+
+const LONG_TRANSPORT: u8 = 0x8B;
+
 /// A transport header (EN 13757-7): short, of CI 7A or 8A, or long, of CI 72 or 8B, which has an address.
 #[derive(Clone, Copy, Debug, PartialEq, Eq)]
 pub struct Tpl {
@@ -146,8 +156,8 @@ fn read_header(bytes: &[u8]) -> Result<Tpl, TplFault>
     let fault = TplFault::Truncated(bytes.len());
     match bytes {
         [] => Err(fault),
-        [ci @ (0x7A | 0x8A), rest @ ..] => read_short(*ci, rest).ok_or(fault),
-        [ci @ (0x72 | 0x8B), rest @ ..] => read_long(*ci, rest).ok_or(fault),
+        [ci @ (SHORT_RESPONSE | SHORT_TRANSPORT), rest @ ..] => read_short(*ci, rest).ok_or(fault),
+        [ci @ (LONG_RESPONSE | LONG_TRANSPORT), rest @ ..] => read_long(*ci, rest).ok_or(fault),
         [ci, ..] => Err(TplFault::Unbuilt(*ci)),
     }
 }

@@ -1,20 +1,10 @@
 //! Writing a transport header.
-ghost use Rattle.std.specs.Prelude.{◌≡◌, ◌+◌, ◌≤◌, ◌<◌, ◌^◌, IfSome, ◌++◌, [], ◌∷◌, ℕ, List, Option, Some, None, length, take, Ok};
+ghost use Rattle.std.specs.Prelude.{◌≡◌, ◌+◌, ◌≤◌, ◌<◌, ◌^◌, IfSome, ◌++◌, [], ◌∷◌, ℕ, List, Option, Some, None, length, take, drop, Ok};
 ghost use Rattle.tpl_headers.specs.Header.{HasItsAddress, HasItsExtension, address_bytes, cfe_bytes, tpl_bytes, tpl_at};
 
 use crate::header::Tpl;
 use meter_address::Address;
-
-// Writes bytes at this place, and answers the place behind them.
-fn put(out: &mut [u8], at: usize, bytes: &[u8]) -> usize
-    requires { at + length bytes.now ≤ length out.old }
-    ensures end { result ≡ at + length bytes.now }
-    ensures written { take result out.new ≡ take at out.old ++ bytes.now }
-{
-    let end = at + bytes.len();
-    out[at..end].copy_from_slice(bytes);
-    end
-}
+use steps::put;
 
 // Writes the address, where there is one, identification first.
 fn put_address(out: &mut [u8], at: usize, address: Option<Address>) -> usize
@@ -23,6 +13,7 @@ fn put_address(out: &mut [u8], at: usize, address: Option<Address>) -> usize
     ensures most { result ≤ at + 8 }
     ensures number { IfSome address (λ a. a.0 < 2 ^ 64) }
     ensures written { take result out.new ≡ take at out.old ++ address_bytes address }
+    ensures behind { drop result out.new ≡ drop result out.old }
 {
     match address {
         None => at,
@@ -39,6 +30,7 @@ fn put_extension(out: &mut [u8], at: usize, cfe: Option<u8>) -> usize
     ensures end { result ≡ at + length (cfe_bytes cfe) }
     ensures most { result ≤ at + 1 }
     ensures written { take result out.new ≡ take at out.old ++ cfe_bytes cfe }
+    ensures behind { drop result out.new ≡ drop result out.old }
 {
     match cfe {
         None => at,
@@ -47,12 +39,14 @@ fn put_extension(out: &mut [u8], at: usize, cfe: Option<u8>) -> usize
 }
 
 // Writes the header, whose numbers are those of their widths.
+#[tactic(auto, using(steps::proofs::Puts::behind_both))]
 fn put_header(tpl: &Tpl, out: &mut [u8]) -> usize
     requires { length out.old ≡ 14 }
     ensures number { IfSome tpl.now.address (λ a. a.0 < 2 ^ 64) }
     ensures cf { tpl.now.cf < 2 ^ 16 }
     ensures len { result ≡ length (tpl_bytes tpl.now) }
     ensures spelt { take result out.new ≡ tpl_bytes tpl.now }
+    ensures behind { drop result out.new ≡ drop result out.old }
 {
     let cf = tpl.cf.to_le_bytes();
     let end = put(out, 0, &[tpl.ci]);
@@ -62,7 +56,7 @@ fn put_header(tpl: &Tpl, out: &mut [u8]) -> usize
     put_extension(out, end, tpl.cfe)
 }
 
-/// Writes the header, and answers how many bytes it has. What `tpl.len` says doesn't matter. The CI has to be that of a
+/// Writes the header, and answers how many bytes it has. What stands behind them in `out` stays. What `tpl.len` says doesn't matter. The CI has to be that of a
 /// long header where there is an address, and that of a short one where there is none; and the configuration field has
 /// to have its extension in mode 7, and in no other mode.
 pub fn write_tpl(tpl: &Tpl, out: &mut [u8; 14]) -> usize
@@ -70,6 +64,7 @@ pub fn write_tpl(tpl: &Tpl, out: &mut [u8; 14]) -> usize
     requires extension { HasItsExtension tpl.now.cf tpl.now.cfe }
     ensures len { result ≡ length (tpl_bytes tpl.now) }
     ensures spelt { take result out.new ≡ tpl_bytes tpl.now }
+    ensures behind { drop result out.new ≡ drop result out.old }
 
     // What is written is read back, whatever follows it.
     ensures again { (rest : List ℕ) → tpl_at (take result out.new ++ rest) ≡ Ok (record tpl.now { len = result }) }

@@ -16,6 +16,6 @@ returns-in_err-read_others-clause-read c =
 
 pub returns-clause-read : goal.returns-clause-read
 returns-clause-read c =
-    let ten : 0 + length c.in_ok-first.first.now ≡ 10 = omega (arith, c.in_ok-first.ensures.len) in
+    let ten : 10 ≡ c.put.result = omega (arith, c.in_ok-first.ensures.len) in
     all_blocks _ _ _ _ _ _ (length c.args.into.now - 10) c.split_at.ensures.front c.in_ok-first.ensures.read c.split_at.ensures.back c.requires.whole (omega arith) (omega (arith, length-take {A = ℕ}, length-drop {A = ℕ})) c.in_ok-read_others.ensures
-    ∙ ap Ok (sym (behind_first _ _ _ (ap (λ n. take n c.put.new.into) (sym ten) ∙ c.put.ensures)))
+    ∙ ap Ok (sym (behind_first _ _ _ (ap (λ n. take n c.put.new.out) ten ∙ c.put.ensures.written)))

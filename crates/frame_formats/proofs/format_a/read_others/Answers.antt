@@ -11,8 +11,9 @@ returns-in_err-block c =
 pub loop-len-preserved : goal.loop-len-preserved
 loop-len-preserved c =
     let size : length c.in_ok-block.block.now ≡ c.min-size.result = omega (arith, c.in_ok-block.ensures.len)
+    in let end : c.loop-len.len + c.min-size.result ≡ c.put.result = omega arith
     in step _ _ _ _ _ _ _ _ _ _ c.loop-len.invariant c.loop-len-test.true c.min-size.ensures c.split_at.ensures.front c.split_at.ensures.back c.in_ok-block.ensures.read
-    (omega arith) (ap (λ n. take (c.loop-len.len + n) c.put.new.into) (sym size) ∙ c.put.ensures)
+    (omega arith) (ap (λ n. take n c.put.new.out) end ∙ c.put.ensures.written)
 
 pub returns : goal.returns
 returns c = finished _ _ _ _ _ c.loop-len.invariant c.loop-len-test.false

@@ -1,21 +1,25 @@
 -- What is found of the rows that are kept holds of the rows that the edits leave.
-use Rattle.std.proofs.Common.{Err, ◌∙◌, ap}
+use Rattle.std.proofs.Common.{rules, Err, ◌∙◌, ap, inr}
 use Rattle.meter_usage.specs.Table.{removed}
 use Rattle.meter_usage.specs.Faults.{place_fault}
 use Rattle.meter_usage.proofs.Accepted.{removal_accepted, place_fault_stands, found_there, same_fault, none_there}
 use Rattle.meter_usage.proofs.totals.Totals.remove.Goals as goal
 
-pub returns-in-Some-clause-refused : goal.returns-in-Some-clause-refused
-returns-in-Some-clause-refused c = λ edits fault s there.
-    ap Err (same_fault _ c.in-Some.fault fault (found_there _ _ _ c.in-Some.fault c.place_fault.ensures (ap (place_fault c.args.address c.args.place) c.self.view_is ∙ place_fault_stands c.args.address c.args.place c.args.self.now edits s) c.in-Some.is) there)
+pub returns-in-Some-clause-answered : goal.returns-in-Some-clause-answered
+returns-in-Some-clause-answered c = record {
+  accepted = search rules;
+  unchanged = search rules;
+  refused = λ edits fault s there.
+    ap Err (same_fault _ c.in-Some.fault fault (found_there _ _ _ c.in-Some.fault c.place_fault.ensures (ap (place_fault c.args.address c.args.place) c.self.view_is ∙ place_fault_stands c.args.address c.args.place c.args.self.now edits s) c.in-Some.is) there);
+  caused = λ edits s.
+    inr (found_there _ _ _ c.in-Some.fault c.place_fault.ensures (ap (place_fault c.args.address c.args.place) c.self.view_is ∙ place_fault_stands c.args.address c.args.place c.args.self.now edits s) c.in-Some.is);
+}
 
-pub returns-in-Some-clause-only : goal.returns-in-Some-clause-only
-returns-in-Some-clause-only c = λ edits s.
-    found_there _ _ _ c.in-Some.fault c.place_fault.ensures (ap (place_fault c.args.address c.args.place) c.self.view_is ∙ place_fault_stands c.args.address c.args.place c.args.self.now edits s) c.in-Some.is
-
-pub returns-clause-refused : goal.returns-clause-refused
-returns-clause-refused c = λ edits fault s there. none_there _ _ _ fault c.place_fault.ensures (ap (place_fault c.args.address c.args.place) c.self.view_is ∙ place_fault_stands c.args.address c.args.place c.args.self.now edits s) c.in_default.is there
-
-pub returns-clause-accepted : goal.returns-clause-accepted
-returns-clause-accepted c = λ edits s.
-    removal_accepted c.remove_row.new.meters.entries c.args.self.now c.args.address c.args.place (c.remove_row.ensures.removed ∙ ap (λ t. removed t c.args.address c.args.place) c.self.view_is) edits s
+pub returns-clause-answered : goal.returns-clause-answered
+returns-clause-answered c = record {
+  accepted = λ edits s.
+    removal_accepted c.remove_row.new.meters.entries c.args.self.now c.args.address c.args.place (c.remove_row.ensures.removed ∙ ap (λ t. removed t c.args.address c.args.place) c.self.view_is) edits s;
+  unchanged = search rules;
+  refused = λ edits fault s there. none_there _ _ _ fault c.place_fault.ensures (ap (place_fault c.args.address c.args.place) c.self.view_is ∙ place_fault_stands c.args.address c.args.place c.args.self.now edits s) c.in_default.is there;
+  caused = λ edits s. search rules;
+}

@@ -1,5 +1,5 @@
 -- What is found of the rows that are kept holds of the rows that the edits leave.
-use Rattle.std.proofs.Common.{Err, ◌∙◌, ap, inr}
+use Rattle.std.proofs.Common.{rules, Err, ◌∙◌, ap, inr}
 use Rattle.meter_usage.specs.Amounts.{row_of}
 use Rattle.meter_usage.specs.Table.{replaced}
 use Rattle.meter_usage.specs.Faults.{place_fault}
@@ -8,21 +8,24 @@ use Rattle.meter_usage.proofs.Accepted.{replacement_accepted, place_fault_stands
 use Rattle.meter_usage.proofs.totals.Totals.replace.Goals as goal
 use Rattle.meter_usage.proofs.totals.Totals.replace.Goals.{in-Ok, in-Err}
 
-pub returns-in-Some-clause-refused : goal.returns-in-Some-clause-refused
-returns-in-Some-clause-refused c = λ edits fault s there.
-    ap Err (same_fault _ c.in-Some.fault fault (found_there _ _ _ c.in-Some.fault c.place_fault.ensures (ap (place_fault c.args.address c.args.place) c.self.view_is ∙ place_fault_stands c.args.address c.args.place c.args.self.now edits s) c.in-Some.is) there)
+pub returns-in-Some : goal.returns-in-Some
+returns-in-Some c = record {
+  accepted = search rules;
+  unchanged = search rules;
+  refused = λ edits fault s there.
+    ap Err (same_fault _ c.in-Some.fault fault (found_there _ _ _ c.in-Some.fault c.place_fault.ensures (ap (place_fault c.args.address c.args.place) c.self.view_is ∙ place_fault_stands c.args.address c.args.place c.args.self.now edits s) c.in-Some.is) there);
+  caused = λ edits s.
+    inr (found_there _ _ _ c.in-Some.fault c.place_fault.ensures (ap (place_fault c.args.address c.args.place) c.self.view_is ∙ place_fault_stands c.args.address c.args.place c.args.self.now edits s) c.in-Some.is);
+}
 
-pub returns-in-Some-clause-only : goal.returns-in-Some-clause-only
-returns-in-Some-clause-only c = λ edits s.
-    inr (found_there _ _ _ c.in-Some.fault c.place_fault.ensures (ap (place_fault c.args.address c.args.place) c.self.view_is ∙ place_fault_stands c.args.address c.args.place c.args.self.now edits s) c.in-Some.is)
-
-pub returns-clause-refused : goal.returns-clause-refused
-returns-clause-refused c = λ edits fault s there. none_there _ _ _ fault c.place_fault.ensures (ap (place_fault c.args.address c.args.place) c.self.view_is ∙ place_fault_stands c.args.address c.args.place c.args.self.now edits s) c.in_default.is there
-
-pub returns-clause-accepted : goal.returns-clause-accepted
-returns-clause-accepted c =
-    elim c.match-replace_row.branch [
+pub returns : goal.returns
+returns c = record {
+  accepted = elim c.match-replace_row.branch [
       | in-Ok w ↦ ok_at c.match-replace_row.result (λ edits s.
           replacement_accepted c.replace_row.new.meters.entries c.args.self.now c.args.address c.args.place c.args.payload.now (w.in-Ok.ensures.ok ∙ ap (λ t. replaced t c.args.address c.args.place (row_of c.args.payload.now)) c.self.view_is) edits s)
       | in-Err w ↦ err_at _ c.match-replace_row.result _ w.result-is
-    ]
+    ];
+  unchanged = search rules;
+  refused = λ edits fault s there. none_there _ _ _ fault c.place_fault.ensures (ap (place_fault c.args.address c.args.place) c.self.view_is ∙ place_fault_stands c.args.address c.args.place c.args.self.now edits s) c.in_default.is there;
+  caused = λ edits s. search rules;
+}

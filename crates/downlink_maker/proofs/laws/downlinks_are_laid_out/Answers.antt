@@ -1,0 +1,5 @@
+use Rattle.downlink_maker.proofs.ReadBack.{downlinks_are_laid_out}
+use Rattle.downlink_maker.proofs.laws.downlinks_are_laid_out.Goals as goal
+
+pub returns : goal.returns
+returns c = downlinks_are_laid_out

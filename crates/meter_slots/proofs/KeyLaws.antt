@@ -1,0 +1,37 @@
+-- Proof that a second key makes no difference where there is none.
+use Rattle.std.proofs.Common.{◌≡◌, ℕ, List, [], ◌∷◌, Option, None, refl, ap, ◌∙◌}
+use Rattle.std.specs.List.{All}
+use Rattle.std.proofs.lemmas.List.Elements.{All-head, All-tail}
+use Rattle.meter_address.specs.declared.commission.Mode.{Mode}
+use Rattle.meter_address.specs.Commission.{Commissioned}
+use Rattle.tpl_headers.specs.declared.header.Tpl.{Tpl}
+use Rattle.message_check.specs.Keys.{key_of}
+use Rattle.meter_slots.specs.declared.entry.Entry.{Entry}
+use Rattle.meter_slots.specs.declared.entry.Event.{Event}
+use Rattle.meter_slots.specs.declared.entry.Event.TheVariants.{Hear, Tick, Put, Cancel, Rekey}
+use Rattle.meter_slots.specs.Journal.{other_after, other_key, rekeyed}
+use Rattle.meter_slots.specs.Laws.{LeavesKeys}
+use Rattle.message_check.proofs.OpeningLaws.{one_key_alone}
+
+kept_by : (mode : Mode) (event : Event) (other : Option (List ℕ)) → LeavesKeys event → other_after mode event other ≡ other
+kept_by mode (Hear format at t) other h = refl
+kept_by mode Tick other h = refl
+kept_by mode (Put payload) other h = refl
+kept_by mode (Cancel id) other h = refl
+kept_by mode (Rekey key) other h = absurd h
+
+abbrev LeavesKeysAt : Entry → Type 0
+LeavesKeysAt x = LeavesKeys x.event
+
+pub key_stays : (c : Commissioned) (earlier : List Entry) → All LeavesKeysAt earlier → other_key c earlier ≡ c.other
+key_stays c [] h = refl
+key_stays c (x ∷ earlier) h =
+    kept_by c.mode x.event (other_key c earlier) (All-head LeavesKeysAt x earlier h) ∙ key_stays c earlier (All-tail LeavesKeysAt x earlier h)
+
+-- messages are opened with the commission as it was made
+pub commission_stays : (c : Commissioned) (earlier : List Entry) → All LeavesKeysAt earlier → rekeyed c (other_key c earlier) ≡ c
+commission_stays c earlier h = ap (rekeyed c) (key_stays c earlier h)
+
+-- and without a second key they are under the first
+pub first_key_of_message : (c : Commissioned) (earlier : List Entry) (h : Tpl) → All LeavesKeysAt earlier → c.other ≡ None → key_of (rekeyed c (other_key c earlier)) h ≡ c.key
+first_key_of_message c earlier h stays none = ap (λ (m : Commissioned). key_of m h) (commission_stays c earlier stays) ∙ one_key_alone c h none

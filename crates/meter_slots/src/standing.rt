@@ -1,0 +1,227 @@
+//! What the entries of a slot come to, and what an event is answered by it.
+ghost use Rattle.std.specs.Prelude.{◌≡◌, ◌++◌, ℕ, List, [], length, vec_capacity, option_to_list, ◌≤◌, IfOk, OnErr};
+ghost use Rattle.afl_fragments.specs.Held.{held_bytes};
+ghost use Rattle.meter_slots.specs.Journal.{reading_at, stored_in};
+ghost use Rattle.meter_slots.specs.Keeping.{verdict_as, room_for, VerdictHasRoom};
+
+use crate::commands::Commands;
+use crate::entry::{Event, Outcome};
+use crate::hearing::{has_response_control, hear, receive};
+use crate::judge::{Judge, Verdict};
+use crate::reading::{Bytes, Reading};
+use access_window::Window;
+use afl_fragments::Parts;
+use afl_layer::{SCRATCH_MAX, Scratch};
+use command_queue::Queue;
+use frame_formats::Telegram;
+use message_check::{Layers, Reason};
+use meter_address::{Address, Commission};
+use outer_io::Memory;
+use std::alloc::Global;
+use std::marker::Model;
+
+/// What a slot keeps of what its entries come to: what messages are judged by, the fragments that are held, and the commands.
+#[derive(Drop)]
+pub(crate) struct Standing {
+    judge: Judge,
+    parts: Parts,
+    commands: Commands,
+    // The buffer in which messages are opened, from the first one on.
+    message: Option<Box<Scratch>>,
+}
+
+impl Model for Standing {
+    ghost use Rattle.meter_slots.specs.Keeping.{Kept};
+
+    ghost Value = { Kept };
+
+    ghost view = { λ s. record { commission = s.judge.commission; last = s.judge.last; parts = s.parts; orders = s.commands } };
+}
+
+/// What an event is answered, and the reading that is stored with it.
+#[derive(Drop)]
+pub(crate) struct Served {
+    pub(crate) outcome: Outcome,
+    pub(crate) reading: Option<Reading>,
+}
+
+// How many bytes the payload of what a telegram stores has at most. A whole message is joined to no fragment that is held.
+fn room_needed(parts: &Parts, telegram: &Telegram, layers: &Result<Layers, Reason>) -> usize
+    ensures { result ≡ room_for layers.now parts.now telegram.now }
+{
+    match layers {
+        Err(_) => 0,
+        Ok(layers) => {
+            let len = telegram.bytes().len();
+            if layers.is_fragment() {
+                parts.held_bytes().min(SCRATCH_MAX) + len
+            } else {
+                len
+            }
+        }
+    }
+}
+
+// The buffer that was kept, or a new one.
+fn take_buffer(alloc: Global, kept: &mut Option<Box<Scratch>>) -> Result<Box<Scratch>, Memory> {
+    match kept.take() {
+        Some(buffer) => Ok(buffer),
+        None => Ok(Box::new(alloc, Scratch::new())?),
+    }
+}
+
+// The bytes, in room that was taken before.
+fn fill(mut room: Vec<u8>, bytes: &[u8]) -> Vec<u8>
+    requires empty { room.items ≡ [] }
+    requires fits { length bytes.now ≤ vec_capacity room }
+    ensures { result.items ≡ bytes.now }
+{
+    for byte in bytes {
+        room.push_reserved(*byte);
+    }
+    room
+}
+
+// The reading of what is stored, which stands in the buffer, in room that was taken before.
+fn reading_from(at: u64, room: Vec<u8>, verdict: &Verdict, message: &Scratch) -> Option<Reading>
+    requires empty { room.items ≡ [] }
+    requires within { VerdictHasRoom message.now (vec_capacity room) verdict.now }
+    ensures { option_to_list result ≡ reading_at at (stored_in (verdict_as message.now verdict.now)) }
+{
+    let Ok(Some(opened)) = verdict else {
+        return None;
+    };
+    let (_, payload) = message.bytes().split_at(opened.from);
+    Some(Reading {
+        at,
+        counter: opened.counter,
+        payload: Bytes::from_vec(fill(room, payload)),
+    })
+}
+
+// An answer with which nothing is stored.
+fn plain(outcome: Outcome) -> Served
+    ensures outcome { result.outcome ≡ outcome }
+    ensures reading { result.reading ≡ None }
+{
+    Served {
+        outcome,
+        reading: None,
+    }
+}
+
+impl Standing {
+    ghost use Rattle.std.specs.Prelude.{◌≡◌, ◌≤◌, ◌++◌, List, option_to_list, IfOk, OnErr};
+    ghost use Rattle.std.specs.Option.{ForSome};
+    ghost use Rattle.meter_address.specs.Commission.{most_last};
+    ghost use Rattle.access_window.specs.Moves.{fresh_orders};
+    ghost use Rattle.afl_fragments.specs.Held.{Told, StandsFor};
+    ghost use Rattle.meter_slots.specs.declared.entry.Event.TheVariants.{Hear};
+    ghost use Rattle.frame_formats.specs.declared.format.Format.{Format};
+    ghost use Rattle.meter_slots.specs.Journal.{told_by, access_at, orders_after, answer, stored, reading_of};
+    ghost use Rattle.meter_slots.specs.Keeping.{standing_for, last_after, Moves, StoresInRange};
+
+    /// Nothing came yet.
+    pub(crate) fn new(commission: Commission) -> Standing
+        ensures commission { result.commission ≡ commission }
+        ensures last { result.last ≡ commission.last }
+        ensures fits { ForSome commission.last (λ n. n ≤ most_last commission.mode) }
+        ensures parts { StandsFor result.parts [] }
+        ensures orders { result.orders ≡ fresh_orders commission.ids commission.down }
+    {
+        Standing {
+            judge: Judge::new(commission),
+            parts: Parts::new(),
+            commands: Commands::new(commission.ids, commission.down),
+            message: None,
+        }
+    }
+
+    /// The commission, with the second key that the meter has now.
+    pub(crate) fn commission(&self) -> &Commission
+        ensures { result.now ≡ self.now.commission }
+    {
+        self.judge.commission()
+    }
+
+    /// The last number.
+    pub(crate) fn last(&self) -> Option<u32>
+        ensures { result ≡ self.now.last }
+    {
+        self.judge.last()
+    }
+
+    /// The commands that wait.
+    pub(crate) fn queue(&self) -> &Queue
+        ensures { result.now ≡ self.now.orders.queue }
+    {
+        self.commands.queue()
+    }
+
+    /// Whether one of them was sent and waits for a response.
+    pub(crate) fn window(&self) -> Window
+        ensures { result ≡ self.now.orders.window }
+    {
+        self.commands.window()
+    }
+
+    /// The last counter of a downlink.
+    pub(crate) fn down(&self) -> u32
+        ensures { result ≡ self.now.orders.down }
+    {
+        self.commands.down()
+    }
+
+    // Answers a telegram. For want of memory nothing changes.
+    fn hear(&mut self, alloc: Global, own: Address, at: u64, telegram: &Telegram) -> Result<Served, Memory>
+        ensures outcome { IfOk result (λ served. (format : Format) (told : List Told) → StandsFor self.old.parts told
+            → served.outcome ≡ answer self.old.commission own (standing_for self.old told) (Hear format at telegram.now)) }
+        ensures reading { IfOk result (λ served. (format : Format) (told : List Told) → StandsFor self.old.parts told
+            → option_to_list served.reading
+            ≡ reading_at at (stored self.old.commission (standing_for self.old told) (Hear format at telegram.now))) }
+        ensures commission { IfOk result (λ _. self.new.commission ≡ self.old.commission) }
+        ensures last { IfOk result (λ served. self.new.last ≡ last_after self.old.last served.outcome) }
+        ensures parts { IfOk result (λ served. (format : Format) (told : List Told) → StandsFor self.old.parts told
+            → StandsFor self.new.parts (told_by self.old.commission (Hear format at telegram.now) served.outcome ++ told)) }
+        ensures orders { IfOk result (λ served. (format : Format) (told : List Told) → StandsFor self.old.parts told
+            → self.new.orders ≡ orders_after self.old.orders
+            (access_at self.old.commission (standing_for self.old told) (Hear format at telegram.now))
+            (Hear format at telegram.now) served.outcome) }
+        ensures number { IfOk result (λ served. StoresInRange self.old.commission.mode served.outcome) }
+        ensures err { OnErr result (self.new ≡ self.old) }
+    {
+        let layers = receive(self.judge.mode(), telegram);
+        let room = Vec::with_capacity(alloc, room_needed(&self.parts, telegram, &layers))?;
+        let mut message = take_buffer(alloc, &mut self.message)?;
+        let judged = hear(&self.judge, &mut self.parts, telegram, layers, &mut message);
+        let response = has_response_control(telegram.control());
+        let outcome = self.commands.hear(own, self.judge.commission(), &judged, response);
+        self.judge.count(&outcome);
+        let reading = reading_from(at, room, &judged.verdict, &message);
+        self.message = Some(message);
+        Ok(Served { outcome, reading })
+    }
+
+    /// Answers an event. For want of memory nothing changes.
+    pub(crate) fn answer(&mut self, alloc: Global, own: Address, event: &Event) -> Result<Served, Memory>
+        ensures outcome { IfOk result (λ served. (told : List Told) → StandsFor self.old.parts told
+            → served.outcome ≡ answer self.old.commission own (standing_for self.old told) event.now) }
+        ensures reading { IfOk result (λ served. (told : List Told) → StandsFor self.old.parts told → option_to_list served.reading
+            ≡ reading_of event.now (stored self.old.commission (standing_for self.old told) event.now)) }
+        ensures moves { IfOk result (λ served. (told : List Told) → StandsFor self.old.parts told
+            → Moves self.old self.new told event.now served.outcome) }
+        ensures number { IfOk result (λ served. StoresInRange self.old.commission.mode served.outcome) }
+        ensures err { OnErr result (self.new ≡ self.old) }
+    {
+        match event {
+            Event::Hear { at, telegram, .. } => Ok(self.hear(alloc, own, *at, telegram)?),
+            Event::Tick => {
+                self.parts.tick();
+                Ok(plain(self.commands.tick()))
+            }
+            Event::Put(payload) => Ok(plain(self.commands.put(payload))),
+            Event::Cancel(id) => Ok(plain(self.commands.cancel(*id))),
+            Event::Rekey(key) => Ok(plain(self.judge.rekey(key))),
+        }
+    }
+}

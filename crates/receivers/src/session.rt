@@ -1,0 +1,141 @@
+//! A session of several receivers over the slots of some commissions.
+ghost use Rattle.std.specs.Prelude.{◌≡◌, ◌<◌, ◌^◌, None, [], map, length, All, IfOk, OnOk, vec_len};
+ghost use Rattle.meter_slots.specs.Directory.{AreApart};
+ghost use Rattle.slot_cells.specs.Acts.{IsPassOf};
+ghost use Rattle.receivers.specs.Run.{receiver_runs};
+ghost use Rattle.receivers.specs.Collected.{address_of, IsNewRoot, AreFresh, IsCollected};
+
+use crate::receiver::Receiver;
+use crate::roots::close_each;
+use crate::running::run_cells;
+use meter_address::{Address, Commission};
+use meter_slots::{Directory, SlotBook};
+use outer_io::{Memory, Sink, Source};
+use slot_cells::{BookCell, Pass, SlotCell, StrangerCell};
+use std::alloc::Global;
+use std::sync::Wait;
+use std::thread::Threads;
+use stranger_ring::Strangers;
+
+// A cell for each commission, with its pass.
+#[derive(Drop)]
+struct Fresh {
+    cells: Vec<SlotCell>,
+    roots: Vec<Pass<SlotBook>>,
+}
+
+fn make_cells(alloc: Global, own: Address, commissions: &[Commission]) -> Result<Fresh, Memory>
+    ensures { IfOk result (λ f. AreFresh own commissions.now f.cells.items f.roots.items) }
+{
+    let mut cells = Vec::new(alloc);
+    let mut roots = Vec::new(alloc);
+    for place in 0..commissions.len() {
+        let book = SlotBook::new(alloc, own, commissions[place]);
+        match BookCell::new(alloc, book, 0) {
+            Ok((cell, root)) => {
+                cells.push(cell)?;
+                roots.push(root)?;
+            }
+            Err(_) => return Err(Memory),
+        }
+    }
+    Ok(Fresh { cells, roots })
+}
+
+fn addresses_of(alloc: Global, commissions: &[Commission]) -> Result<Vec<Address>, Memory>
+    ensures { IfOk result (λ addresses. addresses.items ≡ map address_of commissions.now) }
+{
+    let addresses = commissions.iter().map(|c| c.address).collect(alloc)?;
+    Ok(addresses)
+}
+
+/// The slots and the strangers after a session.
+#[derive(Drop)]
+pub struct Collected {
+    /// The slots, in the order of the commissions.
+    pub slots: Vec<SlotBook>,
+    /// The strangers.
+    pub strangers: Strangers,
+}
+
+// Has all receivers work over these cells, and closes them.
+fn collect_over<R: Threads + Wait + Sync, S: Source + Send + Drop, K: Sink + Send + Drop>(
+    rt: &R,
+    alloc: Global,
+    own: Address,
+    commissions: &[Commission],
+    directory: &Directory,
+    fresh: Fresh,
+    strangers: StrangerCell,
+    mut stranger_root: Pass<Strangers>,
+    receivers: &mut Vec<Receiver<S, K>>,
+) -> Result<Collected, Memory>
+    requires apart { AreApart (map address_of commissions.now) }
+    requires directory { directory.now ≡ map address_of commissions.now }
+    requires cells { AreFresh own commissions.now fresh.cells.items fresh.roots.items }
+    requires strangers { IsPassOf strangers stranger_root × IsNewRoot stranger_root }
+    requires few_receivers { vec_len receivers.old < 2 ^ 32 }
+    requires fresh { All (λ r. r.ended ≡ None) receivers.old.items }
+    ensures collected { IfOk result (λ c. IsCollected own commissions.now (receiver_runs S.Source K.Sink receivers.old.items receivers.new.items) (record { slots = c.slots.items; strangers = c.strangers })) }
+    ensures as_many { OnOk result (length receivers.new.items ≡ length receivers.old.items) }
+{
+    let Fresh { cells, mut roots } = fresh;
+    run_cells(
+        rt,
+        alloc,
+        directory,
+        cells.as_slice(),
+        roots.as_mut_slice(),
+        &strangers,
+        &mut stranger_root,
+        receivers,
+    )?;
+    let slots = close_each(alloc, cells, roots)?;
+    Ok(Collected {
+        slots,
+        strangers: strangers.close(stranger_root),
+    })
+}
+
+// The cell of the strangers, with its pass.
+fn make_strangers(alloc: Global) -> Result<(StrangerCell, Pass<Strangers>), Memory>
+    ensures { IfOk result (λ made. IsPassOf made.0 made.1 × IsNewRoot made.1) }
+{
+    let strangers = Strangers::new(alloc)?;
+    match BookCell::new(alloc, strangers, 0) {
+        Ok(made) => Ok(made),
+        Err(_) => Err(Memory),
+    }
+}
+
+/// Has all receivers work over the slots of these commissions, each in a thread of its own where one can be made.
+pub fn collect<R: Threads + Wait + Sync, S: Source + Send + Drop, K: Sink + Send + Drop>(
+    rt: &R,
+    alloc: Global,
+    own: Address,
+    commissions: &[Commission],
+    receivers: &mut Vec<Receiver<S, K>>,
+) -> Result<Collected, Memory>
+    requires apart { AreApart (map address_of commissions.now) }
+    requires few { length commissions.now < 2 ^ 32 }
+    requires few_receivers { vec_len receivers.old < 2 ^ 32 }
+    requires fresh { All (λ r. r.ended ≡ None) receivers.old.items }
+    ensures collected { IfOk result (λ c. IsCollected own commissions.now (receiver_runs S.Source K.Sink receivers.old.items receivers.new.items) (record { slots = c.slots.items; strangers = c.strangers })) }
+    ensures as_many { OnOk result (length receivers.new.items ≡ length receivers.old.items) }
+{
+    let addresses = addresses_of(alloc, commissions)?;
+    let directory = Directory::new(alloc, addresses.as_slice())?;
+    let fresh = make_cells(alloc, own, commissions)?;
+    let (strangers, stranger_root) = make_strangers(alloc)?;
+    collect_over(
+        rt,
+        alloc,
+        own,
+        commissions,
+        &directory,
+        fresh,
+        strangers,
+        stranger_root,
+        receivers,
+    )
+}

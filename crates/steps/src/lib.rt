@@ -1,0 +1,20 @@
+//! Small steps that readers and writers of bytes share: one part is written behind another; and in the definitions, one
+//! part is read after another, with the first fault.
+#![tactic(auto)]
+
+ghost use Rattle.std.specs.Prelude.{◌≡◌, ◌+◌, ◌≤◌, ◌++◌, length, take, drop};
+
+#[cfg(test)]
+mod tests;
+
+/// Writes bytes at this place, and answers the place behind them. What stands in front of them and behind them stays.
+pub fn put(out: &mut [u8], at: usize, bytes: &[u8]) -> usize
+    requires { at + length bytes.now ≤ length out.old }
+    ensures end { result ≡ at + length bytes.now }
+    ensures written { take result out.new ≡ take at out.old ++ bytes.now }
+    ensures behind { drop result out.new ≡ drop result out.old }
+{
+    let end = at + bytes.len();
+    out[at..end].copy_from_slice(bytes);
+    end
+}

@@ -1,0 +1,171 @@
+//! The answer to one line.
+ghost use Rattle.std.specs.Prelude.{◌≡◌, ◌≤◌, ℕ, List, Some, Err, IsTrue, OnOk, codes};
+ghost use Rattle.outer_io.specs.Shown.{sink_change, WriteFailed};
+ghost use Rattle.meter_usage.specs.Table.{Table};
+ghost use Rattle.usage_totals_main.specs.Requests.{edits, edit_read, request_read, request_of};
+ghost use Rattle.usage_totals_main.specs.Texts.{edit_text, usages_text, totals_text, answer_text, rows_by, rows_after_line};
+ghost use Rattle.usage_totals_main.specs.Answering.{Keeps, DoesEdit, Writes, Settles};
+
+use crate::request::{EditRead, RequestRead, Unread, read_request};
+use crate::texts::{NoSuchRow, TotalsAnswer, UsagesAnswer};
+use meter_address::Address;
+use meter_usage::{Totals, TotalsFault};
+use outer_io::{Memory, Sink, write_all};
+use paper::write;
+use std::alloc::Global;
+
+/// Why no more lines are answered.
+#[derive(Clone, Copy, Debug, PartialEq, Eq)]
+pub(crate) enum Stop {
+    /// A write failed.
+    Write,
+    /// Memory ran out.
+    Memory,
+}
+
+// Why the rows refuse an edit, if they do.
+fn settled(answer: Result<(), TotalsFault>) -> Result<Option<TotalsFault>, Memory>
+    ensures { Settles answer result }
+{
+    match answer {
+        Ok(()) => Ok(None),
+        Err(TotalsFault::Memory) => Err(Memory),
+        Err(fault) => Ok(Some(fault)),
+    }
+}
+
+// Does an edit, and answers why the rows refuse it, if they do.
+fn do_edit(totals: &mut Totals, edit: &EditRead) -> Result<Option<TotalsFault>, Memory>
+    ensures { DoesEdit (edit_read edit.now) totals.old result totals.new }
+{
+    match edit {
+        EditRead::Add(address, payload) => settled(totals.add(*address, payload.as_slice())),
+        EditRead::Replace(address, place, payload) => {
+            settled(totals.replace(*address, *place, payload.as_slice()))
+        }
+        EditRead::Remove(address, place) => settled(totals.remove(*address, *place)),
+    }
+}
+
+// Writes the answer to an edit.
+fn write_edit_answer<K: Sink>(out: &mut K, fault: Option<TotalsFault>) -> Result<(), Stop>
+    ensures writes { IsTrue K.tells → Writes (edit_text fault) (sink_change K.Sink out.old out.new) result }
+    ensures cause { result ≡ Err Stop.Write → WriteFailed (sink_change K.Sink out.old out.new) }
+    ensures later { K.faults out.old ≤ K.faults out.new }
+{
+    let written = match fault {
+        None => write_all(out, b"ok\n"),
+        Some(TotalsFault::Meters) => write_all(out, b"refused meters\n"),
+        Some(TotalsFault::Rows) => write_all(out, b"refused rows\n"),
+        Some(TotalsFault::NoSuch(place)) => write(out, &NoSuchRow { place }),
+        Some(TotalsFault::Memory) => return Ok(()),
+    };
+    match written {
+        Ok(()) => Ok(()),
+        Err(_) => Err(Stop::Write),
+    }
+}
+
+// Writes the usages of a meter.
+fn write_usages<K: Sink>(totals: &Totals, out: &mut K, address: Address) -> Result<(), Stop>
+    ensures writes { IsTrue K.tells → (table : Table (List ℕ)) → Keeps table totals.now →
+        Writes (usages_text table address) (sink_change K.Sink out.old out.new) result }
+    ensures cause { result ≡ Err Stop.Write → WriteFailed (sink_change K.Sink out.old out.new) }
+    ensures later { K.faults out.old ≤ K.faults out.new }
+{
+    let Ok(keys) = totals.keys() else {
+        return Err(Stop::Memory);
+    };
+    let answer = UsagesAnswer {
+        totals,
+        address,
+        keys: keys.as_slice(),
+    };
+    match write(out, &answer) {
+        Ok(()) => Ok(()),
+        Err(_) => Err(Stop::Write),
+    }
+}
+
+// Writes the totals of all meters.
+fn write_totals<K: Sink>(totals: &Totals, out: &mut K) -> Result<(), Stop>
+    ensures writes { IsTrue K.tells → (table : Table (List ℕ)) → Keeps table totals.now →
+        Writes (totals_text table) (sink_change K.Sink out.old out.new) result }
+    ensures cause { result ≡ Err Stop.Write → WriteFailed (sink_change K.Sink out.old out.new) }
+    ensures later { K.faults out.old ≤ K.faults out.new }
+{
+    let Ok(keys) = totals.keys() else {
+        return Err(Stop::Memory);
+    };
+    let answer = TotalsAnswer {
+        totals,
+        keys: keys.as_slice(),
+    };
+    match write(out, &answer) {
+        Ok(()) => Ok(()),
+        Err(_) => Err(Stop::Write),
+    }
+}
+
+// Does an edit and writes its answer.
+fn answer_edit<K: Sink>(totals: &mut Totals, out: &mut K, edit: &EditRead) -> Result<(), Stop>
+    ensures rows { OnOk result ((table : Table (List ℕ)) → Keeps table totals.old →
+        Keeps (rows_by table (Some (edits (edit_read edit.now)))) totals.new) }
+    ensures writes { IsTrue K.tells → (table : Table (List ℕ)) → Keeps table totals.old →
+        Writes (answer_text table (Some (edits (edit_read edit.now)))) (sink_change K.Sink out.old out.new) result }
+    ensures cause { result ≡ Err Stop.Write → WriteFailed (sink_change K.Sink out.old out.new) }
+    ensures later { K.faults out.old ≤ K.faults out.new }
+{
+    match do_edit(totals, edit) {
+        Ok(fault) => write_edit_answer(out, fault),
+        Err(_) => Err(Stop::Memory),
+    }
+}
+
+// Does what a line asks for and writes the answer.
+fn answer_request<K: Sink>(totals: &mut Totals, out: &mut K, request: &RequestRead) -> Result<(), Stop>
+    ensures rows { OnOk result ((table : Table (List ℕ)) → Keeps table totals.old →
+        Keeps (rows_by table (Some (request_read request.now))) totals.new) }
+    ensures writes { IsTrue K.tells → (table : Table (List ℕ)) → Keeps table totals.old →
+        Writes (answer_text table (Some (request_read request.now))) (sink_change K.Sink out.old out.new) result }
+    ensures cause { result ≡ Err Stop.Write → WriteFailed (sink_change K.Sink out.old out.new) }
+    ensures later { K.faults out.old ≤ K.faults out.new }
+{
+    match request {
+        RequestRead::Edits(edit) => answer_edit(totals, out, edit),
+        RequestRead::Usages(address) => write_usages(totals, out, *address),
+        RequestRead::Totals => write_totals(totals, out),
+    }
+}
+
+// Writes that a line asks for nothing.
+fn write_bad<K: Sink>(out: &mut K) -> Result<(), Stop>
+    ensures writes { IsTrue K.tells → Writes (codes "bad\n") (sink_change K.Sink out.old out.new) result }
+    ensures cause { result ≡ Err Stop.Write → WriteFailed (sink_change K.Sink out.old out.new) }
+    ensures later { K.faults out.old ≤ K.faults out.new }
+{
+    match write_all(out, b"bad\n") {
+        Ok(()) => Ok(()),
+        Err(_) => Err(Stop::Write),
+    }
+}
+
+/// Does what a line asks for, which is given without its end, and writes the answer.
+pub(crate) fn answer_line<K: Sink>(
+    alloc: Global,
+    totals: &mut Totals,
+    out: &mut K,
+    line: &[u8],
+) -> Result<(), Stop>
+    ensures rows { OnOk result ((table : Table (List ℕ)) → Keeps table totals.old → Keeps (rows_after_line table line.now) totals.new) }
+    ensures writes { IsTrue K.tells → (table : Table (List ℕ)) → Keeps table totals.old →
+        Writes (answer_text table (request_of line.now)) (sink_change K.Sink out.old out.new) result }
+    ensures cause { result ≡ Err Stop.Write → WriteFailed (sink_change K.Sink out.old out.new) }
+    ensures later { K.faults out.old ≤ K.faults out.new }
+{
+    match read_request(alloc, line) {
+        Ok(request) => answer_request(totals, out, &request),
+        Err(Unread::Bad) => write_bad(out),
+        Err(Unread::Memory) => Err(Stop::Memory),
+    }
+}
