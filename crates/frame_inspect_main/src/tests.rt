@@ -2,10 +2,9 @@
 ghost use Rattle.std.specs.Prelude.{◌≡◌, IfOk, vec_len};
 
 use super::*;
-use line_reader::{Lines, read_line};
+use line_reader::Lines;
 use outer_io::{Memory, MemorySink, MemorySource};
 use std::alloc::{AllocError, Global};
-use std::process::Abort;
 use std::sync::atomic::{AtomicU64, Ordering};
 use std::test::Fail;
 
@@ -43,127 +42,78 @@ fn bad_lines(alloc: Global, count: usize) -> Result<Vec<Item>, AllocError>
 }
 
 #[test]
-fn two_workers_look_at_once_and_one_does_not(rt: HostRuntime) -> Result<(), Fail> {
-    for (workers, turns, passes) in [(2, 1_000_000_000, true), (1, 1_000, false)] {
-        let items = bad_lines(rt.alloc(), 2)?;
-        let gate = Gate {
-            turns,
-            second_begun: AtomicU64::new(0),
-        };
-        let shown = inspect(&rt, rt.alloc(), &gate, &items, workers);
-        assert_eq!(rt; shown.is_ok(), passes, "{workers} workers");
-    }
+fn two_workers_look_at_once(rt: HostRuntime) -> Result<(), Fail> {
+    let items = bad_lines(rt.alloc(), 2)?;
+    let gate = Gate {
+        turns: 1_000_000_000,
+        second_begun: AtomicU64::new(0),
+    };
+    let shown = inspect(&rt, rt.alloc(), &gate, &items, 2);
+    assert!(rt; shown.is_ok());
     Ok(())
-}
-
-// What is shown of a line with the number 1.
-fn shown(rt: &impl Abort, alloc: Global, line: &str) -> Result<Shown, Memory> {
-    let item = Item::of(alloc, &read_line(line.as_bytes()))?;
-    Layered.look(alloc, 1, &item)
 }
 
 #[test]
-fn each_layer_is_shown(rt: HostRuntime) -> Result<(), Fail> {
-    for (line, text) in [
-        ("T 9315785634123303", "1 other\n"),
-        ("K 9315785634123303 000102030405060708090a0b0c0d0e0f", "1 other\n"),
-        ("T a", "1 bad\n"),
-        ("A 100 ", "1 unframed empty\n"),
-        ("A 100 09", "1 unframed short 9\n"),
-        ("B 100 80", "1 unframed gap 128\n"),
-        ("B 100 0c", "1 unframed length 13 1\n"),
-        (
-            "A 100 2e44931578563412330333637a2a0020055923c95aaa26d1b2e7493b2a8b013ec4a6f6d3529b520edff0ea6defc955b29d6d69ebf3ec8a",
-            "1 A 47 44 9315785634123303 ELS tpl 7a 42 00 5 2\n",
-        ),
-        // two bytes of the first block exchanged
-        (
-            "A 100 2e44159378563412330333637a2a0020055923c95aaa26d1b2e7493b2a8b013ec4a6f6d3529b520edff0ea6defc955b29d6d69ebf3ec8a",
-            "1 unframed crc 1\n",
-        ),
-        (
-            "A 100 30449315010203040107b178900f002c2501000000bf60473154d1f007da447a0100100710adb77dfd4c277cf681f77dc583beeb00899da35d",
-            "1 A 49 44 9315010203040107 ELS afl 0 last 25 1 tpl 7a 1 00 7 1\n",
-        ),
-        (
-            "A 100 1b449315010203040107dc6b900a030444be55dccc54b5b50decfe5ec2ed405eadfd",
-            "1 A 28 44 9315010203040107 ELS afl 3 last - - piece 6\n",
-        ),
-    ] {
-        match shown(&rt, rt.alloc(), line) {
-            Ok(shown) => assert_eq!(rt; shown.bytes(), text.as_bytes(), "{line}"),
-            Err(_) => assert!(rt; false, "no memory"),
-        }
-    }
+fn one_worker_looks_at_one_after_another(rt: HostRuntime) -> Result<(), Fail> {
+    let items = bad_lines(rt.alloc(), 2)?;
+    let gate = Gate {
+        turns: 1_000,
+        second_begun: AtomicU64::new(0),
+    };
+    let shown = inspect(&rt, rt.alloc(), &gate, &items, 1);
+    assert!(rt; shown.is_err());
     Ok(())
 }
 
-// The words for a file and so many workers.
-fn words(alloc: Global, workers: &str) -> Result<Vec<String>, Fail> {
-    let words = vec![in alloc; String::from_str(alloc, "frames")?, String::from_str(alloc, workers)?]?;
-    Ok(words)
-}
+// Whole messages of modes 5 and 7, a tick, a frame with two bytes exchanged, a bad line, and an unfinished line.
+const FRAMES: &str = "A 100 2e44931578563412330333637a2a0020055923c95aaa26d1b2e7493b2a8b013ec4a6f6d3529b520edff0ea6defc955b29d6d69ebf3ec8a
+A 100 30449315010203040107b178900f002c250500000070e9657d1ed61163fb587a010010071079f0dc80708ec46fba58a2f74d0582fe3496c881
+T 9315785634123303
+A 100 2e44159378563412330333637a2a0020055923c95aaa26d1b2e7493b2a8b013ec4a6f6d3529b520edff0ea6defc955b29d6d69ebf3ec8a
+T a
+B 1 0c";
 
-// Lines of each kind, so many times over.
-fn many_lines(alloc: Global, times: usize) -> Result<Vec<u8>, AllocError> {
-    let mut bytes = Vec::new(alloc);
-    for _ in 0..times {
-        bytes.extend_from_slice(b"T 9315785634123303\nT\r\n\nB 1 0c\nA 100 2e44931578563412330333637a2a0020055923c95aaa26d1b2e7493b2a8b013ec4a6f6d3529b520edff0ea6defc955b29d6d69ebf3ec8a\n")?;
-    }
-    Ok(bytes)
-}
+const SHOWN: &str = "1 A 47 44 9315785634123303 ELS tpl 7a 42 00 5 2
+2 A 49 44 9315010203040107 ELS afl 0 last 25 5 tpl 7a 1 00 7 1
+3 other
+4 unframed crc 1
+5 bad
+6 unframed length 13 1
+";
 
 #[test]
 fn a_run_shows_alike_with_any_number_of_workers(rt: HostRuntime) -> Result<(), Fail> {
     let alloc = rt.alloc();
-    let mut first = MemorySink::steady(alloc);
-    let mut frames = Lines::new(MemorySource::steady(alloc, many_lines(alloc, 400)?));
-    assert_eq!(rt; inspect_run(&rt, alloc, &words(alloc, "1")?, &mut frames, &mut first), InspectStatus::Done);
-    let front = b"1 other\n2 bad\n3 bad\n4 unframed length 13 1\n5 A 47 44 9315785634123303 ELS tpl 7a 42 00 5 2\n6 other\n";
-    assert!(rt; first.bytes().starts_with(front));
-    assert!(rt; first.bytes().ends_with(b"\n2000 A 47 44 9315785634123303 ELS tpl 7a 42 00 5 2\n"));
-    for workers in ["2", "3", "16"] {
+    for workers in ["1", "2", "16"] {
+        let bytes = FRAMES.as_bytes().to_vec(alloc)?;
+        let mut frames = Lines::new(MemorySource::steady(alloc, bytes));
         let mut out = MemorySink::steady(alloc);
-        let mut frames = Lines::new(MemorySource::pieces(many_lines(alloc, 400)?, 7, Vec::new(alloc)));
-        assert_eq!(rt; inspect_run(&rt, alloc, &words(alloc, workers)?, &mut frames, &mut out), InspectStatus::Done);
-        assert_eq!(rt; out.bytes(), first.bytes(), "{workers} workers");
+        let words = vec![in alloc; String::from_str(alloc, "frames")?, String::from_str(alloc, workers)?]?;
+        let status = inspect_run(&rt, alloc, &words, &mut frames, &mut out);
+        assert_eq!(rt; status, InspectStatus::Done);
+        assert_eq!(rt; out.bytes(), SHOWN.as_bytes());
     }
     Ok(())
 }
 
 #[test]
-fn a_run_ends_by_its_status(rt: HostRuntime) -> Result<(), Fail> {
+fn a_run_ends_by_its_faults(rt: HostRuntime) -> Result<(), Fail> {
     let alloc = rt.alloc();
-    // workers, the read that fails, the write that fails, the status, the output
-    for (workers, read, write, status, text) in [
-        ("1", 0, 0, 0, "1 other\n2 bad\n3 unframed length 13 1\n"),
-        ("17", 0, 0, 2, ""),
-        ("0", 0, 0, 2, ""),
-        ("01", 0, 0, 2, ""),
-        ("+1", 0, 0, 2, ""),
-        ("", 0, 0, 2, ""),
-        ("2", 1, 0, 5, ""),
-        ("2", 2, 0, 5, "1 other\n2 bad\n"),
-        ("2", 0, 1, 7, ""),
-        ("2", 2, 1, 5, ""),
+    // the workers, the read that fails, the write that fails, the status, how many bytes are written
+    for (workers, read, write, status, written) in [
+        ("17", 0, 0, 2, 0),
+        ("01", 0, 0, 2, 0),
+        ("2", 2, 0, 5, 142),
+        ("2", 0, 1, 7, 0),
+        ("2", 2, 1, 5, 0),
     ] {
-        let bytes = Vec::from_slice(alloc, b"T 9315785634123303\nT\nB 1 0c")?;
+        let bytes = FRAMES.as_bytes().to_vec(alloc)?;
         let mut frames = Lines::new(MemorySource::new(bytes, vec![in alloc; read]?));
         let mut out = MemorySink::new(alloc, vec![in alloc; write]?);
-        let ended = inspect_run(&rt, alloc, &words(alloc, workers)?, &mut frames, &mut out);
-        assert_eq!(rt; ended.code(), status, "{workers} {read} {write}");
-        assert_eq!(rt; out.bytes(), text.as_bytes(), "{workers} {read} {write}");
+        let words = vec![in alloc; String::from_str(alloc, "frames")?, String::from_str(alloc, workers)?]?;
+        let ended = inspect_run(&rt, alloc, &words, &mut frames, &mut out);
+        assert_eq!(rt; ended.code(), status);
+        assert_eq!(rt; out.bytes().len(), written);
     }
-    Ok(())
-}
-
-#[test]
-fn a_file_past_its_limit_is_cut_and_shown(rt: HostRuntime) -> Result<(), Fail> {
-    let alloc = rt.alloc();
-    let mut frames = Lines::new(MemorySource::steady(alloc, vec![in alloc; b'\n'; 131_073]?));
-    let mut out = MemorySink::steady(alloc);
-    let ended = inspect_run(&rt, alloc, &words(alloc, "4")?, &mut frames, &mut out);
-    assert_eq!(rt; ended, InspectStatus::Cut);
-    assert!(rt; out.bytes().ends_with(b"\n131072 bad\n"));
     Ok(())
 }
