@@ -1,5 +1,6 @@
 pub mod Items
 pub mod Layered
+pub mod Laws
 pub mod Looks
 pub mod Run
 pub mod Runs

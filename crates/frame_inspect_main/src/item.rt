@@ -3,7 +3,7 @@ ghost use Rattle.std.specs.Prelude.{◌≡◌};
 ghost use Rattle.frame_inspect_main.specs.Items.{format_by};
 
 use frame_formats::Format;
-use line_reader::{BadLine, Line, LineFormat};
+use line_reader::{Line, LineFormat};
 use outer_io::Memory;
 use std::alloc::{AllocError, Global};
 use std::marker::Model;
@@ -68,19 +68,18 @@ fn format_by(format: LineFormat) -> Format
 
 impl Item {
     ghost use Rattle.std.specs.Prelude.{◌≡◌, IfOk};
-    ghost use Rattle.frame_inspect_main.specs.Items.{item_by};
+    ghost use Rattle.frame_inspect_main.specs.Items.{item_by_line};
 
-    /// What is shown of a line, or of one that says nothing.
-    pub fn of(alloc: Global, said: &Result<Line, BadLine>) -> Result<Item, Memory>
-        ensures { IfOk result (λ item. item ≡ item_by said.now) }
+    /// What is shown of a line, if there is memory for a frame's bytes.
+    pub fn of_line(alloc: Global, line: &Line) -> Result<Item, Memory>
+        ensures { IfOk result (λ item. item ≡ item_by_line line.now) }
     {
-        match said {
-            Ok(Line::Frame { format, bytes, .. }) => Ok(Item::Frame {
+        match line {
+            Line::Frame { format, bytes, .. } => Ok(Item::Frame {
                 format: format_by(*format),
                 bytes: HeardBytes::copied(alloc, bytes.bytes())?,
             }),
-            Ok(_) => Ok(Item::Other),
-            Err(_) => Ok(Item::Bad),
+            _ => Ok(Item::Other),
         }
     }
 }

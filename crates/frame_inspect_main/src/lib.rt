@@ -12,7 +12,7 @@ mod status;
 
 pub use inspecting::{ITEMS_MAX, WORKERS_MAX, inspect};
 pub use item::{HeardBytes, Item};
-pub use laws::runs_are_even;
+pub use laws::{frames_are_shown, runs_are_even};
 pub use layered::Layered;
 pub use look::Look;
 pub use running::{inspect_run, workers};

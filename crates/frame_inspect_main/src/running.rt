@@ -4,8 +4,8 @@ ghost use Rattle.std.specs.List.{concat};
 ghost use Rattle.std.specs.String.{string_bytes};
 ghost use Rattle.outer_io.specs.Faults.{Rose};
 ghost use Rattle.outer_io.specs.Shown.{HasText, WriteFailed, source_change, sink_change};
-ghost use Rattle.line_reader.specs.Reader.{given, GivesLine};
-ghost use Rattle.frame_inspect_main.specs.Items.{item_of};
+ghost use Rattle.line_reader.specs.Reader.{given};
+ghost use Rattle.frame_inspect_main.specs.Items.{item_of, GivesItem};
 ghost use Rattle.frame_inspect_main.specs.Run.{IsRun};
 ghost use Rattle.frame_inspect_main.specs.Statuses.{EndsBy, IsEnd, unwritten};
 ghost use Rattle.frame_inspect_main.specs.Words.{workers_of};
@@ -15,7 +15,7 @@ use crate::item::Item;
 use crate::layered::Layered;
 use crate::shown::Shown;
 use crate::status::InspectStatus;
-use line_reader::{BadLine, LINES_MAX, Line, Lines, Next};
+use line_reader::{LINES_MAX, Lines, Next};
 use outer_io::{Memory, Sink, Source};
 use paper::{Paper, Printed, write};
 use plain_text::read_number;
@@ -38,10 +38,10 @@ pub fn workers(words: &[String]) -> Option<u32>
     Some(count as u32)
 }
 
-// What the next line says, or the status by which the lines end.
-fn next_said<S: Source>(frames: &mut Lines<S>) -> Result<Result<Line, BadLine>, InspectStatus>
+// The next line as it is shown, if there is memory for it, or the status by which the lines end.
+fn next_item<S: Source>(alloc: Global, frames: &mut Lines<S>) -> Result<Result<Item, Memory>, InspectStatus>
     requires { frames.old.done ≡ false }
-    ensures said { IfOk result (λ said. IsTrue S.tells → GivesLine said (given S.taken frames.old) (given S.taken frames.new)) }
+    ensures item { IfOk result (λ answer. IfOk answer (λ item. IsTrue S.tells → GivesItem item (given S.taken frames.old) (given S.taken frames.new))) }
     ensures goes_on { OnOk result ((frames.new.line ≡ frames.old.line + 1) × (frames.new.done ≡ false)) }
     ensures few { frames.new.line ≤ LINES_MAX }
     ensures ended { IfErr result (λ status. IsTrue S.tells →
@@ -53,8 +53,8 @@ fn next_said<S: Source>(frames: &mut Lines<S>) -> Result<Result<Line, BadLine>, 
         S.taken frames.new.source ++ S.left frames.new.source ≡ S.taken frames.old.source ++ S.left frames.old.source }
 {
     match frames.next() {
-        Ok(Next::Line(line)) => Ok(Ok(line)),
-        Ok(Next::Bad(bad)) => Ok(Err(bad)),
+        Ok(Next::Line(line)) => Ok(Item::of_line(alloc, &line)),
+        Ok(Next::Bad(_)) => Ok(Ok(Item::Bad)),
         Ok(Next::End) => Err(InspectStatus::Done),
         Ok(Next::Cut) => Err(InspectStatus::Cut),
         Err(_) => Err(InspectStatus::Read),
@@ -82,8 +82,8 @@ fn gather<S: Source>(alloc: Global, frames: &mut Lines<S>) -> Result<Gathered, M
 {
     let mut items = Vec::new(alloc);
     'lines: loop {
-        match next_said(frames) {
-            Ok(said) => items.push(Item::of(alloc, &said)?)?,
+        match next_item(alloc, frames) {
+            Ok(item) => items.push(item?)?,
             Err(status) => return Ok(Gathered { items, status }),
         }
     }
