@@ -3,21 +3,13 @@ use Rattle.std.specs.Prelude.{ℕ, ◌≡◌, List, [], ◌∷◌, ◌++◌, Res
 use Rattle.line_reader.specs.Grammar.{line_of}
 use Rattle.line_reader.specs.declared.line.Line.{Line}
 use Rattle.line_reader.specs.declared.line.Line.TheVariants.{Frame}
-use Rattle.line_reader.specs.declared.line.LineFormat.{LineFormat}
-use Rattle.line_reader.specs.declared.line.LineFormat.TheVariants as lines
-use Rattle.frame_formats.specs.declared.format.Format.{Format}
-use Rattle.frame_formats.specs.declared.format.Format.TheVariants as formats
 use Rattle.line_reader.specs.declared.line.BadLine.{BadLine}
 use Rattle.frame_inspect_main.specs.declared.item.Item.{Item}
 use Rattle.frame_inspect_main.specs.declared.item.Item.TheVariants as items
 
-abbrev pub format_by : LineFormat → Format
-format_by lines.A = formats.A
-format_by lines.B = formats.B
-
 -- a frame, without the moment when it was heard; nothing of a line of another word
 abbrev pub item_by_line : Line → Item
-item_by_line (Frame format at bytes) = items.Frame (format_by format) bytes
+item_by_line (Frame format at bytes) = items.Frame format bytes
 item_by_line other = items.Other
 
 -- nothing of a line that says nothing

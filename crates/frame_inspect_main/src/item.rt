@@ -1,9 +1,6 @@
 //! What is looked at.
-ghost use Rattle.std.specs.Prelude.{◌≡◌};
-ghost use Rattle.frame_inspect_main.specs.Items.{format_by};
-
 use frame_formats::Format;
-use line_reader::{Line, LineFormat};
+use line_reader::Line;
 use outer_io::Memory;
 use std::alloc::{AllocError, Global};
 use std::marker::Model;
@@ -57,15 +54,6 @@ pub enum Item {
     Bad,
 }
 
-fn format_by(format: LineFormat) -> Format
-    ensures { result ≡ format_by format }
-{
-    match format {
-        LineFormat::A => Format::A,
-        LineFormat::B => Format::B,
-    }
-}
-
 impl Item {
     ghost use Rattle.std.specs.Prelude.{◌≡◌, IfOk};
     ghost use Rattle.frame_inspect_main.specs.Items.{item_by_line};
@@ -76,7 +64,7 @@ impl Item {
     {
         match line {
             Line::Frame { format, bytes, .. } => Ok(Item::Frame {
-                format: format_by(*format),
+                format: *format,
                 bytes: HeardBytes::copied(alloc, bytes.bytes())?,
             }),
             _ => Ok(Item::Other),

@@ -5,7 +5,7 @@ use Rattle.frame_formats.specs.Decoding.{decoded}
 use Rattle.frame_formats.specs.declared.fault.FrameFault.{FrameFault}
 use Rattle.line_reader.specs.declared.line.Line.{Line}
 use Rattle.line_reader.specs.declared.line.Line.TheVariants as line
-use Rattle.line_reader.specs.declared.line.LineFormat.TheVariants as line_formats
+use Rattle.frame_formats.specs.declared.format.Format.TheVariants as line_formats
 use Rattle.message_check.specs.Target.{target_of}
 use Rattle.meter_slots.specs.declared.entry.Event.{Event}
 use Rattle.meter_slots.specs.declared.entry.Event.TheVariants.{Hear, Tick, Put, Cancel, Rekey}
