@@ -29,15 +29,15 @@ even q (suc others) zero le =
     let count : others - 0 ≡ others = omega arith in
     let all : suc others - 0 ≡ suc others = omega arith in
     ap (λ n. n ∷ run_lens (q * suc others + 0 - n) others) first
-      ∙ ap (λ t. q ∷ t) (ap (λ n. run_lens n others) rest ∙ even q others zero (omega arith) ∙ ap (λ n. replicate n q) count)
-      ∙ sym (ap (λ n. replicate n q) all)
+    ∙ ap (λ t. q ∷ t) (ap (λ n. run_lens n others) rest ∙ even q others zero (omega arith) ∙ ap (λ n. replicate n q) count)
+    ∙ sym (ap (λ n. replicate n q) all)
 even q (suc others) (suc longer) le =
     let first = mean_up q (suc longer) (suc others) (omega arith) le in
     let rest : q * suc others + suc longer - (q + 1) ≡ q * others + longer = omega arith in
     let count : suc others - suc longer ≡ others - longer = omega arith in
     ap (λ n. n ∷ run_lens (q * suc others + suc longer - n) others) first
-      ∙ ap (λ t. (q + 1) ∷ t) (ap (λ n. run_lens n others) rest ∙ even q others longer (omega arith))
-      ∙ sym (ap (λ n. replicate (suc longer) (q + 1) ++ replicate n q) count)
+    ∙ ap (λ t. (q + 1) ∷ t) (ap (λ n. run_lens n others) rest ∙ even q others longer (omega arith))
+    ∙ sym (ap (λ n. replicate (suc longer) (q + 1) ++ replicate n q) count)
 
 pub runs_are_even : RunsAreEven
 runs_are_even count workers some =

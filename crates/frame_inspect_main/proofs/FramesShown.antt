@@ -17,4 +17,4 @@ unfolding layered_text telegram_text
 frames_are_shown number format bytes t l are frame layers =
     ap (λ (r : Result (List ℕ) FrameFault). decimal number ++ frame_text format r ++ codes "\n") ((frames_are_decoded format bytes t are).1 frame)
     ∙ ap (λ (r : Result Layers LayerFault). decimal number ++ (labelled (format_word format) (length t) ++ link_text (slice_index t 1) (link_address t) ++ layers_text (length t) r) ++ codes "\n")
-      (layers_again t l layers)
+    (layers_again t l layers)

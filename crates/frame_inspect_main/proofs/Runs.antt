@@ -17,7 +17,7 @@ pub runs_joined : (meaning : ℕ → Item → List ℕ) (number count next : ℕ
 runs_joined meaning number count next items run rest first others all front back numbered one two joined =
     let whole : run ++ rest ≡ items = rw (front, back) (take-append-drop count items) in
     joined ∙ ap (λ t. t ++ others) one ∙ ap (λ t. shown_from meaning number run ++ t) (two ∙ ap (λ n. shown_from meaning n rest) numbered)
-      ∙ sym (shown_append meaning number run rest) ∙ ap (λ t. shown_from meaning number t) whole
+    ∙ sym (shown_append meaning number run rest) ∙ ap (λ t. shown_from meaning number t) whole
 
 -- what holds of a value where there is one holds of the value that is there
 pub holds_of : {A E : Type 0} (P : A → Type 0) (answer : Result A E) (value : A) → answer ≡ Ok value → IfOk answer P → P value

@@ -60,7 +60,7 @@ long_text a = labelled_bytes (codes " of ") (bytes_of a)
 unfoldable pub transport_text : Tpl → List ℕ
 transport_text t =
     labelled_bytes (codes " tpl ") (t.ci ∷ []) ++ labelled (codes " ") t.acc ++ labelled_bytes (codes " ") (t.status ∷ [])
-      ++ labelled_two (codes " ") (mode_of t.cf) (blocks_of t.cf) ++ text_if long_text t.address
+    ++ labelled_two (codes " ") (mode_of t.cf) (blocks_of t.cf) ++ text_if long_text t.address
 
 -- a transport header, or how many bytes the piece of a message has
 abbrev pub content_text : ℕ → Option Tpl → List ℕ

@@ -16,7 +16,10 @@ use layer_text::{put_layer_fault, put_letters};
 use message_check::{LayerFault, Layers, layers, link_address};
 use meter_address::Address;
 use outer_io::Memory;
-use paper::{Paper, Printed, put_hex, put_labelled, put_labelled_bytes, put_labelled_two, put_number, put_optional, put_text, written};
+use paper::{
+    Paper, Printed, put_hex, put_labelled, put_labelled_bytes, put_labelled_two, put_number,
+    put_optional, put_text, written,
+};
 use std::alloc::Global;
 use tpl_headers::Tpl;
 

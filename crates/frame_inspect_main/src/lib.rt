@@ -3,8 +3,8 @@
 
 mod inspecting;
 mod item;
-mod layered;
 mod laws;
+mod layered;
 mod look;
 mod running;
 mod shown;

@@ -39,7 +39,10 @@ pub fn workers(words: &[String]) -> Option<u32>
 }
 
 // The next line as it is shown, if there is memory for it, or the status by which the lines end.
-fn next_item<S: Source>(alloc: Global, frames: &mut Lines<S>) -> Result<Result<Item, Memory>, InspectStatus>
+fn next_item<S: Source>(
+    alloc: Global,
+    frames: &mut Lines<S>,
+) -> Result<Result<Item, Memory>, InspectStatus>
     requires { frames.old.done ≡ false }
     ensures item { IfOk result (λ answer. IfOk answer (λ item. IsTrue S.tells → GivesItem item (given S.taken frames.old) (given S.taken frames.new))) }
     ensures goes_on { OnOk result ((frames.new.line ≡ frames.old.line + 1) × (frames.new.done ≡ false)) }

@@ -66,7 +66,8 @@ fn one_worker_looks_at_one_after_another(rt: HostRuntime) -> Result<(), Fail> {
 }
 
 // Whole messages of modes 5 and 7, a tick, a frame with two bytes exchanged, a bad line, and an unfinished line.
-const FRAMES: &str = "A 100 2e44931578563412330333637a2a0020055923c95aaa26d1b2e7493b2a8b013ec4a6f6d3529b520edff0ea6defc955b29d6d69ebf3ec8a
+const FRAMES: &str =
+    "A 100 2e44931578563412330333637a2a0020055923c95aaa26d1b2e7493b2a8b013ec4a6f6d3529b520edff0ea6defc955b29d6d69ebf3ec8a
 A 100 30449315010203040107b178900f002c250500000070e9657d1ed61163fb587a010010071079f0dc80708ec46fba58a2f74d0582fe3496c881
 T 9315785634123303
 A 100 2e44159378563412330333637a2a0020055923c95aaa26d1b2e7493b2a8b013ec4a6f6d3529b520edff0ea6defc955b29d6d69ebf3ec8a
@@ -88,7 +89,10 @@ fn a_run_shows_alike_with_any_number_of_workers(rt: HostRuntime) -> Result<(), F
         let bytes = FRAMES.as_bytes().to_vec(alloc)?;
         let mut frames = Lines::new(MemorySource::steady(alloc, bytes));
         let mut out = MemorySink::steady(alloc);
-        let words = vec![in alloc; String::from_str(alloc, "frames")?, String::from_str(alloc, workers)?]?;
+        let words = vec![in alloc;
+            String::from_str(alloc, "frames")?,
+            String::from_str(alloc, workers)?,
+        ]?;
         let status = inspect_run(&rt, alloc, &words, &mut frames, &mut out);
         assert_eq!(rt; status, InspectStatus::Done);
         assert_eq!(rt; out.bytes(), SHOWN.as_bytes());
@@ -110,7 +114,10 @@ fn a_run_ends_by_its_faults(rt: HostRuntime) -> Result<(), Fail> {
         let bytes = FRAMES.as_bytes().to_vec(alloc)?;
         let mut frames = Lines::new(MemorySource::new(bytes, vec![in alloc; read]?));
         let mut out = MemorySink::new(alloc, vec![in alloc; write]?);
-        let words = vec![in alloc; String::from_str(alloc, "frames")?, String::from_str(alloc, workers)?]?;
+        let words = vec![in alloc;
+            String::from_str(alloc, "frames")?,
+            String::from_str(alloc, workers)?,
+        ]?;
         let ended = inspect_run(&rt, alloc, &words, &mut frames, &mut out);
         assert_eq!(rt; ended.code(), status);
         assert_eq!(rt; out.bytes().len(), written);
