@@ -103,11 +103,13 @@ calls_exist (p ∷ order) lists fits = first (calls_exist order) (lists p.0) ref
     first go (x ∷ xs) is =
         let all : p.1 ∷ numbers_by p.0 order ≡ x.0 ∷ map (λ (y : ℕ × Event). y.0) xs = sym here ∙ (fits p.0 ∙ ap (map (λ (y : ℕ × Event). y.0)) is) in
         let rest = go (without lists p.0 xs) (λ w. rest_fits xs all w (p.0 == w) refl) in
-        let k : Call = record { source = p.0; line = p.1; event = x.1 } in
-        (k ∷ rest.0, record {
-          in_order = ap (λ l. p ∷ l) rest.1.in_order;
-          parts = λ w. part x xs is (head_of _ _ _ _ all) rest.0 rest.1.parts w (p.0 == w) refl;
-        })
+        let k : Call = record { source = p.0; line = p.1; event = x.1 } in (
+          k ∷ rest.0,
+          record {
+            in_order = ap (λ l. p ∷ l) rest.1.in_order;
+            parts = λ w. part x xs is (head_of _ _ _ _ all) rest.0 rest.1.parts w (p.0 == w) refl;
+          },
+        )
       where
         rest_fits : (xs : List (ℕ × Event)) → p.1 ∷ numbers_by p.0 order ≡ x.0 ∷ map (λ (y : ℕ × Event). y.0) xs → (w : ℕ) (b : Bool) → (p.0 == w) ≡ b → numbers_by w order ≡ map (λ (y : ℕ × Event). y.0) (without lists p.0 xs w)
         rest_fits xs all w true e =
@@ -129,16 +131,18 @@ pub slot_exists : (own : Address) (c : Commissioned) (all : List (List Told)) (o
 slot_exists own c all order fits =
     let made = calls_exist order (λ w. lines_for c.address (heard_by w all)) fits in
     let journal = journal_of c own made.0 in
-    let calls = journal_calls c own made.0 in
-    (record { own = own; commission = c; journal = journal }, record {
-      meters = record {
-        own_is = refl;
-        commission_is = refl;
-        legal = journal_of_legal c own made.0;
-        lines = λ w. steps_of_calls w journal ∙ (ap (calls_from w) calls ∙ made.1.parts w);
-      };
-      in_order = order_of_calls journal ∙ (ap (map pair_in) calls ∙ made.1.in_order);
-    })
+    let calls = journal_calls c own made.0 in (
+      record { own = own; commission = c; journal = journal },
+      record {
+        meters = record {
+          own_is = refl;
+          commission_is = refl;
+          legal = journal_of_legal c own made.0;
+          lines = λ w. steps_of_calls w journal ∙ (ap (calls_from w) calls ∙ made.1.parts w);
+        };
+        in_order = order_of_calls journal ∙ (ap (map pair_in) calls ∙ made.1.in_order);
+      },
+    )
 
 -- the order of a journal is one of its meter's own lines
 pub in_order : (own : Address) (c : Commissioned) (all : List (List Told)) (slot : SlotView) → IsMetersSlot own all c slot → IsOrderOf c.address all (order_of slot.journal)
