@@ -1,6 +1,2 @@
-pub mod Completeness
-pub mod Cuts
-pub mod Enrolling
-pub mod LineCounts
-pub mod Reports
-pub mod Tellings
+pub mod Orders
+pub mod Runs

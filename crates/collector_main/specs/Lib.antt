@@ -1,7 +1,6 @@
-pub mod Hearing
-pub mod Receiver
+pub mod Heard
 pub mod Rosters
-pub mod Session
+pub mod Run
+pub mod Showing
 pub mod Statuses
-pub mod Told
 pub mod Words

@@ -157,22 +157,16 @@ given_lines line bytes more finished few is few_lines = by_test (is_over (bytes 
     by_test true = whole_first line bytes more finished few is few_lines
     by_test false = ap (take line) (finished.follow more) ∙ take_at (lines bytes) (lines more) line is
 
--- a line of which bytes were given up is too long
-too_long : (text : List ℕ) → LINE_MAX < length text → line_of text ≡ Err bads.TooLong
+-- a line with too many bytes
+pub too_long : (text : List ℕ) → LINE_MAX < length text → line_of text ≡ Err bads.TooLong
 unfolding line_of
 too_long text long =
     let test : nat_lt LINE_MAX (length text) ≡ true = grind (arith, nat_tests) in
     rw test
 
-length-strip : (text : List ℕ) → length text ≤ length (strip_carriage_return text) + 1
+pub length-strip : (text : List ℕ) → length text ≤ length (strip_carriage_return text) + 1
 length-strip text = by_test (get_or text (length text - 1) 0 == 13)
   where
     by_test : (b : Bool) → length text ≤ length (cond b (take (length text - 1) text) text) + 1
     by_test true = omega (arith, length-take (length text - 1) text)
     by_test false = omega arith
-
-pub long_line : (front : List ℕ) → LINE_MAX + 1 < length front → line_of (strip_carriage_return front) ≡ Err bads.TooLong
-long_line front long = too_long (strip_carriage_return front) (omega (arith, length-strip front))
-
-pub long_last : (bytes : List ℕ) → LINE_MAX < length bytes → line_of bytes ≡ Err bads.TooLong
-long_last bytes long = too_long bytes long

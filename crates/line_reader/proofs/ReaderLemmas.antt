@@ -1,26 +1,21 @@
 -- What the lines of a source are after each answer.
-use Rattle.std.proofs.Common.{◌≡◌, ℕ, zero, suc, ◌<◌, ◌≤◌, ◌+◌, ◌-◌, List, [], ◌∷◌, ◌++◌, length, take, drop, Bool, true, false, Result, Ok, Err, ⊎_elim, refl, ap, sym, subst, ◌∙◌, arith, append_assoc}
+use Rattle.std.proofs.Common.{◌≡◌, ℕ, zero, suc, ◌<◌, ◌≤◌, ◌+◌, ◌-◌, List, [], ◌∷◌, ◌++◌, length, take, drop, Bool, true, false, ⊎_elim, refl, ap, sym, subst, ◌∙◌, arith, append_assoc}
 use Rattle.std.specs.Prelude.{IsTrue}
 use Rattle.std.specs.Str.Lines.{lines, strip_carriage_return}
 use lib.Seq.{take-append-add}
 use Rattle.std.proofs.lemmas.Bool.{cases_lt}
-use Rattle.std.proofs.lemmas.List.{append-nil, length_push, take-append-drop, drop-drop, drop_at, take_all, length-take, length-append, nil_from_length}
+use Rattle.std.proofs.lemmas.List.{append-nil, length_push, take-append-drop, drop-drop, drop_at, take_all, length-take, length-append}
 use Rattle.outer_io.specs.Bytes.{Moves}
-use Rattle.line_reader.specs.Grammar.{line_of}
-use Rattle.line_reader.specs.Keeps.{IsReader, IsLast, Keeps}
+use Rattle.line_reader.specs.Keeps.{IsReader, IsLast, IsTextReader, Keeps}
 use Rattle.line_reader.specs.Lines.{is_over, whole_lines, all_lines}
 use Rattle.line_reader.specs.Newlines.{newlines}
-use Rattle.line_reader.specs.Reader.{Gives, GivesLine, IsAtEnd, IsPastLimit, IsBrokenOff, next_of}
-use Rattle.line_reader.specs.Reading.{BeginsWithLine}
-use Rattle.line_reader.specs.Search.{IsRestOfLine}
-use Rattle.line_reader.specs.declared.line.Line.{Line}
-use Rattle.line_reader.specs.declared.line.BadLine.{BadLine}
-use Rattle.line_reader.specs.declared.line.BadLine.TheVariants as bads
+use Rattle.line_reader.specs.Reader.{GivesLongLine, IsAtEnd, IsPastLimit, IsBrokenOff}
+use Rattle.line_reader.specs.Reading.{BeginsWithLine, LendsLine, line_text}
+use Rattle.line_reader.specs.Search.{IsRestOfLine, IsLastLine, EndsAt}
 use Rattle.line_reader.specs.declared.lines.TheConstants.{LINES_MAX, BYTES_MAX}
-use Rattle.line_reader.specs.declared.next.Next.{Next}
-use Rattle.line_reader.proofs.LinesLemmas.{lines_front, lines_alone, lines_more, finished_more, some_line, whole_alone, whole_full, over_bytes, over_lines, not_over, all_within, given_lines, long_line, long_last}
+use Rattle.line_reader.proofs.LinesLemmas.{lines_front, lines_alone, lines_more, finished_more, some_line, whole_alone, whole_full, over_bytes, over_lines, not_over, all_within, given_lines, length-strip}
+use Rattle.line_reader.proofs.TextLemmas.{text_of_one_line}
 use Rattle.line_reader.proofs.NewlineLemmas.{newlines-take}
-use Rattle.line_reader.proofs.SearchLemmas.{length-line}
 
 -- the bytes taken are those of the lines given, and behind them those of the line that is read
 pub taken_is : (start line : ℕ) (taken held added taken' : List ℕ) → IsReader start line taken held → taken' ≡ taken ++ added → taken' ≡ take start taken ++ (held ++ added)
@@ -45,20 +40,6 @@ given_ahead start line taken held left reader few few_lines =
     ∙ sym (given_is start line taken held (held ++ left) (taken ++ left) reader few few_lines
     (ap (λ x. x ++ left) (sym (take-append-drop start taken) ∙ ap (λ x. take start taken ++ x) (sym reader.behind)) ∙ append_assoc (take start taken) held left))
 
-gives : (said : Result Line BadLine) (old new : List (List ℕ)) → GivesLine said old new → Gives (Ok (next_of said)) old new
-gives (Ok line) old new more = more
-gives (Err bad) old new more = more
-
-pub gives_said : (next : Next) (text : List ℕ) (old new : List (List ℕ)) → next ≡ next_of (line_of text) → new ≡ old ++ text ∷ [] → Gives (Ok next) old new
-gives_said next text old new is more =
-    let P : Next → Type 0 = λ n. Gives (Ok n) old new in
-    subst P (sym is) (gives (line_of text) old new (record { text = text; more = more; says = refl }))
-
--- what is answered of a line, from what is held of it
-pub says_text : (next : Next) (given_up : ℕ) (held text : List ℕ) → (0 < given_up → next ≡ next_of (Err bads.TooLong)) → (given_up ≡ 0 → (text : List ℕ) → lines held ≡ text ∷ [] → next ≡ next_of (line_of text)) → (given_up ≡ 0 → lines held ≡ text ∷ []) → (0 < given_up → line_of text ≡ Err bads.TooLong) → next ≡ next_of (line_of text)
-says_text next zero held text long short one too_long = short refl text (one refl)
-says_text next (suc n) held text long short one too_long = long (omega arith) ∙ ap next_of (sym (too_long (omega arith)))
-
 -- a search behind the lines given: what was held and what was added is the line that is read, of which so many bytes count
 pub record IsSearch (start line most : ℕ) (taken held added taken' : List ℕ) : Type 0 where
   pub reader : IsReader start line taken held
@@ -81,6 +62,48 @@ search_from start line most taken left held added taken' left' keeps told not_do
   no_room = no_room;
   back = moves.back;
 }
+
+-- what is lent is no longer than a line may be
+pub lent_short : (longest given_up count lent : ℕ) (held' held'' : List ℕ) → LendsLine longest given_up count held' held'' lent → length (line_text (take lent held'')) ≤ longest
+lent_short longest given_up count zero held' held'' lends = omega arith
+lent_short longest given_up count (suc lent) held' held'' lends =
+    let parts = lends.line (omega arith) in
+    subst (λ t. length t ≤ longest) (sym (ap (λ n. line_text (take n held'')) parts.1 ∙ ap (λ x. line_text (take count x)) parts.2)) parts.3
+
+-- a search behind a line that was lent and is given up
+pub search_of : (start line most lent longest : ℕ) {tells ended done : Bool} (taken left held held' added taken' left' : List ℕ) → IsTextReader tells longest lent start line ended done taken left held → held' ≡ drop lent held
+    → IsTrue tells → done ≡ false → ended ≡ false → (line < LINES_MAX → most ≡ BYTES_MAX - start) → (LINES_MAX ≤ line → most ≡ 0) → Moves added taken left taken' left' → IsSearch start line most taken held' added taken'
+search_of start line most lent longest {tells} {ended} {done} taken left held held' added taken' left' is given_up told not_done not_ended room no_room moves =
+    search_from start line most taken left held' added taken' left' (subst (λ h. Keeps tells start line ended done taken left h) (sym given_up) is.keeps) told not_done not_ended room no_room moves
+
+-- the reader behind a new line
+pub reader_after : (start line most lent longest given_up count : ℕ) {tells done last : Bool} (held' held'' taken' left' : List ℕ) → longest ≤ 15359 → start ≤ BYTES_MAX
+    → (line < LINES_MAX → most ≡ BYTES_MAX - start) → (LINES_MAX ≤ line → most ≡ 0) → (0 < given_up + count) × (count ≤ length held') × (given_up + count ≤ most)
+    → LendsLine longest given_up count held' held'' lent → (IsTrue tells → Keeps tells (start + (given_up + count)) (line + 1) last done taken' left' (drop count held'))
+    → IsTextReader tells longest lent (start + (given_up + count)) (line + 1) last done taken' left' held''
+reader_after start line most lent longest given_up count {tells} {done} {last} held' held'' taken' left' fits_room few room no_room fits lends keeps =
+    let some = fits.0 in
+    let within = fits.2 in
+    let left_over = room_after start line most room no_room (omega arith) in
+    let after : Keeps tells (start + (given_up + count)) (line + 1) last done taken' left' (drop count held') = record {
+      few_lines = omega arith;
+      few_bytes = omega arith;
+      reader = λ told. (keeps told).reader told;
+      last = λ told. (keeps told).last told;
+    } in
+    record {
+      room = fits_room;
+      within = lends.within;
+      short = lent_short longest given_up count lent held' held'' lends;
+      keeps = subst (λ h. Keeps tells (start + (given_up + count)) (line + 1) last done taken' left' h) (sym lends.behind) after;
+    }
+
+-- one more line was given: its bytes, unless some were given up, which made it too long
+pub record IsNewLine (longest given_up count : ℕ) (held' : List ℕ) (old new : List (List ℕ)) : Type 0 where
+  pub text : List ℕ
+  pub more : new ≡ old ++ text ∷ []
+  pub is : given_up ≡ 0 → line_text (take count held') ≡ text
+  pub long : 0 < given_up → longest < length text
 
 module _ {start line most : ℕ} {taken held added taken' : List ℕ} (s : IsSearch start line most taken held added taken') where
   abbrev before : List ℕ
@@ -107,7 +130,7 @@ module _ {start line most : ℕ} {taken held added taken' : List ℕ} (s : IsSea
       ∙ sym (given_is start line taken held (read ++ left') (taken' ++ left') s.reader s.few_bytes s.few_lines (ap (λ x. x ++ left') whole ∙ append_assoc before read left'))
 
   -- a line with its newline
-  module _ (held' rest : List ℕ) (given_up count : ℕ) (part : IsRestOfLine read held' given_up) (found : BeginsWithLine read (given_up + count)) (rest_is : rest ≡ drop count held') where
+  module _ (longest : ℕ) (held' rest : List ℕ) (given_up count : ℕ) (part : IsRestOfLine longest read held' given_up) (found : BeginsWithLine read (given_up + count)) (rest_is : rest ≡ drop count held') where
     line_front : take (given_up + count) read ≡ found.front ++ 10 ∷ []
     line_front =
         ap (take (given_up + count)) found.cut ∙ ap (λ n. take n (found.front ++ 10 ∷ found.rest)) found.long ∙ take-append-add found.front (10 ∷ found.rest) 1
@@ -119,7 +142,7 @@ module _ {start line most : ℕ} {taken held added taken' : List ℕ} (s : IsSea
         ∙ take-append-add before read (given_up + count)
         ∙ ap (λ x. before ++ x) line_front
 
-    pub next_reader : IsReader (start + (given_up + count)) (line + 1) taken' rest
+    next_reader : IsReader (start + (given_up + count)) (line + 1) taken' rest
     next_reader =
         let long = found.long in
         let cut = ap length found.cut ∙ length-append found.front (10 ∷ found.rest) in
@@ -136,72 +159,111 @@ module _ {start line most : ℕ} {taken held added taken' : List ℕ} (s : IsSea
           counted = ap length (ap lines taken_front ∙ lines_more before found.front s.reader.finished found.alone) ∙ length_push (lines before) (strip_carriage_return found.front) ∙ ap (λ n. n + 1) counted;
         }
 
-    pub line_gives : (next : Next) → 0 < count → line < LINES_MAX → start + (given_up + count) ≤ BYTES_MAX → (0 < given_up → next ≡ next_of (Err bads.TooLong)) → (given_up ≡ 0 → (text : List ℕ) → lines (take count held') ≡ text ∷ [] → next ≡ next_of (line_of text))
-        → Gives (Ok next) (take line (all_lines taken)) (take (line + 1) (all_lines taken'))
-    line_gives next some_count below few long short =
+    new_line : 0 < given_up + count → 0 < count → line < LINES_MAX → start + (given_up + count) ≤ BYTES_MAX → IsNewLine longest given_up count held' (take line (all_lines taken)) (take (line + 1) (all_lines taken'))
+    new_line some some_count below few =
         let text = strip_carriage_return found.front in
-        let one : given_up ≡ 0 → lines (take count held') ≡ text ∷ [] = λ none.
-        ap (λ x. lines (take count x)) (part.rest ∙ ap (λ n. drop n read) none) ∙ ap (λ n. lines (take n read)) (let same : count ≡ given_up + count = omega arith in same) ∙ ap lines line_front ∙ lines_front found.front [] found.alone in
-        let too_long : 0 < given_up → line_of text ≡ Err bads.TooLong = λ some. long_line found.front (let long = part.long some in let count_is = found.long in omega arith) in
         let new = given_before (start + (given_up + count)) (line + 1) taken' rest next_reader few (omega arith) ∙ ap lines taken_front ∙ lines_more before found.front s.reader.finished found.alone in
         let old = given_before start line taken held s.reader s.few_bytes s.few_lines in
-        gives_said next text _ _ (says_text next given_up (take count held') text long short one too_long) (new ∙ ap (λ x. x ++ text ∷ []) (sym old))
+        record {
+          text = text;
+          more = new ∙ ap (λ x. x ++ text ∷ []) (sym old);
+          is = λ none.
+              text_of_one_line (take count held') text
+              (ap (λ x. lines (take count x)) (part.rest ∙ ap (λ n. drop n read) none) ∙ ap (λ n. lines (take n read)) (let same : count ≡ given_up + count = omega arith in same) ∙ ap lines line_front ∙ lines_front found.front [] found.alone);
+          long = λ some_up. let long = part.long some_up in let count_is = found.long in omega (arith, length-strip found.front);
+        }
 
   -- the unfinished last line
-  module _ (held' left' : List ℕ) (given_up : ℕ) (part : IsRestOfLine read held' given_up) (none : newlines read ≡ 0) (nothing_left : left' ≡ []) where
-    held_all : given_up + length held' ≡ length read
-    held_all = sym (length-line read held' given_up part)
+  module _ (longest : ℕ) (held' left' : List ℕ) (given_up count : ℕ) (part : IsRestOfLine longest read held' given_up) (found : IsLastLine read left' (given_up + count)) (few : given_up + count ≤ most) where
+    all_read : given_up + count ≡ length read
+    all_read = found.long
 
-    module _ (some : 0 < given_up + length held') (few : given_up + length held' ≤ most) where
-      below : (line < LINES_MAX) × (most ≡ BYTES_MAX - start)
-      below = room_after start line most s.room s.no_room (omega arith)
+    some_read : 0 < length read
+    some_read = let some = found.some in let same = found.long in omega arith
 
-      lines_taken : lines taken' ≡ lines before ++ read ∷ []
-      lines_taken =
-          ap lines whole ∙ s.reader.finished.follow read ∙ ap (λ x. lines before ++ x) (lines_alone read none (let same = held_all in omega arith))
+    below : (line < LINES_MAX) × (most ≡ BYTES_MAX - start)
+    below = room_after start line most s.room s.no_room (let some = found.some in omega arith)
 
-      count_taken : length (lines taken') ≡ line + 1
-      count_taken = ap length lines_taken ∙ length_push (lines before) read ∙ ap (λ n. n + 1) s.reader.counted
+    lines_taken : lines taken' ≡ lines before ++ read ∷ []
+    lines_taken =
+        ap lines whole ∙ s.reader.finished.follow read ∙ ap (λ x. lines before ++ x) (lines_alone read found.alone some_read)
 
-      within_taken : is_over taken' ≡ false
-      within_taken =
-          let all = ap length whole ∙ length-append before read in
-          let first = before_len in
-          let same = held_all in
-          let room = below in
-          let count = count_taken in
-          not_over taken' (omega arith) (omega arith)
+    count_taken : length (lines taken') ≡ line + 1
+    count_taken = ap length lines_taken ∙ length_push (lines before) read ∙ ap (λ n. n + 1) s.reader.counted
 
-      pub last_line : IsLast (line + 1) taken' left'
-      last_line = record { nothing_left = nothing_left; within = within_taken; counted = count_taken }
-
-      pub last_gives : (next : Next) → (0 < given_up → next ≡ next_of (Err bads.TooLong)) → (given_up ≡ 0 → (text : List ℕ) → lines (take (length held') held') ≡ text ∷ [] → next ≡ next_of (line_of text))
-          → Gives (Ok next) (take line (all_lines taken)) (take (line + 1) (all_lines taken'))
-      last_gives next long short =
-          let same = held_all in
-          let one : given_up ≡ 0 → lines (take (length held') held') ≡ read ∷ [] = λ none_up.
-          ap lines (take_all (length held') held' (omega arith) ∙ part.rest ∙ ap (λ n. drop n read) none_up) ∙ lines_alone read none (omega arith) in
-          let too_long : 0 < given_up → line_of read ≡ Err bads.TooLong = λ some_up. long_last read (let long = part.long some_up in omega arith) in
-          let count = count_taken in
-          let new = ap (take (line + 1)) (all_within taken' within_taken) ∙ take_all (line + 1) (lines taken') (omega arith) ∙ lines_taken in
-          let old = given_before start line taken held s.reader s.few_bytes s.few_lines in
-          gives_said next read _ _ (says_text next given_up (take (length held') held') read long short one too_long) (new ∙ ap (λ x. x ++ read ∷ []) (sym old))
-
-    -- no line is left
-    pub at_end : given_up + length held' ≡ 0 → IsAtEnd taken' left' (take line (all_lines taken'))
-    at_end nothing =
-        let empty : read ≡ [] = nil_from_length read (let same = held_all in omega arith) in
-        let all : taken' ≡ before = whole ∙ ap (λ x. before ++ x) empty ∙ append-nil before in
-        let counted = s.reader.counted in
+    within_taken : is_over taken' ≡ false
+    within_taken =
+        let all = ap length whole ∙ length-append before read in
         let first = before_len in
-        let few_bytes = s.few_bytes in
-        let few_lines = s.few_lines in
-        let within : is_over before ≡ false = not_over before (omega arith) (omega arith) in
+        let same = all_read in
+        let room = below in
+        let counted = count_taken in
+        not_over taken' (omega arith) (omega arith)
+
+    last_line : IsLast (line + 1) taken' left'
+    last_line = record { nothing_left = found.nothing_left; within = within_taken; counted = count_taken }
+
+    new_last : IsNewLine longest given_up count held' (take line (all_lines taken)) (take (line + 1) (all_lines taken'))
+    new_last =
+        let same = all_read in
+        let counted = count_taken in
+        let new = ap (take (line + 1)) (all_within taken' within_taken) ∙ take_all (line + 1) (lines taken') (omega arith) ∙ lines_taken in
+        let old = given_before start line taken held s.reader s.few_bytes s.few_lines in
         record {
-          nothing_left = nothing_left;
-          within = ap is_over all ∙ within;
-          all = given_is start line taken held read taken' s.reader few_bytes few_lines whole ∙ sym (ap all_lines all ∙ all_within before within);
+          text = read;
+          more = new ∙ ap (λ x. x ++ read ∷ []) (sym old);
+          is = λ none.
+              text_of_one_line (take count held') read
+              (ap (λ x. lines (take count x)) (part.rest ∙ ap (λ n. drop n read) none) ∙ ap lines (take_all count read (omega arith)) ∙ lines_alone read found.alone some_read);
+          long = λ some_up. let long = part.long some_up in omega arith;
         }
+
+  -- a line, with its newline or the last one
+  module _ (longest : ℕ) (held' left' : List ℕ) (given_up count : ℕ) (part : IsRestOfLine longest read held' given_up) (fits : (0 < given_up + count) × (count ≤ length held') × (given_up + count ≤ most)) where
+    room_left : (line < LINES_MAX) × (most ≡ BYTES_MAX - start)
+    room_left = let some = fits.0 in let few = fits.2 in room_after start line most s.room s.no_room (omega arith)
+
+    few_bytes_after : start + (given_up + count) ≤ BYTES_MAX
+    few_bytes_after = let few = fits.2 in let room = room_left in let before_it = s.few_bytes in omega arith
+
+    pub gives_line : (last : Bool) → EndsAt last read left' given_up count → IsNewLine longest given_up count held' (take line (all_lines taken)) (take (line + 1) (all_lines taken'))
+    gives_line false found = new_line longest held' (drop count held') given_up count part found.1 refl fits.0 found.0 room_left.0 few_bytes_after
+    gives_line true found = new_last longest held' left' given_up count part found fits.2
+
+    pub keeps_line : (tells done last : Bool) → EndsAt last read left' given_up count → Keeps tells (start + (given_up + count)) (line + 1) last done taken' left' (drop count held')
+    keeps_line tells done false found = record {
+      few_lines = let room = room_left in omega arith;
+      few_bytes = few_bytes_after;
+      reader = λ told not_done not_ended. next_reader longest held' (drop count held') given_up count part found.1 refl;
+      last = λ told not_done ended. absurd cc;
+    }
+    keeps_line tells done true found = record {
+      few_lines = let room = room_left in omega arith;
+      few_bytes = few_bytes_after;
+      reader = λ told not_done not_ended. absurd cc;
+      last = λ told not_done ended. last_line longest held' left' given_up count part found fits.2;
+    }
+
+    -- the same of all bytes
+    pub line_of_all : (last : Bool) → EndsAt last read left' given_up count → take (line + 1) (all_lines taken') ≡ take (line + 1) (all_lines (taken' ++ left'))
+    line_of_all false found =
+        given_ahead (start + (given_up + count)) (line + 1) taken' (drop count held') left' (next_reader longest held' (drop count held') given_up count part found.1 refl) few_bytes_after (let room = room_left in omega arith)
+    line_of_all true found = ap (λ x. take (line + 1) (all_lines x)) (sym (append-nil taken') ∙ ap (λ x. taken' ++ x) (sym found.nothing_left))
+
+  -- no line is left
+  pub at_end : (left' : List ℕ) → read ≡ [] → left' ≡ [] → IsAtEnd taken' left' (take line (all_lines taken'))
+  at_end left' empty nothing_left =
+      let all : taken' ≡ before = whole ∙ ap (λ x. before ++ x) empty ∙ append-nil before in
+      let counted = s.reader.counted in
+      let first = before_len in
+      let few_bytes = s.few_bytes in
+      let few_lines = s.few_lines in
+      let within : is_over before ≡ false = not_over before (omega arith) (omega arith) in
+      record {
+        nothing_left = nothing_left;
+        within = ap is_over all ∙ within;
+        all = given_is start line taken held read taken' s.reader few_bytes few_lines whole ∙ sym (ap all_lines all ∙ all_within before within);
+      }
 
   -- the whole lines of the bytes taken
   whole_taken : newlines (take most read) ≡ 0 → whole_lines taken' ≡ lines before
@@ -305,3 +367,27 @@ last_end line taken left last =
       within = last.within;
       all = ap (take line) (all_within taken last.within) ∙ take_all line (lines taken) (omega arith) ∙ sym (all_within taken last.within);
     }
+
+-- what is lent of a new line is the line, and where nothing is lent it is too long
+pub lent_line : (longest given_up count lent : ℕ) (held' held'' : List ℕ) (old new : List (List ℕ)) → IsNewLine longest given_up count held' old new → LendsLine longest given_up count held' held'' lent → 0 < lent
+    → new ≡ old ++ line_text (take lent held'') ∷ []
+lent_line longest given_up count lent held' held'' old new line lends some =
+    let parts = lends.line some in
+    let text : line_text (take lent held'') ≡ line.text = ap (λ n. line_text (take n held'')) parts.1 ∙ ap (λ x. line_text (take count x)) parts.2 ∙ line.is parts.0 in
+    line.more ∙ ap (λ x. old ++ x ∷ []) (sym text)
+
+pub long_line : (longest given_up count lent : ℕ) (held' held'' : List ℕ) (old new : List (List ℕ)) → IsNewLine longest given_up count held' old new → LendsLine longest given_up count held' held'' lent → lent ≡ 0
+    → GivesLongLine longest old new
+long_line longest given_up count lent held' held'' old new line lends none = record {
+  line = line.text;
+  more = line.more;
+  long = by_given_up given_up line lends;
+}
+  where
+    by_given_up : (n : ℕ) (line : IsNewLine longest n count held' old new) → LendsLine longest n count held' held'' lent → longest < length line.text
+    by_given_up zero line lends = subst (λ t. longest < length t) (line.is refl) (lends.too_long none refl)
+    by_given_up (suc n) line lends = line.long (omega arith)
+
+-- no byte is lost
+pub all_bytes : {added taken left taken' left' : List ℕ} → Moves added taken left taken' left' → taken' ++ left' ≡ taken ++ left
+all_bytes {added} {taken} {left} {taken'} {left'} moves = ap (λ x. x ++ left') moves.back ∙ append_assoc taken added left' ∙ ap (λ x. taken ++ x) (sym moves.front)

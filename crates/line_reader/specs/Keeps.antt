@@ -2,6 +2,7 @@
 use Rattle.std.specs.Prelude.{ℕ, ◌≡◌, ◌≤◌, Bool, true, false, List, [], ◌++◌, length, take, drop, IsTrue}
 use Rattle.std.specs.Str.Lines.{lines}
 use Rattle.line_reader.specs.Newlines.{newlines}
+use Rattle.line_reader.specs.Reading.{line_text}
 use Rattle.line_reader.specs.Lines.{is_over}
 use Rattle.line_reader.specs.declared.lines.TheConstants.{LINES_MAX, BYTES_MAX}
 
@@ -29,3 +30,10 @@ pub record Keeps (tells : Bool) (start line : ℕ) (ended done : Bool) (taken le
   pub few_bytes : start ≤ BYTES_MAX
   pub reader : IsTrue tells → done ≡ false → ended ≡ false → IsReader start line taken held
   pub last : IsTrue tells → done ≡ false → ended ≡ true → IsLast line taken left
+
+-- the same where a line is lent from the front of what is held: it is no longer than a line may be
+pub record IsTextReader (tells : Bool) (longest lent start line : ℕ) (ended done : Bool) (taken left held : List ℕ) : Type 0 where
+  pub room : longest ≤ 15359
+  pub within : lent ≤ length held
+  pub short : length (line_text (take lent held)) ≤ longest
+  pub keeps : Keeps tells start line ended done taken left (drop lent held)

@@ -31,9 +31,9 @@ impl Model for Held {
     ghost invariant = { λ h. (h.start ≤ h.end) × (h.end ≤ HELD_MAX) };
 }
 
-// Asks a source for at least `READ_LEAST` bytes.
+// Asks a source for at least 1,024 bytes.
 fn read_into<S: Source>(source: &mut S, room: &mut [u8]) -> Result<usize, Failed>
-    requires { READ_LEAST ≤ length room.old }
+    requires { 1024 ≤ length room.old }
     ensures room { IfOk result (λ n. n ≤ length room.old) }
     ensures ok { IfOk result (λ n. IsTrue S.tells → Takes S.taken S.left (take n room.new) source.old source.new) }
     ensures end { IfOk result (λ n. IsTrue S.tells → n ≡ 0 → S.left source.old ≡ []) }
@@ -46,7 +46,7 @@ fn read_into<S: Source>(source: &mut S, room: &mut [u8]) -> Result<usize, Failed
 
 // Reads behind the first `end` bytes.
 fn read_behind<S: Source>(source: &mut S, bytes: &mut [u8], end: usize) -> Result<usize, Failed>
-    requires { end + READ_LEAST ≤ length bytes.old }
+    requires { end + 1024 ≤ length bytes.old }
     ensures room { IfOk result (λ n. end + n ≤ length bytes.old) }
     ensures kept { take end bytes.new ≡ take end bytes.old }
     ensures ok { IfOk result (λ n. IsTrue S.tells → Takes S.taken S.left (take n (drop end bytes.new)) source.old source.new) }
@@ -63,10 +63,10 @@ fn read_behind<S: Source>(source: &mut S, bytes: &mut [u8], end: usize) -> Resul
 fn with_room(bytes: &mut [u8], start: usize, end: usize) -> (usize, usize)
     requires ordered { start ≤ end }
     requires within { end ≤ length bytes.old }
-    requires room { (end - start) + READ_LEAST ≤ length bytes.old }
+    requires room { (end - start) + 1024 ≤ length bytes.old }
     ensures same { slice_range bytes.new result.0 result.1 ≡ slice_range bytes.old start end }
     ensures ordered { result.0 ≤ result.1 }
-    ensures room { result.1 + READ_LEAST ≤ length bytes.old }
+    ensures room { result.1 + 1024 ≤ length bytes.old }
 {
     if bytes.len() - end >= READ_LEAST {
         return (start, end);
@@ -94,7 +94,7 @@ impl Held {
     /// The bytes.
     pub(crate) fn bytes(&self) -> &[u8]
         ensures bytes { result.now ≡ self.now }
-        ensures most { length self.now ≤ HELD_MAX }
+        ensures most { length self.now ≤ 16384 }
     {
         &self.bytes[self.start..self.end]
     }
@@ -116,7 +116,7 @@ impl Held {
 
     /// Reads more behind the bytes, and answers how many, none at the source's end. `Failed` leaves the bytes as they were.
     pub(crate) fn fill<S: Source>(&mut self, source: &mut S) -> Result<usize, Failed>
-        requires { length self.old + READ_LEAST ≤ HELD_MAX }
+        requires { length self.old + 1024 ≤ 16384 }
         ensures count { IfOk result (λ n. length self.new ≡ length self.old + n) }
         ensures kept { take (length self.old) self.new ≡ self.old }
         ensures ok { IfOk result (λ n. IsTrue S.tells →

@@ -1,6 +1,19 @@
 //! What comes next of a source's lines.
 use crate::line::{BadLine, Line};
 
+/// What comes next of a source's lines as bytes.
+#[derive(Clone, Copy, Debug, PartialEq, Eq)]
+pub enum NextText {
+    /// A line, whose bytes the reader lends.
+    Line,
+    /// A line with more bytes than the reader lends. It counts among the lines.
+    TooLong,
+    /// The source is at its end.
+    End,
+    /// The source has a byte behind its most lines or its most bytes.
+    Cut,
+}
+
 /// What comes next.
 #[derive(Drop)]
 pub enum Next {

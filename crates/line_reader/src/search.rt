@@ -3,9 +3,8 @@ ghost use Rattle.std.specs.Prelude.{◌≡◌, ◌≤◌, ◌<◌, ◌+◌, ◌-
 ghost use Rattle.outer_io.specs.Faults.{Rose};
 ghost use Rattle.line_reader.specs.Newlines.{newlines};
 ghost use Rattle.line_reader.specs.Reading.{BeginsWithLine};
-ghost use Rattle.line_reader.specs.Search.{FitsIn, Searches};
+ghost use Rattle.line_reader.specs.Search.{FitsIn, IsEndAt, Searches};
 
-use crate::grammar::LINE_MAX;
 use crate::held::Held;
 use memchr::memchr;
 use outer_io::Source;
@@ -13,11 +12,15 @@ use outer_io::Source;
 /// What ends a line, or what stands in the way. The first bytes of a line that is too long aren't held any more.
 #[derive(Clone, Copy)]
 pub(crate) enum Ending {
-    /// A newline, the last of this many held bytes, after so many bytes of the line that were given up.
-    Newline { given_up: usize, count: usize },
-    /// The end of the source, behind all bytes that are held, after so many of the line that were given up.
-    Source { given_up: usize },
-    /// More bytes than a receiver may have.
+    /// A line: so many held bytes behind those that were given up, with its newline, which the source's last line may lack.
+    Line {
+        given_up: usize,
+        count: usize,
+        last: bool,
+    },
+    /// The end of the source, with no byte in front of it.
+    Source,
+    /// More bytes than a source may have.
     Limit,
     /// A read that failed.
     Fault,
@@ -47,25 +50,48 @@ fn line_len(bytes: &[u8], searched: usize, most: usize) -> Option<usize>
     Some(searched + place + 1)
 }
 
-// Gives up the bytes of a line that is too long, whatever follows.
-fn give_up(held: &mut Held) -> usize
+// Gives up the bytes of a line that has more than `longest`, whatever follows.
+fn give_up(held: &mut Held, longest: usize) -> usize
+    requires { longest ≤ 15_359 }
     ensures rest { held.new ≡ drop result held.old }
     ensures within { result ≤ length held.old }
-    ensures long { 0 < result → LINE_MAX + 1 < result }
-    ensures few { length held.new ≤ LINE_MAX + 1 }
+    ensures long { 0 < result → longest + 1 < result }
+    ensures few { length held.new ≤ longest + 1 }
 {
     let count = held.len();
-    if count <= LINE_MAX + 1 {
+    if count <= longest + 1 {
         return 0;
     }
     held.advance(count);
     count
 }
 
+// What stands at a source's end, behind so many bytes of a line.
+fn at_end(given_up: usize, count: usize, most: usize) -> Ending
+    requires { given_up + count ≤ most }
+    ensures { IsEndAt given_up count result }
+{
+    if given_up + count == 0 {
+        return Ending::Source;
+    }
+    Ending::Line {
+        given_up,
+        count,
+        last: true,
+    }
+}
+
 /// Reads to the end of the line that begins with what is held, of which at most `most` bytes count, or to what stands in the way.
-pub(crate) fn find_end<S: Source>(source: &mut S, held: &mut Held, most: usize) -> Ending
+/// Of a line with more than `longest` bytes the first ones are given up.
+pub(crate) fn find_end<S: Source>(
+    source: &mut S,
+    held: &mut Held,
+    longest: usize,
+    most: usize,
+) -> Ending
+    requires { longest ≤ 15_359 }
     ensures fits { FitsIn result held.new most }
-    ensures searches { IsTrue S.tells → Searches result most held.old held.new
+    ensures searches { IsTrue S.tells → Searches result longest most held.old held.new
         (S.taken source.old) (S.left source.old) (S.taken source.new) (S.left source.new) }
     ensures later { S.faults source.old ≤ S.faults source.new }
     ensures cause { result ≡ Ending.Fault → Rose (S.faults source.old) (S.faults source.new) }
@@ -74,15 +100,19 @@ pub(crate) fn find_end<S: Source>(source: &mut S, held: &mut Held, most: usize) 
     let mut searched = 0;
     'reading: loop {
         if let Some(count) = line_len(held.bytes(), searched, most - given_up) {
-            return Ending::Newline { given_up, count };
+            return Ending::Line {
+                given_up,
+                count,
+                last: false,
+            };
         }
         if held.len() > most - given_up {
             return Ending::Limit;
         }
-        given_up += give_up(held);
+        given_up += give_up(held, longest);
         searched = held.len();
         match held.fill(source) {
-            Ok(0) => return Ending::Source { given_up },
+            Ok(0) => return at_end(given_up, held.len(), most),
             Ok(_) => {}
             Err(_) => return Ending::Fault,
         }

@@ -34,7 +34,7 @@ filled_put : (a : Address) (table : Table Row) (new : List Row) → (new ≡ [] 
 filled_put a [] new some f = (some, tt)
 filled_put a (e ∷ es) new some f = filled_put_by (same a e.0) e es (insert_entry same es a new) new some f.0 f.1 (filled_put a es new some f.1)
 
-filled_with : (a : Address) (table : Table Row) (new : List Row) → AreFilled table → AreFilled (with_rows table a new)
+pub filled_with : (a : Address) (table : Table Row) (new : List Row) → AreFilled table → AreFilled (with_rows table a new)
 filled_with a table [] f = filled_removed a table f
 filled_with a table (x ∷ xs) f = filled_put a table (x ∷ xs) (λ e. cc) f
 

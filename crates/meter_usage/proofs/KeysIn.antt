@@ -84,7 +84,7 @@ pub same_members : (xs ys : List UsageKey) → IsStrictlySortedBy key_cmp xs →
 same_members [] [] a b same = refl
 same_members [] (y ∷ ys) a b same = clash (is_among y (y ∷ ys)) (among_first y ys) (sym (same y))
 same_members (x ∷ xs) [] a b same = clash (is_among x (x ∷ xs)) (among_first x xs) (same x)
-same_members (x ∷ xs) (y ∷ ys) a b same = firsts (key_cmp x y) x y xs ys refl a b same 
+same_members (x ∷ xs) (y ∷ ys) a b same = firsts (key_cmp x y) x y xs ys refl a b same
     (λ is rest. same_members xs ys (sorted_tail key_cmp x xs a) (sorted_tail key_cmp y ys b) rest)
 
 -- ---- noted amounts are in order

@@ -9,3 +9,5 @@ pub mod Edited
 pub mod Used
 pub mod KeysIn
 pub mod Accepted
+pub mod Unchanged
+pub mod EachMeter

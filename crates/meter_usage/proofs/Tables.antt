@@ -84,7 +84,7 @@ kept_inserted : (a : Address) (table : Table (List ℕ)) (new : List (List ℕ))
 kept_inserted a [] new = refl
 kept_inserted a (e ∷ es) new = kept_inserted_by (same a e.0) e es (insert_entry same es a new) new _ (kept_inserted a es new)
 
-kept_with : (a : Address) (table : Table (List ℕ)) (new : List (List ℕ)) → with_rows (kept table) a (map row_of new) ≡ kept (with_rows table a new)
+pub kept_with : (a : Address) (table : Table (List ℕ)) (new : List (List ℕ)) → with_rows (kept table) a (map row_of new) ≡ kept (with_rows table a new)
 kept_with a table [] = kept_removed a table
 kept_with a table (x ∷ xs) = kept_inserted a table (x ∷ xs)
 

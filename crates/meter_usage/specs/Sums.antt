@@ -1,6 +1,6 @@
 -- The sums of all meters' usages.
 use Rattle.std.specs.Prelude.{map, filter, fold, nat_lt, ℕ, Bool, is_some, ◌+◌, ◌^◌, ◌<◌, List, [], ◌∷◌, Option, Some, None, ℤ, pos, ◌+ℤ◌}
-use Rattle.std.specs.List.{list_any, flat_map}
+use Rattle.std.specs.List.{list_any, flat_map, filter_map}
 use Rattle.std.specs.Option.{unwrap_or}
 use Rattle.std.specs.Map.{lookup, keys_of}
 use Rattle.std.specs.BTreeMap.{is_at}
@@ -61,6 +61,15 @@ used_keys sums = map (λ entry. entry.0) (filter (λ entry. nat_lt 0 entry.1.met
 -- whether a key is one of them
 abbrev pub is_among : UsageKey → List UsageKey → Bool
 is_among key keys = list_any (is_at (key_cmp key)) keys
+
+-- the usages of a key that meters have, in the order of the table
+abbrev pub usages_in : List (Address × List (List ℕ)) → UsageKey → List ℤ
+usages_in table key = filter_map (λ meter. usage meter.1 key) table
+
+-- what numbers come to
+abbrev pub sum_of : List ℤ → ℤ
+sum_of [] = pos 0
+sum_of (number ∷ numbers) = sum_of numbers +ℤ number
 
 -- whether some meter has a usage of a key
 abbrev pub is_used : List (Address × List (List ℕ)) → UsageKey → Bool

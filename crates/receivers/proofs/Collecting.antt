@@ -12,7 +12,7 @@ use Rattle.meter_slots.specs.declared.entry.Event.{Event}
 use Rattle.meter_slots.specs.declared.entry.Outcome.{Outcome}
 use Rattle.meter_slots.specs.Directory.{AreApart}
 use Rattle.meter_slots.specs.Journal.{SlotView}
-use Rattle.slot_cells.specs.Acts.{Shown, CellShown, Each, IsPassOf, acts_by, made_by, mine}
+use Rattle.slot_cells.specs.Acts.{Shown, CellShown, Each, IsPassOf, IsFirstPass, acts_by, made_by, mine}
 use Rattle.slot_cells.specs.Books.{Opening, opening_of, act_of, note_of, IsLegalJournal}
 use Rattle.receivers.specs.Classes.{own_lines}
 use Rattle.receivers.specs.Passes.{Answered, Crew, acts_at, ArePassesOf}
@@ -24,7 +24,7 @@ use Rattle.receivers.specs.Run.{ReceiverRun}
 use Rattle.receivers.specs.Running.{AreDone, HaveRun}
 use Rattle.receivers.specs.Session.{heard_by, entries_by, IsMetersSlot}
 use Rattle.receivers.specs.Works.{Part, HasRun}
-use Rattle.receivers.specs.Collected.{address_of, heard_in, did_from, entries_at, opening, IsNewRoot, AreFresh, IsCollected}
+use Rattle.receivers.specs.Collected.{address_of, heard_in, did_from, entries_at, opening, AreFresh, IsCollected}
 use Rattle.receivers.proofs.SessionLines.{meters_part, entries_made, notes_made}
 use Rattle.receivers.proofs.Sessions.{IsJoinedRoot, parts_of, asked_by, run_parts, run_are_parts, run_root, run_stranger}
 
@@ -38,7 +38,7 @@ module _ (own : Address) where
   fresh_none = record { openings = refl; each_cell = record { as_many = refl; each = λ k c d l. absurd (omega arith) }; fresh = λ k d l. absurd (omega arith) }
 
   pub fresh_more : (commissions : List Commissioned) (c : Commissioned) (cells cells' : List (CellShown SlotView)) (roots roots' : List (Shown SlotView Event Outcome)) (x : CellShown SlotView) (p : Shown SlotView Event Outcome)
-      → AreFresh own commissions cells roots → opening_of x.opening ≡ opening own c → IsPassOf x p → IsNewRoot p → cells' ≡ cells ++ x ∷ [] → roots' ≡ roots ++ p ∷ [] → AreFresh own (commissions ++ c ∷ []) cells' roots'
+      → AreFresh own commissions cells roots → opening_of x.opening ≡ opening own c → IsPassOf x p → IsFirstPass 0 p → cells' ≡ cells ++ x ∷ [] → roots' ≡ roots ++ p ∷ [] → AreFresh own (commissions ++ c ∷ []) cells' roots'
   fresh_more commissions c cells cells' roots roots' x p h is of new cells_is roots_is = subst (λ (l : List (CellShown SlotView)). AreFresh own (commissions ++ c ∷ []) l roots') (sym cells_is) (subst (AreFresh own (commissions ++ c ∷ []) (cells ++ x ∷ [])) (sym roots_is) (
       let many = h.each_cell.as_many in let a = length-append cells (x ∷ []) in let b = length-append roots (p ∷ []) in record {
         openings = map-append (λ (z : CellShown SlotView). opening_of z.opening) cells (x ∷ []) ∙ ((λ i. h.openings i ++ is i ∷ []) ∙ sym (map-append (opening own) commissions (c ∷ [])));
@@ -49,15 +49,15 @@ module _ (own : Address) where
               (λ ne. subst (λ (z : CellShown SlotView × Shown SlotView Event Outcome). IsPassOf z.0 z.1) (λ i. (sym (get_or-append cells (x ∷ []) y k (omega arith)) i, sym (get_or-append roots (p ∷ []) d k (omega arith)) i)) (h.each_cell.each k y d (omega arith)));
         };
         fresh = λ k d l. dite (ℕ_discrete k (length roots))
-            (λ e. subst IsNewRoot (sym (seam roots p k d e)) new)
-            (λ ne. subst IsNewRoot (sym (get_or-append roots (p ∷ []) d k (omega arith))) (h.fresh k d (omega arith)));
+            (λ e. subst (IsFirstPass 0) (sym (seam roots p k d e)) new)
+            (λ ne. subst (IsFirstPass 0) (sym (get_or-append roots (p ∷ []) d k (omega arith))) (h.fresh k d (omega arith)));
       }))
 
-new_root : {O C R : Type 0} (n : ℕ) (p : Shown O C R) → IsNewRoot p → IsRoot n n p
+pub new_root : {O C R : Type 0} (n : ℕ) (p : Shown O C R) → IsFirstPass 0 p → IsRoot n n p
 new_root n p h = record { number = h.number; is_first = h.is_first; own = h.own; joined = h.joined; handed = subst (Each (λ (k : ℕ). (n < k) × (k ≤ n))) (sym h.handed) tt }
 
 pub fresh_roots : {P : Type 0} (own : Address) (commissions : List Commissioned) (cells : List (CellShown SlotView)) (roots : List (Shown SlotView Event Outcome)) (strangers : CellShown P) (n : ℕ) (s : Shown P Address Unit)
-    → AreFresh own commissions cells roots → IsPassOf strangers s → IsNewRoot s → AreRoots cells strangers n n roots s
+    → AreFresh own commissions cells roots → IsPassOf strangers s → IsFirstPass 0 s → AreRoots cells strangers n n roots s
 fresh_roots own commissions cells roots strangers n s h of new = record { each_cell = h.each_cell; strangers_cell = of; each = λ k d l. new_root n _ (h.fresh k d l); stranger = new_root n s new }
 
 -- ---- closing them

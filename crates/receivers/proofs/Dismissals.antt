@@ -5,9 +5,9 @@ use Rattle.meter_address.specs.declared.address.Address.{Address}
 use Rattle.meter_slots.specs.declared.entry.Event.{Event}
 use Rattle.meter_slots.specs.declared.entry.Outcome.{Outcome}
 use Rattle.slot_cells.specs.declared.known.Made.{Made}
-use Rattle.slot_cells.specs.Acts.{Shown, CellShown, Each, IsPassOf, mine}
+use Rattle.slot_cells.specs.Acts.{Shown, CellShown, Each, IsPassOf, mine, HasJoined}
 use Rattle.receivers.specs.Passes.{ArePassesOf}
-use Rattle.receivers.specs.Roots.{HasJoined, HaveJoined}
+use Rattle.receivers.specs.Roots.{HaveJoined}
 use Rattle.receivers.specs.Passes.{Crew, crew}
 use Rattle.receivers.specs.Crews.{CanJoin, joined_at, strangers_joined, AllJoined, HaveAllJoined}
 

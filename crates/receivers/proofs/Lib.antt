@@ -6,8 +6,10 @@ pub mod Hirings
 pub mod Joinings
 pub mod Lone
 pub mod Makings
+pub mod Meetings
 pub mod Numbers
 pub mod OneSession
+pub mod OrderLaws
 pub mod Runs
 pub mod SessionLines
 pub mod Sessions

@@ -39,13 +39,13 @@ judged_calls : (c : Commissioned) (own : Address) (calls : List Call) → map ca
 judged_calls c own [] = refl
 judged_calls c own (s ∷ calls) = ap (λ l. s ∷ l) (judged_calls c own calls)
 
-journal_calls : (c : Commissioned) (own : Address) (calls : List Call) → map call_in (journal_of c own calls) ≡ calls
+pub journal_calls : (c : Commissioned) (own : Address) (calls : List Call) → map call_in (journal_of c own calls) ≡ calls
 journal_calls c own calls = map-reverse call_in (judged_journal c own (reverse calls)) ∙ (ap reverse (judged_calls c own (reverse calls)) ∙ reverse-reverse calls)
 
-abbrev pair_of : Call → ℕ × Event
+abbrev pub pair_of : Call → ℕ × Event
 pair_of k = (k.line, k.event)
 
-steps_of_calls : (w : ℕ) (journal : List Entry) → steps_by w journal ≡ map pair_of (filter (λ (k : Call). k.source == w) (map call_in journal))
+pub steps_of_calls : (w : ℕ) (journal : List Entry) → steps_by w journal ≡ map pair_of (filter (λ (k : Call). k.source == w) (map call_in journal))
 steps_of_calls w [] = refl
 steps_of_calls w (x ∷ xs) = at (x.source == w) (steps_of_calls w xs)
   where

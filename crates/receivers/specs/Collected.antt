@@ -8,7 +8,7 @@ use Rattle.meter_slots.specs.declared.entry.Event.{Event}
 use Rattle.meter_slots.specs.declared.entry.Outcome.{Outcome}
 use Rattle.meter_slots.specs.Journal.{SlotView}
 use Rattle.meter_slots.specs.World.{WorldView}
-use Rattle.slot_cells.specs.Acts.{Shown, CellShown}
+use Rattle.slot_cells.specs.Acts.{Shown, CellShown, IsFirstPass}
 use Rattle.slot_cells.specs.Books.{Opening, opening_of}
 use Rattle.receivers.specs.Classes.{own_lines}
 use Rattle.receivers.specs.declared.told.Told.{Told}
@@ -39,18 +39,20 @@ heard_in p = p.heard
 abbrev pub part_by : ℕ → List Part → Part
 part_by w parts = record { heard = heard_by w (map heard_in parts); did = did_from 1 w parts }
 
--- Each own line that a receiver heard was answered, in their order, whatever the meters, and the answers of each meter are those in its slot's journal.
+-- Each own line that a receiver heard was answered, in their order, whatever the meters; the answers of each meter are those in its
+-- slot's journal.
 pub record IsAnswered (directory : List Address) (slots : List SlotView) (w : ℕ) (p : Part) : Type 0 where
   pub asked : map (λ d. d.own) p.did ≡ own_lines directory (enumerate_from 1 p.heard)
-  pub answered : (k : ℕ) (slot : SlotView) → k < length slots → entries_by w (slice_index_or slots k slot).journal ≡ entries_at w k p.did
+  pub answered : (k : ℕ) (slot : SlotView) → k < length slots
+      → entries_by w (slice_index_or slots k slot).journal ≡ entries_at w k p.did
 
 -- ---- the session
 
 abbrev pub address_of : Commissioned → Address
 address_of c = c.address
 
--- The runs of some receivers, numbered from 1, for the meters of these commissions: each ended with its cause, and sent the downlinks of what its own lines were
--- answered; what they heard is one session, of these slots and strangers, whose journals have those answers.
+-- The runs of some receivers, numbered from 1, for the meters of these commissions: each ended with its cause, and sent the downlinks of
+-- what its own lines were answered; what they heard is one session, of these slots and strangers, whose journals have those answers.
 pub record IsCollected (own : Address) (commissions : List Commissioned) (runs : List ReceiverRun) (world : WorldView) : Type 0 where
   pub parts : List Part
   pub each_run : EachWith (HasRun (map address_of commissions)) runs parts
@@ -62,16 +64,9 @@ pub record IsCollected (own : Address) (commissions : List Commissioned) (runs :
 abbrev pub opening : Address → Commissioned → Opening
 opening own c = record { own = own; commission = c }
 
--- a pass that came with its cell, and did nothing yet
-pub record IsNewRoot {O C R : Type 0} (p : Shown O C R) : Type 0 where
-  pub number : p.number ≡ 0
-  pub is_first : p.is_first ≡ true
-  pub own : p.own ≡ []
-  pub joined : p.joined ≡ []
-  pub handed : p.handed ≡ []
-
 -- a cell for each commission, with its pass
-pub record AreFresh (own : Address) (commissions : List Commissioned) (cells : List (CellShown SlotView)) (roots : List (Shown SlotView Event Outcome)) : Type 0 where
+pub record AreFresh (own : Address) (commissions : List Commissioned) (cells : List (CellShown SlotView))
+    (roots : List (Shown SlotView Event Outcome)) : Type 0 where
   pub openings : map (λ c. opening_of c.opening) cells ≡ map (opening own) commissions
   pub each_cell : ArePassesOf cells roots
-  pub fresh : (k : ℕ) (d : Shown SlotView Event Outcome) → k < length roots → IsNewRoot (slice_index_or roots k d)
+  pub fresh : (k : ℕ) (d : Shown SlotView Event Outcome) → k < length roots → IsFirstPass 0 (slice_index_or roots k d)

@@ -70,7 +70,9 @@ pub record AllJoined {O C R : Type 0} (more : List (Made C R)) (p r : Shown O C 
   pub joined : r.joined ≡ p.joined ++ more
 
 -- each root has what the crews made at its place
-pub record HaveAllJoined {O P : Type 0} (crews : List (Crew O P)) (before after : List (Shown O Event Outcome)) (s s' : Shown P Address Unit) : Type 0 where
+pub record HaveAllJoined {O P : Type 0} (crews : List (Crew O P)) (before after : List (Shown O Event Outcome))
+    (s s' : Shown P Address Unit) : Type 0 where
   pub as_many : length after ≡ length before
-  pub each : (k : ℕ) (d : Shown O Event Outcome) → k < length before → AllJoined (joined_at k d crews) (slice_index_or before k d) (slice_index_or after k d)
+  pub each : (k : ℕ) (d : Shown O Event Outcome) → k < length before
+      → AllJoined (joined_at k d crews) (slice_index_or before k d) (slice_index_or after k d)
   pub stranger : AllJoined (strangers_joined crews) s s'

@@ -6,6 +6,7 @@ pub mod Ending
 pub mod Run
 pub mod Alone
 pub mod Session
+pub mod Orders
 pub mod Passes
 pub mod Works
 pub mod Workers

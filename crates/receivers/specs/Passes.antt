@@ -38,7 +38,8 @@ module _ {O C R : Type 0} where
   -- each cell has its pass, at the same place
   pub record ArePassesOf (cells : List (CellShown O)) (passes : List (Shown O C R)) : Type 0 where
     pub as_many : length passes ≡ length cells
-    pub each : (k : ℕ) (c : CellShown O) (p : Shown O C R) → k < length passes → IsPassOf (slice_index_or cells k c) (slice_index_or passes k p)
+    pub each : (k : ℕ) (c : CellShown O) (p : Shown O C R) → k < length passes
+        → IsPassOf (slice_index_or cells k c) (slice_index_or passes k p)
 
   -- the pass made these acts more
   pub record HasMade (acts : List (Act C R)) (p q : Shown O C R) : Type 0 where

@@ -14,7 +14,7 @@ use Rattle.receivers.specs.Ending.{IsEnding}
 use Rattle.receivers.specs.Receiver.{Receiving}
 use Rattle.outer_io.specs.Shown.{Change, SourceShown, SinkShown, source_change, sink_change, ReadFailed, LosesNothing}
 
--- what a run shows of its hearing: the source before and now, whether contracts know its bytes, the counts of the lines, and how the run ended
+-- what a run shows of its hearing: the source before and now, whether contracts know its bytes, the counts of the lines, and how it ended
 pub record Hearing : Type 0 where
   pub tells : Bool
   pub source : Change SourceShown
@@ -32,8 +32,8 @@ lines_taken count taken = take count (all_lines taken)
 abbrev pub lines_of : Hearing → List (List ℕ)
 lines_of h = lines_taken h.counts.lines h.source.now.taken
 
--- What was heard is what the lines taken tell, where contracts know them. The counts are those of these lines, for the meters of a directory. The run ended as it
--- says after these lines, a fault of reading has its cause, and no byte is lost.
+-- What was heard is what the lines taken tell, where contracts know them. The counts are those of these lines, for the meters of a
+-- directory. The run ended as it says after these lines, a fault of reading has its cause, and no byte is lost.
 pub record HasHeard (directory : List Address) (h : Hearing) (heard : List Told) : Type 0 where
   pub lines : IsTrue h.tells → heard ≡ map told_of (lines_of h)
   pub counts : h.counts ≡ counts_of directory heard
@@ -44,7 +44,8 @@ pub record HasHeard (directory : List Address) (h : Hearing) (heard : List Told)
 
 -- ---- with a sink
 
--- what a run shows of a receiver: its source and its sink before and now, whether contracts know their bytes, the counts of its lines, and how it ended, if it worked
+-- what a run shows of a receiver: its source and its sink before and now, whether contracts know their bytes, the counts of its lines,
+-- and how it ended, if it worked
 pub record ReceiverRun : Type 0 where
   pub source_tells : Bool
   pub source : Change SourceShown
@@ -53,7 +54,8 @@ pub record ReceiverRun : Type 0 where
   pub counts : Counts
   pub ended : Option Ended
 
-abbrev pub run_between : {S K : Type 0} → sources.Ghosts S → sinks.Ghosts K → (old new : S) → (tx tx' : K) → Counts → Option Ended → ReceiverRun
+abbrev pub run_between : {S K : Type 0} → sources.Ghosts S → sinks.Ghosts K → (old new : S) → (tx tx' : K) → Counts → Option Ended
+    → ReceiverRun
 run_between s k old new tx tx' counts ended = record {
   source_tells = s.tells;
   source = source_change s old new;

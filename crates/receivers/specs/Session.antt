@@ -59,16 +59,16 @@ notes_by w heard = map (λ h. (h.line, h.address)) (filter (λ h. h.source == w)
 
 -- ---- the session
 
--- A meter's slot after a session: it has the meter's commission, each answer in its journal is the one that the slot's own lines before it give, and of each
--- receiver the journal has just the meter's own lines, each once and in that receiver's order.
+-- A meter's slot after a session: it has the meter's commission, each answer in its journal is the one that the entries before it give,
+-- and of each receiver the journal has just the meter's own lines, each once and in that receiver's order.
 pub record IsMetersSlot (own : Address) (all : List (List Told)) (c : Commissioned) (slot : SlotView) : Type 0 where
   pub own_is : slot.own ≡ own
   pub commission_is : slot.commission ≡ c
   pub legal : Legal c own slot.journal
   pub lines : (w : ℕ) → steps_by w slot.journal ≡ lines_for c.address (heard_by w all)
 
--- A session of receivers that heard all this, for the meters of some commissions: each meter has its slot, and the strangers' list has of each receiver just
--- its strangers' lines, each once and in that receiver's order.
+-- A session of receivers that heard all this, for the meters of some commissions: each meter has its slot, and the strangers' list has
+-- of each receiver just its strangers' lines, each once and in that receiver's order.
 pub record IsSession (own : Address) (commissions : List Commissioned) (all : List (List Told)) (world : WorldView) : Type 0 where
   pub meters : EachWith (IsMetersSlot own all) commissions world.slots
   pub strangers : (w : ℕ) → notes_by w world.strangers ≡ lines_of_strangers commissions (heard_by w all)

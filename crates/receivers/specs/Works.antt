@@ -48,7 +48,8 @@ pub record Part : Type 0 where
   pub heard : List Told
   pub did : List Answered
 
--- The downlink of the last line heard couldn't be written: those before it were, and of its line bytes may be missing at the end, at most all of them.
+-- The downlink of the last line heard couldn't be written: those before it were, and of its line bytes may be missing at the end, at
+-- most all of them.
 pub record LacksItsEnd (run : ReceiverRun) (p : Part) : Type 0 where
   pub sent : List Answered
   pub last : Answered
@@ -99,16 +100,19 @@ note_if line (Err e) = []
 -- the downlink of an outcome was written, or a front of its line
 abbrev pub Sends : Bool → Result Unit Failed → Outcome → List ℕ → List ℕ → Type 0
 Sends tells (Ok _) outcome old new = IsTrue tells → new ≡ old ++ sent_line (sent_in outcome)
-Sends tells (Err e) outcome old new = (is_some (sent_in outcome) ≡ true) × (IsTrue tells → AppendsFront (sent_line (sent_in outcome)) old new)
+Sends tells (Err e) outcome old new =
+    (is_some (sent_in outcome) ≡ true) × (IsTrue tells → AppendsFront (sent_line (sent_in outcome)) old new)
 
 -- the same of the answers of one line
 abbrev pub SendsAll : Bool → Result Unit Failed → List Answered → List ℕ → List ℕ → Type 0
 SendsAll tells (Ok _) did old new = IsTrue tells → new ≡ old ++ tx_text did
-SendsAll tells (Err e) did old new = (last : Answered) × (did ≡ last ∷ []) × (is_some (sent_in last.outcome) ≡ true) × (IsTrue tells → AppendsFront (sent_text last) old new)
+SendsAll tells (Err e) did old new =
+    (last : Answered) × (did ≡ last ∷ []) × (is_some (sent_in last.outcome) ≡ true) × (IsTrue tells → AppendsFront (sent_text last) old new)
 
 module _ {O P : Type 0} (directory : List Address) where
   -- what one more line did, and what became of its downlink
-  pub record HearsLine (line : ℕ) (told : Told) (class : Class) (sent : Result Unit Failed) (before after : Crew O P) (tells : Bool) (tx tx' : List ℕ) : Type 0 where
+  pub record HearsLine (line : ℕ) (told : Told) (class : Class) (sent : Result Unit Failed) (before after : Crew O P)
+      (tells : Bool) (tx tx' : List ℕ) : Type 0 where
     pub class_is : class ≡ class_by directory told
     pub did : List Answered
     pub works : Works directory ((line, told) ∷ []) did before after

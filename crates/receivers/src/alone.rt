@@ -62,15 +62,16 @@ fn hear_lines<S: Source>(
 }
 
 impl<S: Source, K: Sink> Receiver<S, K> {
-    ghost use Rattle.std.specs.Prelude.{◌≡◌, ◌≢◌, None, Some};
+    ghost use Rattle.std.specs.Prelude.{◌≡◌, ◌≢◌, [], None, Some, IsTrue};
     ghost use Rattle.receivers.specs.Alone.{HasHeardAlone};
     ghost use Rattle.receivers.specs.Run.{hearing};
 
-    /// Hears its lines until it ends, and makes the step of each in a world, as the receiver with this number. Nothing is written to its sink. A line for which
-    /// there is no memory makes no step; those before it stand.
+    /// Hears its lines until it ends, and makes the step of each in a world, as the receiver with this number. Nothing is written to its
+    /// sink. A line for which there is no memory makes no step; those before it stand.
     pub fn work_alone(&mut self, source: u32, world: &mut World) -> Ended
         requires fresh { self.old.ended ≡ None }
         ensures heard { HasHeardAlone source (hearing S.Source self.old.source self.new.source self.new.counts result) world.old world.new }
+        ensures untaken { IsTrue S.tells → S.taken self.old.source ≡ [] }
         ensures ended { self.new.ended ≡ Some result }
         ensures never { result ≢ Ended.TxFault }
         ensures tx { self.new.tx ≡ self.old.tx }

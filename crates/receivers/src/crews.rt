@@ -25,8 +25,9 @@ fn hire_one<S: Source + Drop, K: Sink + Drop, B: Book<Call = Event, Answer = Out
 ) -> Result<Worker<S, K, B>, Memory>
     requires small { 0 < source }
     requires roots { (most : ℕ) × AreRoots cells.now strangers.now source most roots.old stranger_root.old }
-    ensures roots { IfOk result (λ _. (least most : ℕ) → least + 1 ≡ source → source ≤ most → AreRoots cells.now strangers.now source most roots.old stranger_root.old →
-        AreRoots cells.now strangers.now least most roots.new stranger_root.new) }
+    ensures roots { IfOk result (λ _. (least most : ℕ) → least + 1 ≡ source → source ≤ most
+        → AreRoots cells.now strangers.now source most roots.old stranger_root.old
+        → AreRoots cells.now strangers.now least most roots.new stranger_root.new) }
     ensures crew { IfOk result (λ w. IsCrew cells.now strangers.now source (crew w.passes.items w.stranger_pass)) }
     ensures receiver { IfOk result (λ w. w.receiver ≡ receiver) }
 {
@@ -49,9 +50,10 @@ pub(crate) fn hire<S: Source + Drop, K: Sink + Drop, B: Book<Call = Event, Answe
     receivers: &mut Vec<Receiver<S, K>>,
 ) -> Result<Vec<Worker<S, K, B>>, Memory>
     requires few { vec_len receivers.old < 2 ^ 32 }
-    requires roots { AreRoots cells.now strangers.now (length receivers.old.items) (length receivers.old.items) roots.old stranger_root.old }
+    requires roots { let most = length receivers.old.items in AreRoots cells.now strangers.now most most roots.old stranger_root.old }
     ensures roots { IfOk result (λ _. AreRoots cells.now strangers.now 0 (length receivers.old.items) roots.new stranger_root.new) }
-    ensures crews { IfOk result (λ workers. AreCrews cells.now strangers.now 1 (map (λ w. crew w.passes.items w.stranger_pass) workers.items)) }
+    ensures crews { IfOk result (λ workers.
+        AreCrews cells.now strangers.now 1 (map (λ w. crew w.passes.items w.stranger_pass) workers.items)) }
     ensures receivers { IfOk result (λ workers. map (λ w. w.receiver) workers.items ≡ receivers.old.items) }
     ensures empty { IfOk result (λ _. length receivers.new.items ≡ 0) }
 {
@@ -84,7 +86,8 @@ pub(crate) fn dismiss<S: Source + Drop, K: Sink + Drop, B: Book<Call = Event, An
     requires roots { ArePassesOf cells.now roots.old × IsPassOf strangers.now stranger_root.old }
     requires crews { Each (CanJoin cells.now strangers.now) (map (λ w. crew w.passes.items w.stranger_pass) workers.items) }
     ensures roots { ArePassesOf cells.now roots.new × IsPassOf strangers.now stranger_root.new }
-    ensures joined { OnOk result (HaveAllJoined (map (λ w. crew w.passes.items w.stranger_pass) workers.items) roots.old roots.new stranger_root.old stranger_root.new) }
+    ensures joined { OnOk result (HaveAllJoined (map (λ w. crew w.passes.items w.stranger_pass) workers.items)
+        roots.old roots.new stranger_root.old stranger_root.new) }
     ensures receivers { OnOk result (receivers.new.items ≡ map (λ w. w.receiver) workers.items ++ receivers.old.items) }
 {
     while let Some(worker) = workers.pop() {

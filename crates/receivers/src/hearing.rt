@@ -39,9 +39,11 @@ pub(crate) fn hear_told<B: Book<Call = Event, Answer = Outcome>, R: Wait, K: Sin
     requires stranger_pass { IsPassOf strangers.now stranger_pass.old }
     ensures passes { ArePassesOf cells.now passes.new }
     ensures stranger_pass { IsPassOf strangers.now stranger_pass.new }
-    ensures heard { IfOk result (λ heard. HearsLine directory.now line told heard.class heard.sent (crew passes.old stranger_pass.old) (crew passes.new stranger_pass.new) K.tells (K.written tx.old) (K.written tx.new)) }
+    ensures heard { IfOk result (λ heard. HearsLine directory.now line told heard.class heard.sent
+        (crew passes.old stranger_pass.old) (crew passes.new stranger_pass.new) K.tells (K.written tx.old) (K.written tx.new)) }
     ensures cause { IfOk result (λ heard. OnErr heard.sent (Rose (K.faults tx.old) (K.faults tx.new))) }
-    ensures memory { OnErr result (Works directory.now [] [] (crew passes.old stranger_pass.old) (crew passes.new stranger_pass.new) × (tx.new ≡ tx.old)) }
+    ensures memory { OnErr result (Works directory.now [] []
+        (crew passes.old stranger_pass.old) (crew passes.new stranger_pass.new) × (tx.new ≡ tx.old)) }
     ensures later { K.faults tx.old ≤ K.faults tx.new }
 {
     let (address, event) = match told {

@@ -1,14 +1,50 @@
-//! Laws: each function's contract is one.
-ghost use Rattle.std.specs.Prelude.{List, [], ◌∷◌};
+//! Laws of sessions: each function's contract is one.
+ghost use Rattle.std.specs.Prelude.{◌≡◌, ◌↔◌, ℕ, List, [], ◌∷◌, ◌++◌, reverse, Some, option_map};
 ghost use Rattle.meter_address.specs.declared.address.Address.{Address};
+ghost use Rattle.meter_address.specs.declared.commission.Mode.TheVariants.{Seven};
 ghost use Rattle.meter_address.specs.Commission.{Commissioned};
+ghost use Rattle.meter_slots.specs.declared.entry.Entry.{Entry};
+ghost use Rattle.meter_slots.specs.Journal.{SlotView, genuine, stored_counter};
+ghost use Rattle.meter_slots.specs.Laws.{IsAbove, IsRising, last_stored, stored_counters, sent_counters};
 ghost use Rattle.meter_slots.specs.World.{world_of};
 ghost use Rattle.receivers.specs.declared.told.Told.{Told};
 ghost use Rattle.receivers.specs.Alone.{steps_of};
-ghost use Rattle.receivers.specs.Session.{IsSession};
+ghost use Rattle.receivers.specs.Orders.{order_of, IsOrderOf, IsOrderedSlot};
+ghost use Rattle.receivers.specs.Session.{heard_by, lines_for, IsMetersSlot, IsSession};
 
 /// The world of one receiver's lines is a session of that receiver.
 pub fn one_receiver_makes_a_session()
     ensures { (own : Address) (commissions : List Commissioned) (heard : List Told)
         → IsSession own commissions (heard ∷ []) (world_of own commissions (steps_of 1 heard)) }
+{}
+
+/// A meter's slot is fixed by the meter's own lines and by the order in which its journal has them, whatever else the receivers heard.
+pub fn own_lines_alone()
+    ensures { (own : Address) (c : Commissioned) (all others : List (List Told)) (slot again : SlotView)
+        → IsMetersSlot own all c slot → IsMetersSlot own others c again
+        → ((w : ℕ) → lines_for c.address (heard_by w all) ≡ lines_for c.address (heard_by w others))
+        → order_of slot.journal ≡ order_of again.journal → slot ≡ again }
+{}
+
+/// The order of a journal has of each receiver just the meter's own lines, each once and in that receiver's order; and each such order
+/// has a slot with a journal in that order. So the orders that a report prints fix its session.
+pub fn orders_make_journals()
+    ensures order { (own : Address) (c : Commissioned) (all : List (List Told)) (slot : SlotView)
+        → IsMetersSlot own all c slot → IsOrderOf c.address all (order_of slot.journal) }
+    ensures journal { (own : Address) (c : Commissioned) (all : List (List Told)) (order : List (ℕ × ℕ))
+        → IsOrderOf c.address all order → (slot : SlotView) × IsOrderedSlot own all c order slot }
+{}
+
+/// Whichever receivers hear a meter: in mode 7 the stored counters strictly rise from above the commission's, and a message is stored
+/// exactly where it is genuine and its counter exceeds that of the message stored last; the counters of the downlinks, over all sinks
+/// together, strictly rise.
+pub fn counters_rise_over_all_receivers()
+    ensures stored { (own : Address) (c : Commissioned) (all : List (List Told)) (slot : SlotView)
+        → IsMetersSlot own all c slot → c.mode ≡ Seven → IsRising c.last (stored_counters slot.journal) }
+    ensures exactly { (own : Address) (c : Commissioned) (all : List (List Told)) (slot : SlotView) (before : List Entry) (x : Entry)
+        (after : List Entry) (n : ℕ) → IsMetersSlot own all c slot → c.mode ≡ Seven → slot.journal ≡ before ++ x ∷ after
+        → (stored_counter x.outcome ≡ Some n)
+        ↔ ((option_map (λ f. f.counter) (genuine c (reverse before) x.event) ≡ Some n) × IsAbove n (last_stored c before)) }
+    ensures sent { (own : Address) (c : Commissioned) (all : List (List Told)) (slot : SlotView)
+        → IsMetersSlot own all c slot → IsRising (Some c.down) (sent_counters slot.journal) }
 {}

@@ -23,3 +23,6 @@ pub use receiver::Receiver;
 pub use session::{Collected, collect};
 pub use told::{Told, tell};
 pub use workers::{Worker, work_all};
+
+#[cfg(test)]
+mod tests;

@@ -30,10 +30,11 @@ pub(crate) fn run_cells<R: Threads + Wait + Sync, S: Source + Send + Drop, K: Si
 ) -> Result<(), Memory>
     requires places { length directory.now ≡ length cells.now }
     requires few { vec_len receivers.old < 2 ^ 32 }
-    requires roots { AreRoots cells.now strangers.now (length receivers.old.items) (length receivers.old.items) roots.old stranger_root.old }
+    requires roots { let most = length receivers.old.items in AreRoots cells.now strangers.now most most roots.old stranger_root.old }
     requires fresh { All (λ r. r.ended ≡ None) receivers.old.items }
     ensures roots { OnOk result (ArePassesOf cells.now roots.new × IsPassOf strangers.now stranger_root.new) }
-    ensures run { OnOk result (HaveRun directory.now cells.now strangers.now (receiver_runs S.Source K.Sink receivers.old.items receivers.new.items) roots.new stranger_root.new) }
+    ensures run { OnOk result (HaveRun directory.now cells.now strangers.now
+        (receiver_runs S.Source K.Sink receivers.old.items receivers.new.items) roots.new stranger_root.new) }
     ensures as_many { OnOk result (length receivers.new.items ≡ length receivers.old.items) }
 {
     let mut workers = hire(alloc, cells, roots, strangers, stranger_root, receivers)?;

@@ -1,9 +1,9 @@
 //! A session of several receivers over the slots of some commissions.
 ghost use Rattle.std.specs.Prelude.{◌≡◌, ◌<◌, ◌^◌, None, [], map, length, All, IfOk, OnOk, vec_len};
 ghost use Rattle.meter_slots.specs.Directory.{AreApart};
-ghost use Rattle.slot_cells.specs.Acts.{IsPassOf};
+ghost use Rattle.slot_cells.specs.Acts.{IsPassOf, IsFirstPass};
 ghost use Rattle.receivers.specs.Run.{receiver_runs};
-ghost use Rattle.receivers.specs.Collected.{address_of, IsNewRoot, AreFresh, IsCollected};
+ghost use Rattle.receivers.specs.Collected.{address_of, AreFresh, IsCollected};
 
 use crate::receiver::Receiver;
 use crate::roots::close_each;
@@ -11,11 +11,23 @@ use crate::running::run_cells;
 use meter_address::{Address, Commission};
 use meter_slots::{Directory, SlotBook};
 use outer_io::{Memory, Sink, Source};
-use slot_cells::{BookCell, Pass, SlotCell, StrangerCell};
+use slot_cells::{Book, BookCell, Pass, SlotCell, StrangerCell};
 use std::alloc::Global;
 use std::sync::Wait;
 use std::thread::Threads;
 use stranger_ring::Strangers;
+
+// A cell for a book on which nothing was done yet, and its pass.
+pub(crate) fn enclose<B: Book + Drop>(alloc: Global, book: B) -> Result<(BookCell<B>, Pass<B>), Memory>
+    requires { B.acts book ≡ [] }
+    ensures opening { IfOk result (λ made. B.opening made.0.opening ≡ B.opening book) }
+    ensures pass { IfOk result (λ made. IsPassOf made.0 made.1 × IsFirstPass 0 made.1) }
+{
+    match BookCell::new(alloc, book, 0) {
+        Ok(made) => Ok(made),
+        Err(_) => Err(Memory),
+    }
+}
 
 // A cell for each commission, with its pass.
 #[derive(Drop)]
@@ -31,13 +43,9 @@ fn make_cells(alloc: Global, own: Address, commissions: &[Commission]) -> Result
     let mut roots = Vec::new(alloc);
     for place in 0..commissions.len() {
         let book = SlotBook::new(alloc, own, commissions[place]);
-        match BookCell::new(alloc, book, 0) {
-            Ok((cell, root)) => {
-                cells.push(cell)?;
-                roots.push(root)?;
-            }
-            Err(_) => return Err(Memory),
-        }
+        let (cell, root) = enclose(alloc, book)?;
+        cells.push(cell)?;
+        roots.push(root)?;
     }
     Ok(Fresh { cells, roots })
 }
@@ -73,10 +81,12 @@ fn collect_over<R: Threads + Wait + Sync, S: Source + Send + Drop, K: Sink + Sen
     requires apart { AreApart (map address_of commissions.now) }
     requires directory { directory.now ≡ map address_of commissions.now }
     requires cells { AreFresh own commissions.now fresh.cells.items fresh.roots.items }
-    requires strangers { IsPassOf strangers stranger_root × IsNewRoot stranger_root }
+    requires strangers { IsPassOf strangers stranger_root × IsFirstPass 0 stranger_root }
     requires few_receivers { vec_len receivers.old < 2 ^ 32 }
     requires fresh { All (λ r. r.ended ≡ None) receivers.old.items }
-    ensures collected { IfOk result (λ c. IsCollected own commissions.now (receiver_runs S.Source K.Sink receivers.old.items receivers.new.items) (record { slots = c.slots.items; strangers = c.strangers })) }
+    ensures collected { IfOk result (λ c. IsCollected own commissions.now
+        (receiver_runs S.Source K.Sink receivers.old.items receivers.new.items)
+        (record { slots = c.slots.items; strangers = c.strangers })) }
     ensures as_many { OnOk result (length receivers.new.items ≡ length receivers.old.items) }
 {
     let Fresh { cells, mut roots } = fresh;
@@ -99,13 +109,9 @@ fn collect_over<R: Threads + Wait + Sync, S: Source + Send + Drop, K: Sink + Sen
 
 // The cell of the strangers, with its pass.
 fn make_strangers(alloc: Global) -> Result<(StrangerCell, Pass<Strangers>), Memory>
-    ensures { IfOk result (λ made. IsPassOf made.0 made.1 × IsNewRoot made.1) }
+    ensures { IfOk result (λ made. IsPassOf made.0 made.1 × IsFirstPass 0 made.1) }
 {
-    let strangers = Strangers::new(alloc)?;
-    match BookCell::new(alloc, strangers, 0) {
-        Ok(made) => Ok(made),
-        Err(_) => Err(Memory),
-    }
+    enclose(alloc, Strangers::new(alloc)?)
 }
 
 /// Has all receivers work over the slots of these commissions, each in a thread of its own where one can be made.
@@ -120,7 +126,9 @@ pub fn collect<R: Threads + Wait + Sync, S: Source + Send + Drop, K: Sink + Send
     requires few { length commissions.now < 2 ^ 32 }
     requires few_receivers { vec_len receivers.old < 2 ^ 32 }
     requires fresh { All (λ r. r.ended ≡ None) receivers.old.items }
-    ensures collected { IfOk result (λ c. IsCollected own commissions.now (receiver_runs S.Source K.Sink receivers.old.items receivers.new.items) (record { slots = c.slots.items; strangers = c.strangers })) }
+    ensures collected { IfOk result (λ c. IsCollected own commissions.now
+        (receiver_runs S.Source K.Sink receivers.old.items receivers.new.items)
+        (record { slots = c.slots.items; strangers = c.strangers })) }
     ensures as_many { OnOk result (length receivers.new.items ≡ length receivers.old.items) }
 {
     let addresses = addresses_of(alloc, commissions)?;

@@ -16,7 +16,8 @@ pub(crate) fn next_told<S: Source>(lines: &mut Lines<S>) -> Result<Told, Ended>
     ensures goes_on { OnOk result ((lines.new.line ≡ lines.old.line + 1) × (lines.new.done ≡ false)) }
     ensures few { lines.new.line ≤ LINES_MAX }
     ensures ended { IfErr result (λ ended. IsTrue S.tells →
-        (given S.taken lines.new ≡ given S.taken lines.old) × IsEnding ended (S.taken lines.new.source) (S.left lines.new.source) (given S.taken lines.new)) }
+        (given S.taken lines.new ≡ given S.taken lines.old)
+        × IsEnding ended (S.taken lines.new.source) (S.left lines.new.source) (given S.taken lines.new)) }
     ensures same { OnErr result (lines.new.line ≡ lines.old.line) }
     ensures cause { IfErr result (λ ended. ended ≡ Ended.ReadFault → Rose (S.faults lines.old.source) (S.faults lines.new.source)) }
     ensures never { IfErr result (λ ended. (ended ≢ Ended.TxFault) × (ended ≢ Ended.Memory)) }

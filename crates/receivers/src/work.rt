@@ -37,7 +37,8 @@ fn work_lines<B: Book<Call = Event, Answer = Outcome>, R: Wait, S: Source, K: Si
     requires stranger_pass { IsPassOf strangers.now stranger_pass.old }
     ensures passes { ArePassesOf cells.now passes.new }
     ensures stranger_pass { IsPassOf strangers.now stranger_pass.new }
-    ensures worked { HasWorked directory.now (run_between S.Source K.Sink lines.old.source lines.new.source tx.old tx.new counts.new (Some result))
+    ensures worked { HasWorked directory.now
+        (run_between S.Source K.Sink lines.old.source lines.new.source tx.old tx.new counts.new (Some result))
         (crew passes.old stranger_pass.old) (crew passes.new stranger_pass.new) }
 {
     'lines: loop {
@@ -75,8 +76,8 @@ impl<S: Source, K: Sink> Receiver<S, K> {
     ghost use Rattle.receivers.specs.Run.{receiver_run};
     ghost use Rattle.receivers.specs.Works.{HasWorked};
 
-    /// Hears its lines until it ends: makes the step of each on the cell of its meter, or notes it for a stranger's, and writes the downlink that the step
-    /// gives before the next line is taken. A line for which there is no memory makes no step.
+    /// Hears its lines until it ends: makes the step of each on the cell of its meter, or notes it for a stranger's, and writes the
+    /// downlink that the step gives before the next line is taken. A line for which there is no memory makes no step. It may wait.
     pub fn work<B: Book<Call = Event, Answer = Outcome>, R: Wait>(
         &mut self,
         rt: &R,
@@ -95,7 +96,8 @@ impl<S: Source, K: Sink> Receiver<S, K> {
         ensures ended { self.new.ended ≡ Some result }
 
         // What was heard, what was answered to the own lines, where the downlinks went, and how it ended, with its cause.
-        ensures worked { HasWorked directory.now (receiver_run S.Source K.Sink self.old self.new) (crew passes.old stranger_pass.old) (crew passes.new stranger_pass.new) }
+        ensures worked { HasWorked directory.now (receiver_run S.Source K.Sink self.old self.new)
+            (crew passes.old stranger_pass.old) (crew passes.new stranger_pass.new) }
     {
         self.ended = Some(Ended::Memory);
         let ended = work_lines(

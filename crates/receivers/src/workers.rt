@@ -57,8 +57,10 @@ pub fn work_all<R: Threads + Wait + Sync, S: Source + Send + Drop, K: Sink + Sen
     requires places { length directory.now ≡ length cells.now }
     requires can { All (λ w. CanWork cells.now strangers.now w.receiver.ended (crew w.passes.items w.stranger_pass)) workers.old.items }
     ensures as_many { length workers.new.items ≡ length workers.old.items }
-    ensures each { (i : ℕ) (d : _) → i < length workers.old.items → let w = slice_index_or workers.old.items i d in let w' = slice_index_or workers.new.items i d in
-        IsDone cells.now strangers.now directory.now (receiver_run S.Source K.Sink w.receiver w'.receiver) (crew w.passes.items w.stranger_pass) (crew w'.passes.items w'.stranger_pass) }
+    ensures each { (i : ℕ) (d : _) → i < length workers.old.items →
+        let w = slice_index_or workers.old.items i d in let w' = slice_index_or workers.new.items i d in
+        IsDone cells.now strangers.now directory.now (receiver_run S.Source K.Sink w.receiver w'.receiver)
+        (crew w.passes.items w.stranger_pass) (crew w'.passes.items w'.stranger_pass) }
 {
     let count = workers.len();
     if count == 0 {

@@ -12,9 +12,9 @@ use Rattle.tpl_headers.specs.declared.header.TplFault.TheVariants as tpl
 use Rattle.message_check.specs.declared.refusal.LayerFault.{LayerFault}
 use Rattle.message_check.specs.declared.refusal.LayerFault.TheVariants.{Ell, Afl, Tpl}
 use Rattle.message_check.specs.declared.refusal.Reason.{Reason}
-use Rattle.message_check.specs.declared.refusal.Reason.TheVariants.{NotUplink, BadLayers, PartInMode5, TooManyParts, BadMessage, OtherAddress, Mode, NoAuth, Kdf, ShortBlocks, Unchecked, BadMac, Stale, CheckBytes, SameAccess, QueueFull, IdsSpent, NoSuch}
+use Rattle.message_check.specs.declared.refusal.Reason.TheVariants.{NotUplink, BadLayers, PartInMode5, TooManyParts, BadMessage, OtherAddress, Mode, NoAuth, Kdf, ShortBlocks, Unchecked, BadMac, Stale, CheckBytes, SameAccess, QueueFull, IdsSpent, NoSuch, KeyInMode5}
 use Rattle.meter_slots.specs.declared.entry.Outcome.{Outcome}
-use Rattle.meter_slots.specs.declared.entry.Outcome.TheVariants.{Stored, PartKept, Ticked, Queued, Cancelled, Refused}
+use Rattle.meter_slots.specs.declared.entry.Outcome.TheVariants.{Stored, PartKept, Ticked, Queued, Cancelled, Rekeyed, Refused}
 use Rattle.meter_slots.specs.declared.reading.Reading.{Reading}
 use Rattle.layer_text.specs.Faults.{ell_fault_text, afl_fault_text, tpl_fault_text, named_fault_text, layer_fault_text}
 use Rattle.report_text.specs.Outcomes.{bad_layers_text, reason_text, reading_text, stored_text, refused_text, ticked_text, outcome_text}
@@ -67,6 +67,7 @@ reason_is (SameAccess acc) = worded_number (literal (codes "access ") refl) acc
 reason_is QueueFull = literal (codes "queue") refl
 reason_is IdsSpent = literal (codes "ids") refl
 reason_is (NoSuch id) = worded_number (literal (codes "nosuch ") refl) id
+reason_is KeyInMode5 = literal (codes "key5") refl
 
 reading_is : (r : Reading) → IsWithout 10 (reading_text r)
 unfolding reading_text
@@ -91,4 +92,5 @@ outcome_is reading PartKept = literal (codes "part") refl
 outcome_is reading (Ticked expired) = ticked_is expired
 outcome_is reading (Queued id) = worded_number (literal (codes "queued ") refl) id
 outcome_is reading (Cancelled id) = worded_number (literal (codes "cancelled ") refl) id
+outcome_is reading Rekeyed = literal (codes "rekeyed") refl
 outcome_is reading (Refused reason) = refused_is reason

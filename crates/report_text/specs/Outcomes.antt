@@ -3,9 +3,11 @@ use Rattle.std.specs.Prelude.{ℕ, List, [], ◌∷◌, ◌++◌, codes, Option,
 use Rattle.meter_address.specs.Address.{bytes_of}
 use Rattle.message_check.specs.declared.refusal.LayerFault.{LayerFault}
 use Rattle.message_check.specs.declared.refusal.Reason.{Reason}
-use Rattle.message_check.specs.declared.refusal.Reason.TheVariants.{NotUplink, BadLayers, PartInMode5, TooManyParts, BadMessage, OtherAddress, Mode, NoAuth, Kdf, ShortBlocks, Unchecked, BadMac, Stale, CheckBytes, SameAccess, QueueFull, IdsSpent, NoSuch}
+use Rattle.message_check.specs.declared.refusal.Reason.TheVariants.{NotUplink, BadLayers, PartInMode5, TooManyParts, BadMessage}
+use Rattle.message_check.specs.declared.refusal.Reason.TheVariants.{OtherAddress, Mode, NoAuth, Kdf, ShortBlocks, Unchecked, BadMac}
+use Rattle.message_check.specs.declared.refusal.Reason.TheVariants.{Stale, CheckBytes, SameAccess, QueueFull, IdsSpent, NoSuch, KeyInMode5}
 use Rattle.meter_slots.specs.declared.entry.Outcome.{Outcome}
-use Rattle.meter_slots.specs.declared.entry.Outcome.TheVariants.{Stored, PartKept, Ticked, Queued, Cancelled, Refused}
+use Rattle.meter_slots.specs.declared.entry.Outcome.TheVariants.{Stored, PartKept, Ticked, Queued, Cancelled, Rekeyed, Refused}
 use Rattle.meter_slots.specs.declared.reading.Reading.{Reading}
 use Rattle.record_text.specs.Values.{hex_text}
 use Rattle.layer_text.specs.Faults.{named_fault_text, layer_fault_text}
@@ -35,6 +37,7 @@ reason_text (SameAccess acc) = labelled (codes "access ") acc
 reason_text QueueFull = codes "queue"
 reason_text IdsSpent = codes "ids"
 reason_text (NoSuch id) = labelled (codes "nosuch ") id
+reason_text KeyInMode5 = codes "key5"
 
 -- ---- what is stored
 
@@ -63,4 +66,5 @@ outcome_text reading PartKept = codes "part"
 outcome_text reading (Ticked expired) = ticked_text expired
 outcome_text reading (Queued id) = labelled (codes "queued ") id
 outcome_text reading (Cancelled id) = labelled (codes "cancelled ") id
+outcome_text reading Rekeyed = codes "rekeyed"
 outcome_text reading (Refused reason) = refused_text reason

@@ -48,6 +48,7 @@ fn put_reason<P: Paper>(paper: &mut P, reason: Reason)
         Reason::QueueFull => put_text(paper, "queue"),
         Reason::IdsSpent => put_text(paper, "ids"),
         Reason::NoSuch(id) => put_labelled(paper, "nosuch ", u64::from(id)),
+        Reason::KeyInMode5 => put_text(paper, "key5"),
     }
 }
 
@@ -126,6 +127,7 @@ pub(crate) fn put_outcome<P: Paper>(paper: &mut P, reading: Option<&Reading>, ou
         Outcome::Ticked { expired } => put_ticked(paper, *expired),
         Outcome::Queued(id) => put_labelled(paper, "queued ", u64::from(*id)),
         Outcome::Cancelled(id) => put_labelled(paper, "cancelled ", u64::from(*id)),
+        Outcome::Rekeyed => put_text(paper, "rekeyed"),
         Outcome::Refused(reason) => put_refused(paper, *reason),
     }
 }

@@ -29,7 +29,8 @@ use Rattle.roster_file.specs.declared.roster.LineCause.{LineCause}
 use Rattle.roster_file.specs.declared.roster.LineCause.TheVariants as causes
 use Rattle.roster_file.specs.declared.roster.RosterFault.{RosterFault}
 use Rattle.roster_file.specs.declared.roster.RosterFault.TheVariants.{Line}
-use Rattle.roster_file.specs.Roster.{Columns, Enrolled, at_line, columns_of, counter_of, enlisted, enlisted_from, entries_from, headed, is_text, last_of, meter_of, meter_of_columns, meter_of_kind, meters_of, mode_of, other_of, own_of, own_of_fields, owned, roster_of, second_key_of, with_own, ◌>>=◌}
+use Rattle.roster_file.specs.Roster.{Columns, Enrolled, at_line, columns_of, counter_of, enlisted, enlisted_from, entries_from, headed, is_text, last_of, meter_of, meter_of_columns, meter_of_kind, meters_of, mode_of, other_of, own_of, own_of_fields, owned, roster_of, second_key_of, with_own}
+use Rattle.steps.specs.Steps.{◌>>=◌}
 use Rattle.roster_file.specs.Text.{mode_text, other_text, last_text, meter_fields, meter_text, own_text, roster_text}
 use Rattle.roster_file.specs.Enrolled.{IsEnrolled}
 use Rattle.roster_file.proofs.RosterLines.{counted, meters_next, meters_end, none_left}

@@ -5,7 +5,8 @@ use Rattle.std.specs.List.{enumerate_from}
 use Rattle.meter_address.specs.Commission.{Commissioned}
 use Rattle.roster_file.specs.declared.fields.Version.{Version}
 use Rattle.roster_file.specs.declared.roster.RosterFault.{RosterFault}
-use Rattle.roster_file.specs.Roster.{entries_from, is_passed_over, enlisted_from, meters_of, ◌>>=◌}
+use Rattle.roster_file.specs.Roster.{entries_from, is_passed_over, enlisted_from, meters_of}
+use Rattle.steps.specs.Steps.{◌>>=◌}
 
 pub passed : (n : ℕ) (text : List ℕ) (texts : List (List ℕ)) → is_passed_over text ≡ true → entries_from n (text ∷ texts) ≡ entries_from (n + 1) texts
 unfolding entries_from

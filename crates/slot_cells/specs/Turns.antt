@@ -32,7 +32,16 @@ module _ {O C R : Type 0} where
   back_with v log = record v { seen = log; own = v.own ++ drop (length v.seen) log; stage = Idle }
 
   abbrev pub first_known : O → ℕ → Known O C R
-  first_known o number = record { opening = o ∷ []; number = number; is_first = true; seen = []; own = []; joined = []; handed = []; stage = Idle }
+  first_known o number = record {
+    opening = o ∷ [];
+    number = number;
+    is_first = true;
+    seen = [];
+    own = [];
+    joined = [];
+    handed = [];
+    stage = Idle;
+  }
 
   abbrev pub spent_known : Known O C R
   spent_known = record { opening = []; number = 0; is_first = false; seen = []; own = []; joined = []; handed = []; stage = Spent }
@@ -99,7 +108,8 @@ module _ {O C R : Type 0} (o : O) (g : Course C R) where
   Knows seat v Spent = Unit {0}
   Knows seat v Idle = IsLive g.seat_of g.numbers g.log o seat v
   Knows seat v (Waiting t) = IsLive g.seat_of g.numbers g.log o seat v × HasTicket g.served g.drawn g.drawer t v.number
-  Knows seat v (Holding t) = IsLive g.seat_of g.numbers g.log o seat v × HasTicket g.served g.drawn g.drawer t v.number × HasTurn g.served g.log g.is_out t v.seen
+  Knows seat v (Holding t) =
+      IsLive g.seat_of g.numbers g.log o seat v × HasTicket g.served g.drawn g.drawer t v.number × HasTurn g.served g.log g.is_out t v.seen
 
 -- the stage of a pass whose ticket is out
 abbrev pub IsOut : ℕ → Stage → Type 0
@@ -129,7 +139,8 @@ module _ {B O C R : Type 0} where
   LeftAt acts_of v ((i, Some k) ∷ xs) m' = m' ≡ (back_with v (acts_of k.book.value), xs)
 
   -- the book went home
-  abbrev pub left : (B → List (Act C R)) → Step (Option (Kept B)) → Me (Option (Kept B)) (Known O C R) → ℕ → Me (Option (Kept B)) (Known O C R) → Type 0
+  abbrev pub left : (B → List (Act C R)) → Step (Option (Kept B)) → Me (Option (Kept B)) (Known O C R) → ℕ
+      → Me (Option (Kept B)) (Known O C R) → Type 0
   left acts_of st m found m' = LeftAt acts_of m.0 m.1 m'
 
 module _ {B O C R : Type 0} (opening_of : B → O) (acts_of : B → List (Act C R)) where
@@ -142,13 +153,16 @@ module _ {B O C R : Type 0} (opening_of : B → O) (acts_of : B → List (Act C 
   -- the book is at home, or out with the pass whose ticket is served
   abbrev pub IsPlaced : O → List (Act C R) → ℕ → List (Known B C R) → Bool → List (Maybe (Option (Kept B))) → Type 0
   IsPlaced o log served views false homes = (k : Kept B) × (homes ≡ some (Some k) ∷ []) × StandsFor o log served k
-  IsPlaced o log served views true homes = (homes ≡ none ∷ []) × ((seat : ℕ) × (v : Known B C R) × (get_elem? views seat ≡ some v) × (v.stage ≡ Holding served))
+  IsPlaced o log served views true homes =
+      (homes ≡ none ∷ []) × ((seat : ℕ) × (v : Known B C R) × (get_elem? views seat ≡ some v) × (v.stage ≡ Holding served))
 
-  pub record IsCourse (legal : O → List (Act C R) → Type 0) (b0 : B) (g : Course C R) (s : State (Option (Kept B)) (Known B C R)) : Type 0 where
+  pub record IsCourse (legal : O → List (Act C R) → Type 0) (b0 : B) (g : Course C R)
+      (s : State (Option (Kept B)) (Known B C R)) : Type 0 where
     pub words : s.words ≡ wrapped g.drawn ∷ wrapped g.served ∷ []
     pub ordered : g.served ≤ g.drawn
     -- each ticket between is with one pass
-    pub queue : (t : ℕ) → g.served ≤ t → t < g.drawn → (seat : ℕ) × (v : Known B C R) × (get_elem? s.views seat ≡ some v) × (v.number ≡ g.drawer t) × IsOut t v.stage
+    pub queue : (t : ℕ) → g.served ≤ t → t < g.drawn
+        → (seat : ℕ) × (v : Known B C R) × (get_elem? s.views seat ≡ some v) × (v.number ≡ g.drawer t) × IsOut t v.stage
     pub seats : (seat : ℕ) (v : Known B C R) → get_elem? s.views seat ≡ some v → Knows b0 g seat v v.stage
     pub longest : IsLongest g.log s.views
     pub is_legal : legal (opening_of b0) g.log
@@ -168,7 +182,8 @@ module _ {B O C R : Type 0} (opening_of : B → O) (acts_of : B → List (Act C 
     pub stands : StandsFor (opening_of k.book.value) w.seen t k
 
   -- the book came out if the ticket is served, and else nothing is new
-  abbrev pub looked : (O → List (Act C R) → Type 0) → Step (Option (Kept B)) → Me (Option (Kept B)) (Known B C R) → ℕ → Me (Option (Kept B)) (Known B C R) → Type 0
+  abbrev pub looked : (O → List (Act C R) → Type 0) → Step (Option (Kept B)) → Me (Option (Kept B)) (Known B C R) → ℕ
+      → Me (Option (Kept B)) (Known B C R) → Type 0
   looked legal st m found m' = (t : ℕ) → m.0.stage ≡ Waiting t
       → (wrapped t ≡ found → (k : Kept B) × IsTurn legal m.0 m'.0 t k × (m'.1 ≡ (0, Some k) ∷ m.1)) × ((wrapped t ≡ found → ⊥) → m' ≡ m)
 

@@ -1,7 +1,9 @@
 //! The calls of a cell.
-ghost use Rattle.std.specs.Prelude.{◌≡◌, ℕ, ◌+◌, ◌^◌, ◌<◌, false, true, List, [], ◌∷◌, ◌++◌, length, Some, None, IfOk, IfErr, OnErr};
+ghost use Rattle.std.specs.Prelude.{◌≡◌, ℕ, ◌+◌, ◌^◌, ◌<◌, false, true, List, [], ◌∷◌, ◌++◌, length, Some, None};
+ghost use Rattle.std.specs.Prelude.{IfOk, IfErr, OnErr};
 ghost use Rattle.slot_cells.specs.declared.known.Stage.TheVariants.{Idle, Waiting, Holding};
-ghost use Rattle.slot_cells.specs.Acts.{act, acts_by, mine, made_by, sources, is_among, longer, StartsWith, GoesOnTo, Each, IsPassOf, IsSamePass};
+ghost use Rattle.slot_cells.specs.Acts.{act, acts_by, mine, made_by, sources, is_among, StartsWith, GoesOnTo, Each};
+ghost use Rattle.slot_cells.specs.Acts.{IsPassOf, IsSamePass, IsFirstPass, HasHanded, IsSplitOff, HasJoined};
 ghost use Rattle.slot_cells.specs.Turns.{wrapped, IsTurn, GoesHome, IsOneTurn, fresh_of, StandsFor, back_with, IsAtRest};
 ghost use Rattle.slot_cells.specs.declared.kept.Kept.{Kept};
 ghost use Rattle.slot_cells.specs.declared.act.Act.{Act};
@@ -18,17 +20,20 @@ use std::marker::Brand;
 use std::snapshot::Snapshot;
 use std::sync::{Mutex, Wait};
 
-/// There was no memory. The book comes back.
+/// There was no memory for a cell. The book comes back.
 #[derive(Drop)]
 pub struct NotMade<B> {
+    /// The book.
     pub book: B,
 }
 
 impl<B: Book> BookCell<B> {
+    /// A cell that holds a book on which nothing was done yet, and its first pass, with this number. For want of memory the book
+    /// comes back.
     pub fn new(alloc: Global, book: B, source: u32) -> Result<(BookCell<B>, Pass<B>), NotMade<B>>
         requires { B.acts book ≡ [] }
         ensures cell { IfOk result (λ r. (B.opening r.0.opening ≡ B.opening book) × IsPassOf r.0 r.1) }
-        ensures pass { IfOk result (λ r. (r.1.number ≡ source) × (r.1.is_first ≡ true) × (r.1.seen ≡ []) × (r.1.own ≡ []) × (r.1.joined ≡ []) × (r.1.handed ≡ [])) }
+        ensures pass { IfOk result (λ r. IsFirstPass source r.1) }
         ensures not_made { IfErr result (λ e. e.book ≡ book) }
     {
         let beginning = Beginning {
@@ -76,7 +81,8 @@ impl<B: Book> BookCell<B> {
         requires own { seat.old.table_id ≡ self.now.id }
         requires waits { (t : ℕ) × (wrapped t ≡ ticket) × (seat.old.me.0.stage ≡ Waiting t) }
         ensures own { (seat.new.table_id ≡ seat.old.table_id) × (seat.new.id ≡ seat.old.id) }
-        ensures turn { (t : ℕ) → seat.old.me.0.stage ≡ Waiting t → (k : Kept B) × (IsTurn B.opening B.acts B.is_legal seat.old.me.0 seat.new.me.0 t k × (seat.new.me.1 ≡ (0, Some k) ∷ seat.old.me.1)) }
+        ensures turn { (t : ℕ) → seat.old.me.0.stage ≡ Waiting t → (k : Kept B)
+            × (IsTurn B.opening B.acts B.is_legal seat.old.me.0 seat.new.me.0 t k × (seat.new.me.1 ≡ (0, Some k) ∷ seat.old.me.1)) }
     {
         for _ in rt.forever() {
             if self.table.shared.load::<Look>(seat, 1) == ticket {
@@ -87,7 +93,8 @@ impl<B: Book> BookCell<B> {
         unreachable!()
     }
 
-    /// Waits for its turn, and makes the call on the book.
+    /// Waits for its turn, and makes the call on the book. The pass has then seen a history that begins with what it had seen and ends
+    /// with this call, and made just this act more. For want of memory there is no act. It may wait.
     pub fn step<R: Wait>(
         &self,
         rt: &R,
@@ -110,15 +117,14 @@ impl<B: Book> BookCell<B> {
         answer
     }
 
-    /// Splits off a pass for another source, which has seen as much.
+    /// Splits off a pass with a number that no pass of this cell has had, which has seen as much.
     pub fn split(&self, pass: &mut Pass<B>, source: u32) -> Pass<B>
         requires cell { IsPassOf self.now pass.old }
         requires first { pass.old.is_first ≡ true }
         requires unused { is_among source (pass.old.number ∷ pass.old.handed) ≡ false }
-        ensures same { IsSamePass pass.old pass.new × (pass.new.seen ≡ pass.old.seen) × (pass.new.own ≡ pass.old.own) × (pass.new.joined ≡ pass.old.joined) }
-        ensures handed { pass.new.handed ≡ pass.old.handed ++ source ∷ [] }
+        ensures handed { HasHanded source pass.old pass.new }
         ensures cell { IsPassOf self.now result }
-        ensures given { (result.number ≡ source) × (result.is_first ≡ false) × (result.seen ≡ pass.old.seen) × (result.own ≡ []) × (result.joined ≡ []) × (result.handed ≡ []) }
+        ensures given { IsSplitOff source pass.old result }
     {
         self.split_as::<Brand>(pass, source)
     }
@@ -128,22 +134,19 @@ impl<B: Book> BookCell<B> {
         requires cell { IsPassOf self.now pass.old }
         requires first { pass.old.is_first ≡ true }
         requires unused { is_among source (pass.old.number ∷ pass.old.handed) ≡ false }
-        ensures same { IsSamePass pass.old pass.new × (pass.new.seen ≡ pass.old.seen) × (pass.new.own ≡ pass.old.own) × (pass.new.joined ≡ pass.old.joined) }
-        ensures handed { pass.new.handed ≡ pass.old.handed ++ source ∷ [] }
+        ensures handed { HasHanded source pass.old pass.new }
         ensures cell { IsPassOf self.now result }
-        ensures given { (result.number ≡ source) × (result.is_first ≡ false) × (result.seen ≡ pass.old.seen) × (result.own ≡ []) × (result.joined ≡ []) × (result.handed ≡ []) }
+        ensures given { IsSplitOff source pass.old result }
     {
         let seat = self.table.shared.split_seat::<Apart<J>>(&mut pass.seat);
         Pass { source, seat }
     }
 
-    /// Takes the other pass in.
+    /// Takes the other pass in, which didn't come with the cell.
     pub fn join(&self, pass: &mut Pass<B>, other: Pass<B>)
         requires cell { IsPassOf self.now pass.old × IsPassOf self.now other }
         requires not_first { other.is_first ≡ false }
-        ensures same { IsSamePass pass.old pass.new × (pass.new.own ≡ pass.old.own) × (pass.new.handed ≡ pass.old.handed) }
-        ensures seen { pass.new.seen ≡ longer pass.old.seen other.seen }
-        ensures joined { pass.new.joined ≡ pass.old.joined ++ mine other }
+        ensures { HasJoined pass.old other pass.new }
     {
         let Pass { source: _, seat } = other;
         self.table
@@ -151,7 +154,8 @@ impl<B: Book> BookCell<B> {
             .join_seat::<Together>(&mut pass.seat, seat);
     }
 
-    /// Ends the cell, and gives the book.
+    /// Ends the cell once every pass that was split off is joined, and gives the book back: of each number it has just the acts of that
+    /// number's pass, in order, and no others.
     pub fn close(self, pass: Pass<B>) -> B
         requires cell { IsPassOf self pass }
         requires first { pass.is_first ≡ true }

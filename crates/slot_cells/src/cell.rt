@@ -20,6 +20,7 @@ pub struct Beginning<B> {
     pub number: u32,
 }
 
+/// The rule of a cell.
 pub struct InTurns;
 
 impl<B: Book> TableRule<Option<Kept<B>>, Known<B, B::Call, B::Answer>, Beginning<B>> for InTurns {
@@ -30,6 +31,7 @@ impl<B: Book> TableRule<Option<Kept<B>>, Known<B, B::Call, B::Answer>, Beginning
     ghost first = { λ k. first_known k.book.value k.number };
 }
 
+/// A book behind a lock that keeps its turns.
 #[derive(Drop)]
 pub struct BookCell<B: Book> {
     pub(crate) table: Table<
@@ -51,6 +53,7 @@ impl<B: Book> Model for BookCell<B> {
     ghost invariant = { λ c. (c.table.shared.table_id.words ≡ 2) × (c.table.shared.table_id.slots ≡ 1) };
 }
 
+/// A pass of a cell. It shows, to contracts alone, what its source made there and what it has seen.
 #[derive(Drop)]
 pub struct Pass<B: Book> {
     pub(crate) source: u32,

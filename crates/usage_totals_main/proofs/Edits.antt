@@ -15,7 +15,7 @@ use Rattle.usage_totals_main.specs.Answering.{Keeps, DoesEdit, Settles}
 no_fault : (edit : Edit) (old new : Table Row) (found : Option TotalsFault) (edits : List Edit) → IsAnswered edit old (Ok tt) new → StandsFor edits old
     → fault_of (rows_after edits) edit ≡ found → found ≡ None
 no_fault edit old new None edits a s is = refl
-no_fault edit old new (Some fault) edits a s is = 
+no_fault edit old new (Some fault) edits a s is =
     let fine : Result (Unit {0}) TotalsFault = Ok tt in
     let clash : fine ≡ Err fault = a.refused edits fault s is in
     absurd cc
@@ -32,9 +32,9 @@ kept_more edit old new edits table found a s is none = record {
 its_fault : (edit : Edit) (old new : Table Row) (fault : TotalsFault) (edits : List Edit) → IsAnswered edit old (Err fault) new → (fault ≡ faults.Memory → ⊥) → StandsFor edits old
     → fault_of (rows_after edits) edit ≡ Some fault
 its_fault edit old new fault edits a other s = elim (a.caused edits s) [
-      | inl memory ↦ absurd (other memory)
-      | inr is ↦ is
-    ]
+  | inl memory ↦ absurd (other memory)
+  | inr is ↦ is
+]
 
 refused_for : (edit : Edit) (old new : Table Row) (fault : TotalsFault) (result : Result (Option TotalsFault) Memory) → IsAnswered edit old (Err fault) new → (fault ≡ faults.Memory → ⊥)
     → result ≡ Ok (Some fault) → DoesEdit edit old result new

@@ -1,2 +1,4 @@
 pub mod Edits
 pub mod Questions
+pub mod Lines
+pub mod Runs

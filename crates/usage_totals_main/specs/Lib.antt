@@ -1,3 +1,5 @@
 pub mod Requests
 pub mod Texts
 pub mod Answering
+pub mod Run
+pub mod Running

@@ -79,9 +79,9 @@ by_sign (sign ∷ fields) =
     else if is_word sign (codes "?") then question_in fields
     else None
 
--- what a line asks for, if it asks for anything
+-- what a line asks for, if it asks for anything: the longest that does is a replacement, with 7,774 bytes
 unfoldable pub request_of : List ℕ → Option Request
-request_of line = by_sign (fields_of line)
+request_of line = if nat_lt 7774 (length line) then None else by_sign (fields_of line)
 
 -- ---- what the code reads
 

@@ -123,7 +123,11 @@ fn answer_edit<K: Sink>(totals: &mut Totals, out: &mut K, edit: &EditRead) -> Re
 }
 
 // Does what a line asks for and writes the answer.
-fn answer_request<K: Sink>(totals: &mut Totals, out: &mut K, request: &RequestRead) -> Result<(), Stop>
+fn answer_request<K: Sink>(
+    totals: &mut Totals,
+    out: &mut K,
+    request: &RequestRead,
+) -> Result<(), Stop>
     ensures rows { OnOk result ((table : Table (List ℕ)) → Keeps table totals.old →
         Keeps (rows_by table (Some (request_read request.now))) totals.new) }
     ensures writes { IsTrue K.tells → (table : Table (List ℕ)) → Keeps table totals.old →
@@ -138,8 +142,8 @@ fn answer_request<K: Sink>(totals: &mut Totals, out: &mut K, request: &RequestRe
     }
 }
 
-// Writes that a line asks for nothing.
-fn write_bad<K: Sink>(out: &mut K) -> Result<(), Stop>
+/// Writes that a line asks for nothing.
+pub(crate) fn write_bad<K: Sink>(out: &mut K) -> Result<(), Stop>
     ensures writes { IsTrue K.tells → Writes (codes "bad\n") (sink_change K.Sink out.old out.new) result }
     ensures cause { result ≡ Err Stop.Write → WriteFailed (sink_change K.Sink out.old out.new) }
     ensures later { K.faults out.old ≤ K.faults out.new }

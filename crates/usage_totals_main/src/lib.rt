@@ -3,6 +3,11 @@
 
 mod answer;
 mod request;
+mod running;
+mod status;
 mod texts;
 
 pub use meter_usage::{Totals, TotalsFault, UsageKey};
+pub use request::LINE_MAX;
+pub use running::totals_run;
+pub use status::TotalsStatus;

@@ -23,6 +23,10 @@ pub(crate) enum EditRead {
     Remove(Address, u32),
 }
 
+/// The most bytes of a line that asks for anything, without its end: a sign, an address, a place of ten digits and a
+/// payload, with a space between each two.
+pub const LINE_MAX: usize = 7_774;
+
 /// What a line asks for.
 #[derive(Drop)]
 pub(crate) enum RequestRead {
@@ -90,9 +94,12 @@ fn read_addition(alloc: Global, mut fields: Fields<'_>) -> Result<RequestRead, U
 fn read_replacement(alloc: Global, mut fields: Fields<'_>) -> Result<RequestRead, Unread>
     ensures { Means request_read result (replacement_in fields.entry) }
 {
-    let (Some(text), Some(number), Some(digits), None) =
-        (fields.next(), fields.next(), fields.next(), fields.next())
-    else {
+    let (Some(text), Some(number), Some(digits), None) = (
+        fields.next(),
+        fields.next(),
+        fields.next(),
+        fields.next(),
+    ) else {
         return Err(Unread::Bad);
     };
     let address = read_address(text)?;
@@ -148,5 +155,8 @@ fn read_by_sign(alloc: Global, mut fields: Fields<'_>) -> Result<RequestRead, Un
 pub(crate) fn read_request(alloc: Global, line: &[u8]) -> Result<RequestRead, Unread>
     ensures { Means request_read result (request_of line.now) }
 {
+    if line.len() > LINE_MAX {
+        return Err(Unread::Bad);
+    }
     read_by_sign(alloc, Fields::of_line(line))
 }

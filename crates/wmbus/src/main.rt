@@ -1,12 +1,15 @@
 //! The program `wmbus`: opens the files that its words name, and runs the collector over them.
 #![tactic(auto)]
 
-ghost use Rattle.std.specs.Prelude.{◌≡◌, [], true, false, IfErr, IsOk, IsTrue, map, vec_len, slice_index_or};
+ghost use Rattle.std.specs.Prelude.{◌≡◌, [], true, false, IfOk, IfErr, IsOk, IsTrue, map, vec_len};
 ghost use Rattle.std.specs.String.{string_bytes};
 ghost use Rattle.std.specs.Process.{exit_status};
-ghost use Rattle.roster_file.specs.Roster.{roster_of};
-ghost use Rattle.collector_main.specs.Receiver.{Receiving};
-ghost use Rattle.collector_main.specs.Statuses.{IsWhole, code_of};
+ghost use Rattle.outer_io.specs.Each.{Each};
+ghost use Rattle.outer_io.specs.Shown.{source_change, sink_change};
+ghost use Rattle.collector_main.specs.declared.status.Status.{Status as RunStatus};
+ghost use Rattle.collector_main.specs.Run.{IsRun};
+ghost use Rattle.collector_main.specs.Showing.{IsFresh, receiver_runs, outputs_of};
+ghost use Rattle.collector_main.specs.Statuses.{code_of};
 ghost use Rattle.collector_main.specs.Words.{plan_of};
 ghost use Rattle.wmbus.specs.Exit.{own_text, asks_for_text, IsTold, IsSessionExit};
 
@@ -115,14 +118,21 @@ fn hear<
 ) -> ExitCode
     requires words { IsOk (plan_of (map string_bytes command.now)) }
     requires count { vec_len receivers.old ≡ 1 }
-    requires fresh { (r : Receiving S K) → (slice_index_or receivers.old.items 0 r).fresh ≡ true }
-    requires untaken { IsTrue S.tells → S.taken roster.old ≡ [] }
+    requires fresh { Each IsFresh receivers.old.items }
     requires empty { IsTrue K.tells → K.written report.old ≡ [] }
+
+    // The exit status is that of a run of the receivers, and one of those that the program has for a session.
+    ensures run { (status : RunStatus) × (exit_status result ≡ code_of status) × IfOk (plan_of (map string_bytes command.now)) (λ plan. IsRun (record {
+      sources_tell = S.tells;
+      sinks_tell = K.tells;
+      roster = source_change S.Source roster.old roster.new;
+      receivers = receiver_runs S.Source K.Sink receivers.old.items receivers.new.items;
+      outputs = outputs_of plan (sink_change K.Sink report.old report.new);
+      status = status;
+    })) }
     ensures session { IsSessionExit (exit_status result) }
 
-    // After status 0 the report is the text of all lines, each meter's own lines in order.
-    ensures done { (r : Receiving S K) → exit_status result ≡ 0 → IsTrue S.tells → IsTrue K.tells →
-        IsWhole (roster_of (S.left roster.old)) (S.taken (slice_index_or receivers.new.items 0 r).source) (S.left (slice_index_or receivers.new.items 0 r).source) (K.written report.new) }
+    // What stays as it was.
     ensures next { next.new ≡ next.old }
     ensures readings { readings.new ≡ readings.old }
 {

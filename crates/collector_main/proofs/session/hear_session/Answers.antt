@@ -1,23 +1,27 @@
-use Rattle.std.proofs.Common.{◌∙◌, refl}
-use Rattle.collector_main.proofs.Completeness.{found_complete, heard_complete}
-use Rattle.collector_main.proofs.Cuts.{heard_cut}
-use Rattle.collector_main.proofs.Reports.{session_is}
+use Rattle.std.proofs.Common.{Some, None, [], ap, refl, ◌∙◌, rules}
+use Rattle.meter_slots.specs.declared.counts.Ended.TheVariants as ends
+use Rattle.meter_slots.specs.World.{world_of}
+use Rattle.collector_main.specs.declared.status.Status.TheVariants as statuses
+use Rattle.collector_main.proofs.Runs.{heard_run, unheard_run}
 use Rattle.collector_main.proofs.session.hear_session.Goals as goal
 
-pub returns-clause-heard : goal.returns-clause-heard
-returns-clause-heard g c =
-    rw (c.finish_one.ensures.ended ∙ c.status_of.ensures.status) (λ tells told. session_is _ c.in-Ok.roster _ _ _ _ _ _ _ _ _ (c.in-Ok.ensures.found tells) (c.in-Ok-hear_world.ensures.heard tells) refl (c.finish_one.ensures.written told))
+pub returns-in-Err-clause-run : goal.returns-in-Err-clause-run
+returns-in-Err-clause-run g c = unheard_run _ _ _ _ _ c.in-Err.status None c.in-Err.ensures.status c.requires.fresh tt c.enrolled.ensures.no_loss (λ told. refl) refl
 
-pub returns-in-Err-clause-complete : goal.returns-in-Err-clause-complete
-returns-in-Err-clause-complete g c = λ told faultless. found_complete _ faultless g.S.Source.tells _ c.in-Err.ensures.status told
+pub returns-in_default-clause-run : goal.returns-in_default-clause-run
+returns-in_default-clause-run g c = unheard_run _ _ _ _ _ statuses.Memory None tt c.requires.fresh tt c.enrolled.ensures.no_loss (λ told. refl) refl
 
-pub returns-clause-complete : goal.returns-clause-complete
-returns-clause-complete g c = λ told faultless.
-    let hears = c.in-Ok-hear_world.ensures.heard told in
-    heard_complete _ faultless _ _ _ hears.lines _ _ c.status_of.ensures.others c.status_of.ensures.status c.in-Ok-hear_world.ensures.cause hears.ending (c.in-Ok-hear_world.ensures.bytes told) c.finish_one.ensures.status
+pub returns-in-Memory-clause-run : goal.returns-in-Memory-clause-run
+returns-in-Memory-clause-run g c =
+    unheard_run _ _ _ _ _ statuses.Memory (Some ends.Memory) tt (c.work_alone.ensures.ended ∙ ap Some c.in-Memory.is) tt c.enrolled.ensures.no_loss
+    c.work_alone.ensures.heard.has_heard.no_loss refl
 
-pub returns-clause-cut : goal.returns-clause-cut
-returns-clause-cut g c =
-    rw (c.finish_one.ensures.ended ∙ c.status_of.ensures.status) (λ told.
-    let hears = c.in-Ok-hear_world.ensures.heard told in
-    heard_cut _ _ _ hears.lines _ _ _ _ c.status_of.ensures.others c.status_of.ensures.status c.status_of.ensures.cut hears.ending c.finish_one.ensures.status)
+pub returns-clause-run : goal.returns-clause-run
+returns-clause-run g c =
+    heard_run _ _ _ _ _ _ c.in-Ok.roster c.work_alone.result c.work_alone.result c.counts-counts.result c.work_alone.new.self.counts c.in-Ok-new.world c.work_alone.new.world
+    refl c.counts-counts.ensures c.in-Ok.ensures.found c.in-Ok.ensures.read c.enrolled.ensures.no_loss
+    c.work_alone.ensures.ended
+    (c.in-Ok-new.ensures ∙ ap (λ own. world_of own c.into_meters.result.items []) c.own-own.ensures ∙ ap (λ meters. world_of c.in-Ok.roster.own meters []) c.into_meters.ensures)
+    (search rules)
+    c.work_alone.ensures.heard c.work_alone.ensures.untaken (c.work_alone.ensures.never, c.in_default-work_alone.not-Memory)
+    c.finish_one.ensures.status c.finish_one.ensures.written c.finish_one.ensures.done

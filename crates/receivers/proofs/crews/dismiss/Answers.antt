@@ -1,5 +1,4 @@
 use Rattle.std.proofs.Common.{rules, arith, ◌≡◌, ℕ, List, [], ◌∷◌, ◌++◌, map, length, refl, subst, sym, ap, ◌∙◌}
-use Rattle.receivers.specs.Roots.{HasJoined}
 use Rattle.receivers.specs.Passes.{crew}
 use Rattle.receivers.proofs.Dismissals.{none_gone, one_gone, can_join_last, map_last, back_more}
 use Rattle.receivers.proofs.crews.dismiss.Goals as goal
@@ -31,11 +30,11 @@ join-requires-clause-not_first g c = (can_join_last c.args.cells.now c.args.stra
 
 pub loop-worker-preserved : goal.loop-worker-preserved
 loop-worker-preserved g c = let e = c.join.ensures in let inv = c.loop-worker.invariant in
-    let joined : HasJoined c.loop-worker.stranger_root c.in-Some.worker.stranger_pass c.join.new.pass = record { same = e.same.0; own = e.same.1; handed = e.same.2; joined = e.joined } in record {
+    record {
       roots = c.join_each.ensures.roots;
-      stranger = (e.same.0.0 ∙ inv.stranger.0, e.same.0.1 ∙ inv.stranger.1);
+      stranger = (e.same.0 ∙ inv.stranger.0, e.same.1 ∙ inv.stranger.1);
       can = (can_join_last c.args.cells.now c.args.strangers.now (map (λ w. crew w.passes.items w.stranger_pass) c.loop-worker.workers.items) (map (λ w. crew w.passes.items w.stranger_pass) c.pop.new.self.items) (crew c.in-Some.worker.passes.items c.in-Some.worker.stranger_pass)
     (map_last (λ w. crew w.passes.items w.stranger_pass) c.loop-worker.workers.items c.pop.new.self.items c.in-Some.worker c.in-Some.ensures.items) c.loop-worker.invariant.can).0;
-      gone = one_gone _ _ _ (crew c.in-Some.worker.passes.items c.in-Some.worker.stranger_pass) _ _ _ _ _ _ (map_last (λ w. crew w.passes.items w.stranger_pass) c.loop-worker.workers.items c.pop.new.self.items c.in-Some.worker c.in-Some.ensures.items) inv.gone c.join_each.ensures.joined joined;
+      gone = one_gone _ _ _ (crew c.in-Some.worker.passes.items c.in-Some.worker.stranger_pass) _ _ _ _ _ _ (map_last (λ w. crew w.passes.items w.stranger_pass) c.loop-worker.workers.items c.pop.new.self.items c.in-Some.worker c.in-Some.ensures.items) inv.gone c.join_each.ensures.joined e;
       back = back_more (λ w. w.receiver) c.loop-worker.workers.items c.pop.new.self.items c.in-Some.worker c.loop-worker.receivers.items c.insert.new.self.items _ c.in-Some.ensures.items c.in_ok-insert.ensures.items inv.back;
     }

@@ -1,0 +1,117 @@
+-- A run of the collector: what its sources and sinks showed before and after it, its status, and what is promised of it.
+use Rattle.std.specs.Prelude.{ℕ, ◌≡◌, ◌⊎◌, ◌++◌, Bool, true, false, List, [], Option, Some, None, Ok, Err, IsTrue, map}
+use Rattle.outer_io.specs.Each.{Each, EachWith, PassUntil, IsFirst}
+use Rattle.outer_io.specs.Shown.{Change, SourceShown, SinkShown, ReadFailed, WriteFailed, LosesNothing, IsReadOut, IsSilent, HasText}
+use Rattle.line_reader.specs.Lines.{is_over}
+use Rattle.meter_slots.specs.declared.counts.Ended.{Ended}
+use Rattle.meter_slots.specs.declared.counts.Ended.TheVariants as ends
+use Rattle.receivers.specs.Ending.{IsEnding}
+use Rattle.receivers.specs.Session.{IsSession}
+use Rattle.report_text.specs.Orders.{orders}
+use Rattle.roster_file.specs.Roster.{Enrolled, roster_of}
+use Rattle.roster_file.specs.declared.roster.LineCause.{LineCause}
+use Rattle.roster_file.specs.declared.roster.RosterFault.TheVariants.{Line}
+use Rattle.collector_main.specs.declared.status.Status.{Status}
+use Rattle.collector_main.specs.declared.status.Status.TheVariants as statuses
+use Rattle.collector_main.specs.Heard.{Heard, HeardLines, tellings, report_of, order_of}
+use Rattle.collector_main.specs.Statuses.{was_heard, IsDone, IsRefused}
+
+-- one receiver: its source, where its downlinks go, and how it ended, if it was heard
+pub record ReceiverRun : Type 0 where
+  pub source : Change SourceShown
+  pub tx : Change SinkShown
+  pub ended : Option Ended
+
+-- a sink that the command writes: its number in status 7, the text that it is to have of what was heard, and what it shows
+pub record Output : Type 0 where
+  pub number : ℕ
+  pub text : Heard → List ℕ
+  pub sink : Change SinkShown
+
+-- a run: whether contracts know the bytes of sources, and of sinks; the roster, the receivers, the outputs in the order in which they are written
+pub record Run : Type 0 where
+  pub sources_tell : Bool
+  pub sinks_tell : Bool
+  pub roster : Change SourceShown
+  pub receivers : List ReceiverRun
+  pub outputs : List Output
+  pub status : Status
+
+-- ---- what was heard, and what is written of it
+
+-- a receiver ended so after its lines, which are those of the first bytes that its source had
+pub record EndsSo (r : ReceiverRun) (heard : HeardLines) : Type 0 where
+  pub ended : r.ended ≡ Some heard.ended
+  pub lines : IsEnding heard.ended r.source.now.taken r.source.now.left heard.lines
+  pub first_bytes : r.source.now.taken ++ r.source.now.left ≡ r.source.before.left
+
+-- an output has its whole text
+abbrev pub IsWhole : Heard → Output → Type 0
+IsWhole heard o = o.sink.now.written ≡ o.text heard
+
+-- the output with this number couldn't be written
+abbrev pub IsUnwritten : ℕ → Output → Type 0
+IsUnwritten which o = (o.number ≡ which) × WriteFailed o.sink
+
+-- The headline: the roster was read to its end and is one, each receiver was heard, each meter's slot is that of its own lines alone and the strangers' list
+-- has the others, the report's text tells their order, and the outputs have their texts of just this: after status 0 whole, after status 7 whole before the
+-- one that the status names, and else a front where a write failed.
+pub record Headline (run : Run) : Type 0 where
+  pub heard : Heard
+  pub roster_read : IsReadOut run.roster
+  pub roster_is : roster_of run.roster.before.left ≡ Ok heard.enrolled
+  pub receivers : EachWith EndsSo run.receivers heard.receivers
+  pub session : IsSession heard.enrolled.own heard.enrolled.meters (map tellings heard.receivers) heard.world
+  pub told : orders (report_of heard) ≡ order_of heard
+  pub written : IsTrue run.sinks_tell → Each (λ o. HasText (o.text heard) o.sink) run.outputs
+  pub whole : IsTrue run.sinks_tell → run.status ≡ statuses.Done → Each (IsWhole heard) run.outputs
+  pub stopped : IsTrue run.sinks_tell → (which : ℕ) → run.status ≡ statuses.Write which → PassUntil (IsWhole heard) (IsUnwritten which) run.outputs
+
+-- ---- causes
+
+abbrev pub HasEnded : Ended → ReceiverRun → Type 0
+HasEnded ended r = r.ended ≡ Some ended
+
+-- the cause of a receiver's end: its source's end, bytes past a limit, or a count of faults that rose
+abbrev pub EndIsCaused : Bool → ReceiverRun → Option Ended → Type 0
+EndIsCaused tells r (Some ends.End) = IsTrue tells → r.source.now.left ≡ []
+EndIsCaused tells r (Some ends.Cut) = IsTrue tells → is_over r.source.now.taken ≡ true
+EndIsCaused tells r (Some ends.ReadFault) = ReadFailed r.source
+EndIsCaused tells r (Some ends.TxFault) = WriteFailed r.tx
+EndIsCaused tells r (Some ends.Memory) = Unit {0}
+EndIsCaused tells r None = Unit {0}
+
+-- the cause of a status: bytes of the roster, the first receiver that didn't end at its source's end, or an output that couldn't be written
+abbrev pub IsCausedBy : Run → Status → Type 0
+IsCausedBy run statuses.Done = Each (HasEnded ends.End) run.receivers
+IsCausedBy run (statuses.Words fault) = ⊥
+IsCausedBy run statuses.ReadRoster = ReadFailed run.roster
+IsCausedBy run (statuses.Roster line cause) = IsTrue run.sources_tell → roster_of run.roster.before.left ≡ Err (Line line cause)
+IsCausedBy run (statuses.Read w) = IsFirst (HasEnded ends.End) (HasEnded ends.ReadFault) w run.receivers
+IsCausedBy run (statuses.Cut w) = IsFirst (HasEnded ends.End) (HasEnded ends.Cut) w run.receivers
+IsCausedBy run (statuses.Write which) = Each (HasEnded ends.End) run.receivers × PassUntil (λ o. Unit {0}) (IsUnwritten which) run.outputs
+IsCausedBy run statuses.Memory = Unit {0}
+
+-- nothing stands in the way: the roster is one, each receiver's bytes are within the limits, and no read and no write failed
+pub record IsFaultless (run : Run) : Type 0 where
+  pub enrolled : Enrolled
+  pub roster_is : roster_of run.roster.before.left ≡ Ok enrolled
+  pub within : Each (λ r. is_over r.source.before.left ≡ false) run.receivers
+  pub roster_steady : ¬ ReadFailed run.roster
+  pub receivers_steady : Each (λ r. ¬ ReadFailed r.source) run.receivers
+  pub outputs_steady : Each (λ o. ¬ WriteFailed o.sink) run.outputs
+
+-- ---- all that is promised
+
+pub record IsRun (run : Run) : Type 0 where
+  -- after statuses 0, 5, 7 and 8
+  pub headline : IsTrue (was_heard run.status) → IsTrue run.sources_tell → Headline run
+  -- each status, and each receiver's end, has its cause
+  pub status_caused : IsCausedBy run run.status
+  pub ends_caused : Each (λ r. EndIsCaused run.sources_tell r r.ended) run.receivers
+  -- a faulty roster is refused for its first faulty line, and where nothing stands in the way all is done
+  pub refused : IsTrue run.sources_tell → (line : ℕ) (cause : LineCause) → roster_of run.roster.before.left ≡ Err (Line line cause) → IsRefused line cause run.status
+  pub complete : IsTrue run.sources_tell → IsFaultless run → IsDone run.status
+  -- whatever happens no byte is lost, and after the other statuses nothing was written
+  pub no_loss : IsTrue run.sources_tell → LosesNothing run.roster × Each (λ r. LosesNothing r.source) run.receivers
+  pub silent : was_heard run.status ≡ false → Each (λ o. IsSilent o.sink) run.outputs

@@ -1,0 +1,25 @@
+-- The order of a journal, which the report prints: of each entry the receiver, and the number of its line there.
+use Rattle.std.specs.Prelude.{ℕ, ◌≡◌, ◌==◌, List, map, filter}
+use Rattle.meter_address.specs.declared.address.Address.{Address}
+use Rattle.meter_address.specs.Commission.{Commissioned}
+use Rattle.meter_slots.specs.declared.entry.Entry.{Entry}
+use Rattle.meter_slots.specs.Journal.{SlotView}
+use Rattle.stranger_ring.specs.declared.strangers.Heard.{Heard}
+use Rattle.receivers.specs.declared.told.Told.{Told}
+use Rattle.receivers.specs.Session.{heard_by, lines_for, IsMetersSlot}
+
+abbrev pub order_of : List Entry → List (ℕ × ℕ)
+order_of journal = map (λ x. (x.source, x.line)) journal
+
+-- the numbers of one receiver's lines in an order
+abbrev pub numbers_by : ℕ → List (ℕ × ℕ) → List ℕ
+numbers_by w order = map (λ p. p.1) (filter (λ p. p.0 == w) order)
+
+-- an order of a meter's own lines: of each receiver it has just these lines' numbers, each once and in that receiver's order
+abbrev pub IsOrderOf : Address → List (List Told) → List (ℕ × ℕ) → Type 0
+IsOrderOf a all order = (w : ℕ) → numbers_by w order ≡ map (λ l. l.0) (lines_for a (heard_by w all))
+
+-- a meter's slot after a session whose journal has this order
+pub record IsOrderedSlot (own : Address) (all : List (List Told)) (c : Commissioned) (order : List (ℕ × ℕ)) (slot : SlotView) : Type 0 where
+  pub meters : IsMetersSlot own all c slot
+  pub in_order : order_of slot.journal ≡ order

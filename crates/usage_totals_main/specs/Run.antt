@@ -1,0 +1,77 @@
+-- A run over a file of edits and questions: what its source and its sink showed before and after it, and what is promised of it.
+use Rattle.std.specs.Prelude.{ℕ, ◌≡◌, ◌≢◌, ◌⊎◌, ◌↔◌, Bool, true, false, List, [], length, take, IsTrue}
+use Rattle.outer_io.specs.Bytes.{AppendsFront}
+use Rattle.outer_io.specs.Shown.{Change, SourceShown, SinkShown, ReadFailed, WriteFailed, LosesNothing, IsReadOut, IsSilent}
+use Rattle.line_reader.specs.Lines.{is_over, whole_lines, all_lines}
+use Rattle.usage_totals_main.specs.declared.status.TotalsStatus.{TotalsStatus}
+use Rattle.usage_totals_main.specs.declared.status.TotalsStatus.TheVariants as statuses
+use Rattle.usage_totals_main.specs.Texts.{answers}
+
+-- the program's exit status
+abbrev pub code_of : TotalsStatus → ℕ
+code_of statuses.Done = 0
+code_of statuses.Words = 2
+code_of statuses.Read = 5
+code_of statuses.Cut = 8
+code_of statuses.Write = 7
+code_of statuses.Memory = 10
+
+pub record Run : Type 0 where
+  -- whether contracts know the bytes of the source, and of the sink
+  pub sources_tell : Bool
+  pub sinks_tell : Bool
+  pub words : List (List ℕ)
+  pub edits : Change SourceShown
+  pub out : Change SinkShown
+  pub status : TotalsStatus
+
+-- what is printed for lines, the first of which finds no rows
+abbrev pub printed : List (List ℕ) → List ℕ
+printed lines = answers [] lines
+
+-- ---- what is promised
+
+-- the file was read to its end, and the answers to all its lines are there
+pub record IsDone (run : Run) : Type 0 where
+  pub read : IsReadOut run.edits
+  pub within : is_over run.edits.before.left ≡ false
+  pub answered : IsTrue run.sinks_tell → run.out.now.written ≡ printed (all_lines run.edits.before.left)
+
+-- what is there, by the bytes taken of the file: after status 7 a front of the answers, and after 10 those to some first lines
+abbrev pub IsAnswered : TotalsStatus → (taken written : List ℕ) → Type 0
+IsAnswered statuses.Done taken written = written ≡ printed (all_lines taken)
+IsAnswered statuses.Read taken written = written ≡ printed (whole_lines taken)
+IsAnswered statuses.Cut taken written = written ≡ printed (whole_lines taken)
+IsAnswered statuses.Write taken written = AppendsFront (printed (all_lines taken)) [] written
+IsAnswered statuses.Memory taken written = (count : ℕ) × (written ≡ printed (take count (all_lines taken)))
+IsAnswered statuses.Words taken written = written ≡ []
+
+-- the cause of a status
+abbrev pub IsCausedBy : Run → TotalsStatus → Type 0
+IsCausedBy run statuses.Done = Unit {0}
+IsCausedBy run statuses.Words = length run.words ≢ 1
+IsCausedBy run statuses.Read = ReadFailed run.edits
+IsCausedBy run statuses.Cut = IsTrue run.sources_tell → is_over run.edits.before.left ≡ true
+IsCausedBy run statuses.Write = WriteFailed run.out
+IsCausedBy run statuses.Memory = Unit {0}
+
+-- nothing stands in the way
+pub record IsFaultless (run : Run) : Type 0 where
+  pub words : length run.words ≡ 1
+  pub within : is_over run.edits.before.left ≡ false
+  pub read : ReadFailed run.edits → ⊥
+  pub written : WriteFailed run.out → ⊥
+
+pub record IsRun (run : Run) : Type 0 where
+  -- after status 0 each line of the file has its answer, in order: an edit is done or refused by the rows that the edits before it left
+  pub done : run.status ≡ statuses.Done → IsTrue run.sources_tell → IsDone run
+  -- after each status the answers to the lines taken are there, as far as it says
+  pub answered : IsTrue run.sources_tell → IsTrue run.sinks_tell → IsAnswered run.status run.edits.now.taken run.out.now.written
+  -- each status has its cause; other words than one file are refused, and nothing is read then
+  pub caused : IsCausedBy run run.status
+  pub refused : length run.words ≢ 1 → run.status ≡ statuses.Words
+  pub unread : run.status ≡ statuses.Words → run.edits.now ≡ run.edits.before
+  -- where nothing stands in the way all is done, unless there is no memory
+  pub complete : IsTrue run.sources_tell → IsFaultless run → (run.status ≡ statuses.Done) ⊎ (run.status ≡ statuses.Memory)
+  -- whatever happens, no byte of the file is lost
+  pub no_loss : IsTrue run.sources_tell → LosesNothing run.edits
