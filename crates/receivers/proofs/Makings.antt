@@ -69,7 +69,6 @@ module _ (directory : List Address) (line : ℕ) (t : Told) where
   unfolding strange_lines
   one_strange o e = one (strange_of directory) (line, t) o e
 
-
 pub works_nothing : {O P : Type 0} (directory : List Address) (a b : List (Shown O Event Outcome)) (s s' : Shown P Address Unit) → HaveAnswered [] a b → HasNoted [] s s' → Works directory [] [] (crew a s) (crew b s')
 unfolding own_lines strange_lines
 works_nothing directory a b s s' answered noted = record { asked = refl; answered = answered; noted = noted }
