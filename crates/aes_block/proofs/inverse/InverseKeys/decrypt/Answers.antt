@@ -1,5 +1,5 @@
 use Rattle.aes_block.specs.Block.{decrypt, inverse_state_after}
-use Rattle.aes_block.proofs.Keys.decrypt.Goals as goal
+use Rattle.aes_block.proofs.inverse.InverseKeys.decrypt.Goals as goal
 
 pub returns : goal.returns
 unfolding decrypt inverse_state_after
