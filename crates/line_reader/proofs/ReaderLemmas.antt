@@ -1,10 +1,10 @@
 -- What the lines of a source are after each answer.
-use Rattle.std.proofs.Common.{◌≡◌, ℕ, zero, suc, ◌<◌, ◌≤◌, ◌+◌, ◌-◌, List, [], ◌∷◌, ◌++◌, length, take, drop, Bool, true, false, Result, Ok, Err, ⊎_elim, refl, ap, sym, subst, ◌∙◌, arith, append_assoc}
+use Rattle.std.proofs.Common.{◌≡◌, ℕ, zero, suc, ◌<◌, ◌≤◌, ◌+◌, ◌-◌, List, [], ◌∷◌, ◌++◌, length, take, drop, Bool, true, false, ⊎_elim, refl, ap, sym, subst, ◌∙◌, arith, append_assoc}
 use Rattle.std.specs.Prelude.{IsTrue}
 use Rattle.std.specs.Str.Lines.{lines, strip_carriage_return}
 use lib.Seq.{take-append-add}
 use Rattle.std.proofs.lemmas.Bool.{cases_lt}
-use Rattle.std.proofs.lemmas.List.{append-nil, length_push, take-append-drop, drop-drop, drop_at, take_all, length-take, length-append, nil_from_length}
+use Rattle.std.proofs.lemmas.List.{append-nil, length_push, take-append-drop, drop-drop, drop_at, take_all, length-take, length-append}
 use Rattle.outer_io.specs.Bytes.{Moves}
 use Rattle.line_reader.specs.Keeps.{IsReader, IsLast, IsTextReader, Keeps}
 use Rattle.line_reader.specs.Lines.{is_over, whole_lines, all_lines}

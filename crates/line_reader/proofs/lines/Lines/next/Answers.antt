@@ -1,4 +1,4 @@
-use Rattle.std.proofs.Common.{Ok, Err, Result, List, ℕ, ap, sym, subst, ◌∙◌}
+use Rattle.std.proofs.Common.{Result, sym, subst}
 use Rattle.line_reader.specs.Reader.{Gives, GivesLongLine, given}
 use Rattle.line_reader.specs.declared.next.Next.{Next}
 use Rattle.line_reader.specs.declared.next.NextText.TheVariants as texts

@@ -1,4 +1,4 @@
-use Rattle.std.proofs.Common.{◌+◌, ◌∙◌, ap, arith}
+use Rattle.std.proofs.Common.{◌∙◌, ap, arith}
 use Rattle.line_reader.proofs.ReaderLemmas.{search_of, reader_after, keeps_line, gives_line, line_of_all, lent_line, long_line, same_lines, same_of_all, at_end, broken_off, past_limit, last_end, all_bytes}
 use Rattle.line_reader.proofs.text_reader.TextReader.next.Goals as goal
 
