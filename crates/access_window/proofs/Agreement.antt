@@ -1,15 +1,18 @@
 -- How the window and the queue go on agreeing.
-use Rattle.std.proofs.Common.{◌≡◌, ℕ, ◌==◌, ◌-◌, ◌^◌, ◌<◌, ◌&&◌, Bool, true, false, not, cond, List, [], ◌∷◌, ◌++◌, Option, Some, None, Result, Ok, Err, is_some, refl, sym, ap, subst, ◌∙◌, arith}
+use Rattle.std.proofs.Common.{◌≡◌, ℕ, ◌==◌, ◌-◌, ◌^◌, ◌<◌, ◌&&◌, Bool, true, false, not, cond, List, [], ◌∷◌, ◌++◌, Option, Some, None}
+use Rattle.std.proofs.Common.{Result, Ok, Err, is_some, refl, sym, ap, subst, ◌∙◌, arith}
 use Rattle.std.specs.Prelude.{ok_or, slice_get, find, nat_lt, IfSome, is_ok}
 use Rattle.std.proofs.lemmas.Bool.Decides.{nat_tests}
 use Rattle.command_queue.specs.declared.command.Command.{Command}
 use Rattle.command_queue.specs.declared.command.NoSuch.{NoSuch}
-use Rattle.command_queue.specs.Pending.{Pending, AreUntried, OnlyOldestTried, IsSound, has_id, no_such, is_pending, take_answer, without_command, with_try, with_command, with_command_by, put_answer}
+use Rattle.command_queue.specs.Pending.{Pending, AreUntried, OnlyOldestTried, IsSound, has_id, no_such, is_pending, take_answer}
+use Rattle.command_queue.specs.Pending.{without_command, with_try, with_command, with_command_by, put_answer}
 use Rattle.command_queue.proofs.Moves.{without, same_id, untried_without}
 use Rattle.ell_layer.specs.declared.access.Access.{Access}
 use Rattle.access_window.specs.declared.window.Window.{Window}
 use Rattle.access_window.specs.declared.window.Window.TheVariants.{Idle, Waiting}
-use Rattle.access_window.specs.Orders.{Orders, orders_of, AgreesWith, Agrees, window_without, after_cancel, is_open, oldest_where_idle, sent, sent_orders, after_sent, IsOldestAfterTry}
+use Rattle.access_window.specs.Orders.{Orders, orders_of, AgreesWith, Agrees, window_without, after_cancel, is_open, oldest_where_idle}
+use Rattle.access_window.specs.Orders.{sent, sent_orders, after_sent, IsOldestAfterTry}
 
 still_other : (a b c : ℕ) → a ≡ b → (b == c) ≡ false → (a == c) ≡ false
 still_other a b c h k = grind (arith, nat_tests)
@@ -35,17 +38,20 @@ awaited_without id (c ∷ cs) t a =
     let same : (c.id == id) ≡ true = same_id c.id id a.0 in
     rw same (idle_untried (without id cs) (untried_without id cs t.1))
 
-other_without : (id other : ℕ) (cs : List Command) → (other == id) ≡ false → AgreesWith (Waiting other) cs → AgreesWith (Waiting other) (without id cs)
+other_without : (id other : ℕ) (cs : List Command) → (other == id) ≡ false → AgreesWith (Waiting other) cs
+    → AgreesWith (Waiting other) (without id cs)
 other_without id other [] differs a = absurd a
 other_without id other (c ∷ cs) differs a =
     let kept : (c.id == id) ≡ false = still_other c.id other id a.0 differs in
     rw kept a
 
-waiting_without : (b : Bool) (id other : ℕ) (cs : List Command) → (other == id) ≡ b → OnlyOldestTried cs → AgreesWith (Waiting other) cs → AgreesWith (cond b Idle (Waiting other)) (without id cs)
+waiting_without : (b : Bool) (id other : ℕ) (cs : List Command) → (other == id) ≡ b → OnlyOldestTried cs → AgreesWith (Waiting other) cs
+    → AgreesWith (cond b Idle (Waiting other)) (without id cs)
 waiting_without true id other cs same t a = awaited_without id cs t (subst (λ n. AgreesWith (Waiting n) cs) (from_same other id same) a)
 waiting_without false id other cs differs t a = other_without id other cs differs a
 
-window_agrees : (id : ℕ) (w : Window) (cs : List Command) → OnlyOldestTried cs → AgreesWith w cs → AgreesWith (window_without id w) (without id cs)
+window_agrees : (id : ℕ) (w : Window) (cs : List Command) → OnlyOldestTried cs → AgreesWith w cs
+    → AgreesWith (window_without id w) (without id cs)
 window_agrees id Idle cs t a = idle_without id cs t a
 window_agrees id (Waiting other) cs t a = waiting_without (other == id) id other cs refl t a
 
@@ -59,7 +65,8 @@ pub agrees_cancelled : (id : ℕ) (w : Window) (q : Pending) → IsSound q → A
 unfolding without_command
 agrees_cancelled id w q s a = window_agrees id w q.commands s.tries a
 
-sent_agrees : (cs : List Command) (c : Command) → AgreesWith Idle cs → Some c ≡ slice_get cs 0 → Agrees (Waiting c.id) (with_try (record { ids = 0; commands = cs }))
+sent_agrees : (cs : List Command) (c : Command) → AgreesWith Idle cs → Some c ≡ slice_get cs 0
+    → Agrees (Waiting c.id) (with_try (record { ids = 0; commands = cs }))
 unfolding with_try
 sent_agrees [] c a is = absurd cc
 sent_agrees (d ∷ cs) c a is =
@@ -88,7 +95,10 @@ agrees_put w q payload a = put_agrees w q payload (put_answer q) a
 
 -- ---- what is sent
 
-first_sent : (b : Bool) (w : Window) (ids : ℕ) (cs : List Command) (d : ℕ) → IfSome (cond b (oldest_where_idle w cs) None) (λ c. IsOldestAfterTry (sent_orders (orders_of (record { ids = ids; commands = cs }) w d) (cond b (oldest_where_idle w cs) None)).queue c)
+first_sent : (b : Bool) (w : Window) (ids : ℕ) (cs : List Command) (d : ℕ)
+    → IfSome (cond b (oldest_where_idle w cs) None)
+    (λ c. IsOldestAfterTry (sent_orders (orders_of (record { ids = ids; commands = cs }) w d) (cond b (oldest_where_idle w cs) None)).queue
+    c)
 unfolding with_try
 first_sent false w ids cs d = tt
 first_sent true (Waiting id) ids cs d = tt
@@ -125,6 +135,7 @@ pub cancel_refused : (id : ℕ) (k : Orders) (e : NoSuch) → take_answer id k.q
 unfolding take_answer is_pending after_cancel
 cancel_refused id k e h = rw (is_refused (find (has_id id) k.queue.commands) (no_such id) e h) refl
 
-pub cancel_taken : (id : ℕ) (k : Orders) (c : Command) → take_answer id k.queue ≡ Ok c → orders_of (without_command id k.queue) (window_without id k.window) k.down ≡ after_cancel k id
+pub cancel_taken : (id : ℕ) (k : Orders) (c : Command) → take_answer id k.queue ≡ Ok c
+    → orders_of (without_command id k.queue) (window_without id k.window) k.down ≡ after_cancel k id
 unfolding take_answer is_pending after_cancel
 cancel_taken id k c h = rw (is_taken (find (has_id id) k.queue.commands) (no_such id) c h) refl

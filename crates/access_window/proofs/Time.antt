@@ -1,5 +1,6 @@
 -- What holds of the commands over time.
-use Rattle.std.proofs.Common.{◌≡◌, ◌≢◌, ℕ, ◌+◌, ◌-◌, ◌^◌, ◌==◌, ◌<◌, ◌≤◌, Bool, true, false, not, cond, ltb, ◌&&◌, List, [], ◌∷◌, ◌++◌, length, filter, map, Option, Some, None, Result, Ok, Err, refl, sym, ap, subst, ◌∙◌, inl, inr, arith}
+use Rattle.std.proofs.Common.{◌≡◌, ◌≢◌, ℕ, ◌+◌, ◌-◌, ◌^◌, ◌==◌, ◌<◌, ◌≤◌, Bool, true, false, not, cond, ltb, ◌&&◌, List, [], ◌∷◌, ◌++◌}
+use Rattle.std.proofs.Common.{length, filter, map, Option, Some, None, Result, Ok, Err, refl, sym, ap, subst, ◌∙◌, inl, inr, arith}
 use Rattle.std.specs.Prelude.{find, count_by, nat_le}
 use Rattle.std.specs.List.{range_with_len}
 use Rattle.std.proofs.lemmas.Bool.{cases_eq}
@@ -8,12 +9,15 @@ use Rattle.std.proofs.lemmas.List.Sums.{length-filter}
 use Rattle.command_queue.specs.declared.command.Command.{Command}
 use Rattle.command_queue.specs.declared.command.QueueFault.{QueueFault}
 use Rattle.command_queue.specs.declared.command.QueueFault.TheVariants.{Full, IdsSpent}
-use Rattle.command_queue.specs.Pending.{Pending, IsSound, has_id, is_pending, put_answer, with_command, with_command_by, without_command, with_try}
+use Rattle.command_queue.specs.Pending.{Pending, IsSound, has_id, is_pending, put_answer, with_command, with_command_by, without_command}
+use Rattle.command_queue.specs.Pending.{with_try}
 use Rattle.command_queue.proofs.Moves.{without, same_id, other_id, sound_put, sound_without, rise_last}
 use Rattle.ell_layer.specs.declared.access.Access.{Access}
 use Rattle.access_window.specs.declared.window.Window.{Window}
 use Rattle.access_window.specs.declared.window.Window.TheVariants.{Idle, Waiting}
-use Rattle.access_window.specs.Orders.{Orders, orders_of, AgreesWith, Agrees, window_without, after_put, after_cancel, awaited_in, spent_id, expired, queue_less, after_tick, awaited_id, confirmed, confirmed_orders, after_confirmed, is_open, oldest_where_idle, sent, sent_orders, after_sent, sent_at}
+use Rattle.access_window.specs.Orders.{Orders, orders_of, AgreesWith, Agrees, window_without, after_put, after_cancel, awaited_in, spent_id}
+use Rattle.access_window.specs.Orders.{expired, queue_less, after_tick, awaited_id, confirmed, confirmed_orders, after_confirmed, is_open}
+use Rattle.access_window.specs.Orders.{oldest_where_idle, sent, sent_orders, after_sent, sent_at}
 use Rattle.access_window.specs.Moves.{Move, fresh_orders, after, sent_by, SentCommand, with_sent, all_sent}
 use Rattle.access_window.specs.Moves.{Put, Cancel, Tick, Store}
 use Rattle.access_window.proofs.Agreement.{agrees_put, agrees_cancelled, agrees_closed}
@@ -41,7 +45,8 @@ not_full n h = grind (arith, nat_tests)
 tries_left : (n : ℕ) → nat_le 3 n ≡ false → n < 3
 tries_left n h = grind (arith, nat_tests)
 
-put_by : (full spent : Bool) (q : Pending) (n : ℕ) → nat_le 8 (length q.commands) ≡ full → cond full (Err Full) (cond spent (Err IdsSpent) (Ok (q.ids + 1))) ≡ Ok n → (length q.commands < 8) × (n ≡ q.ids + 1)
+put_by : (full spent : Bool) (q : Pending) (n : ℕ) → nat_le 8 (length q.commands) ≡ full
+    → cond full (Err Full) (cond spent (Err IdsSpent) (Ok (q.ids + 1))) ≡ Ok n → (length q.commands < 8) × (n ≡ q.ids + 1)
 put_by true spent q n room h = absurd cc
 put_by false true q n room h = absurd cc
 put_by false false q n room h = (not_full (length q.commands) room, cc)
@@ -65,7 +70,8 @@ unfolding without_command
 sound_less id q s = sound_without id q _ s refl refl
 
 steady_put : (k : Orders) (payload : List ℕ) → IsSteady k → IsSteady (after_put k payload)
-steady_put k payload s = record { sound = sound_with_command k.queue payload s.sound; agrees = agrees_put k.window k.queue payload s.agrees }
+steady_put k payload s =
+    record { sound = sound_with_command k.queue payload s.sound; agrees = agrees_put k.window k.queue payload s.agrees }
 
 steady_cond : (b : Bool) (k m : Orders) → IsSteady k → IsSteady m → IsSteady (cond b m k)
 steady_cond true k m s t = t
@@ -74,16 +80,19 @@ steady_cond false k m s t = s
 steady_cancel : (k : Orders) (id : ℕ) → IsSteady k → IsSteady (after_cancel k id)
 unfolding after_cancel
 steady_cancel k id s =
-    steady_cond (is_pending id k.queue) k _ s (record { sound = sound_less id k.queue s.sound; agrees = agrees_cancelled id k.window k.queue s.sound s.agrees })
+    steady_cond (is_pending id k.queue) k _ s
+        (record { sound = sound_less id k.queue s.sound; agrees = agrees_cancelled id k.window k.queue s.sound s.agrees })
 
 -- the awaited command is the oldest one
-awaited_is : (id : ℕ) (cs : List Command) → AgreesWith (Waiting id) cs → (c : Command) × (find (has_id id) cs ≡ Some c) × (c.id ≡ id) × (nat_le 3 c.tries ≡ false → AgreesWith Idle cs)
+awaited_is : (id : ℕ) (cs : List Command) → AgreesWith (Waiting id) cs
+    → (c : Command) × (find (has_id id) cs ≡ Some c) × (c.id ≡ id) × (nat_le 3 c.tries ≡ false → AgreesWith Idle cs)
 awaited_is id [] a = absurd a
 awaited_is id (c ∷ cs) a =
     let same : (c.id == id) ≡ true = same_id c.id id a.0 in
     (c, rw same refl, a.0, λ h. tries_left c.tries h)
 
-tick_by : (b : Bool) (c : Command) (q : Pending) → nat_le 3 c.tries ≡ b → IsSound q → Agrees (Waiting c.id) q → (nat_le 3 c.tries ≡ false → Agrees Idle q)
+tick_by : (b : Bool) (c : Command) (q : Pending) → nat_le 3 c.tries ≡ b → IsSound q → Agrees (Waiting c.id) q
+    → (nat_le 3 c.tries ≡ false → Agrees Idle q)
     → IsSound (queue_less (cond b (Some c.id) None) q) × Agrees Idle (queue_less (cond b (Some c.id) None) q)
 tick_by true c q h s a idle = (sound_less c.id q s, agrees_closed c.id q s a)
 tick_by false c q h s a idle = (s, idle h)
@@ -99,7 +108,8 @@ steady_tick : (k : Orders) → IsSteady k → IsSteady (after_tick k)
 unfolding after_tick expired
 steady_tick k s = let t = tick_at k.window k.queue s.sound s.agrees in record { sound = t.0; agrees = t.1 }
 
-confirm_by : (response : Bool) (w : Window) (q : Pending) (d : ℕ) → IsSteady (orders_of q w d) → IsSteady (confirmed_orders (orders_of q w d) (cond response (awaited_id w) None))
+confirm_by : (response : Bool) (w : Window) (q : Pending) (d : ℕ) → IsSteady (orders_of q w d)
+    → IsSteady (confirmed_orders (orders_of q w d) (cond response (awaited_id w) None))
 confirm_by false w q d s = s
 confirm_by true Idle q d s = s
 confirm_by true (Waiting id) q d s = record { sound = sound_less id q s.sound; agrees = agrees_closed id q s.sound s.agrees }
@@ -154,19 +164,24 @@ down_after k (Put payload) = refl
 down_after k (Cancel id) = cond_down (is_pending id k.queue) k _ refl
 down_after k Tick = refl
 down_after k (Store access response) =
-    sent_down (sent_at k access response) (after_confirmed k response) ∙ ap (down_by (sent_at k access response)) (confirm_down (confirmed k response) k)
+    sent_down (sent_at k access response) (after_confirmed k response)
+    ∙ ap (down_by (sent_at k access response)) (confirm_down (confirmed k response) k)
 
-counters_by : (o : Option Command) (d e : ℕ) (later : List SentCommand) → e ≡ down_by o d → map (λ s. s.down) later ≡ range_with_len (e + 1) (length later)
+counters_by : (o : Option Command) (d e : ℕ) (later : List SentCommand) → e ≡ down_by o d
+    → map (λ s. s.down) later ≡ range_with_len (e + 1) (length later)
     → map (λ s. s.down) (with_sent o e later) ≡ range_with_len (d + 1) (length (with_sent o e later))
 counters_by None d e later h rest = rest ∙ ap (λ n. range_with_len (n + 1) (length later)) h
 counters_by (Some c) d e later h rest =
     ap (λ (xs : List ℕ). e ∷ xs) rest ∙ ap (λ n. n ∷ range_with_len (n + 1) (length later)) h
 
-pub counters : (k : Orders) (moves : List Move) → map (λ s. s.down) (all_sent k moves) ≡ range_with_len (k.down + 1) (length (all_sent k moves))
+pub counters : (k : Orders) (moves : List Move)
+    → map (λ s. s.down) (all_sent k moves) ≡ range_with_len (k.down + 1) (length (all_sent k moves))
 counters k [] = refl
-counters k (m ∷ moves) = counters_by (sent_by k m) k.down (after k m).down (all_sent (after k m) moves) (down_after k m) (counters (after k m) moves)
+counters k (m ∷ moves) =
+    counters_by (sent_by k m) k.down (after k m).down (all_sent (after k m) moves) (down_after k m) (counters (after k m) moves)
 
-fits_by : (listens room : Bool) (w : Window) (q : Pending) (cs : List Command) (d : ℕ) → (room ≡ true → d < 2 ^ 32 - 1) → d < 2 ^ 32 → (sent_orders (orders_of q w d) (cond (listens && room) (oldest_where_idle w cs) None)).down < 2 ^ 32
+fits_by : (listens room : Bool) (w : Window) (q : Pending) (cs : List Command) (d : ℕ) → (room ≡ true → d < 2 ^ 32 - 1) → d < 2 ^ 32
+    → (sent_orders (orders_of q w d) (cond (listens && room) (oldest_where_idle w cs) None)).down < 2 ^ 32
 fits_by false room w q cs d left h = h
 fits_by true false w q cs d left h = h
 fits_by true true (Waiting id) q cs d left h = h
@@ -178,14 +193,17 @@ below m n h = grind (arith, nat_tests)
 
 fits_sent : (k : Orders) (access : Access) → k.down < 2 ^ 32 → (after_sent k access).down < 2 ^ 32
 unfolding after_sent sent
-fits_sent k access h = fits_by (is_open access) (ltb k.down (2 ^ 32 - 1)) k.window k.queue k.queue.commands k.down (below k.down (2 ^ 32 - 1)) h
+fits_sent k access h =
+    fits_by (is_open access) (ltb k.down (2 ^ 32 - 1)) k.window k.queue k.queue.commands k.down (below k.down (2 ^ 32 - 1)) h
 
 fits_after : (k : Orders) (m : Move) → k.down < 2 ^ 32 → (after k m).down < 2 ^ 32
 unfolding after_cancel after_tick after_confirmed
 fits_after k (Put payload) h = h
-fits_after k (Cancel id) h = omega (arith, cond_down (is_pending id k.queue) k (orders_of (without_command id k.queue) (window_without id k.window) k.down) refl)
+fits_after k (Cancel id) h =
+    omega (arith, cond_down (is_pending id k.queue) k (orders_of (without_command id k.queue) (window_without id k.window) k.down) refl)
 fits_after k Tick h = h
-fits_after k (Store access response) h = fits_sent (after_confirmed k response) access (omega (arith, confirm_down (confirmed k response) k))
+fits_after k (Store access response) h =
+    fits_sent (after_confirmed k response) access (omega (arith, confirm_down (confirmed k response) k))
 
 longer : (o : Option Command) (d e : ℕ) (later : List SentCommand) → d + length (with_sent o e later) ≡ down_by o d + length later
 longer None d e later = refl
@@ -195,7 +213,8 @@ longer (Some c) d e later = omega arith
 pub counters_fit : (k : Orders) (moves : List Move) → k.down < 2 ^ 32 → k.down + length (all_sent k moves) < 2 ^ 32
 counters_fit k [] h = omega arith
 counters_fit k (m ∷ moves) h =
-    omega (arith, longer (sent_by k m) k.down (after k m).down (all_sent (after k m) moves), down_after k m, counters_fit (after k m) moves (fits_after k m h))
+    omega (arith, longer (sent_by k m) k.down (after k m).down (all_sent (after k m) moves), down_after k m, counters_fit (after k m) moves
+        (fits_after k m h))
 
 -- ---- the tries
 
@@ -212,7 +231,8 @@ left_few : (o : Option Command) → left_of o ≤ 3
 left_few None = omega arith
 left_few (Some c) = omega arith
 
-none_same_by : (b : Bool) (id : ℕ) (c : Command) (cs : List Command) → has_id id c ≡ b → find (has_id id) cs ≡ None → find (has_id id) (cond (not b) (c ∷ cs) cs) ≡ None
+none_same_by : (b : Bool) (id : ℕ) (c : Command) (cs : List Command) → has_id id c ≡ b → find (has_id id) cs ≡ None
+    → find (has_id id) (cond (not b) (c ∷ cs) cs) ≡ None
 none_same_by true id c cs h rest = rest
 none_same_by false id c cs h rest = rw h rest
 
@@ -220,7 +240,8 @@ none_same : (id : ℕ) (cs : List Command) → find (has_id id) (without id cs) 
 none_same id [] = refl
 none_same id (c ∷ cs) = none_same_by (has_id id c) id c (without id cs) refl (none_same id cs)
 
-found_by : (b : Bool) (id other : ℕ) (c : Command) (cs : List Command) → has_id other c ≡ b → id ≢ other → find (has_id id) (cond (not b) (c ∷ cs) cs) ≡ cond (has_id id c) (Some c) (find (has_id id) cs)
+found_by : (b : Bool) (id other : ℕ) (c : Command) (cs : List Command) → has_id other c ≡ b → id ≢ other
+    → find (has_id id) (cond (not b) (c ∷ cs) cs) ≡ cond (has_id id c) (Some c) (find (has_id id) cs)
 found_by true id other c cs h differs =
     let away : has_id id c ≡ false = other_id c.id id (λ e. differs (sym e ∙ from_same c.id other h)) in
     rw away refl
@@ -229,12 +250,14 @@ found_by false id other c cs h differs = refl
 found_other : (id other : ℕ) (cs : List Command) → id ≢ other → find (has_id id) (without other cs) ≡ find (has_id id) cs
 found_other id other [] differs = refl
 found_other id other (c ∷ cs) differs =
-    found_by (has_id other c) id other c (without other cs) refl differs ∙ ap (λ o. cond (has_id id c) (Some c) o) (found_other id other cs differs)
+    found_by (has_id other c) id other c (without other cs) refl differs
+    ∙ ap (λ o. cond (has_id id c) (Some c) o) (found_other id other cs differs)
 
 left_without : (id other : ℕ) (cs : List Command) → left_of (find (has_id id) (without other cs)) ≤ left_of (find (has_id id) cs)
 left_without id other cs =
     elim (cases_eq id other) [
-      | inl same ↦ subst (λ n. left_of (find (has_id id) (without n cs)) ≤ left_of (find (has_id id) cs)) same (rw (none_same id cs) (omega arith))
+      | inl same ↦ subst (λ n. left_of (find (has_id id) (without n cs)) ≤ left_of (find (has_id id) cs)) same
+          (rw (none_same id cs) (omega arith))
       | inr differs ↦ rw (found_other id other cs differs) (omega arith)
     ]
 
@@ -259,7 +282,8 @@ push_by false id ids cs c h new =
     let differs : c.id ≢ id = not_new c.id id ids h new in
     rw (old, found_push id cs c differs) (omega arith)
 
-budget_put_by : (id : ℕ) (q : Pending) (payload : List ℕ) (r : Result ℕ QueueFault) → put_answer q ≡ r → budget id (with_command_by q payload r) ≤ budget id q
+budget_put_by : (id : ℕ) (q : Pending) (payload : List ℕ) (r : Result ℕ QueueFault) → put_answer q ≡ r
+    → budget id (with_command_by q payload r) ≤ budget id q
 budget_put_by id q payload (Err fault) h = omega arith
 budget_put_by id q payload (Ok n) h =
     let is = put_is q n h in
@@ -287,32 +311,40 @@ spends id None = 0
 spends id (Some c) = cond (has_id id c) 1 0
 
 try_by : (b given : Bool) (id ids : ℕ) (c : Command) (cs : List Command) → has_id id c ≡ b → ltb ids id ≡ given → c.id ≤ ids → c.tries < 3
-    → cond b 1 0 + cond given 3 (left_of (cond b (Some (record c { tries = c.tries + 1 })) (find (has_id id) cs))) ≤ cond given 3 (left_of (cond b (Some c) (find (has_id id) cs)))
+    → cond b 1 0 + cond given 3 (left_of (cond b (Some (record c { tries = c.tries + 1 })) (find (has_id id) cs))) ≤ cond given 3
+        (left_of (cond b (Some c) (find (has_id id) cs)))
 try_by true true id ids c cs h new given few = absurd (grind (arith, nat_tests))
 try_by true false id ids c cs h new given few = omega arith
 try_by false true id ids c cs h new given few = omega arith
 try_by false false id ids c cs h new given few = omega arith
 
-send_spends : (b : Bool) (id : ℕ) (w : Window) (ids : ℕ) (cs : List Command) (d : ℕ) → IsSteady (orders_of (record { ids = ids; commands = cs }) w d)
-    → spends id (cond b (oldest_where_idle w cs) None) + budget id (sent_orders (orders_of (record { ids = ids; commands = cs }) w d) (cond b (oldest_where_idle w cs) None)).queue
+send_spends : (b : Bool) (id : ℕ) (w : Window) (ids : ℕ) (cs : List Command) (d : ℕ)
+    → IsSteady (orders_of (record { ids = ids; commands = cs }) w d)
+    → spends id (cond b (oldest_where_idle w cs) None) + budget id
+        (sent_orders (orders_of (record { ids = ids; commands = cs }) w d) (cond b (oldest_where_idle w cs) None)).queue
     ≤ budget id (record { ids = ids; commands = cs })
 unfolding with_try spends
 send_spends false id w ids cs d s = omega arith
 send_spends true id (Waiting other) ids cs d s = omega arith
 send_spends true id Idle ids [] d s = omega arith
-send_spends true id Idle ids (c ∷ cs) d s = try_by (has_id id c) (ltb ids id) id ids c cs refl refl (rise_last c.id cs ids s.sound.rising.1) s.agrees
+send_spends true id Idle ids (c ∷ cs) d s =
+    try_by (has_id id c) (ltb ids id) id ids c cs refl refl (rise_last c.id cs ids s.sound.rising.1) s.agrees
 
-sent_spends : (id : ℕ) (k : Orders) (access : Access) → IsSteady k → spends id (sent k access) + budget id (after_sent k access).queue ≤ budget id k.queue
+sent_spends : (id : ℕ) (k : Orders) (access : Access) → IsSteady k
+    → spends id (sent k access) + budget id (after_sent k access).queue ≤ budget id k.queue
 unfolding after_sent sent
 sent_spends id k access s = send_spends (is_open access && ltb k.down (2 ^ 32 - 1)) id k.window k.queue.ids k.queue.commands k.down s
 
 move_spends : (id : ℕ) (k : Orders) (m : Move) → IsSteady k → spends id (sent_by k m) + budget id (after k m).queue ≤ budget id k.queue
 unfolding after_cancel after_tick after_confirmed spends
 move_spends id k (Put payload) s = omega (arith, budget_put id k.queue payload)
-move_spends id k (Cancel other) s = omega (arith, budget_cond (is_pending other k.queue) id k (orders_of (without_command other k.queue) (window_without other k.window) k.down) (budget_less id other k.queue))
+move_spends id k (Cancel other) s =
+    omega (arith, budget_cond (is_pending other k.queue) id k
+    (orders_of (without_command other k.queue) (window_without other k.window) k.down) (budget_less id other k.queue))
 move_spends id k Tick s = omega (arith, budget_queue_less (expired k) id k.queue)
 move_spends id k (Store access response) s =
-    omega (arith, sent_spends id (after_confirmed k response) access (steady_confirmed k response s), budget_confirmed (confirmed k response) id k)
+    omega (arith, sent_spends id (after_confirmed k response) access (steady_confirmed k response s), budget_confirmed
+        (confirmed k response) id k)
 
 -- the downlinks with an id
 abbrev of_id : ℕ → SentCommand → Bool
@@ -322,7 +354,8 @@ count_cond : (b : Bool) (s : SentCommand) (later : List SentCommand) → length 
 count_cond true s later = omega arith
 count_cond false s later = omega arith
 
-count_sent : (id : ℕ) (o : Option Command) (d : ℕ) (later : List SentCommand) → length (filter (of_id id) (with_sent o d later)) ≡ spends id o + length (filter (of_id id) later)
+count_sent : (id : ℕ) (o : Option Command) (d : ℕ) (later : List SentCommand)
+    → length (filter (of_id id) (with_sent o d later)) ≡ spends id o + length (filter (of_id id) later)
 unfolding spends
 count_sent id None d later = omega arith
 count_sent id (Some c) d later = count_cond (has_id id c) (record { id = c.id; down = d }) (filter (of_id id) later)
@@ -330,7 +363,8 @@ count_sent id (Some c) d later = count_cond (has_id id c) (record { id = c.id; d
 within_budget : (id : ℕ) (k : Orders) (moves : List Move) → IsSteady k → length (filter (of_id id) (all_sent k moves)) ≤ budget id k.queue
 within_budget id k [] s = omega arith
 within_budget id k (m ∷ moves) s =
-    omega (arith, count_sent id (sent_by k m) (after k m).down (all_sent (after k m) moves), move_spends id k m s, within_budget id (after k m) moves (steady_after k m s))
+    omega (arith, count_sent id (sent_by k m) (after k m).down (all_sent (after k m) moves), move_spends id k m s, within_budget id
+        (after k m) moves (steady_after k m s))
 
 fresh_steady : (ids down : ℕ) → IsSteady (fresh_orders ids down)
 fresh_steady ids down = record { sound = record { few = omega arith; rising = omega arith; tries = tt }; agrees = tt }
@@ -341,4 +375,5 @@ opening_budget false = omega arith
 
 pub three_tries : (ids down : ℕ) (moves : List Move) (id : ℕ) → count_by (λ s. s.id == id) (all_sent (fresh_orders ids down) moves) ≤ 3
 three_tries ids down moves id =
-    omega (arith, length-filter (of_id id) (all_sent (fresh_orders ids down) moves), within_budget id (fresh_orders ids down) moves (fresh_steady ids down), opening_budget (ltb ids id))
+    omega (arith, length-filter (of_id id) (all_sent (fresh_orders ids down) moves), within_budget id (fresh_orders ids down) moves
+        (fresh_steady ids down), opening_budget (ltb ids id))

@@ -1,5 +1,6 @@
 -- The commands of a meter, and how they move.
-use Rattle.std.specs.Prelude.{ℕ, ◌≡◌, ◌+◌, ◌-◌, ◌^◌, ◌<◌, ◌≤◌, Bool, true, false, ◌&&◌, ◌==◌, nat_lt, nat_le, if◌then◌else◌, List, [], ◌∷◌, slice_get, find, Option, Some, None}
+use Rattle.std.specs.Prelude.{ℕ, ◌≡◌, ◌+◌, ◌-◌, ◌^◌, ◌<◌, ◌≤◌, Bool, true, false, ◌&&◌, ◌==◌, nat_lt, nat_le, if◌then◌else◌, List, [], ◌∷◌}
+use Rattle.std.specs.Prelude.{slice_get, find, Option, Some, None}
 use Rattle.command_queue.specs.declared.command.Command.{Command}
 use Rattle.command_queue.specs.Pending.{Pending, has_id, is_pending, with_command, without_command, with_try}
 use Rattle.ell_layer.specs.declared.access.Access.{Access}
@@ -42,7 +43,8 @@ window_without id (Waiting other) = if other == id then Idle else Waiting other
 
 -- where no command has the id, nothing changes
 unfoldable pub after_cancel : Orders → ℕ → Orders
-after_cancel k id = if is_pending id k.queue then record k { queue = without_command id k.queue; window = window_without id k.window } else k
+after_cancel k id =
+    if is_pending id k.queue then record k { queue = without_command id k.queue; window = window_without id k.window } else k
 
 -- ---- a tick
 

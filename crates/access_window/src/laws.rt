@@ -14,8 +14,8 @@ pub fn moves_keep_agreement()
         → Agrees (window_without id window) (without_command id queue) }
 {}
 
-/// Whatever happens to the commands of a meter: each downlink's counter is one above the last, from the commissioned one on, and none is past the
-/// last of four bytes; and no command is sent more than three times.
+/// Whatever happens to the commands of a meter: each downlink's counter is one above the last, from the commissioned one on, and
+/// none is past the last of four bytes; and no command is sent more than three times.
 pub fn sent_over_time()
     ensures counters { (ids down : ℕ) (moves : List Move) → let sent = all_sent (fresh_orders ids down) moves
         in map (λ s. s.down) sent ≡ range_with_len (down + 1) (length sent) }

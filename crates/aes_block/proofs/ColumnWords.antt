@@ -7,11 +7,11 @@ use Rattle.aes_block.proofs.Lists.{AreBytes, length-add, AreBytes-add, at_four, 
 use Rattle.aes_block.proofs.Mixing.{length-column_product, column_product_of_sum, AreBytes-4, AreBytes-column_product, AreBytes-mix_polynomial, AreBytes-inverse_mix_polynomial}
 use Rattle.aes_block.proofs.Columns.{mixed_block}
 use Rattle.aes_block.proofs.Cipher.{byte_at}
-use Rattle.aes_block.proofs.ByteTables.{substitute-lt}
+use Rattle.aes_block.proofs.ByteTables.{substitute-lt, inverse_substitute-lt}
 use Rattle.std.specs.List.{range_with_len}
 use Rattle.aes_block.specs.Field.{substitute, inverse_substitute}
 use Rattle.aes_block.specs.Block.{IsBlock, add, column_product, mix, mix_polynomial, inverse_mix_polynomial, shift_rows, sub_bytes, inverse_shift_rows, inverse_sub_bytes, column}
-use Rattle.aes_block.specs.Words.{word, row, words_of, one_byte, mixed_substitute, inverse_mixed}
+use Rattle.aes_block.specs.Words.{word, row, words_of, one_byte, mixed_substitute, inverse_mixed, inverse_mixed_substitute}
 
 -- a word of four bytes
 word-4 : (a b c d : ℕ) → word (a ∷ b ∷ c ∷ d ∷ []) ≡ ((a * 2 ^ 8 + b) * 2 ^ 8 + c) * 2 ^ 8 + d
@@ -142,6 +142,14 @@ unfolding inverse_mixed
 inverse_mixed_sum x y z w hx hy hz hw =
     word_of_mixed inverse_mix_polynomial x y z w AreBytes-inverse_mix_polynomial hx hy hz hw
 
+pub inverse_mixed_substitute_sum : (x y z w : ℕ) → x < 256 → y < 256 → z < 256 → w < 256 →
+    bit_xor (bit_xor (bit_xor (inverse_mixed_substitute 0 x) (inverse_mixed_substitute 1 y)) (inverse_mixed_substitute 2 z)) (inverse_mixed_substitute 3 w)
+    ≡ word (column_product inverse_mix_polynomial (inverse_substitute x ∷ inverse_substitute y ∷ inverse_substitute z ∷ inverse_substitute w ∷ []))
+unfolding inverse_mixed_substitute
+inverse_mixed_substitute_sum x y z w hx hy hz hw =
+    word_of_mixed inverse_mix_polynomial (inverse_substitute x) (inverse_substitute y) (inverse_substitute z) (inverse_substitute w)
+    AreBytes-inverse_mix_polynomial (inverse_substitute-lt x hx) (inverse_substitute-lt y hy) (inverse_substitute-lt z hz) (inverse_substitute-lt w hw)
+
 -- the words after a round, by the bytes of the words before it
 module _ (b s : List ℕ) (is_block : IsBlock b) (e : s ≡ words_of b) where
   -- byte r of word c
@@ -202,6 +210,23 @@ module _ (b s : List ℕ) (is_block : IsBlock b) (e : s ≡ words_of b) where
       let f = inverse_substitute in
       (λ n. word (rows inverse_substitute 0 3 2 1 p t r q n) ∷ word (rows inverse_substitute 1 0 3 2 q p t r n) ∷ word (rows inverse_substitute 2 1 0 3 r q p t n) ∷ word (rows inverse_substitute 3 2 1 0 t r q p n) ∷ [])
       ∙ ap (λ x. words_of (inverse_sub_bytes (inverse_shift_rows x))) (sym (sixteen b is_block.count))
+
+  pub backward_words :
+      word (column_product inverse_mix_polynomial (inverse_substitute (row (get_or s 0 0) 0) ∷ inverse_substitute (row (get_or s 3 0) 1) ∷ inverse_substitute (row (get_or s 2 0) 2) ∷ inverse_substitute (row (get_or s 1 0) 3) ∷ []))
+      ∷ word (column_product inverse_mix_polynomial (inverse_substitute (row (get_or s 1 0) 0) ∷ inverse_substitute (row (get_or s 0 0) 1) ∷ inverse_substitute (row (get_or s 3 0) 2) ∷ inverse_substitute (row (get_or s 2 0) 3) ∷ []))
+      ∷ word (column_product inverse_mix_polynomial (inverse_substitute (row (get_or s 2 0) 0) ∷ inverse_substitute (row (get_or s 1 0) 1) ∷ inverse_substitute (row (get_or s 0 0) 2) ∷ inverse_substitute (row (get_or s 3 0) 3) ∷ []))
+      ∷ word (column_product inverse_mix_polynomial (inverse_substitute (row (get_or s 3 0) 0) ∷ inverse_substitute (row (get_or s 2 0) 1) ∷ inverse_substitute (row (get_or s 1 0) 2) ∷ inverse_substitute (row (get_or s 0 0) 3) ∷ [])) ∷ []
+      ≡ words_of (mix inverse_mix_polynomial (inverse_sub_bytes (inverse_shift_rows b)))
+  unfolding literal
+  backward_words =
+      let p : 0 < 4 = omega arith in
+      let q : 1 < 4 = omega arith in
+      let r : 2 < 4 = omega arith in
+      let t : 3 < 4 = omega arith in
+      let W : List ℕ → ℕ = λ x. word (column_product inverse_mix_polynomial x) in
+      (λ n. W (rows inverse_substitute 0 3 2 1 p t r q n) ∷ W (rows inverse_substitute 1 0 3 2 q p t r n) ∷ W (rows inverse_substitute 2 1 0 3 r q p t n) ∷ W (rows inverse_substitute 3 2 1 0 t r q p n) ∷ [])
+      ∙ sym (words_of-mix inverse_mix_polynomial (inverse_sub_bytes (inverse_shift_rows literal)) refl)
+      ∙ ap (λ x. words_of (mix inverse_mix_polynomial (inverse_sub_bytes (inverse_shift_rows x)))) (sym (sixteen b is_block.count))
 
   pub words_mixed_back :
       word (column_product inverse_mix_polynomial (row (get_or s 0 0) 0 ∷ row (get_or s 0 0) 1 ∷ row (get_or s 0 0) 2 ∷ row (get_or s 0 0) 3 ∷ []))

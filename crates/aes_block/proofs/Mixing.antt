@@ -8,9 +8,9 @@ use lib.Bits.{xor_zero_r}
 use Rattle.aes_block.proofs.Bytes.{holds_below, at_each_below}
 use Rattle.aes_block.proofs.Sums.{product_of_sum}
 use Rattle.aes_block.proofs.Elements.{product-lt}
-use Rattle.aes_block.proofs.Lists.{AreBytes, add_swap, length-add, AreBytes-add, at_four, same_list, same_list-true}
+use Rattle.aes_block.proofs.Lists.{AreBytes, add_swap, length-add, AreBytes-add, at_four, sixteen, same_list, same_list-true}
 use Rattle.aes_block.specs.Field.{polynomial_product, remainder, product}
-use Rattle.aes_block.specs.Block.{add, column_product, mix, mix_polynomial, inverse_mix_polynomial}
+use Rattle.aes_block.specs.Block.{add, column, column_product, mix, mix_polynomial, inverse_mix_polynomial}
 
 length-column_product_4 : (m : List ℕ) (a b c d : ℕ) → length (column_product m (a ∷ b ∷ c ∷ d ∷ [])) ≡ 4
 unfolding column_product
@@ -124,6 +124,36 @@ AreBytes-column_product (k ∷ m) a b c d hm ha hb hc hd =
 mix_append : (m x y : List ℕ) → length x ≡ 4 → mix m (x ++ y) ≡ column_product m x ++ mix m y
 unfolding mix
 mix_append m x y = at_four (λ x. mix m (x ++ y) ≡ column_product m x ++ mix m y) (λ a b c d. refl) x
+
+add_fours : (x y s t : List ℕ) → length x ≡ 4 → length y ≡ 4 → add (x ++ s) (y ++ t) ≡ add x y ++ add s t
+add_fours x y s t hx hy =
+    at_four (λ x. add (x ++ s) (y ++ t) ≡ add x y ++ add s t)
+    (λ a b c d. at_four (λ y. add ((a ∷ b ∷ c ∷ d ∷ []) ++ s) (y ++ t) ≡ add (a ∷ b ∷ c ∷ d ∷ []) y ++ add s t) (λ e f g h. refl) y hy)
+    x hx
+
+-- one more column of a sum
+mix_one_more : (m x y s t : List ℕ) → length x ≡ 4 → length y ≡ 4 → mix m (add s t) ≡ add (mix m s) (mix m t) → mix m (add (x ++ s) (y ++ t)) ≡ add (mix m (x ++ s)) (mix m (y ++ t))
+mix_one_more m x y s t hx hy rest =
+    ap (mix m) (add_fours x y s t hx hy)
+    ∙ mix_append m (add x y) (add s t) (omega (arith, length-add x y, hx, hy))
+    ∙ ap₂ (λ (p q : List ℕ). p ++ q) (column_product_of_sum m x y hx hy) rest
+    ∙ sym (add_fours (column_product m x) (column_product m y) (mix m s) (mix m t) (length-column_product m x hx) (length-column_product m y hy))
+    ∙ sym (ap₂ add (mix_append m x s hx) (mix_append m y t hy))
+
+no_column : (m : List ℕ) → mix m (add [] []) ≡ add (mix m []) (mix m [])
+unfolding mix
+no_column m = refl
+
+-- mixing distributes over a sum of blocks
+pub mix_of_sum : (m x y : List ℕ) → length x ≡ 16 → length y ≡ 16 → mix m (add x y) ≡ add (mix m x) (mix m y)
+mix_of_sum m x y hx hy =
+    let c : List ℕ → ℕ → List ℕ = column in
+    ap₂ (λ (p q : List ℕ). mix m (add p q)) (sixteen x hx) (sixteen y hy)
+    ∙ mix_one_more m (c x 0) (c y 0) (c x 1 ++ (c x 2 ++ (c x 3 ++ []))) (c y 1 ++ (c y 2 ++ (c y 3 ++ []))) refl refl
+    (mix_one_more m (c x 1) (c y 1) (c x 2 ++ (c x 3 ++ [])) (c y 2 ++ (c y 3 ++ [])) refl refl
+    (mix_one_more m (c x 2) (c y 2) (c x 3 ++ []) (c y 3 ++ []) refl refl
+    (mix_one_more m (c x 3) (c y 3) [] [] refl refl (no_column m))))
+    ∙ sym (ap₂ (λ (p q : List ℕ). add (mix m p) (mix m q)) (sixteen x hx) (sixteen y hy))
 
 -- a list of q columns is a list of bytes, and m undoes n on each
 module _ (m : List ℕ) where

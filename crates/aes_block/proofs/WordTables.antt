@@ -1,11 +1,11 @@
 -- The tables of words are the definition's.
 use Rattle.std.proofs.Common.{◌≡◌, ℕ, ◌<◌, ◌==◌, true, [], get_or, refl, ap, ◌∙◌}
 use Rattle.aes_block.proofs.Bytes.{holds_below, at_each_below, same_below}
-use Rattle.aes_block.proofs.ByteTables.{substituted_at}
+use Rattle.aes_block.proofs.ByteTables.{substituted_at, inverse_substituted_at}
 use Rattle.aes_block.specs.Field.{product, polynomial_product, remainder}
-use Rattle.aes_block.specs.Block.{column_product, mix_polynomial}
-use Rattle.aes_block.specs.Words.{word, one_byte, mixed_substitute, inverse_mixed}
-use Rattle.aes_block.specs.declared.tables.TheConstants.{SUBSTITUTION, MIXED_SUBSTITUTION, INVERSE_MIXED}
+use Rattle.aes_block.specs.Block.{column_product, mix_polynomial, inverse_mix_polynomial}
+use Rattle.aes_block.specs.Words.{word, one_byte, mixed_substitute, inverse_mixed, inverse_mixed_substitute}
+use Rattle.aes_block.specs.declared.tables.TheConstants.{SUBSTITUTION, INVERSE_SUBSTITUTION, MIXED_SUBSTITUTION, INVERSE_MIXED, INVERSE_MIXED_SUBSTITUTION}
 
 -- the column of a substituted byte, mixed
 abbrev mixed_at : ℕ → ℕ → ℕ
@@ -32,3 +32,19 @@ pub inverse_mixture_at : (r x : ℕ) → r < 4 → x < 256 → get_or (get_or IN
 inverse_mixture_at r x hr hx =
     same_below 256 (λ x. get_or (get_or INVERSE_MIXED r []) x 0) (inverse_mixed r)
     (at_each_below 4 (λ r. holds_below 256 (λ x. get_or (get_or INVERSE_MIXED r []) x 0 == inverse_mixed r x)) inverse_mixture_is_table r hr) x hx
+
+-- the column of a byte, mixed back
+abbrev mixed_back_at : ℕ → ℕ → ℕ
+mixed_back_at r y = word (column_product inverse_mix_polynomial (one_byte r y))
+
+inverse_mixed_substitution_is_table : holds_below 4 (λ r. holds_below 256 (λ x. get_or (get_or INVERSE_MIXED_SUBSTITUTION r []) x 0 == mixed_back_at r (get_or INVERSE_SUBSTITUTION x 0))) ≡ true
+unfolding holds_below word column_product product polynomial_product remainder
+inverse_mixed_substitution_is_table = refl
+
+pub inverse_mixed_substitution_at : (r x : ℕ) → r < 4 → x < 256 → get_or (get_or INVERSE_MIXED_SUBSTITUTION r []) x 0 ≡ inverse_mixed_substitute r x
+unfolding inverse_mixed_substitute
+inverse_mixed_substitution_at r x hr hx =
+    same_below 256 (λ x. get_or (get_or INVERSE_MIXED_SUBSTITUTION r []) x 0) (λ x. mixed_back_at r (get_or INVERSE_SUBSTITUTION x 0))
+    (at_each_below 4 (λ r. holds_below 256 (λ x. get_or (get_or INVERSE_MIXED_SUBSTITUTION r []) x 0 == mixed_back_at r (get_or INVERSE_SUBSTITUTION x 0))) inverse_mixed_substitution_is_table r hr)
+    x hx
+    ∙ ap (mixed_back_at r) (inverse_substituted_at x hx)

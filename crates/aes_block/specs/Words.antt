@@ -1,9 +1,9 @@
 -- Blocks as four words of 32 bits: a column is a word (FIPS 197, section 3.5), its first row highest.
-use Rattle.std.specs.Prelude.{◌≡◌, ℕ, zero, suc, List, [], ◌∷◌, ◌++◌, take, slice_index, slice_set}
+use Rattle.std.specs.Prelude.{◌≡◌, ℕ, zero, suc, ◌+◌, ◌<◌, List, [], ◌∷◌, ◌++◌, length, take, slice_index, slice_index_or, slice_set}
 use Rattle.std.specs.List.{flat_map}
 use Rattle.std.specs.Int.{w32, from_be_bytes, to_be_bytes}
-use Rattle.aes_block.specs.Field.{substitute}
-use Rattle.aes_block.specs.Block.{IsBlock, column, column_product, mix_polynomial, inverse_mix_polynomial, round_key}
+use Rattle.aes_block.specs.Field.{substitute, inverse_substitute}
+use Rattle.aes_block.specs.Block.{IsBlock, column, column_product, mix_polynomial, inverse_mix_polynomial, inverse_mix_columns, round_key}
 
 -- the word of a column
 unfoldable pub word : List ℕ → ℕ
@@ -53,3 +53,19 @@ mixed_substitute r x = word (column_product mix_polynomial (one_byte r (substitu
 -- x in row r of a column of zeros, and the column mixed back
 unfoldable pub inverse_mixed : ℕ → ℕ → ℕ
 inverse_mixed r x = word (column_product inverse_mix_polynomial (one_byte r x))
+
+-- x with its substitution taken back in row r of a column of zeros, and the column mixed back
+unfoldable pub inverse_mixed_substitute : ℕ → ℕ → ℕ
+inverse_mixed_substitute r x = word (column_product inverse_mix_polynomial (one_byte r (inverse_substitute x)))
+
+-- ---- the equivalent inverse cipher (5.3.5)
+
+-- these are the words of a round key, mixed back
+pub record IsMixedBack (words k : List ℕ) : Type 0 where
+  pub block : IsBlock k
+  pub mixed : AreWordsOf words (inverse_mix_columns k)
+
+-- these are the words of the round keys 1 to 9 of a key, each mixed back
+pub record AreMixedBack (mixed : List (List ℕ)) (key : List ℕ) : Type 0 where
+  pub long : length mixed ≡ 9
+  pub each : (n : ℕ) → n < 9 → IsMixedBack (slice_index_or mixed n []) (round_key key (n + 1))

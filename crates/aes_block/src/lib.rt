@@ -6,14 +6,14 @@
 #![tactic(auto)]
 
 ghost use Rattle.std.specs.Prelude.{◌≡◌, ◌+◌, ◌<◌, ℕ, List};
-ghost use Rattle.aes_block.specs.Block.{add, sub_bytes, inverse_sub_bytes, shift_rows, inverse_shift_rows, mix_columns, inverse_mix_columns, round_key, encrypt, decrypt};
+ghost use Rattle.aes_block.specs.Block.{add, sub_bytes, shift_rows, mix_columns, round_key, encrypt, decrypt};
 ghost use Rattle.aes_block.specs.Words.{AreWordsOf};
 
-use rounds::{
-    forward_round, inverse_mixed_words, inverse_round, last_round, loaded, next_words, stored,
-};
+pub use inverse::InverseKeys;
+use rounds::{added, forward_round, last_round, loaded, next_words, stored};
 use std::marker::Model;
 
+mod inverse;
 /// What holds of the definitions themselves.
 pub mod laws;
 mod rounds;
@@ -60,17 +60,25 @@ impl Keys {
         Keys { words }
     }
 
+    // The words of round key n.
+    pub(crate) fn round_words(&self, n: usize) -> [u32; 4]
+        requires { n < 11 }
+        ensures { AreWordsOf result (round_key self.now n) }
+    {
+        [
+            self.words[4 * n],
+            self.words[4 * n + 1],
+            self.words[4 * n + 2],
+            self.words[4 * n + 3],
+        ]
+    }
+
     // The words of a block and round key n, added.
-    fn add_round_key(&self, words: [u32; 4], n: usize) -> [u32; 4]
+    pub(crate) fn add_round_key(&self, words: [u32; 4], n: usize) -> [u32; 4]
         requires { n < 11 }
         ensures { (b : List ℕ) → AreWordsOf words b → AreWordsOf result (add b (round_key self.now n)) }
     {
-        [
-            words[0] ^ self.words[4 * n],
-            words[1] ^ self.words[4 * n + 1],
-            words[2] ^ self.words[4 * n + 2],
-            words[3] ^ self.words[4 * n + 3],
-        ]
+        added(words, self.round_words(n))
     }
 
     // Round n, which isn't the last. The rounds of a block stand one by one below: in a loop LLVM would keep the four
@@ -81,17 +89,6 @@ impl Keys {
             AreWordsOf words b → AreWordsOf result (add (mix_columns (shift_rows (sub_bytes b))) (round_key self.now n)) }
     {
         self.add_round_key(forward_round(words), n)
-    }
-
-    // The inverse cipher's round with round key n, which isn't its last round. It is large, and LLVM doesn't inline it by
-    // itself; then the words of a block go through memory at each round.
-    #[inline(always)]
-    fn round_back(&self, words: [u32; 4], n: usize) -> [u32; 4]
-        requires { n < 11 }
-        ensures { (b : List ℕ) →
-            AreWordsOf words b → AreWordsOf result (inverse_mix_columns (add (inverse_sub_bytes (inverse_shift_rows b)) (round_key self.now n))) }
-    {
-        inverse_mixed_words(self.add_round_key(inverse_round(words), n))
     }
 
     /// Encrypts a block in place (FIPS 197, section 5.1).
@@ -111,21 +108,12 @@ impl Keys {
         *block = stored(self.add_round_key(last_round(state), 10));
     }
 
-    /// Decrypts a block in place (FIPS 197, section 5.3).
+    /// Decrypts a block in place (FIPS 197, section 5.3). Where many blocks are decrypted under a key, `InverseKeys` saves
+    /// making it ready for each.
     pub fn decrypt(&self, block: &mut [u8; 16])
         ensures { block.new ≡ decrypt self.now block.old }
     {
-        let state = self.add_round_key(loaded(block), 10);
-        let state = self.round_back(state, 9);
-        let state = self.round_back(state, 8);
-        let state = self.round_back(state, 7);
-        let state = self.round_back(state, 6);
-        let state = self.round_back(state, 5);
-        let state = self.round_back(state, 4);
-        let state = self.round_back(state, 3);
-        let state = self.round_back(state, 2);
-        let state = self.round_back(state, 1);
-        *block = stored(self.add_round_key(inverse_round(state), 0));
+        InverseKeys::new(self).decrypt(block);
     }
 }
 

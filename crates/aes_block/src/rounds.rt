@@ -3,10 +3,13 @@
 ghost use Rattle.std.specs.Prelude.{◌≡◌, ◌<◌, ℕ, List};
 ghost use Rattle.std.specs.Int.{w32, to_be_bytes};
 ghost use Rattle.aes_block.specs.Field.{substitute, inverse_substitute};
-ghost use Rattle.aes_block.specs.Block.{sub_bytes, inverse_sub_bytes, shift_rows, inverse_shift_rows, column_product, mix_columns, inverse_mix_columns, mix_polynomial, inverse_mix_polynomial, power_of_x, next_round_key};
+ghost use Rattle.aes_block.specs.Block.{add, sub_bytes, inverse_sub_bytes, shift_rows, inverse_shift_rows, column_product, mix_columns, inverse_mix_columns, mix_polynomial, inverse_mix_polynomial, power_of_x, next_round_key};
 ghost use Rattle.aes_block.specs.Words.{word, rows, AreWordsOf};
 
-use crate::tables::{inverse_mixture, inverse_substituted, mixed_substitution, substituted};
+use crate::tables::{
+    inverse_mixed_substitution, inverse_mixture, inverse_substituted, mixed_substitution,
+    substituted,
+};
 
 // The substituted bytes of four words, one row of each, as a mixed column.
 fn mixed_word(a: u32, b: u32, c: u32, d: u32) -> u32
@@ -28,6 +31,16 @@ fn substituted_word(a: u32, b: u32, c: u32, d: u32) -> u32
         substituted(c.to_be_bytes()[2]),
         substituted(d.to_be_bytes()[3]),
     ])
+}
+
+// The bytes of four words, one row of each, with the substitution taken back, as a column that is mixed back.
+fn inverse_mixed_substituted_word(a: u32, b: u32, c: u32, d: u32) -> u32
+    ensures { result ≡ word (column_product inverse_mix_polynomial (rows inverse_substitute a b c d)) }
+{
+    inverse_mixed_substitution(0, a.to_be_bytes()[0])
+        ^ inverse_mixed_substitution(1, b.to_be_bytes()[1])
+        ^ inverse_mixed_substitution(2, c.to_be_bytes()[2])
+        ^ inverse_mixed_substitution(3, d.to_be_bytes()[3])
 }
 
 // The bytes of four words, one row of each, with the substitution taken back.
@@ -86,6 +99,18 @@ pub fn inverse_round(s: [u32; 4]) -> [u32; 4]
     ]
 }
 
+/// A round of the equivalent inverse cipher up to its round key: the same, and the columns mixed back.
+pub fn backward_round(s: [u32; 4]) -> [u32; 4]
+    ensures { (b : List ℕ) → AreWordsOf s b → AreWordsOf result (inverse_mix_columns (inverse_sub_bytes (inverse_shift_rows b))) }
+{
+    [
+        inverse_mixed_substituted_word(s[0], s[3], s[2], s[1]),
+        inverse_mixed_substituted_word(s[1], s[0], s[3], s[2]),
+        inverse_mixed_substituted_word(s[2], s[1], s[0], s[3]),
+        inverse_mixed_substituted_word(s[3], s[2], s[1], s[0]),
+    ]
+}
+
 /// The columns mixed back.
 pub fn inverse_mixed_words(s: [u32; 4]) -> [u32; 4]
     ensures { (b : List ℕ) → AreWordsOf s b → AreWordsOf result (inverse_mix_columns b) }
@@ -96,6 +121,13 @@ pub fn inverse_mixed_words(s: [u32; 4]) -> [u32; 4]
         inverse_mixed_word(s[2]),
         inverse_mixed_word(s[3]),
     ]
+}
+
+/// The words of two blocks, added.
+pub fn added(s: [u32; 4], t: [u32; 4]) -> [u32; 4]
+    ensures { (b k : List ℕ) → AreWordsOf s b → AreWordsOf t k → AreWordsOf result (add b k) }
+{
+    [s[0] ^ t[0], s[1] ^ t[1], s[2] ^ t[2], s[3] ^ t[3]]
 }
 
 /// The words of a block.

@@ -23,7 +23,7 @@ AreBytes-bytes_high_first zero n = All-nil (λ b. b < 256)
 AreBytes-bytes_high_first (suc k) n =
     All-cons (λ b. b < 256) (byte_at k n) (bytes_high_first k n) (byte_at-lt k n) (AreBytes-bytes_high_first k n)
 
-IsBlock-doubled : (b : List ℕ) → IsBlock (doubled b)
+pub IsBlock-doubled : (b : List ℕ) → IsBlock (doubled b)
 unfolding doubled
 IsBlock-doubled b = record { count = refl; bytes = AreBytes-bytes_high_first 16 _ }
 

@@ -6,6 +6,7 @@ use Rattle.line_reader.specs.Lines.{is_over}
 use Rattle.meter_slots.specs.declared.counts.Ended.{Ended}
 use Rattle.meter_slots.specs.declared.counts.Ended.TheVariants as ends
 use Rattle.receivers.specs.Ending.{IsEnding}
+use Rattle.receivers.specs.HeardLines.{HeardLines, tellings}
 use Rattle.receivers.specs.Run.{ReceiverRun}
 use Rattle.receivers.specs.Session.{IsSession}
 use Rattle.report_text.specs.Orders.{orders}
@@ -14,7 +15,7 @@ use Rattle.roster_file.specs.declared.roster.LineCause.{LineCause}
 use Rattle.roster_file.specs.declared.roster.RosterFault.TheVariants.{Line}
 use Rattle.collector_main.specs.declared.status.Status.{Status}
 use Rattle.collector_main.specs.declared.status.Status.TheVariants as statuses
-use Rattle.collector_main.specs.Heard.{Heard, HeardLines, tellings, report_of, order_of}
+use Rattle.collector_main.specs.Heard.{Heard, report_of, order_of}
 use Rattle.collector_main.specs.Statuses.{was_heard, IsDone, IsRefused}
 
 -- a sink that the command writes: its number in status 7, the text that it is to have of what was heard, and what it shows

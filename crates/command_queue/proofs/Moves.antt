@@ -1,11 +1,13 @@
 -- What putting and taking a command keep of a queue, and which command is taken.
-use Rattle.std.proofs.Common.{◌≡◌, ◌≢◌, ℕ, zero, suc, ◌+◌, ◌<◌, ◌≤◌, ◌==◌, Bool, true, false, not, cond, List, [], ◌∷◌, ◌++◌, length, get_or, filter, Some, None, find, All, AllPairs, refl, sym, ap, ◌∙◌, arith, length-append, Ok, Err}
+use Rattle.std.proofs.Common.{◌≡◌, ◌≢◌, ℕ, zero, suc, ◌+◌, ◌<◌, ◌≤◌, ◌==◌, Bool, true, false, not, cond, List, [], ◌∷◌, ◌++◌, length}
+use Rattle.std.proofs.Common.{get_or, filter, Some, None, find, All, AllPairs, refl, sym, ap, ◌∙◌, arith, length-append, Ok, Err}
 use Rattle.std.specs.List.{HoldsAt, remove}
 use Rattle.std.proofs.lemmas.Bool.Decides.{nat_tests}
 use Rattle.std.proofs.lemmas.List.Elements.{All-head, All-tail}
 use Rattle.std.proofs.lemmas.List.Filters.{length-filter_both}
 use Rattle.command_queue.specs.declared.command.Command.{Command}
-use Rattle.command_queue.specs.Pending.{Pending, IdsRise, AreUntried, OnlyOldestTried, IsSound, has_id, no_such, take_answer, without_command}
+use Rattle.command_queue.specs.Pending.{Pending, IdsRise, AreUntried, OnlyOldestTried, IsSound, has_id, no_such, take_answer}
+use Rattle.command_queue.specs.Pending.{without_command}
 
 -- the commands with another id
 abbrev pub without : ℕ → List Command → List Command
@@ -31,7 +33,8 @@ tries_push : (cs : List Command) (c : Command) → OnlyOldestTried cs → c.trie
 tries_push [] c t new = (omega arith, tt)
 tries_push (d ∷ cs) c t new = (t.0, untried_push cs c t.1 new)
 
-pub sound_put : (q r : Pending) (c : Command) → IsSound q → length q.commands < 8 → c.id ≡ q.ids + 1 → c.tries ≡ 0 → r.commands ≡ q.commands ++ c ∷ [] → r.ids ≡ q.ids + 1 → IsSound r
+pub sound_put : (q r : Pending) (c : Command) → IsSound q → length q.commands < 8 → c.id ≡ q.ids + 1 → c.tries ≡ 0
+    → r.commands ≡ q.commands ++ c ∷ [] → r.ids ≡ q.ids + 1 → IsSound r
 sound_put q r c s room id tries commands ids =
     record {
       few = omega (arith, ap length commands, length-append q.commands (c ∷ []));
@@ -45,7 +48,8 @@ rise_above : (m n : ℕ) (cs : List Command) (last : ℕ) → m ≤ n → IdsRis
 rise_above m n [] last le h = omega arith
 rise_above m n (c ∷ cs) last le h = (omega (arith, h.0), h.1)
 
-rise_cond : (b : Bool) (n : ℕ) (c : Command) (cs : List Command) (last : ℕ) → n < c.id → IdsRise c.id cs last → IdsRise n (cond b (c ∷ cs) cs) last
+rise_cond : (b : Bool) (n : ℕ) (c : Command) (cs : List Command) (last : ℕ) → n < c.id → IdsRise c.id cs last
+    → IdsRise n (cond b (c ∷ cs) cs) last
 rise_cond true n c cs last lt h = (lt, h)
 rise_cond false n c cs last lt h = rise_above n c.id cs last (omega arith) h
 
@@ -133,14 +137,17 @@ unfolding without_command
 none_left_out id q h = ap (λ (cs : List Command). record q { commands = cs }) (sym (none_out id q.commands h))
 
 -- the command at the place with this id is answered
-pub answered : (id : ℕ) (q : Pending) (i : ℕ) (c : Command) → IsSound q → i < length q.commands → HoldsAt (λ c. c.id ≡ id) q.commands i → c ≡ get_or q.commands i c → take_answer id q ≡ Ok c
+pub answered : (id : ℕ) (q : Pending) (i : ℕ) (c : Command) → IsSound q → i < length q.commands → HoldsAt (λ c. c.id ≡ id) q.commands i
+    → c ≡ get_or q.commands i c → take_answer id q ≡ Ok c
 unfolding take_answer
 answered id q i c s lt at is =
-    let found : find (has_id id) q.commands ≡ Some c = ap (λ n. find (has_id n) q.commands) (sym (at c)) ∙ (taken 0 q.commands q.ids i c s.rising lt).0 ∙ ap Some (sym is) in
+    let found : find (has_id id) q.commands ≡ Some c =
+        ap (λ n. find (has_id n) q.commands) (sym (at c)) ∙ (taken 0 q.commands q.ids i c s.rising lt).0 ∙ ap Some (sym is) in
     rw found refl
 
 -- and the others are left
-pub left : (id : ℕ) (q : Pending) (i : ℕ) (d : Command) → IsSound q → i < length q.commands → HoldsAt (λ c. c.id ≡ id) q.commands i → remove q.commands i ≡ without id q.commands
+pub left : (id : ℕ) (q : Pending) (i : ℕ) (d : Command) → IsSound q → i < length q.commands → HoldsAt (λ c. c.id ≡ id) q.commands i
+    → remove q.commands i ≡ without id q.commands
 left id q i d s lt at = (taken 0 q.commands q.ids i d s.rising lt).1 ∙ ap (λ n. without n q.commands) (at d)
 
 pub is_without : (id : ℕ) (q r : Pending) → r.ids ≡ q.ids → r.commands ≡ without id q.commands → r ≡ without_command id q
@@ -158,7 +165,8 @@ last_at n [] last i d h lt = absurd (omega arith)
 last_at n (c ∷ cs) last zero d h lt = rise_last c.id cs last h.1
 last_at n (c ∷ cs) last (suc i) d h lt = last_at c.id cs last i d h.1 (omega arith)
 
-pairs_at : (n : ℕ) (cs : List Command) (last i j : ℕ) (d : Command) → IdsRise n cs last → i < j → j < length cs → (get_or cs i d).id < (get_or cs j d).id
+pairs_at : (n : ℕ) (cs : List Command) (last i j : ℕ) (d : Command) → IdsRise n cs last → i < j → j < length cs
+    → (get_or cs i d).id < (get_or cs j d).id
 pairs_at n [] last i j d h lt within = absurd (omega arith)
 pairs_at n (c ∷ cs) last i zero d h lt within = absurd (omega arith)
 pairs_at n (c ∷ cs) last zero (suc j) d h lt within = above_at c.id cs last j d h.1 (omega arith)

@@ -43,10 +43,12 @@ impl Model for Queue {
 }
 
 impl Queue {
-    ghost use Rattle.std.specs.Prelude.{◌≡◌, ◌≢◌, ◌<◌, ◌≤◌, ◌+◌, ◌-◌, ◌^◌, ◌↔◌, [], length, slice_get, All, Err, IsNone, IfSome, IfNone, OnErr};
+    ghost use Rattle.std.specs.Prelude.{◌≡◌, ◌≢◌, ◌<◌, ◌≤◌, ◌+◌, ◌-◌, ◌^◌, ◌↔◌};
+    ghost use Rattle.std.specs.Prelude.{[], length, slice_get, All, Err, IsNone, IfSome, IfNone, OnErr};
     ghost use Rattle.std.specs.List.{HoldsAt};
     ghost use Rattle.std.specs.Option.{option_copied};
-    ghost use Rattle.command_queue.specs.Pending.{IsSound, HasTryLeft, no_such, put_answer, with_command, take_answer, without_command, with_try};
+    ghost use Rattle.command_queue.specs.Pending.{IsSound, HasTryLeft, no_such, put_answer};
+    ghost use Rattle.command_queue.specs.Pending.{with_command, take_answer, without_command, with_try};
 
     /// No command waits yet; `ids` is the last id that was given.
     pub fn new(ids: u32) -> Queue

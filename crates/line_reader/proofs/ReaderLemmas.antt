@@ -1,10 +1,10 @@
 -- What the lines of a source are after each answer.
-use Rattle.std.proofs.Common.{◌≡◌, ℕ, zero, suc, ◌<◌, ◌≤◌, ◌+◌, ◌-◌, List, [], ◌∷◌, ◌++◌, length, take, drop, Bool, true, false, Result, Ok, Err, ⊎_elim, refl, ap, sym, subst, ◌∙◌, arith, append_assoc}
+use Rattle.std.proofs.Common.{◌≡◌, ℕ, zero, suc, ◌<◌, ◌≤◌, ◌+◌, ◌-◌, List, [], ◌∷◌, ◌++◌, length, take, drop, Bool, true, false, ⊎_elim, refl, ap, sym, subst, ◌∙◌, arith, append_assoc}
 use Rattle.std.specs.Prelude.{IsTrue}
 use Rattle.std.specs.Str.Lines.{lines, strip_carriage_return}
 use lib.Seq.{take-append-add}
 use Rattle.std.proofs.lemmas.Bool.{cases_lt}
-use Rattle.std.proofs.lemmas.List.{append-nil, length_push, take-append-drop, drop-drop, drop_at, take_all, length-take, length-append, nil_from_length}
+use Rattle.std.proofs.lemmas.List.{append-nil, length_push, take-append-drop, drop-drop, drop_at, take_all, length-take, length-append}
 use Rattle.outer_io.specs.Bytes.{Moves}
 use Rattle.line_reader.specs.Keeps.{IsReader, IsLast, IsTextReader, Keeps}
 use Rattle.line_reader.specs.Lines.{is_over, whole_lines, all_lines}
@@ -175,48 +175,48 @@ module _ {start line most : ℕ} {taken held added taken' : List ℕ} (s : IsSea
 
   -- the unfinished last line
   module _ (longest : ℕ) (held' left' : List ℕ) (given_up count : ℕ) (part : IsRestOfLine longest read held' given_up) (found : IsLastLine read left' (given_up + count)) (few : given_up + count ≤ most) where
-      all_read : given_up + count ≡ length read
-      all_read = found.long
+    all_read : given_up + count ≡ length read
+    all_read = found.long
 
-      some_read : 0 < length read
-      some_read = let some = found.some in let same = found.long in omega arith
+    some_read : 0 < length read
+    some_read = let some = found.some in let same = found.long in omega arith
 
-      below : (line < LINES_MAX) × (most ≡ BYTES_MAX - start)
-      below = room_after start line most s.room s.no_room (let some = found.some in omega arith)
+    below : (line < LINES_MAX) × (most ≡ BYTES_MAX - start)
+    below = room_after start line most s.room s.no_room (let some = found.some in omega arith)
 
-      lines_taken : lines taken' ≡ lines before ++ read ∷ []
-      lines_taken =
-          ap lines whole ∙ s.reader.finished.follow read ∙ ap (λ x. lines before ++ x) (lines_alone read found.alone some_read)
+    lines_taken : lines taken' ≡ lines before ++ read ∷ []
+    lines_taken =
+        ap lines whole ∙ s.reader.finished.follow read ∙ ap (λ x. lines before ++ x) (lines_alone read found.alone some_read)
 
-      count_taken : length (lines taken') ≡ line + 1
-      count_taken = ap length lines_taken ∙ length_push (lines before) read ∙ ap (λ n. n + 1) s.reader.counted
+    count_taken : length (lines taken') ≡ line + 1
+    count_taken = ap length lines_taken ∙ length_push (lines before) read ∙ ap (λ n. n + 1) s.reader.counted
 
-      within_taken : is_over taken' ≡ false
-      within_taken =
-          let all = ap length whole ∙ length-append before read in
-          let first = before_len in
-          let same = all_read in
-          let room = below in
-          let counted = count_taken in
-          not_over taken' (omega arith) (omega arith)
+    within_taken : is_over taken' ≡ false
+    within_taken =
+        let all = ap length whole ∙ length-append before read in
+        let first = before_len in
+        let same = all_read in
+        let room = below in
+        let counted = count_taken in
+        not_over taken' (omega arith) (omega arith)
 
-      last_line : IsLast (line + 1) taken' left'
-      last_line = record { nothing_left = found.nothing_left; within = within_taken; counted = count_taken }
+    last_line : IsLast (line + 1) taken' left'
+    last_line = record { nothing_left = found.nothing_left; within = within_taken; counted = count_taken }
 
-      new_last : IsNewLine longest given_up count held' (take line (all_lines taken)) (take (line + 1) (all_lines taken'))
-      new_last =
-          let same = all_read in
-          let counted = count_taken in
-          let new = ap (take (line + 1)) (all_within taken' within_taken) ∙ take_all (line + 1) (lines taken') (omega arith) ∙ lines_taken in
-          let old = given_before start line taken held s.reader s.few_bytes s.few_lines in
-          record {
-            text = read;
-            more = new ∙ ap (λ x. x ++ read ∷ []) (sym old);
-            is = λ none.
-                text_of_one_line (take count held') read
-                (ap (λ x. lines (take count x)) (part.rest ∙ ap (λ n. drop n read) none) ∙ ap lines (take_all count read (omega arith)) ∙ lines_alone read found.alone some_read);
-            long = λ some_up. let long = part.long some_up in omega arith;
-          }
+    new_last : IsNewLine longest given_up count held' (take line (all_lines taken)) (take (line + 1) (all_lines taken'))
+    new_last =
+        let same = all_read in
+        let counted = count_taken in
+        let new = ap (take (line + 1)) (all_within taken' within_taken) ∙ take_all (line + 1) (lines taken') (omega arith) ∙ lines_taken in
+        let old = given_before start line taken held s.reader s.few_bytes s.few_lines in
+        record {
+          text = read;
+          more = new ∙ ap (λ x. x ++ read ∷ []) (sym old);
+          is = λ none.
+              text_of_one_line (take count held') read
+              (ap (λ x. lines (take count x)) (part.rest ∙ ap (λ n. drop n read) none) ∙ ap lines (take_all count read (omega arith)) ∙ lines_alone read found.alone some_read);
+          long = λ some_up. let long = part.long some_up in omega arith;
+        }
 
   -- a line, with its newline or the last one
   module _ (longest : ℕ) (held' left' : List ℕ) (given_up count : ℕ) (part : IsRestOfLine longest read held' given_up) (fits : (0 < given_up + count) × (count ≤ length held') × (given_up + count ≤ most)) where

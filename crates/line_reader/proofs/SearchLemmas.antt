@@ -5,7 +5,7 @@ use lib.Seq.{take-append-add}
 use Rattle.outer_io.specs.Bytes.{Moves}
 use Rattle.line_reader.specs.Newlines.{newlines}
 use Rattle.line_reader.specs.Reading.{BeginsWithLine}
-use Rattle.line_reader.specs.Search.{IsRestOfLine, IsLastLine, IsEndAt, Searches}
+use Rattle.line_reader.specs.Search.{IsRestOfLine, IsEndAt, Searches}
 use Rattle.line_reader.specs.declared.search.Ending.{Ending}
 use Rattle.line_reader.specs.declared.search.Ending.TheVariants.{Line, Source, Limit, Fault}
 use Rattle.line_reader.proofs.NewlineLemmas.{newlines-both, newlines-take, newlines-drop, line_behind}

@@ -4,29 +4,24 @@ use Rattle.std.specs.Option.{ok_or}
 use Rattle.std.specs.Result.{result_ok}
 use Rattle.std.specs.Cmp.Lexicographic.{pointwise}
 use Rattle.hex.specs.Hex.{decode_of}
+use Rattle.frame_formats.specs.declared.format.Format.{Format}
+use Rattle.frame_formats.specs.declared.format.Format.TheVariants as formats
+use Rattle.steps.specs.Steps.{◌>>=◌}
 use Rattle.plain_text.specs.Numbers.{number_of}
 use Rattle.plain_text.specs.Parts.{fields_of}
 use Rattle.meter_address.specs.Address.{address_of}
 use Rattle.meter_address.specs.Commission.{key_of}
 use Rattle.line_reader.specs.declared.line.Line.{Line}
 use Rattle.line_reader.specs.declared.line.Line.TheVariants.{Frame, Tick, Put, Cancel, Key}
-use Rattle.line_reader.specs.declared.line.LineFormat.{LineFormat}
-use Rattle.line_reader.specs.declared.line.LineFormat.TheVariants as formats
 use Rattle.line_reader.specs.declared.line.BadLine.{BadLine}
 use Rattle.line_reader.specs.declared.line.BadLine.TheVariants as bads
-
--- the second step, if the first gave a value
-infixl 10 ◌>>=◌
-abbrev pub ◌>>=◌ : {A B : Type 0} → Result A BadLine → (A → Result B BadLine) → Result B BadLine
-Ok x >>= f = f x
-Err e >>= f = Err e
 
 -- an even number of hexadecimal digits of either case
 abbrev pub bytes_of : List ℕ → Option (List ℕ)
 bytes_of digits = result_ok (decode_of digits)
 
 -- a frame at a moment below 2^64
-unfoldable pub frame_line : LineFormat → List (List ℕ) → Result Line BadLine
+unfoldable pub frame_line : Format → List (List ℕ) → Result Line BadLine
 frame_line format (moment ∷ digits ∷ []) = do
   at ← ok_or (number_of (2 ^ 64 - 1) moment) bads.Number
   bytes ← ok_or (bytes_of digits) bads.Hex

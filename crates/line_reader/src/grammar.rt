@@ -4,7 +4,8 @@ ghost use Rattle.std.specs.List.{AllByRecursion};
 ghost use Rattle.line_reader.specs.Grammar.{IsLineText, frame_line, tick_line, put_line, payload_of, cancel_line, key_line, by_word, line_of};
 
 use crate::frame::FrameBytes;
-use crate::line::{BadLine, Line, LineFormat};
+use crate::line::{BadLine, Line};
+use frame_formats::Format;
 use meter_address::{Address, Payload, read_key};
 use plain_text::{Fields, read_number};
 
@@ -12,7 +13,7 @@ use plain_text::{Fields, read_number};
 pub const LINE_MAX: usize = 1_024;
 
 #[tactic(auto, unfolding(crate::specs::Grammar::frame_line))]
-fn read_frame_line(format: LineFormat, mut fields: Fields<'_>) -> Result<Line, BadLine>
+fn read_frame_line(format: Format, mut fields: Fields<'_>) -> Result<Line, BadLine>
     requires { AllByRecursion IsLineText fields }
     ensures { result ≡ frame_line format fields.entry }
 {
@@ -99,8 +100,8 @@ fn read_by_word(mut fields: Fields<'_>) -> Result<Line, BadLine>
         return Err(BadLine::Word);
     };
     match word {
-        b"A" => read_frame_line(LineFormat::A, fields),
-        b"B" => read_frame_line(LineFormat::B, fields),
+        b"A" => read_frame_line(Format::A, fields),
+        b"B" => read_frame_line(Format::B, fields),
         b"T" => read_tick_line(fields),
         b"Q" => read_put_line(fields),
         b"X" => read_cancel_line(fields),

@@ -1,15 +1,7 @@
 //! One line.
 use crate::frame::FrameBytes;
+use frame_formats::Format;
 use meter_address::{Address, Payload};
-
-/// The frame format in which a receiver heard a telegram (EN 13757-4).
-#[derive(Clone, Copy, Debug, PartialEq, Eq)]
-pub enum LineFormat {
-    /// Frame format A.
-    A,
-    /// Frame format B.
-    B,
-}
 
 /// What a line says.
 #[derive(Drop)]
@@ -17,7 +9,7 @@ pub enum Line {
     /// A frame, heard at this moment.
     Frame {
         /// Its format.
-        format: LineFormat,
+        format: Format,
         /// The moment, in the receiver's own unit.
         at: u64,
         /// Its bytes, which may be no frame at all.

@@ -1,7 +1,7 @@
 //! Lines as the grammar says, and readers of sources that give their bytes in pieces, fail, or pass a limit.
 ghost use Rattle.std.specs.Prelude.{false, []};
 
-use crate::{BadLine, LINES_MAX, Line, LineFormat, Lines, Next, read_line};
+use crate::{BadLine, LINES_MAX, Line, LineFormat, Lines, Next, NextText, TextReader, read_line};
 use outer_io::{Failed, MemorySource, Source};
 use std::alloc::{AllocError, Global};
 use std::test::Fail;
@@ -125,7 +125,10 @@ fn a_line_says_what_the_grammar_says_or_its_first_fault(rt: HostRuntime) {
         (b"K 9315010203040107", 'f'),
         (b"K 931501020304010 f", 'a'),
         (b"K 9315010203040107 f0f1f2f3f4f5f6f7f8f9fafbfcfdfef", 'k'),
-        (b"K 9315010203040107 f0f1f2f3f4f5f6f7f8f9fafbfcfdfeff00", 'k'),
+        (
+            b"K 9315010203040107 f0f1f2f3f4f5f6f7f8f9fafbfcfdfeff00",
+            'k',
+        ),
         (b"K 9315010203040107 g0f1f2f3f4f5f6f7f8f9fafbfcfdfeff", 'k'),
     ];
     for (text, want) in cases {
@@ -170,6 +173,38 @@ fn a_line_of_1024_bytes_is_not_too_long(rt: HostRuntime) -> Result<(), Fail> {
                 want,
                 "{times} and {text:?}"
             );
+            assert_eq!(rt; lines.source().least_asked >= 1_024, true);
+        }
+    }
+    Ok(())
+}
+
+#[test]
+fn a_reader_lends_lines_of_its_own_length(rt: HostRuntime) -> Result<(), Fail> {
+    // How many bytes the first line has, and whether it is lent by a reader of lines of 8,000 bytes.
+    for (times, lent) in [(0, true), (7_999, true), (8_000, true), (8_001, false)] {
+        for most in [1, 1_000, 100_000] {
+            let pieces = Pieces::new(b'0', times, b"\r\nab\n\nc\r", most);
+            let mut reader = TextReader::new(pieces, 8_000);
+            let first = reader.next().map_err(|_| "a line")?;
+            let answer = if lent {
+                NextText::Line
+            } else {
+                NextText::TooLong
+            };
+            assert_eq!(rt; first, answer, "{times}");
+            assert_eq!(rt; reader.text().len(), if lent { times } else { 0 });
+            let others: [&[u8]; 3] = [b"ab", b"", b"c\r"];
+            for text in others {
+                assert_eq!(rt; reader.done(), false);
+                assert_eq!(rt; reader.next(), Ok(NextText::Line));
+                assert_eq!(rt; reader.text(), text);
+            }
+            assert_eq!(rt; reader.done(), false);
+            assert_eq!(rt; reader.next(), Ok(NextText::End));
+            assert_eq!(rt; (reader.done(), reader.line()), (true, 4));
+            assert_eq!(rt; reader.source().least_asked >= 1_024, true);
+            assert_eq!(rt; reader.into_source().text.len(), 0);
         }
     }
     Ok(())

@@ -79,9 +79,9 @@ impl<S: Source> Model for TextReader<S> {
     ghost coded = { text_reading_code S.code };
 
     ghost view = { λ t. record {
-        reader = record { source = t.source; line = t.line; done = t.done };
-        longest = t.longest;
-        text = line_text (take t.lent t.held);
+      reader = record { source = t.source; line = t.line; done = t.done };
+      longest = t.longest;
+      text = line_text (take t.lent t.held);
     } };
 
     ghost invariant = { λ t. IsTextReader S.tells t.longest t.lent t.start t.line t.ended t.done (S.taken t.source) (S.left t.source) t.held };

@@ -1,13 +1,12 @@
 //! What authenticates a message of security mode 7, and its MAC (EN 13757-7, OMS Volume 2).
-ghost use Rattle.std.specs.Prelude.{◌≡◌, ◌++◌, ℕ, List, take};
-ghost use Rattle.cbc_cmac.specs.Fed.{StandsFor};
+ghost use Rattle.std.specs.Prelude.{◌≡◌, take};
 ghost use Rattle.cbc_cmac.specs.Mac.{cmac};
-ghost use Rattle.message_check.specs.Opening.{control_passed, signature_of, length_bytes, mac_input, mac_of, mac_passed};
+ghost use Rattle.message_check.specs.Opening.{control_passed, signature_of, mac_input, mac_of, mac_passed};
 
 use crate::refusal::Reason;
 use aes_block::Keys;
 use afl_layer::Auth;
-use cbc_cmac::Cmac;
+use cbc_cmac::cmac_of_pieces;
 
 // The parts of a message's authentication, all that have to be there.
 #[derive(Clone, Copy)]
@@ -50,25 +49,17 @@ pub(crate) fn read_signature(auth: &Auth) -> Result<Signature, Reason>
     })
 }
 
-// Takes in the message length, where it is there.
-fn update_with_length(mac: &mut Cmac, ml: Option<u16>)
-    ensures { (key message : List ℕ) → StandsFor mac.old key message → StandsFor mac.new key (message ++ length_bytes ml) }
-{
-    if let Some(ml) = ml {
-        mac.update(&ml.to_le_bytes());
-    }
-}
-
 // The CMAC of what authenticates a message.
 fn cmac_of_message(key: &[u8; 16], signature: &Signature, message: &[u8]) -> [u8; 16]
     ensures { result ≡ cmac key.now (mac_input signature.now.mcl signature.now.counter signature.now.ml message.now) }
 {
-    let mut mac = Cmac::new(&Keys::new(key));
-    mac.update(&[signature.mcl]);
-    mac.update(&signature.counter.to_le_bytes());
-    update_with_length(&mut mac, signature.ml);
-    mac.update(message);
-    mac.finish()
+    let keys = Keys::new(key);
+    let control = [signature.mcl];
+    let counter = signature.counter.to_le_bytes();
+    match signature.ml {
+        None => cmac_of_pieces(&keys, &[&control, &counter, message]),
+        Some(ml) => cmac_of_pieces(&keys, &[&control, &counter, &ml.to_le_bytes(), message]),
+    }
 }
 
 // The MAC of a message: the first eight bytes of its CMAC.

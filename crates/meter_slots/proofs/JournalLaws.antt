@@ -1,5 +1,6 @@
 -- Proofs of the laws of journals.
-use Rattle.std.proofs.Common.{◌≡◌, ◌↔◌, ℕ, ◌<◌, max, Bool, true, false, cond, nat_lt, List, [], ◌∷◌, ◌++◌, reverse, map, Option, Some, None, Result, Ok, Err, refl, ap, sym, ◌∙◌, arith, subst}
+use Rattle.std.proofs.Common.{◌≡◌, ◌↔◌, ℕ, ◌<◌, max, Bool, true, false, cond, nat_lt, List, [], ◌∷◌, ◌++◌, reverse, map, Option, Some, None}
+use Rattle.std.proofs.Common.{Result, Ok, Err, refl, ap, sym, ◌∙◌, arith, subst}
 use Rattle.std.specs.Prelude.{option_to_list, option_map}
 use Rattle.std.specs.Result.{result_ok}
 use Rattle.std.specs.List.{cons_option}
@@ -32,8 +33,10 @@ use Rattle.meter_slots.specs.declared.entry.Event.TheVariants.{Hear, Tick, Put, 
 use Rattle.meter_slots.specs.declared.entry.Outcome.{Outcome}
 use Rattle.meter_slots.specs.declared.entry.Outcome.TheVariants.{Stored, PartKept, Ticked, Queued, Cancelled, Rekeyed, Refused}
 use Rattle.meter_slots.specs.Hearing.{received, brought}
-use Rattle.meter_slots.specs.Journal.{Standing, standing, stored_counter, told, other_given, other_after, other_key, rekeyed, opened_in, compared, genuine_in, genuine, counters, greater, greatest, last_among, last_counter}
-use Rattle.meter_slots.specs.Journal.{stored_or_refused, judged, verdict, access_at, orders_heard, orders_after, orders, heard, queued, cancelled, key_answer, answer, outcome, IsJudged, Legal}
+use Rattle.meter_slots.specs.Journal.{Standing, standing, stored_counter, told, other_given, other_after, other_key, rekeyed, opened_in}
+use Rattle.meter_slots.specs.Journal.{compared, genuine_in, genuine, counters, greater, greatest, last_among, last_counter}
+use Rattle.meter_slots.specs.Journal.{stored_or_refused, judged, verdict, access_at, orders_heard, orders_after, orders, heard, queued}
+use Rattle.meter_slots.specs.Journal.{cancelled, key_answer, answer, outcome, IsJudged, Legal}
 use Rattle.meter_slots.specs.Journal.{stored_in, stored, reading_at, reading_of, readings}
 use Rattle.meter_slots.specs.Keeping.{stored_by, last_after}
 use Rattle.meter_slots.specs.World.{Call, judged_journal, journal_of}
@@ -51,10 +54,14 @@ front_back x xs = reverse-append (x ∷ []) xs
 
 -- the entries of a journal from one of them back
 from_entry : (before : List Entry) (x : Entry) (after : List Entry) → reverse (before ++ x ∷ after) ≡ reverse after ++ x ∷ reverse before
-from_entry before x after = reverse-append before (x ∷ after) ∙ ap (λ xs. xs ++ reverse before) (front_back x after) ∙ append_assoc (reverse after) (x ∷ []) (reverse before)
+from_entry before x after =
+    reverse-append before (x ∷ after) ∙ ap (λ xs. xs ++ reverse before) (front_back x after)
+    ∙ append_assoc (reverse after) (x ∷ []) (reverse before)
 
-pub judged_at : (c : Commissioned) (own : Address) (before : List Entry) (x : Entry) (after : List Entry) → Legal c own (before ++ x ∷ after) → IsJudged c own (x ∷ reverse before)
-judged_at c own before x after j = judged_rest c own (reverse after) (x ∷ reverse before) (subst (IsJudged c own) (from_entry before x after) j)
+pub judged_at : (c : Commissioned) (own : Address) (before : List Entry) (x : Entry) (after : List Entry)
+    → Legal c own (before ++ x ∷ after) → IsJudged c own (x ∷ reverse before)
+judged_at c own before x after j =
+    judged_rest c own (reverse after) (x ∷ reverse before) (subst (IsJudged c own) (from_entry before x after) j)
 
 -- ---- a message is stored where it is genuine and above the last counter
 
@@ -74,11 +81,13 @@ below_right : (x y n : ℕ) → max x y < n → y < n
 below_right x y n h = omega arith
 
 test_stored : (f : Found) (k n : ℕ) (b : Bool) → nat_lt k f.counter ≡ b
-    → (stored_by (stored_or_refused (found_where (cond b (Ok tt) (Err (Stale f.counter k))) f)) ≡ Some n) ↔ ((Some f.counter ≡ Some n) × (k < n))
+    → (stored_by (stored_or_refused (found_where (cond b (Ok tt) (Err (Stale f.counter k))) f)) ≡ Some n) ↔
+        ((Some f.counter ≡ Some n) × (k < n))
 test_stored f k n true h = (λ s. (s, is_above f.counter k n h (cc)), λ p. p.0)
 test_stored f k n false h = (λ s. cc, λ p. absurd (not_above f.counter k n h (cc (p.0)) p.1))
 
-compared_stored : (f : Found) (n : ℕ) (last : Option ℕ) → (stored_by (stored_or_refused (compared7 last f)) ≡ Some n) ↔ ((Some f.counter ≡ Some n) × IsAbove n last)
+compared_stored : (f : Found) (n : ℕ) (last : Option ℕ)
+    → (stored_by (stored_or_refused (compared7 last f)) ≡ Some n) ↔ ((Some f.counter ≡ Some n) × IsAbove n last)
 unfolding compared7
 compared_stored f n None = (λ s. (s, tt), λ p. p.0)
 compared_stored f n (Some k) = test_stored f k n (nat_lt k f.counter) refl
@@ -110,7 +119,8 @@ greatest_above n (x ∷ xs) =
     let rest = greatest_above n xs in
     (λ h. ((g.0 h).0, rest.0 (g.0 h).1), λ p. g.1 (p.0, rest.1 p.1))
 
-heard_stored : (own : Address) (c : Commissioned) (k : Orders) (access : Access) (response : Bool) (v : Result (Option Found) Reason) → stored_counter (heard own c k access response v) ≡ stored_by v
+heard_stored : (own : Address) (c : Commissioned) (k : Orders) (access : Access) (response : Bool) (v : Result (Option Found) Reason)
+    → stored_counter (heard own c k access response v) ≡ stored_by v
 heard_stored own c k access response (Err reason) = refl
 heard_stored own c k access response (Ok None) = refl
 heard_stored own c k access response (Ok (Some f)) = refl
@@ -132,15 +142,20 @@ none_stored : (n : ℕ) (last o : Option ℕ) → o ≡ None → (o ≡ Some n) 
 none_stored n last o h = (λ s. cc, λ p. cc (p.0))
 
 answer_stored : (c : Commissioned) (own : Address) (n : ℕ) (earlier : List Entry) (event : Event) → c.mode ≡ Seven
-    → (stored_counter (answer c own (standing c earlier) event) ≡ Some n) ↔ ((counter (genuine c earlier event) ≡ Some n) × IsAbove n (last_counter c earlier))
+    → (stored_counter (answer c own (standing c earlier) event) ≡ Some n) ↔
+        ((counter (genuine c earlier event) ≡ Some n) × IsAbove n (last_counter c earlier))
 answer_stored c own n earlier (Hear format at t) m =
-    rw heard_stored (judged_stored (rekeyed c (other_key c earlier)) m n (last_counter c earlier) (brought (told c earlier) t (received c.mode t)))
+    rw heard_stored (judged_stored (rekeyed c (other_key c earlier)) m n (last_counter c earlier)
+        (brought (told c earlier) t (received c.mode t)))
 answer_stored c own n earlier Tick m = none_stored n (last_counter c earlier) None refl
-answer_stored c own n earlier (Put payload) m = none_stored n (last_counter c earlier) _ (queued_stored (put_answer (orders c earlier).queue))
-answer_stored c own n earlier (Cancel id) m = none_stored n (last_counter c earlier) _ (cancelled_stored id (take_answer id (orders c earlier).queue))
+answer_stored c own n earlier (Put payload) m =
+    none_stored n (last_counter c earlier) _ (queued_stored (put_answer (orders c earlier).queue))
+answer_stored c own n earlier (Cancel id) m =
+    none_stored n (last_counter c earlier) _ (cancelled_stored id (take_answer id (orders c earlier).queue))
 answer_stored c own n earlier (Rekey key) m = none_stored n (last_counter c earlier) _ (key_stored c.mode)
 
-last_seven : (c : Commissioned) (earlier : List Entry) → c.mode ≡ Seven → last_counter c earlier ≡ greatest (counters c earlier ++ option_to_list c.last)
+last_seven : (c : Commissioned) (earlier : List Entry) → c.mode ≡ Seven
+    → last_counter c earlier ≡ greatest (counters c earlier ++ option_to_list c.last)
 unfolding last_counter
 last_seven c earlier m = ap (λ mode. last_among mode (counters c earlier ++ option_to_list c.last)) m
 
@@ -150,8 +165,10 @@ entry_stored : (c : Commissioned) (own : Address) (x : Entry) (earlier : List En
 unfolding outcome
 entry_stored c own x earlier n m j = rw j.0 (answer_stored c own n earlier x.event m)
 
-pub entry_stored_exactly : (c : Commissioned) (own : Address) (x : Entry) (earlier : List Entry) (n : ℕ) → c.mode ≡ Seven → IsJudged c own (x ∷ earlier)
-    → (stored_counter x.outcome ≡ Some n) ↔ ((counter (genuine c earlier x.event) ≡ Some n) × AreBelow n (counters c earlier ++ option_to_list c.last))
+pub entry_stored_exactly : (c : Commissioned) (own : Address) (x : Entry) (earlier : List Entry) (n : ℕ) → c.mode ≡ Seven
+    → IsJudged c own (x ∷ earlier)
+    → (stored_counter x.outcome ≡ Some n) ↔ ((counter (genuine c earlier x.event) ≡ Some n) × AreBelow n
+        (counters c earlier ++ option_to_list c.last))
 entry_stored_exactly c own x earlier n m j =
     let both = entry_stored c own x earlier n m j in
     let last = last_seven c earlier m in
@@ -160,7 +177,8 @@ entry_stored_exactly c own x earlier n m j =
 
 -- ---- stored counters rise
 
-pub IsRising-push : (floor : Option ℕ) (ns : List ℕ) (n : ℕ) → IsRising floor ns → IsAbove n (last_or floor ns) → IsRising floor (ns ++ n ∷ [])
+pub IsRising-push : (floor : Option ℕ) (ns : List ℕ) (n : ℕ) → IsRising floor ns → IsAbove n (last_or floor ns)
+    → IsRising floor (ns ++ n ∷ [])
 IsRising-push floor [] n r h = (h, tt)
 IsRising-push floor (k ∷ ns) n r h = (r.0, IsRising-push (Some k) ns n r.1 h)
 
@@ -191,7 +209,8 @@ kept_last last (Cancelled id) h = refl
 kept_last last Rekeyed h = refl
 kept_last last (Refused reason) h = refl
 
-rises_step : (c : Commissioned) (own : Address) (x : Entry) (earlier : List Entry) (ns : List ℕ) (s : Option ℕ) → c.mode ≡ Seven → IsJudged c own (x ∷ earlier)
+rises_step : (c : Commissioned) (own : Address) (x : Entry) (earlier : List Entry) (ns : List ℕ) (s : Option ℕ) → c.mode ≡ Seven
+    → IsJudged c own (x ∷ earlier)
     → RisesTo c earlier ns → stored_counter x.outcome ≡ s → RisesTo c (x ∷ earlier) (ns ++ cons_option s [])
 rises_step c own x earlier ns None m j r h = record {
   rises = rw append-nil r.rises;
@@ -202,7 +221,8 @@ rises_step c own x earlier ns (Some n) m j r h = record {
   ends = last_or-push c.last ns n ∙ sym (last_counter-cons c own earlier x j.0 ∙ stored_last (last_counter c earlier) x.outcome n h);
 }
 
-stored_counters-reverse : (x : Entry) (earlier : List Entry) → stored_counters (reverse (x ∷ earlier)) ≡ stored_counters (reverse earlier) ++ cons_option (stored_counter x.outcome) []
+stored_counters-reverse : (x : Entry) (earlier : List Entry)
+    → stored_counters (reverse (x ∷ earlier)) ≡ stored_counters (reverse earlier) ++ cons_option (stored_counter x.outcome) []
 stored_counters-reverse x earlier =
     ap stored_counters (front_back x earlier) ∙ filter_map-append (λ (y : Entry). stored_counter y.outcome) (reverse earlier) (x ∷ [])
 
@@ -213,26 +233,34 @@ floor_seven c m = alone c.last ∙ sym (last_seven c [] m)
     alone None = refl
     alone (Some n) = refl
 
-rises_back : (c : Commissioned) (own : Address) (earlier : List Entry) → c.mode ≡ Seven → IsJudged c own earlier → RisesTo c earlier (stored_counters (reverse earlier))
+rises_back : (c : Commissioned) (own : Address) (earlier : List Entry) → c.mode ≡ Seven → IsJudged c own earlier
+    → RisesTo c earlier (stored_counters (reverse earlier))
 rises_back c own [] m j = record { rises = tt; ends = floor_seven c m }
 rises_back c own (x ∷ earlier) m j =
-    rw (stored_counters-reverse x earlier) (rises_step c own x earlier (stored_counters (reverse earlier)) (stored_counter x.outcome) m j (rises_back c own earlier m j.1) refl)
+    rw (stored_counters-reverse x earlier) (rises_step c own x earlier (stored_counters (reverse earlier)) (stored_counter x.outcome) m j
+        (rises_back c own earlier m j.1) refl)
 
-pub stored_counters_rise : (c : Commissioned) (own : Address) (journal : List Entry) → c.mode ≡ Seven → Legal c own journal → IsRising c.last (stored_counters journal)
+pub stored_counters_rise : (c : Commissioned) (own : Address) (journal : List Entry) → c.mode ≡ Seven → Legal c own journal
+    → IsRising c.last (stored_counters journal)
 stored_counters_rise c own journal m j =
-    subst (λ (xs : List Entry). IsRising c.last (stored_counters xs)) (reverse-reverse journal) (rises_back c own (reverse journal) m j).rises
+    subst (λ (xs : List Entry). IsRising c.last (stored_counters xs)) (reverse-reverse journal)
+        (rises_back c own (reverse journal) m j).rises
 
-last_back : (c : Commissioned) (own : Address) (journal : List Entry) → c.mode ≡ Seven → Legal c own journal → last_stored c journal ≡ last_counter c (reverse journal)
+last_back : (c : Commissioned) (own : Address) (journal : List Entry) → c.mode ≡ Seven → Legal c own journal
+    → last_stored c journal ≡ last_counter c (reverse journal)
 last_back c own journal m j =
-    subst (λ (xs : List Entry). last_or c.last (stored_counters xs) ≡ last_counter c (reverse journal)) (reverse-reverse journal) (rises_back c own (reverse journal) m j).ends
+    subst (λ (xs : List Entry). last_or c.last (stored_counters xs) ≡ last_counter c (reverse journal)) (reverse-reverse journal)
+        (rises_back c own (reverse journal) m j).ends
 
 -- an entry stores exactly what is genuine and above the counter stored last
-pub stored_above_last : (c : Commissioned) (own : Address) (before : List Entry) (x : Entry) (after : List Entry) (n : ℕ) → c.mode ≡ Seven → Legal c own (before ++ x ∷ after)
+pub stored_above_last : (c : Commissioned) (own : Address) (before : List Entry) (x : Entry) (after : List Entry) (n : ℕ) → c.mode ≡ Seven
+    → Legal c own (before ++ x ∷ after)
     → (stored_counter x.outcome ≡ Some n) ↔ ((counter (genuine c (reverse before) x.event) ≡ Some n) × IsAbove n (last_stored c before))
 stored_above_last c own before x after n m j =
     let h = judged_at c own before x after j in
     let legal : Legal c own before = h.1 in
-    subst (λ (last : Option ℕ). (stored_counter x.outcome ≡ Some n) ↔ ((counter (genuine c (reverse before) x.event) ≡ Some n) × IsAbove n last))
+    subst (λ (last : Option ℕ). (stored_counter x.outcome ≡ Some n) ↔
+        ((counter (genuine c (reverse before) x.event) ≡ Some n) × IsAbove n last))
       (sym (last_back c own before m legal)) (entry_stored c own x (reverse before) n m h)
 
 result_there : (r : Result Found Reason) (f : Found) → (result_ok r ≡ Some f) ↔ (r ≡ Ok f)
@@ -246,12 +274,14 @@ opened_seven : (mode : Mode) (c : Commissioned) (m : Message) → mode ≡ Seven
 opened_seven Five c m h = cc
 opened_seven Seven c m h = refl
 
-pub genuine_by_mac : (c : Commissioned) (earlier : List Entry) (format : Format) (at : ℕ) (t : List ℕ) (m : Message) (f : Found) → c.mode ≡ Seven
+pub genuine_by_mac : (c : Commissioned) (earlier : List Entry) (format : Format) (at : ℕ) (t : List ℕ) (m : Message) (f : Found)
+    → c.mode ≡ Seven
     → brought (told c earlier) t (received c.mode t) ≡ Ok (Some m) → IsBytes m.bytes
     → (genuine c earlier (Hear format at t) ≡ Some f) ↔ Genuine7 (rekeyed c (other_key c earlier)) m.auth m.bytes f
 genuine_by_mac c earlier format at t m f h b bytes =
     let k = rekeyed c (other_key c earlier) in
-    let is : genuine c earlier (Hear format at t) ≡ result_ok (opened7 k m.auth m.bytes) = ap (genuine_in k) b ∙ ap result_ok (opened_seven c.mode k m h) in
+    let is : genuine c earlier (Hear format at t) ≡ result_ok (opened7 k m.auth m.bytes) =
+        ap (genuine_in k) b ∙ ap result_ok (opened_seven c.mode k m h) in
     subst (λ (o : Option Found). (o ≡ Some f) ↔ Genuine7 k m.auth m.bytes f) (sym is)
       (both_ways (result_there (opened7 k m.auth m.bytes) f) (genuine_are_opened k m.auth m.bytes f bytes))
 
@@ -266,13 +296,15 @@ refused_last last (Queued id) r = absurd r
 refused_last last (Cancelled id) r = absurd r
 refused_last last Rekeyed r = absurd r
 
-refused_verdict : (own : Address) (c : Commissioned) (k : Orders) (access : Access) (response : Bool) (at : ℕ) (v : Result (Option Found) Reason)
+refused_verdict : (own : Address) (c : Commissioned) (k : Orders) (access : Access) (response : Bool) (at : ℕ)
+    (v : Result (Option Found) Reason)
     → IsRefused (heard own c k access response v) → reading_at at (stored_in v) ≡ []
 refused_verdict own c k access response at (Err reason) r = refl
 refused_verdict own c k access response at (Ok None) r = absurd r
 refused_verdict own c k access response at (Ok (Some f)) r = absurd r
 
-refused_reading : (c : Commissioned) (own : Address) (s : Standing) (event : Event) → IsRefused (answer c own s event) → reading_of event (stored c s event) ≡ []
+refused_reading : (c : Commissioned) (own : Address) (s : Standing) (event : Event) → IsRefused (answer c own s event)
+    → reading_of event (stored c s event) ≡ []
 refused_reading c own s (Hear format at t) r = refused_verdict own c s.orders _ _ at (verdict c s t) r
 refused_reading c own s Tick r = refl
 refused_reading c own s (Put payload) r = refl
@@ -288,15 +320,18 @@ heard_refused k access response (Queued id) r = absurd r
 heard_refused k access response (Cancelled id) r = absurd r
 heard_refused k access response Rekeyed r = absurd r
 
-put_refused : (k : Orders) (payload : List ℕ) (r : Result ℕ QueueFault) → IsRefused (queued r) → record k { queue = with_command_by k.queue payload r } ≡ k
+put_refused : (k : Orders) (payload : List ℕ) (r : Result ℕ QueueFault) → IsRefused (queued r)
+    → record k { queue = with_command_by k.queue payload r } ≡ k
 put_refused k payload (Ok id) r = absurd r
 put_refused k payload (Err fault) r = refl
 
-cancel_leaves : (k : Orders) (id : ℕ) (r : Result Command NoSuch) → take_answer id k.queue ≡ r → IsRefused (cancelled id r) → after_cancel k id ≡ k
+cancel_leaves : (k : Orders) (id : ℕ) (r : Result Command NoSuch) → take_answer id k.queue ≡ r → IsRefused (cancelled id r)
+    → after_cancel k id ≡ k
 cancel_leaves k id (Ok command) h r = absurd r
 cancel_leaves k id (Err missing) h r = sym (cancel_refused id k missing h)
 
-answer_refused : (c : Commissioned) (own : Address) (s : Standing) (access : Access) (event : Event) (o : Outcome) → o ≡ answer c own s event → IsRefused o → orders_after s.orders access event o ≡ s.orders
+answer_refused : (c : Commissioned) (own : Address) (s : Standing) (access : Access) (event : Event) (o : Outcome)
+    → o ≡ answer c own s event → IsRefused o → orders_after s.orders access event o ≡ s.orders
 unfolding with_command
 answer_refused c own s access (Hear format at t) o e r = heard_refused s.orders access _ o r
 answer_refused c own s access Tick o e r = absurd (subst IsRefused e r)
@@ -308,7 +343,8 @@ key_refused : (mode : Mode) (key : List ℕ) (other : Option (List ℕ)) → IsR
 key_refused Five key other r = refl
 key_refused Seven key other r = absurd r
 
-answer_leaves_key : (c : Commissioned) (own : Address) (s : Standing) (event : Event) (other : Option (List ℕ)) → IsRefused (answer c own s event) → other_after c.mode event other ≡ other
+answer_leaves_key : (c : Commissioned) (own : Address) (s : Standing) (event : Event) (other : Option (List ℕ))
+    → IsRefused (answer c own s event) → other_after c.mode event other ≡ other
 answer_leaves_key c own s (Hear format at t) other r = refl
 answer_leaves_key c own s Tick other r = refl
 answer_leaves_key c own s (Put payload) other r = refl
@@ -336,17 +372,21 @@ unfolding outcome
 left_orders c own journal x j r =
     let earlier = reverse journal in
     let h = subst (IsJudged c own) (back journal x) j in
-    ap (orders c) (back journal x) ∙ answer_refused c own (standing c earlier) (access_at c (standing c earlier) x.event) x.event x.outcome h.0 r
+    ap (orders c) (back journal x)
+    ∙ answer_refused c own (standing c earlier) (access_at c (standing c earlier) x.event) x.event x.outcome h.0 r
 
-left_readings : (c : Commissioned) (own : Address) (journal : List Entry) (x : Entry) → Legal c own (journal ++ x ∷ []) → IsRefused x.outcome
+left_readings : (c : Commissioned) (own : Address) (journal : List Entry) (x : Entry) → Legal c own (journal ++ x ∷ [])
+    → IsRefused x.outcome
     → readings c (journal ++ x ∷ []) ≡ readings c journal
 unfolding outcome
 left_readings c own journal x j r =
     let s = standing c (reverse journal) in
     let h = subst (IsJudged c own) (back journal x) j in
-    readings-append c journal x ∙ ap (λ rs. readings c journal ++ rs) (refused_reading c own s x.event (subst IsRefused h.0 r)) ∙ append-nil (readings c journal)
+    readings-append c journal x ∙ ap (λ rs. readings c journal ++ rs) (refused_reading c own s x.event (subst IsRefused h.0 r))
+    ∙ append-nil (readings c journal)
 
-pub refused_left : (c : Commissioned) (own : Address) (journal : List Entry) (x : Entry) → Legal c own (journal ++ x ∷ []) → IsRefused x.outcome
+pub refused_left : (c : Commissioned) (own : Address) (journal : List Entry) (x : Entry) → Legal c own (journal ++ x ∷ [])
+    → IsRefused x.outcome
     → IsLeft (record { own = own; commission = c; journal = journal }) (record { own = own; commission = c; journal = journal ++ x ∷ [] })
 refused_left c own journal x j r = record {
   other = left_other c own journal x j r;
@@ -357,7 +397,8 @@ refused_left c own journal x j r = record {
 
 -- ---- one journal
 
-one_journal_back : (c : Commissioned) (own : Address) (earlier : List Entry) → IsJudged c own earlier → earlier ≡ judged_journal c own (map call_in earlier)
+one_journal_back : (c : Commissioned) (own : Address) (earlier : List Entry) → IsJudged c own earlier
+    → earlier ≡ judged_journal c own (map call_in earlier)
 one_journal_back c own [] j = refl
 one_journal_back c own (x ∷ earlier) j =
     let rest = one_journal_back c own earlier j.1 in
@@ -367,9 +408,11 @@ one_journal_back c own (x ∷ earlier) j =
 map-reverse : {X Y : Type 0} (f : X → Y) (xs : List X) → map f (reverse xs) ≡ reverse (map f xs)
 map-reverse f [] = refl
 map-reverse f (x ∷ xs) =
-    ap (map f) (front_back x xs) ∙ map-append f (reverse xs) (x ∷ []) ∙ ap (λ ys. ys ++ f x ∷ []) (map-reverse f xs) ∙ sym (front_back (f x) (map f xs))
+    ap (map f) (front_back x xs) ∙ map-append f (reverse xs) (x ∷ []) ∙ ap (λ ys. ys ++ f x ∷ []) (map-reverse f xs)
+    ∙ sym (front_back (f x) (map f xs))
 
-pub journal_is : (c : Commissioned) (own : Address) (journal : List Entry) → Legal c own journal → journal ≡ journal_of c own (map call_in journal)
+pub journal_is : (c : Commissioned) (own : Address) (journal : List Entry) → Legal c own journal
+    → journal ≡ journal_of c own (map call_in journal)
 journal_is c own journal j =
     sym (reverse-reverse journal) ∙ ap reverse (one_journal_back c own (reverse journal) j)
     ∙ ap (λ calls. reverse (judged_journal c own calls)) (map-reverse call_in journal)
@@ -379,4 +422,5 @@ judged_journal_judged c own [] = tt
 judged_journal_judged c own (s ∷ calls) = (refl, judged_journal_judged c own calls)
 
 pub journal_of_legal : (c : Commissioned) (own : Address) (calls : List Call) → Legal c own (journal_of c own calls)
-journal_of_legal c own calls = subst (IsJudged c own) (sym (reverse-reverse (judged_journal c own (reverse calls)))) (judged_journal_judged c own (reverse calls))
+journal_of_legal c own calls =
+    subst (IsJudged c own) (sym (reverse-reverse (judged_journal c own (reverse calls)))) (judged_journal_judged c own (reverse calls))

@@ -1,5 +1,6 @@
 -- What one more entry changes.
-use Rattle.std.proofs.Common.{◌≡◌, ℕ, ◌≤◌, max, Bool, true, false, cond, nat_lt, ◌==◌, List, [], ◌∷◌, ◌++◌, reverse, Option, Some, None, Result, Ok, Err, refl, ap, sym, ◌∙◌, arith, subst}
+use Rattle.std.proofs.Common.{◌≡◌, ℕ, ◌≤◌, max, Bool, true, false, cond, nat_lt, ◌==◌, List, [], ◌∷◌, ◌++◌, reverse, Option, Some, None}
+use Rattle.std.proofs.Common.{Result, Ok, Err, refl, ap, sym, ◌∙◌, arith, subst}
 use Rattle.std.specs.Prelude.{option_to_list, option_map, slice_index}
 use Rattle.std.specs.Option.{ForSome}
 use Rattle.std.specs.Result.{result_ok}
@@ -31,8 +32,10 @@ use Rattle.meter_slots.specs.declared.entry.Outcome.TheVariants.{Stored, PartKep
 use Rattle.meter_slots.specs.declared.reading.Reading.{Reading}
 use Rattle.downlink_maker.specs.Downlink.{encrypted_content, message_bytes, mac_of, telegram_to, downlink}
 use Rattle.meter_slots.specs.Hearing.{is_response, received, brought}
-use Rattle.meter_slots.specs.Journal.{told, told_by, other_after, other_key, rekeyed, opened_in, compared, genuine_in, genuine, counters, greater, greatest, last_among, last_counter}
-use Rattle.meter_slots.specs.Journal.{Standing, standing, stored_or_refused, judged, verdict, access_at, orders_after, orders, downlink_with, heard, queued, cancelled, key_answer, answer, outcome}
+use Rattle.meter_slots.specs.Journal.{told, told_by, other_after, other_key, rekeyed, opened_in, compared, genuine_in, genuine, counters}
+use Rattle.meter_slots.specs.Journal.{greater, greatest, last_among, last_counter}
+use Rattle.meter_slots.specs.Journal.{Standing, standing, stored_or_refused, judged, verdict, access_at, orders_after, orders}
+use Rattle.meter_slots.specs.Journal.{downlink_with, heard, queued, cancelled, key_answer, answer, outcome}
 use Rattle.meter_slots.specs.Journal.{stored, reading_of, readings_back, readings}
 use Rattle.meter_slots.specs.Laws.{PutsPayload}
 use Rattle.meter_slots.specs.Keeping.{Kept, standing_for, Keeps, last_after, Moves, StoresInRange}
@@ -67,7 +70,8 @@ other_cases : (f : Found) (k : ℕ) (b : Bool) → (k == f.counter) ≡ b
 other_cases f k true h = ap Some (same_number f.counter k h)
 other_cases f k false h = refl
 
-compared_last : (mode : Mode) (f : Found) (ns : List ℕ) → last_among mode (f.counter ∷ ns) ≡ last_by (last_among mode ns) (stored_or_refused (compared mode (last_among mode ns) f))
+compared_last : (mode : Mode) (f : Found) (ns : List ℕ)
+    → last_among mode (f.counter ∷ ns) ≡ last_by (last_among mode ns) (stored_or_refused (compared mode (last_among mode ns) f))
 unfolding compared5 compared7
 compared_last Five f [] = refl
 compared_last Five f (k ∷ ns) = other_cases f k (k == f.counter) refl
@@ -85,13 +89,16 @@ opened_last : (mode : Mode) (g : Result Found Reason) (ns floor : List ℕ) → 
 opened_last mode (Err reason) ns floor = refl
 opened_last mode (Ok f) ns floor = compared_last mode f (ns ++ floor)
 
-judged_last : (c : Commissioned) (b : Result (Option Message) Reason) (ns floor : List ℕ) → last_among c.mode ((counter_in (genuine_in c b) ++ ns) ++ floor)
+judged_last : (c : Commissioned) (b : Result (Option Message) Reason) (ns floor : List ℕ)
+    → last_among c.mode ((counter_in (genuine_in c b) ++ ns) ++ floor)
     ≡ last_by (last_among c.mode (ns ++ floor)) (judged c (last_among c.mode (ns ++ floor)) b)
 judged_last c (Err reason) ns floor = refl
 judged_last c (Ok None) ns floor = refl
 judged_last c (Ok (Some m)) ns floor = opened_last c.mode (opened_in c.mode c m) ns floor
 
-heard_last : (own : Address) (c : Commissioned) (k : Orders) (access : Access) (response : Bool) (last : Option ℕ) (v : Result (Option Found) Reason) → last_by last v ≡ last_after last (heard own c k access response v)
+heard_last : (own : Address) (c : Commissioned) (k : Orders) (access : Access) (response : Bool) (last : Option ℕ)
+    (v : Result (Option Found) Reason)
+    → last_by last v ≡ last_after last (heard own c k access response v)
 heard_last own c k access response last (Err reason) = refl
 heard_last own c k access response last (Ok None) = refl
 heard_last own c k access response last (Ok (Some f)) = refl
@@ -109,11 +116,13 @@ key_last : (last : Option ℕ) (mode : Mode) → last ≡ last_after last (key_a
 key_last last Five = refl
 key_last last Seven = refl
 
-answer_last : (c : Commissioned) (own : Address) (earlier : List Entry) (event : Event) → last_among c.mode ((counter_in (genuine c earlier event) ++ counters c earlier) ++ option_to_list c.last)
+answer_last : (c : Commissioned) (own : Address) (earlier : List Entry) (event : Event)
+    → last_among c.mode ((counter_in (genuine c earlier event) ++ counters c earlier) ++ option_to_list c.last)
     ≡ last_after (last_counter c earlier) (answer c own (standing c earlier) event)
 unfolding last_counter
 answer_last c own earlier (Hear format at t) =
-    judged_last (rekeyed c (other_key c earlier)) (brought (told c earlier) t (received c.mode t)) (counters c earlier) (option_to_list c.last)
+    judged_last (rekeyed c (other_key c earlier)) (brought (told c earlier) t (received c.mode t)) (counters c earlier)
+        (option_to_list c.last)
     ∙ heard_last own c (orders c earlier) _ _ (last_counter c earlier) (verdict c (standing c earlier) t)
 answer_last c own earlier Tick = refl
 answer_last c own earlier (Put payload) = queued_last (last_counter c earlier) (put_answer (orders c earlier).queue)
@@ -126,7 +135,8 @@ pub last_counter-cons : (c : Commissioned) (own : Address) (earlier : List Entry
 unfolding last_counter outcome
 last_counter-cons c own earlier x h = answer_last c own earlier x.event ∙ ap (last_after (last_counter c earlier)) (sym h)
 
-pub last_after_fits : (mode : Mode) (last : Option ℕ) (o : Outcome) → ForSome last (λ n. n ≤ most_last mode) → StoresInRange mode o → ForSome (last_after last o) (λ n. n ≤ most_last mode)
+pub last_after_fits : (mode : Mode) (last : Option ℕ) (o : Outcome) → ForSome last (λ n. n ≤ most_last mode) → StoresInRange mode o
+    → ForSome (last_after last o) (λ n. n ≤ most_last mode)
 last_after_fits mode last (Stored counter confirmed sent) h f = λ n e. let same : counter ≡ n = cc e in rw (sym same) f
 last_after_fits mode last PartKept h f = h
 last_after_fits mode last (Ticked expired) h f = h
@@ -145,7 +155,8 @@ told-cons : (c : Commissioned) (earlier : List Entry) (x : Entry) → told c (x 
 unfolding told
 told-cons c earlier x = refl
 
-pub readings-append : (c : Commissioned) (journal : List Entry) (x : Entry) → readings c (journal ++ x ∷ []) ≡ readings c journal ++ reading_of x.event (stored c (standing c (reverse journal)) x.event)
+pub readings-append : (c : Commissioned) (journal : List Entry) (x : Entry)
+    → readings c (journal ++ x ∷ []) ≡ readings c journal ++ reading_of x.event (stored c (standing c (reverse journal)) x.event)
 unfolding readings
 readings-append c journal x = ap (readings_back c) (back journal x)
 
@@ -168,7 +179,8 @@ sent_rekeyed own c other down None = refl
 sent_rekeyed own c other down (Some command) =
     ap (λ bytes. Some (record { bytes = bytes; id = command.id; down = down })) (downlink_rekeyed own c other down command.payload)
 
-heard_rekeyed : (own : Address) (c : Commissioned) (other : Option (List ℕ)) (k : Orders) (access : Access) (response : Bool) (v : Result (Option Found) Reason)
+heard_rekeyed : (own : Address) (c : Commissioned) (other : Option (List ℕ)) (k : Orders) (access : Access) (response : Bool)
+    (v : Result (Option Found) Reason)
     → heard own (rekeyed c other) k access response v ≡ heard own c k access response v
 heard_rekeyed own c other k access response (Err reason) = refl
 heard_rekeyed own c other k access response (Ok None) = refl
@@ -177,8 +189,10 @@ heard_rekeyed own c other k access response (Ok (Some f)) =
     (sent_rekeyed own c other (after_stored k access response).down (sent_at k access response))
 
 -- the commission with the second key as it is now gives the same answer
-answer_rekeyed : (c : Commissioned) (own : Address) (s : Standing) (event : Event) → answer (rekeyed c s.other) own s event ≡ answer c own s event
-answer_rekeyed c own s (Hear format at t) = heard_rekeyed own c s.other s.orders (access_at c s (Hear format at t)) (is_response (slice_index t 1)) (verdict c s t)
+answer_rekeyed : (c : Commissioned) (own : Address) (s : Standing) (event : Event)
+    → answer (rekeyed c s.other) own s event ≡ answer c own s event
+answer_rekeyed c own s (Hear format at t) =
+    heard_rekeyed own c s.other s.orders (access_at c s (Hear format at t)) (is_response (slice_index t 1)) (verdict c s t)
 answer_rekeyed c own s Tick = refl
 answer_rekeyed c own s (Put payload) = refl
 answer_rekeyed c own s (Cancel id) = refl
@@ -189,7 +203,8 @@ answer_rekeyed c own s (Rekey key) = refl
 abbrev pub PutsIn : Entry → Type 0
 PutsIn x = PutsPayload x.event
 
-pub empty_kept : (c : Commissioned) (own : Address) (k : Kept) → k.commission ≡ c → k.last ≡ c.last → ForSome c.last (λ n. n ≤ most_last c.mode)
+pub empty_kept : (c : Commissioned) (own : Address) (k : Kept) → k.commission ≡ c → k.last ≡ c.last
+    → ForSome c.last (λ n. n ≤ most_last c.mode)
     → StandsFor k.parts [] → k.orders ≡ fresh_orders c.ids c.down → Keeps c own [] k []
 unfolding last_counter readings told
 empty_kept c own k same last fits parts commands = record {
@@ -213,7 +228,8 @@ kept_standing c own journal k kept h =
     ∙ ap (λ o. record { other = other_key c earlier; last = last_counter c earlier; told = told c earlier; orders = o }) h.orders_are
 
 -- what the kept state answers is what the journal answers
-pub answer_kept : (c : Commissioned) (own : Address) (journal : List Entry) (k : Kept) (kept : List Reading) (event : Event) (given : Outcome)
+pub answer_kept : (c : Commissioned) (own : Address) (journal : List Entry) (k : Kept) (kept : List Reading) (event : Event)
+    (given : Outcome)
     → Keeps c own journal k kept
     → ((t : List Told) → StandsFor k.parts t → given ≡ answer k.commission own (standing_for k t) event)
     → given ≡ outcome c own (reverse journal) event
@@ -226,7 +242,8 @@ answer_kept c own journal k kept event given h answered =
     ∙ answer_rekeyed c own (standing c earlier) event
 
 -- what is kept after one more entry
-pub kept_after : (c : Commissioned) (own : Address) (journal : List Entry) (k : Kept) (kept : List Reading) (x : Entry) (k' : Kept) (new : List Reading)
+pub kept_after : (c : Commissioned) (own : Address) (journal : List Entry) (k : Kept) (kept : List Reading) (x : Entry) (k' : Kept)
+    (new : List Reading)
     → Keeps c own journal k kept
     → PutsPayload x.event
     → x.outcome ≡ outcome c own (reverse journal) x.event
@@ -251,7 +268,8 @@ kept_after c own journal k kept x k' new h puts judged fits reads moves =
       parts_are = rw (back journal x, told-cons c earlier x)
           (subst (λ (n : Commissioned). StandsFor k'.parts (told_by n x.event x.outcome ++ fragments)) h.commission_is m.parts);
       orders_are = rw (back journal x) (m.orders
-          ∙ ap (λ (n : Commissioned). orders_after k.orders (access_at n (standing_for k fragments) x.event) x.event x.outcome) h.commission_is
+          ∙ ap (λ (n : Commissioned). orders_after k.orders (access_at n (standing_for k fragments) x.event) x.event x.outcome)
+              h.commission_is
           ∙ ap (λ (s : Standing). orders_after s.orders (access_at c s x.event) x.event x.outcome) stands);
       readings_are = rw (readings-append c journal x) (ap (λ rs. rs ++ new) h.readings_are
           ∙ ap (λ rs. readings c journal ++ rs) (reads fragments h.parts_are

@@ -26,12 +26,15 @@ LeavesKeysAt x = LeavesKeys x.event
 pub key_stays : (c : Commissioned) (earlier : List Entry) → All LeavesKeysAt earlier → other_key c earlier ≡ c.other
 key_stays c [] h = refl
 key_stays c (x ∷ earlier) h =
-    kept_by c.mode x.event (other_key c earlier) (All-head LeavesKeysAt x earlier h) ∙ key_stays c earlier (All-tail LeavesKeysAt x earlier h)
+    kept_by c.mode x.event (other_key c earlier) (All-head LeavesKeysAt x earlier h)
+    ∙ key_stays c earlier (All-tail LeavesKeysAt x earlier h)
 
 -- messages are opened with the commission as it was made
 pub commission_stays : (c : Commissioned) (earlier : List Entry) → All LeavesKeysAt earlier → rekeyed c (other_key c earlier) ≡ c
 commission_stays c earlier h = ap (rekeyed c) (key_stays c earlier h)
 
 -- and without a second key they are under the first
-pub first_key_of_message : (c : Commissioned) (earlier : List Entry) (h : Tpl) → All LeavesKeysAt earlier → c.other ≡ None → key_of (rekeyed c (other_key c earlier)) h ≡ c.key
-first_key_of_message c earlier h stays none = ap (λ (m : Commissioned). key_of m h) (commission_stays c earlier stays) ∙ one_key_alone c h none
+pub first_key_of_message : (c : Commissioned) (earlier : List Entry) (h : Tpl) → All LeavesKeysAt earlier → c.other ≡ None
+    → key_of (rekeyed c (other_key c earlier)) h ≡ c.key
+first_key_of_message c earlier h stays none =
+    ap (λ (m : Commissioned). key_of m h) (commission_stays c earlier stays) ∙ one_key_alone c h none

@@ -1,5 +1,6 @@
 -- Proof that each downlink that a journal sent carries a payload.
-use Rattle.std.proofs.Common.{◌≡◌, ℕ, ◌+◌, ◌-◌, ◌^◌, ◌<◌, ◌&&◌, Bool, true, false, not, cond, ltb, List, [], ◌∷◌, reverse, Option, Some, None, Result, Ok, Err, refl, sym, arith, subst}
+use Rattle.std.proofs.Common.{◌≡◌, ℕ, ◌+◌, ◌-◌, ◌^◌, ◌<◌, ◌&&◌, Bool, true, false, not, cond, ltb, List, [], ◌∷◌, reverse, Option, Some}
+use Rattle.std.proofs.Common.{None, Result, Ok, Err, refl, sym, arith, subst}
 use Rattle.std.specs.Prelude.{option_map, option_to_list}
 use Rattle.std.specs.List.{All}
 use Rattle.std.proofs.lemmas.Bool.{and_parts, ltb-true}
@@ -14,10 +15,12 @@ use Rattle.command_queue.specs.declared.command.Command.{Command}
 use Rattle.command_queue.specs.declared.command.NoSuch.{NoSuch}
 use Rattle.command_queue.specs.declared.command.QueueFault.{QueueFault}
 use Rattle.command_queue.specs.declared.command.QueueFault.TheVariants.{Full, IdsSpent}
-use Rattle.command_queue.specs.Pending.{Pending, has_id, is_pending, put_answer, take_answer, with_command_by, with_command, without_command, one_try_more, with_try}
+use Rattle.command_queue.specs.Pending.{Pending, has_id, is_pending, put_answer, take_answer, with_command_by, with_command}
+use Rattle.command_queue.specs.Pending.{without_command, one_try_more, with_try}
 use Rattle.access_window.specs.declared.window.Window.{Window}
 use Rattle.access_window.specs.declared.window.Window.TheVariants.{Idle, Waiting}
-use Rattle.access_window.specs.Orders.{Orders, after_put, after_cancel, window_without, queue_less, expired, after_tick, confirmed, confirmed_orders, after_confirmed}
+use Rattle.access_window.specs.Orders.{Orders, after_put, after_cancel, window_without, queue_less, expired, after_tick, confirmed}
+use Rattle.access_window.specs.Orders.{confirmed_orders, after_confirmed}
 use Rattle.access_window.specs.Orders.{is_open, oldest_where_idle, sent, sent_orders, after_sent, sent_at, after_stored}
 use Rattle.message_check.specs.Opening.{Found}
 use Rattle.message_check.specs.declared.refusal.Reason.{Reason}
@@ -26,7 +29,8 @@ use Rattle.meter_slots.specs.declared.entry.Event.{Event}
 use Rattle.meter_slots.specs.declared.entry.Event.TheVariants.{Hear, Tick, Put, Cancel, Rekey}
 use Rattle.meter_slots.specs.declared.entry.Outcome.{Outcome}
 use Rattle.meter_slots.specs.declared.entry.Outcome.TheVariants.{Stored, PartKept, Ticked, Queued, Cancelled, Rekeyed, Refused}
-use Rattle.meter_slots.specs.Journal.{standing, verdict, access_at, orders_heard, orders_after, orders, downlink_with, heard, queued, cancelled, key_answer, answer, outcome, IsJudged, Legal}
+use Rattle.meter_slots.specs.Journal.{standing, verdict, access_at, orders_heard, orders_after, orders, downlink_with, heard, queued}
+use Rattle.meter_slots.specs.Journal.{cancelled, key_answer, answer, outcome, IsJudged, Legal}
 use Rattle.meter_slots.specs.Laws.{downlinks_of, downlinks_in, IsPayload, PutsPayload, CarriesPayload}
 use Rattle.meter_slots.proofs.Journals.{PutsIn}
 use Rattle.meter_slots.proofs.JournalLaws.{front_back}
@@ -34,7 +38,8 @@ use Rattle.meter_slots.proofs.JournalLaws.{front_back}
 All-reverse : {X : Type 0} (P : X → Type 0) (xs : List X) → All P xs → All P (reverse xs)
 All-reverse P [] h = All-nil P
 All-reverse P (x ∷ xs) h =
-    subst (All P) (sym (front_back x xs)) (All-append P (reverse xs) (x ∷ []) (All-reverse P xs (All-tail P x xs h)) (All-cons P x [] (All-head P x xs h) (All-nil P)))
+    subst (All P) (sym (front_back x xs)) (All-append P (reverse xs) (x ∷ []) (All-reverse P xs (All-tail P x xs h))
+        (All-cons P x [] (All-head P x xs h) (All-nil P)))
 
 -- ---- each command that waits has a payload
 
@@ -44,7 +49,8 @@ HasPayload command = IsPayload command.payload
 abbrev AreReady : Orders → Type 0
 AreReady k = All HasPayload k.queue.commands
 
-put_by : (q : Pending) (payload : List ℕ) (r : Result ℕ QueueFault) → IsPayload payload → All HasPayload q.commands → All HasPayload (with_command_by q payload r).commands
+put_by : (q : Pending) (payload : List ℕ) (r : Result ℕ QueueFault) → IsPayload payload → All HasPayload q.commands
+    → All HasPayload (with_command_by q payload r).commands
 put_by q payload (Err fault) p h = h
 put_by q payload (Ok id) p h =
     let new : Command = record { id = id; tries = 0; payload = payload } in
@@ -64,7 +70,9 @@ cond_ready false j k hj hk = hk
 
 cancel_ready : (k : Orders) (id : ℕ) → AreReady k → AreReady (after_cancel k id)
 unfolding after_cancel
-cancel_ready k id h = cond_ready (is_pending id k.queue) (record k { queue = without_command id k.queue; window = window_without id k.window }) k (without_ready id k.queue h) h
+cancel_ready k id h =
+    cond_ready (is_pending id k.queue) (record k { queue = without_command id k.queue; window = window_without id k.window }) k
+    (without_ready id k.queue h) h
 
 less_ready : (o : Option ℕ) (q : Pending) → All HasPayload q.commands → All HasPayload (queue_less o q).commands
 less_ready None q h = h
@@ -102,7 +110,8 @@ heard_ready k access response (Cancelled id) h = h
 heard_ready k access response Rekeyed h = h
 heard_ready k access response (Refused reason) h = h
 
-event_ready : (k : Orders) (access : Access) (event : Event) (o : Outcome) → PutsPayload event → AreReady k → AreReady (orders_after k access event o)
+event_ready : (k : Orders) (access : Access) (event : Event) (o : Outcome) → PutsPayload event → AreReady k
+    → AreReady (orders_after k access event o)
 event_ready k access (Hear format at t) o p h = heard_ready k access _ o h
 event_ready k access Tick o p h = tick_ready k h
 event_ready k access (Put payload) o p h = put_ready k payload p h
@@ -112,7 +121,8 @@ event_ready k access (Rekey key) o p h = h
 orders_ready : (c : Commissioned) (earlier : List Entry) → All PutsIn earlier → AreReady (orders c earlier)
 orders_ready c [] h = All-nil HasPayload
 orders_ready c (x ∷ earlier) h =
-    event_ready (orders c earlier) (access_at c (standing c earlier) x.event) x.event x.outcome (All-head PutsIn x earlier h) (orders_ready c earlier (All-tail PutsIn x earlier h))
+    event_ready (orders c earlier) (access_at c (standing c earlier) x.event) x.event x.outcome (All-head PutsIn x earlier h)
+        (orders_ready c earlier (All-tail PutsIn x earlier h))
 
 -- ---- each downlink that is sent carries a payload
 
@@ -142,13 +152,15 @@ module _ (own : Address) (c : Commissioned) where
       (record { payload = command.payload; is_payload = p.0; counter = omega (arith, p.1); bytes = refl }) (All-nil (CarriesPayload own c))
 
   stored_sent : (k : Orders) (access : Access) (response : Bool) → AreReady k
-      → All (CarriesPayload own c) (option_to_list (option_map (downlink_with own c (after_stored k access response).down) (sent_at k access response)))
+      → All (CarriesPayload own c) (option_to_list
+          (option_map (downlink_with own c (after_stored k access response).down) (sent_at k access response)))
   unfolding after_sent after_confirmed
   stored_sent k access response h =
       let j = confirmed_orders k (confirmed k response) in
       command_sent j access (sent j access) refl (confirmed_ready k (confirmed k response) h)
 
-  heard_sent : (k : Orders) (access : Access) (response : Bool) (v : Result (Option Found) Reason) → AreReady k → All (CarriesPayload own c) (downlinks_of (heard own c k access response v))
+  heard_sent : (k : Orders) (access : Access) (response : Bool) (v : Result (Option Found) Reason) → AreReady k
+      → All (CarriesPayload own c) (downlinks_of (heard own c k access response v))
   heard_sent k access response (Err reason) h = All-nil (CarriesPayload own c)
   heard_sent k access response (Ok None) h = All-nil (CarriesPayload own c)
   heard_sent k access response (Ok (Some f)) h = stored_sent k access response h
@@ -166,7 +178,8 @@ module _ (own : Address) (c : Commissioned) where
   key_sent Five = All-nil (CarriesPayload own c)
   key_sent Seven = All-nil (CarriesPayload own c)
 
-  answer_sent : (earlier : List Entry) (event : Event) → AreReady (orders c earlier) → All (CarriesPayload own c) (downlinks_of (answer c own (standing c earlier) event))
+  answer_sent : (earlier : List Entry) (event : Event) → AreReady (orders c earlier)
+      → All (CarriesPayload own c) (downlinks_of (answer c own (standing c earlier) event))
   answer_sent earlier (Hear format at t) h = heard_sent (orders c earlier) _ _ (verdict c (standing c earlier) t) h
   answer_sent earlier Tick h = All-nil (CarriesPayload own c)
   answer_sent earlier (Put payload) h = queued_sent (put_answer (orders c earlier).queue)
@@ -178,21 +191,26 @@ module _ (own : Address) (c : Commissioned) where
 
   entry_sent : (x : Entry) (earlier : List Entry) → IsJudged c own (x ∷ earlier) → All PutsIn earlier → SendsRightly x
   unfolding outcome
-  entry_sent x earlier j h = subst (λ (o : Outcome). All (CarriesPayload own c) (downlinks_of o)) (sym j.0) (answer_sent earlier x.event (orders_ready c earlier h))
+  entry_sent x earlier j h =
+      subst (λ (o : Outcome). All (CarriesPayload own c) (downlinks_of o)) (sym j.0)
+      (answer_sent earlier x.event (orders_ready c earlier h))
 
   journal_sent : (earlier : List Entry) → IsJudged c own earlier → All PutsIn earlier → All SendsRightly (reverse earlier)
   journal_sent [] j h = All-nil SendsRightly
   journal_sent (x ∷ earlier) j h =
       let rest = All-tail PutsIn x earlier h in
       subst (All SendsRightly) (sym (front_back x earlier))
-      (All-append SendsRightly (reverse earlier) (x ∷ []) (journal_sent earlier j.1 rest) (All-cons SendsRightly x [] (entry_sent x earlier j rest) (All-nil SendsRightly)))
+      (All-append SendsRightly (reverse earlier) (x ∷ []) (journal_sent earlier j.1 rest)
+          (All-cons SendsRightly x [] (entry_sent x earlier j rest) (All-nil SendsRightly)))
 
   all_sent : (entries : List Entry) → All SendsRightly entries → All (CarriesPayload own c) (downlinks_in entries)
   all_sent [] h = All-nil (CarriesPayload own c)
   all_sent (x ∷ entries) h =
-      All-append (CarriesPayload own c) (downlinks_of x.outcome) (downlinks_in entries) (All-head SendsRightly x entries h) (all_sent entries (All-tail SendsRightly x entries h))
+      All-append (CarriesPayload own c) (downlinks_of x.outcome) (downlinks_in entries) (All-head SendsRightly x entries h)
+          (all_sent entries (All-tail SendsRightly x entries h))
 
-pub downlinks_carry : (own : Address) (c : Commissioned) (journal : List Entry) → Legal c own journal → All PutsIn journal → All (CarriesPayload own c) (downlinks_in journal)
+pub downlinks_carry : (own : Address) (c : Commissioned) (journal : List Entry) → Legal c own journal → All PutsIn journal
+    → All (CarriesPayload own c) (downlinks_in journal)
 downlinks_carry own c journal j h =
     let sends = journal_sent own c (reverse journal) j (All-reverse PutsIn journal h) in
     all_sent own c journal (subst (All (SendsRightly own c)) (reverse-reverse journal) sends)

@@ -15,11 +15,14 @@ extension_is_no_longer : (bytes : List ℕ) (ell : Option Ell) (rest : List ℕ)
 extension_is_no_longer bytes None rest h = omega (arith, ap length h)
 extension_is_no_longer bytes (Some e) rest h = omega (arith, ap length h.0.parts, length-append h.0.header h.0.rest, ap length h.1)
 
-fits_behind : (bytes : List ℕ) (afl : Option Afl) (content piece : List ℕ) → FragmentationThen bytes afl content → length bytes ≤ 246 → length piece ≤ length content → PieceFits afl piece
+fits_behind : (bytes : List ℕ) (afl : Option Afl) (content piece : List ℕ) → FragmentationThen bytes afl content → length bytes ≤ 246
+    → length piece ≤ length content → PieceFits afl piece
 fits_behind bytes None content piece h b p = tt
 fits_behind bytes (Some a) content piece h b p = λ f. record {
   fragment = record { fragment = f; numbered = h.0.placed.fid };
-  most = omega (arith, ap length h.0.parts, length-append (afl_bytes h.0.fcl a) h.0.rest, length-append (to_le_bytes w16 h.0.fcl) (fields_bytes a), length-two (Some h.0.fcl), ap length h.1);
+  most =
+      omega (arith, ap length h.0.parts, length-append (afl_bytes h.0.fcl a) h.0.rest, length-append (to_le_bytes w16 h.0.fcl)
+      (fields_bytes a), length-two (Some h.0.fcl), ap length h.1);
 }
 
 -- a fragment of a telegram has a number, and its piece at most 242 bytes
@@ -27,4 +30,5 @@ pub piece_fits : (t : List ℕ) (l : Layers) → IsLayers t l → length t ≤ 2
 piece_fits t l h most =
     let after = extension_is_no_longer (drop 10 t) l.ell h.after_extension h.extension in
     let front : length (drop 10 t) ≤ 246 = omega (arith, length-drop 10 t) in
-    fits_behind h.after_extension l.afl h.content (drop l.body t) h.fragmentation (omega (arith, after, front)) (omega (arith, length-drop l.body t, h.body))
+    fits_behind h.after_extension l.afl h.content (drop l.body t) h.fragmentation (omega (arith, after, front))
+        (omega (arith, length-drop l.body t, h.body))

@@ -1,5 +1,6 @@
 -- Proof that the readings of a journal are those of its stored messages.
-use Rattle.std.proofs.Common.{◌≡◌, ℕ, Bool, List, [], ◌∷◌, ◌++◌, reverse, map, Option, Some, None, Result, Ok, Err, refl, ap, sym, ◌∙◌, subst}
+use Rattle.std.proofs.Common.{◌≡◌, ℕ, Bool, List, [], ◌∷◌, ◌++◌, reverse, map, Option, Some, None, Result, Ok, Err, refl, ap, sym, ◌∙◌}
+use Rattle.std.proofs.Common.{subst}
 use Rattle.std.specs.Prelude.{filter_map}
 use Rattle.std.specs.List.{cons_option}
 use Rattle.std.specs.Result.{result_ok}
@@ -24,14 +25,17 @@ use Rattle.meter_slots.specs.declared.entry.Outcome.{Outcome}
 use Rattle.meter_slots.specs.declared.entry.Outcome.TheVariants.{Stored, PartKept, Ticked, Queued, Cancelled, Rekeyed, Refused}
 use Rattle.meter_slots.specs.declared.reading.Reading.{Reading}
 use Rattle.meter_slots.specs.Hearing.{received, brought}
-use Rattle.meter_slots.specs.Journal.{Standing, standing, told, other_key, rekeyed, opened_in, compared, genuine_in, genuine, stored_or_refused, judged, orders, last_counter, verdict, heard, answer, outcome, IsJudged, Legal, stored_in, stored, reading_at, reading_of, readings_back, readings, stored_counter}
+use Rattle.meter_slots.specs.Journal.{Standing, standing, told, other_key, rekeyed, opened_in, compared, genuine_in, genuine}
+use Rattle.meter_slots.specs.Journal.{stored_or_refused, judged, orders, last_counter, verdict, heard, answer, outcome, IsJudged, Legal}
+use Rattle.meter_slots.specs.Journal.{stored_in, stored, reading_at, reading_of, readings_back, readings, stored_counter}
 use Rattle.meter_slots.specs.Laws.{stored_counters, moment_read, stored_moment, stored_moments, reading_added}
 use Rattle.meter_slots.proofs.Journals.{back, found_where, readings-append}
 use Rattle.meter_slots.proofs.JournalLaws.{front_back, queued_stored, cancelled_stored, key_stored}
 
 -- what a fact says of one entry it says of all
 each_stored : {X : Type 0} (f : Reading → X) (g : Entry → Option X) (c : Commissioned) (own : Address)
-    → ((x : Entry) (earlier : List Entry) → IsJudged c own (x ∷ earlier) → map f (reading_of x.event (stored c (standing c earlier) x.event)) ≡ cons_option (g x) [])
+    → ((x : Entry) (earlier : List Entry) → IsJudged c own (x ∷ earlier) → map f
+        (reading_of x.event (stored c (standing c earlier) x.event)) ≡ cons_option (g x) [])
     → (earlier : List Entry) → IsJudged c own earlier → map f (readings_back c earlier) ≡ filter_map g (reverse earlier)
 each_stored f g c own one [] j = refl
 each_stored f g c own one (x ∷ earlier) j =
@@ -42,7 +46,8 @@ each_stored f g c own one (x ∷ earlier) j =
 
 -- ---- the counter
 
-heard_counter : (own : Address) (c : Commissioned) (k : Orders) (access : Access) (response : Bool) (at : ℕ) (v : Result (Option Found) Reason)
+heard_counter : (own : Address) (c : Commissioned) (k : Orders) (access : Access) (response : Bool) (at : ℕ)
+    (v : Result (Option Found) Reason)
     → map (λ (r : Reading). r.counter) (reading_at at (stored_in v)) ≡ cons_option (stored_counter (heard own c k access response v)) []
 heard_counter own c k access response at (Err reason) = refl
 heard_counter own c k access response at (Ok None) = refl
@@ -61,11 +66,13 @@ answer_counter c own s (Cancel id) = none_of _ (cancelled_stored id (take_answer
 answer_counter c own s (Rekey key) = none_of _ (key_stored c.mode)
 
 entry_counter : (c : Commissioned) (own : Address) (x : Entry) (earlier : List Entry) → IsJudged c own (x ∷ earlier)
-    → map (λ (r : Reading). r.counter) (reading_of x.event (stored c (standing c earlier) x.event)) ≡ cons_option (stored_counter x.outcome) []
+    → map (λ (r : Reading). r.counter) (reading_of x.event (stored c (standing c earlier) x.event)) ≡ cons_option (stored_counter x.outcome)
+        []
 unfolding outcome
 entry_counter c own x earlier j = answer_counter c own (standing c earlier) x.event ∙ ap (λ o. cons_option (stored_counter o) []) (sym j.0)
 
-pub counters_read : (c : Commissioned) (own : Address) (journal : List Entry) → Legal c own journal → map (λ (r : Reading). r.counter) (readings c journal) ≡ stored_counters journal
+pub counters_read : (c : Commissioned) (own : Address) (journal : List Entry) → Legal c own journal
+    → map (λ (r : Reading). r.counter) (readings c journal) ≡ stored_counters journal
 unfolding readings
 counters_read c own journal j =
     each_stored (λ (r : Reading). r.counter) (λ (x : Entry). stored_counter x.outcome) c own (entry_counter c own) (reverse journal) j
@@ -73,7 +80,8 @@ counters_read c own journal j =
 
 -- ---- the moment with it
 
-heard_moment : (own : Address) (c : Commissioned) (k : Orders) (access : Access) (response : Bool) (format : Format) (at : ℕ) (t : List ℕ) (v : Result (Option Found) Reason)
+heard_moment : (own : Address) (c : Commissioned) (k : Orders) (access : Access) (response : Bool) (format : Format) (at : ℕ) (t : List ℕ)
+    (v : Result (Option Found) Reason)
     → map moment_read (reading_at at (stored_in v)) ≡ cons_option (stored_moment (Hear format at t) (heard own c k access response v)) []
 heard_moment own c k access response format at t (Err reason) = refl
 heard_moment own c k access response format at t (Ok None) = refl
@@ -90,9 +98,11 @@ answer_moment c own s (Rekey key) = refl
 entry_moment : (c : Commissioned) (own : Address) (x : Entry) (earlier : List Entry) → IsJudged c own (x ∷ earlier)
     → map moment_read (reading_of x.event (stored c (standing c earlier) x.event)) ≡ cons_option (stored_moment x.event x.outcome) []
 unfolding outcome
-entry_moment c own x earlier j = answer_moment c own (standing c earlier) x.event ∙ ap (λ o. cons_option (stored_moment x.event o) []) (sym j.0)
+entry_moment c own x earlier j =
+    answer_moment c own (standing c earlier) x.event ∙ ap (λ o. cons_option (stored_moment x.event o) []) (sym j.0)
 
-pub moments_read : (c : Commissioned) (own : Address) (journal : List Entry) → Legal c own journal → map moment_read (readings c journal) ≡ stored_moments journal
+pub moments_read : (c : Commissioned) (own : Address) (journal : List Entry) → Legal c own journal
+    → map moment_read (readings c journal) ≡ stored_moments journal
 unfolding readings
 moments_read c own journal j =
     each_stored moment_read (λ (x : Entry). stored_moment x.event x.outcome) c own (entry_moment c own) (reverse journal) j
@@ -115,7 +125,8 @@ opened_found mode last (Err reason) f h = cc
 opened_found mode last (Ok x) f h = compared_found mode last x f h
 
 -- what is stored is what was genuine
-judged_found : (c : Commissioned) (last : Option ℕ) (b : Result (Option Message) Reason) (f : Found) → judged c last b ≡ Ok (Some f) → genuine_in c b ≡ Some f
+judged_found : (c : Commissioned) (last : Option ℕ) (b : Result (Option Message) Reason) (f : Found) → judged c last b ≡ Ok (Some f)
+    → genuine_in c b ≡ Some f
 judged_found c last (Err reason) f h = cc
 judged_found c last (Ok None) f h = cc
 judged_found c last (Ok (Some m)) f h = opened_found c.mode last (opened_in c.mode c m) f h
@@ -127,7 +138,8 @@ none_read (Put payload) = refl
 none_read (Cancel id) = refl
 none_read (Rekey key) = refl
 
-heard_added : (own : Address) (c : Commissioned) (k : Orders) (access : Access) (response : Bool) (event : Event) (found : Option Found) (v : Result (Option Found) Reason)
+heard_added : (own : Address) (c : Commissioned) (k : Orders) (access : Access) (response : Bool) (event : Event) (found : Option Found)
+    (v : Result (Option Found) Reason)
     → ((f : Found) → v ≡ Ok (Some f) → found ≡ Some f)
     → reading_of event (stored_in v) ≡ reading_added (heard own c k access response v) event found
 heard_added own c k access response event found (Err reason) h = none_read event
@@ -144,7 +156,8 @@ none_added event found Rekeyed h = refl
 none_added event found (Refused reason) h = refl
 
 answer_added : (c : Commissioned) (own : Address) (earlier : List Entry) (event : Event)
-    → reading_of event (stored c (standing c earlier) event) ≡ reading_added (answer c own (standing c earlier) event) event (genuine c earlier event)
+    → reading_of event (stored c (standing c earlier) event) ≡ reading_added (answer c own (standing c earlier) event) event
+        (genuine c earlier event)
 answer_added c own earlier (Hear format at t) =
     heard_added own c (orders c earlier) _ _ (Hear format at t) (genuine c earlier (Hear format at t)) (verdict c (standing c earlier) t)
     (judged_found (rekeyed c (other_key c earlier)) (last_counter c earlier) (brought (told c earlier) t (received c.mode t)))
@@ -161,4 +174,5 @@ added_read c own journal x j =
     let earlier = reverse journal in
     let h = subst (IsJudged c own) (back journal x) j in
     readings-append c journal x
-    ∙ ap (λ rs. readings c journal ++ rs) (answer_added c own earlier x.event ∙ ap (λ o. reading_added o x.event (genuine c earlier x.event)) (sym h.0))
+    ∙ ap (λ rs. readings c journal ++ rs) (answer_added c own earlier x.event ∙ ap
+        (λ o. reading_added o x.event (genuine c earlier x.event)) (sym h.0))

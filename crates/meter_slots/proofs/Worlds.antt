@@ -1,5 +1,6 @@
 -- What one step changes of a world.
-use Rattle.std.proofs.Common.{◌≡◌, ◌↔◌, ℕ, zero, suc, ◌<◌, ◌≤◌, ◌==◌, Bool, true, false, not, ◌||◌, cond, List, [], ◌∷◌, ◌++◌, length, get_or, set, reverse, map, filter, Some, None, refl, ap, sym, ◌∙◌, arith, subst}
+use Rattle.std.proofs.Common.{◌≡◌, ◌↔◌, ℕ, zero, suc, ◌<◌, ◌≤◌, ◌==◌, Bool, true, false, not, ◌||◌, cond, List, [], ◌∷◌, ◌++◌, length}
+use Rattle.std.proofs.Common.{get_or, set, reverse, map, filter, Some, None, refl, ap, sym, ◌∙◌, arith, subst}
 use Rattle.std.specs.Prelude.{position}
 use Rattle.std.specs.List.{list_any, position_or_len, All}
 use Rattle.std.proofs.lemmas.Bool.Decides.{nat_tests}
@@ -18,7 +19,9 @@ use Rattle.meter_slots.specs.declared.step.Step.{Step}
 use Rattle.meter_slots.specs.Directory.{AreApart}
 use Rattle.meter_slots.specs.Journal.{SlotView, outcome}
 use Rattle.meter_slots.specs.Laws.{IsLegal}
-use Rattle.meter_slots.specs.World.{Call, call_of, judged_journal, journal_of, is_for, calls_of, slot_of, is_commissioned, heard_of, strangers_of, WorldView, world_of, Lands, fresh_slot, outcome_at, stepped_slot, has_slot, slot_after, strangers_after, after_step, AnsweredBy, address_of_slot, IsOrdered}
+use Rattle.meter_slots.specs.World.{Call, call_of, judged_journal, journal_of, is_for, calls_of, slot_of, is_commissioned, heard_of}
+use Rattle.meter_slots.specs.World.{strangers_of, WorldView, world_of, Lands, fresh_slot, outcome_at, stepped_slot, has_slot, slot_after}
+use Rattle.meter_slots.specs.World.{strangers_after, after_step, AnsweredBy, address_of_slot, IsOrdered}
 use Rattle.meter_slots.proofs.JournalLaws.{journal_of_legal}
 
 same_number : (a b : ℕ) → a ≡ b → (a == b) ≡ true
@@ -33,29 +36,40 @@ abbrev has_number : ℕ → SlotView → Bool
 has_number n b = b.commission.address.0 == n
 
 pub journal_of-push : (c : Commissioned) (own : Address) (calls : List Call) (s : Call)
-    → journal_of c own (calls ++ s ∷ []) ≡ journal_of c own calls ++ record { source = s.source; line = s.line; event = s.event; outcome = outcome c own (reverse (journal_of c own calls)) s.event } ∷ []
+    → journal_of c own (calls ++ s ∷ []) ≡ journal_of c own calls ++ record
+        { source = s.source; line = s.line; event = s.event; outcome = outcome c own (reverse (journal_of c own calls)) s.event } ∷ []
 journal_of-push c own calls s =
     let before = judged_journal c own (reverse calls) in
     ap (λ cs. reverse (judged_journal c own cs)) (reverse-append calls (s ∷ []))
     ∙ reverse-append (record { source = s.source; line = s.line; event = s.event; outcome = outcome c own before s.event } ∷ []) before
-    ∙ ap (λ (e : List Entry). reverse before ++ record { source = s.source; line = s.line; event = s.event; outcome = outcome c own e s.event } ∷ []) (sym (reverse-reverse before))
+    ∙ ap (λ (e : List Entry). reverse before ++ record
+        { source = s.source; line = s.line; event = s.event; outcome = outcome c own e s.event } ∷ []) (sym (reverse-reverse before))
 
 slot_cond : (b : Bool) (own : Address) (c : Commissioned) (steps : List Step) (s : Step)
-    → record { own = own; commission = c; journal = journal_of c own (map call_of (filter (is_for c.address) steps ++ cond b (s ∷ []) [])) } ≡ cond b (stepped_slot s (slot_of own steps c)) (slot_of own steps c)
+    → record { own = own; commission = c; journal = journal_of c own (map call_of (filter (is_for c.address) steps ++ cond b (s ∷ []) [])) }
+        ≡ cond b (stepped_slot s (slot_of own steps c)) (slot_of own steps c)
 slot_cond true own c steps s =
     ap (λ j. record { own = own; commission = c; journal = j })
-    (ap (journal_of c own) (map-append call_of (filter (is_for c.address) steps) (s ∷ [])) ∙ journal_of-push c own (calls_of c.address steps) (call_of s))
-slot_cond false own c steps s = ap (λ xs. record { own = own; commission = c; journal = journal_of c own (map call_of xs) }) (append-nil (filter (is_for c.address) steps))
+    (ap (journal_of c own) (map-append call_of (filter (is_for c.address) steps) (s ∷ [])) ∙ journal_of-push c own
+        (calls_of c.address steps) (call_of s))
+slot_cond false own c steps s =
+    ap (λ xs. record { own = own; commission = c; journal = journal_of c own (map call_of xs) })
+    (append-nil (filter (is_for c.address) steps))
 
-slot_of-push : (own : Address) (c : Commissioned) (steps : List Step) (s : Step) → slot_of own (steps ++ s ∷ []) c ≡ slot_after s (slot_of own steps c)
+slot_of-push : (own : Address) (c : Commissioned) (steps : List Step) (s : Step)
+    → slot_of own (steps ++ s ∷ []) c ≡ slot_after s (slot_of own steps c)
 slot_of-push own c steps s =
-    ap (λ xs. record { own = own; commission = c; journal = journal_of c own (map call_of xs) }) (filter-append (is_for c.address) steps (s ∷ []))
-    ∙ slot_cond (is_for c.address s) own c steps s ∙ ap (λ b. cond b (stepped_slot s (slot_of own steps c)) (slot_of own steps c)) (eqb_swap s.address.0 c.address.0)
+    ap (λ xs. record { own = own; commission = c; journal = journal_of c own (map call_of xs) })
+        (filter-append (is_for c.address) steps (s ∷ []))
+    ∙ slot_cond (is_for c.address s) own c steps s
+    ∙ ap (λ b. cond b (stepped_slot s (slot_of own steps c)) (slot_of own steps c)) (eqb_swap s.address.0 c.address.0)
 
-slots-push : (own : Address) (cs : List Commissioned) (steps : List Step) (s : Step) → map (slot_of own (steps ++ s ∷ [])) cs ≡ map (slot_after s) (map (slot_of own steps) cs)
+slots-push : (own : Address) (cs : List Commissioned) (steps : List Step) (s : Step)
+    → map (slot_of own (steps ++ s ∷ [])) cs ≡ map (slot_after s) (map (slot_of own steps) cs)
 slots-push own [] steps s = refl
 slots-push own (c ∷ cs) steps s =
-    ap (λ b. b ∷ map (slot_of own (steps ++ s ∷ [])) cs) (slot_of-push own c steps s) ∙ ap (λ bs. slot_after s (slot_of own steps c) ∷ bs) (slots-push own cs steps s)
+    ap (λ b. b ∷ map (slot_of own (steps ++ s ∷ [])) cs) (slot_of-push own c steps s)
+    ∙ ap (λ bs. slot_after s (slot_of own steps c) ∷ bs) (slots-push own cs steps s)
 
 -- ---- a step at the one place
 
@@ -76,7 +90,8 @@ stepped_lacks s (b ∷ bs) h =
     let parts = or_false (has_number s.address.0 b) (list_any (has_number s.address.0) bs) h in
     ap (λ t. cond t (stepped_slot s b) b ∷ map (slot_after s) bs) parts.0 ∙ ap (λ xs. b ∷ xs) (stepped_lacks s bs parts.1)
 
-lacks_at : (n : ℕ) (bs : List SlotView) (place : ℕ) (d : SlotView) → Lacks n bs → place < length bs → has_number n (get_or bs place d) ≡ false
+lacks_at : (n : ℕ) (bs : List SlotView) (place : ℕ) (d : SlotView) → Lacks n bs → place < length bs
+    → has_number n (get_or bs place d) ≡ false
 lacks_at n [] place d h l = absurd (omega arith)
 lacks_at n (b ∷ bs) zero d h l = (or_false (has_number n b) (list_any (has_number n) bs) h).0
 lacks_at n (b ∷ bs) (suc place) d h l = lacks_at n bs place d (or_false (has_number n b) (list_any (has_number n) bs) h).1 (omega arith)
@@ -84,16 +99,21 @@ lacks_at n (b ∷ bs) (suc place) d h l = lacks_at n bs place d (or_false (has_n
 other_number : (x b s : ℕ) → (x == b) ≡ false → x ≡ s → (b == s) ≡ false
 other_number x b s h e = grind (arith, nat_tests)
 
-set_stepped : (bs : List SlotView) (place : ℕ) (s : Step) (d : SlotView) → AreApart (map address_of_slot bs) → place < length bs → (get_or bs place d).commission.address.0 ≡ s.address.0
+set_stepped : (bs : List SlotView) (place : ℕ) (s : Step) (d : SlotView) → AreApart (map address_of_slot bs) → place < length bs
+    → (get_or bs place d).commission.address.0 ≡ s.address.0
     → set bs place (stepped_slot s (get_or bs place d)) ≡ map (slot_after s) bs
 set_stepped [] place s d a h e = absurd (omega arith)
 set_stepped (b ∷ bs) zero s d a h e =
     let lacks : Lacks s.address.0 bs = subst (λ n. Lacks n bs) e (sym (any-map b.commission.address.0 bs) ∙ a.0) in
-    ap (λ bs'. stepped_slot s b ∷ bs') (sym (stepped_lacks s bs lacks)) ∙ ap (λ t. cond t (stepped_slot s b) b ∷ map (slot_after s) bs) (sym (same_number b.commission.address.0 s.address.0 e))
+    ap (λ bs'. stepped_slot s b ∷ bs') (sym (stepped_lacks s bs lacks))
+    ∙ ap (λ t. cond t (stepped_slot s b) b ∷ map (slot_after s) bs) (sym (same_number b.commission.address.0 s.address.0 e))
 set_stepped (b ∷ bs) (suc place) s d a h e =
     let lacks : Lacks b.commission.address.0 bs = sym (any-map b.commission.address.0 bs) ∙ a.0 in
-    let differs = other_number (get_or bs place d).commission.address.0 b.commission.address.0 s.address.0 (lacks_at b.commission.address.0 bs place d lacks (omega arith)) e in
-    ap (λ bs'. b ∷ bs') (set_stepped bs place s d a.1 (omega arith) e) ∙ ap (λ t. cond t (stepped_slot s b) b ∷ map (slot_after s) bs) (sym differs)
+    let differs =
+        other_number (get_or bs place d).commission.address.0 b.commission.address.0 s.address.0
+        (lacks_at b.commission.address.0 bs place d lacks (omega arith)) e in
+    ap (λ bs'. b ∷ bs') (set_stepped bs place s d a.1 (omega arith) e)
+    ∙ ap (λ t. cond t (stepped_slot s b) b ∷ map (slot_after s) bs) (sym differs)
 
 -- ---- the addresses stay
 
@@ -104,7 +124,8 @@ stepped_address false s b = refl
 addresses_stay : (s : Step) (bs : List SlotView) → map address_of_slot (map (slot_after s) bs) ≡ map address_of_slot bs
 addresses_stay s [] = refl
 addresses_stay s (b ∷ bs) =
-    ap (λ a. a ∷ map address_of_slot (map (slot_after s) bs)) (stepped_address (has_number s.address.0 b) s b) ∙ ap (λ xs. b.commission.address ∷ xs) (addresses_stay s bs)
+    ap (λ a. a ∷ map address_of_slot (map (slot_after s) bs)) (stepped_address (has_number s.address.0 b) s b)
+    ∙ ap (λ xs. b.commission.address ∷ xs) (addresses_stay s bs)
 
 -- ---- the place that the directory gives
 
@@ -116,27 +137,33 @@ not_true : (b : Bool) → not b ≡ true → b ≡ false
 not_true true h = absurd cc
 not_true false h = refl
 
-none_any : (p : Address → Bool) (xs : List Address) (d : Address) → ((k : ℕ) → k < length xs → p (get_or xs k d) ≡ false) → list_any p xs ≡ false
+none_any : (p : Address → Bool) (xs : List Address) (d : Address) → ((k : ℕ) → k < length xs → p (get_or xs k d) ≡ false)
+    → list_any p xs ≡ false
 none_any p [] d h = refl
 none_any p (x ∷ xs) d h = ap (λ t. t || list_any p xs) (h 0 (omega arith)) ∙ none_any p xs d (λ k l. h (suc k) (omega arith))
 
 some_address : Address
 some_address = record { 0 = 0 }
 
-pub none_found : (bs : List SlotView) (directory : List Address) (n : ℕ) → IsOrdered bs directory → position (λ a. a.0 == n) directory ≡ None → Lacks n bs
+pub none_found : (bs : List SlotView) (directory : List Address) (n : ℕ) → IsOrdered bs directory
+    → position (λ a. a.0 == n) directory ≡ None → Lacks n bs
 none_found bs directory n ordered h =
     let p : Address → Bool = λ a. a.0 == n in
     let past : length directory ≤ position_or_len p directory = let test = none_if _ _ h in grind (arith, nat_tests) in
-    let none : list_any p directory ≡ false = none_any p directory some_address (λ k within. not_true _ (prefix_len_passes (λ a. not (p a)) directory k some_address (omega arith))) in
+    let none : list_any p directory ≡ false =
+        none_any p directory some_address (λ k within. not_true _
+        (prefix_len_passes (λ a. not (p a)) directory k some_address (omega arith))) in
     sym (any-map n bs) ∙ ap (list_any p) (sym ordered.places) ∙ none
 
-pub found_at : (bs : List SlotView) (directory : List Address) (n place : ℕ) (d : SlotView) → IsOrdered bs directory → position (λ a. a.0 == n) directory ≡ Some place
+pub found_at : (bs : List SlotView) (directory : List Address) (n place : ℕ) (d : SlotView) → IsOrdered bs directory
+    → position (λ a. a.0 == n) directory ≡ Some place
     → (place < length bs) × ((get_or bs place d).commission.address.0 ≡ n)
 found_at bs directory n place d ordered h =
     let found = position-Some (λ a. a.0 == n) directory place (address_of_slot d) h in
     let within : place < length bs = omega (arith, ap length ordered.places, length-map bs address_of_slot, found.0) in
     let same : (get_or bs place d).commission.address.0 ≡ (get_or directory place (address_of_slot d)).0 =
-    ap (λ (a : Address). a.0) (sym (get_or-map address_of_slot bs place d) ∙ ap (λ xs. get_or xs place (address_of_slot d)) (sym ordered.places)) in
+    ap (λ (a : Address). a.0) (sym (get_or-map address_of_slot bs place d) ∙ ap (λ xs. get_or xs place (address_of_slot d))
+        (sym ordered.places)) in
     (within, same ∙ is_same (get_or directory place (address_of_slot d)).0 n found.1)
   where
     is_same : (a b : ℕ) → (a == b) ≡ true → a ≡ b
@@ -144,16 +171,19 @@ found_at bs directory n place d ordered h =
 
 -- ---- the order is kept
 
-pub ordered_step : (bs new : List SlotView) (directory : List Address) (place : ℕ) (s : Step) (d : SlotView) → IsOrdered bs directory → place < length bs → (get_or bs place d).commission.address.0 ≡ s.address.0
+pub ordered_step : (bs new : List SlotView) (directory : List Address) (place : ℕ) (s : Step) (d : SlotView) → IsOrdered bs directory
+    → place < length bs → (get_or bs place d).commission.address.0 ≡ s.address.0
     → new ≡ set bs place (stepped_slot s (get_or bs place d)) → IsOrdered new directory
 ordered_step bs new directory place s d ordered within same made =
     let apart : AreApart (map address_of_slot bs) = subst AreApart ordered.places ordered.apart in
     record {
-      places = ordered.places ∙ sym (addresses_stay s bs) ∙ ap (map address_of_slot) (sym (made ∙ set_stepped bs place s d apart within same));
+      places =
+          ordered.places ∙ sym (addresses_stay s bs) ∙ ap (map address_of_slot) (sym (made ∙ set_stepped bs place s d apart within same));
       apart = ordered.apart;
     }
 
-pub ordered_fresh : (own : Address) (cs : List Commissioned) → AreApart (map (λ c. c.address) cs) → IsOrdered (map (fresh_slot own) cs) (map (λ c. c.address) cs)
+pub ordered_fresh : (own : Address) (cs : List Commissioned) → AreApart (map (λ c. c.address) cs)
+    → IsOrdered (map (fresh_slot own) cs) (map (λ c. c.address) cs)
 ordered_fresh own cs apart = record { places = same cs; apart = apart }
   where
     same : (cs : List Commissioned) → map (λ c. c.address) cs ≡ map address_of_slot (map (fresh_slot own) cs)
@@ -162,11 +192,13 @@ ordered_fresh own cs apart = record { places = same cs; apart = apart }
 
 -- ---- strangers
 
-any_slot : (n : ℕ) (own : Address) (cs : List Commissioned) (steps : List Step) → list_any (has_number n) (map (slot_of own steps) cs) ≡ list_any (λ c. c.address.0 == n) cs
+any_slot : (n : ℕ) (own : Address) (cs : List Commissioned) (steps : List Step)
+    → list_any (has_number n) (map (slot_of own steps) cs) ≡ list_any (λ c. c.address.0 == n) cs
 any_slot n own [] steps = refl
 any_slot n own (c ∷ cs) steps = ap (λ t. (c.address.0 == n) || t) (any_slot n own cs steps)
 
-any_at : (n : ℕ) (bs : List SlotView) (place : ℕ) (d : SlotView) → place < length bs → (get_or bs place d).commission.address.0 ≡ n → list_any (has_number n) bs ≡ true
+any_at : (n : ℕ) (bs : List SlotView) (place : ℕ) (d : SlotView) → place < length bs → (get_or bs place d).commission.address.0 ≡ n
+    → list_any (has_number n) bs ≡ true
 any_at n [] place d h e = absurd (omega arith)
 any_at n (b ∷ bs) zero d h e = ap (λ t. t || list_any (has_number n) bs) (same_number b.commission.address.0 n e)
 any_at n (b ∷ bs) (suc place) d h e = ap (λ t. has_number n b || t) (any_at n bs place d (omega arith) e) ∙ or_true (has_number n b)
@@ -175,13 +207,15 @@ any_at n (b ∷ bs) (suc place) d h e = ap (λ t. has_number n b || t) (any_at n
     or_true true = refl
     or_true false = refl
 
-strangers-push : (cs : List Commissioned) (steps : List Step) (s : Step) (t : Bool) → is_commissioned cs s.address ≡ t → strangers_of cs (steps ++ s ∷ []) ≡ strangers_of cs steps ++ cond t [] (heard_of s ∷ [])
+strangers-push : (cs : List Commissioned) (steps : List Step) (s : Step) (t : Bool) → is_commissioned cs s.address ≡ t
+    → strangers_of cs (steps ++ s ∷ []) ≡ strangers_of cs steps ++ cond t [] (heard_of s ∷ [])
 strangers-push cs steps s t h =
     let strange : Step → Bool = λ x. not (is_commissioned cs x.address) in
     ap (map heard_of) (filter-append strange steps (s ∷ [])) ∙ map-append heard_of (filter strange steps) (filter strange (s ∷ []))
     ∙ ap (λ xs. map heard_of (filter strange steps) ++ xs) (last_one t h)
   where
-    last_one : (t : Bool) → is_commissioned cs s.address ≡ t → map heard_of (filter (λ x. not (is_commissioned cs x.address)) (s ∷ [])) ≡ cond t [] (heard_of s ∷ [])
+    last_one : (t : Bool) → is_commissioned cs s.address ≡ t
+        → map heard_of (filter (λ x. not (is_commissioned cs x.address)) (s ∷ [])) ≡ cond t [] (heard_of s ∷ [])
     last_one true e = ap (λ u. map heard_of (cond (not u) (s ∷ []) [])) e
     last_one false e = ap (λ u. map heard_of (cond (not u) (s ∷ []) [])) e
 
@@ -191,19 +225,23 @@ pub world_fresh : (own : Address) (cs : List Commissioned) → record { slots = 
 unfolding world_of
 world_fresh own cs = refl
 
-pub after_strange : (s : Step) (w : WorldView) → Lacks s.address.0 w.slots → record { slots = w.slots; strangers = w.strangers ++ heard_of s ∷ [] } ≡ after_step w s
+pub after_strange : (s : Step) (w : WorldView) → Lacks s.address.0 w.slots
+    → record { slots = w.slots; strangers = w.strangers ++ heard_of s ∷ [] } ≡ after_step w s
 after_strange s w h =
     ap (λ bs. record { slots = bs; strangers = w.strangers ++ heard_of s ∷ [] }) (sym (stepped_lacks s w.slots h))
     ∙ ap (λ t. record { slots = map (slot_after s) w.slots; strangers = cond t w.strangers (w.strangers ++ heard_of s ∷ []) }) (sym h)
 
-pub after_own : (s : Step) (w : WorldView) (place : ℕ) (d : SlotView) → AreApart (map address_of_slot w.slots) → place < length w.slots → (get_or w.slots place d).commission.address.0 ≡ s.address.0
+pub after_own : (s : Step) (w : WorldView) (place : ℕ) (d : SlotView) → AreApart (map address_of_slot w.slots) → place < length w.slots
+    → (get_or w.slots place d).commission.address.0 ≡ s.address.0
     → record { slots = set w.slots place (stepped_slot s (get_or w.slots place d)); strangers = w.strangers } ≡ after_step w s
 after_own s w place d a h same =
     ap (λ bs. record { slots = bs; strangers = w.strangers }) (set_stepped w.slots place s d a h same)
-    ∙ ap (λ t. record { slots = map (slot_after s) w.slots; strangers = cond t w.strangers (w.strangers ++ heard_of s ∷ []) }) (sym (any_at s.address.0 w.slots place d h same))
+    ∙ ap (λ t. record { slots = map (slot_after s) w.slots; strangers = cond t w.strangers (w.strangers ++ heard_of s ∷ []) })
+        (sym (any_at s.address.0 w.slots place d h same))
 
 -- the world of some steps and one more is that of these steps after this one
-pub after_push : (own : Address) (cs : List Commissioned) (steps : List Step) (s : Step) → after_step (world_of own cs steps) s ≡ world_of own cs (steps ++ s ∷ [])
+pub after_push : (own : Address) (cs : List Commissioned) (steps : List Step) (s : Step)
+    → after_step (world_of own cs steps) s ≡ world_of own cs (steps ++ s ∷ [])
 unfolding world_of
 after_push own cs steps s =
     ap (λ bs. record { slots = bs; strangers = strangers_after (world_of own cs steps) s }) (sym (slots-push own cs steps s))
@@ -216,25 +254,35 @@ after_push own cs steps s =
     strangers : strangers_after (world_of own cs steps) s ≡ strangers_of cs (steps ++ s ∷ [])
     strangers =
         ap (λ t. cond t (strangers_of cs steps) (strangers_of cs steps ++ heard_of s ∷ [])) (any_slot s.address.0 own cs steps)
-        ∙ choice (is_commissioned cs s.address) (strangers_of cs steps) (heard_of s ∷ []) ∙ sym (strangers-push cs steps s (is_commissioned cs s.address) refl)
+        ∙ choice (is_commissioned cs s.address) (strangers_of cs steps) (heard_of s ∷ [])
+        ∙ sym (strangers-push cs steps s (is_commissioned cs s.address) refl)
 
 -- ---- where a step lands
 
-pub landed_strange : (own : Address) (cs : List Commissioned) (steps : List Step) (s : Step) (w : WorldView) → w ≡ world_of own cs steps → Lacks s.address.0 w.slots → Lands own cs steps s Stranger
+pub landed_strange : (own : Address) (cs : List Commissioned) (steps : List Step) (s : Step) (w : WorldView) → w ≡ world_of own cs steps
+    → Lacks s.address.0 w.slots → Lands own cs steps s Stranger
 unfolding world_of
-landed_strange own cs steps s w e h = sym (any_slot s.address.0 own cs steps) ∙ sym (ap (λ (v : WorldView). list_any (has_number s.address.0) v.slots) e) ∙ h
+landed_strange own cs steps s w e h =
+    sym (any_slot s.address.0 own cs steps) ∙ sym (ap (λ (v : WorldView). list_any (has_number s.address.0) v.slots) e) ∙ h
 
-landed_at : (own : Address) (cs : List Commissioned) (steps : List Step) (s : Step) (place : ℕ) (d : SlotView) (given : Outcome) → place < length (map (slot_of own steps) cs)
-    → (get_or (map (slot_of own steps) cs) place d).commission.address.0 ≡ s.address.0 → given ≡ outcome_at (get_or (map (slot_of own steps) cs) place d) s → Lands own cs steps s (Slot place given)
+landed_at : (own : Address) (cs : List Commissioned) (steps : List Step) (s : Step) (place : ℕ) (d : SlotView) (given : Outcome)
+    → place < length (map (slot_of own steps) cs)
+    → (get_or (map (slot_of own steps) cs) place d).commission.address.0 ≡ s.address.0
+    → given ≡ outcome_at (get_or (map (slot_of own steps) cs) place d) s → Lands own cs steps s (Slot place given)
 landed_at own [] steps s place d given l a h = absurd (omega arith)
 landed_at own (c ∷ cs) steps s zero d given l a h = (c, refl, a, h)
 landed_at own (c ∷ cs) steps s (suc place) d given l a h = landed_at own cs steps s place d given (omega arith) a h
 
-pub landed_own : (own : Address) (cs : List Commissioned) (steps : List Step) (s : Step) (w : WorldView) (place : ℕ) (d : SlotView) (given : Outcome) → w ≡ world_of own cs steps → place < length w.slots
-    → (get_or w.slots place d).commission.address.0 ≡ s.address.0 → given ≡ outcome_at (get_or w.slots place d) s → Lands own cs steps s (Slot place given)
+pub landed_own : (own : Address) (cs : List Commissioned) (steps : List Step) (s : Step) (w : WorldView) (place : ℕ) (d : SlotView)
+    (given : Outcome)
+    → w ≡ world_of own cs steps → place < length w.slots
+    → (get_or w.slots place d).commission.address.0 ≡ s.address.0 → given ≡ outcome_at (get_or w.slots place d) s
+    → Lands own cs steps s (Slot place given)
 unfolding world_of
 landed_own own cs steps s w place d given e l a h =
-    let P : List SlotView → Type 0 = λ bs. place < length bs → (get_or bs place d).commission.address.0 ≡ s.address.0 → given ≡ outcome_at (get_or bs place d) s → Lands own cs steps s (Slot place given) in
+    let P : List SlotView → Type 0 =
+        λ bs. place < length bs → (get_or bs place d).commission.address.0 ≡ s.address.0 → given ≡ outcome_at (get_or bs place d) s → Lands
+        own cs steps s (Slot place given) in
     subst P (sym (ap (λ (v : WorldView). v.slots) e)) (landed_at own cs steps s place d given) l a h
 
 pub answered_own : (bs : List SlotView) (s : Step) (place : ℕ) (d : SlotView) (given : Outcome) → place < length bs
@@ -257,14 +305,17 @@ stranger_own bs s place d given l a =
 
 -- some slot, where a read of a list asks for a default
 abbrev pub some_slot : SlotView
-some_slot = record { own = record { 0 = 0 }; commission = record { address = record { 0 = 0 }; mode = Seven; key = []; other = None; last = None; down = 0; ids = 0 }; journal = [] }
+some_slot =
+    record { own = record { 0 = 0 }; commission = record
+    { address = record { 0 = 0 }; mode = Seven; key = []; other = None; last = None; down = 0; ids = 0 }; journal = [] }
 
 -- ---- every slot is legal
 
 slots_legal : (own : Address) (cs : List Commissioned) (steps : List Step) → All IsLegal (map (slot_of own steps) cs)
 slots_legal own [] steps = All-nil IsLegal
 slots_legal own (c ∷ cs) steps =
-    All-cons IsLegal (slot_of own steps c) (map (slot_of own steps) cs) (journal_of_legal c own (calls_of c.address steps)) (slots_legal own cs steps)
+    All-cons IsLegal (slot_of own steps c) (map (slot_of own steps) cs) (journal_of_legal c own (calls_of c.address steps))
+        (slots_legal own cs steps)
 
 pub world_legal : (own : Address) (cs : List Commissioned) (steps : List Step) → All IsLegal (world_of own cs steps).slots
 unfolding world_of

@@ -69,7 +69,8 @@ auth_in (Some a) = record { mcl = a.mcl; mcr = a.mcr; ml = a.ml; mac = a.mac }
 
 abbrev pub content_of : Option Afl → List ℕ → Content
 content_of None bytes = Whole (record { auth = auth_in None; bytes = bytes })
-content_of (Some a) bytes = if is_fragment a then Part (record { afl = a; bytes = bytes }) else Whole (record { auth = auth_in (Some a); bytes = bytes })
+content_of (Some a) bytes =
+    if is_fragment a then Part (record { afl = a; bytes = bytes }) else Whole (record { auth = auth_in (Some a); bytes = bytes })
 
 abbrev pub content_behind : List ℕ → Layers → Content
 content_behind t l = content_of l.afl (drop l.body t)

@@ -1,5 +1,6 @@
 -- What a slot's journal means. Of a list of entries here the latest stands first, so that the tail of a list is what came before its head.
-use Rattle.std.specs.Prelude.{ℕ, ◌≡◌, max, Bool, List, [], ◌∷◌, ◌++◌, reverse, slice_index, Option, Some, None, option_to_list, option_map, Result, Ok, Err}
+use Rattle.std.specs.Prelude.{ℕ, ◌≡◌, max, Bool, List, [], ◌∷◌, ◌++◌, reverse, slice_index, Option, Some, None, option_to_list, option_map}
+use Rattle.std.specs.Prelude.{Result, Ok, Err}
 use Rattle.std.specs.List.{flat_map}
 use Rattle.std.specs.Result.{result_ok}
 use Rattle.meter_address.specs.declared.address.Address.{Address}
@@ -215,7 +216,8 @@ abbrev pub heard : Address → Commissioned → Orders → Access → Bool → R
 heard own c k access response (Err reason) = Refused reason
 heard own c k access response (Ok None) = PartKept
 heard own c k access response (Ok (Some f)) =
-    Stored f.counter (confirmed k response) (option_map (downlink_with own c (after_stored k access response).down) (sent_at k access response))
+    Stored f.counter (confirmed k response) (option_map (downlink_with own c (after_stored k access response).down)
+        (sent_at k access response))
 
 abbrev pub queued : Result ℕ QueueFault → Outcome
 queued (Ok id) = Queued id

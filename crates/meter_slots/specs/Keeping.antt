@@ -1,5 +1,6 @@
 -- Words of private contracts: what a slot keeps beside its journal, and what its steps answer.
-use Rattle.std.specs.Prelude.{ℕ, ◌≡◌, ◌+◌, ◌≤◌, min, true, if◌then◌else◌, List, ◌++◌, length, reverse, Option, Some, None, option_map, Result, Ok, Err}
+use Rattle.std.specs.Prelude.{ℕ, ◌≡◌, ◌+◌, ◌≤◌, min, true, if◌then◌else◌, List, ◌++◌, length, reverse, Option, Some, None, option_map}
+use Rattle.std.specs.Prelude.{Result, Ok, Err}
 use Rattle.std.specs.List.{All}
 use Rattle.std.specs.Option.{ForSome}
 use Rattle.meter_address.specs.declared.address.Address.{Address}
@@ -17,7 +18,8 @@ use Rattle.message_check.specs.Opened.{found_in}
 use Rattle.message_check.specs.declared.headers.Layers.{Layers}
 use Rattle.message_check.specs.declared.opening.Opened.{Opened}
 use Rattle.message_check.specs.declared.refusal.Reason.{Reason}
-use Rattle.meter_slots.specs.Journal.{Standing, Legal, other_after, other_key, rekeyed, last_counter, told_by, told, access_at, orders_after, orders, judged, readings}
+use Rattle.meter_slots.specs.Journal.{Standing, Legal, other_after, other_key, rekeyed, last_counter, told_by, told, access_at}
+use Rattle.meter_slots.specs.Journal.{orders_after, orders, judged, readings}
 use Rattle.meter_slots.specs.Laws.{PutsPayload}
 use Rattle.meter_slots.specs.declared.entry.Entry.{Entry}
 use Rattle.meter_slots.specs.declared.entry.Event.{Event}

@@ -28,7 +28,8 @@ call_of s = record { source = s.source; line = s.line; event = s.event }
 abbrev pub judged_journal : Commissioned → Address → List Call → List Entry
 judged_journal c own [] = []
 judged_journal c own (s ∷ earlier) =
-    record { source = s.source; line = s.line; event = s.event; outcome = outcome c own (judged_journal c own earlier) s.event } ∷ judged_journal c own earlier
+    record { source = s.source; line = s.line; event = s.event; outcome = outcome c own (judged_journal c own earlier) s.event }
+        ∷ judged_journal c own earlier
 
 -- the one journal of some calls, the oldest first
 abbrev pub journal_of : Commissioned → Address → List Call → List Entry
@@ -70,7 +71,8 @@ world_of own commissions steps = record { slots = map (slot_of own steps) commis
 -- where a step lands after others: in the slot of the commission with its address, or with the strangers
 abbrev pub Lands : Address → List Commissioned → List Step → Step → Landed → Type 0
 Lands own commissions steps s (Slot place given) =
-    (c : Commissioned) × (slice_get commissions place ≡ Some c) × (c.address.0 ≡ s.address.0) × (given ≡ outcome c own (reverse (slot_of own steps c).journal) s.event)
+    (c : Commissioned) × (slice_get commissions place ≡ Some c) × (c.address.0 ≡ s.address.0)
+        × (given ≡ outcome c own (reverse (slot_of own steps c).journal) s.event)
 Lands own commissions steps s Stranger = is_commissioned commissions s.address ≡ false
 
 -- ---- one step
@@ -109,7 +111,8 @@ after_step w s = record { slots = map (slot_after s) w.slots; strangers = strang
 
 -- a step that landed in a slot has that slot's address, and its answer
 abbrev pub AnsweredBy : List SlotView → Step → Landed → Type 0
-AnsweredBy slots s (Slot place given) = (b : SlotView) × (slice_get slots place ≡ Some b) × (b.commission.address.0 ≡ s.address.0) × (given ≡ outcome_at b s)
+AnsweredBy slots s (Slot place given) =
+    (b : SlotView) × (slice_get slots place ≡ Some b) × (b.commission.address.0 ≡ s.address.0) × (given ≡ outcome_at b s)
 AnsweredBy slots s Stranger = Unit {0}
 
 -- ---- words of private contracts

@@ -1,7 +1,9 @@
 //! A slot's book.
-ghost use Rattle.std.specs.Prelude.{◌≡◌, ◌<◌, ◌++◌, vec_len, vec_capacity, option_to_list};
+ghost use Rattle.std.specs.Prelude.{◌≡◌, ◌<◌, ◌++◌, length, vec_len, vec_capacity, option_to_list};
+ghost use Rattle.aes_block.specs.Block.{IsBlock};
 
 use crate::entry::{Entry, Event, Outcome};
+use crate::kept::KeptEvent;
 use crate::reading::Reading;
 use crate::standing::Standing;
 use access_window::Window;
@@ -43,6 +45,14 @@ fn note(readings: &mut Vec<Reading>, reading: Option<Reading>)
     }
 }
 
+// What a key of sixteen bytes shows: it is a block.
+fn show_key(key: &[u8])
+    requires { length key.now ≡ 16 }
+    ensures { IsBlock key.now }
+{
+    let (_front, _rest) = key.split_at(0);
+}
+
 impl SlotBook {
     ghost use Rattle.std.specs.Prelude.{◌≡◌, [], ◌∷◌, ◌++◌, reverse, All, IfOk, OnErr};
     ghost use Rattle.meter_slots.specs.Laws.{PutsPayload, IsRefused, IsLeft};
@@ -80,11 +90,13 @@ impl SlotBook {
 
     /// The commission as it would be written now.
     pub fn commission(&self) -> Commission
-        ensures { let earlier = reverse self.now.journal in let k = orders self.now.commission earlier in
+        ensures now { let earlier = reverse self.now.journal in let k = orders self.now.commission earlier in
             result ≡ record self.now.commission { other = other_key self.now.commission earlier;
             last = last_counter self.now.commission earlier; down = k.down; ids = k.queue.ids } }
+        ensures key { IsBlock self.now.commission.key }
     {
         let now = self.standing.commission();
+        show_key(&now.key);
         Commission {
             address: now.address,
             mode: now.mode,
@@ -123,13 +135,14 @@ impl SlotBook {
     {
         self.entries.reserve(1)?;
         self.readings.reserve(1)?;
+        let kept = KeptEvent::new(self.alloc, &event)?;
         event.show_payload();
         let served = self.standing.answer(self.alloc, self.own, &event)?;
         note(&mut self.readings, served.reading);
         self.entries.push_reserved(Entry {
             source,
             line,
-            event,
+            event: kept,
             outcome: served.outcome.copied(),
         });
         Ok(served.outcome)

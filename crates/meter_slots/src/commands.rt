@@ -39,7 +39,8 @@ fn downlink_now(
     send: bool,
     down: u32,
 ) -> Option<Downlink>
-    ensures { (sent : Option Command) → send ≡ is_some sent → IfSome sent (IsOldestAfterTry queue.now) → result ≡ option_map (downlink_with own commission.now down) sent }
+    ensures { (sent : Option Command) → send ≡ is_some sent → IfSome sent (IsOldestAfterTry queue.now)
+        → result ≡ option_map (downlink_with own commission.now down) sent }
 {
     if !send {
         return None;
@@ -126,7 +127,8 @@ impl Commands {
         judged: &Judged,
         response: bool,
     ) -> Outcome
-        ensures outcome { (bytes : List ℕ) → result ≡ heard own commission.now self.old judged.now.access response (verdict_as bytes judged.now.verdict) }
+        ensures outcome { (bytes : List ℕ)
+            → result ≡ heard own commission.now self.old judged.now.access response (verdict_as bytes judged.now.verdict) }
         ensures after { self.new ≡ orders_heard self.old judged.now.access response result }
         ensures stored { (bytes : List ℕ) → stored_counter result ≡ stored_by (verdict_as bytes judged.now.verdict) }
     {

@@ -2,6 +2,7 @@
 ghost use Rattle.std.specs.Prelude.{◌≡◌, ◌≤◌, length};
 ghost use Rattle.meter_slots.specs.Laws.{IsPayload};
 
+use crate::kept::KeptEvent;
 use downlink_maker::Downlink;
 use frame_formats::{Format, Telegram};
 use message_check::Reason;
@@ -122,7 +123,7 @@ pub struct Entry {
     /// The number of its line there, from 1.
     pub line: u32,
     /// What came.
-    pub event: Event,
+    pub event: KeptEvent,
     /// What was answered.
     pub outcome: Outcome,
 }

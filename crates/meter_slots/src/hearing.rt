@@ -3,8 +3,8 @@ ghost use Rattle.std.specs.Prelude.{◌≡◌, ◌+◌, ◌≤◌, ◌<◌, ◌+
 ghost use Rattle.afl_fragments.specs.Held.{Told, Piece, StandsFor, assembled, held, held_bytes};
 ghost use Rattle.message_check.specs.Layers.{IsLayers, layers_of};
 ghost use Rattle.message_check.specs.declared.headers.Layers.{Layers};
-ghost use Rattle.meter_slots.specs.Hearing.{is_unasked, is_response, is_uplink, uplink_passed, layers_passed, number_passed, fragment_passed};
-ghost use Rattle.meter_slots.specs.Hearing.{received, auth_in, content_of, message_in, brought};
+ghost use Rattle.meter_slots.specs.Hearing.{is_unasked, is_response, is_uplink, uplink_passed, layers_passed, number_passed};
+ghost use Rattle.meter_slots.specs.Hearing.{fragment_passed, received, auth_in, content_of, message_in, brought};
 ghost use Rattle.meter_slots.specs.Journal.{given_up, told_with, told_by_received, access_of};
 ghost use Rattle.meter_slots.specs.Keeping.{HasPlace, PieceFits, stored_by, verdict_as, judged_by, most_joined, most_brought, VerdictFits};
 

@@ -1,5 +1,6 @@
 //! Laws of every journal: each function's contract is a law.
-ghost use Rattle.std.specs.Prelude.{◌≡◌, ◌↔◌, ℕ, List, ◌∷◌, ◌++◌, [], reverse, map, filter, All, Some, None, Ok, option_to_list, option_map};
+ghost use Rattle.std.specs.Prelude.{◌≡◌, ◌↔◌, ℕ, List, ◌∷◌, ◌++◌, [], reverse};
+ghost use Rattle.std.specs.Prelude.{map, filter, All, Some, None, Ok, option_to_list, option_map};
 ghost use Rattle.meter_address.specs.declared.address.Address.{Address};
 ghost use Rattle.meter_address.specs.declared.commission.Mode.TheVariants.{Seven};
 ghost use Rattle.meter_address.specs.Commission.{Commissioned};
@@ -15,7 +16,8 @@ ghost use Rattle.meter_slots.specs.declared.entry.Event.TheVariants.{Hear};
 ghost use Rattle.meter_slots.specs.Hearing.{received, brought};
 ghost use Rattle.meter_slots.specs.Journal.{SlotView, Legal, told, other_key, rekeyed, genuine, counters, readings, stored_counter};
 ghost use Rattle.meter_slots.specs.World.{Call, journal_of, is_for, slot_of, world_of, after_step};
-ghost use Rattle.meter_slots.specs.Laws.{stored_counters, moment_read, stored_moments, reading_added, sent_counters, downlinks_in, PutsPayload, CarriesPayload, LeavesKeys};
+ghost use Rattle.meter_slots.specs.Laws.{stored_counters, moment_read, stored_moments, reading_added};
+ghost use Rattle.meter_slots.specs.Laws.{sent_counters, downlinks_in, PutsPayload, CarriesPayload, LeavesKeys};
 ghost use Rattle.meter_slots.specs.Laws.{IsAbove, last_stored, IsRising, AreBelow, IsRefused, IsLeft, IsLegal, call_in};
 
 /// In mode 7 the stored counters strictly rise, from above the commission's.
@@ -89,7 +91,8 @@ pub fn readings_are_genuine()
 /// A refusal leaves the second key, the last counter, the commands with their window, and the readings as they were.
 pub fn refused_leaves()
     ensures { (c : Commissioned) (own : Address) (journal : List Entry) (x : Entry) → Legal c own (journal ++ x ∷ []) → IsRefused x.outcome
-        → IsLeft (record { own = own; commission = c; journal = journal }) (record { own = own; commission = c; journal = journal ++ x ∷ [] }) }
+        → IsLeft (record { own = own; commission = c; journal = journal })
+        (record { own = own; commission = c; journal = journal ++ x ∷ [] }) }
 {}
 
 /// Each list of calls has one legal journal.

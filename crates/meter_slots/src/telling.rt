@@ -6,7 +6,7 @@ ghost use Rattle.meter_slots.specs.Telling.{heard_in, event_of_line};
 
 use crate::entry::Event;
 use frame_formats::{Format, FrameFault, Telegram, decode};
-use line_reader::{Line, LineFormat};
+use line_reader::Line;
 use message_check::target;
 use meter_address::Address;
 
@@ -40,16 +40,7 @@ pub fn event_of(line: &Line) -> Result<(Address, Event), FrameFault>
     ensures { result ≡ event_of_line line.now }
 {
     match line {
-        Line::Frame {
-            format: LineFormat::A,
-            at,
-            bytes,
-        } => hear_frame(Format::A, *at, bytes.bytes()),
-        Line::Frame {
-            format: LineFormat::B,
-            at,
-            bytes,
-        } => hear_frame(Format::B, *at, bytes.bytes()),
+        Line::Frame { format, at, bytes } => hear_frame(*format, *at, bytes.bytes()),
         Line::Tick(address) => Ok((*address, Event::Tick)),
         Line::Put(address, payload) => Ok((*address, Event::Put(payload.copied()))),
         Line::Cancel(address, id) => Ok((*address, Event::Cancel(*id))),

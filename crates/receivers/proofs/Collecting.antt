@@ -1,9 +1,9 @@
 -- From the cells of some commissions to the session that their books tell.
-use Rattle.std.proofs.Common.{◌≡◌, ℕ, zero, suc, ◌+◌, ◌<◌, ◌≤◌, Bool, true, List, [], ◌∷◌, ◌++◌, map, take, drop, length, slice_index_or, get_or, refl, sym, ap, ◌∙◌, subst, arith, length-append, append_assoc}
+use Rattle.std.proofs.Common.{◌≡◌, ℕ, zero, suc, ◌+◌, ◌<◌, ◌≤◌, List, [], ◌∷◌, ◌++◌, map, take, drop, length, slice_index_or, get_or, refl, sym, ap, ◌∙◌, subst, arith, length-append, append_assoc}
 use Rattle.std.specs.List.{enumerate_from}
 use Rattle.std.proofs.Math.ListN.{get_or-append}
 use Rattle.std.proofs.Math.Seq.{get_or-append_seam}
-use Rattle.std.proofs.lemmas.List.{map-append, take_more, length-map}
+use Rattle.std.proofs.lemmas.List.{map-append}
 use mathlib.Core.Logic.{dite}
 use native.Mathlib.Decide.{ℕ_discrete}
 use Rattle.meter_address.specs.declared.address.Address.{Address}
@@ -15,8 +15,8 @@ use Rattle.meter_slots.specs.Journal.{SlotView}
 use Rattle.slot_cells.specs.Acts.{Shown, CellShown, Each, IsPassOf, IsFirstPass, acts_by, made_by, mine}
 use Rattle.slot_cells.specs.Books.{Opening, opening_of, act_of, note_of, IsLegalJournal}
 use Rattle.receivers.specs.Classes.{own_lines}
-use Rattle.receivers.specs.Passes.{Answered, Crew, acts_at, ArePassesOf}
-use Rattle.receivers.specs.Roots.{CanClose, CanCloseAll, IsLeft, AreLeft}
+use Rattle.receivers.specs.Passes.{Answered, Crew, ArePassesOf}
+use Rattle.receivers.specs.Roots.{CanClose, CanCloseAll, AreLeft}
 use Rattle.stranger_ring.specs.declared.strangers.Heard.{Heard}
 use Rattle.receivers.specs.Crews.{IsRoot, AreRoots}
 use Rattle.outer_io.specs.Each.{EachWith}
@@ -92,11 +92,12 @@ module _ (own : Address) (all_addresses : List Address) (ps : List Part) (apart 
       let opens : opening_of x.opening ≡ opening own c = heads _ _ _ _ openings in
       let many = ap length is in let n = length-append front (c.address ∷ map address_of cs) in
       let here : get_or all_addresses k own ≡ c.address = ap (λ (l : List Address). get_or l k own) is ∙ (ap (λ (z : ℕ). get_or (front ++ c.address ∷ map address_of cs) z own) (sym at) ∙ get_or-append_seam front c.address (map address_of cs) own) in
-      let root = subst (λ (z : ℕ). IsJoinedRoot x z ps r) (let e : k + 0 ≡ k = omega arith in e) (joined 0 x r (omega arith)) in
-      (meters_part own (map heard_in ps) (λ w. did_from 1 w ps) all_addresses k own c b apart (omega arith) here (left.0.opening_is ∙ opens)
-      (subst (λ (o : Opening). IsLegalJournal o (map act_of b.journal)) opens left.0.is_legal) (λ w. left.0.acts w ∙ root.made_is w) asked,
-      meters_from (k + 1) (front ++ c.address ∷ []) cs cells roots books (is ∙ sym (append_assoc front (c.address ∷ []) (map address_of cs))) (let m = length-append front (c.address ∷ []) in omega arith) (tails _ _ _ _ openings) left.1
-      (λ i y d l. subst (λ (z : ℕ). IsJoinedRoot (slice_index_or cells i y) z ps (slice_index_or roots i d)) (let e : k + suc i ≡ k + 1 + i = omega arith in e) (joined (suc i) y d (omega arith))))
+      let root = subst (λ (z : ℕ). IsJoinedRoot x z ps r) (let e : k + 0 ≡ k = omega arith in e) (joined 0 x r (omega arith)) in (
+        meters_part own (map heard_in ps) (λ w. did_from 1 w ps) all_addresses k own c b apart (omega arith) here (left.0.opening_is ∙ opens)
+            (subst (λ (o : Opening). IsLegalJournal o (map act_of b.journal)) opens left.0.is_legal) (λ w. left.0.acts w ∙ root.made_is w) asked,
+        meters_from (k + 1) (front ++ c.address ∷ []) cs cells roots books (is ∙ sym (append_assoc front (c.address ∷ []) (map address_of cs))) (let m = length-append front (c.address ∷ []) in omega arith) (tails _ _ _ _ openings) left.1
+            (λ i y d l. subst (λ (z : ℕ). IsJoinedRoot (slice_index_or cells i y) z ps (slice_index_or roots i d)) (let e : k + suc i ≡ k + 1 + i = omega arith in e) (joined (suc i) y d (omega arith))),
+      )
 
   pub answers_from : (w k : ℕ) (cells : List (CellShown SlotView)) (roots : List (Shown SlotView Event Outcome)) (books : List SlotView) → Left cells roots books
       → ((i : ℕ) (c : CellShown SlotView) (d : Shown SlotView Event Outcome) → i < length cells → IsJoinedRoot (slice_index_or cells i c) (k + i) ps (slice_index_or roots i d))

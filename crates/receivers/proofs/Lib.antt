@@ -2,6 +2,7 @@ pub mod Closings
 pub mod Collecting
 pub mod Dismissals
 pub mod Handings
+pub mod HeardRuns
 pub mod Hirings
 pub mod Joinings
 pub mod Lone

@@ -14,3 +14,4 @@ pub mod Roots
 pub mod Crews
 pub mod Running
 pub mod Collected
+pub mod HeardLines

@@ -41,7 +41,11 @@ fn hire_one<S: Source + Drop, K: Sink + Drop, B: Book<Call = Event, Answer = Out
 }
 
 /// Takes the receivers, and gives each its passes. They are numbered from 1, in their order.
-pub(crate) fn hire<S: Source + Drop, K: Sink + Drop, B: Book<Call = Event, Answer = Outcome> + Drop>(
+pub(crate) fn hire<
+    S: Source + Drop,
+    K: Sink + Drop,
+    B: Book<Call = Event, Answer = Outcome> + Drop,
+>(
     alloc: Global,
     cells: &[BookCell<B>],
     roots: &mut [Pass<B>],
@@ -75,7 +79,11 @@ pub(crate) fn hire<S: Source + Drop, K: Sink + Drop, B: Book<Call = Event, Answe
 }
 
 /// Joins the passes of all receivers, and gives the receivers back in their order.
-pub(crate) fn dismiss<S: Source + Drop, K: Sink + Drop, B: Book<Call = Event, Answer = Outcome> + Drop>(
+pub(crate) fn dismiss<
+    S: Source + Drop,
+    K: Sink + Drop,
+    B: Book<Call = Event, Answer = Outcome> + Drop,
+>(
     cells: &[BookCell<B>],
     roots: &mut [Pass<B>],
     strangers: &StrangerCell,

@@ -6,16 +6,27 @@ ghost use Rattle.meter_address.specs.Commission.{Commissioned};
 ghost use Rattle.meter_slots.specs.declared.entry.Entry.{Entry};
 ghost use Rattle.meter_slots.specs.Journal.{SlotView, genuine, stored_counter};
 ghost use Rattle.meter_slots.specs.Laws.{IsAbove, IsRising, last_stored, stored_counters, sent_counters};
-ghost use Rattle.meter_slots.specs.World.{world_of};
+ghost use Rattle.meter_slots.specs.World.{WorldView, world_of};
+ghost use Rattle.outer_io.specs.Each.{Each};
 ghost use Rattle.receivers.specs.declared.told.Told.{Told};
 ghost use Rattle.receivers.specs.Alone.{steps_of};
-ghost use Rattle.receivers.specs.Orders.{order_of, IsOrderOf, IsOrderedSlot};
+ghost use Rattle.receivers.specs.Collected.{IsCollected};
+ghost use Rattle.receivers.specs.HeardLines.{IsKnown, IsHeardSession};
+ghost use Rattle.receivers.specs.Orders.{order_of, IsOrderOf, IsOrderedSlot, IsOrderOfStrangers, AreOrderedStrangers};
+ghost use Rattle.stranger_ring.specs.declared.strangers.Heard.{Heard};
+ghost use Rattle.receivers.specs.Run.{ReceiverRun};
 ghost use Rattle.receivers.specs.Session.{heard_by, lines_for, IsMetersSlot, IsSession};
 
 /// The world of one receiver's lines is a session of that receiver.
 pub fn one_receiver_makes_a_session()
     ensures { (own : Address) (commissions : List Commissioned) (heard : List Told)
         → IsSession own commissions (heard ∷ []) (world_of own commissions (steps_of 1 heard)) }
+{}
+
+/// What `collect` says, where contracts know the bytes of all sources: one session of the lines that were taken from each receiver.
+pub fn runs_are_a_session_of_their_lines()
+    ensures { (own : Address) (commissions : List Commissioned) (runs : List ReceiverRun) (world : WorldView)
+        → Each IsKnown runs → IsCollected own commissions runs world → IsHeardSession own commissions runs world }
 {}
 
 /// A meter's slot is fixed by the meter's own lines and by the order in which its journal has them, whatever else the receivers heard.
@@ -27,12 +38,16 @@ pub fn own_lines_alone()
 {}
 
 /// The order of a journal has of each receiver just the meter's own lines, each once and in that receiver's order; and each such order
-/// has a slot with a journal in that order. So the orders that a report prints fix its session.
+/// has a slot with a journal in that order. The same holds of the strangers' list. So the orders that a report prints fix its session.
 pub fn orders_make_journals()
     ensures order { (own : Address) (c : Commissioned) (all : List (List Told)) (slot : SlotView)
         → IsMetersSlot own all c slot → IsOrderOf c.address all (order_of slot.journal) }
     ensures journal { (own : Address) (c : Commissioned) (all : List (List Told)) (order : List (ℕ × ℕ))
         → IsOrderOf c.address all order → (slot : SlotView) × IsOrderedSlot own all c order slot }
+    ensures strangers { (commissions : List Commissioned) (all : List (List Told)) (order : List (ℕ × ℕ))
+        → IsOrderOfStrangers commissions all order → (heard : List Heard) × AreOrderedStrangers commissions all order heard }
+    ensures one { (commissions : List Commissioned) (all : List (List Told)) (order : List (ℕ × ℕ)) (heard again : List Heard)
+        → AreOrderedStrangers commissions all order heard → AreOrderedStrangers commissions all order again → heard ≡ again }
 {}
 
 /// Whichever receivers hear a meter: in mode 7 the stored counters strictly rise from above the commission's, and a message is stored

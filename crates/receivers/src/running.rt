@@ -18,7 +18,12 @@ use std::thread::Threads;
 use stranger_ring::Strangers;
 
 // Has all receivers work, and joins their passes.
-pub(crate) fn run_cells<R: Threads + Wait + Sync, S: Source + Send + Drop, K: Sink + Send + Drop, B: Book<Call = Event, Answer = Outcome> + Send + Drop>(
+pub(crate) fn run_cells<
+    R: Threads + Wait + Sync,
+    S: Source + Send + Drop,
+    K: Sink + Send + Drop,
+    B: Book<Call = Event, Answer = Outcome> + Send + Drop,
+>(
     rt: &R,
     alloc: Global,
     directory: &Directory,
@@ -39,14 +44,7 @@ pub(crate) fn run_cells<R: Threads + Wait + Sync, S: Source + Send + Drop, K: Si
 {
     let mut workers = hire(alloc, cells, roots, strangers, stranger_root, receivers)?;
     work_all(rt, directory, cells, strangers, &mut workers);
-    match dismiss(
-        cells,
-        roots,
-        strangers,
-        stranger_root,
-        workers,
-        receivers,
-    ) {
+    match dismiss(cells, roots, strangers, stranger_root, workers, receivers) {
         Ok(()) => Ok(()),
         Err(memory) => Err(memory),
     }

@@ -18,7 +18,10 @@ use std::thread::Threads;
 use stranger_ring::Strangers;
 
 // A cell for a book on which nothing was done yet, and its pass.
-pub(crate) fn enclose<B: Book + Drop>(alloc: Global, book: B) -> Result<(BookCell<B>, Pass<B>), Memory>
+pub(crate) fn enclose<B: Book + Drop>(
+    alloc: Global,
+    book: B,
+) -> Result<(BookCell<B>, Pass<B>), Memory>
     requires { B.acts book ≡ [] }
     ensures opening { IfOk result (λ made. B.opening made.0.opening ≡ B.opening book) }
     ensures pass { IfOk result (λ made. IsPassOf made.0 made.1 × IsFirstPass 0 made.1) }

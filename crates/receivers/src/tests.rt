@@ -119,7 +119,12 @@ fn a_downlink_fault_ends_its_receiver_alone(rt: HostRuntime) -> Result<(), Fail>
 fn two_receivers_of_one_meter(rt: HostRuntime) -> Result<(), Fail> {
     let alloc = rt.alloc();
     let one = radio(alloc, COMMANDED, &[], &[])?;
-    let two = radio(alloc, b"T 2d2c096806100507\nnothing\nT f09a3d86a480040a\n", &[2], &[])?;
+    let two = radio(
+        alloc,
+        b"T 2d2c096806100507\nnothing\nT f09a3d86a480040a\n",
+        &[2],
+        &[],
+    )?;
     let session = Session::of(&rt, alloc, one, two)?;
     assert_eq!(rt; session.heard(0), Some((3, Some(Ended::End))));
     assert_eq!(rt; session.heard(1), Some((3, Some(Ended::ReadFault))));

@@ -47,7 +47,12 @@ fn work_one<R: Wait, S: Source, K: Sink, B: Book<Call = Event, Answer = Outcome>
 }
 
 /// Has each worker's receiver work, each in a thread of its own where one can be made. Each worker is left as `work` leaves it.
-pub fn work_all<R: Threads + Wait + Sync, S: Source + Send + Drop, K: Sink + Send + Drop, B: Book<Call = Event, Answer = Outcome> + Send + Drop>(
+pub fn work_all<
+    R: Threads + Wait + Sync,
+    S: Source + Send + Drop,
+    K: Sink + Send + Drop,
+    B: Book<Call = Event, Answer = Outcome> + Send + Drop,
+>(
     rt: &R,
     directory: &Directory,
     cells: &[BookCell<B>],

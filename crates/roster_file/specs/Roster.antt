@@ -4,6 +4,7 @@ use Rattle.std.specs.Option.{ok_or}
 use Rattle.std.specs.List.{enumerate_from, list_any}
 use Rattle.std.specs.Cmp.Lexicographic.{pointwise}
 use Rattle.std.specs.Str.Lines.{lines}
+use Rattle.steps.specs.Steps.{◌>>=◌}
 use Rattle.plain_text.specs.Numbers.{number_of}
 use Rattle.plain_text.specs.Parts.{fields_of}
 use Rattle.meter_address.specs.declared.address.Address.{Address}
@@ -17,12 +18,6 @@ use Rattle.roster_file.specs.declared.roster.LineCause.{LineCause}
 use Rattle.roster_file.specs.declared.roster.LineCause.TheVariants as causes
 use Rattle.roster_file.specs.declared.roster.RosterFault.{RosterFault}
 use Rattle.roster_file.specs.declared.roster.RosterFault.TheVariants.{Line}
-
--- the second step, if the first gave a value
-infixl 10 ◌>>=◌
-abbrev pub ◌>>=◌ : {A B E : Type 0} → Result A E → (A → Result B E) → Result B E
-Ok x >>= f = f x
-Err e >>= f = Err e
 
 -- the collector's own address and the meters
 pub record Enrolled : Type 0 where
@@ -68,8 +63,10 @@ pub record Columns : Type 0 where
 
 -- the columns of the fields behind `meter`: six in version 1, which has no second key, and seven in version 2
 unfoldable pub columns_of : Version → List (List ℕ) → Option Columns
-columns_of One (a ∷ m ∷ k ∷ l ∷ d ∷ i ∷ []) = Some (record { address = a; mode = m; key = k; other = codes "-"; last = l; down = d; ids = i })
-columns_of Two (a ∷ m ∷ k ∷ o ∷ l ∷ d ∷ i ∷ []) = Some (record { address = a; mode = m; key = k; other = o; last = l; down = d; ids = i })
+columns_of One (a ∷ m ∷ k ∷ l ∷ d ∷ i ∷ []) =
+    Some (record { address = a; mode = m; key = k; other = codes "-"; last = l; down = d; ids = i })
+columns_of Two (a ∷ m ∷ k ∷ o ∷ l ∷ d ∷ i ∷ []) =
+    Some (record { address = a; mode = m; key = k; other = o; last = l; down = d; ids = i })
 columns_of version fields = None
 
 -- what a meter's columns say, or what is wrong with the first wrong one

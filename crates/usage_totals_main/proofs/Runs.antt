@@ -2,7 +2,7 @@
 use Rattle.std.proofs.Common.{◌≡◌, ℕ, ◌⊎◌, Bool, true, false, List, [], ◌++◌, length, refl, sym, ap, ◌∙◌, subst, inl, inr}
 use Rattle.std.specs.Prelude.{◌≢◌, IsTrue}
 use Rattle.std.proofs.lemmas.List.{append-nil}
-use Rattle.outer_io.specs.Shown.{Change, SourceShown, SinkShown, ReadFailed, WriteFailed, LosesNothing}
+use Rattle.outer_io.specs.Shown.{Change, ReadFailed, WriteFailed, LosesNothing}
 use Rattle.line_reader.specs.Lines.{is_over, all_lines}
 use Rattle.usage_totals_main.specs.declared.status.TotalsStatus.{TotalsStatus}
 use Rattle.usage_totals_main.specs.declared.status.TotalsStatus.TheVariants as statuses
@@ -64,15 +64,3 @@ module _ (run : Run) (e : Ended run) where
     complete = complete_by run.status refl;
     no_loss = e.bytes;
   }
-
--- other words than one are refused before anything is read
-pub not_run : (run : Run) → run.status ≡ statuses.Words → length run.words ≢ 1 → run.edits.now ≡ run.edits.before → (IsTrue run.sinks_tell → run.out.now.written ≡ []) → IsRun run
-not_run run is other same empty = record {
-  done = λ done. let no_way : statuses.Words ≡ statuses.Done = sym is ∙ done in absurd cc;
-  answered = λ tells sinks_tell. subst (λ s. IsAnswered s run.edits.now.taken run.out.now.written) (sym is) (empty sinks_tell);
-  caused = subst (IsCausedBy run) (sym is) other;
-  refused = λ _. is;
-  unread = λ _. same;
-  complete = λ tells f. absurd (other f.words);
-  no_loss = λ tells. ap (λ (s : SourceShown). s.taken ++ s.left) same;
-}

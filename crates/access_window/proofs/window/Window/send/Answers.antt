@@ -7,4 +7,5 @@ use Rattle.access_window.proofs.window.Window.send.Goals as goal
 pub returns-clause-agrees : goal.returns-clause-agrees
 returns-clause-agrees c =
     subst (Agrees (Waiting c.in-Some.oldest.now.id)) (sym c.count_try.ensures)
-    (agrees_sent c.args.queue.now c.in-Some.oldest.now (subst (λ w. Agrees w c.args.queue.now) c.in-Idle.is c.requires) c.in-Some.ensures.command)
+    (agrees_sent c.args.queue.now c.in-Some.oldest.now (subst (λ w. Agrees w c.args.queue.now) c.in-Idle.is c.requires)
+        c.in-Some.ensures.command)

@@ -1,4 +1,4 @@
-use Rattle.std.proofs.Common.{◌+◌, ◌∙◌, ap, arith}
+use Rattle.std.proofs.Common.{◌∙◌, ap, arith}
 use Rattle.line_reader.proofs.ReaderLemmas.{search_of, reader_after, keeps_line, gives_line, line_of_all, lent_line, long_line, same_lines, same_of_all, at_end, broken_off, past_limit, last_end, all_bytes}
 use Rattle.line_reader.proofs.text_reader.TextReader.next.Goals as goal
 
@@ -11,18 +11,18 @@ invariant_of-self-then-self-eq0 g c =
     reader_after c.self.inside.start c.self.inside.line c.most_bytes-most.result c.lend-self-inside.result c.self.inside.longest c.in-Line.given_up c.in-Line.count _ _ _ _ c.self.invariant.room c.self.invariant.keeps.few_bytes
     c.most_bytes-most.ensures.line c.most_bytes-most.ensures.none c.in-Line.ensures.fits c.lend-self-inside.ensures
     (λ told.
-        let found = c.in-Line.ensures.searches told in
-        let s = search_of c.self.inside.start c.self.inside.line c.most_bytes-most.result c.self.inside.lent c.self.inside.longest _ _ _ _ _ _ _ c.self.invariant c.advance.ensures told (ap (λ r. r.reader.done) c.self.view_is ∙ c.requires) c.if-self.false c.most_bytes-most.ensures.line c.most_bytes-most.ensures.none found.moves in
-        keeps_line s c.self.inside.longest _ _ c.in-Line.given_up c.in-Line.count found.finds.0 c.in-Line.ensures.fits _ _ c.in-Line.last found.finds.1)
+    let found = c.in-Line.ensures.searches told in
+    let s = search_of c.self.inside.start c.self.inside.line c.most_bytes-most.result c.self.inside.lent c.self.inside.longest _ _ _ _ _ _ _ c.self.invariant c.advance.ensures told (ap (λ r. r.reader.done) c.self.view_is ∙ c.requires) c.if-self.false c.most_bytes-most.ensures.line c.most_bytes-most.ensures.none found.moves in
+    keeps_line s c.self.inside.longest _ _ c.in-Line.given_up c.in-Line.count found.finds.0 c.in-Line.ensures.fits _ _ c.in-Line.last found.finds.1)
 
 pub invariant_of-self-in-Line : goal.invariant_of-self-in-Line
 invariant_of-self-in-Line g c =
     reader_after c.self.inside.start c.self.inside.line c.most_bytes-most.result c.lend-self-inside.result c.self.inside.longest c.in-Line.given_up c.in-Line.count _ _ _ _ c.self.invariant.room c.self.invariant.keeps.few_bytes
     c.most_bytes-most.ensures.line c.most_bytes-most.ensures.none c.in-Line.ensures.fits c.lend-self-inside.ensures
     (λ told.
-        let found = c.in-Line.ensures.searches told in
-        let s = search_of c.self.inside.start c.self.inside.line c.most_bytes-most.result c.self.inside.lent c.self.inside.longest _ _ _ _ _ _ _ c.self.invariant c.advance.ensures told (ap (λ r. r.reader.done) c.self.view_is ∙ c.requires) c.if-self.false c.most_bytes-most.ensures.line c.most_bytes-most.ensures.none found.moves in
-        keeps_line s c.self.inside.longest _ _ c.in-Line.given_up c.in-Line.count found.finds.0 c.in-Line.ensures.fits _ _ c.in-Line.last found.finds.1)
+    let found = c.in-Line.ensures.searches told in
+    let s = search_of c.self.inside.start c.self.inside.line c.most_bytes-most.result c.self.inside.lent c.self.inside.longest _ _ _ _ _ _ _ c.self.invariant c.advance.ensures told (ap (λ r. r.reader.done) c.self.view_is ∙ c.requires) c.if-self.false c.most_bytes-most.ensures.line c.most_bytes-most.ensures.none found.moves in
+    keeps_line s c.self.inside.longest _ _ c.in-Line.given_up c.in-Line.count found.finds.0 c.in-Line.ensures.fits _ _ c.in-Line.last found.finds.1)
 
 pub returns-then-self-eq0-clause-lines : goal.returns-then-self-eq0-clause-lines
 returns-then-self-eq0-clause-lines g c = λ told.

@@ -1,10 +1,12 @@
 use Rattle.meter_slots.proofs.standing.Standing.answer.Goals as goal
 
 pub returns-in_ok-hear-in-Hear-clause-outcome : goal.returns-in_ok-hear-in-Hear-clause-outcome
-returns-in_ok-hear-in-Hear-clause-outcome c told stands = rw c.in-Hear.is (c.in_ok-hear-in-Hear.ensures.outcome c.in-Hear.format told stands)
+returns-in_ok-hear-in-Hear-clause-outcome c told stands =
+    rw c.in-Hear.is (c.in_ok-hear-in-Hear.ensures.outcome c.in-Hear.format told stands)
 
 pub returns-in_ok-hear-in-Hear-clause-reading : goal.returns-in_ok-hear-in-Hear-clause-reading
-returns-in_ok-hear-in-Hear-clause-reading c told stands = rw c.in-Hear.is (c.in_ok-hear-in-Hear.ensures.reading c.in-Hear.format told stands)
+returns-in_ok-hear-in-Hear-clause-reading c told stands =
+    rw c.in-Hear.is (c.in_ok-hear-in-Hear.ensures.reading c.in-Hear.format told stands)
 
 pub returns-in_ok-hear-in-Hear-clause-moves : goal.returns-in_ok-hear-in-Hear-clause-moves
 returns-in_ok-hear-in-Hear-clause-moves c told stands =

@@ -2,14 +2,17 @@ use Rattle.std.proofs.Common.{◌≡◌, ◌↔◌, false, ap, sym, ◌∙◌, s
 use Rattle.meter_slots.specs.Directory.{AreApart}
 use Rattle.meter_slots.specs.declared.step.Landed.TheVariants.{Slot, Stranger}
 use Rattle.meter_slots.specs.World.{WorldView, after_step, has_slot, AnsweredBy}
-use Rattle.meter_slots.proofs.Worlds.{none_found, found_at, ordered_step, after_strange, after_own, after_push, landed_strange, landed_own, answered_own, stranger_strange, stranger_own, some_slot}
+use Rattle.meter_slots.proofs.Worlds.{none_found, found_at, ordered_step, after_strange, after_own, after_push, landed_strange, landed_own}
+use Rattle.meter_slots.proofs.Worlds.{answered_own, stranger_strange, stranger_own, some_slot}
 use Rattle.meter_slots.proofs.world.World.step.Goals as goal
 
 pub invariant_of-self-in-Some : goal.invariant_of-self-in-Some
 invariant_of-self-in-Some c =
     let slots = c.self.inside.slots.items in
-    let found = found_at slots c.self.inside.directory c.args.step.address.0 c.in-Some.place some_slot c.self.invariant (sym c.in-Some.ensures) in
-    ordered_step slots c.step_at.new.slots.items c.self.inside.directory c.in-Some.place c.args.step some_slot c.self.invariant found.0 found.1 (c.in_ok-outcome-in-Some.ensures.ok some_slot)
+    let found =
+        found_at slots c.self.inside.directory c.args.step.address.0 c.in-Some.place some_slot c.self.invariant (sym c.in-Some.ensures) in
+    ordered_step slots c.step_at.new.slots.items c.self.inside.directory c.in-Some.place c.args.step some_slot c.self.invariant found.0
+        found.1 (c.in_ok-outcome-in-Some.ensures.ok some_slot)
 
 -- ---- no slot has the address
 
@@ -17,7 +20,8 @@ pub returns-in_ok-note-in-None-clause-after : goal.returns-in_ok-note-in-None-cl
 returns-in_ok-note-in-None-clause-after c =
     let w : WorldView = record { slots = c.self.inside.slots.items; strangers = c.self.inside.strangers } in
     let none = none_found w.slots c.self.inside.directory c.args.step.address.0 c.self.invariant (sym c.in-None.ensures) in
-    ap (λ ts. record { slots = w.slots; strangers = ts }) c.in_ok-note-in-None.ensures.ok ∙ after_strange c.args.step w none ∙ ap (λ v. after_step v c.args.step) c.self.view_is
+    ap (λ ts. record { slots = w.slots; strangers = ts }) c.in_ok-note-in-None.ensures.ok ∙ after_strange c.args.step w none
+    ∙ ap (λ v. after_step v c.args.step) c.self.view_is
 
 pub returns-in_ok-note-in-None-clause-stranger : goal.returns-in_ok-note-in-None-clause-stranger
 returns-in_ok-note-in-None-clause-stranger c =
@@ -40,7 +44,8 @@ returns-in_ok-note-in-None-clause-landed c own cs steps e =
 pub returns-in_ok-outcome-in-Some-clause-after : goal.returns-in_ok-outcome-in-Some-clause-after
 returns-in_ok-outcome-in-Some-clause-after c =
     let w : WorldView = record { slots = c.self.inside.slots.items; strangers = c.self.inside.strangers } in
-    let found = found_at w.slots c.self.inside.directory c.args.step.address.0 c.in-Some.place some_slot c.self.invariant (sym c.in-Some.ensures) in
+    let found =
+        found_at w.slots c.self.inside.directory c.args.step.address.0 c.in-Some.place some_slot c.self.invariant (sym c.in-Some.ensures) in
     let apart = subst AreApart c.self.invariant.places c.self.invariant.apart in
     ap (λ bs. record { slots = bs; strangers = w.strangers }) (c.in_ok-outcome-in-Some.ensures.ok some_slot)
     ∙ after_own c.args.step w c.in-Some.place some_slot apart found.0 found.1 ∙ ap (λ v. after_step v c.args.step) c.self.view_is
@@ -48,16 +53,20 @@ returns-in_ok-outcome-in-Some-clause-after c =
 pub returns-in_ok-outcome-in-Some-clause-stranger : goal.returns-in_ok-outcome-in-Some-clause-stranger
 returns-in_ok-outcome-in-Some-clause-stranger c =
     let w : WorldView = record { slots = c.self.inside.slots.items; strangers = c.self.inside.strangers } in
-    let found = found_at w.slots c.self.inside.directory c.args.step.address.0 c.in-Some.place some_slot c.self.invariant (sym c.in-Some.ensures) in
-    subst (λ (v : WorldView). (Slot c.in-Some.place c.in_ok-outcome-in-Some.outcome ≡ Stranger) ↔ (has_slot v.slots c.args.step ≡ false)) c.self.view_is
+    let found =
+        found_at w.slots c.self.inside.directory c.args.step.address.0 c.in-Some.place some_slot c.self.invariant (sym c.in-Some.ensures) in
+    subst (λ (v : WorldView). (Slot c.in-Some.place c.in_ok-outcome-in-Some.outcome ≡ Stranger) ↔ (has_slot v.slots c.args.step ≡ false))
+        c.self.view_is
     (stranger_own w.slots c.args.step c.in-Some.place some_slot c.in_ok-outcome-in-Some.outcome found.0 found.1)
 
 pub returns-in_ok-outcome-in-Some-clause-slot : goal.returns-in_ok-outcome-in-Some-clause-slot
 returns-in_ok-outcome-in-Some-clause-slot c =
     let w : WorldView = record { slots = c.self.inside.slots.items; strangers = c.self.inside.strangers } in
-    let found = found_at w.slots c.self.inside.directory c.args.step.address.0 c.in-Some.place some_slot c.self.invariant (sym c.in-Some.ensures) in
+    let found =
+        found_at w.slots c.self.inside.directory c.args.step.address.0 c.in-Some.place some_slot c.self.invariant (sym c.in-Some.ensures) in
     subst (λ (v : WorldView). AnsweredBy v.slots c.args.step (Slot c.in-Some.place c.in_ok-outcome-in-Some.outcome)) c.self.view_is
-    (answered_own w.slots c.args.step c.in-Some.place some_slot c.in_ok-outcome-in-Some.outcome found.0 found.1 (c.in_ok-outcome-in-Some.ensures.outcome some_slot))
+    (answered_own w.slots c.args.step c.in-Some.place some_slot c.in_ok-outcome-in-Some.outcome found.0 found.1
+        (c.in_ok-outcome-in-Some.ensures.outcome some_slot))
 
 pub returns-in_ok-outcome-in-Some-clause-ok : goal.returns-in_ok-outcome-in-Some-clause-ok
 returns-in_ok-outcome-in-Some-clause-ok c own cs steps e =
@@ -66,5 +75,7 @@ returns-in_ok-outcome-in-Some-clause-ok c own cs steps e =
 pub returns-in_ok-outcome-in-Some-clause-landed : goal.returns-in_ok-outcome-in-Some-clause-landed
 returns-in_ok-outcome-in-Some-clause-landed c own cs steps e =
     let w : WorldView = record { slots = c.self.inside.slots.items; strangers = c.self.inside.strangers } in
-    let found = found_at w.slots c.self.inside.directory c.args.step.address.0 c.in-Some.place some_slot c.self.invariant (sym c.in-Some.ensures) in
-    landed_own own cs steps c.args.step w c.in-Some.place some_slot c.in_ok-outcome-in-Some.outcome (c.self.view_is ∙ e) found.0 found.1 (c.in_ok-outcome-in-Some.ensures.outcome some_slot)
+    let found =
+        found_at w.slots c.self.inside.directory c.args.step.address.0 c.in-Some.place some_slot c.self.invariant (sym c.in-Some.ensures) in
+    landed_own own cs steps c.args.step w c.in-Some.place some_slot c.in_ok-outcome-in-Some.outcome (c.self.view_is ∙ e) found.0 found.1
+        (c.in_ok-outcome-in-Some.ensures.outcome some_slot)

@@ -1,0 +1,171 @@
+//! The program `usage_totals`: opens the file of edits that its word names, and answers its lines.
+#![tactic(auto)]
+
+ghost use Rattle.std.specs.Prelude.{◌≡◌, ◌≢◌, [], true, false, length, map, IsTrue};
+ghost use Rattle.std.specs.String.{string_bytes};
+ghost use Rattle.std.specs.Process.{exit_status};
+ghost use Rattle.outer_io.specs.Shown.{source_change, sink_change};
+ghost use Rattle.usage_totals_main.specs.declared.status.TotalsStatus.{TotalsStatus};
+ghost use Rattle.usage_totals_main.specs.Run.{IsRun, code_of};
+ghost use Rattle.usage_totals.specs.Exit.{own_text, asks_for_text, IsTold};
+
+use line_reader::TextReader;
+use outer_io::{Sink, Source, StdSink, StdSource};
+use std::env;
+use std::fs::{File, Files};
+use std::io::{self, ErrorKind};
+use std::process::ExitCode;
+use usage_totals_main::{LINE_MAX, TotalsStatus, totals_run};
+
+const HELP: &str = "usage_totals: usages of meters, from payloads that are added, corrected and taken away
+
+usage: usage_totals EDITS
+       usage_totals --help
+       usage_totals --version
+
+EDITS is a file with a line for each edit or question:
++ ADDRESS HEX          a payload behind the address's others
+= ADDRESS PLACE HEX    a payload in the place of another one, from 0 on
+- ADDRESS PLACE        a payload taken away
+? ADDRESS              what the meter used: its last amounts less the first
+?                      what all meters used together
+Each line is answered on the standard output.
+
+exit status: 0 done, 2 faulty words, 5 edits not read, 7 answer not written,
+8 edits past the limit, 10 no memory, 11 a file that can't be opened
+";
+
+const VERSION: &str = "usage_totals 0.1.0\n";
+
+// A text of the program's own.
+#[derive(Clone, Copy)]
+enum OwnText {
+    Help,
+    Version,
+}
+
+impl OwnText {
+    ghost use Rattle.std.specs.Prelude.{◌≡◌};
+    ghost use Rattle.usage_totals.specs.Exit.{text_of};
+
+    fn text(self) -> &'static str
+        ensures { result.now ≡ text_of self }
+    {
+        match self {
+            OwnText::Help => HELP,
+            OwnText::Version => VERSION,
+        }
+    }
+}
+
+// The text of the program's own that the words ask for, where they ask for one.
+fn own_text(command: &[String]) -> Option<OwnText>
+    ensures { result ≡ own_text (map string_bytes command.now) }
+{
+    let [word] = command else {
+        return None;
+    };
+    if word.as_str() == "--help" {
+        return Some(OwnText::Help);
+    }
+    if word.as_str() == "--version" {
+        return Some(OwnText::Version);
+    }
+    None
+}
+
+// Says the exit status, unless all is done, and ends with it.
+fn end(rt: &impl Eprint, status: TotalsStatus) -> ExitCode
+    ensures { exit_status result ≡ code_of status }
+{
+    let code = status.code();
+    if code != 0 {
+        let _ = eprintln!(rt; "usage_totals: status {code}");
+    }
+    ExitCode::from(code)
+}
+
+// Prints a text of the program's own.
+fn tell<R: Print + Eprint>(rt: &R, text: &str) -> ExitCode
+    ensures { IsTold (exit_status result) }
+{
+    match rt.print(text) {
+        Ok(()) => ExitCode::SUCCESS,
+        Err(_) => end(rt, TotalsStatus::Write),
+    }
+}
+
+fn cannot_open(rt: &impl Eprint) -> ExitCode
+    ensures { exit_status result ≡ 11 }
+{
+    let _ = eprintln!(rt; "usage_totals: status 11");
+    ExitCode::from(11)
+}
+
+// Answers the lines of a file, and ends with the status of that.
+fn answer<R: Eprint + AllocGlobal, S: Source, K: Sink>(
+    rt: &R,
+    command: &[String],
+    edits: &mut TextReader<S>,
+    out: &mut K,
+) -> ExitCode
+    requires fresh { edits.old.reader.line ≡ 0 }
+    requires goes_on { edits.old.reader.done ≡ false }
+    requires longest { edits.old.longest ≡ 7774 }
+    requires untaken { IsTrue S.tells → S.taken edits.old.reader.source ≡ [] }
+    requires empty { IsTrue K.tells → K.written out.old ≡ [] }
+    ensures { (status : TotalsStatus) × (exit_status result ≡ code_of status) × IsRun (record {
+        sources_tell = S.tells;
+        sinks_tell = K.tells;
+        words = map string_bytes command.now;
+        edits = source_change S.Source edits.old.reader.source edits.new.reader.source;
+        out = sink_change K.Sink out.old out.new;
+        status = status;
+    }) }
+{
+    let status = totals_run(rt.alloc(), command, edits, out);
+    end(rt, status)
+}
+
+// Does what the words behind the program's name ask for.
+fn perform<R: Print + Eprint + Files<File = File> + AllocGlobal>(
+    rt: &R,
+    command: &[String],
+    mut out: StdSink,
+) -> ExitCode
+    ensures text { asks_for_text (map string_bytes command.now) ≡ true → IsTold (exit_status result) }
+    ensures faulty { length command.now ≢ 1 → exit_status result ≡ 2 }
+{
+    if let Some(own) = own_text(command) {
+        return tell(rt, own.text());
+    }
+    let [edits] = command else {
+        return end(rt, TotalsStatus::Words);
+    };
+    let Ok(file) = File::open(rt, edits.as_str()) else {
+        return cannot_open(rt);
+    };
+    let mut lines = TextReader::new(StdSource::file(file), LINE_MAX);
+    answer(rt, command, &mut lines, &mut out)
+}
+
+// What it means that the words can't be had: there is no memory for them, or one isn't UTF-8, which makes them faulty.
+fn status_without_words(error: &io::Error) -> TotalsStatus {
+    if error.kind() == ErrorKind::OutOfMemory {
+        TotalsStatus::Memory
+    } else {
+        TotalsStatus::Words
+    }
+}
+
+fn main(rt: HostRuntime) -> ExitCode {
+    let args = match env::args(&rt) {
+        Ok(args) => args,
+        Err(error) => return end(&rt, status_without_words(&error)),
+    };
+    let Ok(command) = args.skip(1).collect::<Vec<String>>(rt.alloc()) else {
+        return end(&rt, TotalsStatus::Memory);
+    };
+    let out = StdSink::standard(rt.stdout());
+    perform(&rt, command.as_slice(), out)
+}
