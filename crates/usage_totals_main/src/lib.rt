@@ -11,6 +11,3 @@ pub use meter_usage::{Totals, TotalsFault, UsageKey};
 pub use request::LINE_MAX;
 pub use running::totals_run;
 pub use status::TotalsStatus;
-
-#[cfg(test)]
-mod tests;
