@@ -1,9 +1,9 @@
 -- From the cells of some commissions to the session that their books tell.
-use Rattle.std.proofs.Common.{◌≡◌, ℕ, zero, suc, ◌+◌, ◌<◌, ◌≤◌, Bool, true, List, [], ◌∷◌, ◌++◌, map, take, drop, length, slice_index_or, get_or, refl, sym, ap, ◌∙◌, subst, arith, length-append, append_assoc}
+use Rattle.std.proofs.Common.{◌≡◌, ℕ, zero, suc, ◌+◌, ◌<◌, ◌≤◌, List, [], ◌∷◌, ◌++◌, map, take, drop, length, slice_index_or, get_or, refl, sym, ap, ◌∙◌, subst, arith, length-append, append_assoc}
 use Rattle.std.specs.List.{enumerate_from}
 use Rattle.std.proofs.Math.ListN.{get_or-append}
 use Rattle.std.proofs.Math.Seq.{get_or-append_seam}
-use Rattle.std.proofs.lemmas.List.{map-append, take_more, length-map}
+use Rattle.std.proofs.lemmas.List.{map-append}
 use mathlib.Core.Logic.{dite}
 use native.Mathlib.Decide.{ℕ_discrete}
 use Rattle.meter_address.specs.declared.address.Address.{Address}
@@ -15,8 +15,8 @@ use Rattle.meter_slots.specs.Journal.{SlotView}
 use Rattle.slot_cells.specs.Acts.{Shown, CellShown, Each, IsPassOf, IsFirstPass, acts_by, made_by, mine}
 use Rattle.slot_cells.specs.Books.{Opening, opening_of, act_of, note_of, IsLegalJournal}
 use Rattle.receivers.specs.Classes.{own_lines}
-use Rattle.receivers.specs.Passes.{Answered, Crew, acts_at, ArePassesOf}
-use Rattle.receivers.specs.Roots.{CanClose, CanCloseAll, IsLeft, AreLeft}
+use Rattle.receivers.specs.Passes.{Answered, Crew, ArePassesOf}
+use Rattle.receivers.specs.Roots.{CanClose, CanCloseAll, AreLeft}
 use Rattle.stranger_ring.specs.declared.strangers.Heard.{Heard}
 use Rattle.receivers.specs.Crews.{IsRoot, AreRoots}
 use Rattle.outer_io.specs.Each.{EachWith}

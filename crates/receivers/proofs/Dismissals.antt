@@ -1,15 +1,14 @@
 -- The passes of one more receiver are joined, the last one's that is left.
-use Rattle.std.proofs.Common.{◌≡◌, ℕ, ◌<◌, List, [], ◌∷◌, ◌++◌, map, length, slice_index_or, refl, sym, ap, ◌∙◌, subst, arith, append-nil, append_assoc}
+use Rattle.std.proofs.Common.{◌≡◌, List, [], ◌∷◌, ◌++◌, map, length, slice_index_or, refl, sym, ap, ◌∙◌, subst, arith, append-nil, append_assoc}
 use Rattle.std.proofs.lemmas.List.{map-append}
 use Rattle.meter_address.specs.declared.address.Address.{Address}
 use Rattle.meter_slots.specs.declared.entry.Event.{Event}
 use Rattle.meter_slots.specs.declared.entry.Outcome.{Outcome}
 use Rattle.slot_cells.specs.declared.known.Made.{Made}
-use Rattle.slot_cells.specs.Acts.{Shown, CellShown, Each, IsPassOf, mine, HasJoined}
-use Rattle.receivers.specs.Passes.{ArePassesOf}
+use Rattle.slot_cells.specs.Acts.{Shown, CellShown, Each, mine, HasJoined}
 use Rattle.receivers.specs.Roots.{HaveJoined}
-use Rattle.receivers.specs.Passes.{Crew, crew}
-use Rattle.receivers.specs.Crews.{CanJoin, joined_at, strangers_joined, AllJoined, HaveAllJoined}
+use Rattle.receivers.specs.Passes.{Crew}
+use Rattle.receivers.specs.Crews.{CanJoin, AllJoined, HaveAllJoined}
 
 module _ {O C R : Type 0} where
   joined_more : (xs : List (Made C R)) (p q r t : Shown O C R) → AllJoined xs p q → HasJoined q t r → AllJoined (xs ++ mine t) p r

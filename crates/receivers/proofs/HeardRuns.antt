@@ -1,5 +1,5 @@
 -- From the runs of a session to the lines that were taken.
-use Rattle.std.proofs.Common.{◌≡◌, List, [], ◌∷◌, map, Some, IsTrue, refl, sym, ap, subst}
+use Rattle.std.proofs.Common.{◌≡◌, List, [], ◌∷◌, map, refl, subst}
 use Rattle.outer_io.specs.Each.{Each, EachWith}
 use Rattle.meter_address.specs.declared.address.Address.{Address}
 use Rattle.meter_address.specs.Commission.{Commissioned}

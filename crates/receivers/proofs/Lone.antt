@@ -1,12 +1,11 @@
 -- A receiver that is heard alone: one line, and lines one after another.
-use Rattle.std.proofs.Common.{◌≡◌, ◌↔◌, ◌==◌, ◌||◌, ℕ, ◌+◌, List, [], ◌∷◌, ◌++◌, map, length, take, not, nat_lt, Bool, true, false, cond, Option, Some, None, IsTrue, refl, sym, ap, ◌∙◌, subst, arith}
+use Rattle.std.proofs.Common.{◌≡◌, ◌↔◌, ◌==◌, ◌||◌, ℕ, ◌+◌, List, [], ◌∷◌, ◌++◌, map, length, take, not, nat_lt, Bool, true, false, cond, Option, Some, None, IsTrue, refl, sym, ap, ◌∙◌, arith}
 use Rattle.std.specs.Prelude.{option_to_list, position}
 use Rattle.std.specs.List.{filter_map, cons_option, list_any, position_or_len, enumerate_from}
 use Rattle.std.proofs.lemmas.Bool.Decides.{nat_tests}
 use Rattle.std.proofs.lemmas.List.Elements.{filter_map-append}
 use Rattle.meter_address.specs.declared.address.Address.{Address}
 use Rattle.meter_slots.specs.declared.counts.Counts.{Counts}
-use Rattle.meter_slots.specs.declared.entry.Event.{Event}
 use Rattle.meter_slots.specs.declared.step.Landed.{Landed}
 use Rattle.meter_slots.specs.declared.step.Landed.TheVariants.{Slot, Stranger}
 use Rattle.meter_slots.specs.declared.step.Step.{Step}

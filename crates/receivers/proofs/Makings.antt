@@ -1,10 +1,9 @@
 -- What one line did, and what lines did one after another.
-use Rattle.std.proofs.Common.{◌≡◌, ◌==◌, ℕ, ◌<◌, List, [], ◌∷◌, ◌++◌, map, filter, length, slice_index_or, Option, Some, None, Result, Ok, Err, IsTrue, is_some, true, refl, sym, ap, ◌∙◌, subst, arith, append-nil, append_assoc}
+use Rattle.std.proofs.Common.{◌≡◌, ◌==◌, ℕ, List, [], ◌∷◌, ◌++◌, map, filter, slice_index_or, Option, Some, None, Result, Ok, Err, refl, sym, ap, ◌∙◌, subst, arith, append-nil, append_assoc}
 use Rattle.std.specs.Prelude.{option_to_list}
-use Rattle.std.specs.List.{filter_map, cons_option, flat_map}
-use Rattle.std.proofs.lemmas.List.Elements.{filter-append, filter_map-append}
+use Rattle.std.specs.List.{filter_map, cons_option}
+use Rattle.std.proofs.lemmas.List.Elements.{filter-append}
 use Rattle.std.proofs.lemmas.List.{map-append}
-use Rattle.outer_io.specs.Bytes.{AppendsFront}
 use Rattle.outer_io.specs.declared.failures.Failed.{Failed}
 use Rattle.meter_address.specs.declared.address.Address.{Address}
 use Rattle.meter_slots.specs.declared.entry.Event.{Event}
@@ -16,8 +15,8 @@ use Rattle.receivers.specs.declared.class.Class.TheVariants as classes
 use Rattle.receivers.specs.declared.told.Told.{Told}
 use Rattle.receivers.specs.declared.told.Told.TheVariants as told
 use Rattle.receivers.specs.Classes.{OwnLine, StrangeLine, place_of, own_at, own_by, own_of, strange_at, strange_by, strange_of, own_lines, strange_lines, class_at, class_by}
-use Rattle.receivers.specs.Passes.{Answered, act_by, acts_at, note_by, Crew, crew, HasMade, HaveAnswered, HasNoted}
-use Rattle.receivers.specs.Works.{sent_in, sent_line, sent_text, tx_text, Works, HearsLine, Sends, SendsAll}
+use Rattle.receivers.specs.Passes.{Answered, act_by, acts_at, note_by, crew, HasMade, HaveAnswered, HasNoted}
+use Rattle.receivers.specs.Works.{sent_text, Works, HearsLine, Sends, SendsAll}
 
 -- ---- passes
 

@@ -13,7 +13,7 @@ use Rattle.receivers.specs.declared.class.Class.{Class}
 use Rattle.receivers.specs.declared.told.Told.{Told}
 use Rattle.receivers.specs.Counting.{one_if, with_class, AreFew}
 use Rattle.receivers.specs.Classes.{class_by, is_own, is_strange, is_unframed, is_bad, count_of, counts_of}
-use Rattle.receivers.specs.Ending.{TellsNext, IsUnsent, IsUnkept, IsEnding}
+use Rattle.receivers.specs.Ending.{TellsNext, IsEnding}
 use Rattle.receivers.specs.Receiver.{no_counts}
 use Rattle.receivers.specs.Run.{Hearing, lines_taken, lines_of, HasHeard}
 use Rattle.outer_io.specs.Shown.{ReadFailed, LosesNothing}

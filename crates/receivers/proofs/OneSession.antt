@@ -1,5 +1,5 @@
 -- A receiver that is heard alone, in a world before any step, makes a session of just its lines.
-use Rattle.std.proofs.Common.{◌≡◌, ◌==◌, ℕ, ◌+◌, List, [], ◌∷◌, ◌++◌, map, filter, reverse, not, Bool, true, false, cond, if◌then◌else◌, Option, Some, None, refl, sym, ap, ◌∙◌, subst, arith, append_assoc, append-nil}
+use Rattle.std.proofs.Common.{◌≡◌, ◌==◌, ℕ, List, [], ◌∷◌, ◌++◌, map, filter, reverse, not, Bool, true, false, cond, Some, None, refl, sym, ap, ◌∙◌, subst, arith, append_assoc, append-nil}
 use Rattle.std.specs.List.{filter_map, cons_option, enumerate_from}
 use Rattle.std.proofs.lemmas.Bool.Decides.{nat_tests}
 use Rattle.std.proofs.lemmas.List.{reverse-append, reverse-reverse, map-append}
@@ -9,13 +9,13 @@ use Rattle.meter_slots.specs.declared.entry.Entry.{Entry}
 use Rattle.meter_slots.specs.declared.entry.Event.{Event}
 use Rattle.meter_slots.specs.declared.step.Step.{Step}
 use Rattle.meter_slots.specs.Laws.{call_in}
-use Rattle.meter_slots.specs.World.{Call, call_of, judged_journal, journal_of, is_for, calls_of, slot_of, heard_of, strangers_of, is_commissioned, WorldView, world_of, after_step, address_of_slot}
+use Rattle.meter_slots.specs.World.{Call, call_of, judged_journal, journal_of, is_for, calls_of, slot_of, heard_of, strangers_of, is_commissioned, WorldView, world_of, address_of_slot}
 use Rattle.meter_slots.proofs.JournalLaws.{journal_of_legal}
 use Rattle.meter_slots.proofs.Worlds.{after_push}
 use Rattle.stranger_ring.specs.declared.strangers.Heard.{Heard}
 use Rattle.receivers.specs.declared.told.Told.{Told}
 use Rattle.receivers.specs.declared.told.Told.TheVariants as told
-use Rattle.receivers.specs.Alone.{step_by, steps_among, steps_of, after_steps, addresses_in, HasHeardAlone}
+use Rattle.receivers.specs.Alone.{steps_among, steps_of, after_steps, addresses_in, HasHeardAlone}
 use Rattle.receivers.specs.Run.{Hearing, HasHeard}
 use Rattle.outer_io.specs.Each.{EachWith}
 use Rattle.receivers.specs.Session.{heard_by, event_at, lines_for, stranger_at, lines_of_strangers, steps_by, notes_by, IsMetersSlot, IsSession}

@@ -1,11 +1,11 @@
 -- The order of a journal fixes it, and each order of a meter's own lines has a journal; the same of the strangers' list.
-use Rattle.std.proofs.Common.{◌≡◌, ◌==◌, ℕ, zero, suc, ◌+◌, List, [], ◌∷◌, ◌++◌, map, filter, Bool, true, false, cond, if◌then◌else◌, refl, sym, ap, ◌∙◌, subst, arith}
+use Rattle.std.proofs.Common.{◌≡◌, ◌==◌, ℕ, List, [], ◌∷◌, map, filter, Bool, true, false, cond, if◌then◌else◌, refl, sym, ap, ◌∙◌, arith}
 use Rattle.std.proofs.lemmas.Bool.Decides.{nat_tests}
 use Rattle.meter_address.specs.declared.address.Address.{Address}
 use Rattle.meter_address.specs.Commission.{Commissioned}
 use Rattle.meter_slots.specs.declared.entry.Entry.{Entry}
 use Rattle.meter_slots.specs.declared.entry.Event.{Event}
-use Rattle.meter_slots.specs.Journal.{SlotView, Legal}
+use Rattle.meter_slots.specs.Journal.{SlotView}
 use Rattle.meter_slots.specs.Laws.{call_in}
 use Rattle.meter_slots.specs.World.{Call, journal_of}
 use Rattle.meter_slots.proofs.JournalLaws.{journal_is, journal_of_legal}

@@ -1,5 +1,5 @@
 -- From the workers before and after their work to the receivers' runs and their passes.
-use Rattle.std.proofs.Common.{◌≡◌, ℕ, zero, suc, ◌+◌, ◌<◌, List, [], ◌∷◌, ◌++◌, map, length, slice_index_or, get_or, Option, None, All, refl, sym, ap, ◌∙◌, subst, arith, append-nil}
+use Rattle.std.proofs.Common.{◌≡◌, ℕ, zero, suc, ◌+◌, ◌<◌, List, [], ◌∷◌, ◌++◌, map, length, slice_index_or, None, All, refl, sym, ap, ◌∙◌, subst, arith, append-nil}
 use Rattle.std.proofs.lemmas.List.{length-map}
 use Rattle.meter_address.specs.declared.address.Address.{Address}
 use Rattle.meter_slots.specs.declared.entry.Event.{Event}
@@ -9,7 +9,7 @@ use Rattle.outer_io.specs.declared.sources.Source as sources
 use Rattle.slot_cells.specs.Acts.{Shown, CellShown, Each}
 use Rattle.receivers.specs.Passes.{Crew}
 use Rattle.receivers.specs.Receiver.{Receiving}
-use Rattle.receivers.specs.Run.{ReceiverRun, receiver_run, receiver_runs}
+use Rattle.receivers.specs.Run.{receiver_run, receiver_runs}
 use Rattle.receivers.specs.Workers.{CanWork, IsDone}
 use Rattle.receivers.specs.Crews.{IsCrew, AreCrews, AreRoots, CanJoin, HaveAllJoined}
 use Rattle.receivers.specs.Running.{AreDone, HaveRun}

@@ -1,7 +1,7 @@
 -- A receiver's lines at one place, and its part of a journal.
-use Rattle.std.proofs.Common.{◌≡◌, ℕ, zero, suc, ◌+◌, ◌<◌, ◌≤◌, ◌==◌, ◌||◌, not, nat_lt, List, [], ◌∷◌, ◌++◌, Bool, true, false, cond, if◌then◌else◌, map, filter, length, get_or, Option, Some, None, is_some, refl, ap, sym, subst, ◌∙◌, arith, eq-eqb, ne_eqb, eqb}
+use Rattle.std.proofs.Common.{◌≡◌, ℕ, zero, suc, ◌+◌, ◌<◌, ◌≤◌, ◌==◌, ◌||◌, not, nat_lt, List, [], ◌∷◌, Bool, true, false, cond, if◌then◌else◌, map, filter, length, get_or, Option, Some, None, refl, ap, sym, subst, ◌∙◌, arith, eq-eqb, ne_eqb}
 use Rattle.std.specs.Prelude.{option_map, position}
-use Rattle.std.specs.List.{filter_map, cons_option, list_any, enumerate_from, position_or_len, prefix_len}
+use Rattle.std.specs.List.{filter_map, cons_option, list_any, enumerate_from, position_or_len}
 use Rattle.std.proofs.lemmas.Bool.Decides.{nat_tests}
 use Rattle.std.proofs.lemmas.List.Quantifiers.{position-Some}
 use mathlib.Core.Logic.{dite}
@@ -10,13 +10,12 @@ use Rattle.meter_address.specs.declared.address.Address.{Address}
 use Rattle.meter_address.specs.Commission.{Commissioned}
 use Rattle.meter_slots.specs.declared.entry.Entry.{Entry}
 use Rattle.meter_slots.specs.declared.entry.Event.{Event}
-use Rattle.meter_slots.specs.declared.entry.Outcome.{Outcome}
 use Rattle.meter_slots.specs.Directory.{AreApart}
 use Rattle.meter_slots.specs.Journal.{SlotView, Legal}
 use Rattle.stranger_ring.specs.declared.strangers.Heard.{Heard}
 use Rattle.slot_cells.specs.declared.act.Act.{Act}
 use Rattle.slot_cells.specs.Acts.{acts_by}
-use Rattle.slot_cells.specs.Books.{Opening, opening_of, act_of, entry_of, note_of, heard_of, IsLegalJournal}
+use Rattle.slot_cells.specs.Books.{Opening, opening_of, act_of, entry_of, note_of, IsLegalJournal}
 use Rattle.slot_cells.proofs.Entries.{entries_back}
 use Rattle.receivers.specs.declared.told.Told.{Told}
 use Rattle.receivers.specs.declared.told.Told.TheVariants as told

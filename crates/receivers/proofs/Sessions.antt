@@ -1,5 +1,5 @@
 -- From a run of all receivers to the journals of the closed cells.
-use Rattle.std.proofs.Common.{◌≡◌, ℕ, zero, suc, ◌+◌, ◌<◌, ◌≤◌, ◌==◌, Bool, true, false, cond, if◌then◌else◌, List, [], ◌∷◌, ◌++◌, map, length, slice_index_or, refl, sym, ap, ◌∙◌, subst, arith}
+use Rattle.std.proofs.Common.{◌≡◌, ℕ, zero, suc, ◌+◌, ◌<◌, ◌==◌, Bool, true, false, cond, if◌then◌else◌, List, [], ◌∷◌, ◌++◌, map, length, slice_index_or, refl, sym, ap, ◌∙◌, subst, arith}
 use Rattle.std.specs.List.{enumerate_from}
 use Rattle.meter_address.specs.declared.address.Address.{Address}
 use Rattle.meter_slots.specs.declared.entry.Event.{Event}
@@ -7,8 +7,7 @@ use Rattle.meter_slots.specs.declared.entry.Outcome.{Outcome}
 use Rattle.slot_cells.specs.declared.act.Act.{Act}
 use Rattle.slot_cells.specs.declared.known.Made.{Made}
 use Rattle.slot_cells.specs.Acts.{Shown, CellShown, Each, IsPassOf, is_among, sources, made, made_by, mine}
-use Rattle.receivers.specs.declared.told.Told.{Told}
-use Rattle.receivers.specs.Classes.{OwnLine, own_lines, strange_lines}
+use Rattle.receivers.specs.Classes.{own_lines, strange_lines}
 use Rattle.receivers.specs.Collected.{did_from}
 use Rattle.receivers.specs.Passes.{Answered, Crew, acts_at, note_by, ArePassesOf}
 use Rattle.receivers.specs.Roots.{CanClose}
@@ -16,7 +15,7 @@ use Rattle.receivers.specs.Run.{ReceiverRun}
 use Rattle.receivers.specs.Session.{heard_from, heard_by}
 use Rattle.receivers.specs.Works.{Part}
 use Rattle.receivers.specs.Workers.{IsDone}
-use Rattle.receivers.specs.Crews.{IsCrew, AreCrews, IsRoot, AreRoots, joined_at, strangers_joined, AllJoined, HaveAllJoined}
+use Rattle.receivers.specs.Crews.{IsCrew, AreCrews, IsRoot, joined_at, strangers_joined, AllJoined}
 use Rattle.receivers.specs.Running.{AreDone, HaveRun}
 use Rattle.std.proofs.lemmas.Bool.Decides.{nat_tests}
 use Rattle.receivers.proofs.Stacks.{stack, AreNumbered, acts_of, made_stacked, none_below, all_joined}

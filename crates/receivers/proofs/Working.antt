@@ -1,7 +1,7 @@
 -- What a receiver did so far, and one line more.
-use Rattle.std.proofs.Common.{◌≡◌, ◌≢◌, ◌==◌, ℕ, ◌+◌, ◌≤◌, List, [], ◌∷◌, ◌++◌, map, length, take, Bool, true, Option, Some, None, Result, Ok, Err, IsTrue, is_some, refl, sym, ap, ◌∙◌, subst, arith, append-nil, append_assoc, length-append}
+use Rattle.std.proofs.Common.{◌≡◌, ◌≢◌, ℕ, ◌+◌, ◌≤◌, List, [], ◌∷◌, ◌++◌, map, length, take, Bool, Option, Some, None, Result, Ok, Err, IsTrue, refl, sym, ap, ◌∙◌, subst, arith, append-nil, append_assoc, length-append}
 use Rattle.std.specs.Prelude.{option_to_list}
-use Rattle.std.specs.List.{filter_map, flat_map, enumerate_from}
+use Rattle.std.specs.List.{enumerate_from}
 use Rattle.std.proofs.lemmas.Grind.{flat_map-append}
 use Rattle.std.proofs.lemmas.List.{map-append}
 use Rattle.std.proofs.lemmas.List.Elements.{filter_map-append}
@@ -11,20 +11,16 @@ use Rattle.meter_address.specs.declared.address.Address.{Address}
 use Rattle.meter_slots.specs.declared.counts.Counts.{Counts}
 use Rattle.meter_slots.specs.declared.counts.Ended.{Ended}
 use Rattle.meter_slots.specs.declared.counts.Ended.TheVariants as ends
-use Rattle.meter_slots.specs.declared.entry.Event.{Event}
-use Rattle.meter_slots.specs.declared.entry.Outcome.{Outcome}
-use Rattle.slot_cells.specs.Acts.{Shown}
 use Rattle.receivers.specs.declared.class.Class.{Class}
 use Rattle.receivers.specs.declared.told.Told.{Told}
 use Rattle.receivers.specs.declared.told.Told.TheVariants as told
 use Rattle.receivers.specs.Counting.{with_class}
-use Rattle.receivers.specs.Classes.{OwnLine, StrangeLine, place_of, own_at, own_by, own_of, strange_of, own_lines, strange_lines, class_by}
+use Rattle.receivers.specs.Classes.{OwnLine, StrangeLine, place_of, own_at, own_by, own_of, strange_of, own_lines, strange_lines}
 use Rattle.receivers.specs.Ending.{TellsNext}
-use Rattle.receivers.specs.Passes.{Answered, Crew, crew, HaveAnswered, HasNoted}
+use Rattle.receivers.specs.Passes.{Answered, Crew, HasNoted}
 use Rattle.receivers.specs.Receiver.{no_counts}
 use Rattle.receivers.specs.Run.{ReceiverRun, hearing_of, HasHeard}
-use Rattle.outer_io.specs.Shown.{WriteFailed}
-use Rattle.receivers.specs.Works.{sent_in, sent_text, tx_text, Part, LacksItsEnd, HasSent, HasRun, Works, HasWorked, HearsLine, SendsAll}
+use Rattle.receivers.specs.Works.{sent_text, tx_text, Part, LacksItsEnd, HasSent, Works, HasWorked, HearsLine}
 use Rattle.receivers.proofs.Makings.{made_nothing, answered_nothing, answered_more, noted_more, one_own}
 use Rattle.receivers.proofs.Numbers.{numbered, lines_counted, HeardSo, heard_first, heard_next}
 

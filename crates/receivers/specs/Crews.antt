@@ -5,7 +5,7 @@ use Rattle.meter_slots.specs.declared.entry.Event.{Event}
 use Rattle.meter_slots.specs.declared.entry.Outcome.{Outcome}
 use Rattle.slot_cells.specs.declared.known.Made.{Made}
 use Rattle.slot_cells.specs.Acts.{Shown, CellShown, Each, IsPassOf, IsSamePass, mine}
-use Rattle.receivers.specs.Passes.{Crew, crew, ArePassesOf}
+use Rattle.receivers.specs.Passes.{Crew, ArePassesOf}
 use Rattle.receivers.specs.Roots.{AreSplit}
 use Rattle.receivers.specs.Workers.{IsCrewOf}
 

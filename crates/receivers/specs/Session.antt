@@ -1,5 +1,5 @@
 -- A session of several receivers: what each of them heard, and what the slots and the strangers' lines came to.
-use Rattle.std.specs.Prelude.{ℕ, ◌≡◌, ◌==◌, ◌+◌, Bool, List, [], ◌∷◌, map, filter, if◌then◌else◌, Option, Some, None}
+use Rattle.std.specs.Prelude.{ℕ, ◌≡◌, ◌==◌, ◌+◌, List, [], ◌∷◌, map, filter, if◌then◌else◌, Option, Some, None}
 use Rattle.std.specs.List.{filter_map, enumerate_from}
 use Rattle.outer_io.specs.Each.{EachWith}
 use Rattle.meter_address.specs.declared.address.Address.{Address}

@@ -1,5 +1,5 @@
 -- Many receivers at work.
-use Rattle.std.specs.Prelude.{◌≡◌, List, [], ◌∷◌, Option, None}
+use Rattle.std.specs.Prelude.{◌≡◌, List, Option, None}
 use Rattle.meter_address.specs.declared.address.Address.{Address}
 use Rattle.meter_slots.specs.declared.counts.Ended.{Ended}
 use Rattle.slot_cells.specs.Acts.{CellShown, IsPassOf}

@@ -7,11 +7,9 @@ use Rattle.hex.specs.Hex.{encode_lower}
 use Rattle.meter_address.specs.declared.address.Address.{Address}
 use Rattle.meter_slots.specs.declared.counts.Ended.{Ended}
 use Rattle.meter_slots.specs.declared.counts.Ended.TheVariants as ends
-use Rattle.meter_slots.specs.declared.entry.Event.{Event}
 use Rattle.meter_slots.specs.declared.entry.Outcome.{Outcome}
 use Rattle.meter_slots.specs.declared.entry.Outcome.TheVariants.{Stored}
 use Rattle.downlink_maker.specs.Sent.{Sent}
-use Rattle.slot_cells.specs.Acts.{Shown}
 use Rattle.receivers.specs.declared.told.Told.{Told}
 use Rattle.receivers.specs.declared.class.Class.{Class}
 use Rattle.receivers.specs.Classes.{OwnLine, StrangeLine, own_lines, strange_lines, class_by}

@@ -1,4 +1,4 @@
-use Rattle.std.proofs.Common.{rules, ◌≡◌, ◌+◌, ℕ, refl, sym, ap, ◌∙◌, arith}
+use Rattle.std.proofs.Common.{◌+◌, ℕ, refl, sym, ap, ◌∙◌, arith}
 use Rattle.line_reader.specs.Lines.{all_lines}
 use Rattle.line_reader.specs.Reader.{given}
 use Rattle.meter_slots.specs.declared.counts.Counts.{Counts}

@@ -1,5 +1,4 @@
-use Rattle.std.proofs.Common.{refl, ap, sym, ◌∙◌}
-use Rattle.meter_slots.specs.declared.step.Landed.TheVariants.{Slot}
+use Rattle.std.proofs.Common.{ap}
 use Rattle.meter_slots.specs.declared.step.Step.{Step}
 use Rattle.receivers.specs.Alone.{step_by, addresses_in}
 use Rattle.receivers.specs.Classes.{class_by}

@@ -1,4 +1,4 @@
-use Rattle.std.proofs.Common.{rules, arith, ◌≡◌, ◌≤◌, ◌+◌, ℕ, List, [], ◌∷◌, ◌++◌, map, length, subst, sym, ap, ◌∙◌, length-append}
+use Rattle.std.proofs.Common.{rules, arith, ◌≡◌, ◌+◌, ℕ, [], ◌∷◌, map, length, subst, ap, ◌∙◌, length-append}
 use Rattle.receivers.specs.Passes.{crew}
 use Rattle.receivers.specs.Crews.{AreRoots}
 use Rattle.receivers.proofs.Hirings.{hires_crews, hires_receivers}

@@ -1,7 +1,7 @@
-use Rattle.std.proofs.Common.{subst, ap, sym}
+use Rattle.std.proofs.Common.{subst}
 use Rattle.meter_slots.specs.Journal.{Legal}
 use Rattle.meter_slots.proofs.DownlinkLaws.{downlink_counters_rise}
-use Rattle.meter_slots.proofs.JournalLaws.{stored_counters_rise, judged_at, stored_above_last}
+use Rattle.meter_slots.proofs.JournalLaws.{stored_counters_rise, stored_above_last}
 use Rattle.receivers.proofs.laws.counters_rise_over_all_receivers.Goals as goal
 
 pub returns-clause-stored : goal.returns-clause-stored

@@ -1,4 +1,4 @@
-use Rattle.std.proofs.Common.{rules, arith, ◌≡◌, ℕ, None, List, All, length, subst, sym, ap, ◌∙◌}
+use Rattle.std.proofs.Common.{◌≡◌, None, All, subst, sym}
 use Rattle.receivers.specs.Passes.{crew}
 use Rattle.receivers.specs.Receiver.{Receiving}
 use Rattle.receivers.proofs.Dismissals.{nothing_left}

@@ -1,9 +1,9 @@
-use Rattle.std.proofs.Common.{rules, ◌≡◌, List, map, take, drop, length, subst, sym}
+use Rattle.std.proofs.Common.{rules, List, map, subst, sym}
 use Rattle.meter_address.specs.declared.address.Address.{Address}
 use Rattle.meter_slots.specs.declared.entry.Event.{Event}
 use Rattle.meter_slots.specs.declared.entry.Outcome.{Outcome}
 use Rattle.meter_slots.specs.Journal.{SlotView}
-use Rattle.slot_cells.specs.Acts.{Shown, CellShown}
+use Rattle.slot_cells.specs.Acts.{Shown}
 use Rattle.slot_cells.specs.Books.{opening_of, act_of, IsLegalJournal}
 use Rattle.receivers.specs.Roots.{CanCloseAll, AreLeft}
 use Rattle.receivers.specs.Run.{receiver_runs}

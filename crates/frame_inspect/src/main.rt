@@ -1,0 +1,158 @@
+//! The program `frame_inspect`: opens the file that its words name, and shows every layer of its frames.
+#![tactic(auto)]
+
+ghost use Rattle.std.specs.Prelude.{◌≡◌, ◌++◌, [], true, false, IsTrue, IsSome, map, None};
+ghost use Rattle.std.specs.String.{string_bytes};
+ghost use Rattle.std.specs.Process.{exit_status};
+ghost use Rattle.line_reader.specs.Lines.{all_lines};
+ghost use Rattle.frame_inspect_main.specs.Run.{inspected};
+ghost use Rattle.frame_inspect_main.specs.Words.{workers_of};
+ghost use Rattle.frame_inspect.specs.Exit.{own_text, asks_for_text, IsTold, IsRunExit};
+
+use frame_inspect_main::{InspectStatus, inspect_run, workers};
+use line_reader::Lines;
+use outer_io::{Sink, Source, StdSink, StdSource};
+use std::env;
+use std::fs::{File, Files};
+use std::io::{self, ErrorKind};
+use std::process::ExitCode;
+use std::thread::Threads;
+
+const HELP: &str = "frame_inspect: shows every layer of wireless M-Bus and OMS frames, without a key
+
+usage: frame_inspect FRAMES WORKERS
+       frame_inspect --help
+       frame_inspect --version
+
+reads the lines of a receiver from the file FRAMES and writes a line for each of
+them to the standard output: the link, the extension of the link layer, the
+authentication and fragmentation layer and the transport header of its
+telegram, or why there is none. WORKERS, from 1 to 16, is the number of
+threads; the output doesn't depend on it.
+
+exit status: 0 done, 2 faulty words, 5 file not read, 7 output not written,
+8 file past its limit, 10 no memory, 11 the file can't be opened
+";
+
+const VERSION: &str = "frame_inspect 0.1.0\n";
+
+// A text of the program's own.
+#[derive(Clone, Copy)]
+enum OwnText {
+    Help,
+    Version,
+}
+
+impl OwnText {
+    ghost use Rattle.std.specs.Prelude.{◌≡◌};
+    ghost use Rattle.frame_inspect.specs.Exit.{text_of};
+
+    fn text(self) -> &'static str
+        ensures { result.now ≡ text_of self }
+    {
+        match self {
+            OwnText::Help => HELP,
+            OwnText::Version => VERSION,
+        }
+    }
+}
+
+// The text of the program's own that the words ask for, where they ask for one.
+fn own_text(command: &[String]) -> Option<OwnText>
+    ensures { result ≡ own_text (map string_bytes command.now) }
+{
+    let [word] = command else {
+        return None;
+    };
+    if word.as_str() == "--help" {
+        return Some(OwnText::Help);
+    }
+    if word.as_str() == "--version" {
+        return Some(OwnText::Version);
+    }
+    None
+}
+
+// Ends with a status, and says which unless all is done.
+fn end(rt: &impl Eprint, status: u8) -> ExitCode
+    ensures { exit_status result ≡ status }
+{
+    if status != 0 {
+        let _ = eprintln!(rt; "frame_inspect: status {status}");
+    }
+    ExitCode::from(status)
+}
+
+// Prints a text of the program's own.
+fn tell<R: Print + Eprint>(rt: &R, text: &str) -> ExitCode
+    ensures { IsTold (exit_status result) }
+{
+    match rt.print(text) {
+        Ok(()) => ExitCode::SUCCESS,
+        Err(_) => end(rt, InspectStatus::Write.code()),
+    }
+}
+
+// Shows the frames of a file, and ends with the status of that.
+fn show<R: Threads + Sync + Eprint + AllocGlobal, S: Source, K: Sink>(
+    rt: &R,
+    command: &[String],
+    frames: &mut Lines<S>,
+    out: &mut K,
+) -> ExitCode
+    requires words { IsSome (workers_of (map string_bytes command.now)) }
+    requires fresh { (frames.old.line ≡ 0) × (frames.old.done ≡ false) }
+    requires empty { IsTrue K.tells → K.written out.old ≡ [] }
+    ensures run { IsRunExit (exit_status result) }
+
+    // After status 0 the output is the text of all lines.
+    ensures done { exit_status result ≡ 0 → IsTrue S.tells → IsTrue K.tells →
+        K.written out.new ≡ inspected (all_lines (S.taken frames.old.source ++ S.left frames.old.source)) }
+{
+    let status = inspect_run(rt, rt.alloc(), command, frames, out);
+    end(rt, status.code())
+}
+
+// Does what the words behind the program's name ask for.
+fn perform<R: Threads + Sync + Print + Eprint + Files<File = File> + AllocGlobal>(
+    rt: &R,
+    command: &[String],
+    mut out: StdSink,
+) -> ExitCode
+    ensures text { asks_for_text (map string_bytes command.now) ≡ true → IsTold (exit_status result) }
+    ensures faulty { asks_for_text (map string_bytes command.now) ≡ false → workers_of (map string_bytes command.now) ≡ None → exit_status result ≡ 2 }
+    ensures run { IsSome (workers_of (map string_bytes command.now)) → IsRunExit (exit_status result) }
+{
+    if let Some(own) = own_text(command) {
+        return tell(rt, own.text());
+    }
+    let (Some(_), [name, ..]) = (workers(command), command) else {
+        return end(rt, InspectStatus::Words.code());
+    };
+    let Ok(file) = File::open(rt, name.as_str()) else {
+        return end(rt, 11);
+    };
+    let mut frames = Lines::new(StdSource::file(file));
+    show(rt, command, &mut frames, &mut out)
+}
+
+// What it means that the words can't be had: there is no memory for them, or one isn't UTF-8, which makes them faulty.
+fn status_without_words(error: &io::Error) -> InspectStatus {
+    if error.kind() == ErrorKind::OutOfMemory {
+        InspectStatus::Memory
+    } else {
+        InspectStatus::Words
+    }
+}
+
+fn main(rt: HostRuntime) -> ExitCode {
+    let args = match env::args(&rt) {
+        Ok(args) => args,
+        Err(error) => return end(&rt, status_without_words(&error).code()),
+    };
+    let Ok(command) = args.skip(1).collect::<Vec<String>>(rt.alloc()) else {
+        return end(&rt, InspectStatus::Memory.code());
+    };
+    let out = StdSink::standard(rt.stdout());
+    perform(&rt, command.as_slice(), out)
+}

@@ -1,0 +1,5 @@
+pub mod EvenRuns
+pub mod Finished
+pub mod FramesShown
+pub mod Runs
+pub mod Takings

@@ -1,0 +1,5 @@
+use Rattle.paper.proofs.Items.{put_next}
+use Rattle.frame_inspect_main.proofs.running.SheetPrinted.print.Goals as goal
+
+pub loop-shown-preserved : goal.loop-shown-preserved
+loop-shown-preserved g c = λ q later. c.loop-shown.invariant q (put_next c.args.self.now.shown.now c.loop-shown.shown-index _ _ c.loop-shown-test.true c.shown-item.is c.bytes.ensures c.put.ensures later)

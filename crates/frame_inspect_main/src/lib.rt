@@ -1,0 +1,23 @@
+//! What every layer of many frames says, looked at in threads.
+#![tactic(auto)]
+
+mod inspecting;
+mod item;
+mod laws;
+mod layered;
+mod look;
+mod running;
+mod shown;
+mod status;
+
+pub use inspecting::{ITEMS_MAX, WORKERS_MAX, inspect};
+pub use item::{HeardBytes, Item};
+pub use laws::{frames_are_shown, runs_are_even};
+pub use layered::Layered;
+pub use look::Look;
+pub use running::{inspect_run, workers};
+pub use shown::Shown;
+pub use status::InspectStatus;
+
+#[cfg(test)]
+mod tests;
