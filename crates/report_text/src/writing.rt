@@ -287,10 +287,7 @@ fn put_report<P: Paper>(paper: &mut P, session: &Session<'_>)
 }
 
 impl Printed for Session<'_> {
-    ghost use Rattle.report_text.specs.Report.{ended_text, counts_text, receiver_text};
-    ghost use Rattle.report_text.specs.Report.{mode_text, commission_text, numbers_text, meter_text};
-    ghost use Rattle.report_text.specs.Report.{step_text, readings_after, steps_text, last_text, pending_text, journal_text};
-    ghost use Rattle.report_text.specs.Report.{stranger_text, ring_text, strangers_text, report_text};
+    ghost use Rattle.report_text.specs.Report.{report_text};
 
     ghost text = { λ s. report_text s.ends.now s.slots.now s.strangers.now };
 
