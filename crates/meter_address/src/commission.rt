@@ -64,12 +64,26 @@ impl Model for Commission {
     ghost Value = { Commissioned };
 
     ghost view = { λ c. record {
-        address = c.address; mode = c.mode; key = c.key; other = c.other; last = c.last; down = c.down; ids = c.ids } };
+      address = c.address;
+      mode = c.mode;
+      key = c.key;
+      other = c.other;
+      last = c.last;
+      down = c.down;
+      ids = c.ids;
+    } };
 
     ghost invariant = { λ c. FitsMode c.mode c.other c.last };
 
     ghost inverse = { λ v. record {
-        address = v.address; mode = v.mode; key = v.key; other = v.other; last = v.last; down = v.down; ids = v.ids } };
+      address = v.address;
+      mode = v.mode;
+      key = v.key;
+      other = v.other;
+      last = v.last;
+      down = v.down;
+      ids = v.ids;
+    } };
 }
 
 // By hand, for a key is no text of a log.
