@@ -50,7 +50,7 @@ order_is (x ∷ xs) h = ap (λ n. (n, x.line) ∷ order_of xs) h.0 ∙ ap (λ t.
 order_alone : (own : Address) (c : Commissioned) (heard : List Told) (slot : SlotView) → IsMetersSlot own (heard ∷ []) c slot → order_of slot.journal ≡ map placed (lines_for c.address heard)
 order_alone own c heard slot h =
     let first = all_first (λ (x : Entry). x.source) (λ (x : Entry). x.line) (λ (x : Entry). x.event) (λ w. lines_for c.address (heard_by w (heard ∷ []))) slot.journal h.lines
-        (λ w e. others (lines_for c.address) heard w refl e) in
+    (λ w e. others (lines_for c.address) heard w refl e) in
     order_is slot.journal first
     ∙ ap (λ j. map placed (map (λ (x : Entry). (x.line, x.event)) j)) (sym (all_of_it (λ (x : Entry). x.source) (λ (x : Entry). x.line) (λ (x : Entry). x.event) slot.journal first))
     ∙ ap (map placed) (h.lines 1)
@@ -80,7 +80,7 @@ notes_alone : (cs : List Commissioned) (heard : List Told) (notes : List Heard) 
     → notes ≡ map noted (lines_of_strangers cs heard)
 notes_alone cs heard notes h =
     let first = all_first (λ (x : Heard). x.source) (λ (x : Heard). x.line) (λ (x : Heard). x.address) (λ w. lines_of_strangers cs (heard_by w (heard ∷ []))) notes h
-        (λ w e. others (lines_of_strangers cs) heard w refl e) in
+    (λ w e. others (lines_of_strangers cs) heard w refl e) in
     notes_are notes first
     ∙ ap (λ j. map noted (map (λ (x : Heard). (x.line, x.address)) j)) (sym (all_of_it (λ (x : Heard). x.source) (λ (x : Heard). x.line) (λ (x : Heard). x.address) notes first))
     ∙ ap (map noted) (h 1)

@@ -125,13 +125,13 @@ fn hear<
     // The exit status is that of a run of the receivers, and one of those that the program has for a session.
     ensures run { (status : RunStatus) × (exit_status result ≡ code_of status) ×
         IfOk (plan_of (map string_bytes command.now)) (λ plan. IsRun (record {
-      sources_tell = S.tells;
-      sinks_tell = K.tells;
-      roster = source_change S.Source roster.old roster.new;
-      receivers = receiver_runs S.Source K.Sink receivers.old.items receivers.new.items;
-      outputs = outputs_of plan (sink_change K.Sink report.old report.new);
-      status = status;
-    })) }
+          sources_tell = S.tells;
+          sinks_tell = K.tells;
+          roster = source_change S.Source roster.old roster.new;
+          receivers = receiver_runs S.Source K.Sink receivers.old.items receivers.new.items;
+          outputs = outputs_of plan (sink_change K.Sink report.old report.new);
+          status = status;
+        })) }
     ensures session { IsSessionExit (exit_status result) }
 
     // What stays as it was.
