@@ -81,7 +81,7 @@ steady_cancel : (k : Orders) (id : ℕ) → IsSteady k → IsSteady (after_cance
 unfolding after_cancel
 steady_cancel k id s =
     steady_cond (is_pending id k.queue) k _ s
-        (record { sound = sound_less id k.queue s.sound; agrees = agrees_cancelled id k.window k.queue s.sound s.agrees })
+    (record { sound = sound_less id k.queue s.sound; agrees = agrees_cancelled id k.window k.queue s.sound s.agrees })
 
 -- the awaited command is the oldest one
 awaited_is : (id : ℕ) (cs : List Command) → AgreesWith (Waiting id) cs
@@ -213,8 +213,13 @@ longer (Some c) d e later = omega arith
 pub counters_fit : (k : Orders) (moves : List Move) → k.down < 2 ^ 32 → k.down + length (all_sent k moves) < 2 ^ 32
 counters_fit k [] h = omega arith
 counters_fit k (m ∷ moves) h =
-    omega (arith, longer (sent_by k m) k.down (after k m).down (all_sent (after k m) moves), down_after k m, counters_fit (after k m) moves
-        (fits_after k m h))
+    omega (
+      arith,
+      longer (sent_by k m) k.down (after k m).down (all_sent (after k m) moves),
+      down_after k m,
+      counters_fit (after k m) moves
+          (fits_after k m h),
+    )
 
 -- ---- the tries
 
@@ -312,7 +317,7 @@ spends id (Some c) = cond (has_id id c) 1 0
 
 try_by : (b given : Bool) (id ids : ℕ) (c : Command) (cs : List Command) → has_id id c ≡ b → ltb ids id ≡ given → c.id ≤ ids → c.tries < 3
     → cond b 1 0 + cond given 3 (left_of (cond b (Some (record c { tries = c.tries + 1 })) (find (has_id id) cs))) ≤ cond given 3
-        (left_of (cond b (Some c) (find (has_id id) cs)))
+    (left_of (cond b (Some c) (find (has_id id) cs)))
 try_by true true id ids c cs h new given few = absurd (grind (arith, nat_tests))
 try_by true false id ids c cs h new given few = omega arith
 try_by false true id ids c cs h new given few = omega arith
@@ -321,7 +326,7 @@ try_by false false id ids c cs h new given few = omega arith
 send_spends : (b : Bool) (id : ℕ) (w : Window) (ids : ℕ) (cs : List Command) (d : ℕ)
     → IsSteady (orders_of (record { ids = ids; commands = cs }) w d)
     → spends id (cond b (oldest_where_idle w cs) None) + budget id
-        (sent_orders (orders_of (record { ids = ids; commands = cs }) w d) (cond b (oldest_where_idle w cs) None)).queue
+    (sent_orders (orders_of (record { ids = ids; commands = cs }) w d) (cond b (oldest_where_idle w cs) None)).queue
     ≤ budget id (record { ids = ids; commands = cs })
 unfolding with_try spends
 send_spends false id w ids cs d s = omega arith
@@ -339,12 +344,19 @@ move_spends : (id : ℕ) (k : Orders) (m : Move) → IsSteady k → spends id (s
 unfolding after_cancel after_tick after_confirmed spends
 move_spends id k (Put payload) s = omega (arith, budget_put id k.queue payload)
 move_spends id k (Cancel other) s =
-    omega (arith, budget_cond (is_pending other k.queue) id k
-    (orders_of (without_command other k.queue) (window_without other k.window) k.down) (budget_less id other k.queue))
+    omega (
+      arith,
+      budget_cond (is_pending other k.queue) id k
+          (orders_of (without_command other k.queue) (window_without other k.window) k.down) (budget_less id other k.queue),
+    )
 move_spends id k Tick s = omega (arith, budget_queue_less (expired k) id k.queue)
 move_spends id k (Store access response) s =
-    omega (arith, sent_spends id (after_confirmed k response) access (steady_confirmed k response s), budget_confirmed
-        (confirmed k response) id k)
+    omega (
+      arith,
+      sent_spends id (after_confirmed k response) access (steady_confirmed k response s),
+      budget_confirmed
+          (confirmed k response) id k,
+    )
 
 -- the downlinks with an id
 abbrev of_id : ℕ → SentCommand → Bool
@@ -363,8 +375,13 @@ count_sent id (Some c) d later = count_cond (has_id id c) (record { id = c.id; d
 within_budget : (id : ℕ) (k : Orders) (moves : List Move) → IsSteady k → length (filter (of_id id) (all_sent k moves)) ≤ budget id k.queue
 within_budget id k [] s = omega arith
 within_budget id k (m ∷ moves) s =
-    omega (arith, count_sent id (sent_by k m) (after k m).down (all_sent (after k m) moves), move_spends id k m s, within_budget id
-        (after k m) moves (steady_after k m s))
+    omega (
+      arith,
+      count_sent id (sent_by k m) (after k m).down (all_sent (after k m) moves),
+      move_spends id k m s,
+      within_budget id
+          (after k m) moves (steady_after k m s),
+    )
 
 fresh_steady : (ids down : ℕ) → IsSteady (fresh_orders ids down)
 fresh_steady ids down = record { sound = record { few = omega arith; rising = omega arith; tries = tt }; agrees = tt }
@@ -375,5 +392,10 @@ opening_budget false = omega arith
 
 pub three_tries : (ids down : ℕ) (moves : List Move) (id : ℕ) → count_by (λ s. s.id == id) (all_sent (fresh_orders ids down) moves) ≤ 3
 three_tries ids down moves id =
-    omega (arith, length-filter (of_id id) (all_sent (fresh_orders ids down) moves), within_budget id (fresh_orders ids down) moves
-        (fresh_steady ids down), opening_budget (ltb ids id))
+    omega (
+      arith,
+      length-filter (of_id id) (all_sent (fresh_orders ids down) moves),
+      within_budget id (fresh_orders ids down) moves
+          (fresh_steady ids down),
+      opening_budget (ltb ids id),
+    )

@@ -1,2 +1,3 @@
+pub mod OneReceiver
 pub mod Orders
 pub mod Runs

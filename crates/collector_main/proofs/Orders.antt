@@ -22,17 +22,17 @@ use Rattle.report_text.proofs.LineReport.{report_orders}
 
 -- ---- items that each receiver's part has
 
-same_number : (n : ℕ) → (n == n) ≡ true
+pub same_number : (n : ℕ) → (n == n) ≡ true
 same_number n = grind (arith, nat_tests)
 
-is_number : (n m : ℕ) → (n == m) ≡ true → n ≡ m
+pub is_number : (n m : ℕ) → (n == m) ≡ true → n ≡ m
 is_number n m h = grind (arith, nat_tests)
 
 module _ {X Y : Type 0} (source line : X → ℕ) (what : X → Y) where
-  abbrev part : ℕ → List X → List X
+  abbrev pub part : ℕ → List X → List X
   part w xs = filter (λ x. source x == w) xs
 
-  abbrev pair_of : X → ℕ × Y
+  abbrev pub pair_of : X → ℕ × Y
   pair_of x = (line x, what x)
 
   abbrev told_so : ℕ → List X → List (ℕ × Y)
@@ -49,12 +49,12 @@ module _ {X Y : Type 0} (source line : X → ℕ) (what : X → Y) where
   rest_of P x rest true h = h.1
   rest_of P x rest false h = h
 
-  from_parts : (P : X → Type 0) (xs : List X) → ((w : ℕ) → Each P (part w xs)) → Each P xs
+  pub from_parts : (P : X → Type 0) (xs : List X) → ((w : ℕ) → Each P (part w xs)) → Each P xs
   from_parts P [] h = tt
   from_parts P (x ∷ xs) h =
       (front_of P x (part (source x) xs) (source x == source x) (same_number (source x)) (h (source x)), from_parts P xs (λ w. rest_of P x (part w xs) (source x == w) (h w)))
 
-  of_source : (w : ℕ) (xs : List X) → Each (λ x. source x ≡ w) (part w xs)
+  pub of_source : (w : ℕ) (xs : List X) → Each (λ x. source x ≡ w) (part w xs)
   of_source w [] = tt
   of_source w (x ∷ xs) = at (source x == w) refl (of_source w xs)
     where
@@ -66,7 +66,7 @@ module _ {X Y : Type 0} (source line : X → ℕ) (what : X → Y) where
   fit_together w small [] from few = tt
   fit_together w small (x ∷ xs) from few = ((omega (arith, from.0), few.0), fit_together w small xs from.1 few.1)
 
-  none_mapped : (xs : List X) → map pair_of xs ≡ [] → xs ≡ []
+  pub none_mapped : (xs : List X) → map pair_of xs ≡ [] → xs ≡ []
   none_mapped [] e = refl
   none_mapped (x ∷ xs) e = absurd cc
 

@@ -12,7 +12,7 @@ use Rattle.meter_slots.specs.World.{WorldView, world_of}
 use Rattle.receivers.specs.Alone.{HasHeardAlone}
 use Rattle.receivers.specs.Classes.{counts_of}
 use Rattle.receivers.specs.Ending.{IsEnding}
-use Rattle.receivers.specs.Run.{Hearing, lines_of}
+use Rattle.receivers.specs.Run.{Hearing, ReceiverRun, lines_of}
 use Rattle.receivers.specs.Session.{IsSession}
 use Rattle.receivers.specs.declared.told.Told.{Told}
 use Rattle.receivers.specs.Told.{told_of}
@@ -25,7 +25,7 @@ use Rattle.collector_main.specs.declared.status.Status.{Status}
 use Rattle.collector_main.specs.declared.status.Status.TheVariants as statuses
 use Rattle.collector_main.specs.Heard.{Heard, report_of}
 use Rattle.collector_main.specs.Rosters.{IsRosterStatus}
-use Rattle.collector_main.specs.Run.{Run, ReceiverRun, IsRun, EndIsCaused, IsCausedBy, IsFaultless}
+use Rattle.collector_main.specs.Run.{Run, IsRun, EndIsCaused, IsCausedBy, IsFaultless}
 use Rattle.collector_main.specs.Showing.{report_output}
 use Rattle.collector_main.specs.Statuses.{IsDone, IsRefused, IsFinished, status_at, after_failed_write, was_heard}
 use Rattle.collector_main.proofs.Orders.{order_is_told}

@@ -1,21 +1,14 @@
 -- What a run heard: a session of its receivers for the meters of a roster, and the text of it.
 use Rattle.std.specs.Prelude.{ℕ, List, map}
 use Rattle.meter_address.specs.declared.address.Address.{Address}
-use Rattle.meter_slots.specs.declared.counts.Ended.{Ended}
 use Rattle.meter_slots.specs.World.{WorldView}
 use Rattle.receivers.specs.Classes.{counts_of}
-use Rattle.receivers.specs.declared.told.Told.{Told}
-use Rattle.receivers.specs.Told.{told_of}
+use Rattle.receivers.specs.HeardLines.{HeardLines, tellings}
 use Rattle.report_text.specs.declared.lent.ReceiverEnd.{ReceiverEnd}
 use Rattle.report_text.specs.Orders.{Orders}
 use Rattle.report_text.specs.OrdersLaw.{orders_of}
 use Rattle.report_text.specs.Report.{report_text}
 use Rattle.roster_file.specs.Roster.{Enrolled}
-
--- the lines taken from one receiver, and how it ended
-pub record HeardLines : Type 0 where
-  pub lines : List (List ℕ)
-  pub ended : Ended
 
 -- the roster's meters, the lines taken from each receiver, and the slots and the strangers' list after them
 pub record Heard : Type 0 where
@@ -25,10 +18,6 @@ pub record Heard : Type 0 where
 
 abbrev pub addresses : Enrolled → List Address
 addresses r = map (λ c. c.address) r.meters
-
--- what a receiver's lines tell: events for addresses, bytes that are no frame, or nothing
-abbrev pub tellings : HeardLines → List Told
-tellings r = map told_of r.lines
 
 -- a receiver's line of the report: how many of its lines are in each class, and how it ended
 abbrev pub receiver_end : Heard → HeardLines → ReceiverEnd

@@ -6,6 +6,8 @@ use Rattle.line_reader.specs.Lines.{is_over}
 use Rattle.meter_slots.specs.declared.counts.Ended.{Ended}
 use Rattle.meter_slots.specs.declared.counts.Ended.TheVariants as ends
 use Rattle.receivers.specs.Ending.{IsEnding}
+use Rattle.receivers.specs.HeardLines.{HeardLines, tellings}
+use Rattle.receivers.specs.Run.{ReceiverRun}
 use Rattle.receivers.specs.Session.{IsSession}
 use Rattle.report_text.specs.Orders.{orders}
 use Rattle.roster_file.specs.Roster.{Enrolled, roster_of}
@@ -13,14 +15,8 @@ use Rattle.roster_file.specs.declared.roster.LineCause.{LineCause}
 use Rattle.roster_file.specs.declared.roster.RosterFault.TheVariants.{Line}
 use Rattle.collector_main.specs.declared.status.Status.{Status}
 use Rattle.collector_main.specs.declared.status.Status.TheVariants as statuses
-use Rattle.collector_main.specs.Heard.{Heard, HeardLines, tellings, report_of, order_of}
+use Rattle.collector_main.specs.Heard.{Heard, report_of, order_of}
 use Rattle.collector_main.specs.Statuses.{was_heard, IsDone, IsRefused}
-
--- one receiver: its source, where its downlinks go, and how it ended, if it was heard
-pub record ReceiverRun : Type 0 where
-  pub source : Change SourceShown
-  pub tx : Change SinkShown
-  pub ended : Option Ended
 
 -- a sink that the command writes: its number in status 7, the text that it is to have of what was heard, and what it shows
 pub record Output : Type 0 where
@@ -28,7 +24,7 @@ pub record Output : Type 0 where
   pub text : Heard → List ℕ
   pub sink : Change SinkShown
 
--- a run: whether contracts know the bytes of sources, and of sinks; the roster, the receivers, the outputs in the order in which they are written
+-- a run: whether contracts know the bytes of sources, and of sinks; the roster, the receivers, the outputs in the order of their writing
 pub record Run : Type 0 where
   pub sources_tell : Bool
   pub sinks_tell : Bool
@@ -53,9 +49,9 @@ IsWhole heard o = o.sink.now.written ≡ o.text heard
 abbrev pub IsUnwritten : ℕ → Output → Type 0
 IsUnwritten which o = (o.number ≡ which) × WriteFailed o.sink
 
--- The headline: the roster was read to its end and is one, each receiver was heard, each meter's slot is that of its own lines alone and the strangers' list
--- has the others, the report's text tells their order, and the outputs have their texts of just this: after status 0 whole, after status 7 whole before the
--- one that the status names, and else a front where a write failed.
+-- The headline: the roster was read to its end and is one, each receiver was heard, each meter's slot is that of its own lines alone and
+-- the strangers' list has the others, the report's text tells their order, and the outputs have their texts of just this: after status 0
+-- whole, after status 7 whole before the one that the status names, and else a front where a write failed.
 pub record Headline (run : Run) : Type 0 where
   pub heard : Heard
   pub roster_read : IsReadOut run.roster
@@ -65,7 +61,8 @@ pub record Headline (run : Run) : Type 0 where
   pub told : orders (report_of heard) ≡ order_of heard
   pub written : IsTrue run.sinks_tell → Each (λ o. HasText (o.text heard) o.sink) run.outputs
   pub whole : IsTrue run.sinks_tell → run.status ≡ statuses.Done → Each (IsWhole heard) run.outputs
-  pub stopped : IsTrue run.sinks_tell → (which : ℕ) → run.status ≡ statuses.Write which → PassUntil (IsWhole heard) (IsUnwritten which) run.outputs
+  pub stopped : IsTrue run.sinks_tell → (which : ℕ) → run.status ≡ statuses.Write which →
+      PassUntil (IsWhole heard) (IsUnwritten which) run.outputs
 
 -- ---- causes
 
@@ -110,7 +107,8 @@ pub record IsRun (run : Run) : Type 0 where
   pub status_caused : IsCausedBy run run.status
   pub ends_caused : Each (λ r. EndIsCaused run.sources_tell r r.ended) run.receivers
   -- a faulty roster is refused for its first faulty line, and where nothing stands in the way all is done
-  pub refused : IsTrue run.sources_tell → (line : ℕ) (cause : LineCause) → roster_of run.roster.before.left ≡ Err (Line line cause) → IsRefused line cause run.status
+  pub refused : IsTrue run.sources_tell → (line : ℕ) (cause : LineCause) →
+      roster_of run.roster.before.left ≡ Err (Line line cause) → IsRefused line cause run.status
   pub complete : IsTrue run.sources_tell → IsFaultless run → IsDone run.status
   -- whatever happens no byte is lost, and after the other statuses nothing was written
   pub no_loss : IsTrue run.sources_tell → LosesNothing run.roster × Each (λ r. LosesNothing r.source) run.receivers

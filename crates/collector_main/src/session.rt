@@ -1,12 +1,13 @@
 //! A session of one receiver.
 ghost use Rattle.std.specs.Prelude.{◌≡◌, ◌≢◌, [], ◌∷◌, Ok, None, IsTrue, IfOk, IfErr};
 ghost use Rattle.outer_io.specs.Shown.{IsReadOut, LosesNothing, HasText, source_change, sink_change};
+ghost use Rattle.receivers.specs.Run.{receiver_run};
 ghost use Rattle.roster_file.specs.Roster.{roster_of};
 ghost use Rattle.report_text.specs.Report.{report_text};
 ghost use Rattle.roster_file.specs.Enrolled.{IsEnrolled};
 ghost use Rattle.collector_main.specs.Rosters.{IsRosterStatus};
 ghost use Rattle.collector_main.specs.Run.{IsRun};
-ghost use Rattle.collector_main.specs.Showing.{IsFresh, receiver_run, report_output};
+ghost use Rattle.collector_main.specs.Showing.{IsFresh, report_output};
 ghost use Rattle.collector_main.specs.Statuses.{IsUnread, IsFinished, status_at, after_failed_write};
 
 use crate::status::Status;

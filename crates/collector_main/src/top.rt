@@ -3,8 +3,9 @@ ghost use Rattle.std.specs.Prelude.{◌≡◌, [], Err, IsTrue, IsOk, IfOk, IfEr
 ghost use Rattle.std.specs.String.{string_bytes};
 ghost use Rattle.outer_io.specs.Each.{Each};
 ghost use Rattle.outer_io.specs.Shown.{source_change, sink_change};
+ghost use Rattle.receivers.specs.Run.{receiver_runs};
 ghost use Rattle.collector_main.specs.Run.{IsRun};
-ghost use Rattle.collector_main.specs.Showing.{IsFresh, receiver_runs, outputs_of};
+ghost use Rattle.collector_main.specs.Showing.{IsFresh, outputs_of};
 ghost use Rattle.collector_main.specs.Statuses.{IsUnread};
 ghost use Rattle.collector_main.specs.Words.{plan_of};
 ghost use Rattle.collector_main.specs.declared.command_words.WordsFault.{WordsFault};
@@ -48,7 +49,8 @@ pub fn run<R: Threads + Wait + Sync, S: Source + Send + Drop, K: Sink + Send + D
       status = result;
     })) }
 
-    // What stays as it was: all after faulty words, the receivers after statuses 3 and 4, and always their number, each `tx` and the other sinks.
+    // What stays as it was: all after faulty words, the receivers after statuses 3 and 4, and always their number, each `tx` and the
+    // other sinks.
     ensures roster { IfErr (plan_of (map string_bytes command.now)) (λ _. roster.new ≡ roster.old) }
     ensures report { IfErr (plan_of (map string_bytes command.now)) (λ _. report.new ≡ report.old) }
     ensures unread { IsUnread result → receivers.new.items ≡ receivers.old.items }

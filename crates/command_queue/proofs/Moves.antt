@@ -142,7 +142,7 @@ pub answered : (id : ℕ) (q : Pending) (i : ℕ) (c : Command) → IsSound q �
 unfolding take_answer
 answered id q i c s lt at is =
     let found : find (has_id id) q.commands ≡ Some c =
-        ap (λ n. find (has_id n) q.commands) (sym (at c)) ∙ (taken 0 q.commands q.ids i c s.rising lt).0 ∙ ap Some (sym is) in
+    ap (λ n. find (has_id n) q.commands) (sym (at c)) ∙ (taken 0 q.commands q.ids i c s.rising lt).0 ∙ ap Some (sym is) in
     rw found refl
 
 -- and the others are left

@@ -6,6 +6,11 @@ ghost use Rattle.downlink_maker.specs.Downlink.{link_bytes, authentication_bytes
 use afl_layer::{Afl, write_afl};
 use meter_address::Address;
 
+// C of SND-UD2, and the CI of a command with a long transport header.
+const SEND_USER_DATA: u8 = 0x43;
+
+const COMMAND_CI: u8 = 0x5B;
+
 // MCL of a whole message with a counter and a MAC: AES-CMAC-128, cut to eight bytes.
 pub(crate) const MESSAGE_CONTROL: u8 = 0x25;
 
@@ -16,7 +21,7 @@ pub fn link_layer(own: Address, blocks: u8) -> [u8; 10]
 {
     let mut link = [0; 10];
     link[0] = 40 + 16 * blocks;
-    link[1] = 0x43;
+    link[1] = SEND_USER_DATA;
     link[2..].copy_from_slice(&own.to_bytes());
     link
 }
@@ -52,6 +57,6 @@ pub fn transport_header(meter: Address, down: u32, blocks: u8) -> [u8; 14]
     let access = (down % 256) as u8;
     let [c0, c1] = (0x0700 + 16 * u16::from(blocks)).to_le_bytes();
     [
-        0x5B, i0, i1, i2, i3, m0, m1, version, device, access, 0x00, c0, c1, 0x10,
+        COMMAND_CI, i0, i1, i2, i3, m0, m1, version, device, access, 0x00, c0, c1, 0x10,
     ]
 }

@@ -44,19 +44,19 @@ confirmed_down k (Some id) = refl
 
 command_counts : (own : Address) (c : Commissioned) (k : Orders) (command : Option Command)
     → Counts k.down (sent_orders k command).down
-        (option_map (λ downlink. downlink.down) (option_map (downlink_with own c (sent_orders k command).down) command))
+    (option_map (λ downlink. downlink.down) (option_map (downlink_with own c (sent_orders k command).down) command))
 command_counts own c k None = refl
 command_counts own c k (Some command) = (omega arith, refl)
 
 stored_counts : (own : Address) (c : Commissioned) (k : Orders) (access : Access) (response : Bool)
     → Counts k.down (after_stored k access response).down
-        (option_map (λ downlink. downlink.down) (option_map (downlink_with own c (after_stored k access response).down)
-        (sent_at k access response)))
+    (option_map (λ downlink. downlink.down) (option_map (downlink_with own c (after_stored k access response).down)
+    (sent_at k access response)))
 unfolding after_sent after_confirmed
 stored_counts own c k access response =
     let j = confirmed_orders k (confirmed k response) in
     subst (λ (d : ℕ). Counts d (sent_orders j (sent j access)).down
-        (option_map (λ downlink. downlink.down) (option_map (downlink_with own c (sent_orders j (sent j access)).down) (sent j access))))
+    (option_map (λ downlink. downlink.down) (option_map (downlink_with own c (sent_orders j (sent j access)).down) (sent j access))))
     (confirmed_down k (confirmed k response)) (command_counts own c j (sent j access))
 
 heard_counts : (own : Address) (c : Commissioned) (k : Orders) (access : Access) (response : Bool) (v : Result (Option Found) Reason)
@@ -141,10 +141,10 @@ rises_back c own [] j = record { rises = tt; ends = refl }
 rises_back c own (x ∷ earlier) j =
     rw (sent_counters-reverse x earlier)
     (rises_step c x earlier (sent_counters (reverse earlier)) (sent_counter x.outcome) (entry_counts c own x earlier j)
-        (rises_back c own earlier j.1))
+    (rises_back c own earlier j.1))
 
 pub downlink_counters_rise : (c : Commissioned) (own : Address) (journal : List Entry) → Legal c own journal
     → IsRising (Some c.down) (sent_counters journal)
 downlink_counters_rise c own journal j =
     subst (λ (xs : List Entry). IsRising (Some c.down) (sent_counters xs)) (reverse-reverse journal)
-        (rises_back c own (reverse journal) j).rises
+    (rises_back c own (reverse journal) j).rises

@@ -82,7 +82,7 @@ below_right x y n h = omega arith
 
 test_stored : (f : Found) (k n : ℕ) (b : Bool) → nat_lt k f.counter ≡ b
     → (stored_by (stored_or_refused (found_where (cond b (Ok tt) (Err (Stale f.counter k))) f)) ≡ Some n) ↔
-        ((Some f.counter ≡ Some n) × (k < n))
+    ((Some f.counter ≡ Some n) × (k < n))
 test_stored f k n true h = (λ s. (s, is_above f.counter k n h (cc)), λ p. p.0)
 test_stored f k n false h = (λ s. cc, λ p. absurd (not_above f.counter k n h (cc (p.0)) p.1))
 
@@ -143,10 +143,10 @@ none_stored n last o h = (λ s. cc, λ p. cc (p.0))
 
 answer_stored : (c : Commissioned) (own : Address) (n : ℕ) (earlier : List Entry) (event : Event) → c.mode ≡ Seven
     → (stored_counter (answer c own (standing c earlier) event) ≡ Some n) ↔
-        ((counter (genuine c earlier event) ≡ Some n) × IsAbove n (last_counter c earlier))
+    ((counter (genuine c earlier event) ≡ Some n) × IsAbove n (last_counter c earlier))
 answer_stored c own n earlier (Hear format at t) m =
     rw heard_stored (judged_stored (rekeyed c (other_key c earlier)) m n (last_counter c earlier)
-        (brought (told c earlier) t (received c.mode t)))
+    (brought (told c earlier) t (received c.mode t)))
 answer_stored c own n earlier Tick m = none_stored n (last_counter c earlier) None refl
 answer_stored c own n earlier (Put payload) m =
     none_stored n (last_counter c earlier) _ (queued_stored (put_answer (orders c earlier).queue))
@@ -168,7 +168,7 @@ entry_stored c own x earlier n m j = rw j.0 (answer_stored c own n earlier x.eve
 pub entry_stored_exactly : (c : Commissioned) (own : Address) (x : Entry) (earlier : List Entry) (n : ℕ) → c.mode ≡ Seven
     → IsJudged c own (x ∷ earlier)
     → (stored_counter x.outcome ≡ Some n) ↔ ((counter (genuine c earlier x.event) ≡ Some n) × AreBelow n
-        (counters c earlier ++ option_to_list c.last))
+    (counters c earlier ++ option_to_list c.last))
 entry_stored_exactly c own x earlier n m j =
     let both = entry_stored c own x earlier n m j in
     let last = last_seven c earlier m in
@@ -238,19 +238,19 @@ rises_back : (c : Commissioned) (own : Address) (earlier : List Entry) → c.mod
 rises_back c own [] m j = record { rises = tt; ends = floor_seven c m }
 rises_back c own (x ∷ earlier) m j =
     rw (stored_counters-reverse x earlier) (rises_step c own x earlier (stored_counters (reverse earlier)) (stored_counter x.outcome) m j
-        (rises_back c own earlier m j.1) refl)
+    (rises_back c own earlier m j.1) refl)
 
 pub stored_counters_rise : (c : Commissioned) (own : Address) (journal : List Entry) → c.mode ≡ Seven → Legal c own journal
     → IsRising c.last (stored_counters journal)
 stored_counters_rise c own journal m j =
     subst (λ (xs : List Entry). IsRising c.last (stored_counters xs)) (reverse-reverse journal)
-        (rises_back c own (reverse journal) m j).rises
+    (rises_back c own (reverse journal) m j).rises
 
 last_back : (c : Commissioned) (own : Address) (journal : List Entry) → c.mode ≡ Seven → Legal c own journal
     → last_stored c journal ≡ last_counter c (reverse journal)
 last_back c own journal m j =
     subst (λ (xs : List Entry). last_or c.last (stored_counters xs) ≡ last_counter c (reverse journal)) (reverse-reverse journal)
-        (rises_back c own (reverse journal) m j).ends
+    (rises_back c own (reverse journal) m j).ends
 
 -- an entry stores exactly what is genuine and above the counter stored last
 pub stored_above_last : (c : Commissioned) (own : Address) (before : List Entry) (x : Entry) (after : List Entry) (n : ℕ) → c.mode ≡ Seven
@@ -260,8 +260,8 @@ stored_above_last c own before x after n m j =
     let h = judged_at c own before x after j in
     let legal : Legal c own before = h.1 in
     subst (λ (last : Option ℕ). (stored_counter x.outcome ≡ Some n) ↔
-        ((counter (genuine c (reverse before) x.event) ≡ Some n) × IsAbove n last))
-      (sym (last_back c own before m legal)) (entry_stored c own x (reverse before) n m h)
+    ((counter (genuine c (reverse before) x.event) ≡ Some n) × IsAbove n last))
+    (sym (last_back c own before m legal)) (entry_stored c own x (reverse before) n m h)
 
 result_there : (r : Result Found Reason) (f : Found) → (result_ok r ≡ Some f) ↔ (r ≡ Ok f)
 result_there (Ok g) f = (λ h. cc, λ h. cc)
@@ -281,9 +281,9 @@ pub genuine_by_mac : (c : Commissioned) (earlier : List Entry) (format : Format)
 genuine_by_mac c earlier format at t m f h b bytes =
     let k = rekeyed c (other_key c earlier) in
     let is : genuine c earlier (Hear format at t) ≡ result_ok (opened7 k m.auth m.bytes) =
-        ap (genuine_in k) b ∙ ap result_ok (opened_seven c.mode k m h) in
+    ap (genuine_in k) b ∙ ap result_ok (opened_seven c.mode k m h) in
     subst (λ (o : Option Found). (o ≡ Some f) ↔ Genuine7 k m.auth m.bytes f) (sym is)
-      (both_ways (result_there (opened7 k m.auth m.bytes) f) (genuine_are_opened k m.auth m.bytes f bytes))
+    (both_ways (result_there (opened7 k m.auth m.bytes) f) (genuine_are_opened k m.auth m.bytes f bytes))
 
 -- ---- a refusal leaves all as it was
 

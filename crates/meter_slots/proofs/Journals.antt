@@ -122,7 +122,7 @@ answer_last : (c : Commissioned) (own : Address) (earlier : List Entry) (event :
 unfolding last_counter
 answer_last c own earlier (Hear format at t) =
     judged_last (rekeyed c (other_key c earlier)) (brought (told c earlier) t (received c.mode t)) (counters c earlier)
-        (option_to_list c.last)
+    (option_to_list c.last)
     ∙ heard_last own c (orders c earlier) _ _ (last_counter c earlier) (verdict c (standing c earlier) t)
 answer_last c own earlier Tick = refl
 answer_last c own earlier (Put payload) = queued_last (last_counter c earlier) (put_answer (orders c earlier).queue)
@@ -269,7 +269,7 @@ kept_after c own journal k kept x k' new h puts judged fits reads moves =
           (subst (λ (n : Commissioned). StandsFor k'.parts (told_by n x.event x.outcome ++ fragments)) h.commission_is m.parts);
       orders_are = rw (back journal x) (m.orders
           ∙ ap (λ (n : Commissioned). orders_after k.orders (access_at n (standing_for k fragments) x.event) x.event x.outcome)
-              h.commission_is
+          h.commission_is
           ∙ ap (λ (s : Standing). orders_after s.orders (access_at c s x.event) x.event x.outcome) stands);
       readings_are = rw (readings-append c journal x) (ap (λ rs. rs ++ new) h.readings_are
           ∙ ap (λ rs. readings c journal ++ rs) (reads fragments h.parts_are

@@ -39,7 +39,7 @@ All-reverse : {X : Type 0} (P : X → Type 0) (xs : List X) → All P xs → All
 All-reverse P [] h = All-nil P
 All-reverse P (x ∷ xs) h =
     subst (All P) (sym (front_back x xs)) (All-append P (reverse xs) (x ∷ []) (All-reverse P xs (All-tail P x xs h))
-        (All-cons P x [] (All-head P x xs h) (All-nil P)))
+    (All-cons P x [] (All-head P x xs h) (All-nil P)))
 
 -- ---- each command that waits has a payload
 
@@ -122,7 +122,7 @@ orders_ready : (c : Commissioned) (earlier : List Entry) → All PutsIn earlier 
 orders_ready c [] h = All-nil HasPayload
 orders_ready c (x ∷ earlier) h =
     event_ready (orders c earlier) (access_at c (standing c earlier) x.event) x.event x.outcome (All-head PutsIn x earlier h)
-        (orders_ready c earlier (All-tail PutsIn x earlier h))
+    (orders_ready c earlier (All-tail PutsIn x earlier h))
 
 -- ---- each downlink that is sent carries a payload
 
@@ -153,7 +153,7 @@ module _ (own : Address) (c : Commissioned) where
 
   stored_sent : (k : Orders) (access : Access) (response : Bool) → AreReady k
       → All (CarriesPayload own c) (option_to_list
-          (option_map (downlink_with own c (after_stored k access response).down) (sent_at k access response)))
+      (option_map (downlink_with own c (after_stored k access response).down) (sent_at k access response)))
   unfolding after_sent after_confirmed
   stored_sent k access response h =
       let j = confirmed_orders k (confirmed k response) in
@@ -201,13 +201,13 @@ module _ (own : Address) (c : Commissioned) where
       let rest = All-tail PutsIn x earlier h in
       subst (All SendsRightly) (sym (front_back x earlier))
       (All-append SendsRightly (reverse earlier) (x ∷ []) (journal_sent earlier j.1 rest)
-          (All-cons SendsRightly x [] (entry_sent x earlier j rest) (All-nil SendsRightly)))
+      (All-cons SendsRightly x [] (entry_sent x earlier j rest) (All-nil SendsRightly)))
 
   all_sent : (entries : List Entry) → All SendsRightly entries → All (CarriesPayload own c) (downlinks_in entries)
   all_sent [] h = All-nil (CarriesPayload own c)
   all_sent (x ∷ entries) h =
       All-append (CarriesPayload own c) (downlinks_of x.outcome) (downlinks_in entries) (All-head SendsRightly x entries h)
-          (all_sent entries (All-tail SendsRightly x entries h))
+      (all_sent entries (All-tail SendsRightly x entries h))
 
 pub downlinks_carry : (own : Address) (c : Commissioned) (journal : List Entry) → Legal c own journal → All PutsIn journal
     → All (CarriesPayload own c) (downlinks_in journal)

@@ -21,8 +21,15 @@ fits_behind bytes None content piece h b p = tt
 fits_behind bytes (Some a) content piece h b p = λ f. record {
   fragment = record { fragment = f; numbered = h.0.placed.fid };
   most =
-      omega (arith, ap length h.0.parts, length-append (afl_bytes h.0.fcl a) h.0.rest, length-append (to_le_bytes w16 h.0.fcl)
-      (fields_bytes a), length-two (Some h.0.fcl), ap length h.1);
+      omega (
+        arith,
+        ap length h.0.parts,
+        length-append (afl_bytes h.0.fcl a) h.0.rest,
+        length-append (to_le_bytes w16 h.0.fcl)
+            (fields_bytes a),
+        length-two (Some h.0.fcl),
+        ap length h.1,
+      );
 }
 
 -- a fragment of a telegram has a number, and its piece at most 242 bytes
@@ -31,4 +38,4 @@ piece_fits t l h most =
     let after = extension_is_no_longer (drop 10 t) l.ell h.after_extension h.extension in
     let front : length (drop 10 t) ≤ 246 = omega (arith, length-drop 10 t) in
     fits_behind h.after_extension l.afl h.content (drop l.body t) h.fragmentation (omega (arith, after, front))
-        (omega (arith, length-drop l.body t, h.body))
+    (omega (arith, length-drop l.body t, h.body))

@@ -35,7 +35,7 @@ use Rattle.meter_slots.proofs.JournalLaws.{front_back, queued_stored, cancelled_
 -- what a fact says of one entry it says of all
 each_stored : {X : Type 0} (f : Reading → X) (g : Entry → Option X) (c : Commissioned) (own : Address)
     → ((x : Entry) (earlier : List Entry) → IsJudged c own (x ∷ earlier) → map f
-        (reading_of x.event (stored c (standing c earlier) x.event)) ≡ cons_option (g x) [])
+    (reading_of x.event (stored c (standing c earlier) x.event)) ≡ cons_option (g x) [])
     → (earlier : List Entry) → IsJudged c own earlier → map f (readings_back c earlier) ≡ filter_map g (reverse earlier)
 each_stored f g c own one [] j = refl
 each_stored f g c own one (x ∷ earlier) j =
@@ -67,7 +67,7 @@ answer_counter c own s (Rekey key) = none_of _ (key_stored c.mode)
 
 entry_counter : (c : Commissioned) (own : Address) (x : Entry) (earlier : List Entry) → IsJudged c own (x ∷ earlier)
     → map (λ (r : Reading). r.counter) (reading_of x.event (stored c (standing c earlier) x.event)) ≡ cons_option (stored_counter x.outcome)
-        []
+    []
 unfolding outcome
 entry_counter c own x earlier j = answer_counter c own (standing c earlier) x.event ∙ ap (λ o. cons_option (stored_counter o) []) (sym j.0)
 
@@ -157,7 +157,7 @@ none_added event found (Refused reason) h = refl
 
 answer_added : (c : Commissioned) (own : Address) (earlier : List Entry) (event : Event)
     → reading_of event (stored c (standing c earlier) event) ≡ reading_added (answer c own (standing c earlier) event) event
-        (genuine c earlier event)
+    (genuine c earlier event)
 answer_added c own earlier (Hear format at t) =
     heard_added own c (orders c earlier) _ _ (Hear format at t) (genuine c earlier (Hear format at t)) (verdict c (standing c earlier) t)
     (judged_found (rekeyed c (other_key c earlier)) (last_counter c earlier) (brought (told c earlier) t (received c.mode t)))
@@ -175,4 +175,4 @@ added_read c own journal x j =
     let h = subst (IsJudged c own) (back journal x) j in
     readings-append c journal x
     ∙ ap (λ rs. readings c journal ++ rs) (answer_added c own earlier x.event ∙ ap
-        (λ o. reading_added o x.event (genuine c earlier x.event)) (sym h.0))
+    (λ o. reading_added o x.event (genuine c earlier x.event)) (sym h.0))

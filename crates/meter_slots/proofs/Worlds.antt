@@ -37,21 +37,21 @@ has_number n b = b.commission.address.0 == n
 
 pub journal_of-push : (c : Commissioned) (own : Address) (calls : List Call) (s : Call)
     → journal_of c own (calls ++ s ∷ []) ≡ journal_of c own calls ++ record
-        { source = s.source; line = s.line; event = s.event; outcome = outcome c own (reverse (journal_of c own calls)) s.event } ∷ []
+    { source = s.source; line = s.line; event = s.event; outcome = outcome c own (reverse (journal_of c own calls)) s.event } ∷ []
 journal_of-push c own calls s =
     let before = judged_journal c own (reverse calls) in
     ap (λ cs. reverse (judged_journal c own cs)) (reverse-append calls (s ∷ []))
     ∙ reverse-append (record { source = s.source; line = s.line; event = s.event; outcome = outcome c own before s.event } ∷ []) before
     ∙ ap (λ (e : List Entry). reverse before ++ record
-        { source = s.source; line = s.line; event = s.event; outcome = outcome c own e s.event } ∷ []) (sym (reverse-reverse before))
+    { source = s.source; line = s.line; event = s.event; outcome = outcome c own e s.event } ∷ []) (sym (reverse-reverse before))
 
 slot_cond : (b : Bool) (own : Address) (c : Commissioned) (steps : List Step) (s : Step)
     → record { own = own; commission = c; journal = journal_of c own (map call_of (filter (is_for c.address) steps ++ cond b (s ∷ []) [])) }
-        ≡ cond b (stepped_slot s (slot_of own steps c)) (slot_of own steps c)
+    ≡ cond b (stepped_slot s (slot_of own steps c)) (slot_of own steps c)
 slot_cond true own c steps s =
     ap (λ j. record { own = own; commission = c; journal = j })
     (ap (journal_of c own) (map-append call_of (filter (is_for c.address) steps) (s ∷ [])) ∙ journal_of-push c own
-        (calls_of c.address steps) (call_of s))
+    (calls_of c.address steps) (call_of s))
 slot_cond false own c steps s =
     ap (λ xs. record { own = own; commission = c; journal = journal_of c own (map call_of xs) })
     (append-nil (filter (is_for c.address) steps))
@@ -60,7 +60,7 @@ slot_of-push : (own : Address) (c : Commissioned) (steps : List Step) (s : Step)
     → slot_of own (steps ++ s ∷ []) c ≡ slot_after s (slot_of own steps c)
 slot_of-push own c steps s =
     ap (λ xs. record { own = own; commission = c; journal = journal_of c own (map call_of xs) })
-        (filter-append (is_for c.address) steps (s ∷ []))
+    (filter-append (is_for c.address) steps (s ∷ []))
     ∙ slot_cond (is_for c.address s) own c steps s
     ∙ ap (λ b. cond b (stepped_slot s (slot_of own steps c)) (slot_of own steps c)) (eqb_swap s.address.0 c.address.0)
 
@@ -110,8 +110,8 @@ set_stepped (b ∷ bs) zero s d a h e =
 set_stepped (b ∷ bs) (suc place) s d a h e =
     let lacks : Lacks b.commission.address.0 bs = sym (any-map b.commission.address.0 bs) ∙ a.0 in
     let differs =
-        other_number (get_or bs place d).commission.address.0 b.commission.address.0 s.address.0
-        (lacks_at b.commission.address.0 bs place d lacks (omega arith)) e in
+    other_number (get_or bs place d).commission.address.0 b.commission.address.0 s.address.0
+    (lacks_at b.commission.address.0 bs place d lacks (omega arith)) e in
     ap (λ bs'. b ∷ bs') (set_stepped bs place s d a.1 (omega arith) e)
     ∙ ap (λ t. cond t (stepped_slot s b) b ∷ map (slot_after s) bs) (sym differs)
 
@@ -151,8 +151,8 @@ none_found bs directory n ordered h =
     let p : Address → Bool = λ a. a.0 == n in
     let past : length directory ≤ position_or_len p directory = let test = none_if _ _ h in grind (arith, nat_tests) in
     let none : list_any p directory ≡ false =
-        none_any p directory some_address (λ k within. not_true _
-        (prefix_len_passes (λ a. not (p a)) directory k some_address (omega arith))) in
+    none_any p directory some_address (λ k within. not_true _
+    (prefix_len_passes (λ a. not (p a)) directory k some_address (omega arith))) in
     sym (any-map n bs) ∙ ap (list_any p) (sym ordered.places) ∙ none
 
 pub found_at : (bs : List SlotView) (directory : List Address) (n place : ℕ) (d : SlotView) → IsOrdered bs directory
@@ -163,7 +163,7 @@ found_at bs directory n place d ordered h =
     let within : place < length bs = omega (arith, ap length ordered.places, length-map bs address_of_slot, found.0) in
     let same : (get_or bs place d).commission.address.0 ≡ (get_or directory place (address_of_slot d)).0 =
     ap (λ (a : Address). a.0) (sym (get_or-map address_of_slot bs place d) ∙ ap (λ xs. get_or xs place (address_of_slot d))
-        (sym ordered.places)) in
+    (sym ordered.places)) in
     (within, same ∙ is_same (get_or directory place (address_of_slot d)).0 n found.1)
   where
     is_same : (a b : ℕ) → (a == b) ≡ true → a ≡ b
@@ -237,7 +237,7 @@ pub after_own : (s : Step) (w : WorldView) (place : ℕ) (d : SlotView) → AreA
 after_own s w place d a h same =
     ap (λ bs. record { slots = bs; strangers = w.strangers }) (set_stepped w.slots place s d a h same)
     ∙ ap (λ t. record { slots = map (slot_after s) w.slots; strangers = cond t w.strangers (w.strangers ++ heard_of s ∷ []) })
-        (sym (any_at s.address.0 w.slots place d h same))
+    (sym (any_at s.address.0 w.slots place d h same))
 
 -- the world of some steps and one more is that of these steps after this one
 pub after_push : (own : Address) (cs : List Commissioned) (steps : List Step) (s : Step)
@@ -281,8 +281,8 @@ pub landed_own : (own : Address) (cs : List Commissioned) (steps : List Step) (s
 unfolding world_of
 landed_own own cs steps s w place d given e l a h =
     let P : List SlotView → Type 0 =
-        λ bs. place < length bs → (get_or bs place d).commission.address.0 ≡ s.address.0 → given ≡ outcome_at (get_or bs place d) s → Lands
-        own cs steps s (Slot place given) in
+    λ bs. place < length bs → (get_or bs place d).commission.address.0 ≡ s.address.0 → given ≡ outcome_at (get_or bs place d) s → Lands
+    own cs steps s (Slot place given) in
     subst P (sym (ap (λ (v : WorldView). v.slots) e)) (landed_at own cs steps s place d given) l a h
 
 pub answered_own : (bs : List SlotView) (s : Step) (place : ℕ) (d : SlotView) (given : Outcome) → place < length bs
@@ -306,8 +306,12 @@ stranger_own bs s place d given l a =
 -- some slot, where a read of a list asks for a default
 abbrev pub some_slot : SlotView
 some_slot =
-    record { own = record { 0 = 0 }; commission = record
-    { address = record { 0 = 0 }; mode = Seven; key = []; other = None; last = None; down = 0; ids = 0 }; journal = [] }
+    record {
+      own = record { 0 = 0 };
+      commission = record
+          { address = record { 0 = 0 }; mode = Seven; key = []; other = None; last = None; down = 0; ids = 0 };
+      journal = [];
+    }
 
 -- ---- every slot is legal
 
@@ -315,7 +319,7 @@ slots_legal : (own : Address) (cs : List Commissioned) (steps : List Step) → A
 slots_legal own [] steps = All-nil IsLegal
 slots_legal own (c ∷ cs) steps =
     All-cons IsLegal (slot_of own steps c) (map (slot_of own steps) cs) (journal_of_legal c own (calls_of c.address steps))
-        (slots_legal own cs steps)
+    (slots_legal own cs steps)
 
 pub world_legal : (own : Address) (cs : List Commissioned) (steps : List Step) → All IsLegal (world_of own cs steps).slots
 unfolding world_of

@@ -217,7 +217,7 @@ heard own c k access response (Err reason) = Refused reason
 heard own c k access response (Ok None) = PartKept
 heard own c k access response (Ok (Some f)) =
     Stored f.counter (confirmed k response) (option_map (downlink_with own c (after_stored k access response).down)
-        (sent_at k access response))
+    (sent_at k access response))
 
 abbrev pub queued : Result ℕ QueueFault → Outcome
 queued (Ok id) = Queued id

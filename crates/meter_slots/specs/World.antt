@@ -29,7 +29,7 @@ abbrev pub judged_journal : Commissioned → Address → List Call → List Entr
 judged_journal c own [] = []
 judged_journal c own (s ∷ earlier) =
     record { source = s.source; line = s.line; event = s.event; outcome = outcome c own (judged_journal c own earlier) s.event }
-        ∷ judged_journal c own earlier
+    ∷ judged_journal c own earlier
 
 -- the one journal of some calls, the oldest first
 abbrev pub journal_of : Commissioned → Address → List Call → List Entry
@@ -72,7 +72,7 @@ world_of own commissions steps = record { slots = map (slot_of own steps) commis
 abbrev pub Lands : Address → List Commissioned → List Step → Step → Landed → Type 0
 Lands own commissions steps s (Slot place given) =
     (c : Commissioned) × (slice_get commissions place ≡ Some c) × (c.address.0 ≡ s.address.0)
-        × (given ≡ outcome c own (reverse (slot_of own steps c).journal) s.event)
+    × (given ≡ outcome c own (reverse (slot_of own steps c).journal) s.event)
 Lands own commissions steps s Stranger = is_commissioned commissions s.address ≡ false
 
 -- ---- one step

@@ -91,8 +91,12 @@ impl SlotBook {
     /// The commission as it would be written now.
     pub fn commission(&self) -> Commission
         ensures now { let earlier = reverse self.now.journal in let k = orders self.now.commission earlier in
-            result ≡ record self.now.commission { other = other_key self.now.commission earlier;
-            last = last_counter self.now.commission earlier; down = k.down; ids = k.queue.ids } }
+            result ≡ record self.now.commission {
+              other = other_key self.now.commission earlier;
+              last = last_counter self.now.commission earlier;
+              down = k.down;
+              ids = k.queue.ids;
+            } }
         ensures key { IsBlock self.now.commission.key }
     {
         let now = self.standing.commission();
@@ -126,7 +130,8 @@ impl SlotBook {
     pub fn step(&mut self, source: u32, line: u32, event: Event) -> Result<Outcome, Memory>
         ensures outcome { IfOk result (λ answer. answer ≡ outcome self.old.commission self.old.own (reverse self.old.journal) event) }
         ensures journal { IfOk result (λ answer. self.new ≡ record self.old {
-            journal = self.old.journal ++ record { source = source; line = line; event = event; outcome = answer } ∷ [] }) }
+          journal = self.old.journal ++ record { source = source; line = line; event = event; outcome = answer } ∷ [];
+        }) }
         ensures legal { Legal self.new.commission self.new.own self.new.journal }
 
         // A refusal leaves the second key, the last counter, the commands, their window and the readings as they were.

@@ -154,12 +154,7 @@ fn settle(parts: &mut Parts, verdict: &Verdict)
 }
 
 // Hears a fragment.
-fn hear_part(
-    judge: &Judge,
-    parts: &mut Parts,
-    part: Part,
-    message: &mut Scratch,
-) -> Verdict
+fn hear_part(judge: &Judge, parts: &mut Parts, part: Part, message: &mut Scratch) -> Verdict
     requires { part.afl.fid ≤ PARTS_MAX }
     ensures verdict { (told : List Told) → StandsFor parts.old told
         → verdict_as message.new result ≡ judged_by judge.now (Ok (assembled (held (Piece part ∷ told)))) }
@@ -175,12 +170,7 @@ fn hear_part(
 }
 
 // Hears a whole message.
-fn hear_whole(
-    judge: &Judge,
-    auth: Auth,
-    bytes: &[u8],
-    message: &mut Scratch,
-) -> Verdict
+fn hear_whole(judge: &Judge, auth: Auth, bytes: &[u8], message: &mut Scratch) -> Verdict
     requires { length bytes.now ≤ 256 }
     ensures verdict { verdict_as message.new result ≡ judged_by judge.now (Ok (Some (record { auth = auth; bytes = bytes.now }))) }
     ensures fits { VerdictFits judge.now.commission.mode message.new (length bytes.now) result }

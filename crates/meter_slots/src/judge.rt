@@ -39,12 +39,7 @@ impl Model for Judge {
 
 // Checks a message and decrypts it in place, and compares its number with the last one.
 #[tactic(auto, unfolding(message_check::specs::Opening::opened5_after, message_check::specs::Opening::opened7_after))]
-fn open(
-    mode: Mode,
-    judge: &Judge,
-    auth: &Auth,
-    message: &mut Scratch,
-) -> Result<Opened, Reason>
+fn open(mode: Mode, judge: &Judge, auth: &Auth, message: &mut Scratch) -> Result<Opened, Reason>
     requires { judge.now.commission.mode ≡ mode }
     ensures opened { IfOk result (λ o.
         judged_in mode judge.now.commission judge.now.last (record { auth = auth.now; bytes = message.old }) ≡ Ok (found_in message.new o)) }
@@ -119,7 +114,8 @@ impl Judge {
     pub(crate) fn rekey(&mut self, key: &[u8; 16]) -> Outcome
         ensures outcome { result ≡ key_answer self.old.commission.mode }
         ensures after { self.new ≡ record self.old {
-            commission = rekeyed self.old.commission (other_given self.old.commission.mode key.now self.old.commission.other) } }
+          commission = rekeyed self.old.commission (other_given self.old.commission.mode key.now self.old.commission.other);
+        } }
     {
         match self.commission.mode {
             Mode::Five => Outcome::Refused(Reason::KeyInMode5),

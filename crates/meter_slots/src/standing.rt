@@ -173,7 +173,13 @@ impl Standing {
     }
 
     // Answers a telegram. For want of memory nothing changes.
-    fn hear(&mut self, alloc: Global, own: Address, at: u64, telegram: &Telegram) -> Result<Served, Memory>
+    fn hear(
+        &mut self,
+        alloc: Global,
+        own: Address,
+        at: u64,
+        telegram: &Telegram,
+    ) -> Result<Served, Memory>
         ensures outcome { IfOk result (λ served. (format : Format) (told : List Told) → StandsFor self.old.parts told
             → served.outcome ≡ answer self.old.commission own (standing_for self.old told) (Hear format at telegram.now)) }
         ensures reading { IfOk result (λ served. (format : Format) (told : List Told) → StandsFor self.old.parts told
@@ -195,7 +201,9 @@ impl Standing {
         let mut message = take_buffer(alloc, &mut self.message)?;
         let judged = hear(&self.judge, &mut self.parts, telegram, layers, &mut message);
         let response = has_response_control(telegram.control());
-        let outcome = self.commands.hear(own, self.judge.commission(), &judged, response);
+        let outcome = self
+            .commands
+            .hear(own, self.judge.commission(), &judged, response);
         self.judge.count(&outcome);
         let reading = reading_from(at, room, &judged.verdict, &message);
         self.message = Some(message);
@@ -203,7 +211,12 @@ impl Standing {
     }
 
     /// Answers an event. For want of memory nothing changes.
-    pub(crate) fn answer(&mut self, alloc: Global, own: Address, event: &Event) -> Result<Served, Memory>
+    pub(crate) fn answer(
+        &mut self,
+        alloc: Global,
+        own: Address,
+        event: &Event,
+    ) -> Result<Served, Memory>
         ensures outcome { IfOk result (λ served. (told : List Told) → StandsFor self.old.parts told
             → served.outcome ≡ answer self.old.commission own (standing_for self.old told) event.now) }
         ensures reading { IfOk result (λ served. (told : List Told) → StandsFor self.old.parts told → option_to_list served.reading

@@ -20,6 +20,7 @@ use Rattle.unit_text.specs.Pieces.{register_text, unit_text}
 use Rattle.unit_text.specs.Words.{function_text, quantity_text, name_text}
 use Rattle.report_text.specs.Orders.{with_line}
 use Rattle.report_text.proofs.LineWalks.{IsWithout, ◌⌢◌, literal, Passes, nothing, ◌⨾◌, one_line}
+use Rattle.paper.specs.Pieces.{labelled_bytes}
 use Rattle.report_text.proofs.LinePieces.{number, signed, hex_or_dash, worded_number, worded_bytes}
 
 -- ---- words
@@ -103,7 +104,7 @@ record_passes bytes span =
     ⌢ data_is (bytes_at bytes u.modifiers_at u.modifiers) (value bytes span) (bytes_at bytes span.data_at span.data_len))
 
 maker_passes : (bytes : List ℕ) (span : RecordSpan) → Passes (maker_line bytes span)
-unfolding maker_line with_line
+unfolding maker_line labelled_bytes with_line
 maker_passes bytes span =
     one_line _ (worded_bytes (literal (codes "maker ") refl) (span.dif ∷ []) ⌢ literal (codes " ") refl ⌢ hex_or_dash (bytes_at bytes span.data_at span.data_len))
 

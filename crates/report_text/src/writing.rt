@@ -19,7 +19,10 @@ use layer_text::put_letters;
 use meter_address::{Address, Mode};
 use meter_slots::{Counts, Ended, Entry, Outcome, Reading, SlotBook};
 use outer_io::{Failed, Sink};
-use paper::{Paper, Printed, put_labelled, put_labelled_bytes, put_labelled_two, put_optional, put_text, write};
+use paper::{
+    Paper, Printed, put_labelled, put_labelled_bytes, put_labelled_two, put_optional, put_text,
+    write,
+};
 use record_text::put_records;
 use stranger_ring::{Heard, Strangers};
 
@@ -284,10 +287,7 @@ fn put_report<P: Paper>(paper: &mut P, session: &Session<'_>)
 }
 
 impl Printed for Session<'_> {
-    ghost use Rattle.report_text.specs.Report.{ended_text, counts_text, receiver_text};
-ghost use Rattle.report_text.specs.Report.{mode_text, commission_text, numbers_text, meter_text};
-ghost use Rattle.report_text.specs.Report.{step_text, readings_after, steps_text, last_text, pending_text, journal_text};
-ghost use Rattle.report_text.specs.Report.{stranger_text, ring_text, strangers_text, report_text};
+    ghost use Rattle.report_text.specs.Report.{report_text};
 
     ghost text = { λ s. report_text s.ends.now s.slots.now s.strangers.now };
 

@@ -36,7 +36,8 @@ bind_ok (Ok x) f y h = (x, refl, h)
 bind_ok (Err e) f y h = absurd cc
 
 -- the value of a field that was read, and the step behind it
-field_ok : {A B : Type 0} (o : Option A) (cause : LineCause) (f : A → Result B LineCause) (y : B) → (ok_or o cause >>= f) ≡ Ok y → (x : A) × (o ≡ Some x) × (f x ≡ Ok y)
+field_ok : {A B : Type 0} (o : Option A) (cause : LineCause) (f : A → Result B LineCause) (y : B) → (ok_or o cause >>= f) ≡ Ok y
+    → (x : A) × (o ≡ Some x) × (f x ≡ Ok y)
 field_ok o cause f y h =
     let step = bind_ok (ok_or o cause) f y h in
     (step.0, ok_or_is o cause step.0 step.1, step.2)
@@ -61,24 +62,28 @@ number_within most text n h = by_test (is_plain text && nat_le (digits_value 10 
     both true b is = is
     both false b is = absurd cc
 
-    by_test : (b : Bool) → (is_plain text && nat_le (digits_value 10 text) most) ≡ b → cond b (Some (digits_value 10 text)) None ≡ Some n → n ≤ most
+    by_test : (b : Bool) → (is_plain text && nat_le (digits_value 10 text) most) ≡ b → cond b (Some (digits_value 10 text)) None ≡ Some n
+        → n ≤ most
     by_test true is given =
         let small = both (is_plain text) (nat_le (digits_value 10 text) most) is in
         let same : digits_value 10 text ≡ n = cc in
         grind (arith, nat_tests)
     by_test false is given = absurd cc
 
-other_fits : (mode : Mode) (text : List ℕ) (other : Option (List ℕ)) → other_of mode text ≡ Some other → ForSome other IsKey × (mode ≡ Five → other ≡ None)
+other_fits : (mode : Mode) (text : List ℕ) (other : Option (List ℕ)) → other_of mode text ≡ Some other
+    → ForSome other IsKey × (mode ≡ Five → other ≡ None)
 other_fits mode text other h = by_dash (is_text text (codes "-")) h
   where
-    by_key : (mode : Mode) (key : Option (List ℕ)) → second_key_of mode text ≡ key → option_map Some key ≡ Some other → ForSome other IsKey × (mode ≡ Five → other ≡ None)
+    by_key : (mode : Mode) (key : Option (List ℕ)) → second_key_of mode text ≡ key → option_map Some key ≡ Some other
+        → ForSome other IsKey × (mode ≡ Five → other ≡ None)
     by_key mode None is given = absurd cc
     by_key Five (Some key) is given = absurd cc
     by_key Seven (Some key) is given =
         let same : Some key ≡ other = cc in
         subst (λ o. ForSome o IsKey × (Seven ≡ Five → o ≡ None)) same (some_is IsKey key (read_key_is text key is), λ five. absurd cc)
 
-    by_dash : (b : Bool) → cond b (Some None) (option_map Some (second_key_of mode text)) ≡ Some other → ForSome other IsKey × (mode ≡ Five → other ≡ None)
+    by_dash : (b : Bool) → cond b (Some None) (option_map Some (second_key_of mode text)) ≡ Some other
+        → ForSome other IsKey × (mode ≡ Five → other ≡ None)
     by_dash true given =
         let same : None ≡ other = cc in
         subst (λ (o : Option (List ℕ)). ForSome o IsKey × (mode ≡ Five → o ≡ None)) same (none_is IsKey, λ five. refl)
@@ -87,13 +92,15 @@ other_fits mode text other h = by_dash (is_text text (codes "-")) h
 last_fits : (mode : Mode) (text : List ℕ) (last : Option ℕ) → last_of mode text ≡ Some last → ForSome last (λ n. n ≤ most_last mode)
 last_fits mode text last h = by_dash (is_text text (codes "-")) h
   where
-    by_number : (o : Option ℕ) → number_of (most_last mode) text ≡ o → option_map Some o ≡ Some last → ForSome last (λ n. n ≤ most_last mode)
+    by_number : (o : Option ℕ) → number_of (most_last mode) text ≡ o → option_map Some o ≡ Some last
+        → ForSome last (λ n. n ≤ most_last mode)
     by_number None is given = absurd cc
     by_number (Some n) is given =
         let same : Some n ≡ last = cc in
         subst (λ (l : Option ℕ). ForSome l (λ n. n ≤ most_last mode)) same (some_is (λ n. n ≤ most_last mode) n (number_within (most_last mode) text n is))
 
-    by_dash : (b : Bool) → cond b (Some None) (option_map Some (number_of (most_last mode) text)) ≡ Some last → ForSome last (λ n. n ≤ most_last mode)
+    by_dash : (b : Bool) → cond b (Some None) (option_map Some (number_of (most_last mode) text)) ≡ Some last
+        → ForSome last (λ n. n ≤ most_last mode)
     by_dash true given =
         let same : None ≡ last = cc in
         subst (λ (l : Option ℕ). ForSome l (λ n. n ≤ most_last mode)) same (none_is (λ n. n ≤ most_last mode))
@@ -128,7 +135,8 @@ kind_fits : (version : Version) (fields : List (List ℕ)) (c : Commissioned) �
 kind_fits version [] c h = absurd cc
 kind_fits version (kind ∷ fields) c h = by_kind (is_text kind (codes "meter")) h
   where
-    by_kind : (b : Bool) → cond b (ok_or (columns_of version fields) causes.Fields >>= meter_of_columns) (Err causes.Kind) ≡ Ok c → IsCommission c
+    by_kind : (b : Bool) → cond b (ok_or (columns_of version fields) causes.Fields >>= meter_of_columns) (Err causes.Kind) ≡ Ok c
+        → IsCommission c
     by_kind true given = let step = field_ok (columns_of version fields) causes.Fields meter_of_columns c given in columns_fit step.0 c step.2
     by_kind false given = absurd cc
 
@@ -150,25 +158,29 @@ or_false false y h = (refl, h)
 eqb_swap : (a b : ℕ) → (a == b) ≡ (b == a)
 eqb_swap a b = grind (arith, nat_tests)
 
-any_last : (n : ℕ) (meters : List Commissioned) (c : Commissioned) → list_any (λ b. b.0 == n) (map (λ c. c.address) meters) ≡ false → (c.address.0 == n) ≡ false
+any_last : (n : ℕ) (meters : List Commissioned) (c : Commissioned) → list_any (λ b. b.0 == n) (map (λ c. c.address) meters) ≡ false
+    → (c.address.0 == n) ≡ false
     → list_any (λ b. b.0 == n) (map (λ c. c.address) (meters ++ c ∷ [])) ≡ false
 any_last n [] c h last = ap (λ t. t || false) last
 any_last n (m ∷ meters) c h last =
     let parts = or_false (m.address.0 == n) (list_any (λ b. b.0 == n) (map (λ c. c.address) meters)) h in
     ap (λ t. t || list_any (λ b. b.0 == n) (map (λ c. c.address) (meters ++ c ∷ []))) parts.0 ∙ any_last n meters c parts.1 last
 
-apart_last : (meters : List Commissioned) (c : Commissioned) → AreApart (map (λ m. m.address) meters) → list_any (λ m. m.address.0 == c.address.0) meters ≡ false
+apart_last : (meters : List Commissioned) (c : Commissioned) → AreApart (map (λ m. m.address) meters)
+    → list_any (λ m. m.address.0 == c.address.0) meters ≡ false
     → AreApart (map (λ m. m.address) (meters ++ c ∷ []))
 apart_last [] c apart new = (refl, tt)
 apart_last (m ∷ meters) c apart new =
     let parts = or_false (m.address.0 == c.address.0) (list_any (λ x. x.address.0 == c.address.0) meters) new in
     (any_last m.address.0 meters c apart.0 (eqb_swap c.address.0 m.address.0 ∙ parts.0), apart_last meters c apart.1 parts.1)
 
-each_last : (meters : List Commissioned) (c : Commissioned) → Each IsCommission meters → IsCommission c → Each IsCommission (meters ++ c ∷ [])
+each_last : (meters : List Commissioned) (c : Commissioned) → Each IsCommission meters → IsCommission c
+    → Each IsCommission (meters ++ c ∷ [])
 each_last [] c each is = (is, tt)
 each_last (m ∷ meters) c each is = (each.0, each_last meters c each.1 is)
 
-stands_with : (meters more : List Commissioned) (c : Commissioned) (known full : Bool) → CanStand meters → IsCommission c → list_any (λ m. m.address.0 == c.address.0) meters ≡ known → nat_le 4096 (length meters) ≡ full
+stands_with : (meters more : List Commissioned) (c : Commissioned) (known full : Bool) → CanStand meters → IsCommission c
+    → list_any (λ m. m.address.0 == c.address.0) meters ≡ known → nat_le 4096 (length meters) ≡ full
     → cond known (Err causes.Same) (cond full (Err causes.TooMany) (Ok (meters ++ c ∷ []))) ≡ Ok more → CanStand more
 stands_with meters more c true full stands is k f h = absurd cc
 stands_with meters more c false true stands is k f h = absurd cc
@@ -177,12 +189,14 @@ stands_with meters more c false false stands is k f h =
     let room : length meters < 4096 = grind (arith, nat_tests) in
     subst CanStand same (record { apart = apart_last meters c stands.apart k; few = omega (arith, length-append meters (c ∷ [])); each = each_last meters c stands.each is })
 
-stands_from : (version : Version) (meters more : List Commissioned) (e : ℕ × List ℕ) → CanStand meters → enlisted_from version meters e ≡ Ok more → CanStand more
+stands_from : (version : Version) (meters more : List Commissioned) (e : ℕ × List ℕ) → CanStand meters
+    → enlisted_from version meters e ≡ Ok more → CanStand more
 stands_from version meters more e stands h =
     let enlists = bind_ok (meter_of version e.1) (enlisted meters) more (at_line_ok e.0 (meter_of version e.1 >>= enlisted meters) more h) in
     stands_with meters more enlists.0 _ _ stands (meter_fits version e.1 enlists.0 enlists.1) refl refl enlists.2
 
-all_stand : (version : Version) (meters all : List Commissioned) (entries : List (ℕ × List ℕ)) → CanStand meters → meters_of version meters entries ≡ Ok all → CanStand all
+all_stand : (version : Version) (meters all : List Commissioned) (entries : List (ℕ × List ℕ)) → CanStand meters
+    → meters_of version meters entries ≡ Ok all → CanStand all
 unfolding meters_of
 all_stand version meters all [] stands h = let same : meters ≡ all = cc in subst CanStand same stands
 all_stand version meters all (e ∷ entries) stands h =
@@ -204,7 +218,8 @@ own_fits line own h = by_fields (fields_of line) h
     by_fields (kind ∷ a ∷ []) given = by_kind a (is_text kind (codes "own")) given
     by_fields (kind ∷ a ∷ b ∷ more) given = absurd cc
 
-with_own_is : (own : Address) (ms : Result (List Commissioned) RosterFault) (r : Enrolled) → with_own own ms ≡ Ok r → (meters : List Commissioned) × (ms ≡ Ok meters) × (own ≡ r.own) × (meters ≡ r.meters)
+with_own_is : (own : Address) (ms : Result (List Commissioned) RosterFault) (r : Enrolled) → with_own own ms ≡ Ok r
+    → (meters : List Commissioned) × (ms ≡ Ok meters) × (own ≡ r.own) × (meters ≡ r.meters)
 with_own_is own (Ok meters) r h =
     let made : Enrolled = record { own = own; meters = meters } in
     let same : made ≡ r = cc in
@@ -237,7 +252,8 @@ pub read_is_enrolled : (bytes : List ℕ) (r : Enrolled) → roster_of bytes ≡
 unfolding roster_of
 read_is_enrolled bytes r h = by_size (nat_lt 1048576 (length bytes)) h
   where
-    by_size : (b : Bool) → cond b (Err (Line 0 causes.TooLong)) (headed (entries_from 1 (lines bytes)) (length (lines bytes) + 1)) ≡ Ok r → IsEnrolled r
+    by_size : (b : Bool) → cond b (Err (Line 0 causes.TooLong)) (headed (entries_from 1 (lines bytes)) (length (lines bytes) + 1)) ≡ Ok r
+        → IsEnrolled r
     by_size true made = absurd cc
     by_size false made = headed_is (entries_from 1 (lines bytes)) (length (lines bytes) + 1) r made
 
@@ -248,5 +264,6 @@ too_long bytes long =
     let test : nat_lt 1048576 (length bytes) ≡ true = grind (arith, nat_tests) in
     ap (λ b. cond b (Err (Line 0 causes.TooLong)) (headed (entries_from 1 (lines bytes)) (length (lines bytes) + 1))) test
 
-pub first_line : (bytes : List ℕ) (line : ℕ) (cause : LineCause) → 1048576 < length bytes → (0 ≡ line) × (causes.TooLong ≡ cause) → roster_of bytes ≡ Err (Line line cause)
+pub first_line : (bytes : List ℕ) (line : ℕ) (cause : LineCause) → 1048576 < length bytes → (0 ≡ line) × (causes.TooLong ≡ cause)
+    → roster_of bytes ≡ Err (Line line cause)
 first_line bytes line cause long is = too_long bytes long ∙ ap (λ n. Err (Line n causes.TooLong)) is.0 ∙ ap (λ c. Err (Line line c)) is.1

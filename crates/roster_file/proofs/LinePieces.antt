@@ -22,7 +22,8 @@ unfolding meter_text name_text keys_text counts_text
 meter_is c =
     brackets (codes "meter") (text_of c.address) (mode_text c.mode) (encode_lower c.key) (other_text c.other) (last_text c.last) (decimal c.down) (decimal c.ids)
 
-pub meter_line : {P : Type 0} {takes : P → List ℕ → P → Type 0} {p q r s : P} (c : Commissioned) → Puts takes p (name_text c) q → Puts takes q (keys_text c) r → Puts takes r (counts_text c) s → Puts takes p (meter_text c) s
+pub meter_line : {P : Type 0} {takes : P → List ℕ → P → Type 0} {p q r s : P} (c : Commissioned) → Puts takes p (name_text c) q
+    → Puts takes q (keys_text c) r → Puts takes r (counts_text c) s → Puts takes p (meter_text c) s
 meter_line c one two three = three_make (meter_text c) one two three (meter_is c)
 
 own_brackets : (w a : List ℕ) → (w ++ 32 ∷ a) ++ (10 ∷ []) ≡ (w ++ (32 ∷ [])) ++ a ++ (10 ∷ [])
@@ -32,5 +33,6 @@ own_is : (own : Address) → own_text own ≡ codes "own " ++ text_of own ++ cod
 unfolding own_text
 own_is own = own_brackets (codes "own") (text_of own)
 
-pub own_line : {P : Type 0} {takes : P → List ℕ → P → Type 0} {p q r s : P} (own : Address) → Puts takes p (codes "own ") q → Puts takes q (text_of own) r → Puts takes r (codes "\n") s → Puts takes p (own_text own) s
+pub own_line : {P : Type 0} {takes : P → List ℕ → P → Type 0} {p q r s : P} (own : Address) → Puts takes p (codes "own ") q
+    → Puts takes q (text_of own) r → Puts takes r (codes "\n") s → Puts takes p (own_text own) s
 own_line own one two three = three_make (own_text own) one two three (own_is own)

@@ -71,7 +71,8 @@ unfolding encode_with
 no_dash_key [] long = absurd (omega arith)
 no_dash_key (b ∷ key) long = and_false (get_or lower_digits (b / 16) 0 == 45)
 
-other_back : (mode : Mode) (other : Option (List ℕ)) → (mode ≡ Five → other ≡ None) → ForSome other IsKey → other_of mode (other_text other) ≡ Some other
+other_back : (mode : Mode) (other : Option (List ℕ)) → (mode ≡ Five → other ≡ None) → ForSome other IsKey
+    → other_of mode (other_text other) ≡ Some other
 other_back mode None one_key keys = refl
 other_back Five (Some key) one_key keys = absurd (let none = one_key refl in cc)
 other_back Seven (Some key) one_key keys =
@@ -186,17 +187,20 @@ new_behind (m ∷ before) c after apart =
     ∙ new_behind before c after apart.1
 
 enlisted_behind : (before : List Commissioned) (c : Commissioned) (after : List Commissioned)
-    → AreApart (map (λ m. m.address) (before ++ c ∷ after)) → length (before ++ c ∷ after) ≤ 4096 → enlisted before c ≡ Ok (before ++ c ∷ [])
+    → AreApart (map (λ m. m.address) (before ++ c ∷ after)) → length (before ++ c ∷ after) ≤ 4096
+    → enlisted before c ≡ Ok (before ++ c ∷ [])
 enlisted_behind before c after apart few =
     let room : nat_le 4096 (length before) ≡ false = (let all = length-append before (c ∷ after) in grind (arith, nat_tests)) in
     ap (λ b. cond b (Err causes.Same) (cond (nat_le 4096 (length before)) (Err causes.TooMany) (Ok (before ++ c ∷ [])))) (new_behind before c after apart)
     ∙ ap (λ b. cond b (Err causes.TooMany) (Ok (before ++ c ∷ []))) room
 
 -- a line of words is neither empty nor a comment
-meter_counts : (c : Commissioned) (n : ℕ) (texts : List (List ℕ)) → entries_from n (meter_line c ∷ texts) ≡ (n, meter_line c) ∷ entries_from (n + 1) texts
+meter_counts : (c : Commissioned) (n : ℕ) (texts : List (List ℕ))
+    → entries_from n (meter_line c ∷ texts) ≡ (n, meter_line c) ∷ entries_from (n + 1) texts
 meter_counts c n texts = counted n (meter_line c) texts (grind (arith, nat_tests))
 
-meters_back : (n : ℕ) (before after : List Commissioned) → AreApart (map (λ m. m.address) (before ++ after)) → length (before ++ after) ≤ 4096 → Each IsCommission after
+meters_back : (n : ℕ) (before after : List Commissioned) → AreApart (map (λ m. m.address) (before ++ after))
+    → length (before ++ after) ≤ 4096 → Each IsCommission after
     → meters_of Two before (entries_from n (map meter_line after)) ≡ Ok (before ++ after)
 meters_back n before [] apart few each = ap (meters_of Two before) (none_left n) ∙ meters_end Two before ∙ ap Ok (sym (append-nil before))
 meters_back n before (c ∷ after) apart few each =
@@ -264,7 +268,8 @@ last_len : (mode : Mode) (last : Option ℕ) → ForSome last (λ n. n ≤ most_
 last_len mode None fits = omega arith
 last_len mode (Some n) fits = let within = fits n refl in let most = most_fits mode in number_len n (omega arith)
 
-joined_len : (word next : List ℕ) (words : List (List ℕ)) → length (join_with_byte 32 (word ∷ next ∷ words)) ≡ length word + 1 + length (join_with_byte 32 (next ∷ words))
+joined_len : (word next : List ℕ) (words : List (List ℕ))
+    → length (join_with_byte 32 (word ∷ next ∷ words)) ≡ length word + 1 + length (join_with_byte 32 (next ∷ words))
 joined_len word next words = omega (arith, length-append word (32 ∷ join_with_byte 32 (next ∷ words)))
 
 -- eight fields
@@ -322,14 +327,17 @@ roster_len r is =
 head_counts : (n : ℕ) (texts : List (List ℕ)) → entries_from n (head_line ∷ texts) ≡ (n, head_line) ∷ entries_from (n + 1) texts
 head_counts n texts = counted n head_line texts refl
 
-own_counts : (own : Address) (n : ℕ) (texts : List (List ℕ)) → entries_from n (own_line own ∷ texts) ≡ (n, own_line own) ∷ entries_from (n + 1) texts
+own_counts : (own : Address) (n : ℕ) (texts : List (List ℕ))
+    → entries_from n (own_line own ∷ texts) ≡ (n, own_line own) ∷ entries_from (n + 1) texts
 own_counts own n texts = counted n (own_line own) texts (grind (arith, nat_tests))
 
-owned_back : (r : Enrolled) (n end : ℕ) → IsEnrolled r → owned Two ((n, own_line r.own) ∷ entries_from (n + 1) (map meter_line r.meters)) end ≡ Ok r
+owned_back : (r : Enrolled) (n end : ℕ) → IsEnrolled r
+    → owned Two ((n, own_line r.own) ∷ entries_from (n + 1) (map meter_line r.meters)) end ≡ Ok r
 unfolding owned
 owned_back r n end is = rw (own_back r.own is.own, meters_back (n + 1) [] r.meters is.apart is.few is.each) refl
 
-headed_back : (r : Enrolled) (end : ℕ) → IsEnrolled r → headed (entries_from 1 (head_line ∷ own_line r.own ∷ map meter_line r.meters)) end ≡ Ok r
+headed_back : (r : Enrolled) (end : ℕ) → IsEnrolled r
+    → headed (entries_from 1 (head_line ∷ own_line r.own ∷ map meter_line r.meters)) end ≡ Ok r
 unfolding headed
 headed_back r end is =
     rw (head_counts 1 (own_line r.own ∷ map meter_line r.meters), own_counts r.own 2 (map meter_line r.meters)) (owned_back r 2 end is)

@@ -8,11 +8,13 @@ use Rattle.roster_file.specs.declared.roster.RosterFault.{RosterFault}
 use Rattle.roster_file.specs.Roster.{entries_from, is_passed_over, enlisted_from, meters_of}
 use Rattle.steps.specs.Steps.{◌>>=◌}
 
-pub passed : (n : ℕ) (text : List ℕ) (texts : List (List ℕ)) → is_passed_over text ≡ true → entries_from n (text ∷ texts) ≡ entries_from (n + 1) texts
+pub passed : (n : ℕ) (text : List ℕ) (texts : List (List ℕ)) → is_passed_over text ≡ true
+    → entries_from n (text ∷ texts) ≡ entries_from (n + 1) texts
 unfolding entries_from
 passed n text texts h = let rest = filter (λ e. not (is_passed_over e.1)) (enumerate_from (n + 1) texts) in ap (λ b. cond (not b) ((n, text) ∷ rest) rest) h
 
-pub counted : (n : ℕ) (text : List ℕ) (texts : List (List ℕ)) → is_passed_over text ≡ false → entries_from n (text ∷ texts) ≡ (n, text) ∷ entries_from (n + 1) texts
+pub counted : (n : ℕ) (text : List ℕ) (texts : List (List ℕ)) → is_passed_over text ≡ false
+    → entries_from n (text ∷ texts) ≡ (n, text) ∷ entries_from (n + 1) texts
 unfolding entries_from
 counted n text texts h = let rest = filter (λ e. not (is_passed_over e.1)) (enumerate_from (n + 1) texts) in ap (λ b. cond (not b) ((n, text) ∷ rest) rest) h
 
@@ -24,12 +26,14 @@ pub one_fewer : (text : List ℕ) (lines texts : List (List ℕ)) → lines ≡ 
 one_fewer text lines texts h = ap length h ∙ (omega arith)
 
 -- meters, line by line
-pub meters_next : (version : Version) (meters more : List Commissioned) (e : ℕ × List ℕ) (entries : List (ℕ × List ℕ)) → enlisted_from version meters e ≡ Ok more
+pub meters_next : (version : Version) (meters more : List Commissioned) (e : ℕ × List ℕ) (entries : List (ℕ × List ℕ))
+    → enlisted_from version meters e ≡ Ok more
     → meters_of version meters (e ∷ entries) ≡ meters_of version more entries
 unfolding meters_of
 meters_next version meters more e entries h = ap (λ r. r >>= λ next. meters_of version next entries) h
 
-pub meters_fault : (version : Version) (meters : List Commissioned) (fault : RosterFault) (e : ℕ × List ℕ) (entries : List (ℕ × List ℕ)) → enlisted_from version meters e ≡ Err fault
+pub meters_fault : (version : Version) (meters : List Commissioned) (fault : RosterFault) (e : ℕ × List ℕ)
+    (entries : List (ℕ × List ℕ)) → enlisted_from version meters e ≡ Err fault
     → meters_of version meters (e ∷ entries) ≡ Err fault
 unfolding meters_of
 meters_fault version meters fault e entries h = ap (λ r. r >>= λ next. meters_of version next entries) h

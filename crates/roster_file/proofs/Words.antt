@@ -47,7 +47,8 @@ both_above {low} a b x y = record { passed = list_all-append (nat_lt low) a b �
 glyph_above : (low d : ℕ) → low < 48 → nat_lt low (digit_glyph false d) ≡ true
 glyph_above low d h = cond_both (nat_lt d 10) (48 + d) (87 + d) (λ c. nat_lt low c ≡ true) (λ _. above low (48 + d) (omega arith)) (λ _. above low (87 + d) (omega arith))
 
-digits_above : (low : ℕ) → low < 48 → (k base n : ℕ) (behind : List ℕ) → list_all (nat_lt low) behind ≡ true → list_all (nat_lt low) (digits_onto k base false n behind) ≡ true
+digits_above : (low : ℕ) → low < 48 → (k base n : ℕ) (behind : List ℕ) → list_all (nat_lt low) behind ≡ true
+    → list_all (nat_lt low) (digits_onto k base false n behind) ≡ true
 digits_above low h zero base n behind is = is
 digits_above low h (suc k) base n behind is =
     let one : List ℕ = digit_glyph false (n % base) ∷ behind in
@@ -58,12 +59,14 @@ pub number_above : (low n : ℕ) → low < 48 → IsAbove low (decimal n)
 unfolding digits
 number_above low n h = record { passed = digits_above low h 64 10 n [] refl }
 
-found_above : (low : ℕ) (table : List ℕ) (i : ℕ) → i < length table → list_all (nat_lt low) table ≡ true → nat_lt low (get_or table i 0) ≡ true
+found_above : (low : ℕ) (table : List ℕ) (i : ℕ) → i < length table → list_all (nat_lt low) table ≡ true
+    → nat_lt low (get_or table i 0) ≡ true
 found_above low [] i within is = absurd (omega arith)
 found_above low (x ∷ table) zero within is = (and_parts _ _ is).0
 found_above low (x ∷ table) (suc i) within is = found_above low table i (omega arith) (and_parts _ _ is).1
 
-hex_above : (table bytes : List ℕ) → length table ≡ 16 → list_all (nat_lt 32) table ≡ true → IsBytes bytes → list_all (nat_lt 32) (encode_with table bytes) ≡ true
+hex_above : (table bytes : List ℕ) → length table ≡ 16 → list_all (nat_lt 32) table ≡ true → IsBytes bytes
+    → list_all (nat_lt 32) (encode_with table bytes) ≡ true
 unfolding encode_with
 hex_above table [] sixteen is fits = refl
 hex_above table (b ∷ bytes) sixteen is fits =
@@ -75,7 +78,8 @@ hex_word bytes fits = record { passed = hex_above lower_digits bytes refl refl f
 
 -- ---- cuts
 
-cut_first : (s : ℕ) (part rest : List ℕ) → IsAbove s part → slice_split (λ b. b == s) (part ++ s ∷ rest) ≡ part ∷ slice_split (λ b. b == s) rest
+cut_first : (s : ℕ) (part rest : List ℕ) → IsAbove s part
+    → slice_split (λ b. b == s) (part ++ s ∷ rest) ≡ part ∷ slice_split (λ b. b == s) rest
 cut_first s [] rest is = slice_split-cons_yes (λ b. b == s) s rest (grind (arith, nat_tests))
 cut_first s (x ∷ part) rest is =
     let parts = and_parts _ _ is.passed in
@@ -88,12 +92,14 @@ cut_last s (x ∷ part) is =
     slice_split-cons_no (λ b. b == s) x part (not_byte s x (is_above s x parts.0)) ∙ ap (onto_first x) (cut_last s part (record { passed = parts.1 }))
 
 -- words with blanks between them are fields
-pub fields_joined : (word : List ℕ) (words : List (List ℕ)) → IsWord word → Each IsWord words → fields_of (join_with_byte 32 (word ∷ words)) ≡ word ∷ words
+pub fields_joined : (word : List ℕ) (words : List (List ℕ)) → IsWord word → Each IsWord words
+    → fields_of (join_with_byte 32 (word ∷ words)) ≡ word ∷ words
 fields_joined word [] is each = cut_last 32 word is
 fields_joined word (next ∷ words) is each =
     cut_first 32 word (join_with_byte 32 (next ∷ words)) is ∙ ap (λ fields. word ∷ fields) (fields_joined next words each.0 each.1)
 
-pub joined_printed : (word : List ℕ) (words : List (List ℕ)) → IsWord word → Each IsWord words → IsPrinted (join_with_byte 32 (word ∷ words))
+pub joined_printed : (word : List ℕ) (words : List (List ℕ)) → IsWord word → Each IsWord words
+    → IsPrinted (join_with_byte 32 (word ∷ words))
 joined_printed word [] is each = lower 32 31 word (omega arith) is
 joined_printed word (next ∷ words) is each =
     both_above word (32 ∷ join_with_byte 32 (next ∷ words)) (lower 32 31 word (omega arith) is)

@@ -63,8 +63,10 @@ pub record Columns : Type 0 where
 
 -- the columns of the fields behind `meter`: six in version 1, which has no second key, and seven in version 2
 unfoldable pub columns_of : Version → List (List ℕ) → Option Columns
-columns_of One (a ∷ m ∷ k ∷ l ∷ d ∷ i ∷ []) = Some (record { address = a; mode = m; key = k; other = codes "-"; last = l; down = d; ids = i })
-columns_of Two (a ∷ m ∷ k ∷ o ∷ l ∷ d ∷ i ∷ []) = Some (record { address = a; mode = m; key = k; other = o; last = l; down = d; ids = i })
+columns_of One (a ∷ m ∷ k ∷ l ∷ d ∷ i ∷ []) =
+    Some (record { address = a; mode = m; key = k; other = codes "-"; last = l; down = d; ids = i })
+columns_of Two (a ∷ m ∷ k ∷ o ∷ l ∷ d ∷ i ∷ []) =
+    Some (record { address = a; mode = m; key = k; other = o; last = l; down = d; ids = i })
 columns_of version fields = None
 
 -- what a meter's columns say, or what is wrong with the first wrong one

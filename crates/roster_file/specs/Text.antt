@@ -29,7 +29,8 @@ last_text (Some n) = decimal n
 -- the fields of a meter's line
 abbrev pub meter_fields : Commissioned → List (List ℕ)
 meter_fields c =
-    codes "meter" ∷ text_of c.address ∷ mode_text c.mode ∷ encode_lower c.key ∷ other_text c.other ∷ last_text c.last ∷ decimal c.down ∷ decimal c.ids ∷ []
+    codes "meter" ∷ text_of c.address ∷ mode_text c.mode ∷ encode_lower c.key ∷ other_text c.other ∷ last_text c.last
+    ∷ decimal c.down ∷ decimal c.ids ∷ []
 
 unfoldable pub meter_text : Commissioned → List ℕ
 meter_text c = line_of (meter_fields c)

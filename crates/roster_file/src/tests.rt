@@ -107,6 +107,10 @@ fn refuses_an_address_that_stands_already(rt: HostRuntime) {
     assert_eq!(rt; fault, Some(RosterFault::Line(4, LineCause::Same)));
 }
 
+const SECOND_KEY: [u8; 16] = [
+    0xf0, 0xf1, 0xf2, 0xf3, 0xf4, 0xf5, 0xf6, 0xf7, 0xf8, 0xf9, 0xfa, 0xfb, 0xfc, 0xfd, 0xfe, 0xff,
+];
+
 // The gas meter and the heat meter in version 2, as a roster is written.
 const WRITTEN: &[u8] =
     b"wmbus-roster 2\nown 9315010000000131\nmeter 9315785634123303 5 0102030405060708090a0b0c0d0e0f11 - 42 7 8\nmeter 9315010203040107 7 000102030405060708090a0b0c0d0e0f f0f1f2f3f4f5f6f7f8f9fafbfcfdfeff 4294967295 0 4294967295\n";
@@ -115,9 +119,11 @@ const WRITTEN: &[u8] =
 fn a_roster_is_written_in_version_2(rt: HostRuntime) -> Result<(), Fail> {
     let alloc = rt.alloc();
     let roster = read_roster(alloc, WRITTEN)?;
-    assert_eq!(rt; roster.meters().len(), 2);
-    assert_eq!(rt; roster.meters()[0].other, None);
-    assert_eq!(rt; roster.meters()[1].other.map(|key| key[15]), Some(0xff));
+    let meters = roster.meters();
+    assert_eq!(rt; meters.len(), 2);
+    let (gas, heat) = (meters[0], meters[1]);
+    assert_eq!(rt; gas.other, None);
+    assert_eq!(rt; heat.other, Some(SECOND_KEY));
     assert_eq!(rt; write_roster(alloc, &roster)?.as_slice(), WRITTEN);
     let first = read_roster(
         alloc,

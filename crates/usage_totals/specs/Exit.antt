@@ -1,7 +1,6 @@
 -- How the program ends.
 use Rattle.std.specs.Prelude.{ℕ, ◌≡◌, ◌⊎◌, Bool, List, [], ◌∷◌, codes, nat_eq, if◌then◌else◌, Option, Some, None, is_some}
 use Rattle.std.specs.Cmp.Lexicographic.{pointwise}
-
 use Rattle.usage_totals.specs.declared.TheConstants.{HELP, VERSION}
 use Rattle.usage_totals.specs.declared.OwnText.{OwnText}
 use Rattle.usage_totals.specs.declared.OwnText.TheVariants as texts
@@ -24,4 +23,3 @@ asks_for_text words = is_some (own_text words)
 -- a text of the program's own was printed, or can't be
 abbrev pub IsTold : ℕ → Type 0
 IsTold status = (status ≡ 0) ⊎ (status ≡ 7)
-

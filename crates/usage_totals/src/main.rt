@@ -17,7 +17,8 @@ use std::io::{self, ErrorKind};
 use std::process::ExitCode;
 use usage_totals_main::{LINE_MAX, TotalsStatus, totals_run};
 
-const HELP: &str = "usage_totals: usages of meters, from payloads that are added, corrected and taken away
+const HELP: &str =
+    "usage_totals: usages of meters, from payloads that are added, corrected and taken away
 
 usage: usage_totals EDITS
        usage_totals --help
@@ -115,12 +116,12 @@ fn answer<R: Eprint + AllocGlobal, S: Source, K: Sink>(
     requires untaken { IsTrue S.tells → S.taken edits.old.reader.source ≡ [] }
     requires empty { IsTrue K.tells → K.written out.old ≡ [] }
     ensures { (status : TotalsStatus) × (exit_status result ≡ code_of status) × IsRun (record {
-        sources_tell = S.tells;
-        sinks_tell = K.tells;
-        words = map string_bytes command.now;
-        edits = source_change S.Source edits.old.reader.source edits.new.reader.source;
-        out = sink_change K.Sink out.old out.new;
-        status = status;
+      sources_tell = S.tells;
+      sinks_tell = K.tells;
+      words = map string_bytes command.now;
+      edits = source_change S.Source edits.old.reader.source edits.new.reader.source;
+      out = sink_change K.Sink out.old out.new;
+      status = status;
     }) }
 {
     let status = totals_run(rt.alloc(), command, edits, out);

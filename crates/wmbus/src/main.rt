@@ -6,9 +6,10 @@ ghost use Rattle.std.specs.String.{string_bytes};
 ghost use Rattle.std.specs.Process.{exit_status};
 ghost use Rattle.outer_io.specs.Each.{Each};
 ghost use Rattle.outer_io.specs.Shown.{source_change, sink_change};
+ghost use Rattle.receivers.specs.Run.{receiver_runs};
 ghost use Rattle.collector_main.specs.declared.status.Status.{Status as RunStatus};
 ghost use Rattle.collector_main.specs.Run.{IsRun};
-ghost use Rattle.collector_main.specs.Showing.{IsFresh, receiver_runs, outputs_of};
+ghost use Rattle.collector_main.specs.Showing.{IsFresh, outputs_of};
 ghost use Rattle.collector_main.specs.Statuses.{code_of};
 ghost use Rattle.collector_main.specs.Words.{plan_of};
 ghost use Rattle.wmbus.specs.Exit.{own_text, asks_for_text, IsTold, IsSessionExit};
@@ -122,7 +123,8 @@ fn hear<
     requires empty { IsTrue K.tells → K.written report.old ≡ [] }
 
     // The exit status is that of a run of the receivers, and one of those that the program has for a session.
-    ensures run { (status : RunStatus) × (exit_status result ≡ code_of status) × IfOk (plan_of (map string_bytes command.now)) (λ plan. IsRun (record {
+    ensures run { (status : RunStatus) × (exit_status result ≡ code_of status) ×
+        IfOk (plan_of (map string_bytes command.now)) (λ plan. IsRun (record {
       sources_tell = S.tells;
       sinks_tell = K.tells;
       roster = source_change S.Source roster.old roster.new;
@@ -156,7 +158,8 @@ fn perform<R: Threads + Wait + Sync + Print + Eprint + Files<File = File> + Allo
     mut report: StdSink,
 ) -> ExitCode
     ensures text { asks_for_text (map string_bytes command.now) ≡ true → IsTold (exit_status result) }
-    ensures faulty { asks_for_text (map string_bytes command.now) ≡ false → IfErr (plan_of (map string_bytes command.now)) (λ _. exit_status result ≡ 2) }
+    ensures faulty { asks_for_text (map string_bytes command.now) ≡ false →
+        IfErr (plan_of (map string_bytes command.now)) (λ _. exit_status result ≡ 2) }
     ensures session { IsOk (plan_of (map string_bytes command.now)) → IsSessionExit (exit_status result) }
 {
     if let Some(own) = own_text(command) {

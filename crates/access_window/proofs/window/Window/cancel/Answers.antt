@@ -7,7 +7,7 @@ pub returns-in_err-command-clause-after : goal.returns-in_err-command-clause-aft
 returns-in_err-command-clause-after c = λ down.
     ap (λ q. orders_of q c.args.self.now down) c.in_err-command.ensures.refused
     ∙ cancel_refused c.args.id (orders_of c.args.queue.now c.args.self.now down) c.in_err-command.field-0.0
-        (sym c.in_err-command.ensures.answer)
+    (sym c.in_err-command.ensures.answer)
 
 pub returns-clause-after : goal.returns-clause-after
 returns-clause-after c = λ down.
@@ -17,4 +17,4 @@ returns-clause-after c = λ down.
 pub returns-clause-agrees : goal.returns-clause-agrees
 returns-clause-agrees c =
     rw (c.take.ensures.after, c.cancelled.ensures)
-        (agrees_cancelled c.args.id c.args.self.now c.args.queue.now c.take.ensures.was_sound c.requires)
+    (agrees_cancelled c.args.id c.args.self.now c.args.queue.now c.take.ensures.was_sound c.requires)

@@ -8,4 +8,4 @@ pub returns-clause-agrees : goal.returns-clause-agrees
 returns-clause-agrees c =
     subst (Agrees (Waiting c.in-Some.oldest.now.id)) (sym c.count_try.ensures)
     (agrees_sent c.args.queue.now c.in-Some.oldest.now (subst (λ w. Agrees w c.args.queue.now) c.in-Idle.is c.requires)
-        c.in-Some.ensures.command)
+    c.in-Some.ensures.command)

@@ -7,5 +7,5 @@ pub invariant_of-self : goal.invariant_of-self
 invariant_of-self c =
     let inside = c.self.inside in
     sound_put (record { ids = inside.ids; commands = inside.commands.items }) _
-        (record { id = inside.ids + 1; tries = 0; payload = c.args.payload }) c.self.invariant
-        (grind (arith, nat_tests, c.if-is_full.ensures.value)) refl refl c.push.ensures.items refl
+    (record { id = inside.ids + 1; tries = 0; payload = c.args.payload }) c.self.invariant
+    (grind (arith, nat_tests, c.if-is_full.ensures.value)) refl refl c.push.ensures.items refl

@@ -17,7 +17,7 @@ invariant_of-self c =
     let same : c.self.inside.commands.items ≡ q.commands = ap (λ (p : Pending). p.commands) c.self.view_is in
     sound_without c.args.id q _ sound
     (c.remove.ensures.items ∙ ap (λ cs. remove cs c.in-Some.place) same ∙ left c.args.id q c.in-Some.place c.remove.result sound
-        c.in-Some.ensures.within c.in-Some.ensures.found)
+    c.in-Some.ensures.within c.in-Some.ensures.found)
     (ap (λ (p : Pending). p.ids) c.self.view_is)
 
 pub returns-clause-answer : goal.returns-clause-answer
@@ -26,7 +26,7 @@ returns-clause-answer c =
     let sound : IsSound q = subst IsSound c.self.view_is c.self.invariant in
     let same : c.self.inside.commands.items ≡ q.commands = ap (λ (p : Pending). p.commands) c.self.view_is in
     sym (answered c.args.id q c.in-Some.place c.remove.result sound c.in-Some.ensures.within c.in-Some.ensures.found
-        (c.remove.ensures.value ∙ ap (λ cs. get_or cs c.in-Some.place c.remove.result) same))
+    (c.remove.ensures.value ∙ ap (λ cs. get_or cs c.in-Some.place c.remove.result) same))
 
 pub returns-clause-after : goal.returns-clause-after
 returns-clause-after c =
@@ -35,4 +35,4 @@ returns-clause-after c =
     let same : c.self.inside.commands.items ≡ q.commands = ap (λ (p : Pending). p.commands) c.self.view_is in
     is_without c.args.id q _ (ap (λ (p : Pending). p.ids) c.self.view_is)
     (c.remove.ensures.items ∙ ap (λ cs. remove cs c.in-Some.place) same ∙ left c.args.id q c.in-Some.place c.remove.result sound
-        c.in-Some.ensures.within c.in-Some.ensures.found)
+    c.in-Some.ensures.within c.in-Some.ensures.found)

@@ -15,10 +15,10 @@ returns-clause-orders c format told =
     let k : Kept = record { commission = b.judge.commission; last = b.judge.last; parts = b.parts; orders = b.commands } in
     let access : Kept → Access = λ k. access_of (received k.commission.mode t) (verdict k.commission (standing_for k told) t) in
     let Moved : Kept → Type 0 = λ k. StandsFor k.parts told
-        → c.hear-outcome.new.self ≡ orders_heard k.orders (access k) (is_response (slice_index t 1)) given in
+    → c.hear-outcome.new.self ≡ orders_heard k.orders (access k) (is_response (slice_index t 1)) given in
     let moved : Moved k = λ stands. c.hear-outcome.ensures.after
-        ∙ ap (λ (a : Access). orders_heard b.commands a c.has_response_control-response.result given)
-        (c.hear-judged.ensures.access ∙ ap (access_of (received b.judge.commission.mode t)) (c.hear-judged.ensures.verdict told stands))
-        ∙ ap (λ (response : Bool). orders_heard b.commands (access k) response given)
-        (c.has_response_control-response.ensures ∙ ap is_response c.control.ensures) in
+    ∙ ap (λ (a : Access). orders_heard b.commands a c.has_response_control-response.result given)
+    (c.hear-judged.ensures.access ∙ ap (access_of (received b.judge.commission.mode t)) (c.hear-judged.ensures.verdict told stands))
+    ∙ ap (λ (response : Bool). orders_heard b.commands (access k) response given)
+    (c.has_response_control-response.ensures ∙ ap is_response c.control.ensures) in
     subst Moved c.self.view_is moved
