@@ -7,7 +7,6 @@ pub mod Hirings
 pub mod Joinings
 pub mod Lone
 pub mod Makings
-pub mod Meetings
 pub mod Numbers
 pub mod OneSession
 pub mod OrderLaws

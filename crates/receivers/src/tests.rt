@@ -1,27 +1,19 @@
-ghost use Rattle.std.specs.Prelude.{◌≡◌, [], None, IfOk, List};
-ghost use Rattle.slot_cells.specs.declared.act.Act.{Act};
+ghost use Rattle.std.specs.Prelude.{◌≡◌, None, IfOk};
 
-use crate::running::run_cells;
-use crate::session::enclose;
 use crate::{Collected, Receiver, collect};
 use meter_address::{Address, Commission, Mode};
-use meter_slots::{Directory, Ended, Event, Outcome, World};
+use meter_slots::{Ended, World};
 use outer_io::{Memory, MemorySink, MemorySource};
-use slot_cells::{Act, Book};
 use std::alloc::{AllocError, Global};
-use std::sync::atomic::{AtomicU64, Ordering};
-use std::sync::{Arc, Wait};
+use std::sync::Wait;
 use std::test::Fail;
 use std::thread::Threads;
-use stranger_ring::Strangers;
 
 const OWN: u64 = 0x9315_0100_0000_0131;
 
 const WATER: u64 = 0xf09a_3d86_a480_040a;
 
 const WATER_KEY: u128 = 0x5bdb_9b96_294e_7c32_b302_e186_433a_df1d;
-
-const HEAT: u64 = 0x9315_0102_0304_0107;
 
 // A command, and a telegram after which the meter listens.
 const COMMANDED: &[u8] =
@@ -141,101 +133,5 @@ fn a_receiver_alone(rt: HostRuntime) -> Result<(), Fail> {
     assert_eq!(rt; receiver.work_alone(1, &mut world), Ended::End);
     assert_eq!(rt; receiver.counts().own, 3);
     assert_eq!(rt; receiver.tx().bytes().len(), 0);
-    Ok(())
-}
-
-// A book whose act ends only once another book's act has begun.
-#[derive(Drop)]
-struct Meeting {
-    begun: Arc<AtomicU64, Global>,
-    awaited: Arc<AtomicU64, Global>,
-    acts: Vec<Act<Event, Outcome>>,
-}
-
-impl Meeting {
-    fn new(
-        alloc: Global,
-        begun: &Arc<AtomicU64, Global>,
-        awaited: &Arc<AtomicU64, Global>,
-    ) -> Result<Meeting, AllocError>
-        ensures { IfOk result (λ m. m.acts.items ≡ []) }
-    {
-        Ok(Meeting {
-            begun: Arc::try_clone(begun)?,
-            awaited: Arc::try_clone(awaited)?,
-            acts: Vec::new(alloc),
-        })
-    }
-
-    fn meets(&self) -> bool {
-        self.begun.store(1, Ordering::SeqCst);
-        for _ in 0..1_000_000_000u64 {
-            if self.awaited.load(Ordering::SeqCst) == 1 {
-                return true;
-            }
-        }
-        false
-    }
-}
-
-impl Book for Meeting {
-    type Call = Event;
-
-    type Answer = Outcome;
-
-    ghost Opening = { Unit {0} };
-
-    ghost opening = { λ b. tt };
-
-    ghost acts = { λ b. b.acts.items };
-
-    ghost is_legal = { λ o acts. Unit {0} };
-
-    fn act(&mut self, source: u32, line: u32, call: Event) -> Result<Outcome, Memory> {
-        if !self.meets() {
-            return Err(Memory);
-        }
-        let answer = Outcome::Ticked { expired: None };
-        self.acts.push(Act {
-            source,
-            line,
-            call,
-            answer,
-        })?;
-        Ok(Outcome::Ticked { expired: None })
-    }
-
-    ghost empty_is_legal = { λ o. tt };
-}
-
-// A body that steps all lines on one thread, or under one lock round all cells, has a receiver that ends for want of memory.
-#[test]
-fn two_meters_act_at_the_same_time(rt: HostRuntime) -> Result<(), Fail> {
-    let alloc = rt.alloc();
-    let first = Arc::new(alloc, AtomicU64::new(0))?;
-    let second = Arc::new(alloc, AtomicU64::new(0))?;
-    let (water, water_root) = enclose(alloc, Meeting::new(alloc, &first, &second)?)?;
-    let (heat, heat_root) = enclose(alloc, Meeting::new(alloc, &second, &first)?)?;
-    let (strangers, mut stranger_root) = enclose(alloc, Strangers::new(alloc)?)?;
-    let directory = Directory::new(alloc, &[Address(WATER), Address(HEAT)])?;
-    let one = radio(alloc, b"T f09a3d86a480040a\n", &[], &[])?;
-    let two = radio(alloc, b"T 9315010203040107\n", &[], &[])?;
-    let mut receivers = vec![in alloc; one, two]?;
-    let cells = [water, heat];
-    let mut roots = [water_root, heat_root];
-    run_cells(
-        &rt,
-        alloc,
-        &directory,
-        &cells,
-        &mut roots,
-        &strangers,
-        &mut stranger_root,
-        &mut receivers,
-    )?;
-    for receiver in receivers.as_slice() {
-        assert_eq!(rt; receiver.ended(), Some(Ended::End));
-        assert_eq!(rt; receiver.counts().own, 1);
-    }
     Ok(())
 }
