@@ -373,8 +373,10 @@ fn messages_under_two_keys(rt: HostRuntime) -> Result<(), Fail> {
     let mut slot = SlotBook::new(rt.alloc(), Address(1), meter);
     step_all(&rt, &mut slot, HEAT, &KEY_LINES)?;
     let now = slot.commission();
-    assert_eq!(rt; now.other.map(u128::from_be_bytes), Some(OTHER_KEY));
-    assert_eq!(rt; (now.key, now.last), (HEAT_KEY.to_be_bytes(), Some(3)));
+    let key = now.key;
+    assert_eq!(rt; now.other, Some(OTHER_KEY.to_be_bytes()));
+    assert_eq!(rt; u128::from_be_bytes(key), HEAT_KEY);
+    assert_eq!(rt; now.last, Some(3));
     Ok(())
 }
 
