@@ -2,7 +2,7 @@
 from cryptography.hazmat.primitives.ciphers import Cipher, algorithms, modes
 from cryptography.hazmat.primitives.cmac import CMAC
 
-METER_CIPHER, METER_MAC = 0x00, 0x01
+METER_CIPHER, METER_MAC, PARTNER_CIPHER, PARTNER_MAC = 0x00, 0x01, 0x10, 0x11
 MCL = 0x25
 
 
@@ -47,3 +47,15 @@ def fragments(key, address, counter, payload, count, key_id=0):
         afl = bytes([0x90, 2 + len(fields)]) + control.to_bytes(2, "little") + fields
         made.append(telegram(0x44, address, afl + text[(fid - 1) * size:fid * size]))
     return made
+
+
+def downlink(own, key, address, down, payload):
+    """The telegram of a downlink to a meter, under its key and the counter `down`."""
+    plain = b"\x2f\x2f" + payload
+    plain += b"\x2f" * (-len(plain) % 16)
+    cipher = Cipher(algorithms.AES(derived(key, PARTNER_CIPHER, down, address)), modes.CBC(bytes(16))).encryptor()
+    header = bytes([0x5B]) + address[2:6] + address[:2] + address[6:] + bytes([down % 256, 0, len(plain) // 16 << 4, 7, 0x10])
+    text = header + cipher.update(plain)
+    counted = bytes([MCL]) + down.to_bytes(4, "little")
+    mac = cmac(derived(key, PARTNER_MAC, down, address), counted + text)[:8]
+    return telegram(0x43, own, bytes.fromhex("900f002c") + counted + mac + text)

@@ -25,7 +25,8 @@ abbrev found_end : (ℕ → Bool) → ℕ → List Told → Option Fragment
 found_end test n told = option_map (λ h. h.part) (find (is_end_of test) (latest_each (since n told)))
 
 find_less_cond : (b : Bool) (test : ℕ → Bool) (h : HeldPart) (hs : List HeldPart)
-    → find (is_end_of test) (cond (not b) (h ∷ hs) hs) ≡ cond ((not b && test h.part.afl.fid) && is_end h) (Some h) (find (is_end_of test) hs)
+    → find (is_end_of test) (cond (not b) (h ∷ hs) hs) ≡ cond ((not b && test h.part.afl.fid) && is_end h) (Some h)
+    (find (is_end_of test) hs)
 find_less_cond true test h hs = refl
 find_less_cond false test h hs = refl
 
@@ -42,16 +43,21 @@ abbrev is_here : (ℕ → Bool) → Fragment → Bool
 is_here test p = test p.afl.fid && not p.afl.more
 
 end_here_cond : (here : Bool) (test : ℕ → Bool) (n : ℕ) (p : Fragment) (told : List Told)
-    → option_map (λ (h : HeldPart). h.part) (cond here (Some (record { ticks = n; part = p })) (find (is_end_of test) (others p.afl.fid (latest_each (since n told))))) ≡ cond here (Some p) (found_end (less p.afl.fid test) n told)
+    → option_map (λ (h : HeldPart). h.part)
+    (cond here (Some (record { ticks = n; part = p })) (find (is_end_of test) (others p.afl.fid (latest_each (since n told))))) ≡ cond
+    here (Some p) (found_end (less p.afl.fid test) n told)
 end_here_cond true test n p told = refl
 end_here_cond false test n p told = ap (option_map (λ (h : HeldPart). h.part)) (find_less test p.afl.fid (latest_each (since n told)))
 
 end_piece_cond : (counted : Bool) (test : ℕ → Bool) (n : ℕ) (p : Fragment) (told : List Told)
-    → option_map (λ (h : HeldPart). h.part) (find (is_end_of test) (latest_each (cond counted (record { ticks = n; part = p } ∷ since n told) (since n told)))) ≡ end_with counted (is_here test p) test n p told
+    → option_map (λ (h : HeldPart). h.part)
+    (find (is_end_of test) (latest_each (cond counted (record { ticks = n; part = p } ∷ since n told) (since n told)))) ≡ end_with
+    counted (is_here test p) test n p told
 end_piece_cond true test n p told = end_here_cond (is_here test p) test n p told
 end_piece_cond false test n p told = refl
 
-end_piece : (test : ℕ → Bool) (n : ℕ) (p : Fragment) (told : List Told) → found_end test n (Piece p ∷ told) ≡ end_with (is_counted p) (is_here test p) test n p told
+end_piece : (test : ℕ → Bool) (n : ℕ) (p : Fragment) (told : List Told)
+    → found_end test n (Piece p ∷ told) ≡ end_with (is_counted p) (is_here test p) test n p told
 end_piece test n p told = end_piece_cond (is_counted p) test n p told
 
 -- ---- the end that is found is the last one
@@ -61,7 +67,8 @@ record WasLastEnd (test : ℕ → Bool) (n : ℕ) (told : List Told) (part : Fra
   was : WasLast n part.afl.fid told part
   passes : test part.afl.fid ≡ true
   ends : part.afl.more ≡ false
-  last : (other : Fragment) → test other.afl.fid ≡ true → other.afl.more ≡ false → found_part n other.afl.fid told ≡ Some other → list_any (is_piece_of other.afl.fid) was.later ≡ false
+  last : (other : Fragment) → test other.afl.fid ≡ true → other.afl.more ≡ false → found_part n other.afl.fid told ≡ Some other
+      → list_any (is_piece_of other.afl.fid) was.later ≡ false
 
 and_left : (x y : Bool) → (x && y) ≡ true → x ≡ true
 and_left true y h = refl
@@ -93,26 +100,41 @@ found_any (suc zero) f told part l h = found_one f told part h
 found_any (suc (suc n)) f told part l h = absurd (omega arith)
 
 -- the fragment itself
-end_itself : (test : ℕ → Bool) (n : ℕ) (p : Fragment) (told : List Told) → n ≤ 1 → is_counted p ≡ true → is_here test p ≡ true → WasLastEnd test n (Piece p ∷ told) p
+end_itself : (test : ℕ → Bool) (n : ℕ) (p : Fragment) (told : List Told) → n ≤ 1 → is_counted p ≡ true → is_here test p ≡ true
+    → WasLastEnd test n (Piece p ∷ told) p
 end_itself test n p told l c e = record {
-  was = record { later = []; earlier = told; heard = refl; number = refl; counted = within p.afl.fid p.afl.fid c refl; latest = refl; uncleared = refl; ticks = omega arith };
+  was = record {
+    later = [];
+    earlier = told;
+    heard = refl;
+    number = refl;
+    counted = within p.afl.fid p.afl.fid c refl;
+    latest =
+        refl;
+    uncleared = refl;
+    ticks = omega arith;
+  };
   passes = and_left (test p.afl.fid) (not p.afl.more) e;
   ends = not_true p.afl.more (and_right (test p.afl.fid) (not p.afl.more) e);
   last = λ other t m f. refl;
 }
 
 -- no other fragment that is found has the number of one that is no end
-end_passed : (test : ℕ → Bool) (n : ℕ) (p other : Fragment) (told : List Told) (same : Bool) → is_here test p ≡ false → (p.afl.fid == other.afl.fid) ≡ same → test other.afl.fid ≡ true → other.afl.more ≡ false
-    → found_with true same n other.afl.fid p told ≡ Some other → ((p.afl.fid == other.afl.fid) ≡ false) × (found_part n other.afl.fid told ≡ Some other)
+end_passed : (test : ℕ → Bool) (n : ℕ) (p other : Fragment) (told : List Told) (same : Bool) → is_here test p ≡ false
+    → (p.afl.fid == other.afl.fid) ≡ same → test other.afl.fid ≡ true → other.afl.more ≡ false
+    → found_with true same n other.afl.fid p told ≡ Some other
+    → ((p.afl.fid == other.afl.fid) ≡ false) × (found_part n other.afl.fid told ≡ Some other)
 end_passed test n p other told true no_end s t m f =
     let is : p ≡ other = cc in
     let here : is_here test p ≡ true = ap (is_here test) is ∙ both (test other.afl.fid) (not other.afl.more) t (ap not m) in
     absurd cc
 end_passed test n p other told false no_end s t m f = (s, f)
 
-end_after : (test : ℕ → Bool) (n : ℕ) (p part : Fragment) (told : List Told) → is_counted p ≡ true → is_here test p ≡ false → WasLastEnd (less p.afl.fid test) n told part → WasLastEnd test n (Piece p ∷ told) part
+end_after : (test : ℕ → Bool) (n : ℕ) (p part : Fragment) (told : List Told) → is_counted p ≡ true → is_here test p ≡ false
+    → WasLastEnd (less p.afl.fid test) n told part → WasLastEnd test n (Piece p ∷ told) part
 end_after test n p part told c e w = record {
-  was = after_piece n part.afl.fid p part told (other_number p.afl.fid part.afl.fid (and_left (not (part.afl.fid == p.afl.fid)) (test part.afl.fid) w.passes)) w.was;
+  was = after_piece n part.afl.fid p part told
+      (other_number p.afl.fid part.afl.fid (and_left (not (part.afl.fid == p.afl.fid)) (test part.afl.fid) w.passes)) w.was;
   passes = and_right (not (part.afl.fid == p.afl.fid)) (test part.afl.fid) w.passes;
   ends = w.ends;
   last = λ other t m f.
@@ -120,11 +142,13 @@ end_after test n p part told c e w = record {
       ap (λ b. found_with b (p.afl.fid == other.afl.fid) n other.afl.fid p told) (sym c) ∙ sym (found_piece n other.afl.fid p told) ∙ f in
       let passed = end_passed test n p other told (p.afl.fid == other.afl.fid) e refl t m found in
       none_of (p.afl.fid == other.afl.fid) (list_any (is_piece_of other.afl.fid) w.was.later) passed.0
-      (w.last other (both (not (other.afl.fid == p.afl.fid)) (test other.afl.fid) (number_differs p.afl.fid other.afl.fid passed.0) t) m passed.1);
+      (w.last other (both (not (other.afl.fid == p.afl.fid)) (test other.afl.fid) (number_differs p.afl.fid other.afl.fid passed.0) t) m
+      passed.1);
 }
 
 -- a fragment that isn't counted
-end_uncounted : (test : ℕ → Bool) (n : ℕ) (p part : Fragment) (told : List Told) → n ≤ 1 → is_counted p ≡ false → WasLastEnd test n told part → WasLastEnd test n (Piece p ∷ told) part
+end_uncounted : (test : ℕ → Bool) (n : ℕ) (p part : Fragment) (told : List Told) → n ≤ 1 → is_counted p ≡ false
+    → WasLastEnd test n told part → WasLastEnd test n (Piece p ∷ told) part
 end_uncounted test n p part told l c w = record {
   was = after_piece n part.afl.fid p part told (beyond p.afl.fid part.afl.fid c w.was.counted) w.was;
   passes = w.passes;
@@ -137,19 +161,24 @@ end_uncounted test n p part told l c w = record {
 }
 
 end_tick : (test : ℕ → Bool) (told : List Told) (part : Fragment) → WasLastEnd test 1 told part → WasLastEnd test 0 (Tick ∷ told) part
-end_tick test told part w = record { was = after_tick part.afl.fid part told w.was; passes = w.passes; ends = w.ends; last = λ other t m f. w.last other t m f }
+end_tick test told part w =
+    record { was = after_tick part.afl.fid part told w.was; passes = w.passes; ends = w.ends; last = λ other t m f. w.last other t m f }
 
-end_with_last : (counted here : Bool) (test : ℕ → Bool) (n : ℕ) (p part : Fragment) (told : List Told) → is_counted p ≡ counted → is_here test p ≡ here → n ≤ 1
-    → ((t : ℕ → Bool) → found_end t n told ≡ Some part → WasLastEnd t n told part) → end_with counted here test n p told ≡ Some part → WasLastEnd test n (Piece p ∷ told) part
+end_with_last : (counted here : Bool) (test : ℕ → Bool) (n : ℕ) (p part : Fragment) (told : List Told) → is_counted p ≡ counted
+    → is_here test p ≡ here → n ≤ 1
+    → ((t : ℕ → Bool) → found_end t n told ≡ Some part → WasLastEnd t n told part) → end_with counted here test n p told ≡ Some part
+    → WasLastEnd test n (Piece p ∷ told) part
 end_with_last true true test n p part told c e l rest h =
     let is : p ≡ part = cc in
     subst (WasLastEnd test n (Piece p ∷ told)) is (end_itself test n p told l c e)
 end_with_last true false test n p part told c e l rest h = end_after test n p part told c e (rest (less p.afl.fid test) h)
 end_with_last false here test n p part told c e l rest h = end_uncounted test n p part told l c (rest test h)
 
-ended_after : (test : ℕ → Bool) (n : ℕ) (p part : Fragment) (told : List Told) → n ≤ 1 → ((t : ℕ → Bool) → found_end t n told ≡ Some part → WasLastEnd t n told part)
+ended_after : (test : ℕ → Bool) (n : ℕ) (p part : Fragment) (told : List Told) → n ≤ 1
+    → ((t : ℕ → Bool) → found_end t n told ≡ Some part → WasLastEnd t n told part)
     → found_end test n (Piece p ∷ told) ≡ Some part → WasLastEnd test n (Piece p ∷ told) part
-ended_after test n p part told l rest h = end_with_last (is_counted p) (is_here test p) test n p part told refl refl l rest (sym (end_piece test n p told) ∙ h)
+ended_after test n p part told l rest h =
+    end_with_last (is_counted p) (is_here test p) test n p part told refl refl l rest (sym (end_piece test n p told) ∙ h)
 
 ended_one : (told : List Told) (part : Fragment) (test : ℕ → Bool) → found_end test 1 told ≡ Some part → WasLastEnd test 1 told part
 ended_one [] part test h = absurd cc
@@ -176,11 +205,13 @@ end_was_last told part h =
 -- ---- the last end is found
 
 -- where no end is found, each fragment that is found has more to follow
-no_end : (f : ℕ) (hs : List HeldPart) (part : Fragment) → find is_end hs ≡ None → option_map (λ h. h.part) (find (is_fid f) hs) ≡ Some part → part.afl.more ≡ true
+no_end : (f : ℕ) (hs : List HeldPart) (part : Fragment) → find is_end hs ≡ None → option_map (λ h. h.part) (find (is_fid f) hs) ≡ Some part
+    → part.afl.more ≡ true
 no_end f [] part e h = absurd cc
 no_end f (x ∷ hs) part e h = by_tests x.part.afl.more (is_fid f x) refl e h (no_end f hs part)
   where
-    by_tests : (more same : Bool) → x.part.afl.more ≡ more → cond (not more) (Some x) (find is_end hs) ≡ None → option_map (λ (h : HeldPart). h.part) (cond same (Some x) (find (is_fid f) hs)) ≡ Some part
+    by_tests : (more same : Bool) → x.part.afl.more ≡ more → cond (not more) (Some x) (find is_end hs) ≡ None
+        → option_map (λ (h : HeldPart). h.part) (cond same (Some x) (find (is_fid f) hs)) ≡ Some part
         → (find is_end hs ≡ None → option_map (λ h. h.part) (find (is_fid f) hs) ≡ Some part → part.afl.more ≡ true) → part.afl.more ≡ true
     by_tests true true m k j rest = let is : x.part ≡ part = cc in ap (λ (p : Fragment). p.afl.more) (sym is) ∙ m
     by_tests true false m k j rest = rest k j
@@ -195,19 +226,24 @@ one_told : (a b : Fragment) (after_a after_b before_a before_b : List Told) → 
 one_told a b [] [] before_a before_b e h k = cc
 one_told a b [] (t ∷ after_b) before_a before_b e h k =
     let is : Piece a ≡ t = cc in
-    let any : list_any (is_piece_of a.afl.fid) (t ∷ after_b) ≡ true = ap (λ x. list_any (is_piece_of a.afl.fid) (x ∷ after_b)) (sym is) ∙ itself a.afl.fid (list_any (is_piece_of a.afl.fid) after_b) in
+    let any : list_any (is_piece_of a.afl.fid) (t ∷ after_b) ≡ true = ap (λ x. list_any (is_piece_of a.afl.fid) (x ∷ after_b)) (sym is)
+    ∙ itself a.afl.fid (list_any (is_piece_of a.afl.fid) after_b) in
     absurd cc
 one_told a b (t ∷ after_a) [] before_a before_b e h k =
     let is : t ≡ Piece b = cc in
-    let any : list_any (is_piece_of b.afl.fid) (t ∷ after_a) ≡ true = ap (λ x. list_any (is_piece_of b.afl.fid) (x ∷ after_a)) is ∙ itself b.afl.fid (list_any (is_piece_of b.afl.fid) after_a) in
+    let any : list_any (is_piece_of b.afl.fid) (t ∷ after_a) ≡ true = ap (λ x. list_any (is_piece_of b.afl.fid) (x ∷ after_a)) is
+    ∙ itself b.afl.fid (list_any (is_piece_of b.afl.fid) after_a) in
     absurd cc
 one_told a b (t ∷ after_a) (u ∷ after_b) before_a before_b e h k =
     let rest : after_a ++ Piece a ∷ before_a ≡ after_b ++ Piece b ∷ before_b = cc in
-    one_told a b after_a after_b before_a before_b rest (or_false_right (is_piece_of b.afl.fid t) (list_any (is_piece_of b.afl.fid) after_a) h) (or_false_right (is_piece_of a.afl.fid u) (list_any (is_piece_of a.afl.fid) after_b) k)
+    one_told a b after_a after_b before_a before_b rest
+    (or_false_right (is_piece_of b.afl.fid t) (list_any (is_piece_of b.afl.fid) after_a) h)
+    (or_false_right (is_piece_of a.afl.fid u) (list_any (is_piece_of a.afl.fid) after_b) k)
 
 one_last_end : (told : List Told) (a b : Fragment) → IsLastEnd told a → IsLastEnd told b → a ≡ b
 one_last_end told a b v w =
-    one_told a b v.held.later w.held.later v.held.earlier w.held.earlier (sym v.held.heard ∙ w.held.heard) (v.last b w.held w.ends) (w.last a v.held v.ends)
+    one_told a b v.held.later w.held.later v.held.earlier w.held.earlier (sym v.held.heard
+    ∙ w.held.heard) (v.last b w.held w.ends) (w.last a v.held v.ends)
 
 pub last_is_end : (told : List Told) (part : Fragment) → IsLastEnd told part → option_map (λ h. h.part) (last_end (held told)) ≡ Some part
 last_is_end told part w = by_end (last_end (held told)) refl

@@ -34,10 +34,12 @@ looked_up told m is = record {
 }
 
 pub messages_are_those_of_histories : MessagesAreThoseOfHistories
-messages_are_those_of_histories told m = (λ e. looked_back told m (assembled_is (held told) m e), λ is. is_assembled (held told) m (looked_up told m is))
+messages_are_those_of_histories told m =
+    (λ e. looked_back told m (assembled_is (held told) m e), λ is. is_assembled (held told) m (looked_up told m is))
 
 -- the same of what stands for the history
-pub message_of : (hs : List HeldPart) (told : List Told) (m : Message) (o : Option Message) → StandsFor hs told → o ≡ assembled hs → (o ≡ Some m) ↔ IsMessageOf told m
+pub message_of : (hs : List HeldPart) (told : List Told) (m : Message) (o : Option Message) → StandsFor hs told → o ≡ assembled hs
+    → (o ≡ Some m) ↔ IsMessageOf told m
 message_of hs told m o stands is =
     let same : o ≡ assembled (held told) = is ∙ ap assembled stands in
     let law = messages_are_those_of_histories told m in
@@ -61,7 +63,8 @@ fewer f g (x ∷ xs) = fewer_cond (not (is_fid g x)) f x xs (others g xs) (fewer
 other : (f : ℕ) (x : HeldPart) (xs : List HeldPart) → is_fid f x ≡ false → count_by (is_fid f) (x ∷ xs) ≡ count_by (is_fid f) xs
 other f x xs e = with_one f x xs ∙ ap (λ (t : Bool). cond t 1 0 + count_by (is_fid f) xs) e ∙ omega arith
 
-none_cond : (b : Bool) (f : ℕ) (x : HeldPart) (ys : List HeldPart) → is_fid f x ≡ b → count_by (is_fid f) ys ≡ 0 → count_by (is_fid f) (cond (not b) (x ∷ ys) ys) ≡ 0
+none_cond : (b : Bool) (f : ℕ) (x : HeldPart) (ys : List HeldPart) → is_fid f x ≡ b → count_by (is_fid f) ys ≡ 0
+    → count_by (is_fid f) (cond (not b) (x ∷ ys) ys) ≡ 0
 none_cond true f x ys e h = h
 none_cond false f x ys e h = other f x ys e ∙ h
 
@@ -69,7 +72,8 @@ none : (f : ℕ) (xs : List HeldPart) → count_by (is_fid f) (others f xs) ≡ 
 none f [] = refl
 none f (x ∷ xs) = none_cond (is_fid f x) f x (others f xs) refl (none f xs)
 
-once_cond : (b : Bool) (f : ℕ) (x : HeldPart) (xs : List HeldPart) → is_fid f x ≡ b → count_by (is_fid f) xs ≤ 1 → count_by (is_fid f) (x ∷ others x.part.afl.fid xs) ≤ 1
+once_cond : (b : Bool) (f : ℕ) (x : HeldPart) (xs : List HeldPart) → is_fid f x ≡ b → count_by (is_fid f) xs ≤ 1
+    → count_by (is_fid f) (x ∷ others x.part.afl.fid xs) ≤ 1
 once_cond true f x xs e h =
     let same : x.part.afl.fid ≡ f = eqb-true x.part.afl.fid f e in
     let rest : count_by (is_fid f) (others x.part.afl.fid xs) ≡ 0 = ap (λ (g : ℕ). count_by (is_fid f) (others g xs)) same ∙ none f xs in

@@ -12,18 +12,21 @@ use Rattle.afl_fragments.specs.Places.{held_with, older, is_fresh, aged}
 abbrev half_aged : List HeldPart → ℕ → List HeldPart
 half_aged xs i = map older (take i xs) ++ drop i xs
 
-aging_half : (xs : List HeldPart) (i : ℕ) (d : HeldPart) → i < length xs → set (half_aged xs i) i (older (get_or (half_aged xs i) i d)) ≡ half_aged xs (suc i)
+aging_half : (xs : List HeldPart) (i : ℕ) (d : HeldPart) → i < length xs
+    → set (half_aged xs i) i (older (get_or (half_aged xs i) i d)) ≡ half_aged xs (suc i)
 aging_half [] i d h = absurd (omega arith)
 aging_half (x ∷ xs) zero d h = refl
 aging_half (x ∷ xs) (suc i) d h = ap (λ ys. older x ∷ ys) (aging_half xs i d (omega arith))
 
 -- one more element of a list is aged
-pub aging : (xs ys : List HeldPart) (i : ℕ) (d : HeldPart) → ys ≡ half_aged xs i → i < length xs → set ys i (older (get_or ys i d)) ≡ half_aged xs (i + 1)
+pub aging : (xs ys : List HeldPart) (i : ℕ) (d : HeldPart) → ys ≡ half_aged xs i → i < length xs
+    → set ys i (older (get_or ys i d)) ≡ half_aged xs (i + 1)
 aging xs ys i d e h = rw (e, add-one) (aging_half xs i d h)
 
 -- ---- filters
 
-filter-cond : {X : Type 0} (p : X → Bool) (b : Bool) (x : X) (xs : List X) → filter p (cond b (x ∷ xs) xs) ≡ cond b (cond (p x) (x ∷ filter p xs) (filter p xs)) (filter p xs)
+filter-cond : {X : Type 0} (p : X → Bool) (b : Bool) (x : X) (xs : List X)
+    → filter p (cond b (x ∷ xs) xs) ≡ cond b (cond (p x) (x ∷ filter p xs) (filter p xs)) (filter p xs)
 filter-cond p true x xs = refl
 filter-cond p false x xs = refl
 
@@ -53,21 +56,24 @@ others-older fid (h ∷ hs) =
 neither : (x g f : ℕ) → (x == g) ≡ true → (g == f) ≡ false → (x == f) ≡ false
 neither x g f a b = grind (arith, nat_tests)
 
-find_cond : (f : ℕ) (b : Bool) (x : HeldPart) (xs : List HeldPart) → (b ≡ true → is_fid f x ≡ false) → find (is_fid f) (cond (not b) (x ∷ xs) xs) ≡ cond (is_fid f x) (Some x) (find (is_fid f) xs)
+find_cond : (f : ℕ) (b : Bool) (x : HeldPart) (xs : List HeldPart) → (b ≡ true → is_fid f x ≡ false)
+    → find (is_fid f) (cond (not b) (x ∷ xs) xs) ≡ cond (is_fid f x) (Some x) (find (is_fid f) xs)
 find_cond f true x xs h = ap (λ t. cond t (Some x) (find (is_fid f) xs)) (sym (h refl))
 find_cond f false x xs h = refl
 
 -- without a number, each other one is found as before
 pub find-others : (f g : ℕ) (xs : List HeldPart) → (g == f) ≡ false → find (is_fid f) (others g xs) ≡ find (is_fid f) xs
 find-others f g [] e = refl
-find-others f g (x ∷ xs) e = find_cond f (is_fid g x) x (others g xs) (λ t. neither x.part.afl.fid g f t e) ∙ ap (cond (is_fid f x) (Some x)) (find-others f g xs e)
+find-others f g (x ∷ xs) e = find_cond f (is_fid g x) x (others g xs) (λ t. neither x.part.afl.fid g f t e)
+    ∙ ap (cond (is_fid f x) (Some x)) (find-others f g xs e)
 
 -- ---- a tick
 
 abbrev heard : ℕ → Fragment → HeldPart
 heard n part = record { ticks = n; part = part }
 
-none_fresh_if : (b : Bool) (part : Fragment) (hs : List HeldPart) → filter is_fresh (latest_each hs) ≡ [] → filter is_fresh (latest_each (cond b (heard 1 part ∷ hs) hs)) ≡ []
+none_fresh_if : (b : Bool) (part : Fragment) (hs : List HeldPart) → filter is_fresh (latest_each hs) ≡ []
+    → filter is_fresh (latest_each (cond b (heard 1 part ∷ hs) hs)) ≡ []
 none_fresh_if true part hs h = filter-filter is_fresh (λ g. not (is_fid part.afl.fid g)) (latest_each hs) ∙ ap (others part.afl.fid) h
 none_fresh_if false part hs h = h
 
@@ -78,11 +84,13 @@ none_fresh (Piece part ∷ told) = none_fresh_if (is_counted part) part (since 1
 none_fresh (Tick ∷ told) = refl
 none_fresh (Clear ∷ told) = refl
 
-aged_if : (b : Bool) (part : Fragment) (hs gs : List HeldPart) → latest_each gs ≡ aged (latest_each hs) → latest_each (cond b (heard 1 part ∷ gs) gs) ≡ aged (latest_each (cond b (heard 0 part ∷ hs) hs))
+aged_if : (b : Bool) (part : Fragment) (hs gs : List HeldPart) → latest_each gs ≡ aged (latest_each hs)
+    → latest_each (cond b (heard 1 part ∷ gs) gs) ≡ aged (latest_each (cond b (heard 0 part ∷ hs) hs))
 aged_if true part hs gs h =
     let other = λ (g : HeldPart). not (is_fid part.afl.fid g) in
     ap (λ ks. heard 1 part ∷ ks)
-    (ap (filter other) h ∙ others-older part.afl.fid (filter is_fresh (latest_each hs)) ∙ ap (map older) (filter-filter other is_fresh (latest_each hs)))
+    (ap (filter other) h ∙ others-older part.afl.fid (filter is_fresh (latest_each hs))
+    ∙ ap (map older) (filter-filter other is_fresh (latest_each hs)))
 aged_if false part hs gs h = h
 
 latest_each-tick : (told : List Told) → latest_each (since 1 told) ≡ aged (latest_each (since 0 told))

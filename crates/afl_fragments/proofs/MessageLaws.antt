@@ -18,7 +18,8 @@ record AreLeading (hs : List HeldPart) (parts : List Fragment) : Type 0 where
 
 -- ---- a front has the fragments from 1 on
 
-got_last : (xs : List Fragment) (x : Fragment) (k : ℕ) (y : Fragment) → slice_get (xs ++ x ∷ []) k ≡ Some y → (slice_get xs k ≡ Some y) ⊎ ((k ≡ length xs) × (x ≡ y))
+got_last : (xs : List Fragment) (x : Fragment) (k : ℕ) (y : Fragment) → slice_get (xs ++ x ∷ []) k ≡ Some y
+    → (slice_get xs k ≡ Some y) ⊎ ((k ≡ length xs) × (x ≡ y))
 got_last [] x zero y e = let same : x ≡ y = cc in inr (refl, same)
 got_last [] x (suc k) y e = absurd cc
 got_last (z ∷ xs) x zero y e = inl e
@@ -29,7 +30,8 @@ record IsFront (n : ℕ) (hs : List HeldPart) (parts : List Fragment) : Type 0 w
   counted : length parts ≡ n
   leading : AreLeading hs parts
 
-more_leading : (n : ℕ) (hs : List HeldPart) (ps : List Fragment) (h : HeldPart) → IsFront n hs ps → piece_at (suc n) hs ≡ Some h → h.part.afl.more ≡ true → IsFront (suc n) hs (ps ++ h.part ∷ [])
+more_leading : (n : ℕ) (hs : List HeldPart) (ps : List Fragment) (h : HeldPart) → IsFront n hs ps → piece_at (suc n) hs ≡ Some h
+    → h.part.afl.more ≡ true → IsFront (suc n) hs (ps ++ h.part ∷ [])
 more_leading n hs ps h f p t = record {
   counted = omega (arith, length_push ps h.part, f.counted);
   leading = record {
@@ -37,11 +39,13 @@ more_leading n hs ps h f p t = record {
         (λ g. let at : suc n ≡ k + 1 = omega (arith, g.0, f.counted) in
         ap (λ fid. part_at fid hs) (sym at) ∙ ap (option_map (λ (x : HeldPart). x.part)) p ∙ ap Some g.1)
         (got_last ps h.part k part e);
-    leads = λ k part e. ⊎_elim (λ g. f.leading.leads k part g) (λ g. ap (λ (x : Fragment). x.afl.more) (sym g.1) ∙ t) (got_last ps h.part k part e);
+    leads = λ k part e. ⊎_elim (λ g. f.leading.leads k part g) (λ g. ap (λ (x : Fragment). x.afl.more) (sym g.1)
+        ∙ t) (got_last ps h.part k part e);
   };
 }
 
-front_with : (n : ℕ) (hs : List HeldPart) (o : Option (List Fragment)) (p : Option HeldPart) (parts : List Fragment) → ((ps : List Fragment) → o ≡ Some ps → IsFront n hs ps) → piece_at (suc n) hs ≡ p
+front_with : (n : ℕ) (hs : List HeldPart) (o : Option (List Fragment)) (p : Option HeldPart) (parts : List Fragment)
+    → ((ps : List Fragment) → o ≡ Some ps → IsFront n hs ps) → piece_at (suc n) hs ≡ p
     → with_more o p ≡ Some parts → IsFront (suc n) hs parts
 front_with n hs None p parts f e k = absurd cc
 front_with n hs (Some ps) None parts f e k = absurd cc
@@ -54,7 +58,11 @@ front_with n hs (Some ps) (Some h) parts f e k = either h.part.afl.more refl k
 front_is : (n : ℕ) (hs : List HeldPart) (parts : List Fragment) → front n hs ≡ Some parts → IsFront n hs parts
 front_is zero hs parts e =
     let none : [] ≡ parts = cc in
-    subst (IsFront zero hs) none (record { counted = refl; leading = record { held = λ k part h. absurd cc; leads = λ k part h. absurd cc } })
+    subst (IsFront zero hs) none (record {
+      counted = refl;
+      leading =
+          record { held = λ k part h. absurd cc; leads = λ k part h. absurd cc };
+    })
 front_is (suc n) hs parts e = front_with n hs (front n hs) (piece_at (suc n) hs) parts (λ ps k. front_is n hs ps k) refl e
 
 -- ---- the fragments from 1 on are a front
@@ -64,7 +72,8 @@ got [] k l = absurd (omega arith)
 got (x ∷ xs) zero l = (x, refl, refl)
 got (x ∷ xs) (suc k) l = let g = got xs k (omega arith) in (g.0, g.1, ap (λ ys. x ∷ ys) g.2)
 
-with_part : (parts : List Fragment) (p : Option HeldPart) (part : Fragment) → option_map (λ h. h.part) p ≡ Some part → part.afl.more ≡ true → with_more (Some parts) p ≡ Some (parts ++ part ∷ [])
+with_part : (parts : List Fragment) (p : Option HeldPart) (part : Fragment) → option_map (λ h. h.part) p ≡ Some part → part.afl.more ≡ true
+    → with_more (Some parts) p ≡ Some (parts ++ part ∷ [])
 with_part parts None part e t = absurd cc
 with_part parts (Some h) part e t =
     let same : h.part ≡ part = cc in
@@ -75,7 +84,8 @@ is_front zero hs parts a l = refl
 is_front (suc n) hs parts a l =
     let g = got parts n (omega arith) in
     let piece : part_at (suc n) hs ≡ Some g.0 = ap (λ fid. part_at fid hs) (sym (add-one n)) ∙ a.held n g.0 g.1 in
-    ap (λ o. with_more o (piece_at (suc n) hs)) (is_front n hs parts a (omega arith)) ∙ with_part (take n parts) (piece_at (suc n) hs) g.0 piece (a.leads n g.0 g.1) ∙ ap Some (sym g.2)
+    ap (λ o. with_more o (piece_at (suc n) hs)) (is_front n hs parts a (omega arith))
+    ∙ with_part (take n parts) (piece_at (suc n) hs) g.0 piece (a.leads n g.0 g.1) ∙ ap Some (sym g.2)
 
 -- ---- the message
 
@@ -83,12 +93,22 @@ pub assembled_is : (hs : List HeldPart) (m : Message) → assembled hs ≡ Some 
 unfolding assembled
 assembled_is hs m e = from_end (last_end hs) refl e
   where
-    whole : (h : HeldPart) (o : Option (List Fragment)) → front (h.part.afl.fid - 1) hs ≡ o → last_end hs ≡ Some h → option_map (λ parts. joined parts h.part) o ≡ Some m → IsMessage hs m
+    whole : (h : HeldPart) (o : Option (List Fragment)) → front (h.part.afl.fid - 1) hs ≡ o → last_end hs ≡ Some h
+        → option_map (λ parts. joined parts h.part) o ≡ Some m → IsMessage hs m
     whole h None f l k = absurd cc
     whole h (Some parts) f l k =
         let same : joined parts h.part ≡ m = cc in
         let is = front_is (h.part.afl.fid - 1) hs parts f in
-        record { parts = parts; last = h.part; ends = ap (option_map (λ (x : HeldPart). x.part)) l; counted = is.counted; held = is.leading.held; leads = is.leading.leads; message = sym same }
+        record {
+          parts = parts;
+          last = h.part;
+          ends = ap (option_map (λ (x : HeldPart). x.part)) l;
+          counted = is.counted;
+          held =
+              is.leading.held;
+          leads = is.leading.leads;
+          message = sym same;
+        }
 
     from_end : (o : Option HeldPart) → last_end hs ≡ o → ended_by o hs ≡ Some m → IsMessage hs m
     from_end None l k = absurd cc
@@ -104,5 +124,6 @@ is_assembled hs m w = from_end (last_end hs) w.ends
         let same : h.part ≡ w.last = cc in
         let n : length w.parts ≡ h.part.afl.fid - 1 = w.counted ∙ ap (λ (x : Fragment). x.afl.fid - 1) (sym same) in
         let front_of : front (h.part.afl.fid - 1) hs ≡ Some w.parts =
-        is_front (h.part.afl.fid - 1) hs w.parts (record { held = w.held; leads = w.leads }) (omega arith) ∙ ap Some (take_all (h.part.afl.fid - 1) w.parts (omega arith)) in
+        is_front (h.part.afl.fid - 1) hs w.parts (record { held = w.held; leads = w.leads }) (omega arith)
+        ∙ ap Some (take_all (h.part.afl.fid - 1) w.parts (omega arith)) in
         ap (option_map (λ parts. joined parts h.part)) front_of ∙ ap (λ last. Some (joined w.parts last)) same ∙ ap Some (sym w.message)

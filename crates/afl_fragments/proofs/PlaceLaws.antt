@@ -33,7 +33,8 @@ each_filter : (P : ℕ → Type 0) (f : ℕ → Bool) (is : List ℕ) → AllByR
 each_filter P f [] h = tt
 each_filter P f (i ∷ is) h = each_cond P (f i) i (filter f is) h.0 (each_filter P f is h.1)
 
-other_cond : (b : Bool) (i place : ℕ) (is : List ℕ) → eqb i place ≡ b → AllByRecursion (λ j. eqb place j ≡ false) is → AllByRecursion (λ j. eqb place j ≡ false) (cond (not b) (i ∷ is) is)
+other_cond : (b : Bool) (i place : ℕ) (is : List ℕ) → eqb i place ≡ b → AllByRecursion (λ j. eqb place j ≡ false) is
+    → AllByRecursion (λ j. eqb place j ≡ false) (cond (not b) (i ∷ is) is)
 other_cond true i place is e h = h
 other_cond false i place is e h = (flipped i place e, h)
 
@@ -42,7 +43,8 @@ others_differ : (place : ℕ) (is : List ℕ) → AllByRecursion (λ j. eqb plac
 others_differ place [] = tt
 others_differ place (i ∷ is) = other_cond (eqb i place) i place (other_places place is) refl (others_differ place is)
 
-distinct_cond : (b : Bool) (i : ℕ) (is : List ℕ) → AllByRecursion (λ j. eqb i j ≡ false) is → IsDistinct eqb is → IsDistinct eqb (cond b (i ∷ is) is)
+distinct_cond : (b : Bool) (i : ℕ) (is : List ℕ) → AllByRecursion (λ j. eqb i j ≡ false) is → IsDistinct eqb is
+    → IsDistinct eqb (cond b (i ∷ is) is)
 unfolding IsDistinct
 distinct_cond true i is h k = (h, k)
 distinct_cond false i is h k = k
@@ -77,44 +79,55 @@ few_places places order a = length-le_from_distinct_below order 16 a.distinct (a
 at_set_same : (places : List HeldPart) (place : ℕ) (h : HeldPart) → place < length places → at_place (set places place h) place ≡ h
 at_set_same places place h l = get_or-set_same places place h no_held l
 
-at_set_other : (places : List HeldPart) (place i : ℕ) (h : HeldPart) → eqb place i ≡ false → at_place (set places place h) i ≡ at_place places i
+at_set_other : (places : List HeldPart) (place i : ℕ) (h : HeldPart) → eqb place i ≡ false
+    → at_place (set places place h) i ≡ at_place places i
 at_set_other places place i h e = get_or-set_other places place i h no_held (not_place i place e)
 
-held_in-set : (places : List HeldPart) (place : ℕ) (h : HeldPart) (order : List ℕ) → AllByRecursion (λ i. eqb place i ≡ false) order → held_in (set places place h) order ≡ held_in places order
+held_in-set : (places : List HeldPart) (place : ℕ) (h : HeldPart) (order : List ℕ) → AllByRecursion (λ i. eqb place i ≡ false) order
+    → held_in (set places place h) order ≡ held_in places order
 held_in-set places place h [] a = refl
 held_in-set places place h (i ∷ order) a =
-    ap (λ g. g ∷ held_in (set places place h) order) (at_set_other places place i h a.0) ∙ ap (λ gs. at_place places i ∷ gs) (held_in-set places place h order a.1)
+    ap (λ g. g ∷ held_in (set places place h) order) (at_set_other places place i h a.0)
+    ∙ ap (λ gs. at_place places i ∷ gs) (held_in-set places place h order a.1)
 
-held_in-cond : (places : List HeldPart) (b : Bool) (i : ℕ) (order : List ℕ) → held_in places (cond b (i ∷ order) order) ≡ cond b (at_place places i ∷ held_in places order) (held_in places order)
+held_in-cond : (places : List HeldPart) (b : Bool) (i : ℕ) (order : List ℕ)
+    → held_in places (cond b (i ∷ order) order) ≡ cond b (at_place places i ∷ held_in places order) (held_in places order)
 held_in-cond places true i order = refl
 held_in-cond places false i order = refl
 
 -- leaving a place out is leaving its fragment out
-held_in-others : (places : List HeldPart) (place : ℕ) (order : List ℕ) → AllByRecursion (IsPlace places) order → held_in places (other_places place order) ≡ others (place + 1) (held_in places order)
+held_in-others : (places : List HeldPart) (place : ℕ) (order : List ℕ) → AllByRecursion (IsPlace places) order
+    → held_in places (other_places place order) ≡ others (place + 1) (held_in places order)
 held_in-others places place [] a = refl
 held_in-others places place (i ∷ order) a =
     held_in-cond places (not (eqb i place)) i (other_places place order)
-    ∙ ap (λ b. cond (not b) (at_place places i ∷ held_in places (other_places place order)) (held_in places (other_places place order))) (sym (same_tests i place (at_place places i).part.afl.fid a.0.1))
+    ∙ ap (λ b. cond (not b) (at_place places i ∷ held_in places (other_places place order)) (held_in places (other_places place order)))
+    (sym (same_tests i place (at_place places i).part.afl.fid a.0.1))
     ∙ ap (λ gs. cond (not (is_fid (place + 1) (at_place places i))) (at_place places i ∷ gs) gs) (held_in-others places place order a.1)
 
 abbrev heard : Fragment → HeldPart
 heard part = record { ticks = 0; part = part }
 
 -- the fragment is held in its place, heard last
-pub placed : (places : List HeldPart) (order : List ℕ) (place : ℕ) (part : Fragment) → AreOrdered places order → place < 16 → part.afl.fid ≡ place + 1
+pub placed : (places : List HeldPart) (order : List ℕ) (place : ℕ) (part : Fragment) → AreOrdered places order → place < 16
+    → part.afl.fid ≡ place + 1
     → held_in (set places place (heard part)) (place ∷ other_places place order) ≡ held_with part (held_in places order)
 placed places order place part a m e =
     let l : place < length places = omega (arith, a.long) in
     let kept : held_in (set places place (heard part)) (other_places place order) ≡ others part.afl.fid (held_in places order) =
     held_in-set places place (heard part) (other_places place order) (others_differ place order) ∙ held_in-others places place order a.each
     ∙ ap (λ f. others f (held_in places order)) (sym e) in
-    ap (λ g. g ∷ held_in (set places place (heard part)) (other_places place order)) (at_set_same places place (heard part) l) ∙ ap (λ gs. heard part ∷ gs) kept
+    ap (λ g. g ∷ held_in (set places place (heard part)) (other_places place order)) (at_set_same places place (heard part) l)
+    ∙ ap (λ gs. heard part ∷ gs) kept
 
-still_place : (places : List HeldPart) (place : ℕ) (h : HeldPart) (order : List ℕ) → AllByRecursion (IsPlace places) order → AllByRecursion (λ i. eqb place i ≡ false) order → AllByRecursion (IsPlace (set places place h)) order
+still_place : (places : List HeldPart) (place : ℕ) (h : HeldPart) (order : List ℕ) → AllByRecursion (IsPlace places) order
+    → AllByRecursion (λ i. eqb place i ≡ false) order → AllByRecursion (IsPlace (set places place h)) order
 still_place places place h [] a d = tt
-still_place places place h (i ∷ order) a d = ((a.0.0, ap (λ g. g.part.afl.fid) (at_set_other places place i h d.0) ∙ a.0.1), still_place places place h order a.1 d.1)
+still_place places place h (i ∷ order) a d =
+    ((a.0.0, ap (λ g. g.part.afl.fid) (at_set_other places place i h d.0) ∙ a.0.1), still_place places place h order a.1 d.1)
 
-pub placed_ordered : (places : List HeldPart) (order : List ℕ) (place : ℕ) (part : Fragment) → AreOrdered places order → place < 16 → part.afl.fid ≡ place + 1
+pub placed_ordered : (places : List HeldPart) (order : List ℕ) (place : ℕ) (part : Fragment) → AreOrdered places order → place < 16
+    → part.afl.fid ≡ place + 1
     → AreOrdered (set places place (heard part)) (place ∷ other_places place order)
 placed_ordered places order place part a m e =
     let l : place < length places = omega (arith, a.long) in
@@ -123,14 +136,20 @@ placed_ordered places order place part a m e =
       distinct = distinct_first place order a.distinct;
       each = (
         (m, ap (λ g. g.part.afl.fid) (at_set_same places place (heard part) l) ∙ e),
-        still_place places place (heard part) (other_places place order) (each_filter (IsPlace places) (λ i. not (eqb i place)) order a.each) (others_differ place order),
+        still_place places place (heard part) (other_places place order)
+            (each_filter (IsPlace places) (λ i. not (eqb i place)) order a.each) (others_differ place order),
       );
     }
 
 -- there is room for one more place
-pub others_few : (places : List HeldPart) (order : List ℕ) (place : ℕ) (part : Fragment) → AreOrdered places order → place < 16 → part.afl.fid ≡ place + 1 → length (other_places place order) < 16
+pub others_few : (places : List HeldPart) (order : List ℕ) (place : ℕ) (part : Fragment) → AreOrdered places order → place < 16
+    → part.afl.fid ≡ place + 1 → length (other_places place order) < 16
 others_few places order place part a m e =
-    omega (arith, few_places (set places place (heard part)) (place ∷ other_places place order) (placed_ordered places order place part a m e))
+    omega (
+      arith,
+      few_places (set places place (heard part)) (place ∷ other_places place order)
+          (placed_ordered places order place part a m e),
+    )
 
 -- ---- a tick
 
@@ -139,66 +158,82 @@ at_older [] i l = absurd (omega arith)
 at_older (h ∷ places) zero l = refl
 at_older (h ∷ places) (suc i) l = at_older places i (omega arith)
 
-held_in-older : (places : List HeldPart) (order : List ℕ) → 16 ≤ length places → AllByRecursion (IsPlace places) order → held_in (map older places) order ≡ map older (held_in places order)
+held_in-older : (places : List HeldPart) (order : List ℕ) → 16 ≤ length places → AllByRecursion (IsPlace places) order
+    → held_in (map older places) order ≡ map older (held_in places order)
 held_in-older places [] l a = refl
 held_in-older places (i ∷ order) l a =
     let within : i < length places = omega (arith, a.0.0) in
-    ap (λ g. g ∷ held_in (map older places) order) (at_older places i within) ∙ ap (λ gs. older (at_place places i) ∷ gs) (held_in-older places order l a.1)
+    ap (λ g. g ∷ held_in (map older places) order) (at_older places i within)
+    ∙ ap (λ gs. older (at_place places i) ∷ gs) (held_in-older places order l a.1)
 
 abbrev fresh_ones : List HeldPart → List ℕ → List ℕ
 fresh_ones places order = filter (λ i. is_fresh (at_place places i)) order
 
-held_in-fresh : (places : List HeldPart) (order : List ℕ) → held_in places (fresh_ones places order) ≡ filter is_fresh (held_in places order)
+held_in-fresh : (places : List HeldPart) (order : List ℕ)
+    → held_in places (fresh_ones places order) ≡ filter is_fresh (held_in places order)
 held_in-fresh places [] = refl
 held_in-fresh places (i ∷ order) =
     held_in-cond places (is_fresh (at_place places i)) i (fresh_ones places order)
     ∙ ap (λ gs. cond (is_fresh (at_place places i)) (at_place places i ∷ gs) gs) (held_in-fresh places order)
 
-pub aged_places : (places : List HeldPart) (order : List ℕ) → AreOrdered places order → held_in (map older places) (fresh_ones places order) ≡ aged (held_in places order)
+pub aged_places : (places : List HeldPart) (order : List ℕ) → AreOrdered places order
+    → held_in (map older places) (fresh_ones places order) ≡ aged (held_in places order)
 aged_places places order a =
-    held_in-older places (fresh_ones places order) (omega (arith, a.long)) (each_filter (IsPlace places) (λ i. is_fresh (at_place places i)) order a.each)
+    held_in-older places (fresh_ones places order) (omega (arith, a.long))
+    (each_filter (IsPlace places) (λ i. is_fresh (at_place places i)) order a.each)
     ∙ ap (map older) (held_in-fresh places order)
 
-older_place : (places : List HeldPart) (order : List ℕ) → 16 ≤ length places → AllByRecursion (IsPlace places) order → AllByRecursion (IsPlace (map older places)) order
+older_place : (places : List HeldPart) (order : List ℕ) → 16 ≤ length places → AllByRecursion (IsPlace places) order
+    → AllByRecursion (IsPlace (map older places)) order
 older_place places [] l a = tt
-older_place places (i ∷ order) l a = ((a.0.0, ap (λ g. g.part.afl.fid) (at_older places i (omega (arith, a.0.0))) ∙ a.0.1), older_place places order l a.1)
+older_place places (i ∷ order) l a =
+    ((a.0.0, ap (λ g. g.part.afl.fid) (at_older places i (omega (arith, a.0.0))) ∙ a.0.1), older_place places order l a.1)
 
-pub aged_ordered : (places : List HeldPart) (order : List ℕ) → AreOrdered places order → AreOrdered (map older places) (fresh_ones places order)
+pub aged_ordered : (places : List HeldPart) (order : List ℕ) → AreOrdered places order
+    → AreOrdered (map older places) (fresh_ones places order)
 aged_ordered places order a = record {
   long = length-map places older ∙ a.long;
   distinct = distinct_filter (λ i. is_fresh (at_place places i)) order a.distinct;
-  each = older_place places (fresh_ones places order) (omega (arith, a.long)) (each_filter (IsPlace places) (λ i. is_fresh (at_place places i)) order a.each);
+  each = older_place places (fresh_ones places order) (omega (arith, a.long))
+      (each_filter (IsPlace places) (λ i. is_fresh (at_place places i)) order a.each);
 }
 
 -- ---- a look at a place
 
-find_place_cond : (places : List HeldPart) (i place : ℕ) (b c : Bool) → eqb i place ≡ b → cond b (Some (at_place places i)) (cond c (Some (at_place places place)) None) ≡ cond (b || c) (Some (at_place places place)) None
+find_place_cond : (places : List HeldPart) (i place : ℕ) (b c : Bool) → eqb i place ≡ b
+    → cond b (Some (at_place places i)) (cond c (Some (at_place places place)) None) ≡ cond (b || c) (Some (at_place places place)) None
 find_place_cond places i place true c h = ap (λ j. Some (at_place places j)) (eqb-true i place h)
 find_place_cond places i place false c h = refl
 
 -- the fragment of a number stands in the number's place, if that is in use
-pub piece_at_place : (places : List HeldPart) (is : List ℕ) (place : ℕ) → AllByRecursion (IsPlace places) is → piece_at (place + 1) (held_in places is) ≡ cond (is_in place is) (Some (at_place places place)) None
+pub piece_at_place : (places : List HeldPart) (is : List ℕ) (place : ℕ) → AllByRecursion (IsPlace places) is
+    → piece_at (place + 1) (held_in places is) ≡ cond (is_in place is) (Some (at_place places place)) None
 piece_at_place places [] place a = refl
 piece_at_place places (i ∷ is) place a =
     ap (cond (is_fid (place + 1) (at_place places i)) (Some (at_place places i))) (piece_at_place places is place a.1)
-    ∙ ap (λ b. cond b (Some (at_place places i)) (cond (is_in place is) (Some (at_place places place)) None)) (same_tests i place (at_place places i).part.afl.fid a.0.1)
+    ∙ ap (λ b. cond b (Some (at_place places i)) (cond (is_in place is) (Some (at_place places place)) None))
+    (same_tests i place (at_place places i).part.afl.fid a.0.1)
     ∙ find_place_cond places i place (eqb i place) (is_in place is) refl
 
 -- the end of a message in its place
-end_cond : (places : List HeldPart) (b : Bool) (i : ℕ) (o : Option ℕ) → option_map (at_place places) (cond b (Some i) o) ≡ cond b (Some (at_place places i)) (option_map (at_place places) o)
+end_cond : (places : List HeldPart) (b : Bool) (i : ℕ) (o : Option ℕ)
+    → option_map (at_place places) (cond b (Some i) o) ≡ cond b (Some (at_place places i)) (option_map (at_place places) o)
 end_cond places true i o = refl
 end_cond places false i o = refl
 
-pub last_end_place : (places : List HeldPart) (order : List ℕ) → option_map (at_place places) (find (λ i. is_end (at_place places i)) order) ≡ last_end (held_in places order)
+pub last_end_place : (places : List HeldPart) (order : List ℕ)
+    → option_map (at_place places) (find (λ i. is_end (at_place places i)) order) ≡ last_end (held_in places order)
 last_end_place places [] = refl
 last_end_place places (i ∷ order) =
     end_cond places (is_end (at_place places i)) i (find (λ j. is_end (at_place places j)) order)
     ∙ ap (cond (is_end (at_place places i)) (Some (at_place places i))) (last_end_place places order)
 
-found_cond : (places : List HeldPart) (b : Bool) (i : ℕ) (o : Option ℕ) → IsPlace places i → IfSome o (IsPlace places) → IfSome (cond b (Some i) o) (IsPlace places)
+found_cond : (places : List HeldPart) (b : Bool) (i : ℕ) (o : Option ℕ) → IsPlace places i → IfSome o (IsPlace places)
+    → IfSome (cond b (Some i) o) (IsPlace places)
 found_cond places true i o h k = h
 found_cond places false i o h k = k
 
-pub found_place : (places : List HeldPart) (p : ℕ → Bool) (order : List ℕ) → AllByRecursion (IsPlace places) order → IfSome (find p order) (IsPlace places)
+pub found_place : (places : List HeldPart) (p : ℕ → Bool) (order : List ℕ) → AllByRecursion (IsPlace places) order
+    → IfSome (find p order) (IsPlace places)
 found_place places p [] a = tt
 found_place places p (i ∷ order) a = found_cond places (p i) i (find p order) a.0 (found_place places p order a.1)

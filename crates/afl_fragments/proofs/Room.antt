@@ -17,7 +17,8 @@ use Rattle.afl_fragments.proofs.Holding.{find-others}
 abbrev weight : HeldPart → ℕ
 weight h = length h.part.bytes
 
-fewer_cond : (b : Bool) (x : HeldPart) (xs ys : List HeldPart) → held_bytes ys ≤ held_bytes xs → held_bytes (cond b (x ∷ ys) ys) ≤ held_bytes (x ∷ xs)
+fewer_cond : (b : Bool) (x : HeldPart) (xs ys : List HeldPart) → held_bytes ys ≤ held_bytes xs
+    → held_bytes (cond b (x ∷ ys) ys) ≤ held_bytes (x ∷ xs)
 fewer_cond true x xs ys l = omega (arith, l, sum_by-cons weight x xs, sum_by-cons weight x ys)
 fewer_cond false x xs ys l = omega (arith, l, sum_by-cons weight x xs)
 
@@ -27,10 +28,14 @@ fewer f (x ∷ xs) = fewer_cond (not (is_fid f x)) x xs (others f xs) (fewer f x
 
 -- a fragment adds no more than its bytes
 pub held_with_room : (part : Fragment) (hs : List HeldPart) → held_bytes (held_with part hs) ≤ held_bytes hs + length part.bytes
-held_with_room part hs = omega (arith, fewer part.afl.fid hs, sum_by-cons weight (record { ticks = 0; part = part }) (others part.afl.fid hs))
+held_with_room part hs =
+    omega (arith, fewer part.afl.fid hs, sum_by-cons weight (record { ticks = 0; part = part }) (others part.afl.fid hs))
 
-without_cond : (b : Bool) (f : ℕ) (x h : HeldPart) (xs : List HeldPart) → (b ≡ false → find (is_fid f) xs ≡ Some h → weight h + held_bytes (others f xs) ≤ held_bytes xs) → held_bytes (others f xs) ≤ held_bytes xs
-    → cond b (Some x) (find (is_fid f) xs) ≡ Some h → weight h + held_bytes (cond (not b) (x ∷ others f xs) (others f xs)) ≤ held_bytes (x ∷ xs)
+without_cond : (b : Bool) (f : ℕ) (x h : HeldPart) (xs : List HeldPart)
+    → (b ≡ false → find (is_fid f) xs ≡ Some h → weight h + held_bytes (others f xs) ≤ held_bytes xs)
+    → held_bytes (others f xs) ≤ held_bytes xs
+    → cond b (Some x) (find (is_fid f) xs) ≡ Some h
+    → weight h + held_bytes (cond (not b) (x ∷ others f xs) (others f xs)) ≤ held_bytes (x ∷ xs)
 without_cond true f x h xs k l e = let same : x ≡ h = cc in omega (arith, l, sum_by-cons weight x xs, ap weight same)
 without_cond false f x h xs k l e = omega (arith, k refl e, sum_by-cons weight x xs, sum_by-cons weight x (others f xs))
 
@@ -45,24 +50,28 @@ apart f n l = grind (arith, nat_tests)
 front_others : (n f : ℕ) (hs : List HeldPart) → n < f → front n (others f hs) ≡ front n hs
 front_others zero f hs l = refl
 front_others (suc n) f hs l =
-    ap (λ o. with_more o (piece_at (suc n) (others f hs))) (front_others n f hs (omega arith)) ∙ ap (with_more (front n hs)) (find-others (suc n) f hs (apart f (suc n) l))
+    ap (λ o. with_more o (piece_at (suc n) (others f hs))) (front_others n f hs (omega arith))
+    ∙ ap (with_more (front n hs)) (find-others (suc n) f hs (apart f (suc n) l))
 
 -- ---- the bytes of a message
 
 abbrev bytes_of : List Fragment → List ℕ
 bytes_of parts = flat_map (λ p. p.bytes) parts
 
-length_more : (parts : List Fragment) (last : Fragment) → length (bytes_of (parts ++ last ∷ [])) ≡ length (bytes_of parts) + length last.bytes
+length_more : (parts : List Fragment) (last : Fragment)
+    → length (bytes_of (parts ++ last ∷ [])) ≡ length (bytes_of parts) + length last.bytes
 length_more parts last = ap length (sym (flat_map_more (λ p. p.bytes) [] parts last)) ∙ length-append (bytes_of parts) last.bytes
 
 with_more_room : (o : Option (List Fragment)) (p : Option HeldPart) (room rest : ℕ) (parts : List Fragment)
-    → ((ps : List Fragment) → o ≡ Some ps → length (bytes_of ps) ≤ rest) → ((h : HeldPart) → p ≡ Some h → weight h + rest ≤ room) → with_more o p ≡ Some parts → length (bytes_of parts) ≤ room
+    → ((ps : List Fragment) → o ≡ Some ps → length (bytes_of ps) ≤ rest) → ((h : HeldPart) → p ≡ Some h → weight h + rest ≤ room)
+    → with_more o p ≡ Some parts → length (bytes_of parts) ≤ room
 with_more_room None p room rest parts f g e = absurd cc
 with_more_room (Some ps) None room rest parts f g e = absurd cc
 with_more_room (Some ps) (Some h) room rest parts f g e = joined_room h.part.afl.more e
   where
     joined_room : (b : Bool) → cond b (Some (ps ++ h.part ∷ [])) None ≡ Some parts → length (bytes_of parts) ≤ room
-    joined_room true k = let same : ps ++ h.part ∷ [] ≡ parts = cc in omega (arith, sym (ap (λ qs. length (bytes_of qs)) same), length_more ps h.part, f ps refl, g h refl)
+    joined_room true k = let same : ps ++ h.part ∷ [] ≡ parts =
+        cc in omega (arith, sym (ap (λ qs. length (bytes_of qs)) same), length_more ps h.part, f ps refl, g h refl)
     joined_room false k = absurd cc
 
 front_room : (n : ℕ) (hs : List HeldPart) (parts : List Fragment) → front n hs ≡ Some parts → length (bytes_of parts) ≤ held_bytes hs
@@ -72,20 +81,24 @@ front_room (suc n) hs parts e =
     (λ ps k. front_room n (others (suc n) hs) ps (front_others n (suc n) hs (omega arith) ∙ k)) (λ h k. without (suc n) hs h k) e
 
 -- without the number of one that is found, that one less
-member_cond : (b : Bool) (x h : HeldPart) (xs ys : List HeldPart) → weight h + held_bytes ys ≤ held_bytes xs → weight h + held_bytes (cond b (x ∷ ys) ys) ≤ held_bytes (x ∷ xs)
+member_cond : (b : Bool) (x h : HeldPart) (xs ys : List HeldPart) → weight h + held_bytes ys ≤ held_bytes xs
+    → weight h + held_bytes (cond b (x ∷ ys) ys) ≤ held_bytes (x ∷ xs)
 member_cond true x h xs ys l = omega (arith, l, sum_by-cons weight x xs, sum_by-cons weight x ys)
 member_cond false x h xs ys l = omega (arith, l, sum_by-cons weight x xs)
 
-found_less : (q : HeldPart → Bool) (xs : List HeldPart) (h : HeldPart) → find q xs ≡ Some h → weight h + held_bytes (others h.part.afl.fid xs) ≤ held_bytes xs
+found_less : (q : HeldPart → Bool) (xs : List HeldPart) (h : HeldPart) → find q xs ≡ Some h
+    → weight h + held_bytes (others h.part.afl.fid xs) ≤ held_bytes xs
 found_less q [] h e = absurd cc
 found_less q (x ∷ xs) h e = either (q x) (λ k. found_less q xs h k) e
   where
     first : x ≡ h → weight h + held_bytes (others h.part.afl.fid (x ∷ xs)) ≤ held_bytes (x ∷ xs)
     first s =
-        let same : (x.part.afl.fid == h.part.afl.fid) ≡ true = ap (λ g. x.part.afl.fid == g.part.afl.fid) (sym s) ∙ eq-eqb x.part.afl.fid x.part.afl.fid refl in
+        let same : (x.part.afl.fid == h.part.afl.fid) ≡ true =
+        ap (λ g. x.part.afl.fid == g.part.afl.fid) (sym s) ∙ eq-eqb x.part.afl.fid x.part.afl.fid refl in
         rw same (omega (arith, fewer h.part.afl.fid xs, sum_by-cons weight x xs, ap weight s))
 
-    either : (b : Bool) → (find q xs ≡ Some h → weight h + held_bytes (others h.part.afl.fid xs) ≤ held_bytes xs) → cond b (Some x) (find q xs) ≡ Some h → weight h + held_bytes (others h.part.afl.fid (x ∷ xs)) ≤ held_bytes (x ∷ xs)
+    either : (b : Bool) → (find q xs ≡ Some h → weight h + held_bytes (others h.part.afl.fid xs) ≤ held_bytes xs)
+        → cond b (Some x) (find q xs) ≡ Some h → weight h + held_bytes (others h.part.afl.fid (x ∷ xs)) ≤ held_bytes (x ∷ xs)
     either true rest k = first cc
     either false rest k = member_cond (not (is_fid h.part.afl.fid x)) x h xs (others h.part.afl.fid xs) (rest k)
 
@@ -98,17 +111,25 @@ pub assembled_room : (hs : List HeldPart) (m : Message) → assembled hs ≡ Som
 unfolding assembled
 assembled_room hs m e = from_end (last_end hs) refl e
   where
-    whole : (h : HeldPart) (o : Option (List Fragment)) → front (h.part.afl.fid - 1) hs ≡ o → find is_end hs ≡ Some h → option_map (λ parts. joined parts h.part) o ≡ Some m → length m.bytes ≤ held_bytes hs
+    whole : (h : HeldPart) (o : Option (List Fragment)) → front (h.part.afl.fid - 1) hs ≡ o → find is_end hs ≡ Some h
+        → option_map (λ parts. joined parts h.part) o ≡ Some m → length m.bytes ≤ held_bytes hs
     whole h None f l k = absurd cc
     whole h (Some parts) f l k =
         let same : joined parts h.part ≡ m = cc in
         let less = front_room (h.part.afl.fid - 1) (others h.part.afl.fid hs) parts (front_less h.part.afl.fid hs ∙ f) in
-        omega (arith, sym (ap (λ (n : Message). length n.bytes) same), length-append (bytes_of parts) h.part.bytes, less, found_less is_end hs h l)
+        omega (
+          arith,
+          sym (ap (λ (n : Message). length n.bytes) same),
+          length-append (bytes_of parts) h.part.bytes,
+          less,
+          found_less is_end hs h l,
+        )
 
     from_end : (o : Option HeldPart) → find is_end hs ≡ o → ended_by o hs ≡ Some m → length m.bytes ≤ held_bytes hs
     from_end None l k = absurd cc
     from_end (Some h) l k = whole h (front (h.part.afl.fid - 1) hs) refl l k
 
-pub whole_room : (o : Option Auth) (bytes : List ℕ) (hs : List HeldPart) → message_with o bytes ≡ assembled hs → OnSome o (length bytes ≤ held_bytes hs)
+pub whole_room : (o : Option Auth) (bytes : List ℕ) (hs : List HeldPart) → message_with o bytes ≡ assembled hs
+    → OnSome o (length bytes ≤ held_bytes hs)
 whole_room None bytes hs e = tt
 whole_room (Some auth) bytes hs e = assembled_room hs _ (sym e)

@@ -1,4 +1,5 @@
--- Which fragments of a message are held, and the message that they make (EN 13757-7, authentication and fragmentation layer; that a fragment is dropped at its second tick, and that there are at most sixteen, is this collector's own).
+-- Which fragments of a message are held, and the message that they make (EN 13757-7, authentication and fragmentation layer;
+-- that a fragment is dropped at its second tick, and that there are at most sixteen, is this collector's own).
 use Rattle.std.specs.Prelude.{◌≡◌, ℕ, zero, suc, ◌-◌, Bool, not, ◌==◌, nat_le, if◌then◌else◌, List, [], ◌∷◌, ◌++◌, length, filter, find, sum_by, Option, Some, None, option_map}
 use Rattle.std.specs.List.{flat_map}
 use Rattle.afl_layer.specs.declared.header.Auth.{Auth}
@@ -7,7 +8,8 @@ use Rattle.afl_fragments.specs.declared.places.HeldPart.{HeldPart}
 
 -- ---- what is held
 
--- What is told of one meter: a fragment came, a tick came, the message that fragments made was stored. Of a list of these the latest stands first.
+-- What is told of one meter: a fragment came, a tick came, the message that fragments made was stored. Of a list of these the
+-- latest stands first.
 pub data Told : Type 0 where
   Piece : Fragment → Told
   Tick : Told
@@ -17,7 +19,8 @@ pub data Told : Type 0 where
 abbrev pub is_counted : Fragment → Bool
 is_counted part = nat_le part.afl.fid 16
 
--- the fragments since the last clearing and the last tick but one, latest first, each with the ticks that came after it; n ticks came after the list
+-- the fragments since the last clearing and the last tick but one, latest first, each with the ticks that came after it; n ticks
+-- came after the list
 abbrev pub since : ℕ → List Told → List HeldPart
 since n [] = []
 since n (Piece part ∷ told) = if is_counted part then record { ticks = n; part = part } ∷ since n told else since n told

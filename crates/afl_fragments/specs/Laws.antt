@@ -34,13 +34,16 @@ pub record IsLatest (fid : ℕ) (told : List Told) (part : Fragment) : Type 0 wh
   pub uncleared : list_any is_clear later ≡ false
   pub ticks : count_by is_tick later ≤ 1
 
--- This fragment is an end that is held, and of the ends that are held none came after it: after it nothing with such an end's number was heard.
+-- This fragment is an end that is held, and of the ends that are held none came after it: after it nothing with such an end's
+-- number was heard.
 pub record IsLastEnd (told : List Told) (part : Fragment) : Type 0 where
   pub held : IsLatest part.afl.fid told part
   pub ends : part.afl.more ≡ false
-  pub last : (other : Fragment) → IsLatest other.afl.fid told other → other.afl.more ≡ false → list_any (is_piece_of other.afl.fid) held.later ≡ false
+  pub last : (other : Fragment) → IsLatest other.afl.fid told other → other.afl.more ≡ false
+      → list_any (is_piece_of other.afl.fid) held.later ≡ false
 
--- A message of held fragments: its last one is the end that was heard last, and before it stand those with the numbers from 1 up to that of the last, each held and with more to follow.
+-- A message of held fragments: its last one is the end that was heard last, and before it stand those with the numbers from 1 up
+-- to that of the last, each held and with more to follow.
 pub record IsMessage (hs : List HeldPart) (m : Message) : Type 0 where
   pub parts : List Fragment
   pub last : Fragment
@@ -50,7 +53,8 @@ pub record IsMessage (hs : List HeldPart) (m : Message) : Type 0 where
   pub leads : (k : ℕ) (part : Fragment) → slice_get parts k ≡ Some part → part.afl.more ≡ true
   pub message : m ≡ joined parts last
 
--- The message of a history, found by looking back over it alone: its last fragment is the end that was heard last, and before it stand, for each smaller number from 1 on, the latest fragment with that number, each with more to follow.
+-- The message of a history, found by looking back over it alone: its last fragment is the end that was heard last, and before it
+-- stand, for each smaller number from 1 on, the latest fragment with that number, each with more to follow.
 pub record IsMessageOf (told : List Told) (m : Message) : Type 0 where
   pub parts : List Fragment
   pub last : Fragment

@@ -7,7 +7,10 @@ use Rattle.afl_fragments.specs.Held.{others}
 
 -- what is read past the places
 abbrev pub no_held : HeldPart
-no_held = record { ticks = 0; part = record { afl = record { more = true; fid = 1; mcl = None; ki = None; mcr = None; mac = None; ml = None; len = 4 }; bytes = [] } }
+no_held = record {
+  ticks = 0;
+  part = record { afl = record { more = true; fid = 1; mcl = None; ki = None; mcr = None; mac = None; ml = None; len = 4 }; bytes = [] };
+}
 
 abbrev pub at_place : List HeldPart → ℕ → HeldPart
 at_place places i = slice_index_or places i no_held

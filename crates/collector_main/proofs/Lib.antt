@@ -1,3 +1,4 @@
+mod ManyReceivers
 pub mod OneReceiver
 pub mod Orders
 pub mod Runs

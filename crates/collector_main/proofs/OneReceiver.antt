@@ -1,6 +1,5 @@
 -- The lines of one receiver fix the session.
-use Rattle.std.proofs.Common.{◌≡◌, ◌==◌, ℕ, Bool, true, false, cond, List, [], ◌∷◌, map, filter, refl, sym, ap, ◌∙◌, subst, arith}
-use Rattle.std.proofs.lemmas.Bool.Decides.{nat_tests}
+use Rattle.std.proofs.Common.{◌≡◌, ◌==◌, ℕ, Bool, true, false, cond, List, [], ◌∷◌, map, refl, sym, ap, ◌∙◌, subst}
 use Rattle.outer_io.specs.Each.{Each, EachWith}
 use Rattle.meter_address.specs.declared.address.Address.{Address}
 use Rattle.meter_address.specs.Commission.{Commissioned}
@@ -12,10 +11,10 @@ use Rattle.stranger_ring.specs.declared.strangers.Heard.{Heard}
 use Rattle.receivers.specs.declared.told.Told.{Told}
 use Rattle.receivers.specs.Alone.{steps_of}
 use Rattle.receivers.specs.Orders.{order_of}
-use Rattle.receivers.specs.Session.{heard_by, lines_for, lines_of_strangers, steps_by, notes_by, IsMetersSlot, IsSession}
+use Rattle.receivers.specs.Session.{heard_by, lines_for, lines_of_strangers, notes_by, IsMetersSlot, IsSession}
 use Rattle.receivers.proofs.OneSession.{session_alone}
 use Rattle.receivers.proofs.OrderLaws.{one_slot}
-use Rattle.collector_main.proofs.Orders.{is_number, same_number, part, from_parts, of_source, none_mapped}
+use Rattle.collector_main.proofs.Orders.{is_number, part, from_parts, of_source, none_mapped}
 
 -- ---- items of one source
 

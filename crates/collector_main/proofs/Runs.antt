@@ -1,10 +1,8 @@
 -- A run of one receiver.
-use Rattle.std.proofs.Common.{◌≡◌, ◌≢◌, ◌⊎◌, ◌++◌, ◌<◌, ◌^◌, ℕ, List, [], ◌∷◌, Bool, true, false, Option, Some, None, Ok, Err, inl, inr, ⊎_elim, refl, sym, ap, subst, ◌∙◌, IsTrue, map, length, arith}
-use Rattle.std.proofs.lemmas.List.{length-map}
-use Rattle.outer_io.specs.Shown.{Change, SourceShown, SinkShown, ReadFailed, WriteFailed, LosesNothing, IsReadOut, IsSilent, HasText}
+use Rattle.std.proofs.Common.{◌≡◌, ◌≢◌, ◌++◌, ◌<◌, ◌^◌, ℕ, List, [], ◌∷◌, Bool, true, false, Option, Some, None, Ok, Err, inl, inr, ⊎_elim, refl, sym, ap, subst, ◌∙◌, IsTrue, map, length, arith}
+use Rattle.outer_io.specs.Shown.{Change, SourceShown, SinkShown, ReadFailed, LosesNothing, IsReadOut, IsSilent, HasText}
 use Rattle.line_reader.specs.Lines.{is_over}
 use Rattle.meter_address.specs.declared.address.Address.{Address}
-use Rattle.meter_address.specs.Commission.{Commissioned}
 use Rattle.meter_slots.specs.declared.counts.Counts.{Counts}
 use Rattle.meter_slots.specs.declared.counts.Ended.{Ended}
 use Rattle.meter_slots.specs.declared.counts.Ended.TheVariants as ends
@@ -25,9 +23,10 @@ use Rattle.collector_main.specs.declared.status.Status.{Status}
 use Rattle.collector_main.specs.declared.status.Status.TheVariants as statuses
 use Rattle.collector_main.specs.Heard.{Heard, report_of}
 use Rattle.collector_main.specs.Rosters.{IsRosterStatus}
-use Rattle.collector_main.specs.Run.{Run, IsRun, EndIsCaused, IsCausedBy, IsFaultless}
+use Rattle.outer_io.specs.Each.{Each}
+use Rattle.collector_main.specs.Run.{Run, Output, IsRun, EndIsCaused, IsCausedBy, IsFaultless, AreTold}
 use Rattle.collector_main.specs.Showing.{report_output}
-use Rattle.collector_main.specs.Statuses.{IsDone, IsRefused, IsFinished, status_at, after_failed_write, was_heard}
+use Rattle.collector_main.specs.Statuses.{IsDone, IsRefused, IsFinished, was_heard}
 use Rattle.collector_main.proofs.Orders.{order_is_told}
 
 counted : (directory : List Address) (heard : List Told) (counts : Counts) → counts ≡ counts_of directory heard → counts.lines ≡ length heard
@@ -41,6 +40,7 @@ run_of st kt roster r report status = record {
   sinks_tell = kt;
   roster = roster;
   receivers = r ∷ [];
+  sends = false;
   outputs = report_output report ∷ [];
   status = status;
 }
@@ -55,11 +55,27 @@ IsUnended None = Unit {0}
 IsUnended (Some ends.Memory) = Unit {0}
 IsUnended _ = ⊥
 
--- ---- a run in which the receiver wasn't heard
+-- ---- a run in which no receiver was heard to its end
 
-module _ (st kt : Bool) (roster : Change SourceShown) (r : ReceiverRun) (report : Change SinkShown) where
+pub unended_caused : (st : Bool) (r : ReceiverRun) (ended : Option Ended) → IsUnended ended → EndIsCaused st r ended
+unended_caused st r None is = tt
+unended_caused st r (Some ends.Memory) is = tt
+unended_caused st r (Some ends.End) is = absurd is
+unended_caused st r (Some ends.Cut) is = absurd is
+unended_caused st r (Some ends.ReadFault) is = absurd is
+unended_caused st r (Some ends.TxFault) is = absurd is
+
+module _ (st kt : Bool) (roster : Change SourceShown) (runs : List ReceiverRun) (sends : Bool) (outputs : List Output) where
   abbrev run_with : Status → Run
-  run_with status = run_of st kt roster r report status
+  run_with status = record {
+    sources_tell = st;
+    sinks_tell = kt;
+    roster = roster;
+    receivers = runs;
+    sends = sends;
+    outputs = outputs;
+    status = status;
+  }
 
   unheard_caused : (status : Status) → IsRosterStatus st roster status → IsCausedBy (run_with status) status
   unheard_caused statuses.ReadRoster why = why
@@ -68,6 +84,7 @@ module _ (st kt : Bool) (roster : Change SourceShown) (r : ReceiverRun) (report 
   unheard_caused statuses.Done why = absurd why
   unheard_caused (statuses.Words fault) why = absurd why
   unheard_caused (statuses.Read w) why = absurd why
+  unheard_caused (statuses.Transmit w) why = absurd why
   unheard_caused (statuses.Cut w) why = absurd why
   unheard_caused (statuses.Write which) why = absurd why
 
@@ -78,16 +95,20 @@ module _ (st kt : Bool) (roster : Change SourceShown) (r : ReceiverRun) (report 
   unheard statuses.Done why = absurd why
   unheard (statuses.Words fault) why = absurd why
   unheard (statuses.Read w) why = absurd why
+  unheard (statuses.Transmit w) why = absurd why
   unheard (statuses.Cut w) why = absurd why
   unheard (statuses.Write which) why = absurd why
 
-  unheard_refused : (status : Status) → IsRosterStatus st roster status → IsTrue st → (line : ℕ) (cause : LineCause) → roster_of roster.before.left ≡ Err (Line line cause) → IsRefused line cause status
+  unheard_refused : (status : Status) → IsRosterStatus st roster status → IsTrue st → (line : ℕ) (cause : LineCause)
+      → roster_of roster.before.left ≡ Err (Line line cause) → IsRefused line cause status
   unheard_refused statuses.ReadRoster why told line cause bad = inr (inl refl)
-  unheard_refused (statuses.Roster line' cause') why told line cause bad = inl (let is = why told in let same : Line line' cause' ≡ Line line cause = cc in cc)
+  unheard_refused (statuses.Roster line' cause') why told line cause bad =
+      inl (let is = why told in let same : Line line' cause' ≡ Line line cause = cc in cc)
   unheard_refused statuses.Memory why told line cause bad = inr (inr refl)
   unheard_refused statuses.Done why told line cause bad = absurd why
   unheard_refused (statuses.Words fault) why told line cause bad = absurd why
   unheard_refused (statuses.Read w) why told line cause bad = absurd why
+  unheard_refused (statuses.Transmit w) why told line cause bad = absurd why
   unheard_refused (statuses.Cut w) why told line cause bad = absurd why
   unheard_refused (statuses.Write which) why told line cause bad = absurd why
 
@@ -98,28 +119,31 @@ module _ (st kt : Bool) (roster : Change SourceShown) (r : ReceiverRun) (report 
   unheard_complete statuses.Done why told f = absurd why
   unheard_complete (statuses.Words fault) why told f = absurd why
   unheard_complete (statuses.Read w) why told f = absurd why
+  unheard_complete (statuses.Transmit w) why told f = absurd why
   unheard_complete (statuses.Cut w) why told f = absurd why
   unheard_complete (statuses.Write which) why told f = absurd why
 
-  unended_caused : (ended : Option Ended) → IsUnended ended → EndIsCaused st r ended
-  unended_caused None is = tt
-  unended_caused (Some ends.Memory) is = tt
-  unended_caused (Some ends.End) is = absurd is
-  unended_caused (Some ends.Cut) is = absurd is
-  unended_caused (Some ends.ReadFault) is = absurd is
-  unended_caused (Some ends.TxFault) is = absurd is
-
-  pub unheard_run : (status : Status) (ended : Option Ended) → IsRosterStatus st roster status → r.ended ≡ ended → IsUnended ended
-      → (IsTrue st → LosesNothing roster) → (IsTrue st → LosesNothing r.source) → IsSilent report → IsRun (run_with status)
-  unheard_run status ended why is none kept lost silent = record {
+  pub unheard_run : (status : Status) → IsRosterStatus st roster status
+      → (AreTold (run_with status) → Each (λ r. EndIsCaused st r r.ended) runs)
+      → (IsTrue st → LosesNothing roster) → (IsTrue st → AreTold (run_with status) → Each (λ r. LosesNothing r.source) runs)
+      → Each (λ o. IsSilent o.sink) outputs → IsRun (run_with status)
+  unheard_run status why caused kept lost silent = record {
     headline = λ heard. absurd (let not = unheard status why in cc);
     status_caused = unheard_caused status why;
-    ends_caused = (subst (EndIsCaused st r) (sym is) (unended_caused ended none), tt);
+    ends_caused = caused;
     refused = unheard_refused status why;
     complete = unheard_complete status why;
-    no_loss = λ told. (kept told, (lost told, tt));
-    silent = λ not. (silent, tt);
+    no_loss = λ told. (kept told, lost told);
+    silent = λ not. silent;
   }
+
+-- the same of one receiver that is heard alone
+pub alone_unheard : (st kt : Bool) (roster : Change SourceShown) (r : ReceiverRun) (report : Change SinkShown) (status : Status) (ended : Option Ended)
+    → IsRosterStatus st roster status → r.ended ≡ ended → IsUnended ended → (IsTrue st → LosesNothing roster) → (IsTrue st → LosesNothing r.source)
+    → IsSilent report → IsRun (run_of st kt roster r report status)
+alone_unheard st kt roster r report status ended why is none kept lost silent =
+    unheard_run st kt roster (r ∷ []) false (report_output report ∷ []) status why
+    (λ told. (subst (EndIsCaused st r) (sym is) (unended_caused st r ended none), tt)) kept (λ told shown. (lost told, tt)) (silent, tt)
 
 -- ---- a run in which it was heard
 
@@ -197,6 +221,7 @@ module _ (st kt : Bool) (roster : Change SourceShown) (r : ReceiverRun) (report 
               roster_is = found told;
               receivers = (record { ended = is; lines = alone.has_heard.ending told; first_bytes = bytes told }, tt);
               session = session;
+              sent = λ sends. absurd (let e = sends in cc);
               told = order_is_told e.own (map told_of lines ∷ []) (omega arith) (short, tt) e.meters world
                   (record { counts = counts_of (map (λ c. c.address) e.meters) (map told_of lines); ended = ended } ∷ []) session;
               written = λ writes. (subst (λ t. HasText t report) same (written writes), tt);
@@ -204,9 +229,9 @@ module _ (st kt : Bool) (roster : Change SourceShown) (r : ReceiverRun) (report 
               stopped = λ writes which stop. ⊎_elim (λ at. inl at) (λ later. absurd later.1) (subst (IsCausedBy this) stop (caused ended is never finished)).1;
             };
         status_caused = caused ended is never finished;
-        ends_caused = (subst (EndIsCaused st r) (sym is) (end_caused ended lines alone.has_heard.read_fault never alone.has_heard.ending), tt);
+        ends_caused = λ shown. (subst (EndIsCaused st r) (sym is) (end_caused ended lines alone.has_heard.read_fault never alone.has_heard.ending), tt);
         refused = λ told line why bad. let yes = found told in absurd cc;
         complete = λ told f. completed ended lines f alone.has_heard.read_fault never (alone.has_heard.ending told) (bytes told) finished;
-        no_loss = λ told. (kept told, (alone.has_heard.no_loss told, tt));
+        no_loss = λ told. (kept told, λ shown. (alone.has_heard.no_loss told, tt));
         silent = λ unheard. let heard = was ended never finished in absurd cc;
       }

@@ -1,14 +1,18 @@
 -- What a run heard: a session of its receivers for the meters of a roster, and the text of it.
-use Rattle.std.specs.Prelude.{ℕ, List, map}
+use Rattle.std.specs.Prelude.{ℕ, List, map, reverse}
 use Rattle.meter_address.specs.declared.address.Address.{Address}
+use Rattle.meter_address.specs.Commission.{Commissioned}
+use Rattle.meter_slots.specs.Journal.{SlotView, orders, other_key, last_counter}
 use Rattle.meter_slots.specs.World.{WorldView}
 use Rattle.receivers.specs.Classes.{counts_of}
 use Rattle.receivers.specs.HeardLines.{HeardLines, tellings}
 use Rattle.report_text.specs.declared.lent.ReceiverEnd.{ReceiverEnd}
 use Rattle.report_text.specs.Orders.{Orders}
 use Rattle.report_text.specs.OrdersLaw.{orders_of}
+use Rattle.report_text.specs.Readings.{readings_text}
 use Rattle.report_text.specs.Report.{report_text}
 use Rattle.roster_file.specs.Roster.{Enrolled}
+use Rattle.roster_file.specs.Text.{roster_text}
 
 -- the roster's meters, the lines taken from each receiver, and the slots and the strangers' list after them
 pub record Heard : Type 0 where
@@ -26,6 +30,23 @@ receiver_end heard r = record { counts = counts_of (addresses heard.enrolled) (t
 -- the report: each receiver's counts and end, the slots, the strangers
 abbrev pub report_of : Heard → List ℕ
 report_of heard = report_text (map (receiver_end heard) heard.receivers) heard.world.slots heard.world.strangers
+
+-- the last readings, as JSON
+abbrev pub readings_of : Heard → List ℕ
+readings_of heard = readings_text heard.world.slots
+
+-- a slot's commission as it is at the end of its journal: its second key, its last counter, and the numbers of its downlinks and commands
+unfoldable pub commission_now : SlotView → Commissioned
+commission_now b =
+    let earlier = reverse b.journal in let k = orders b.commission earlier in
+    record b.commission { other = other_key b.commission earlier; last = last_counter b.commission earlier; down = k.down; ids = k.queue.ids }
+
+-- the roster of the next session: the slots' commissions as they are now
+abbrev pub next_roster : Address → List SlotView → Enrolled
+next_roster own slots = record { own = own; meters = map commission_now slots }
+
+abbrev pub next_of : Heard → List ℕ
+next_of heard = roster_text (next_roster heard.enrolled.own heard.world.slots)
 
 -- the order of each meter's steps, and that of the strangers' lines
 abbrev pub order_of : Heard → Orders

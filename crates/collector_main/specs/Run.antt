@@ -1,21 +1,23 @@
 -- A run of the collector: what its sources and sinks showed before and after it, its status, and what is promised of it.
-use Rattle.std.specs.Prelude.{ℕ, ◌≡◌, ◌⊎◌, ◌++◌, Bool, true, false, List, [], Option, Some, None, Ok, Err, IsTrue, map}
+use Rattle.std.specs.Prelude.{ℕ, ◌≡◌, ◌≢◌, ◌++◌, Bool, true, false, List, [], Option, Some, None, Ok, Err, IsTrue, map}
 use Rattle.outer_io.specs.Each.{Each, EachWith, PassUntil, IsFirst}
 use Rattle.outer_io.specs.Shown.{Change, SourceShown, SinkShown, ReadFailed, WriteFailed, LosesNothing, IsReadOut, IsSilent, HasText}
 use Rattle.line_reader.specs.Lines.{is_over}
 use Rattle.meter_slots.specs.declared.counts.Ended.{Ended}
 use Rattle.meter_slots.specs.declared.counts.Ended.TheVariants as ends
 use Rattle.receivers.specs.Ending.{IsEnding}
-use Rattle.receivers.specs.HeardLines.{HeardLines, tellings}
+use Rattle.receivers.specs.Collected.{IsAnswered, heard_in, part_by}
+use Rattle.receivers.specs.HeardLines.{HeardLines, tellings, SendsAnswers}
 use Rattle.receivers.specs.Run.{ReceiverRun}
 use Rattle.receivers.specs.Session.{IsSession}
+use Rattle.receivers.specs.Works.{Part}
 use Rattle.report_text.specs.Orders.{orders}
 use Rattle.roster_file.specs.Roster.{Enrolled, roster_of}
 use Rattle.roster_file.specs.declared.roster.LineCause.{LineCause}
 use Rattle.roster_file.specs.declared.roster.RosterFault.TheVariants.{Line}
 use Rattle.collector_main.specs.declared.status.Status.{Status}
 use Rattle.collector_main.specs.declared.status.Status.TheVariants as statuses
-use Rattle.collector_main.specs.Heard.{Heard, report_of, order_of}
+use Rattle.collector_main.specs.Heard.{Heard, addresses, report_of, order_of}
 use Rattle.collector_main.specs.Statuses.{was_heard, IsDone, IsRefused}
 
 -- a sink that the command writes: its number in status 7, the text that it is to have of what was heard, and what it shows
@@ -24,12 +26,14 @@ pub record Output : Type 0 where
   pub text : Heard → List ℕ
   pub sink : Change SinkShown
 
--- a run: whether contracts know the bytes of sources, and of sinks; the roster, the receivers, the outputs in the order of their writing
+-- a run: whether contracts know the bytes of sources, and of sinks; the roster; the receivers, and whether they work at once and send
+-- downlinks; the outputs in the order of their writing; the status
 pub record Run : Type 0 where
   pub sources_tell : Bool
   pub sinks_tell : Bool
   pub roster : Change SourceShown
   pub receivers : List ReceiverRun
+  pub sends : Bool
   pub outputs : List Output
   pub status : Status
 
@@ -41,6 +45,14 @@ pub record EndsSo (r : ReceiverRun) (heard : HeardLines) : Type 0 where
   pub lines : IsEnding heard.ended r.source.now.taken r.source.now.left heard.lines
   pub first_bytes : r.source.now.taken ++ r.source.now.left ≡ r.source.before.left
 
+-- Each receiver's sink has the downlinks that its own lines were answered, in their order: all of them, or after a fault of the sink all
+-- but bytes at the end of the last one.
+pub record HaveSent (runs : List ReceiverRun) (heard : Heard) : Type 0 where
+  pub parts : List Part
+  pub lines : map heard_in parts ≡ map tellings heard.receivers
+  pub answers : (w : ℕ) → IsAnswered (addresses heard.enrolled) heard.world.slots w (part_by w parts)
+  pub sent : EachWith SendsAnswers runs parts
+
 -- an output has its whole text
 abbrev pub IsWhole : Heard → Output → Type 0
 IsWhole heard o = o.sink.now.written ≡ o.text heard
@@ -50,8 +62,8 @@ abbrev pub IsUnwritten : ℕ → Output → Type 0
 IsUnwritten which o = (o.number ≡ which) × WriteFailed o.sink
 
 -- The headline: the roster was read to its end and is one, each receiver was heard, each meter's slot is that of its own lines alone and
--- the strangers' list has the others, the report's text tells their order, and the outputs have their texts of just this: after status 0
--- whole, after status 7 whole before the one that the status names, and else a front where a write failed.
+-- the strangers' list has the others, the report's text tells their order, the receivers' sinks have the downlinks of just this, and the
+-- outputs their texts: after status 0 whole, after status 7 whole before the one that the status names, and else a front where a write failed.
 pub record Headline (run : Run) : Type 0 where
   pub heard : Heard
   pub roster_read : IsReadOut run.roster
@@ -59,6 +71,7 @@ pub record Headline (run : Run) : Type 0 where
   pub receivers : EachWith EndsSo run.receivers heard.receivers
   pub session : IsSession heard.enrolled.own heard.enrolled.meters (map tellings heard.receivers) heard.world
   pub told : orders (report_of heard) ≡ order_of heard
+  pub sent : IsTrue run.sends → HaveSent run.receivers heard
   pub written : IsTrue run.sinks_tell → Each (λ o. HasText (o.text heard) o.sink) run.outputs
   pub whole : IsTrue run.sinks_tell → run.status ≡ statuses.Done → Each (IsWhole heard) run.outputs
   pub stopped : IsTrue run.sinks_tell → (which : ℕ) → run.status ≡ statuses.Write which →
@@ -78,13 +91,15 @@ EndIsCaused tells r (Some ends.TxFault) = WriteFailed r.tx
 EndIsCaused tells r (Some ends.Memory) = Unit {0}
 EndIsCaused tells r None = Unit {0}
 
--- the cause of a status: bytes of the roster, the first receiver that didn't end at its source's end, or an output that couldn't be written
+-- the cause of a status: bytes of the roster, the first receiver that didn't end at its source's end, or the first output that couldn't be
+-- written
 abbrev pub IsCausedBy : Run → Status → Type 0
 IsCausedBy run statuses.Done = Each (HasEnded ends.End) run.receivers
 IsCausedBy run (statuses.Words fault) = ⊥
 IsCausedBy run statuses.ReadRoster = ReadFailed run.roster
 IsCausedBy run (statuses.Roster line cause) = IsTrue run.sources_tell → roster_of run.roster.before.left ≡ Err (Line line cause)
 IsCausedBy run (statuses.Read w) = IsFirst (HasEnded ends.End) (HasEnded ends.ReadFault) w run.receivers
+IsCausedBy run (statuses.Transmit w) = IsTrue run.sends × IsFirst (HasEnded ends.End) (HasEnded ends.TxFault) w run.receivers
 IsCausedBy run (statuses.Cut w) = IsFirst (HasEnded ends.End) (HasEnded ends.Cut) w run.receivers
 IsCausedBy run (statuses.Write which) = Each (HasEnded ends.End) run.receivers × PassUntil (λ o. Unit {0}) (IsUnwritten which) run.outputs
 IsCausedBy run statuses.Memory = Unit {0}
@@ -96,20 +111,25 @@ pub record IsFaultless (run : Run) : Type 0 where
   pub within : Each (λ r. is_over r.source.before.left ≡ false) run.receivers
   pub roster_steady : ¬ ReadFailed run.roster
   pub receivers_steady : Each (λ r. ¬ ReadFailed r.source) run.receivers
+  pub sinks_steady : IsTrue run.sends → Each (λ r. ¬ WriteFailed r.tx) run.receivers
   pub outputs_steady : Each (λ o. ¬ WriteFailed o.sink) run.outputs
+
+-- the receivers are told of after each status, but for several ones for which there was no memory
+abbrev pub AreTold : Run → Type 0
+AreTold run = IsTrue run.sends → run.status ≢ statuses.Memory
 
 -- ---- all that is promised
 
 pub record IsRun (run : Run) : Type 0 where
-  -- after statuses 0, 5, 7 and 8
+  -- after statuses 0, 5, 6, 7 and 8
   pub headline : IsTrue (was_heard run.status) → IsTrue run.sources_tell → Headline run
   -- each status, and each receiver's end, has its cause
   pub status_caused : IsCausedBy run run.status
-  pub ends_caused : Each (λ r. EndIsCaused run.sources_tell r r.ended) run.receivers
+  pub ends_caused : AreTold run → Each (λ r. EndIsCaused run.sources_tell r r.ended) run.receivers
   -- a faulty roster is refused for its first faulty line, and where nothing stands in the way all is done
   pub refused : IsTrue run.sources_tell → (line : ℕ) (cause : LineCause) →
       roster_of run.roster.before.left ≡ Err (Line line cause) → IsRefused line cause run.status
   pub complete : IsTrue run.sources_tell → IsFaultless run → IsDone run.status
   -- whatever happens no byte is lost, and after the other statuses nothing was written
-  pub no_loss : IsTrue run.sources_tell → LosesNothing run.roster × Each (λ r. LosesNothing r.source) run.receivers
+  pub no_loss : IsTrue run.sources_tell → LosesNothing run.roster × (AreTold run → Each (λ r. LosesNothing r.source) run.receivers)
   pub silent : was_heard run.status ≡ false → Each (λ o. IsSilent o.sink) run.outputs

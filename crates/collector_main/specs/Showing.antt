@@ -1,10 +1,11 @@
 -- What the values of a call show of a run.
-use Rattle.std.specs.Prelude.{◌≡◌, List, [], ◌∷◌, None}
+use Rattle.std.specs.Prelude.{ℕ, ◌≡◌, Bool, true, false, List, [], ◌∷◌, None, Result, Ok, Err}
 use Rattle.outer_io.specs.Shown.{Change, SinkShown}
 use Rattle.receivers.specs.Receiver.{Receiving}
 use Rattle.collector_main.specs.declared.command_words.Plan.{Plan}
 use Rattle.collector_main.specs.declared.command_words.Plan.TheVariants as plans
-use Rattle.collector_main.specs.Heard.{report_of}
+use Rattle.collector_main.specs.declared.command_words.WordsFault.{WordsFault}
+use Rattle.collector_main.specs.Heard.{report_of, next_of, readings_of}
 use Rattle.collector_main.specs.Run.{Output}
 
 -- a receiver whose one run is still to come
@@ -15,6 +16,27 @@ IsFresh r = r.ended ≡ None
 abbrev pub report_output : Change SinkShown → Output
 report_output report = record { number = 3; text = report_of; sink = report }
 
+-- all outputs: the next roster, the readings, the report
+abbrev pub all_outputs : (next readings report : Change SinkShown) → List Output
+all_outputs next readings report =
+    record { number = 1; text = next_of; sink = next } ∷ record { number = 2; text = readings_of; sink = readings } ∷ report_output report ∷ []
+
+-- how many receivers a plan names
+abbrev pub receiver_count : Plan → ℕ
+receiver_count plans.Hear = 1
+receiver_count (plans.Collect count) = count
+
+-- whether a plan's receivers work at once and send downlinks
+abbrev pub sends_downlinks : Plan → Bool
+sends_downlinks plans.Hear = false
+sends_downlinks (plans.Collect count) = true
+
+-- whether words ask for that
+abbrev pub collects : Result Plan WordsFault → Bool
+collects (Ok plan) = sends_downlinks plan
+collects (Err fault) = false
+
 -- the outputs of a plan, in the order in which they are written
-abbrev pub outputs_of : Plan → (report : Change SinkShown) → List Output
-outputs_of plans.Hear report = report_output report ∷ []
+abbrev pub outputs_of : Plan → (next readings report : Change SinkShown) → List Output
+outputs_of plans.Hear next readings report = report_output report ∷ []
+outputs_of (plans.Collect count) next readings report = all_outputs next readings report

@@ -1,8 +1,11 @@
 -- Statuses: their numbers, what they say, and which one a session's end makes.
-use Rattle.std.specs.Prelude.{ℕ, ◌≡◌, ◌⊎◌, Bool, true, false}
+use Rattle.std.specs.Prelude.{ℕ, ◌≡◌, ◌⊎◌, ◌+◌, Bool, true, false, List, [], ◌∷◌, Option, Some, None, Result, Ok, Err, IsTrue}
+use Rattle.outer_io.specs.Bytes.{AppendsFront}
 use Rattle.outer_io.specs.Shown.{Change, SinkShown, WriteFailed}
+use Rattle.outer_io.specs.declared.failures.Failed.{Failed}
 use Rattle.meter_slots.specs.declared.counts.Ended.{Ended}
 use Rattle.meter_slots.specs.declared.counts.Ended.TheVariants as ends
+use Rattle.report_text.specs.declared.lent.ReceiverEnd.{ReceiverEnd}
 use Rattle.roster_file.specs.declared.roster.LineCause.{LineCause}
 use Rattle.collector_main.specs.declared.status.Status.{Status}
 use Rattle.collector_main.specs.declared.status.Status.TheVariants as statuses
@@ -14,14 +17,16 @@ code_of (statuses.Words fault) = 2
 code_of statuses.ReadRoster = 4
 code_of (statuses.Roster line cause) = 3
 code_of (statuses.Read w) = 5
+code_of (statuses.Transmit w) = 6
 code_of (statuses.Cut w) = 8
 code_of (statuses.Write which) = 7
 code_of statuses.Memory = 10
 
--- whether the receivers were heard, so after statuses 0, 5, 7 and 8
+-- whether the receivers were heard, so after statuses 0, 5, 6, 7 and 8
 abbrev pub was_heard : Status → Bool
 was_heard statuses.Done = true
 was_heard (statuses.Read w) = true
+was_heard (statuses.Transmit w) = true
 was_heard (statuses.Cut w) = true
 was_heard (statuses.Write which) = true
 was_heard _ = false
@@ -48,7 +53,7 @@ abbrev pub status_at : ℕ → Ended → Status
 status_at w ends.End = statuses.Done
 status_at w ends.Cut = statuses.Cut w
 status_at w ends.ReadFault = statuses.Read w
-status_at w ends.TxFault = statuses.Memory
+status_at w ends.TxFault = statuses.Transmit w
 status_at w ends.Memory = statuses.Memory
 
 -- the status after a failed write of the report
@@ -59,3 +64,29 @@ after_failed_write status = status
 -- what became of the one receiver, and of the report
 abbrev pub IsFinished : Ended → Change SinkShown → Status → Type 0
 IsFinished ended report status = (status ≡ status_at 1 ended) ⊎ ((status ≡ after_failed_write (status_at 1 ended)) × WriteFailed report)
+
+-- the status of the first receiver that didn't end at its source's end, where the first one of these has the number w
+abbrev pub stop_at : ℕ → Ended → Option Status → Option Status
+stop_at w ends.End later = later
+stop_at w ended later = Some (status_at w ended)
+
+abbrev pub stop_from : ℕ → List ReceiverEnd → Option Status
+stop_from w [] = None
+stop_from w (e ∷ later) = stop_at w e.ended (stop_from (w + 1) later)
+
+-- what a write of a text to an empty sink came to
+abbrev pub Wrote : Bool → List ℕ → Change SinkShown → Result Unit Failed → Type 0
+Wrote tells text sink (Ok _) = IsTrue tells → sink.now.written ≡ text
+Wrote tells text sink (Err _) = WriteFailed sink × (IsTrue tells → AppendsFront text [] sink.now.written)
+
+-- the status of the first output that couldn't be written
+abbrev pub unwritten : (next readings report : Result Unit Failed) → Status
+unwritten (Err _) readings report = statuses.Write 1
+unwritten (Ok _) (Err _) report = statuses.Write 2
+unwritten (Ok _) (Ok _) (Err _) = statuses.Write 3
+unwritten (Ok _) (Ok _) (Ok _) = statuses.Done
+
+-- a receiver's end comes before a failed write
+abbrev pub status_after : Option Status → Status → Status
+status_after None writes = writes
+status_after (Some stop) writes = stop

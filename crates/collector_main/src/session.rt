@@ -1,38 +1,19 @@
 //! A session of one receiver.
-ghost use Rattle.std.specs.Prelude.{◌≡◌, ◌≢◌, [], ◌∷◌, Ok, None, IsTrue, IfOk, IfErr};
-ghost use Rattle.outer_io.specs.Shown.{IsReadOut, LosesNothing, HasText, source_change, sink_change};
+ghost use Rattle.std.specs.Prelude.{◌≡◌, ◌≢◌, [], ◌∷◌, false, IsTrue};
+ghost use Rattle.outer_io.specs.Shown.{HasText, source_change, sink_change};
 ghost use Rattle.receivers.specs.Run.{receiver_run};
-ghost use Rattle.roster_file.specs.Roster.{roster_of};
 ghost use Rattle.report_text.specs.Report.{report_text};
-ghost use Rattle.roster_file.specs.Enrolled.{IsEnrolled};
-ghost use Rattle.collector_main.specs.Rosters.{IsRosterStatus};
 ghost use Rattle.collector_main.specs.Run.{IsRun};
 ghost use Rattle.collector_main.specs.Showing.{IsFresh, report_output};
 ghost use Rattle.collector_main.specs.Statuses.{IsUnread, IsFinished, status_at, after_failed_write};
 
+use crate::rosters::enrolled;
 use crate::status::Status;
 use meter_slots::World;
 use outer_io::{Sink, Source};
 use receivers::{Ended, Receiver};
 use report_text::{ReceiverEnd, Session, report};
-use roster_file::{LoadFault, Roster, load_roster};
 use std::alloc::Global;
-
-// The roster of all bytes of a source, or the status that says why there is none.
-fn enrolled<S: Source>(alloc: Global, source: &mut S) -> Result<Roster, Status>
-    ensures found { IfOk result (λ roster. IsTrue S.tells → roster_of (S.left source.old) ≡ Ok roster) }
-    ensures enrolled { IfOk result IsEnrolled }
-    ensures read { IfOk result (λ _. IsTrue S.tells → IsReadOut (source_change S.Source source.old source.new)) }
-    ensures status { IfErr result (IsRosterStatus S.tells (source_change S.Source source.old source.new)) }
-    ensures no_loss { IsTrue S.tells → LosesNothing (source_change S.Source source.old source.new) }
-{
-    match load_roster(alloc, source) {
-        Ok(roster) => Ok(roster),
-        Err(LoadFault::Read) => Err(Status::ReadRoster),
-        Err(LoadFault::Line(line, cause)) => Err(Status::Roster(line, cause)),
-        Err(LoadFault::Memory) => Err(Status::Memory),
-    }
-}
 
 // The status of a receiver that ended so, where the report has its whole text.
 fn status_of(ended: Ended) -> Status
@@ -113,6 +94,7 @@ pub fn hear_session<S: Source, K: Sink>(
       sinks_tell = K.tells;
       roster = source_change S.Source roster.old roster.new;
       receivers = receiver_run S.Source K.Sink receiver.old receiver.new ∷ [];
+      sends = false;
       outputs = report_output (sink_change K.Sink report.old report.new) ∷ [];
       status = result;
     }) }

@@ -1,15 +1,16 @@
 //! The top call.
-ghost use Rattle.std.specs.Prelude.{◌≡◌, [], Err, IsTrue, IsOk, IfOk, IfErr, map, vec_len};
+ghost use Rattle.std.specs.Prelude.{◌≡◌, ◌≢◌, [], Err, false, IsTrue, IsOk, IfOk, IfErr, map, vec_len};
 ghost use Rattle.std.specs.String.{string_bytes};
 ghost use Rattle.outer_io.specs.Each.{Each};
 ghost use Rattle.outer_io.specs.Shown.{source_change, sink_change};
 ghost use Rattle.receivers.specs.Run.{receiver_runs};
 ghost use Rattle.collector_main.specs.Run.{IsRun};
-ghost use Rattle.collector_main.specs.Showing.{IsFresh, outputs_of};
+ghost use Rattle.collector_main.specs.Showing.{IsFresh, receiver_count, collects, sends_downlinks, outputs_of};
 ghost use Rattle.collector_main.specs.Statuses.{IsUnread};
 ghost use Rattle.collector_main.specs.Words.{plan_of};
 ghost use Rattle.collector_main.specs.declared.command_words.WordsFault.{WordsFault};
 
+use crate::collecting::collect_session;
 use crate::command_words::{Plan, words};
 use crate::session::hear_session;
 use crate::status::Status;
@@ -20,9 +21,10 @@ use std::sync::Wait;
 use std::thread::Threads;
 
 /// Runs what the words ask for, over sources and sinks. For `hear` the receiver is the one of the vector; `next` and
-/// `readings` stay as they are, and so does the receiver's `tx`.
+/// `readings` stay as they are, and so does the receiver's `tx`. For `collect` all receivers of the vector are heard at once, in the order of
+/// their numbers, and it may wait; after `Memory` nothing is said of them.
 pub fn run<R: Threads + Wait + Sync, S: Source + Send + Drop, K: Sink + Send + Drop>(
-    _rt: &R,
+    rt: &R,
     alloc: Global,
     command: &[String],
     roster: &mut S,
@@ -31,9 +33,11 @@ pub fn run<R: Threads + Wait + Sync, S: Source + Send + Drop, K: Sink + Send + D
     readings: &mut K,
     report: &mut K,
 ) -> Status
-    requires count { IsOk (plan_of (map string_bytes command.now)) → vec_len receivers.old ≡ 1 }
+    requires count { IfOk (plan_of (map string_bytes command.now)) (λ plan. vec_len receivers.old ≡ receiver_count plan) }
     requires fresh { IsOk (plan_of (map string_bytes command.now)) → Each IsFresh receivers.old.items }
     requires empty { IsTrue K.tells → K.written report.old ≡ [] }
+    requires all_empty { IsTrue (collects (plan_of (map string_bytes command.now))) → IsTrue K.tells →
+        (K.written next.old ≡ []) × (K.written readings.old ≡ []) }
 
     // Status 2 comes exactly by the words.
     ensures words { IfErr (plan_of (map string_bytes command.now)) (λ fault. result ≡ Status.Words fault) }
@@ -45,25 +49,32 @@ pub fn run<R: Threads + Wait + Sync, S: Source + Send + Drop, K: Sink + Send + D
       sinks_tell = K.tells;
       roster = source_change S.Source roster.old roster.new;
       receivers = receiver_runs S.Source K.Sink receivers.old.items receivers.new.items;
-      outputs = outputs_of plan (sink_change K.Sink report.old report.new);
+      sends = sends_downlinks plan;
+      outputs = outputs_of plan (sink_change K.Sink next.old next.new) (sink_change K.Sink readings.old readings.new)
+          (sink_change K.Sink report.old report.new);
       status = result;
     })) }
 
-    // What stays as it was: all after faulty words, the receivers after statuses 3 and 4, and always their number, each `tx` and the
-    // other sinks.
+    // What stays as it was: all after faulty words, the receivers after statuses 3 and 4, their number, and for `hear` each `tx` and the
+    // other outputs.
     ensures roster { IfErr (plan_of (map string_bytes command.now)) (λ _. roster.new ≡ roster.old) }
     ensures report { IfErr (plan_of (map string_bytes command.now)) (λ _. report.new ≡ report.old) }
     ensures unread { IsUnread result → receivers.new.items ≡ receivers.old.items }
-    ensures receivers { vec_len receivers.new ≡ vec_len receivers.old }
-    ensures tx { map (λ r. r.tx) receivers.new.items ≡ map (λ r. r.tx) receivers.old.items }
-    ensures next { next.new ≡ next.old }
-    ensures readings { readings.new ≡ readings.old }
+    ensures receivers { (IsTrue (collects (plan_of (map string_bytes command.now))) → result ≢ Status.Memory)
+        → vec_len receivers.new ≡ vec_len receivers.old }
+    ensures tx { collects (plan_of (map string_bytes command.now)) ≡ false
+        → map (λ r. r.tx) receivers.new.items ≡ map (λ r. r.tx) receivers.old.items }
+    ensures next { collects (plan_of (map string_bytes command.now)) ≡ false → next.new ≡ next.old }
+    ensures readings { collects (plan_of (map string_bytes command.now)) ≡ false → readings.new ≡ readings.old }
 {
     match words(command) {
         Err(fault) => Status::Words(fault),
         Ok(Plan::Hear) => {
             let receiver = &mut receivers[0];
             hear_session(alloc, roster, receiver, report)
+        }
+        Ok(Plan::Collect(_)) => {
+            collect_session(rt, alloc, roster, receivers, next, readings, report)
         }
     }
 }

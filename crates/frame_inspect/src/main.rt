@@ -7,14 +7,14 @@ ghost use Rattle.std.specs.Process.{exit_status};
 ghost use Rattle.line_reader.specs.Lines.{all_lines};
 ghost use Rattle.frame_inspect_main.specs.Run.{inspected};
 ghost use Rattle.frame_inspect_main.specs.Words.{workers_of};
-ghost use Rattle.frame_inspect.specs.Exit.{own_text, asks_for_text, IsTold, IsRunExit};
+ghost use Rattle.program_words.specs.OwnTexts.{asks_for_text, IsTold};
+ghost use Rattle.frame_inspect.specs.Exit.{IsRunExit};
 
 use frame_inspect_main::{InspectStatus, inspect_run, workers};
 use line_reader::Lines;
 use outer_io::{Sink, Source, StdSink, StdSource};
-use std::env;
+use program_words::{NoWords, Numbered, command_words, own_text, tell};
 use std::fs::{File, Files};
-use std::io::{self, ErrorKind};
 use std::process::ExitCode;
 use std::thread::Threads;
 
@@ -36,61 +36,19 @@ exit status: 0 done, 2 faulty words, 5 file not read, 7 output not written,
 
 const VERSION: &str = "frame_inspect 0.1.0\n";
 
-// A text of the program's own.
-#[derive(Clone, Copy)]
-enum OwnText {
-    Help,
-    Version,
-}
-
-impl OwnText {
-    ghost use Rattle.std.specs.Prelude.{◌≡◌};
-    ghost use Rattle.frame_inspect.specs.Exit.{text_of};
-
-    fn text(self) -> &'static str
-        ensures { result.now ≡ text_of self }
-    {
-        match self {
-            OwnText::Help => HELP,
-            OwnText::Version => VERSION,
-        }
+// How a status is said.
+fn said(code: u8) -> Numbered {
+    Numbered {
+        program: "frame_inspect",
+        code,
     }
-}
-
-// The text of the program's own that the words ask for, where they ask for one.
-fn own_text(command: &[String]) -> Option<OwnText>
-    ensures { result ≡ own_text (map string_bytes command.now) }
-{
-    let [word] = command else {
-        return None;
-    };
-    if word.as_str() == "--help" {
-        return Some(OwnText::Help);
-    }
-    if word.as_str() == "--version" {
-        return Some(OwnText::Version);
-    }
-    None
 }
 
 // Ends with a status, and says which unless all is done.
 fn end(rt: &impl Eprint, status: u8) -> ExitCode
     ensures { exit_status result ≡ status }
 {
-    if status != 0 {
-        let _ = eprintln!(rt; "frame_inspect: status {status}");
-    }
-    ExitCode::from(status)
-}
-
-// Prints a text of the program's own.
-fn tell<R: Print + Eprint>(rt: &R, text: &str) -> ExitCode
-    ensures { IsTold (exit_status result) }
-{
-    match rt.print(text) {
-        Ok(()) => ExitCode::SUCCESS,
-        Err(_) => end(rt, InspectStatus::Write.code()),
-    }
+    program_words::end(rt, status, said(status))
 }
 
 // Shows the frames of a file, and ends with the status of that.
@@ -119,12 +77,13 @@ fn perform<R: Threads + Sync + Print + Eprint + Files<File = File> + AllocGlobal
     command: &[String],
     mut out: StdSink,
 ) -> ExitCode
-    ensures text { asks_for_text (map string_bytes command.now) ≡ true → IsTold (exit_status result) }
+    ensures text { asks_for_text (map string_bytes command.now) ≡ true → IsTold 7 (exit_status result) }
     ensures faulty { asks_for_text (map string_bytes command.now) ≡ false → workers_of (map string_bytes command.now) ≡ None → exit_status result ≡ 2 }
     ensures run { IsSome (workers_of (map string_bytes command.now)) → IsRunExit (exit_status result) }
 {
     if let Some(own) = own_text(command) {
-        return tell(rt, own.text());
+        let unwritten = InspectStatus::Write.code();
+        return tell(rt, own.text(HELP, VERSION), unwritten, said(unwritten));
     }
     let (Some(_), [name, ..]) = (workers(command), command) else {
         return end(rt, InspectStatus::Words.code());
@@ -136,23 +95,17 @@ fn perform<R: Threads + Sync + Print + Eprint + Files<File = File> + AllocGlobal
     show(rt, command, &mut frames, &mut out)
 }
 
-// What it means that the words can't be had: there is no memory for them, or one isn't UTF-8, which makes them faulty.
-fn status_without_words(error: &io::Error) -> InspectStatus {
-    if error.kind() == ErrorKind::OutOfMemory {
-        InspectStatus::Memory
-    } else {
-        InspectStatus::Words
+// What it means that the words can't be had.
+fn status_without_words(reason: NoWords) -> InspectStatus {
+    match reason {
+        NoWords::Memory => InspectStatus::Memory,
+        NoWords::NotText => InspectStatus::Words,
     }
 }
 
 fn main(rt: HostRuntime) -> ExitCode {
-    let args = match env::args(&rt) {
-        Ok(args) => args,
-        Err(error) => return end(&rt, status_without_words(&error).code()),
-    };
-    let Ok(command) = args.skip(1).collect::<Vec<String>>(rt.alloc()) else {
-        return end(&rt, InspectStatus::Memory.code());
-    };
-    let out = StdSink::standard(rt.stdout());
-    perform(&rt, command.as_slice(), out)
+    match command_words(&rt) {
+        Ok(command) => perform(&rt, &command, StdSink::standard(rt.stdout())),
+        Err(reason) => end(&rt, status_without_words(reason).code()),
+    }
 }

@@ -21,7 +21,8 @@ filled before after start end n ordered within kept =
     ∙ ap (λ x. x ++ take n (drop end after)) (sym (between_is before start end))
 
 -- what came is what stands behind the old part
-pub came : (before after old : List ℕ) (start end n : ℕ) → start ≤ end → end ≤ length before → take end after ≡ take end before → slice_range before start end ≡ old
+pub came : (before after old : List ℕ) (start end n : ℕ) → start ≤ end → end ≤ length before → take end after ≡ take end before
+    → slice_range before start end ≡ old
     → drop (length old) (slice_range after start (end + n)) ≡ take n (drop end after)
 came before after old start end n ordered within kept is =
     ap (drop (length old)) (filled before after start end n ordered within kept ∙ ap (λ x. x ++ take n (drop end after)) is)

@@ -63,7 +63,8 @@ some_line bytes some = by_place (position is_newline bytes) refl
         omega arith
 
 -- one line more, with its newline
-pub lines_more : (bytes front : List ℕ) → IsFinished bytes → newlines front ≡ 0 → lines (bytes ++ (front ++ 10 ∷ [])) ≡ lines bytes ++ strip_carriage_return front ∷ []
+pub lines_more : (bytes front : List ℕ) → IsFinished bytes → newlines front ≡ 0
+    → lines (bytes ++ (front ++ 10 ∷ [])) ≡ lines bytes ++ strip_carriage_return front ∷ []
 lines_more bytes front finished none = finished.follow (front ++ 10 ∷ []) ∙ ap (λ x. lines bytes ++ x) (lines_front front [] none)
 
 pub finished_more : (bytes front : List ℕ) → IsFinished bytes → newlines front ≡ 0 → IsFinished (bytes ++ (front ++ 10 ∷ []))
@@ -83,27 +84,32 @@ finished_more bytes front finished none = record {
 }
 
 -- the lines that end with a newline, behind lines that do
-ended-append : (bytes more : List ℕ) → IsFinished bytes → ended_lines (bytes ++ more) ≡ take (length (lines bytes) + newlines more) (lines bytes ++ lines more)
+ended-append : (bytes more : List ℕ) → IsFinished bytes
+    → ended_lines (bytes ++ more) ≡ take (length (lines bytes) + newlines more) (lines bytes ++ lines more)
 ended-append bytes more finished =
     ap (λ x. take (newlines (bytes ++ more)) x) (finished.follow more)
     ∙ ap (λ n. take n (lines bytes ++ lines more)) (newlines-append bytes more ∙ ap (λ n. n + newlines more) finished.counted)
 
-first_bytes : (bytes more : List ℕ) → length bytes ≤ BYTES_MAX → take BYTES_MAX (bytes ++ more) ≡ bytes ++ take (BYTES_MAX - length bytes) more
+first_bytes : (bytes more : List ℕ) → length bytes ≤ BYTES_MAX
+    → take BYTES_MAX (bytes ++ more) ≡ bytes ++ take (BYTES_MAX - length bytes) more
 first_bytes bytes more few =
     let parts : BYTES_MAX ≡ length bytes + (BYTES_MAX - length bytes) = omega arith in
     ap (λ n. take n (bytes ++ more)) parts ∙ take-append-add bytes more (BYTES_MAX - length bytes)
 
-pub whole_alone : (bytes more : List ℕ) → IsFinished bytes → length bytes ≤ BYTES_MAX → length (lines bytes) ≤ LINES_MAX → newlines (take (BYTES_MAX - length bytes) more) ≡ 0 → whole_lines (bytes ++ more) ≡ lines bytes
+pub whole_alone : (bytes more : List ℕ) → IsFinished bytes → length bytes ≤ BYTES_MAX → length (lines bytes) ≤ LINES_MAX
+    → newlines (take (BYTES_MAX - length bytes) more) ≡ 0 → whole_lines (bytes ++ more) ≡ lines bytes
 unfolding whole_lines
 whole_alone bytes more finished few few_lines none =
     let front = take (BYTES_MAX - length bytes) more in
     let count : length (lines bytes) + newlines front ≡ length (lines bytes) = omega arith in
     ap (λ x. take LINES_MAX (ended_lines x)) (first_bytes bytes more few)
-    ∙ ap (take LINES_MAX) (ended-append bytes front finished ∙ ap (λ n. take n (lines bytes ++ lines front)) count ∙ take_at (lines bytes) (lines front) (length (lines bytes)) refl)
+    ∙ ap (take LINES_MAX) (ended-append bytes front finished ∙ ap (λ n. take n (lines bytes ++ lines front)) count
+    ∙ take_at (lines bytes) (lines front) (length (lines bytes)) refl)
     ∙ take_all LINES_MAX (lines bytes) few_lines
 
 -- any number of the lines that end with a newline
-whole_first : (n : ℕ) (bytes more : List ℕ) → IsFinished bytes → length bytes ≤ BYTES_MAX → length (lines bytes) ≡ n → n ≤ LINES_MAX → take n (whole_lines (bytes ++ more)) ≡ lines bytes
+whole_first : (n : ℕ) (bytes more : List ℕ) → IsFinished bytes → length bytes ≤ BYTES_MAX → length (lines bytes) ≡ n → n ≤ LINES_MAX
+    → take n (whole_lines (bytes ++ more)) ≡ lines bytes
 unfolding whole_lines
 whole_first n bytes more finished few is few_lines =
     let front = take (BYTES_MAX - length bytes) more in
@@ -114,10 +120,12 @@ whole_first n bytes more finished few is few_lines =
     ∙ take-take n (length (lines bytes) + newlines front) (lines bytes ++ lines front) within
     ∙ take_at (lines bytes) (lines front) n is
 
-pub whole_full : (bytes more : List ℕ) → IsFinished bytes → length bytes ≤ BYTES_MAX → length (lines bytes) ≡ LINES_MAX → whole_lines (bytes ++ more) ≡ lines bytes
+pub whole_full : (bytes more : List ℕ) → IsFinished bytes → length bytes ≤ BYTES_MAX → length (lines bytes) ≡ LINES_MAX
+    → whole_lines (bytes ++ more) ≡ lines bytes
 unfolding whole_lines
 whole_full bytes more finished few full =
-    sym (take-take LINES_MAX LINES_MAX (ended_lines (take BYTES_MAX (bytes ++ more))) (omega arith)) ∙ whole_first LINES_MAX bytes more finished few full (omega arith)
+    sym (take-take LINES_MAX LINES_MAX (ended_lines (take BYTES_MAX (bytes ++ more))) (omega arith))
+    ∙ whole_first LINES_MAX bytes more finished few full (omega arith)
 
 -- the limits
 pub over_bytes : (bytes : List ℕ) → BYTES_MAX < length bytes → is_over bytes ≡ true
@@ -149,7 +157,8 @@ unfolding all_lines
 all_within bytes within = ap (λ b. cond b (whole_lines bytes) (lines bytes)) within
 
 -- the lines given while the end of the source isn't met
-pub given_lines : (line : ℕ) (bytes more : List ℕ) → IsFinished bytes → length bytes ≤ BYTES_MAX → length (lines bytes) ≡ line → line ≤ LINES_MAX → take line (all_lines (bytes ++ more)) ≡ lines bytes
+pub given_lines : (line : ℕ) (bytes more : List ℕ) → IsFinished bytes → length bytes ≤ BYTES_MAX → length (lines bytes) ≡ line
+    → line ≤ LINES_MAX → take line (all_lines (bytes ++ more)) ≡ lines bytes
 unfolding all_lines
 given_lines line bytes more finished few is few_lines = by_test (is_over (bytes ++ more))
   where

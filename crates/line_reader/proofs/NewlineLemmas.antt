@@ -35,11 +35,13 @@ front_alone : (xs : List ℕ) → newlines (take (position_or_len is_newline xs)
 front_alone [] = refl
 front_alone (x ∷ xs) = by_test (is_newline x) refl (front_alone xs)
   where
-    by_test : (b : Bool) → is_newline x ≡ b → newlines (take (position_or_len is_newline xs) xs) ≡ 0 → newlines (take (cond (not b) (1 + position_or_len is_newline xs) 0) (x ∷ xs)) ≡ 0
+    by_test : (b : Bool) → is_newline x ≡ b → newlines (take (position_or_len is_newline xs) xs) ≡ 0
+        → newlines (take (cond (not b) (1 + position_or_len is_newline xs) 0) (x ∷ xs)) ≡ 0
     by_test true is none = refl
     by_test false is none =
         let one : 1 + position_or_len is_newline xs ≡ suc (position_or_len is_newline xs) = omega arith in
-        ap (λ n. newlines (take n (x ∷ xs))) one ∙ newlines-both (x ∷ []) (take (position_or_len is_newline xs) xs) (ap (λ b. 0 + cond b 1 0) is) none
+        ap (λ n. newlines (take n (x ∷ xs))) one
+        ∙ newlines-both (x ∷ []) (take (position_or_len is_newline xs) xs) (ap (λ b. 0 + cond b 1 0) is) none
 
 none_if : (b : Bool) (n : ℕ) → cond b (Some n) None ≡ None → b ≡ false
 none_if true n h = absurd cc
@@ -68,12 +70,14 @@ first_place xs i found =
     let parts = some_if _ _ _ found in
     let within : position_or_len is_newline xs < length xs = let test = parts.0 in grind (arith, nat_tests) in
     let here : i < length xs = let same = parts.1 in omega arith in
-    let newline : get_or xs i 0 ≡ 10 = ap (λ n. get_or xs n 0) (sym parts.1) ∙ eqb-true _ _ (not_false _ (prefix_len_stops (λ x. not (is_newline x)) xs 0 within)) in
+    let newline : get_or xs i 0 ≡ 10 =
+    ap (λ n. get_or xs n 0) (sym parts.1) ∙ eqb-true _ _ (not_false _ (prefix_len_stops (λ x. not (is_newline x)) xs 0 within)) in
     let first : length (take i xs) ≡ i = simp length-take (omega arith) in
     record {
       front = take i xs;
       rest = drop (i + 1) xs;
-      cut = sym (take-append-drop i xs) ∙ ap (λ y. take i xs ++ y) (drop_more xs i 0 here) ∙ ap (λ b. take i xs ++ b ∷ drop (i + 1) xs) newline;
+      cut = sym (take-append-drop i xs) ∙ ap (λ y. take i xs ++ y) (drop_more xs i 0 here)
+          ∙ ap (λ b. take i xs ++ b ∷ drop (i + 1) xs) newline;
       alone = ap (λ n. newlines (take n xs)) (sym parts.1) ∙ front_alone xs;
       long = ap (λ n. n + 1) (sym first);
     }
@@ -92,10 +96,12 @@ line_behind a b count none line = record {
 pub short_of_line : (bytes : List ℕ) (count n : ℕ) → BeginsWithLine bytes count → n < count → newlines (take n bytes) ≡ 0
 short_of_line bytes count n line short =
     let within : n ≤ length line.front = let long = line.long in omega arith in
-    ap (λ x. newlines (take n x)) line.cut ∙ ap newlines (take-append-le n line.front (10 ∷ line.rest) within) ∙ newlines-take n line.front line.alone
+    ap (λ x. newlines (take n x)) line.cut ∙ ap newlines (take-append-le n line.front (10 ∷ line.rest) within)
+    ∙ newlines-take n line.front line.alone
 
 -- the first newline behind bytes that have none
-pub line_in_rest : (bytes : List ℕ) (searched place count : ℕ) → count ≡ searched + place + 1 → searched ≤ length bytes → newlines (take searched bytes) ≡ 0 → position is_newline (drop searched bytes) ≡ Some place → BeginsWithLine bytes count
+pub line_in_rest : (bytes : List ℕ) (searched place count : ℕ) → count ≡ searched + place + 1 → searched ≤ length bytes
+    → newlines (take searched bytes) ≡ 0 → position is_newline (drop searched bytes) ≡ Some place → BeginsWithLine bytes count
 line_in_rest bytes searched place count is within none found =
     let line = line_behind (take searched bytes) (drop searched bytes) (place + 1) none (first_place (drop searched bytes) place found) in
     let first : length (take searched bytes) ≡ searched = simp length-take (omega arith) in

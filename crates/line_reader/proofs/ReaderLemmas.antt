@@ -18,27 +18,34 @@ use Rattle.line_reader.proofs.TextLemmas.{text_of_one_line}
 use Rattle.line_reader.proofs.NewlineLemmas.{newlines-take}
 
 -- the bytes taken are those of the lines given, and behind them those of the line that is read
-pub taken_is : (start line : ℕ) (taken held added taken' : List ℕ) → IsReader start line taken held → taken' ≡ taken ++ added → taken' ≡ take start taken ++ (held ++ added)
+pub taken_is : (start line : ℕ) (taken held added taken' : List ℕ) → IsReader start line taken held → taken' ≡ taken ++ added
+    → taken' ≡ take start taken ++ (held ++ added)
 taken_is start line taken held added taken' reader back =
-    back ∙ ap (λ x. x ++ added) (sym (take-append-drop start taken) ∙ ap (λ x. take start taken ++ x) (sym reader.behind)) ∙ append_assoc (take start taken) held added
+    back ∙ ap (λ x. x ++ added) (sym (take-append-drop start taken) ∙ ap (λ x. take start taken ++ x) (sym reader.behind))
+    ∙ append_assoc (take start taken) held added
 
-pub given_is : (start line : ℕ) (taken held more bytes : List ℕ) → IsReader start line taken held → start ≤ BYTES_MAX → line ≤ LINES_MAX → bytes ≡ take start taken ++ more → take line (all_lines bytes) ≡ lines (take start taken)
+pub given_is : (start line : ℕ) (taken held more bytes : List ℕ) → IsReader start line taken held → start ≤ BYTES_MAX → line ≤ LINES_MAX
+    → bytes ≡ take start taken ++ more → take line (all_lines bytes) ≡ lines (take start taken)
 given_is start line taken held more bytes reader few few_lines is =
     let within = reader.within in
     let first : length (take start taken) ≡ start = simp length-take (omega arith) in
     ap (λ x. take line (all_lines x)) is ∙ given_lines line (take start taken) more reader.finished (omega arith) reader.counted few_lines
 
 -- before a call
-pub given_before : (start line : ℕ) (taken held : List ℕ) → IsReader start line taken held → start ≤ BYTES_MAX → line ≤ LINES_MAX → take line (all_lines taken) ≡ lines (take start taken)
+pub given_before : (start line : ℕ) (taken held : List ℕ) → IsReader start line taken held → start ≤ BYTES_MAX → line ≤ LINES_MAX
+    → take line (all_lines taken) ≡ lines (take start taken)
 given_before start line taken held reader few few_lines =
-    given_is start line taken held held taken reader few few_lines (sym (take-append-drop start taken) ∙ ap (λ x. take start taken ++ x) (sym reader.behind))
+    given_is start line taken held held taken reader few few_lines (sym (take-append-drop start taken)
+    ∙ ap (λ x. take start taken ++ x) (sym reader.behind))
 
 -- the same lines, whatever follows
-pub given_ahead : (start line : ℕ) (taken held left : List ℕ) → IsReader start line taken held → start ≤ BYTES_MAX → line ≤ LINES_MAX → take line (all_lines taken) ≡ take line (all_lines (taken ++ left))
+pub given_ahead : (start line : ℕ) (taken held left : List ℕ) → IsReader start line taken held → start ≤ BYTES_MAX → line ≤ LINES_MAX
+    → take line (all_lines taken) ≡ take line (all_lines (taken ++ left))
 given_ahead start line taken held left reader few few_lines =
     given_before start line taken held reader few few_lines
     ∙ sym (given_is start line taken held (held ++ left) (taken ++ left) reader few few_lines
-    (ap (λ x. x ++ left) (sym (take-append-drop start taken) ∙ ap (λ x. take start taken ++ x) (sym reader.behind)) ∙ append_assoc (take start taken) held left))
+    (ap (λ x. x ++ left) (sym (take-append-drop start taken) ∙ ap (λ x. take start taken ++ x) (sym reader.behind))
+    ∙ append_assoc (take start taken) held left))
 
 -- a search behind the lines given: what was held and what was added is the line that is read, of which so many bytes count
 pub record IsSearch (start line most : ℕ) (taken held added taken' : List ℕ) : Type 0 where
@@ -49,11 +56,15 @@ pub record IsSearch (start line most : ℕ) (taken held added taken' : List ℕ)
   pub no_room : LINES_MAX ≤ line → most ≡ 0
   pub back : taken' ≡ taken ++ added
 
-pub room_after : (start line most : ℕ) → (line < LINES_MAX → most ≡ BYTES_MAX - start) → (LINES_MAX ≤ line → most ≡ 0) → 0 < most → (line < LINES_MAX) × (most ≡ BYTES_MAX - start)
-room_after start line most room no_room some = ⊎_elim (λ below. (below, room below)) (λ full. absurd (let none = no_room full in omega arith)) (cases_lt line LINES_MAX)
+pub room_after : (start line most : ℕ) → (line < LINES_MAX → most ≡ BYTES_MAX - start) → (LINES_MAX ≤ line → most ≡ 0) → 0 < most
+    → (line < LINES_MAX) × (most ≡ BYTES_MAX - start)
+room_after start line most room no_room some =
+    ⊎_elim (λ below. (below, room below)) (λ full. absurd (let none = no_room full in omega arith)) (cases_lt line LINES_MAX)
 
-pub search_from : (start line most : ℕ) {tells ended done : Bool} (taken left held added taken' left' : List ℕ) → Keeps tells start line ended done taken left held → IsTrue tells → done ≡ false → ended ≡ false
-    → (line < LINES_MAX → most ≡ BYTES_MAX - start) → (LINES_MAX ≤ line → most ≡ 0) → Moves added taken left taken' left' → IsSearch start line most taken held added taken'
+pub search_from : (start line most : ℕ) {tells ended done : Bool} (taken left held added taken' left' : List ℕ)
+    → Keeps tells start line ended done taken left held → IsTrue tells → done ≡ false → ended ≡ false
+    → (line < LINES_MAX → most ≡ BYTES_MAX - start) → (LINES_MAX ≤ line → most ≡ 0) → Moves added taken left taken' left'
+    → IsSearch start line most taken held added taken'
 search_from start line most taken left held added taken' left' keeps told not_done not_ended room no_room moves = record {
   reader = keeps.reader told not_done not_ended;
   few_bytes = keeps.few_bytes;
@@ -64,24 +75,33 @@ search_from start line most taken left held added taken' left' keeps told not_do
 }
 
 -- what is lent is no longer than a line may be
-pub lent_short : (longest given_up count lent : ℕ) (held' held'' : List ℕ) → LendsLine longest given_up count held' held'' lent → length (line_text (take lent held'')) ≤ longest
+pub lent_short : (longest given_up count lent : ℕ) (held' held'' : List ℕ) → LendsLine longest given_up count held' held'' lent
+    → length (line_text (take lent held'')) ≤ longest
 lent_short longest given_up count zero held' held'' lends = omega arith
 lent_short longest given_up count (suc lent) held' held'' lends =
     let parts = lends.line (omega arith) in
     subst (λ t. length t ≤ longest) (sym (ap (λ n. line_text (take n held'')) parts.1 ∙ ap (λ x. line_text (take count x)) parts.2)) parts.3
 
 -- a search behind a line that was lent and is given up
-pub search_of : (start line most lent longest : ℕ) {tells ended done : Bool} (taken left held held' added taken' left' : List ℕ) → IsTextReader tells longest lent start line ended done taken left held → held' ≡ drop lent held
-    → IsTrue tells → done ≡ false → ended ≡ false → (line < LINES_MAX → most ≡ BYTES_MAX - start) → (LINES_MAX ≤ line → most ≡ 0) → Moves added taken left taken' left' → IsSearch start line most taken held' added taken'
-search_of start line most lent longest {tells} {ended} {done} taken left held held' added taken' left' is given_up told not_done not_ended room no_room moves =
-    search_from start line most taken left held' added taken' left' (subst (λ h. Keeps tells start line ended done taken left h) (sym given_up) is.keeps) told not_done not_ended room no_room moves
+pub search_of : (start line most lent longest : ℕ) {tells ended done : Bool} (taken left held held' added taken' left' : List ℕ)
+    → IsTextReader tells longest lent start line ended done taken left held → held' ≡ drop lent held
+    → IsTrue tells → done ≡ false → ended ≡ false → (line < LINES_MAX → most ≡ BYTES_MAX - start) → (LINES_MAX ≤ line → most ≡ 0)
+    → Moves added taken left taken' left' → IsSearch start line most taken held' added taken'
+search_of start line most lent longest {tells} {ended}
+    {done} taken left held held' added taken' left' is given_up told not_done not_ended room no_room moves =
+    search_from start line most taken left held' added taken' left'
+    (subst (λ h. Keeps tells start line ended done taken left h) (sym given_up) is.keeps) told not_done not_ended room no_room moves
 
 -- the reader behind a new line
-pub reader_after : (start line most lent longest given_up count : ℕ) {tells done last : Bool} (held' held'' taken' left' : List ℕ) → longest ≤ 15359 → start ≤ BYTES_MAX
-    → (line < LINES_MAX → most ≡ BYTES_MAX - start) → (LINES_MAX ≤ line → most ≡ 0) → (0 < given_up + count) × (count ≤ length held') × (given_up + count ≤ most)
-    → LendsLine longest given_up count held' held'' lent → (IsTrue tells → Keeps tells (start + (given_up + count)) (line + 1) last done taken' left' (drop count held'))
+pub reader_after : (start line most lent longest given_up count : ℕ) {tells done last : Bool} (held' held'' taken' left' : List ℕ)
+    → longest ≤ 15359 → start ≤ BYTES_MAX
+    → (line < LINES_MAX → most ≡ BYTES_MAX - start) → (LINES_MAX ≤ line → most ≡ 0)
+    → (0 < given_up + count) × (count ≤ length held') × (given_up + count ≤ most)
+    → LendsLine longest given_up count held' held'' lent
+    → (IsTrue tells → Keeps tells (start + (given_up + count)) (line + 1) last done taken' left' (drop count held'))
     → IsTextReader tells longest lent (start + (given_up + count)) (line + 1) last done taken' left' held''
-reader_after start line most lent longest given_up count {tells} {done} {last} held' held'' taken' left' fits_room few room no_room fits lends keeps =
+reader_after start line most lent longest given_up count {tells} {done}
+    {last} held' held'' taken' left' fits_room few room no_room fits lends keeps =
     let some = fits.0 in
     let within = fits.2 in
     let left_over = room_after start line most room no_room (omega arith) in
@@ -121,19 +141,23 @@ module _ {start line most : ℕ} {taken held added taken' : List ℕ} (s : IsSea
   -- the lines given stay the same
   pub same_lines : take line (all_lines taken') ≡ take line (all_lines taken)
   same_lines =
-      given_is start line taken held read taken' s.reader s.few_bytes s.few_lines whole ∙ sym (given_before start line taken held s.reader s.few_bytes s.few_lines)
+      given_is start line taken held read taken' s.reader s.few_bytes s.few_lines whole
+      ∙ sym (given_before start line taken held s.reader s.few_bytes s.few_lines)
 
   -- and the same of all bytes
   pub same_of_all : (left' : List ℕ) → take line (all_lines taken') ≡ take line (all_lines (taken' ++ left'))
   same_of_all left' =
       given_is start line taken held read taken' s.reader s.few_bytes s.few_lines whole
-      ∙ sym (given_is start line taken held (read ++ left') (taken' ++ left') s.reader s.few_bytes s.few_lines (ap (λ x. x ++ left') whole ∙ append_assoc before read left'))
+      ∙ sym (given_is start line taken held (read ++ left') (taken' ++ left') s.reader s.few_bytes s.few_lines (ap (λ x. x ++ left') whole
+      ∙ append_assoc before read left'))
 
   -- a line with its newline
-  module _ (longest : ℕ) (held' rest : List ℕ) (given_up count : ℕ) (part : IsRestOfLine longest read held' given_up) (found : BeginsWithLine read (given_up + count)) (rest_is : rest ≡ drop count held') where
+  module _ (longest : ℕ) (held' rest : List ℕ) (given_up count : ℕ) (part : IsRestOfLine longest read held' given_up)
+      (found : BeginsWithLine read (given_up + count)) (rest_is : rest ≡ drop count held') where
     line_front : take (given_up + count) read ≡ found.front ++ 10 ∷ []
     line_front =
-        ap (take (given_up + count)) found.cut ∙ ap (λ n. take n (found.front ++ 10 ∷ found.rest)) found.long ∙ take-append-add found.front (10 ∷ found.rest) 1
+        ap (take (given_up + count)) found.cut ∙ ap (λ n. take n (found.front ++ 10 ∷ found.rest)) found.long
+        ∙ take-append-add found.front (10 ∷ found.rest) 1
 
     taken_front : take (start + (given_up + count)) taken' ≡ before ++ (found.front ++ 10 ∷ [])
     taken_front =
@@ -156,25 +180,31 @@ module _ {start line most : ℕ} {taken held added taken' : List ℕ} (s : IsSea
               ∙ ap (drop (given_up + count)) (sym (ap (drop start) whole ∙ drop_at before read start first))
               ∙ drop-drop (given_up + count) start taken';
           finished = rw taken_front (finished_more before found.front s.reader.finished found.alone);
-          counted = ap length (ap lines taken_front ∙ lines_more before found.front s.reader.finished found.alone) ∙ length_push (lines before) (strip_carriage_return found.front) ∙ ap (λ n. n + 1) counted;
+          counted = ap length (ap lines taken_front ∙ lines_more before found.front s.reader.finished found.alone)
+              ∙ length_push (lines before) (strip_carriage_return found.front) ∙ ap (λ n. n + 1) counted;
         }
 
-    new_line : 0 < given_up + count → 0 < count → line < LINES_MAX → start + (given_up + count) ≤ BYTES_MAX → IsNewLine longest given_up count held' (take line (all_lines taken)) (take (line + 1) (all_lines taken'))
+    new_line : 0 < given_up + count → 0 < count → line < LINES_MAX → start + (given_up + count) ≤ BYTES_MAX
+        → IsNewLine longest given_up count held' (take line (all_lines taken)) (take (line + 1) (all_lines taken'))
     new_line some some_count below few =
         let text = strip_carriage_return found.front in
-        let new = given_before (start + (given_up + count)) (line + 1) taken' rest next_reader few (omega arith) ∙ ap lines taken_front ∙ lines_more before found.front s.reader.finished found.alone in
+        let new = given_before (start + (given_up + count)) (line + 1) taken' rest next_reader few (omega arith) ∙ ap lines taken_front
+        ∙ lines_more before found.front s.reader.finished found.alone in
         let old = given_before start line taken held s.reader s.few_bytes s.few_lines in
         record {
           text = text;
           more = new ∙ ap (λ x. x ++ text ∷ []) (sym old);
           is = λ none.
               text_of_one_line (take count held') text
-              (ap (λ x. lines (take count x)) (part.rest ∙ ap (λ n. drop n read) none) ∙ ap (λ n. lines (take n read)) (let same : count ≡ given_up + count = omega arith in same) ∙ ap lines line_front ∙ lines_front found.front [] found.alone);
+              (ap (λ x. lines (take count x)) (part.rest ∙ ap (λ n. drop n read) none)
+              ∙ ap (λ n. lines (take n read)) (let same : count ≡ given_up + count = omega arith in same) ∙ ap lines line_front
+              ∙ lines_front found.front [] found.alone);
           long = λ some_up. let long = part.long some_up in let count_is = found.long in omega (arith, length-strip found.front);
         }
 
   -- the unfinished last line
-  module _ (longest : ℕ) (held' left' : List ℕ) (given_up count : ℕ) (part : IsRestOfLine longest read held' given_up) (found : IsLastLine read left' (given_up + count)) (few : given_up + count ≤ most) where
+  module _ (longest : ℕ) (held' left' : List ℕ) (given_up count : ℕ) (part : IsRestOfLine longest read held' given_up)
+      (found : IsLastLine read left' (given_up + count)) (few : given_up + count ≤ most) where
     all_read : given_up + count ≡ length read
     all_read = found.long
 
@@ -214,23 +244,28 @@ module _ {start line most : ℕ} {taken held added taken' : List ℕ} (s : IsSea
           more = new ∙ ap (λ x. x ++ read ∷ []) (sym old);
           is = λ none.
               text_of_one_line (take count held') read
-              (ap (λ x. lines (take count x)) (part.rest ∙ ap (λ n. drop n read) none) ∙ ap lines (take_all count read (omega arith)) ∙ lines_alone read found.alone some_read);
+              (ap (λ x. lines (take count x)) (part.rest ∙ ap (λ n. drop n read) none) ∙ ap lines (take_all count read (omega arith))
+              ∙ lines_alone read found.alone some_read);
           long = λ some_up. let long = part.long some_up in omega arith;
         }
 
   -- a line, with its newline or the last one
-  module _ (longest : ℕ) (held' left' : List ℕ) (given_up count : ℕ) (part : IsRestOfLine longest read held' given_up) (fits : (0 < given_up + count) × (count ≤ length held') × (given_up + count ≤ most)) where
+  module _ (longest : ℕ) (held' left' : List ℕ) (given_up count : ℕ) (part : IsRestOfLine longest read held' given_up)
+      (fits : (0 < given_up + count) × (count ≤ length held') × (given_up + count ≤ most)) where
     room_left : (line < LINES_MAX) × (most ≡ BYTES_MAX - start)
     room_left = let some = fits.0 in let few = fits.2 in room_after start line most s.room s.no_room (omega arith)
 
     few_bytes_after : start + (given_up + count) ≤ BYTES_MAX
     few_bytes_after = let few = fits.2 in let room = room_left in let before_it = s.few_bytes in omega arith
 
-    pub gives_line : (last : Bool) → EndsAt last read left' given_up count → IsNewLine longest given_up count held' (take line (all_lines taken)) (take (line + 1) (all_lines taken'))
-    gives_line false found = new_line longest held' (drop count held') given_up count part found.1 refl fits.0 found.0 room_left.0 few_bytes_after
+    pub gives_line : (last : Bool) → EndsAt last read left' given_up count
+        → IsNewLine longest given_up count held' (take line (all_lines taken)) (take (line + 1) (all_lines taken'))
+    gives_line false found =
+        new_line longest held' (drop count held') given_up count part found.1 refl fits.0 found.0 room_left.0 few_bytes_after
     gives_line true found = new_last longest held' left' given_up count part found fits.2
 
-    pub keeps_line : (tells done last : Bool) → EndsAt last read left' given_up count → Keeps tells (start + (given_up + count)) (line + 1) last done taken' left' (drop count held')
+    pub keeps_line : (tells done last : Bool) → EndsAt last read left' given_up count
+        → Keeps tells (start + (given_up + count)) (line + 1) last done taken' left' (drop count held')
     keeps_line tells done false found = record {
       few_lines = let room = room_left in omega arith;
       few_bytes = few_bytes_after;
@@ -245,10 +280,14 @@ module _ {start line most : ℕ} {taken held added taken' : List ℕ} (s : IsSea
     }
 
     -- the same of all bytes
-    pub line_of_all : (last : Bool) → EndsAt last read left' given_up count → take (line + 1) (all_lines taken') ≡ take (line + 1) (all_lines (taken' ++ left'))
+    pub line_of_all : (last : Bool) → EndsAt last read left' given_up count
+        → take (line + 1) (all_lines taken') ≡ take (line + 1) (all_lines (taken' ++ left'))
     line_of_all false found =
-        given_ahead (start + (given_up + count)) (line + 1) taken' (drop count held') left' (next_reader longest held' (drop count held') given_up count part found.1 refl) few_bytes_after (let room = room_left in omega arith)
-    line_of_all true found = ap (λ x. take (line + 1) (all_lines x)) (sym (append-nil taken') ∙ ap (λ x. taken' ++ x) (sym found.nothing_left))
+        given_ahead (start + (given_up + count)) (line + 1) taken' (drop count held') left'
+        (next_reader longest held' (drop count held') given_up count part found.1 refl) few_bytes_after (let room =
+        room_left in omega arith)
+    line_of_all true found =
+        ap (λ x. take (line + 1) (all_lines x)) (sym (append-nil taken') ∙ ap (λ x. taken' ++ x) (sym found.nothing_left))
 
   -- no line is left
   pub at_end : (left' : List ℕ) → read ≡ [] → left' ≡ [] → IsAtEnd taken' left' (take line (all_lines taken'))
@@ -262,7 +301,8 @@ module _ {start line most : ℕ} {taken held added taken' : List ℕ} (s : IsSea
       record {
         nothing_left = nothing_left;
         within = ap is_over all ∙ within;
-        all = given_is start line taken held read taken' s.reader few_bytes few_lines whole ∙ sym (ap all_lines all ∙ all_within before within);
+        all = given_is start line taken held read taken' s.reader few_bytes few_lines whole
+            ∙ sym (ap all_lines all ∙ all_within before within);
       }
 
   -- the whole lines of the bytes taken
@@ -281,7 +321,8 @@ module _ {start line most : ℕ} {taken held added taken' : List ℕ} (s : IsSea
           let first' = first in
           let counted' = counted in
           let same : most ≡ BYTES_MAX - length before = s.room room ∙ ap (λ n. BYTES_MAX - n) (sym first) in
-          ap whole_lines whole ∙ whole_alone before read s.reader.finished (omega arith) (omega arith) (ap (λ n. newlines (take n read)) (sym same) ∙ none)
+          ap whole_lines whole
+          ∙ whole_alone before read s.reader.finished (omega arith) (omega arith) (ap (λ n. newlines (take n read)) (sym same) ∙ none)
 
       full : LINES_MAX ≤ line → whole_lines taken' ≡ lines before
       full over =
@@ -315,7 +356,8 @@ module _ {start line most : ℕ} {taken held added taken' : List ℕ} (s : IsSea
           let some : 0 < length read = let size = ap length is in omega arith in
           let room = room_after start line most s.room s.no_room (omega arith) in
           let all = ap length whole ∙ length-append before read in
-          let count = ap length (ap lines whole ∙ s.reader.finished.follow read ∙ ap (λ x. lines before ++ x) (lines_alone read none some)) ∙ length_push (lines before) read in
+          let count = ap length (ap lines whole ∙ s.reader.finished.follow read ∙ ap (λ x. lines before ++ x) (lines_alone read none some))
+          ∙ length_push (lines before) read in
           let few_bytes = s.few_bytes in
           let first' = first in
           let counted' = counted in
@@ -348,10 +390,12 @@ module _ {start line most : ℕ} {taken held added taken' : List ℕ} (s : IsSea
           let longer' = longer in
           let some : 0 < length (lines (read ++ more)) = some_line (read ++ more) (omega arith) in
           let counted = s.reader.counted in
-          let all = ap length (ap lines is ∙ s.reader.finished.follow (read ++ more)) ∙ length-append (lines before) (lines (read ++ more)) in
+          let all = ap length (ap lines is ∙ s.reader.finished.follow (read ++ more))
+          ∙ length-append (lines before) (lines (read ++ more)) in
           over_lines bytes (omega arith)
 
-  pub past_limit : (left' : List ℕ) → most < length read → newlines (take most read) ≡ 0 → IsPastLimit taken' left' (take line (all_lines taken'))
+  pub past_limit : (left' : List ℕ) → most < length read → newlines (take most read) ≡ 0
+      → IsPastLimit taken' left' (take line (all_lines taken'))
   past_limit left' long none = record {
     source_over = over_with left' (taken' ++ left') long (ap (λ x. x ++ left') whole ∙ append_assoc before read left');
     over = over_with [] taken' long (whole ∙ ap (λ x. before ++ x) (sym (append-nil read)));
@@ -369,14 +413,17 @@ last_end line taken left last =
     }
 
 -- what is lent of a new line is the line, and where nothing is lent it is too long
-pub lent_line : (longest given_up count lent : ℕ) (held' held'' : List ℕ) (old new : List (List ℕ)) → IsNewLine longest given_up count held' old new → LendsLine longest given_up count held' held'' lent → 0 < lent
+pub lent_line : (longest given_up count lent : ℕ) (held' held'' : List ℕ) (old new : List (List ℕ))
+    → IsNewLine longest given_up count held' old new → LendsLine longest given_up count held' held'' lent → 0 < lent
     → new ≡ old ++ line_text (take lent held'') ∷ []
 lent_line longest given_up count lent held' held'' old new line lends some =
     let parts = lends.line some in
-    let text : line_text (take lent held'') ≡ line.text = ap (λ n. line_text (take n held'')) parts.1 ∙ ap (λ x. line_text (take count x)) parts.2 ∙ line.is parts.0 in
+    let text : line_text (take lent held'') ≡ line.text =
+    ap (λ n. line_text (take n held'')) parts.1 ∙ ap (λ x. line_text (take count x)) parts.2 ∙ line.is parts.0 in
     line.more ∙ ap (λ x. old ++ x ∷ []) (sym text)
 
-pub long_line : (longest given_up count lent : ℕ) (held' held'' : List ℕ) (old new : List (List ℕ)) → IsNewLine longest given_up count held' old new → LendsLine longest given_up count held' held'' lent → lent ≡ 0
+pub long_line : (longest given_up count lent : ℕ) (held' held'' : List ℕ) (old new : List (List ℕ))
+    → IsNewLine longest given_up count held' old new → LendsLine longest given_up count held' held'' lent → lent ≡ 0
     → GivesLongLine longest old new
 long_line longest given_up count lent held' held'' old new line lends none = record {
   line = line.text;
@@ -384,10 +431,12 @@ long_line longest given_up count lent held' held'' old new line lends none = rec
   long = by_given_up given_up line lends;
 }
   where
-    by_given_up : (n : ℕ) (line : IsNewLine longest n count held' old new) → LendsLine longest n count held' held'' lent → longest < length line.text
+    by_given_up : (n : ℕ) (line : IsNewLine longest n count held' old new) → LendsLine longest n count held' held'' lent
+        → longest < length line.text
     by_given_up zero line lends = subst (λ t. longest < length t) (line.is refl) (lends.too_long none refl)
     by_given_up (suc n) line lends = line.long (omega arith)
 
 -- no byte is lost
 pub all_bytes : {added taken left taken' left' : List ℕ} → Moves added taken left taken' left' → taken' ++ left' ≡ taken ++ left
-all_bytes {added} {taken} {left} {taken'} {left'} moves = ap (λ x. x ++ left') moves.back ∙ append_assoc taken added left' ∙ ap (λ x. taken ++ x) (sym moves.front)
+all_bytes {added} {taken} {left} {taken'} {left'} moves = ap (λ x. x ++ left') moves.back ∙ append_assoc taken added left'
+    ∙ ap (λ x. taken ++ x) (sym moves.front)

@@ -1,14 +1,13 @@
 -- What one line says, or its first fault.
-use Rattle.std.specs.Prelude.{ℕ, ◌-◌, ◌^◌, ◌≤◌, ◌&&◌, nat_eq, nat_le, nat_lt, Bool, List, [], ◌∷◌, length, codes, Option, Result, Ok, Err, if◌then◌else◌}
+use Rattle.std.specs.Prelude.{ℕ, ◌-◌, ◌^◌, ◌≤◌, ◌&&◌, nat_le, nat_lt, Bool, List, [], ◌∷◌, length, codes, Option, Result, Ok, Err, if◌then◌else◌}
 use Rattle.std.specs.Option.{ok_or}
 use Rattle.std.specs.Result.{result_ok}
-use Rattle.std.specs.Cmp.Lexicographic.{pointwise}
 use Rattle.hex.specs.Hex.{decode_of}
 use Rattle.frame_formats.specs.declared.format.Format.{Format}
 use Rattle.frame_formats.specs.declared.format.Format.TheVariants as formats
 use Rattle.steps.specs.Steps.{◌>>=◌}
 use Rattle.plain_text.specs.Numbers.{number_of}
-use Rattle.plain_text.specs.Parts.{fields_of}
+use Rattle.plain_text.specs.Parts.{fields_of, is_word}
 use Rattle.meter_address.specs.Address.{address_of}
 use Rattle.meter_address.specs.Commission.{key_of}
 use Rattle.line_reader.specs.declared.line.Line.{Line}
@@ -61,9 +60,6 @@ key_line (text ∷ digits ∷ []) = do
   key ← ok_or (key_of digits) bads.Key
   Ok (Key address key)
 key_line fields = Err bads.Fields
-
-abbrev pub is_word : List ℕ → List ℕ → Bool
-is_word text word = pointwise nat_eq text word
 
 -- the first field is one of six words
 unfoldable pub by_word : List (List ℕ) → Result Line BadLine

@@ -30,7 +30,8 @@ pub record TextReading (S : Type 0) : Type 0 where
 
 abbrev pub text_reading_code : {S : Type 0} → Coded S → Coded (TextReading S)
 text_reading_code {S} code =
-    code_by (Reader S × (ℕ × List ℕ)) (coded× (reader_code code) (coded× coded_ℕ (coded_list coded_ℕ))) (λ r. (r.reader, (r.longest, r.text)))
+    code_by (Reader S × (ℕ × List ℕ)) (coded× (reader_code code) (coded× coded_ℕ (coded_list coded_ℕ)))
+    (λ r. (r.reader, (r.longest, r.text)))
     (λ p. record { reader = p.0; longest = p.1.0; text = p.1.1 }) (λ _. refl)
 
 -- the lines given so far, bad ones too: the first ones of all lines of the bytes taken

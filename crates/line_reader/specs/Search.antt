@@ -26,7 +26,8 @@ EndsAt true line left given_up count = IsLastLine line left (given_up + count)
 
 -- these are the bytes behind the last line that was given, of which at most so many count
 abbrev pub Finds : Ending → ℕ → (line held left : List ℕ) → ℕ → Type 0
-Finds (Line given_up count last) longest line held left most = IsRestOfLine longest line held given_up × EndsAt last line left given_up count
+Finds (Line given_up count last) longest line held left most =
+    IsRestOfLine longest line held given_up × EndsAt last line left given_up count
 Finds Source longest line held left most = (line ≡ []) × (left ≡ [])
 Finds Limit longest line held left most = (most < length line) × (newlines (take most line) ≡ 0)
 Finds Fault longest line held left most = (newlines line ≡ 0) × (length line ≤ most)

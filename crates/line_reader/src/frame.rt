@@ -24,7 +24,7 @@ impl Model for FrameBytes {
 }
 
 impl FrameBytes {
-    ghost use Rattle.std.specs.Prelude.{◌≡◌, ◌≤◌, ◌*◌, length};
+    ghost use Rattle.std.specs.Prelude.{◌≡◌, ◌≤◌, ◌*◌, length, option_map};
     ghost use Rattle.std.specs.Result.{result_ok};
     ghost use Rattle.hex.specs.Hex.{decode_of};
 
@@ -33,14 +33,33 @@ impl FrameBytes {
         requires { length digits.now ≤ 2 * FRAME_MAX }
         ensures { result ≡ result_ok (decode_of digits.now) }
     {
+        let mut frame = FrameBytes::empty();
+        frame.read_hex(digits)?;
+        Some(frame)
+    }
+
+    // No bytes.
+    pub(crate) fn empty() -> FrameBytes {
+        FrameBytes {
+            bytes: [0; FRAME_MAX],
+            len: 0,
+        }
+    }
+
+    // Becomes the bytes of hexadecimal digits, where these are an even number: in place, since so large a value costs
+    // wherever it is moved.
+    pub(crate) fn read_hex(&mut self, digits: &[u8]) -> Option<()>
+        requires { length digits.now ≤ 2 * FRAME_MAX }
+        ensures { option_map (λ done. self.new) result ≡ result_ok (decode_of digits.now) }
+    {
         if digits.len() % 2 != 0 {
             return None;
         }
-        let mut bytes = [0; FRAME_MAX];
         let len = digits.len() / 2;
-        let (room, _) = bytes.split_at_mut(len);
+        let (room, _) = self.bytes.split_at_mut(len);
         decode(digits, room)?;
-        Some(FrameBytes { bytes, len })
+        self.len = len;
+        Some(())
     }
 
     /// The bytes.

@@ -21,7 +21,8 @@ fn read_frame_line(format: Format, mut fields: Fields<'_>) -> Result<Line, BadLi
         return Err(BadLine::Fields);
     };
     let at = read_number(moment, u64::MAX).ok_or(BadLine::Number)?;
-    let bytes = FrameBytes::from_hex(digits).ok_or(BadLine::Hex)?;
+    let mut bytes = FrameBytes::empty();
+    bytes.read_hex(digits).ok_or(BadLine::Hex)?;
     Ok(Line::Frame { format, at, bytes })
 }
 

@@ -17,13 +17,13 @@ pub const LINES_MAX: u32 = 131_072;
 pub const BYTES_MAX: usize = 67_108_864;
 
 // What a line says.
-fn said(text: &[u8]) -> Next
-    ensures line { gives_line (Ok result) ≡ true }
-    ensures says { result ≡ next_of (line_of text.now) }
+fn said(text: &[u8]) -> Result<Next, ReadFault>
+    ensures line { gives_line result ≡ true }
+    ensures says { result ≡ Ok (next_of (line_of text.now)) }
 {
     match read_line(text) {
-        Ok(line) => Next::Line(line),
-        Err(bad) => Next::Bad(bad),
+        Ok(line) => Ok(Next::Line(line)),
+        Err(bad) => Ok(Next::Bad(bad)),
     }
 }
 
@@ -96,7 +96,7 @@ impl<S: Source> Lines<S> {
             S.taken self.new.source ++ S.left self.new.source ≡ S.taken self.old.source ++ S.left self.old.source }
     {
         match self.reader.next() {
-            Ok(NextText::Line) => Ok(said(self.reader.text())),
+            Ok(NextText::Line) => said(self.reader.text()),
             Ok(NextText::TooLong) => Ok(Next::Bad(BadLine::TooLong)),
             Ok(NextText::End) => Ok(Next::End),
             Ok(NextText::Cut) => Ok(Next::Cut),

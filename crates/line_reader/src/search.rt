@@ -1,13 +1,13 @@
 //! The search for the end of a line.
-ghost use Rattle.std.specs.Prelude.{◌≡◌, ◌≤◌, ◌<◌, ◌+◌, ◌-◌, length, take, drop, IsTrue, position, MatchOption, ◌==◌};
+ghost use Rattle.std.specs.Prelude.{◌≡◌, ◌≤◌, ◌<◌, ◌+◌, ◌-◌, length, take, drop, IsTrue, MatchOption};
 ghost use Rattle.outer_io.specs.Faults.{Rose};
 ghost use Rattle.line_reader.specs.Newlines.{newlines};
 ghost use Rattle.line_reader.specs.Reading.{BeginsWithLine};
 ghost use Rattle.line_reader.specs.Search.{FitsIn, IsEndAt, Searches};
 
 use crate::held::Held;
-use memchr::memchr;
 use outer_io::Source;
+use plain_text::first_place;
 
 /// What ends a line, or what stands in the way. The first bytes of a line that is too long aren't held any more.
 #[derive(Clone, Copy)]
@@ -26,14 +26,6 @@ pub(crate) enum Ending {
     Fault,
 }
 
-// The place of the first newline.
-#[tactic(auto, using(plain_text::proofs::Cuts::place_of_first))]
-fn newline_place(bytes: &[u8]) -> Option<usize>
-    ensures { result ≡ position (λ b. b == 10) bytes.now }
-{
-    memchr(b'\n', bytes)
-}
-
 // How many bytes the line has that begins these bytes, its newline included, where they are at most `most`.
 fn line_len(bytes: &[u8], searched: usize, most: usize) -> Option<usize>
     requires within { searched ≤ length bytes.now }
@@ -43,7 +35,7 @@ fn line_len(bytes: &[u8], searched: usize, most: usize) -> Option<usize>
         (λ count. (count ≤ most) × BeginsWithLine bytes.now count) }
 {
     let (_, rest) = bytes.split_at(searched);
-    let place = newline_place(rest)?;
+    let place = first_place(rest, b'\n')?;
     if searched + place >= most {
         return None;
     }

@@ -84,7 +84,8 @@ impl<S: Source> Model for TextReader<S> {
       text = line_text (take t.lent t.held);
     } };
 
-    ghost invariant = { λ t. IsTextReader S.tells t.longest t.lent t.start t.line t.ended t.done (S.taken t.source) (S.left t.source) t.held };
+    ghost invariant = { λ t. IsTextReader S.tells t.longest t.lent t.start t.line t.ended t.done
+        (S.taken t.source) (S.left t.source) t.held };
 }
 
 impl<S: Source> TextReader<S> {

@@ -31,7 +31,8 @@ checked last c m f fits e =
     let opened = bind_ok (opened5 c m) (compared5 last) f e in
     subst (Checked5 c m) (compared5_is last opened.0 f opened.2) ((checked_are_opened c m opened.0 fits).0 opened.1)
 
-genuine : (last : Option ℕ) (c : Commissioned) (auth : Auth) (m : List ℕ) (f : Found) → IsBytes m → opened7_after last c auth m ≡ Ok f → Genuine7 c auth m f
+genuine : (last : Option ℕ) (c : Commissioned) (auth : Auth) (m : List ℕ) (f : Found) → IsBytes m → opened7_after last c auth m ≡ Ok f
+    → Genuine7 c auth m f
 unfolding opened7_after
 genuine last c auth m f fits e =
     let opened = bind_ok (opened7 c auth m) (compared7 last) f e in
@@ -56,44 +57,60 @@ pub record Buffered (m old left end : List ℕ) (answer same : Result Opened Rea
   pub emptied : OnErr same (end ≡ [])
 
 -- what was done to the bytes was done in their buffer
-done_in_buffer : (said : List ℕ → Result Found Reason) (m old left end : List ℕ) (answer same : Result Opened Reason) → Buffered m old left end answer same
+done_in_buffer : (said : List ℕ → Result Found Reason) (m old left end : List ℕ) (answer same : Result Opened Reason)
+    → Buffered m old left end answer same
     → Done (said m) m left answer → Done (said old) old end same
 done_in_buffer said m old left end (Ok o) (Ok p) b h =
     let one : o ≡ p = cc b.is in
     let full : left ≡ end = sym (refilled old left (b.len ∙ ap length b.stands)) ∙ sym b.kept in
     let P : List ℕ → List ℕ → Opened → Type 0 = λ x y q. (q.from ≤ length y) × (take q.from y ≡ take q.from x) in
     let there : P m left o = (h.within, h.front) in
-    let moved : P old end p = subst (λ (q : Opened). P old end q) one (subst (λ (y : List ℕ). P old y o) full (subst (λ (x : List ℕ). P x left o) b.stands there)) in
+    let moved : P old end p =
+    subst (λ (q : Opened). P old end q) one
+    (subst (λ (y : List ℕ). P old y o) full (subst (λ (x : List ℕ). P x left o) b.stands there)) in
     record {
-      says = record { opened = ap said (sym b.stands) ∙ h.says.opened ∙ ap₂ (λ (x : List ℕ) (y : Opened). let r : Result Found Reason = Ok (found_in x y) in r) full one; refused = tt };
+      says = record {
+        opened = ap said (sym b.stands) ∙ h.says.opened
+            ∙ ap₂ (λ (x : List ℕ) (y : Opened). let r : Result Found Reason = Ok (found_in x y) in r) full one;
+        refused = tt;
+      };
       within = moved.0;
       front = moved.1;
     }
 done_in_buffer said m old left end (Err r) (Err q) b h =
     let one : r ≡ q = cc b.is in
     record {
-      says = record { opened = tt; refused = ap said (sym b.stands) ∙ h.says.refused ∙ ap (λ (x : Reason). let f : Result Found Reason = Err x in f) one };
+      says = record {
+        opened = tt;
+        refused =
+            ap said (sym b.stands) ∙ h.says.refused ∙ ap (λ (x : Reason). let f : Result Found Reason = Err x in f) one;
+      };
       within = tt;
       front = tt;
     }
 done_in_buffer said m old left end (Ok o) (Err q) b h = absurd (cc b.is)
 done_in_buffer said m old left end (Err r) (Ok p) b h = absurd (cc b.is)
 
-len_in_buffer : (m old left end : List ℕ) (answer same : Result Opened Reason) → Buffered m old left end answer same → OnOk same (length end ≡ length old)
-len_in_buffer m old left end answer (Ok p) b = ap length (b.kept ∙ refilled old left (b.len ∙ ap length b.stands)) ∙ b.len ∙ ap length b.stands
+len_in_buffer : (m old left end : List ℕ) (answer same : Result Opened Reason) → Buffered m old left end answer same
+    → OnOk same (length end ≡ length old)
+len_in_buffer m old left end answer (Ok p) b = ap length (b.kept ∙ refilled old left (b.len ∙ ap length b.stands)) ∙ b.len
+    ∙ ap length b.stands
 len_in_buffer m old left end answer (Err q) b = tt
 
-pub says : (said : List ℕ → Result Found Reason) (m old left end : List ℕ) (answer same : Result Opened Reason) → Buffered m old left end answer same
+pub says : (said : List ℕ → Result Found Reason) (m old left end : List ℕ) (answer same : Result Opened Reason)
+    → Buffered m old left end answer same
     → Done (said m) m left answer → Says end same (said old)
 says said m old left end answer same b h = (done_in_buffer said m old left end answer same b h).says
 
-means_of : (new : List ℕ) (answer : Result Opened Reason) (said : Result Found Reason) (Means : Found → Type 0) → Says new answer said → ((f : Found) → said ≡ Ok f → Means f)
+means_of : (new : List ℕ) (answer : Result Opened Reason) (said : Result Found Reason) (Means : Found → Type 0) → Says new answer said
+    → ((f : Found) → said ≡ Ok f → Means f)
     → IfOk answer (λ o. Means (found_in new o))
 means_of new (Ok o) said Means h law = law (found_in new o) h.opened
 means_of new (Err r) said Means h law = tt
 
 -- the causes of what is said are those of the answer
-cause_of : (new : List ℕ) (answer : Result Opened Reason) (said : Result Found Reason) (Causes : Reason → Type 0) → Says new answer said → ((r : Reason) → (said ≡ Err r) ↔ Causes r)
+cause_of : (new : List ℕ) (answer : Result Opened Reason) (said : Result Found Reason) (Causes : Reason → Type 0) → Says new answer said
+    → ((r : Reason) → (said ≡ Err r) ↔ Causes r)
     → (r : Reason) → (answer ≡ Err r) ↔ Causes r
 cause_of new (Ok o) said Causes h law r = (λ e. absurd cc, λ cause. absurd (cc (h.opened, (law r).1 cause)))
 cause_of new (Err x) said Causes h law r = (
@@ -101,8 +118,10 @@ cause_of new (Err x) said Causes h law r = (
   λ cause. let same : x ≡ r = cc (h.refused, (law r).1 cause) in ap (λ (y : Reason). let f : Result Opened Reason = Err y in f) same,
 )
 
-opens : (said : List ℕ → Result Found Reason) (m old left end : List ℕ) (answer same : Result Opened Reason) (Means : Found → Type 0) (Causes : Reason → Type 0)
-    → Buffered m old left end answer same → Done (said m) m left answer → ((f : Found) → said old ≡ Ok f → Means f) → ((r : Reason) → (said old ≡ Err r) ↔ Causes r)
+opens : (said : List ℕ → Result Found Reason) (m old left end : List ℕ) (answer same : Result Opened Reason) (Means : Found
+    → Type 0) (Causes : Reason → Type 0)
+    → Buffered m old left end answer same → Done (said m) m left answer → ((f : Found) → said old ≡ Ok f → Means f)
+    → ((r : Reason) → (said old ≡ Err r) ↔ Causes r)
     → Opens old end same Means Causes
 opens said m old left end answer same Means Causes b h meant caused =
     let done = done_in_buffer said m old left end answer same b h in record {
@@ -114,12 +133,16 @@ opens said m old left end answer same Means Causes b h meant caused =
       emptied = b.emptied;
     }
 
-pub opens5 : (last : Option ℕ) (c : Commissioned) (m old left end : List ℕ) (answer same : Result Opened Reason) → IsBytes old → Buffered m old left end answer same
+pub opens5 : (last : Option ℕ) (c : Commissioned) (m old left end : List ℕ) (answer same : Result Opened Reason) → IsBytes old
+    → Buffered m old left end answer same
     → Done (opened5_after last c m) m left answer → Opens old end same (Checked5 c old) (Refusal5 last c old)
 opens5 last c m old left end answer same fits b h =
-    opens (opened5_after last c) m old left end answer same (Checked5 c old) (Refusal5 last c old) b h (λ f. checked last c old f fits) (λ r. refused_exactly5 last c old r fits)
+    opens (opened5_after last c) m old left end answer same (Checked5 c old) (Refusal5 last c old) b h (λ f. checked last c old f fits)
+    (λ r. refused_exactly5 last c old r fits)
 
-pub opens7 : (last : Option ℕ) (c : Commissioned) (auth : Auth) (m old left end : List ℕ) (answer same : Result Opened Reason) → IsBytes old → Buffered m old left end answer same
+pub opens7 : (last : Option ℕ) (c : Commissioned) (auth : Auth) (m old left end : List ℕ) (answer same : Result Opened Reason) → IsBytes old
+    → Buffered m old left end answer same
     → Done (opened7_after last c auth m) m left answer → Opens old end same (Genuine7 c auth old) (Refusal7 last c auth old)
 opens7 last c auth m old left end answer same fits b h =
-    opens (opened7_after last c auth) m old left end answer same (Genuine7 c auth old) (Refusal7 last c auth old) b h (λ f. genuine last c auth old f fits) (λ r. refused_exactly7 last c auth old r fits)
+    opens (opened7_after last c auth) m old left end answer same (Genuine7 c auth old) (Refusal7 last c auth old) b h
+    (λ f. genuine last c auth old f fits) (λ r. refused_exactly7 last c auth old r fits)

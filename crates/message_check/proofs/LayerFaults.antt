@@ -38,7 +38,8 @@ range_test ci low high = grind (arith, nat_tests)
 extension_none : (bytes : List ℕ) → (¬ HasExtensionCi bytes) → extension_in bytes ≡ Ok None
 extension_none [] none = refl
 extension_none (ci ∷ rest) none =
-    let test : (nat_le 0x8C ci && nat_le ci 0x8F) ≡ false = false_from_ne_true _ (λ e. let r = in_range ci e in none (ci, refl, r.0, r.1)) in
+    let test : (nat_le 0x8C ci && nat_le ci 0x8F) ≡ false =
+    false_from_ne_true _ (λ e. let r = in_range ci e in none (ci, refl, r.0, r.1)) in
     rw test refl
 
 -- with its CI the extension is tried
@@ -50,13 +51,15 @@ extension_tried (b ∷ rest) h =
     rw test refl
 
 -- where no extension is read there is no CI of one
-no_extension : (bytes : List ℕ) (ell : Option Ell) → extension_in bytes ≡ Ok ell → ell ≡ None → ¬ HasExtensionCi (drop (extension_len ell) bytes)
+no_extension : (bytes : List ℕ) (ell : Option Ell) → extension_in bytes ≡ Ok ell → ell ≡ None
+    → ¬ HasExtensionCi (drop (extension_len ell) bytes)
 no_extension bytes None e none h =
     let made = map_both_ok Some faults.Ell (extension.ell_at bytes) None (sym (extension_tried bytes h) ∙ e) in
     absurd (cc made.2)
 no_extension bytes (Some x) e none h = absurd cc
 
-extension_fault : (bytes : List ℕ) (r : LayerFault) → extension_in bytes ≡ Err r → HasExtensionCi bytes × ((f : EllFault) × extension.IsEllFault bytes f × (faults.Ell f ≡ r))
+extension_fault : (bytes : List ℕ) (r : LayerFault) → extension_in bytes ≡ Err r
+    → HasExtensionCi bytes × ((f : EllFault) × extension.IsEllFault bytes f × (faults.Ell f ≡ r))
 extension_fault [] r e = absurd cc
 extension_fault (ci ∷ rest) r e =
     elim (chosen (nat_le 0x8C ci && nat_le ci 0x8F) _ _ _ e) [
@@ -67,16 +70,19 @@ extension_fault (ci ∷ rest) r e =
       | inr other ↦ absurd (cc other.1)
     ]
 
-extension_refused : (bytes : List ℕ) (f : EllFault) → HasExtensionCi bytes → extension.IsEllFault bytes f → extension_in bytes ≡ Err (faults.Ell f)
+extension_refused : (bytes : List ℕ) (f : EllFault) → HasExtensionCi bytes → extension.IsEllFault bytes f
+    → extension_in bytes ≡ Err (faults.Ell f)
 extension_refused bytes f ci h = extension_tried bytes ci ∙ ap (result_map_both Some faults.Ell) ((extension_faults.faults bytes f).1 h)
 
-extension_is : (bytes : List ℕ) (ell : Option Ell) (rest : List ℕ) → ExtensionThen bytes ell rest → (ell ≡ None → ¬ HasExtensionCi rest) → extension_in bytes ≡ Ok ell
+extension_is : (bytes : List ℕ) (ell : Option Ell) (rest : List ℕ) → ExtensionThen bytes ell rest → (ell ≡ None → ¬ HasExtensionCi rest)
+    → extension_in bytes ≡ Ok ell
 extension_is bytes None rest then none = ap extension_in then ∙ extension_none rest (none refl)
 extension_is bytes (Some e) rest then none = extension_some bytes e then.0
 
 -- ---- the fragmentation layer
 
-fragmentation_tried : (bytes : List ℕ) → HasFragmentationCi bytes → fragmentation_in bytes ≡ result_map_both Some faults.Afl (fragmentation.afl_at bytes)
+fragmentation_tried : (bytes : List ℕ) → HasFragmentationCi bytes
+    → fragmentation_in bytes ≡ result_map_both Some faults.Afl (fragmentation.afl_at bytes)
 fragmentation_tried [] h = absurd cc
 fragmentation_tried (b ∷ rest) h = let ci : b ≡ 0x90 = cc h in rw ci refl
 
@@ -91,7 +97,8 @@ fragmentation_none (ci ∷ rest) none =
     let test : eqb ci 0x90 ≡ false = false_from_ne_true _ (λ e. none (ap Some (eqb-true ci 0x90 e))) in
     rw test refl
 
-no_fragmentation : (bytes : List ℕ) (afl : Option Afl) → fragmentation_in bytes ≡ Ok afl → afl ≡ None → ¬ HasFragmentationCi (drop (fragmentation_len afl) bytes)
+no_fragmentation : (bytes : List ℕ) (afl : Option Afl) → fragmentation_in bytes ≡ Ok afl → afl ≡ None
+    → ¬ HasFragmentationCi (drop (fragmentation_len afl) bytes)
 no_fragmentation bytes None e none h =
     let made = map_both_ok Some faults.Afl (fragmentation.afl_at bytes) None (sym (fragmentation_tried bytes h) ∙ e) in
     absurd (cc made.2)
@@ -109,16 +116,20 @@ fragmentation_fault (ci ∷ rest) r fits e =
       | inr other ↦ absurd (cc other.1)
     ]
 
-fragmentation_refused : (bytes : List ℕ) (f : AflFault) → IsBytes bytes → HasFragmentationCi bytes → fragmentation.IsAflFault bytes f → fragmentation_in bytes ≡ Err (faults.Afl f)
-fragmentation_refused bytes f fits ci h = fragmentation_tried bytes ci ∙ ap (result_map_both Some faults.Afl) ((fragmentation_faults.faults bytes f ci fits).1 h)
+fragmentation_refused : (bytes : List ℕ) (f : AflFault) → IsBytes bytes → HasFragmentationCi bytes → fragmentation.IsAflFault bytes f
+    → fragmentation_in bytes ≡ Err (faults.Afl f)
+fragmentation_refused bytes f fits ci h =
+    fragmentation_tried bytes ci ∙ ap (result_map_both Some faults.Afl) ((fragmentation_faults.faults bytes f ci fits).1 h)
 
-fragmentation_is : (bytes : List ℕ) (afl : Option Afl) (rest : List ℕ) → FragmentationThen bytes afl rest → (afl ≡ None → ¬ HasFragmentationCi rest) → fragmentation_in bytes ≡ Ok afl
+fragmentation_is : (bytes : List ℕ) (afl : Option Afl) (rest : List ℕ) → FragmentationThen bytes afl rest
+    → (afl ≡ None → ¬ HasFragmentationCi rest) → fragmentation_in bytes ≡ Ok afl
 fragmentation_is bytes None rest then none = ap fragmentation_in then ∙ fragmentation_none rest (none refl)
 fragmentation_is bytes (Some a) rest then none = fragmentation_some bytes a then.0
 
 -- ---- the transport header
 
-header_fault : (afl : Option Afl) (bytes : List ℕ) (r : LayerFault) → header_in afl bytes ≡ Err r → (has_piece afl ≡ false) × ((f : TplFault) × transport.IsTplFault bytes f × (faults.Tpl f ≡ r))
+header_fault : (afl : Option Afl) (bytes : List ℕ) (r : LayerFault) → header_in afl bytes ≡ Err r
+    → (has_piece afl ≡ false) × ((f : TplFault) × transport.IsTplFault bytes f × (faults.Tpl f ≡ r))
 header_fault afl bytes r e =
     elim (chosen (has_piece afl) _ _ _ e) [
       | inl piece ↦ absurd (cc piece.1)
@@ -127,7 +138,8 @@ header_fault afl bytes r e =
           (whole.0, (made.0, (transport_faults.faults bytes made.0).0 made.1, made.2))
     ]
 
-header_refused : (afl : Option Afl) (bytes : List ℕ) (f : TplFault) → has_piece afl ≡ false → transport.IsTplFault bytes f → header_in afl bytes ≡ Err (faults.Tpl f)
+header_refused : (afl : Option Afl) (bytes : List ℕ) (f : TplFault) → has_piece afl ≡ false → transport.IsTplFault bytes f
+    → header_in afl bytes ≡ Err (faults.Tpl f)
 header_refused afl bytes f whole h = rw (whole, (transport_faults.faults bytes f).1 h) refl
 
 -- ---- the telegram
@@ -136,10 +148,12 @@ header_refused afl bytes f whole h = rw (whole, (transport_faults.faults bytes f
 behind : (t : List ℕ) (ell : Option Ell) (after : List ℕ) → ExtensionThen (drop 10 t) ell after → drop (10 + extension_len ell) t ≡ after
 behind t ell after then = sym (drop-drop (extension_len ell) 10 t) ∙ extension_then_rest (drop 10 t) ell after then
 
-behind_both : (t : List ℕ) (ell : Option Ell) (afl : Option Afl) (after rest : List ℕ) → ExtensionThen (drop 10 t) ell after → FragmentationThen after afl rest
+behind_both : (t : List ℕ) (ell : Option Ell) (afl : Option Afl) (after rest : List ℕ) → ExtensionThen (drop 10 t) ell after
+    → FragmentationThen after afl rest
     → drop (10 + extension_len ell + fragmentation_len afl) t ≡ rest
 behind_both t ell afl after rest first second =
-    sym (drop-drop (fragmentation_len afl) (10 + extension_len ell) t) ∙ ap (drop (fragmentation_len afl)) (behind t ell after first) ∙ fragmentation_then_rest after afl rest second
+    sym (drop-drop (fragmentation_len afl) (10 + extension_len ell) t) ∙ ap (drop (fragmentation_len afl)) (behind t ell after first)
+    ∙ fragmentation_then_rest after afl rest second
 
 fault_found : (t : List ℕ) (r : LayerFault) → IsBytes t → layers_of t ≡ Err r → IsLayerFault t r
 unfolding layers_of
@@ -189,7 +203,8 @@ fault_again t (faults.Afl f) fits h =
     let at : drop (10 + extension_len ell) t ≡ h.1 = behind t ell h.1 h.2 in
     let fits_rest = subst IsBytes at (IsBytes-drop (10 + extension_len ell) t fits) in
     let e1 : extension_in (drop 10 t) ≡ Ok ell = extension_again (drop 10 t) ell h.1 h.2 (no_extension_there h.1 h.3) in
-    let e2 : fragmentation_in (drop (10 + extension_len ell) t) ≡ Err (faults.Afl f) = ap fragmentation_in at ∙ fragmentation_refused h.1 f fits_rest h.3 h.4 in
+    let e2 : fragmentation_in (drop (10 + extension_len ell) t) ≡ Err (faults.Afl f) =
+    ap fragmentation_in at ∙ fragmentation_refused h.1 f fits_rest h.3 h.4 in
     rw (e1, e2) refl
 fault_again t (faults.Tpl f) fits h =
     let ell : Option Ell = h.0 in
@@ -198,10 +213,13 @@ fault_again t (faults.Tpl f) fits h =
     let before : IsBefore t ell afl rest = h.3 in
     let e1 : extension_in (drop 10 t) ≡ Ok ell = extension_is (drop 10 t) ell before.after_extension before.extension before.no_extension in
     let e2 : fragmentation_in (drop (10 + extension_len ell) t) ≡ Ok afl =
-    ap fragmentation_in (behind t ell before.after_extension before.extension) ∙ fragmentation_is before.after_extension afl rest before.fragmentation before.no_fragmentation in
+    ap fragmentation_in (behind t ell before.after_extension before.extension)
+    ∙ fragmentation_is before.after_extension afl rest before.fragmentation before.no_fragmentation in
     let e3 : header_in afl (drop (10 + extension_len ell + fragmentation_len afl) t) ≡ Err (faults.Tpl f) =
-    ap (header_in afl) (behind_both t ell afl before.after_extension rest before.extension before.fragmentation) ∙ header_refused afl rest f h.4 h.5 in
+    ap (header_in afl) (behind_both t ell afl before.after_extension rest before.extension before.fragmentation)
+    ∙ header_refused afl rest f h.4 h.5 in
     rw (e1, e2, e3) refl
 
-pub is_fault : (t : List ℕ) (r : Result Layers LayerFault) → AreBytes t → r ≡ layers_of t → (f : LayerFault) → (r ≡ Err f) ↔ IsLayerFault t f
+pub is_fault : (t : List ℕ) (r : Result Layers LayerFault) → AreBytes t → r ≡ layers_of t → (f : LayerFault)
+    → (r ≡ Err f) ↔ IsLayerFault t f
 is_fault t r bytes h f = (λ e. fault_found t f (λ i. byte_at t i bytes) (sym h ∙ e), λ is. h ∙ fault_again t f (λ i. byte_at t i bytes) is)

@@ -33,27 +33,32 @@ ok_is l m e = cc
 
 -- ---- lengths and places of the parts
 
-extension_then_len : (bytes : List ℕ) (ell : Option Ell) (rest : List ℕ) → ExtensionThen bytes ell rest → extension_len ell + length rest ≡ length bytes
+extension_then_len : (bytes : List ℕ) (ell : Option Ell) (rest : List ℕ) → ExtensionThen bytes ell rest
+    → extension_len ell + length rest ≡ length bytes
 extension_then_len bytes None rest h = omega (arith, ap length h)
 extension_then_len bytes (Some e) rest h = omega (arith, ap length h.0.parts, length-append h.0.header h.0.rest, h.0.len, ap length h.1)
 
-pub extension_then_rest : (bytes : List ℕ) (ell : Option Ell) (rest : List ℕ) → ExtensionThen bytes ell rest → drop (extension_len ell) bytes ≡ rest
+pub extension_then_rest : (bytes : List ℕ) (ell : Option Ell) (rest : List ℕ) → ExtensionThen bytes ell rest
+    → drop (extension_len ell) bytes ≡ rest
 extension_then_rest bytes None rest h = h
 extension_then_rest bytes (Some e) rest h = ap (drop e.len) h.0.parts ∙ drop_at h.0.header h.0.rest e.len (sym h.0.len) ∙ h.1
 
-fragmentation_then_len : (bytes : List ℕ) (afl : Option Afl) (rest : List ℕ) → FragmentationThen bytes afl rest → fragmentation_len afl + length rest ≡ length bytes
+fragmentation_then_len : (bytes : List ℕ) (afl : Option Afl) (rest : List ℕ) → FragmentationThen bytes afl rest
+    → fragmentation_len afl + length rest ≡ length bytes
 fragmentation_then_len bytes None rest h = omega (arith, ap length h)
 fragmentation_then_len bytes (Some a) rest h =
     omega (arith, ap length h.0.parts, length-append (fragmentation.afl_bytes h.0.fcl a) h.0.rest, h.0.len, ap length h.1)
 
-pub fragmentation_then_rest : (bytes : List ℕ) (afl : Option Afl) (rest : List ℕ) → FragmentationThen bytes afl rest → drop (fragmentation_len afl) bytes ≡ rest
+pub fragmentation_then_rest : (bytes : List ℕ) (afl : Option Afl) (rest : List ℕ) → FragmentationThen bytes afl rest
+    → drop (fragmentation_len afl) bytes ≡ rest
 fragmentation_then_rest bytes None rest h = h
 fragmentation_then_rest bytes (Some a) rest h =
     ap (drop a.len) h.0.parts ∙ drop_at (fragmentation.afl_bytes h.0.fcl a) h.0.rest a.len (sym h.0.len) ∙ h.1
 
 -- ---- what is read is a reading
 
-pub extension_found : (bytes : List ℕ) (ell : Option Ell) → extension_in bytes ≡ Ok ell → ExtensionThen bytes ell (drop (extension_len ell) bytes)
+pub extension_found : (bytes : List ℕ) (ell : Option Ell) → extension_in bytes ≡ Ok ell
+    → ExtensionThen bytes ell (drop (extension_len ell) bytes)
 extension_found [] ell e =
     let none : None ≡ ell = cc in
     subst (λ (x : Option Ell). ExtensionThen [] x (drop (extension_len x) [])) none refl
@@ -71,7 +76,8 @@ extension_found (ci ∷ rest) ell e =
           subst (λ (x : Option Ell). ExtensionThen bytes x (drop (extension_len x) bytes)) none refl
     ]
 
-pub fragmentation_found : (bytes : List ℕ) (afl : Option Afl) → IsBytes bytes → fragmentation_in bytes ≡ Ok afl → FragmentationThen bytes afl (drop (fragmentation_len afl) bytes)
+pub fragmentation_found : (bytes : List ℕ) (afl : Option Afl) → IsBytes bytes → fragmentation_in bytes ≡ Ok afl
+    → FragmentationThen bytes afl (drop (fragmentation_len afl) bytes)
 fragmentation_found [] afl fits e =
     let none : None ≡ afl = cc in
     subst (λ (x : Option Afl). FragmentationThen [] x (drop (fragmentation_len x) [])) none refl
@@ -90,7 +96,8 @@ fragmentation_found (ci ∷ rest) afl fits e =
           subst (λ (x : Option Afl). FragmentationThen bytes x (drop (fragmentation_len x) bytes)) none refl
     ]
 
-header_found : (afl : Option Afl) (bytes : List ℕ) (tpl : Option Tpl) → IsBytes bytes → header_in afl bytes ≡ Ok tpl → IsContent bytes afl tpl
+header_found : (afl : Option Afl) (bytes : List ℕ) (tpl : Option Tpl) → IsBytes bytes → header_in afl bytes ≡ Ok tpl
+    → IsContent bytes afl tpl
 header_found afl bytes tpl fits e =
     elim (chosen (has_piece afl) _ _ _ e) [
       | inl piece ↦
@@ -102,8 +109,10 @@ header_found afl bytes tpl fits e =
           subst (IsContent bytes afl) made.2 content
     ]
 
-layers_made : (t : List ℕ) (ell : Option Ell) (afl : Option Afl) (tpl : Option Tpl) → 10 ≤ length t → IsBytes t → extension_in (drop 10 t) ≡ Ok ell
-    → fragmentation_in (drop (10 + extension_len ell) t) ≡ Ok afl → header_in afl (drop (10 + extension_len ell + fragmentation_len afl) t) ≡ Ok tpl
+layers_made : (t : List ℕ) (ell : Option Ell) (afl : Option Afl) (tpl : Option Tpl) → 10 ≤ length t → IsBytes t
+    → extension_in (drop 10 t) ≡ Ok ell
+    → fragmentation_in (drop (10 + extension_len ell) t) ≡ Ok afl
+    → header_in afl (drop (10 + extension_len ell + fragmentation_len afl) t) ≡ Ok tpl
     → IsLayers t (record { ell = ell; afl = afl; tpl = tpl; body = 10 + extension_len ell + fragmentation_len afl })
 layers_made t ell afl tpl long fits e1 e2 e3 =
     let after : List ℕ = drop (extension_len ell) (drop 10 t) in
@@ -114,7 +123,8 @@ layers_made t ell afl tpl long fits e1 e2 e3 =
     let fits_after = IsBytes-drop (extension_len ell) (drop 10 t) (IsBytes-drop 10 t fits) in
     let extension = extension_found (drop 10 t) ell e1 in
     let fragmentation = fragmentation_found after afl fits_after (ap fragmentation_in after_is ∙ e2) in
-    let message = header_found afl content tpl (IsBytes-drop (fragmentation_len afl) after fits_after) (ap (header_in afl) content_is ∙ e3) in
+    let message =
+    header_found afl content tpl (IsBytes-drop (fragmentation_len afl) after fits_after) (ap (header_in afl) content_is ∙ e3) in
     let len_e = extension_then_len (drop 10 t) ell after extension in
     let len_a = fragmentation_then_len after afl content fragmentation in
     let whole = length-drop 10 t in record {
@@ -152,13 +162,15 @@ message_ci content (Some t) h =
     let P : List ℕ → Type 0 = λ x. (extension_in x ≡ Ok None) × (fragmentation_in x ≡ Ok None) in
     subst P (sym h.1.parts) (header_ci t.ci _ t.address h.1.is_header.address)
 
-fragmentation_ci : (bytes : List ℕ) (afl : Option Afl) (content : List ℕ) (tpl : Option Tpl) → FragmentationThen bytes afl content → IsContent content afl tpl
+fragmentation_ci : (bytes : List ℕ) (afl : Option Afl) (content : List ℕ) (tpl : Option Tpl) → FragmentationThen bytes afl content
+    → IsContent content afl tpl
     → extension_in bytes ≡ Ok None
 fragmentation_ci bytes None content tpl then message = ap extension_in then ∙ (message_ci content tpl message).0
 fragmentation_ci bytes (Some a) content tpl then message = ap extension_in then.0.parts
 
 -- some byte is there behind an extension
-some_follow : (bytes : List ℕ) (afl : Option Afl) (content : List ℕ) (tpl : Option Tpl) → FragmentationThen bytes afl content → IsContent content afl tpl → 0 < length bytes
+some_follow : (bytes : List ℕ) (afl : Option Afl) (content : List ℕ) (tpl : Option Tpl) → FragmentationThen bytes afl content
+    → IsContent content afl tpl → 0 < length bytes
 some_follow bytes None content None then message = absurd cc
 some_follow bytes None content (Some t) then message = omega (arith, ap length then, ap length message.1.parts)
 some_follow bytes (Some a) content tpl then message = omega (arith, ap length then.0.parts)
@@ -180,11 +192,13 @@ fragmentation_some bytes a begins =
     let tried : P bytes = subst P (sym begins.parts) refl in
     tried ∙ ap (result_map_both Some faults.Afl) (fragmentation_laws.is_only bytes (fragmentation.afl_at bytes) refl a begins)
 
-pub extension_again : (bytes : List ℕ) (ell : Option Ell) (rest : List ℕ) → ExtensionThen bytes ell rest → extension_in rest ≡ Ok None → extension_in bytes ≡ Ok ell
+pub extension_again : (bytes : List ℕ) (ell : Option Ell) (rest : List ℕ) → ExtensionThen bytes ell rest → extension_in rest ≡ Ok None
+    → extension_in bytes ≡ Ok ell
 extension_again bytes None rest then none = ap extension_in then ∙ none
 extension_again bytes (Some e) rest then none = extension_some bytes e then.0
 
-fragmentation_again : (bytes : List ℕ) (afl : Option Afl) (content : List ℕ) (tpl : Option Tpl) → FragmentationThen bytes afl content → IsContent content afl tpl
+fragmentation_again : (bytes : List ℕ) (afl : Option Afl) (content : List ℕ) (tpl : Option Tpl) → FragmentationThen bytes afl content
+    → IsContent content afl tpl
     → fragmentation_in bytes ≡ Ok afl
 fragmentation_again bytes None content tpl then message = ap fragmentation_in then ∙ (message_ci content tpl message).1
 fragmentation_again bytes (Some a) content tpl then message = fragmentation_some bytes a then.0
@@ -206,9 +220,11 @@ places t l h =
     let len_e = extension_then_len (drop 10 t) l.ell h.after_extension h.extension in
     let len_a = fragmentation_then_len h.after_extension l.afl h.content h.fragmentation in
     let some = some_follow h.after_extension l.afl h.content l.tpl h.fragmentation h.message in
-    let after_is : drop (10 + e) t ≡ h.after_extension = sym (drop-drop e 10 t) ∙ extension_then_rest (drop 10 t) l.ell h.after_extension h.extension in record {
+    let after_is : drop (10 + e) t ≡ h.after_extension =
+    sym (drop-drop e 10 t) ∙ extension_then_rest (drop 10 t) l.ell h.after_extension h.extension in record {
       after_is = after_is;
-      content_is = sym (drop-drop a (10 + e) t) ∙ ap (drop a) after_is ∙ fragmentation_then_rest h.after_extension l.afl h.content h.fragmentation;
+      content_is =
+          sym (drop-drop a (10 + e) t) ∙ ap (drop a) after_is ∙ fragmentation_then_rest h.after_extension l.afl h.content h.fragmentation;
       body_is = omega (arith, len_e, len_a, some, h.body, length-drop 10 t);
     }
 
@@ -217,7 +233,8 @@ unfolding layers_of
 layers_again t l h =
     let at = places t l h in
     let e1 : extension_in (drop 10 t) ≡ Ok l.ell =
-    extension_again (drop 10 t) l.ell h.after_extension h.extension (fragmentation_ci h.after_extension l.afl h.content l.tpl h.fragmentation h.message) in
+    extension_again (drop 10 t) l.ell h.after_extension h.extension
+    (fragmentation_ci h.after_extension l.afl h.content l.tpl h.fragmentation h.message) in
     let e2 : fragmentation_in (drop (10 + extension_len l.ell) t) ≡ Ok l.afl =
     ap fragmentation_in at.after_is ∙ fragmentation_again h.after_extension l.afl h.content l.tpl h.fragmentation h.message in
     let e3 : header_in l.afl (drop (10 + extension_len l.ell + fragmentation_len l.afl) t) ≡ Ok l.tpl =

@@ -59,7 +59,8 @@ check_bytes_are (a ∷ []) h =
     absurd cc
 check_bytes_are (a ∷ b ∷ content) h =
     let two : List ℕ = a ∷ b ∷ [] in
-    let same : two ≡ 0x2F ∷ 0x2F ∷ [] = (bytes_eq-Decides two (0x2F ∷ 0x2F ∷ [])).0 (if_passed (bytes_eq two (0x2F ∷ 0x2F ∷ [])) (CheckBytes two) h) in
+    let same : two ≡ 0x2F ∷ 0x2F ∷ [] =
+    (bytes_eq-Decides two (0x2F ∷ 0x2F ∷ [])).0 (if_passed (bytes_eq two (0x2F ∷ 0x2F ∷ [])) (CheckBytes two) h) in
     (content, ap (λ (x : List ℕ). x ++ content) same)
 
 pub part_is : {A : Type 0} (o : Option A) (x : A) → part_there o ≡ Ok x → o ≡ Some x
@@ -114,7 +115,8 @@ secured a mode m h fits e enough =
       blocks = length-take-le n (drop h.len m) (omega (arith, length-drop h.len m));
     }
 
-pub read_again : (a : Address) (mode : ℕ) (m : List ℕ) (h : Tpl) (encrypted rest : List ℕ) → IsSecured a mode m h encrypted rest → Read a mode m h encrypted rest
+pub read_again : (a : Address) (mode : ℕ) (m : List ℕ) (h : Tpl) (encrypted rest : List ℕ) → IsSecured a mode m h encrypted rest
+    → Read a mode m h encrypted rest
 read_again a mode m h encrypted rest s =
     let n : ℕ = 16 * blocks_of h.cf in
     let behind : drop h.len m ≡ encrypted ++ rest = rest_at m h s.header.begins ∙ s.parts in
@@ -175,7 +177,8 @@ opened5_again c m f k =
     let payload : f.payload ≡ decrypted5 c h m ++ rest_of h m = k.payload ∙ sym (ap₂ (λ (x y : List ℕ). x ++ y) plain r.rest_is) in
     let checked : check_bytes_passed (decrypted5 c h m) ≡ passed = ap check_bytes_passed plain in
     let made : Found = record { counter = h.acc; access = access_in_configuration h.cf; payload = decrypted5 c h m ++ rest_of h m } in
-    rw (r.header, r.blocks, some) (then_found _ made checked ∙ found_is h.acc (access_in_configuration h.cf) (decrypted5 c h m ++ rest_of h m) f k.counter k.access payload)
+    rw (r.header, r.blocks, some) (then_found _ made checked
+    ∙ found_is h.acc (access_in_configuration h.cf) (decrypted5 c h m ++ rest_of h m) f k.counter k.access payload)
 
 pub checked_are_opened : CheckedAreOpened
 checked_are_opened c m f fits = (checked5 c m f fits, opened5_again c m f)
@@ -224,10 +227,12 @@ genuine7 c auth m f fits e =
     let enough = bind_ok (blocks_passed h m) _ f derivation.2 in
     let key : List ℕ = mac_key c h s.counter in
     let mac = bind_ok (mac_passed key s m) _ f enough.2 in
-    let made : Found = record { counter = s.counter; access = access.None; payload = decrypted7 (cipher_key c h s.counter) h m ++ rest_of h m } in
+    let made : Found =
+    record { counter = s.counter; access = access.None; payload = decrypted7 (cipher_key c h s.counter) h m ++ rest_of h m } in
     let same : made ≡ f = cc mac.2 in
     let is = signed auth s signature.1 in
-    let mac_is : mac_of key s.mcl s.counter s.ml m ≡ s.mac = (bytes_eq-Decides _ _).0 (if_passed (bytes_eq (mac_of key s.mcl s.counter s.ml m) s.mac) BadMac mac.1) in
+    let mac_is : mac_of key s.mcl s.counter s.ml m ≡ s.mac =
+    (bytes_eq-Decides _ _).0 (if_passed (bytes_eq (mac_of key s.mcl s.counter s.ml m) s.mac) BadMac mac.1) in
     subst (Genuine7 c auth m) same (record {
       header = h;
       encrypted = encrypted_of h m;
@@ -243,7 +248,8 @@ genuine7 c auth m f fits e =
       payload = refl;
     })
 
-pub signature_again : (auth : Auth) (mcl counter : ℕ) (mac : List ℕ) → auth.mcl ≡ Some mcl → auth.mcr ≡ Some counter → auth.mac ≡ Some mac → mcl % 16 ≡ 5
+pub signature_again : (auth : Auth) (mcl counter : ℕ) (mac : List ℕ) → auth.mcl ≡ Some mcl → auth.mcr ≡ Some counter → auth.mac ≡ Some mac
+    → mcl % 16 ≡ 5
     → signature_of auth ≡ Ok (record { mcl = mcl; counter = counter; ml = auth.ml; mac = mac })
 unfolding signature_of
 signature_again auth mcl counter mac e1 e2 e3 control = rw (e1, e2, e3, eq-eqb _ _ control) refl
@@ -259,7 +265,8 @@ opened7_again c auth m f g =
     let derivation : eqb (derivation_in h) 1 ≡ true = eq-eqb _ _ (ap (λ (x : Option ℕ). unwrap_or x 0) g.derivation) in
     let same : bytes_eq mac mac ≡ true = (bytes_eq-Decides mac mac).1 refl in
     let payload : f.payload ≡ decrypted7 key h m ++ rest_of h m = rw (r.encrypted_is, r.rest_is) g.payload in
-    rw (r.header, signature, derivation, r.blocks, same) (found_is f.counter access.None (decrypted7 key h m ++ rest_of h m) f refl g.access payload)
+    rw (r.header, signature, derivation, r.blocks, same)
+    (found_is f.counter access.None (decrypted7 key h m ++ rest_of h m) f refl g.access payload)
 
 pub genuine_are_opened : GenuineAreOpened
 genuine_are_opened c auth m f fits = (genuine7 c auth m f fits, opened7_again c auth m f)

@@ -79,7 +79,8 @@ header_refused a mode m r fits e =
                 elim (bind_err (mode_passed mode h.cf) _ r address.2) [
                   | inl other ↦
                       let test = if_refused (eqb (mode_of h.cf) mode) (Mode (mode_of h.cf) mode) r other in
-                      let cause : HeaderRefusal a mode m (Mode (mode_of h.cf) mode) = (h, begins, address_is a h.address address.1, refl, refl, eqb-false _ _ test.0) in
+                      let cause : HeaderRefusal a mode m (Mode (mode_of h.cf) mode) =
+                      (h, begins, address_is a h.address address.1, refl, refl, eqb-false _ _ test.0) in
                       subst (HeaderRefusal a mode m) test.1 cause
                   | inr both ↦ absurd (cc both.2)
                 ]
@@ -131,7 +132,8 @@ blocks_refuse m h want have s =
 
 -- ---- mode 5
 
-access_number_refused : (last : Option ℕ) (acc : ℕ) (r : Reason) → access_number_passed last acc ≡ Err r → (last ≡ Some acc) × (SameAccess acc ≡ r)
+access_number_refused : (last : Option ℕ) (acc : ℕ) (r : Reason) → access_number_passed last acc ≡ Err r
+    → (last ≡ Some acc) × (SameAccess acc ≡ r)
 access_number_refused None acc r e = absurd cc
 access_number_refused (Some l) acc r e =
     let test = unless_refused (eqb l acc) (SameAccess acc) r e in
@@ -147,7 +149,8 @@ check_bytes_refused plain r e =
     let test = if_refused (bytes_eq two (0x2F ∷ 0x2F ∷ [])) (CheckBytes two) r e in
     record { other = λ same. absurd (cc ((bytes_eq-Decides two (0x2F ∷ 0x2F ∷ [])).1 same, test.0)); reason = test.1 }
 
-check_bytes_refuse : (plain two : List ℕ) → two ≡ slice_index plain 0 ∷ slice_index plain 1 ∷ [] → two ≢ 0x2F ∷ 0x2F ∷ [] → check_bytes_passed plain ≡ Err (CheckBytes two)
+check_bytes_refuse : (plain two : List ℕ) → two ≡ slice_index plain 0 ∷ slice_index plain 1 ∷ [] → two ≢ 0x2F ∷ 0x2F ∷ []
+    → check_bytes_passed plain ≡ Err (CheckBytes two)
 check_bytes_refuse plain two is other =
     let P : List ℕ → Type 0 = λ x. bytes_eq x (0x2F ∷ 0x2F ∷ []) ≡ false in
     let test : P (slice_index plain 0 ∷ slice_index plain 1 ∷ []) = subst P is (bytes_differ two other) in
@@ -217,7 +220,8 @@ refused5 last c m r fits e =
           ]
     ]
 
-header_refuses5 : (last : Option ℕ) (c : Commissioned) (m : List ℕ) (r : Reason) → HeaderRefusal c.address 5 m r → opened5_after last c m ≡ Err r
+header_refuses5 : (last : Option ℕ) (c : Commissioned) (m : List ℕ) (r : Reason) → HeaderRefusal c.address 5 m r
+    → opened5_after last c m ≡ Err r
 unfolding opened5_after opened5
 header_refuses5 last c m r h = rw (header_refuses c.address 5 m r h) refl
 
@@ -230,7 +234,8 @@ refuses5 last c m Unchecked fits k =
 refuses5 last c m (CheckBytes two) fits k =
     let h : Tpl = k.header in
     let r = read_again c.address 5 m h k.encrypted k.rest k.message in
-    let refusal : check_bytes_passed (decrypted5 c h m) ≡ Err (CheckBytes two) = check_bytes_refuse (decrypted5 c h m) two (rw r.encrypted_is k.begin) k.other in
+    let refusal : check_bytes_passed (decrypted5 c h m) ≡ Err (CheckBytes two) =
+    check_bytes_refuse (decrypted5 c h m) two (rw r.encrypted_is k.begin) k.other in
     let made : Found = record { counter = h.acc; access = access_in_configuration h.cf; payload = decrypted5 c h m ++ rest_of h m } in
     rw (r.header, r.blocks, not_zero (blocks_of h.cf) k.some) (ap (λ (x : Passed). x >>= (λ _. found made) >>= compared5 last) refusal)
 refuses5 last c m (SameAccess acc) fits k =

@@ -54,7 +54,8 @@ signature_refused auth r e =
     ]
 
 abbrev there_by : (auth : Auth) (s : Signature) → Signed auth s → HasAuth auth
-there_by auth s is = record { mcl = s.mcl; counter = s.counter; mac = s.mac; control = is.mcl; by_cmac = is.by_cmac; counted = is.counter; signed = is.mac }
+there_by auth s is =
+    record { mcl = s.mcl; counter = s.counter; mac = s.mac; control = is.mcl; by_cmac = is.by_cmac; counted = is.counter; signed = is.mac }
 
 abbrev unsigned : Reason → Result Signature Reason
 unsigned r = Err r
@@ -70,7 +71,8 @@ signature_refuse auth lacks =
       | inr r ↦ r.1 ∙ ap unsigned (sym (signature_refused auth r.0 r.1).1)
     ]
 
-signature_there : (auth : Auth) (a : HasAuth auth) → signature_of auth ≡ Ok (record { mcl = a.mcl; counter = a.counter; ml = auth.ml; mac = a.mac })
+signature_there : (auth : Auth) (a : HasAuth auth)
+    → signature_of auth ≡ Ok (record { mcl = a.mcl; counter = a.counter; ml = auth.ml; mac = a.mac })
 signature_there auth a = signature_again auth a.mcl a.counter a.mac a.control a.counted a.signed a.by_cmac
 
 -- ---- the derivation
@@ -84,7 +86,8 @@ default_is (Some x) h = refl
 default_is None h = absurd cc
 
 -- a header of mode 7 names a derivation
-names_derivation : (c : Commissioned) (m : List ℕ) (h : Tpl) → IsFor c.address 7 m h → option_map derivation_of h.cfe ≡ Some (derivation_in h)
+names_derivation : (c : Commissioned) (m : List ℕ) (h : Tpl) → IsFor c.address 7 m h
+    → option_map derivation_of h.cfe ≡ Some (derivation_in h)
 names_derivation c m h f =
     default_is (option_map derivation_of h.cfe) (mapped_some derivation_of h.cfe (f.begins.is_header.extension ∙ eq-eqb _ _ f.in_mode))
 
@@ -99,7 +102,8 @@ derivation_refuse h d e other =
 
 -- ---- the counter
 
-counter_refused : (last : Option ℕ) (got : ℕ) (r : Reason) → counter_passed last got ≡ Err r → (before : ℕ) × (last ≡ Some before) × (got ≤ before) × (Stale got before ≡ r)
+counter_refused : (last : Option ℕ) (got : ℕ) (r : Reason) → counter_passed last got ≡ Err r
+    → (before : ℕ) × (last ≡ Some before) × (got ≤ before) × (Stale got before ≡ r)
 counter_refused None got r e = absurd cc
 counter_refused (Some before) got r e =
     let test = if_refused (ltb before got) (Stale got before) r e in
@@ -107,7 +111,8 @@ counter_refused (Some before) got r e =
 
 -- ---- what is refused has its cause
 
-from_header7 : (last : Option ℕ) (c : Commissioned) (auth : Auth) (m : List ℕ) (r : Reason) → HeaderRefusal c.address 7 m r → Refusal7 last c auth m r
+from_header7 : (last : Option ℕ) (c : Commissioned) (auth : Auth) (m : List ℕ) (r : Reason) → HeaderRefusal c.address 7 m r
+    → Refusal7 last c auth m r
 from_header7 last c auth m NoAuth h = absurd h
 from_header7 last c auth m (Kdf d) h = absurd h
 from_header7 last c auth m (ShortBlocks want have) h = absurd h
@@ -115,7 +120,8 @@ from_header7 last c auth m BadMac h = absurd h
 from_header7 last c auth m (Stale got before) h = absurd h
 from_header7 last c auth m r h = h
 
-not_opened7 : (last : Option ℕ) (c : Commissioned) (auth : Auth) (m : List ℕ) (r : Reason) → IsBytes m → opened7 c auth m ≡ Err r → Refusal7 last c auth m r
+not_opened7 : (last : Option ℕ) (c : Commissioned) (auth : Auth) (m : List ℕ) (r : Reason) → IsBytes m → opened7 c auth m ≡ Err r
+    → Refusal7 last c auth m r
 unfolding opened7
 not_opened7 last c auth m r fits e =
     let P : Reason → Type 0 = Refusal7 last c auth m in
@@ -158,7 +164,12 @@ not_opened7 last c auth m r fits e =
                                     message = secured c.address 7 m h fits read.1 enough.1;
                                     derivation = by_cmac;
                                     there = there;
-                                    other = λ same. absurd (cc ((bytes_eq-Decides mac s.mac).1 (ap (λ (x : Option ℕ). mac_of key s.mcl s.counter x m) (sym is.ml) ∙ same), test.0));
+                                    other = λ same. absurd
+                                        (cc (
+                                          (bytes_eq-Decides mac s.mac).1
+                                              (ap (λ (x : Option ℕ). mac_of key s.mcl s.counter x m) (sym is.ml) ∙ same),
+                                          test.0,
+                                        ));
                                   } in
                                   subst P test.1 cause
                               | inr all ↦ absurd (cc all.2)
@@ -168,7 +179,8 @@ not_opened7 last c auth m r fits e =
           ]
     ]
 
-refused7 : (last : Option ℕ) (c : Commissioned) (auth : Auth) (m : List ℕ) (r : Reason) → IsBytes m → opened7_after last c auth m ≡ Err r → Refusal7 last c auth m r
+refused7 : (last : Option ℕ) (c : Commissioned) (auth : Auth) (m : List ℕ) (r : Reason) → IsBytes m → opened7_after last c auth m ≡ Err r
+    → Refusal7 last c auth m r
 unfolding opened7_after compared7
 refused7 last c auth m r fits e =
     elim (bind_err (opened7 c auth m) (compared7 last) r e) [
@@ -178,7 +190,8 @@ refused7 last c auth m r fits e =
           elim (bind_err (counter_passed last f.counter) _ r opened.2) [
             | inl stale ↦
                 let s = counter_refused last f.counter r stale in
-                let cause : Refusal7 last c auth m (Stale f.counter s.0) = (f, (genuine_are_opened c auth m f fits).0 opened.1, refl, s.1, s.2) in
+                let cause : Refusal7 last c auth m (Stale f.counter s.0) =
+                (f, (genuine_are_opened c auth m f fits).0 opened.1, refl, s.1, s.2) in
                 subst (Refusal7 last c auth m) s.3 cause
             | inr both ↦ absurd (cc both.2)
           ]
@@ -186,11 +199,13 @@ refused7 last c auth m r fits e =
 
 -- ---- each cause gives its refusal
 
-header_refuses7 : (last : Option ℕ) (c : Commissioned) (auth : Auth) (m : List ℕ) (r : Reason) → HeaderRefusal c.address 7 m r → opened7_after last c auth m ≡ Err r
+header_refuses7 : (last : Option ℕ) (c : Commissioned) (auth : Auth) (m : List ℕ) (r : Reason) → HeaderRefusal c.address 7 m r
+    → opened7_after last c auth m ≡ Err r
 unfolding opened7_after opened7
 header_refuses7 last c auth m r h = rw (header_refuses c.address 7 m r h) refl
 
-refuses7 : (last : Option ℕ) (c : Commissioned) (auth : Auth) (m : List ℕ) (r : Reason) → IsBytes m → Refusal7 last c auth m r → opened7_after last c auth m ≡ Err r
+refuses7 : (last : Option ℕ) (c : Commissioned) (auth : Auth) (m : List ℕ) (r : Reason) → IsBytes m → Refusal7 last c auth m r
+    → opened7_after last c auth m ≡ Err r
 unfolding opened7_after opened7 compared7
 refuses7 last c auth m NoAuth fits k = rw (is_for c.address 7 m k.0 k.1, signature_refuse auth k.2) refl
 refuses7 last c auth m (Kdf d) fits k = rw (is_for c.address 7 m k.0 k.1, signature_there auth k.2, derivation_refuse k.0 d k.3 k.4) refl

@@ -74,9 +74,12 @@ pub record IsBefore (t : List ℕ) (ell : Option Ell) (afl : Option Afl) (rest :
 -- piece of a message is to be a transport header, whatever its CI is
 abbrev pub IsLayerFault : List ℕ → LayerFault → Type 0
 IsLayerFault t (faults.Ell f) = HasExtensionCi (drop 10 t) × extension.IsEllFault (drop 10 t) f
-IsLayerFault t (faults.Afl f) = (ell : Option Ell) × (rest : List ℕ) × ExtensionThen (drop 10 t) ell rest × HasFragmentationCi rest × fragmentation.IsAflFault rest f
+IsLayerFault t (faults.Afl f) =
+    (ell : Option Ell) × (rest : List ℕ) × ExtensionThen (drop 10 t) ell rest
+    × HasFragmentationCi rest × fragmentation.IsAflFault rest f
 IsLayerFault t (faults.Tpl f) =
-    (ell : Option Ell) × (afl : Option Afl) × (rest : List ℕ) × IsBefore t ell afl rest × (has_piece afl ≡ false) × transport.IsTplFault rest f
+    (ell : Option Ell) × (afl : Option Afl) × (rest : List ℕ) × IsBefore t ell afl rest
+    × (has_piece afl ≡ false) × transport.IsTplFault rest f
 
 -- ---- reading from left to right, with the first fault
 
@@ -91,7 +94,8 @@ fragmentation_len (Some a) = a.len
 -- the extension of the link layer, where the bytes begin with one of its four CIs
 abbrev pub extension_in : List ℕ → Result (Option Ell) LayerFault
 extension_in [] = Ok None
-extension_in (ci ∷ rest) = if nat_le 0x8C ci && nat_le ci 0x8F then result_map_both Some faults.Ell (extension.ell_at (ci ∷ rest)) else Ok None
+extension_in (ci ∷ rest) =
+    if nat_le 0x8C ci && nat_le ci 0x8F then result_map_both Some faults.Ell (extension.ell_at (ci ∷ rest)) else Ok None
 
 -- the header of the authentication and fragmentation layer, where the bytes begin with its CI
 abbrev pub fragmentation_in : List ℕ → Result (Option Afl) LayerFault

@@ -149,7 +149,9 @@ header_for a mode m = do
 
 -- fewer bytes behind the header than its blocks have
 abbrev pub blocks_passed : Tpl → List ℕ → Passed
-blocks_passed h m = if nat_lt (length m - h.len) (16 * blocks_of h.cf) then Err (ShortBlocks (16 * blocks_of h.cf) (length m - h.len)) else Ok tt
+blocks_passed h m =
+    if nat_lt (length m - h.len) (16 * blocks_of h.cf) then Err (ShortBlocks (16 * blocks_of h.cf) (length m - h.len))
+    else Ok tt
 
 -- mode 5: no block at all
 abbrev pub some_passed : ℕ → Passed

@@ -16,7 +16,9 @@ use Rattle.message_check.specs.Opening.{Found, initialization_vector, mac_key, m
 abbrev pub HeaderRefusal : Address → ℕ → List ℕ → Reason → Type 0
 HeaderRefusal a mode m (BadMessage f) = IsTplFault m f
 HeaderRefusal a mode m (OtherAddress found) = (h : Tpl) × BeginsWithTpl m h × (h.address ≡ Some found) × (found ≢ a)
-HeaderRefusal a mode m (Mode found wanted) = (h : Tpl) × BeginsWithTpl m h × IfSome h.address (λ named. named ≡ a) × (found ≡ mode_of h.cf) × (wanted ≡ mode) × (found ≢ wanted)
+HeaderRefusal a mode m (Mode found wanted) =
+    (h : Tpl) × BeginsWithTpl m h × IfSome h.address (λ named. named ≡ a)
+    × (found ≡ mode_of h.cf) × (wanted ≡ mode) × (found ≢ wanted)
 HeaderRefusal a mode m r = ⊥
 
 -- fewer bytes behind the header than its blocks have
@@ -32,7 +34,8 @@ pub record HasOtherCheckBytes (c : Commissioned) (m two : List ℕ) : Type 0 whe
   pub rest : List ℕ
   pub message : IsSecured c.address 5 m header encrypted rest
   pub some : 0 < blocks_of header.cf
-  pub begin : (let plain : List ℕ = cbc_decrypted c.key (initialization_vector c.address header.acc) encrypted in two ≡ slice_index plain 0 ∷ slice_index plain 1 ∷ [])
+  pub begin : (let plain : List ℕ = cbc_decrypted c.key (initialization_vector c.address header.acc) encrypted in
+      two ≡ slice_index plain 0 ∷ slice_index plain 1 ∷ [])
   pub other : two ≢ 0x2F ∷ 0x2F ∷ []
 
 -- why a message of mode 5 is refused
@@ -45,7 +48,8 @@ Refusal5 last c m r = HeaderRefusal c.address 5 m r
 
 -- in mode 5 each refusal comes exactly where its cause is the first
 abbrev pub RefusedExactly5 : Type 0
-RefusedExactly5 = (last : Option ℕ) (c : Commissioned) (m : List ℕ) (r : Reason) → IsBytes m → (opened5_after last c m ≡ Err r) ↔ Refusal5 last c m r
+RefusedExactly5 = (last : Option ℕ) (c : Commissioned) (m : List ℕ) (r : Reason) → IsBytes m
+    → (opened5_after last c m ≡ Err r) ↔ Refusal5 last c m r
 
 -- the authentication is there: message control, message counter and MAC, by AES-CMAC-128 cut to eight bytes
 pub record HasAuth (auth : Auth) : Type 0 where
@@ -70,12 +74,15 @@ pub record IsForged (c : Commissioned) (auth : Auth) (m : List ℕ) : Type 0 whe
 -- why a message of mode 7 is refused
 abbrev pub Refusal7 : Option ℕ → Commissioned → Auth → List ℕ → Reason → Type 0
 Refusal7 last c auth m NoAuth = (h : Tpl) × IsFor c.address 7 m h × (¬ HasAuth auth)
-Refusal7 last c auth m (Kdf found) = (h : Tpl) × IsFor c.address 7 m h × HasAuth auth × (option_map derivation_of h.cfe ≡ Some found) × (found ≢ 1)
-Refusal7 last c auth m (ShortBlocks want have) = (h : Tpl) × IsFor c.address 7 m h × HasAuth auth × (option_map derivation_of h.cfe ≡ Some 1) × IsShort m h want have
+Refusal7 last c auth m (Kdf found) =
+    (h : Tpl) × IsFor c.address 7 m h × HasAuth auth × (option_map derivation_of h.cfe ≡ Some found) × (found ≢ 1)
+Refusal7 last c auth m (ShortBlocks want have) =
+    (h : Tpl) × IsFor c.address 7 m h × HasAuth auth × (option_map derivation_of h.cfe ≡ Some 1) × IsShort m h want have
 Refusal7 last c auth m BadMac = IsForged c auth m
 Refusal7 last c auth m (Stale got before) = (f : Found) × Genuine7 c auth m f × (f.counter ≡ got) × (last ≡ Some before) × (got ≤ before)
 Refusal7 last c auth m r = HeaderRefusal c.address 7 m r
 
 -- in mode 7 each refusal comes exactly where its cause is the first
 abbrev pub RefusedExactly7 : Type 0
-RefusedExactly7 = (last : Option ℕ) (c : Commissioned) (auth : Auth) (m : List ℕ) (r : Reason) → IsBytes m → (opened7_after last c auth m ≡ Err r) ↔ Refusal7 last c auth m r
+RefusedExactly7 = (last : Option ℕ) (c : Commissioned) (auth : Auth) (m : List ℕ) (r : Reason) → IsBytes m
+    → (opened7_after last c auth m ≡ Err r) ↔ Refusal7 last c auth m r

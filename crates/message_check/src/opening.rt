@@ -86,7 +86,8 @@ pub(crate) fn check_blocks(tpl: &Tpl, message: &[u8]) -> Result<(), Reason>
 // Decrypts the blocks behind the header in place.
 pub(crate) fn decrypt(keys: &Keys, iv: &[u8; 16], tpl: &Tpl, message: &mut [u8])
     requires { tpl.now.len + 16 * blocks_of tpl.now.cf ≤ length message.old }
-    ensures payload { drop tpl.now.len message.new ≡ cbc_decrypted keys.now iv.now (encrypted_of tpl.now message.old) ++ rest_of tpl.now message.old }
+    ensures payload { drop tpl.now.len message.new
+        ≡ cbc_decrypted keys.now iv.now (encrypted_of tpl.now message.old) ++ rest_of tpl.now message.old }
     ensures front { take tpl.now.len message.new ≡ take tpl.now.len message.old }
     ensures long { length (cbc_decrypted keys.now iv.now (encrypted_of tpl.now message.old)) ≡ 16 * blocks_of tpl.now.cf }
 {

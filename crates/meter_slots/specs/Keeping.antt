@@ -1,5 +1,5 @@
 -- Words of private contracts: what a slot keeps beside its journal, and what its steps answer.
-use Rattle.std.specs.Prelude.{ℕ, ◌≡◌, ◌+◌, ◌≤◌, min, true, if◌then◌else◌, List, ◌++◌, length, reverse, Option, Some, None, option_map}
+use Rattle.std.specs.Prelude.{ℕ, ◌≡◌, ◌+◌, ◌-◌, ◌≤◌, drop, min, true, if◌then◌else◌, List, ◌++◌, length, reverse, Option, Some, None, option_map}
 use Rattle.std.specs.Prelude.{Result, Ok, Err}
 use Rattle.std.specs.List.{All}
 use Rattle.std.specs.Option.{ForSome}
@@ -110,12 +110,12 @@ most_joined afl parts bytes = if has_piece afl then held_bytes parts + length by
 -- the same of a telegram with these layers, or the first refusal
 abbrev pub most_brought : Result Layers Reason → List HeldPart → List ℕ → ℕ
 most_brought (Err reason) parts t = 0
-most_brought (Ok l) parts t = most_joined l.afl parts t
+most_brought (Ok l) parts t = most_joined l.afl parts (drop l.body t)
 
 -- so much room is enough for the payload of what a telegram stores, since a message has at most 4,096 bytes
 abbrev pub room_for : Result Layers Reason → List HeldPart → List ℕ → ℕ
 room_for (Err reason) parts t = 0
-room_for (Ok l) parts t = if has_piece l.afl then min (held_bytes parts) 4096 + length t else length t
+room_for (Ok l) parts t = if has_piece l.afl then min (held_bytes parts) 4096 + (length t - l.body) else length t - l.body
 
 -- what is opened stands in the buffer, is a number of the meter's mode, and has no more bytes than the room
 abbrev pub OpenedFits : Mode → List ℕ → ℕ → Option Opened → Type 0

@@ -4,5 +4,6 @@ pub mod Journal
 pub mod Keeping
 pub mod Kept
 pub mod Laws
+pub mod Sending
 pub mod Telling
 pub mod World

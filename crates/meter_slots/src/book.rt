@@ -5,9 +5,11 @@ ghost use Rattle.aes_block.specs.Block.{IsBlock};
 use crate::entry::{Entry, Event, Outcome};
 use crate::kept::KeptEvent;
 use crate::reading::Reading;
+use crate::sent::take_room;
 use crate::standing::Standing;
 use access_window::Window;
 use command_queue::Queue;
+use downlink_maker::Downlink;
 use meter_address::{Address, Commission};
 use outer_io::Memory;
 use std::alloc::Global;
@@ -22,6 +24,8 @@ pub struct SlotBook {
     standing: Standing,
     entries: Vec<Entry>,
     readings: Vec<Reading>,
+    // Room for the next downlink in an entry.
+    room: Vec<Downlink>,
 }
 
 impl Model for SlotBook {
@@ -66,9 +70,10 @@ impl SlotBook {
             alloc,
             own,
             opening: commission,
-            standing: Standing::new(commission),
+            standing: Standing::new(alloc, commission),
             entries: Vec::new(alloc),
             readings: Vec::new(alloc),
+            room: Vec::new(alloc),
         }
     }
 
@@ -141,6 +146,7 @@ impl SlotBook {
         self.entries.reserve(1)?;
         self.readings.reserve(1)?;
         let kept = KeptEvent::new(self.alloc, &event)?;
+        let mut room = take_room(self.alloc, &mut self.room)?;
         event.show_payload();
         let served = self.standing.answer(self.alloc, self.own, &event)?;
         note(&mut self.readings, served.reading);
@@ -148,8 +154,9 @@ impl SlotBook {
             source,
             line,
             event: kept,
-            outcome: served.outcome.copied(),
+            outcome: served.outcome.copied(self.alloc, &mut room),
         });
+        self.room = room;
         Ok(served.outcome)
     }
 }

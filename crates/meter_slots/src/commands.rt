@@ -6,11 +6,13 @@ ghost use Rattle.meter_slots.specs.Journal.{downlink_with};
 
 use crate::entry::Outcome;
 use crate::hearing::Judged;
+use crate::sent::SentDownlink;
 use access_window::Window;
 use command_queue::{Queue, QueueFault};
 use downlink_maker::{Downlink, make_downlink};
 use message_check::Reason;
 use meter_address::{Address, Commission, Payload};
+use std::alloc::Global;
 use std::marker::Model;
 
 /// The commands that wait, the window in which one of them waits for a response, and the last counter of a downlink.
@@ -50,12 +52,13 @@ fn downlink_now(
 }
 
 impl Commands {
-    ghost use Rattle.std.specs.Prelude.{◌≡◌, ℕ, List, option_map};
+    ghost use Rattle.std.specs.Prelude.{◌≡◌, ℕ, List, option_map, vec_capacity};
     ghost use Rattle.command_queue.specs.Pending.{put_answer, take_answer};
     ghost use Rattle.access_window.specs.Orders.{after_put, after_cancel, expired, after_tick};
     ghost use Rattle.access_window.specs.Moves.{fresh_orders};
     ghost use Rattle.meter_slots.specs.Journal.{heard, queued, cancelled, orders_heard, stored_counter};
     ghost use Rattle.meter_slots.specs.Keeping.{verdict_as, stored_by};
+    ghost use Rattle.meter_slots.specs.Sending.{IsRoom};
 
     // No command waits yet.
     pub(crate) fn new(ids: u32, down: u32) -> Commands
@@ -119,14 +122,17 @@ impl Commands {
         Outcome::Ticked { expired }
     }
 
-    // A message was judged: one that is stored moves the commands.
+    // A message was judged: one that is stored moves the commands. The downlink stands in room that was taken before.
     pub(crate) fn hear(
         &mut self,
+        alloc: Global,
         own: Address,
         commission: &Commission,
         judged: &Judged,
         response: bool,
+        room: &mut Vec<Downlink>,
     ) -> Outcome
+        requires { IsRoom room.old.items (vec_capacity room.old) }
         ensures outcome { (bytes : List ℕ)
             → result ≡ heard own commission.now self.old judged.now.access response (verdict_as bytes judged.now.verdict) }
         ensures after { self.new ≡ orders_heard self.old judged.now.access response result }
@@ -139,10 +145,11 @@ impl Commands {
                 let moved = self
                     .window
                     .uplink(&mut self.queue, judged.access, response, &mut self.down);
+                let downlink = downlink_now(own, commission, &self.queue, moved.send, self.down);
                 Outcome::Stored {
                     counter: opened.counter,
                     confirmed: moved.confirmed,
-                    sent: downlink_now(own, commission, &self.queue, moved.send, self.down),
+                    sent: SentDownlink::new(alloc, downlink, room),
                 }
             }
         }

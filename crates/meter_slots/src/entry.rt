@@ -3,10 +3,12 @@ ghost use Rattle.std.specs.Prelude.{◌≡◌, ◌≤◌, length};
 ghost use Rattle.meter_slots.specs.Laws.{IsPayload};
 
 use crate::kept::KeptEvent;
+use crate::sent::SentDownlink;
 use downlink_maker::Downlink;
 use frame_formats::{Format, Telegram};
 use message_check::Reason;
 use meter_address::Payload;
+use std::alloc::Global;
 
 /// What comes to a slot.
 #[derive(Drop)]
@@ -62,7 +64,7 @@ pub enum Outcome {
         /// The id of the command that it confirms.
         confirmed: Option<u32>,
         /// The downlink that is sent with a command, since the meter listens now.
-        sent: Option<Downlink>,
+        sent: SentDownlink,
     },
     /// A fragment is held, and no message is whole yet.
     PartKept,
@@ -81,18 +83,13 @@ pub enum Outcome {
     Refused(Reason),
 }
 
-fn copied(sent: &Option<Downlink>) -> Option<Downlink>
-    ensures { result ≡ sent.now }
-{
-    match sent {
-        None => None,
-        Some(downlink) => Some(downlink.copied()),
-    }
-}
-
 impl Outcome {
-    /// The same outcome again.
-    pub fn copied(&self) -> Outcome
+    ghost use Rattle.std.specs.Prelude.{vec_capacity};
+    ghost use Rattle.meter_slots.specs.Sending.{IsRoom};
+
+    // The same outcome again, its downlink in room that was taken before.
+    pub(crate) fn copied(&self, alloc: Global, room: &mut Vec<Downlink>) -> Outcome
+        requires { IsRoom room.old.items (vec_capacity room.old) }
         ensures { result ≡ self.now }
     {
         match self {
@@ -103,7 +100,7 @@ impl Outcome {
             } => Outcome::Stored {
                 counter: *counter,
                 confirmed: *confirmed,
-                sent: copied(sent),
+                sent: sent.copied(alloc, room),
             },
             Outcome::PartKept => Outcome::PartKept,
             Outcome::Ticked { expired } => Outcome::Ticked { expired: *expired },

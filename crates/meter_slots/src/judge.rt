@@ -42,7 +42,8 @@ impl Model for Judge {
 fn open(mode: Mode, judge: &Judge, auth: &Auth, message: &mut Scratch) -> Result<Opened, Reason>
     requires { judge.now.commission.mode ≡ mode }
     ensures opened { IfOk result (λ o.
-        judged_in mode judge.now.commission judge.now.last (record { auth = auth.now; bytes = message.old }) ≡ Ok (found_in message.new o)) }
+        judged_in mode judge.now.commission judge.now.last (record { auth = auth.now; bytes = message.old })
+        ≡ Ok (found_in message.new o)) }
     ensures refused { IfErr result (λ r.
         judged_in mode judge.now.commission judge.now.last (record { auth = auth.now; bytes = message.old }) ≡ Err r) }
     ensures within { IfOk result (λ o. o.from ≤ length message.new) }

@@ -2,6 +2,7 @@
 use crate::entry::Event;
 use frame_formats::Format;
 use outer_io::Memory;
+use smallvec::SmallVec;
 use std::alloc::Global;
 use std::marker::Model;
 
@@ -15,11 +16,14 @@ enum Kind {
     Rekey([u8; 16]),
 }
 
-/// An event as a journal keeps it: its telegram or payload takes as many bytes as it has.
+// A telegram that carries a message of one block takes no memory of its own.
+const INLINE: usize = 56;
+
+/// An event as a journal keeps it: a telegram or payload with more than 56 bytes takes as many as it has.
 #[derive(Drop)]
 pub struct KeptEvent {
     kind: Kind,
-    bytes: Vec<u8>,
+    bytes: SmallVec<u8, INLINE>,
 }
 
 // A contract sees the event.
@@ -51,23 +55,23 @@ impl KeptEvent {
                     format: *format,
                     at: *at,
                 },
-                bytes: Vec::from_slice(alloc, telegram.bytes())?,
+                bytes: SmallVec::from_slice(alloc, telegram.bytes())?,
             }),
             Event::Tick => Ok(KeptEvent {
                 kind: Kind::Tick,
-                bytes: Vec::new(alloc),
+                bytes: SmallVec::new(alloc),
             }),
             Event::Put(payload) => Ok(KeptEvent {
                 kind: Kind::Put,
-                bytes: Vec::from_slice(alloc, payload.bytes())?,
+                bytes: SmallVec::from_slice(alloc, payload.bytes())?,
             }),
             Event::Cancel(id) => Ok(KeptEvent {
                 kind: Kind::Cancel(*id),
-                bytes: Vec::new(alloc),
+                bytes: SmallVec::new(alloc),
             }),
             Event::Rekey(key) => Ok(KeptEvent {
                 kind: Kind::Rekey(*key),
-                bytes: Vec::new(alloc),
+                bytes: SmallVec::new(alloc),
             }),
         }
     }

@@ -1,10 +1,17 @@
 //! What a meter's messages say.
+use smallvec::SmallVec;
 use std::marker::Model;
+
+// What a message of one block says takes no memory of its own.
+const INLINE: usize = 32;
+
+/// Room for bytes that are to be kept.
+pub(crate) type Room = SmallVec<u8, INLINE>;
 
 /// Bytes that are kept.
 #[derive(Drop)]
 pub struct Bytes {
-    bytes: Vec<u8>,
+    bytes: Room,
 }
 
 impl Model for Bytes {
@@ -18,8 +25,8 @@ impl Model for Bytes {
 impl Bytes {
     ghost use Rattle.std.specs.Prelude.{◌≡◌};
 
-    /// These bytes, kept.
-    pub fn from_vec(bytes: Vec<u8>) -> Bytes
+    // These bytes, kept.
+    pub(crate) fn from_room(bytes: Room) -> Bytes
         ensures { result ≡ bytes.items }
     {
         Bytes { bytes }

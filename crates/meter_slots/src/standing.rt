@@ -1,5 +1,6 @@
 //! What the entries of a slot come to, and what an event is answered by it.
-ghost use Rattle.std.specs.Prelude.{◌≡◌, ◌++◌, ℕ, List, [], length, vec_capacity, option_to_list, ◌≤◌, IfOk, OnErr};
+ghost use Rattle.std.specs.Prelude.{◌≡◌, ◌++◌, ℕ, List, [], length, option_to_list, ◌≤◌, IfOk, OnErr};
+ghost use Rattle.smallvec.specs.SmallVec.{HasRoomFor};
 ghost use Rattle.afl_fragments.specs.Held.{held_bytes};
 ghost use Rattle.meter_slots.specs.Journal.{reading_at, stored_in};
 ghost use Rattle.meter_slots.specs.Keeping.{verdict_as, room_for, VerdictHasRoom};
@@ -8,11 +9,13 @@ use crate::commands::Commands;
 use crate::entry::{Event, Outcome};
 use crate::hearing::{has_response_control, hear, receive};
 use crate::judge::{Judge, Verdict};
-use crate::reading::{Bytes, Reading};
+use crate::reading::{Bytes, Reading, Room};
+use crate::sent::take_room;
 use access_window::Window;
 use afl_fragments::Parts;
 use afl_layer::{SCRATCH_MAX, Scratch};
 use command_queue::Queue;
+use downlink_maker::Downlink;
 use frame_formats::Telegram;
 use message_check::{Layers, Reason};
 use meter_address::{Address, Commission};
@@ -28,6 +31,8 @@ pub(crate) struct Standing {
     commands: Commands,
     // The buffer in which messages are opened, from the first one on.
     message: Option<Box<Scratch>>,
+    // Room for the next downlink, from the first message on.
+    room: Vec<Downlink>,
 }
 
 impl Model for Standing {
@@ -47,12 +52,13 @@ pub(crate) struct Served {
 
 // How many bytes the payload of what a telegram stores has at most. A whole message is joined to no fragment that is held.
 fn room_needed(parts: &Parts, telegram: &Telegram, layers: &Result<Layers, Reason>) -> usize
+    requires { IfOk layers.now (λ l. l.body ≤ length telegram.now) }
     ensures { result ≡ room_for layers.now parts.now telegram.now }
 {
     match layers {
         Err(_) => 0,
         Ok(layers) => {
-            let len = telegram.bytes().len();
+            let len = telegram.bytes().len() - layers.body;
             if layers.is_fragment() {
                 parts.held_bytes().min(SCRATCH_MAX) + len
             } else {
@@ -71,21 +77,19 @@ fn take_buffer(alloc: Global, kept: &mut Option<Box<Scratch>>) -> Result<Box<Scr
 }
 
 // The bytes, in room that was taken before.
-fn fill(mut room: Vec<u8>, bytes: &[u8]) -> Vec<u8>
+fn fill(mut room: Room, bytes: &[u8]) -> Room
     requires empty { room.items ≡ [] }
-    requires fits { length bytes.now ≤ vec_capacity room }
+    requires fits { HasRoomFor room (length bytes.now) }
     ensures { result.items ≡ bytes.now }
 {
-    for byte in bytes {
-        room.push_reserved(*byte);
-    }
+    room.extend_from_slice(bytes).unwrap();
     room
 }
 
 // The reading of what is stored, which stands in the buffer, in room that was taken before.
-fn reading_from(at: u64, room: Vec<u8>, verdict: &Verdict, message: &Scratch) -> Option<Reading>
+fn reading_from(at: u64, room: Room, verdict: &Verdict, message: &Scratch) -> Option<Reading>
     requires empty { room.items ≡ [] }
-    requires within { VerdictHasRoom message.now (vec_capacity room) verdict.now }
+    requires within { VerdictHasRoom message.now room.capacity verdict.now }
     ensures { option_to_list result ≡ reading_at at (stored_in (verdict_as message.now verdict.now)) }
 {
     let Ok(Some(opened)) = verdict else {
@@ -95,7 +99,7 @@ fn reading_from(at: u64, room: Vec<u8>, verdict: &Verdict, message: &Scratch) ->
     Some(Reading {
         at,
         counter: opened.counter,
-        payload: Bytes::from_vec(fill(room, payload)),
+        payload: Bytes::from_room(fill(room, payload)),
     })
 }
 
@@ -122,7 +126,7 @@ impl Standing {
     ghost use Rattle.meter_slots.specs.Keeping.{standing_for, last_after, Moves, StoresInRange};
 
     /// Nothing came yet.
-    pub(crate) fn new(commission: Commission) -> Standing
+    pub(crate) fn new(alloc: Global, commission: Commission) -> Standing
         ensures commission { result.commission ≡ commission }
         ensures last { result.last ≡ commission.last }
         ensures fits { ForSome commission.last (λ n. n ≤ most_last commission.mode) }
@@ -134,6 +138,7 @@ impl Standing {
             parts: Parts::new(),
             commands: Commands::new(commission.ids, commission.down),
             message: None,
+            room: Vec::new(alloc),
         }
     }
 
@@ -197,16 +202,23 @@ impl Standing {
         ensures err { OnErr result (self.new ≡ self.old) }
     {
         let layers = receive(self.judge.mode(), telegram);
-        let room = Vec::with_capacity(alloc, room_needed(&self.parts, telegram, &layers))?;
+        let room = Room::with_capacity(alloc, room_needed(&self.parts, telegram, &layers))?;
         let mut message = take_buffer(alloc, &mut self.message)?;
+        let mut sent = take_room(alloc, &mut self.room)?;
         let judged = hear(&self.judge, &mut self.parts, telegram, layers, &mut message);
         let response = has_response_control(telegram.control());
-        let outcome = self
-            .commands
-            .hear(own, self.judge.commission(), &judged, response);
+        let outcome = self.commands.hear(
+            alloc,
+            own,
+            self.judge.commission(),
+            &judged,
+            response,
+            &mut sent,
+        );
         self.judge.count(&outcome);
         let reading = reading_from(at, room, &judged.verdict, &message);
         self.message = Some(message);
+        self.room = sent;
         Ok(Served { outcome, reading })
     }
 

@@ -33,8 +33,8 @@ enum Answer {
     Refused(Reason),
 }
 
-fn down_of(sent: &Option<Downlink>) -> Option<u32> {
-    match sent {
+fn down_of(sent: &SentDownlink) -> Option<u32> {
+    match sent.get() {
         None => None,
         Some(downlink) => Some(downlink.down()),
     }

@@ -17,13 +17,17 @@ place_if : (p : ℕ → Bool) (xs : List ℕ) (i : ℕ) → position_or_len p xs
 place_if p xs i is within = rw is (grind (arith, nat_tests))
 
 -- what a search for the first separator found
-pub place_of_first : (separator : ℕ) (xs : List ℕ) (r : Option ℕ) → IsFirstByte (is_byte separator) xs r → r ≡ position (λ b. b == separator) xs
+pub place_of_first : (separator : ℕ) (xs : List ℕ) (r : Option ℕ) → IsFirstByte (is_byte separator) xs r
+    → r ≡ position (λ b. b == separator) xs
 place_of_first separator xs None h =
-    let past : position_or_len (λ b. b == separator) xs ≡ length xs = position_or_len_is _ xs (length xs) 0 (omega arith) (λ k within. is_false _ (h k (omega arith) within)) (λ within. absurd (omega arith)) in
+    let past : position_or_len (λ b. b == separator) xs ≡ length xs =
+    position_or_len_is _ xs (length xs) 0 (omega arith) (λ k within. is_false _ (h k (omega arith) within))
+    (λ within. absurd (omega arith)) in
     rw past (grind (arith, nat_tests))
 place_of_first separator xs (Some i) h =
     let before = h.0 in
-    let at : position_or_len (λ b. b == separator) xs ≡ i = position_or_len_is _ xs i 0 (omega arith) (λ k below. is_false _ (before.before k (omega arith) below)) (λ _. h.1) in
+    let at : position_or_len (λ b. b == separator) xs ≡ i =
+    position_or_len_is _ xs i 0 (omega arith) (λ k below. is_false _ (before.before k (omega arith) below)) (λ _. h.1) in
     place_if _ xs i at before.high
 
 not_true : (b : Bool) → not b ≡ true → b ≡ false
@@ -43,36 +47,43 @@ cut_none p xs h =
     let past : length xs ≤ position_or_len p xs = let test = none_if _ _ h in grind (arith, nat_tests) in
     slice_split_none p xs (λ k d within. not_true _ (prefix_len_passes (λ x. not (p x)) xs k d (omega arith)))
 
-pub cut_at : {X : Type 0} (p : X → Bool) (xs : List X) (i : ℕ) → position p xs ≡ Some i → (d : X) → slice_split p xs ≡ take i xs ∷ slice_split p (drop 1 (drop i xs))
+pub cut_at : {X : Type 0} (p : X → Bool) (xs : List X) (i : ℕ) → position p xs ≡ Some i → (d : X)
+    → slice_split p xs ≡ take i xs ∷ slice_split p (drop 1 (drop i xs))
 cut_at p xs i h d =
     let found = some_if _ _ _ h in
     let within : position_or_len p xs < length xs = let test = found.0 in grind (arith, nat_tests) in
-    slice_split_first p xs d within ∙ ap (λ n. take n xs ∷ slice_split p (drop (n + 1) xs)) found.1 ∙ ap (λ ys. take i xs ∷ slice_split p ys) (sym (drop-drop 1 i xs))
+    slice_split_first p xs d within ∙ ap (λ n. take n xs ∷ slice_split p (drop (n + 1) xs)) found.1
+    ∙ ap (λ ys. take i xs ∷ slice_split p ys) (sym (drop-drop 1 i xs))
 
 -- the lines of a text that is cut at its first newline, and of one without a newline
 
-onto_rest : (x y : List ℕ) (parts more : List (List ℕ)) → parts ≡ y ∷ more → lines_of_parts (x ∷ parts) ≡ strip_carriage_return x ∷ lines_of_parts parts
+onto_rest : (x y : List ℕ) (parts more : List (List ℕ)) → parts ≡ y ∷ more
+    → lines_of_parts (x ∷ parts) ≡ strip_carriage_return x ∷ lines_of_parts parts
 onto_rest x y parts more h = ap (λ ps. lines_of_parts (x ∷ ps)) h ∙ ap (λ ps. strip_carriage_return x ∷ lines_of_parts ps) (sym h)
 
 some_part : (p : ℕ → Bool) (xs : List ℕ) → (y : List ℕ) × ((more : List (List ℕ)) × (slice_split p xs ≡ y ∷ more))
 some_part p [] = ([], ([], refl))
 some_part p (x ∷ xs) = by_test (p x) (some_part p xs)
   where
-    by_test : (b : Bool) → ((y : List ℕ) × ((more : List (List ℕ)) × (slice_split p xs ≡ y ∷ more))) → (y : List ℕ) × ((more : List (List ℕ)) × (cond b ([] ∷ slice_split p xs) (onto_first x (slice_split p xs)) ≡ y ∷ more))
+    by_test : (b : Bool) → ((y : List ℕ) × ((more : List (List ℕ)) × (slice_split p xs ≡ y ∷ more)))
+        → (y : List ℕ) × ((more : List (List ℕ)) × (cond b ([] ∷ slice_split p xs) (onto_first x (slice_split p xs)) ≡ y ∷ more))
     by_test true h = ([], (slice_split p xs, refl))
     by_test false h = (x ∷ h.0, (h.1.0, ap (onto_first x) h.1.1))
 
-pub lines_cut : (text line rest : List ℕ) → slice_split (λ b. b == 10) text ≡ line ∷ slice_split (λ b. b == 10) rest → lines text ≡ strip_carriage_return line ∷ lines rest
+pub lines_cut : (text line rest : List ℕ) → slice_split (λ b. b == 10) text ≡ line ∷ slice_split (λ b. b == 10) rest
+    → lines text ≡ strip_carriage_return line ∷ lines rest
 lines_cut text line rest h =
     let part = some_part (λ b. b == 10) rest in
     ap lines_of_parts h ∙ onto_rest line part.0 (slice_split (λ b. b == 10) rest) part.1.0 part.1.1
 
-pub lines_last : (text line : List ℕ) → slice_split (λ b. b == 10) text ≡ line ∷ [] → line ≡ text → (length text == 0) ≡ false → lines text ≡ line ∷ []
+pub lines_last : (text line : List ℕ) → slice_split (λ b. b == 10) text ≡ line ∷ [] → line ≡ text → (length text == 0) ≡ false
+    → lines text ≡ line ∷ []
 lines_last text line h whole some =
     let there : (length line == 0) ≡ false = ap (λ t. length t == 0) whole ∙ some in
     ap lines_of_parts h ∙ ap (λ b. cond b [] (line ∷ [])) there
 
-pub next_part : (separator : ℕ) (text part rest after : List ℕ) (place : ℕ) → position (λ b. b == separator) text ≡ Some place → part ≡ take place text → rest ≡ drop place text → after ≡ drop 1 rest
+pub next_part : (separator : ℕ) (text part rest after : List ℕ) (place : ℕ) → position (λ b. b == separator) text ≡ Some place
+    → part ≡ take place text → rest ≡ drop place text → after ≡ drop 1 rest
     → slice_split (λ b. b == separator) text ≡ part ∷ slice_split (λ b. b == separator) after
 next_part separator text part rest after place found front back next =
     let split : List ℕ → List (List ℕ) = slice_split (λ b. b == separator) in
@@ -91,7 +102,12 @@ parts-le (x ∷ y ∷ more) = omega (arith, parts-le (y ∷ more))
 
 pub length-lines : (text : List ℕ) → length (lines text) ≤ length text + 1
 length-lines text =
-    omega (arith, parts-le (slice_split (λ b. b == 10) text), length-slice_split (λ b. b == 10) text, count_by-le-length (λ b. b == 10) text)
+    omega (
+      arith,
+      parts-le (slice_split (λ b. b == 10) text),
+      length-slice_split (λ b. b == 10) text,
+      count_by-le-length (λ b. b == 10) text,
+    )
 
 -- no part is longer than the list that is cut
 abbrev IsWithin : {X : Type 0} → ℕ → List X → Type 0
@@ -101,7 +117,8 @@ wider : {X : Type 0} (n : ℕ) (parts : List (List X)) → AllByRecursion (IsWit
 wider n [] all = tt
 wider n (part ∷ parts) all = (omega (arith, all.0), wider n parts all.1)
 
-onto-within : {X : Type 0} (x : X) (n : ℕ) (parts : List (List X)) → AllByRecursion (IsWithin n) parts → AllByRecursion (IsWithin (suc n)) (onto_first x parts)
+onto-within : {X : Type 0} (x : X) (n : ℕ) (parts : List (List X)) → AllByRecursion (IsWithin n) parts
+    → AllByRecursion (IsWithin (suc n)) (onto_first x parts)
 onto-within x n [] all = (omega arith, tt)
 onto-within x n (part ∷ parts) all = (omega (arith, all.0), wider n parts all.1)
 

@@ -18,7 +18,8 @@ digit_is : (c : ℕ) → 48 ≤ c → c ≤ 57 → digit_value c ≡ c - 48
 digit_is c low high = grind (arith, nat_tests)
 
 -- one more digit
-next_value : (ds : List ℕ) (i : ℕ) → list_all is_ascii_digit ds ≡ true → i < length ds → digits_value 10 (take (i + 1) ds) ≡ digits_value 10 (take i ds) * 10 + (get_or ds i 0 - 48)
+next_value : (ds : List ℕ) (i : ℕ) → list_all is_ascii_digit ds ≡ true → i < length ds
+    → digits_value 10 (take (i + 1) ds) ≡ digits_value 10 (take i ds) * 10 + (get_or ds i 0 - 48)
 next_value ds i all within =
     let digit = digit_at ds i (own.to ds all) within in
     let same : digit_value (get_or ds i 0) ≡ get_or ds i 0 - 48 = digit_is (get_or ds i 0) digit.0 digit.1 in
@@ -37,13 +38,17 @@ past n most true h large = absurd (grind (arith, nat_tests))
 past n most false h large = refl
 
 -- a digit that is taken, and one that makes the value too large
-pub taken : (ds : List ℕ) (i v most w : ℕ) (r : Option ℕ) → list_all is_ascii_digit ds ≡ true → i < length ds → v ≡ digits_value 10 (take i ds) → r ≡ cond (nat_le (v * 10 + (get_or ds i 0 - 48)) most) (Some (v * 10 + (get_or ds i 0 - 48))) None → r ≡ Some w
+pub taken : (ds : List ℕ) (i v most w : ℕ) (r : Option ℕ) → list_all is_ascii_digit ds ≡ true → i < length ds
+    → v ≡ digits_value 10 (take i ds) → r ≡ cond (nat_le (v * 10 + (get_or ds i 0 - 48)) most) (Some (v * 10 + (get_or ds i 0 - 48))) None
+    → r ≡ Some w
     → (w ≡ digits_value 10 (take (i + 1) ds)) × (w ≤ most)
 taken ds i v most w r all within is given some =
     let parts = some_le (v * 10 + (get_or ds i 0 - 48)) most w _ refl (sym given ∙ some) in
     (parts.0 ∙ ap (λ n. n * 10 + (get_or ds i 0 - 48)) is ∙ sym (next_value ds i all within), parts.1)
 
-pub too_large : (ds : List ℕ) (i v most : ℕ) (r : Option ℕ) → list_all is_ascii_digit ds ≡ true → i < length ds → v ≡ digits_value 10 (take i ds) → r ≡ cond (nat_le (v * 10 + (get_or ds i 0 - 48)) most) (Some (v * 10 + (get_or ds i 0 - 48))) None → r ≡ None
+pub too_large : (ds : List ℕ) (i v most : ℕ) (r : Option ℕ) → list_all is_ascii_digit ds ≡ true → i < length ds
+    → v ≡ digits_value 10 (take i ds) → r ≡ cond (nat_le (v * 10 + (get_or ds i 0 - 48)) most) (Some (v * 10 + (get_or ds i 0 - 48))) None
+    → r ≡ None
     → None ≡ cond (nat_le (digits_value 10 ds) most) (Some (digits_value 10 ds)) None
 too_large ds i v most r all within is given none =
     let large = none_le (v * 10 + (get_or ds i 0 - 48)) most _ refl (sym given ∙ none) in
@@ -53,7 +58,8 @@ too_large ds i v most r all within is given none =
     past (digits_value 10 ds) most _ refl (omega arith)
 
 -- the number of a plain text, and of any other
-pub plain_number : (most : ℕ) (text : List ℕ) → is_plain text ≡ true → cond (nat_le (digits_value 10 text) most) (Some (digits_value 10 text)) None ≡ number_of most text
+pub plain_number : (most : ℕ) (text : List ℕ) → is_plain text ≡ true
+    → cond (nat_le (digits_value 10 text) most) (Some (digits_value 10 text)) None ≡ number_of most text
 unfolding number_of
 plain_number most text h = ap (λ b. cond (b && nat_le (digits_value 10 text) most) (Some (digits_value 10 text)) None) (sym h)
 
@@ -85,7 +91,8 @@ both false b h = absurd cc
 plain_decimal : (n : ℕ) → n < 2 ^ 64 → is_plain (decimal n) ≡ true
 plain_decimal n small =
     let no_zero : get_or (decimal n) 0 0 ≡ 48 → length (decimal n) ≡ 1 = λ zero. one n small zero in
-    ap (λ b. b && (length (decimal n) == 1 || nat_lt 1 (length (decimal n)) && not (get_or (decimal n) 0 0 == 48))) (digits_decimal own n small)
+    ap (λ b. b && (length (decimal n) == 1 || nat_lt 1 (length (decimal n)) && not (get_or (decimal n) 0 0 == 48)))
+    (digits_decimal own n small)
     ∙ lead (length (decimal n)) (get_or (decimal n) 0 0) (decimal_nonempty n small) no_zero
   where
     one : (n : ℕ) → n < 2 ^ 64 → get_or (decimal n) 0 0 ≡ 48 → length (decimal n) ≡ 1
@@ -98,9 +105,11 @@ decimal_of_plain text plain small =
     let front = led (length text) (get_or text 0 0) parts.1 in
     sym (decimal-digits_value own text parts.0 front.0 front.1 small)
 
-pub written : (most : ℕ) (text : List ℕ) → most < 2 ^ 64 → (b : Bool) → is_plain text ≡ b → (r : Option ℕ) → r ≡ cond (b && nat_le (digits_value 10 text) most) (Some (digits_value 10 text)) None
+pub written : (most : ℕ) (text : List ℕ) → most < 2 ^ 64 → (b : Bool) → is_plain text ≡ b → (r : Option ℕ)
+    → r ≡ cond (b && nat_le (digits_value 10 text) most) (Some (digits_value 10 text)) None
     → MatchOption r ((n : ℕ) → n ≤ most → text ≢ decimal n) (λ n. (n ≤ most) × (text ≡ decimal n))
-written most text small false plain None is = λ n low same. absurd (let e = sym plain ∙ ap is_plain same ∙ plain_decimal n (omega arith) in cc)
+written most text small false plain None is =
+    λ n low same. absurd (let e = sym plain ∙ ap is_plain same ∙ plain_decimal n (omega arith) in cc)
 written most text small false plain (Some n) is = absurd cc
 written most text small true plain None is = λ n low same.
     let large = none_le (digits_value 10 text) most _ refl (sym is) in

@@ -5,7 +5,7 @@ mod numbers;
 mod parts;
 
 pub use numbers::read_number;
-pub use parts::{Fields, TextLines};
+pub use parts::{Fields, TextLines, first_place};
 
 #[cfg(test)]
 mod tests;

@@ -54,7 +54,8 @@ fn value_up_to(digits: &[u8], most: u64) -> Option<u64>
     Some(value)
 }
 
-/// The number that a text writes in decimal digits, without a sign and with no leading zero but that of `0` itself, if it is at most `most`.
+/// The number that a text writes in decimal digits, without a sign and with no leading zero but that of `0` itself, if it is
+/// at most `most`.
 pub fn read_number(text: &[u8], most: u64) -> Option<u64>
     ensures exact { result ≡ number_of most text.now }
 

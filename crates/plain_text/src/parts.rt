@@ -7,9 +7,9 @@ ghost use Rattle.plain_text.specs.Cuts.{IsLastPart, IsNextPart};
 use memchr::memchr;
 use std::marker::Model;
 
-// The place of the first separator.
+/// The place of the first separator, counted in bytes from 0; none where the text has none.
 #[tactic(auto, using(crate::proofs::Cuts::place_of_first))]
-fn first_place(text: &[u8], separator: u8) -> Option<usize>
+pub fn first_place(text: &[u8], separator: u8) -> Option<usize>
     ensures { result ≡ position (λ b. b == separator) text.now }
 {
     memchr(separator, text)
@@ -75,7 +75,8 @@ impl<'a> Iterator for Fields<'a> {
 
 /// The lines of a text that are still to come.
 ///
-/// A line ends with a newline, or at the end of the text if it isn't empty there. One carriage return before the newline is dropped.
+/// A line ends with a newline, or at the end of the text if it isn't empty there. One carriage return before the newline is
+/// dropped.
 #[derive(Debug, Drop)]
 pub struct TextLines<'a> {
     rest: &'a [u8],

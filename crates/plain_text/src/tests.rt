@@ -1,5 +1,5 @@
 //! Texts cut into lines and fields, and numbers at their limits. What is expected was written by hand.
-use crate::{Fields, TextLines, read_number};
+use crate::{Fields, TextLines, first_place, read_number};
 use std::test::Fail;
 
 #[test]
@@ -21,6 +21,7 @@ fn each_single_space_parts_two_fields(rt: HostRuntime) -> Result<(), Fail> {
     assert_eq!(rt; fields.next(), Some(b"1".as_slice()));
     assert_eq!(rt; fields.next(), Some(b"".as_slice()));
     assert_eq!(rt; fields.next(), None);
+    assert_eq!(rt; first_place(b"A  1 ", b' '), Some(1));
     Ok(())
 }
 

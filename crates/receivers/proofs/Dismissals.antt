@@ -28,18 +28,29 @@ each_last P (y ∷ ys) x h = let rest = each_last P ys x h.1 in ((h.0, rest.0), 
 
 module _ {O P : Type 0} where
   -- the crews that are gone, whose passes were joined, behind those that are left
-  pub record IsDismissed (all left : List (Crew O P)) (before after : List (Shown O Event Outcome)) (s s' : Shown P Address Unit) : Type 0 where
+  pub record IsDismissed (all left : List (Crew O P)) (before after : List (Shown O Event Outcome))
+      (s s' : Shown P Address Unit) : Type 0 where
     pub gone : List (Crew O P)
     pub all_are : all ≡ left ++ gone
     pub joined : HaveAllJoined gone before after s s'
 
-  pub none_gone : (all : List (Crew O P)) (roots : List (Shown O Event Outcome)) (s : Shown P Address Unit) → IsDismissed all all roots roots s s
-  none_gone all roots s = record { gone = []; all_are = sym (append-nil all); joined = record { as_many = refl; each = λ k d l. joined_none (slice_index_or roots k d); stranger = joined_none s } }
+  pub none_gone : (all : List (Crew O P)) (roots : List (Shown O Event Outcome)) (s : Shown P Address Unit)
+      → IsDismissed all all roots roots s s
+  none_gone all roots s =
+      record {
+        gone = [];
+        all_are = sym (append-nil all);
+        joined =
+            record { as_many = refl; each = λ k d l. joined_none (slice_index_or roots k d); stranger = joined_none s };
+      }
 
-  pub all_gone : (all left : List (Crew O P)) (before after : List (Shown O Event Outcome)) (s s' : Shown P Address Unit) → left ≡ [] → IsDismissed all left before after s s' → HaveAllJoined all before after s s'
-  all_gone all left before after s s' none h = subst (λ (l : List (Crew O P)). HaveAllJoined l before after s s') (sym (h.all_are ∙ ap (λ l. l ++ h.gone) none)) h.joined
+  pub all_gone : (all left : List (Crew O P)) (before after : List (Shown O Event Outcome)) (s s' : Shown P Address Unit) → left ≡ []
+      → IsDismissed all left before after s s' → HaveAllJoined all before after s s'
+  all_gone all left before after s s' none h =
+      subst (λ (l : List (Crew O P)). HaveAllJoined l before after s s') (sym (h.all_are ∙ ap (λ l. l ++ h.gone) none)) h.joined
 
-  pub one_gone : (all left left' : List (Crew O P)) (c : Crew O P) (before roots roots' : List (Shown O Event Outcome)) (s t t' : Shown P Address Unit) → left ≡ left' ++ c ∷ [] → IsDismissed all left before roots s t
+  pub one_gone : (all left left' : List (Crew O P)) (c : Crew O P) (before roots roots' : List (Shown O Event Outcome))
+      (s t t' : Shown P Address Unit) → left ≡ left' ++ c ∷ [] → IsDismissed all left before roots s t
       → HaveJoined roots roots' c.passes → HasJoined t c.stranger_pass t' → IsDismissed all left' before roots' s t'
   one_gone all left left' c before roots roots' s t t' left_is h j sj = record {
     gone = c ∷ h.gone;
@@ -51,14 +62,17 @@ module _ {O P : Type 0} where
     };
   }
 
-  pub can_join_last : (cells : List (CellShown O)) (strangers : CellShown P) (left left' : List (Crew O P)) (c : Crew O P) → left ≡ left' ++ c ∷ [] → Each (CanJoin cells strangers) left → Each (CanJoin cells strangers) left' × CanJoin cells strangers c
+  pub can_join_last : (cells : List (CellShown O)) (strangers : CellShown P) (left left' : List (Crew O P)) (c : Crew O P)
+      → left ≡ left' ++ c ∷ [] → Each (CanJoin cells strangers) left → Each (CanJoin cells strangers) left' × CanJoin cells strangers c
   can_join_last cells strangers left left' c e h = each_last (CanJoin cells strangers) left' c (subst (Each (CanJoin cells strangers)) e h)
 
 pub map_last : {W X : Type 0} (f : W → X) (ws ws' : List W) (w : W) → ws ≡ ws' ++ w ∷ [] → map f ws ≡ map f ws' ++ f w ∷ []
 map_last f ws ws' w e = ap (map f) e ∙ map-append f ws' (w ∷ [])
 
-pub back_more : {W X : Type 0} (f : W → X) (ws ws' : List W) (w : W) (old new all : List X) → ws ≡ ws' ++ w ∷ [] → new ≡ f w ∷ old → map f ws ++ old ≡ all → map f ws' ++ new ≡ all
-back_more f ws ws' w old new all e new_is h = ap (λ l. map f ws' ++ l) new_is ∙ (sym (append_assoc (map f ws') (f w ∷ []) old) ∙ (ap (λ l. l ++ old) (sym (map_last f ws ws' w e)) ∙ h))
+pub back_more : {W X : Type 0} (f : W → X) (ws ws' : List W) (w : W) (old new all : List X) → ws ≡ ws' ++ w ∷ [] → new ≡ f w ∷ old
+    → map f ws ++ old ≡ all → map f ws' ++ new ≡ all
+back_more f ws ws' w old new all e new_is h = ap (λ l. map f ws' ++ l) new_is
+    ∙ (sym (append_assoc (map f ws') (f w ∷ []) old) ∙ (ap (λ l. l ++ old) (sym (map_last f ws ws' w e)) ∙ h))
 
 pub nothing_left : {X : Type 0} (xs : List X) → length xs ≡ 0 → xs ≡ []
 nothing_left [] e = refl

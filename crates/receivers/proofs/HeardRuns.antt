@@ -16,9 +16,11 @@ module _ (directory : List Address) where
   heard_lines [] [] h = []
   heard_lines [] (p ∷ parts) h = absurd h
   heard_lines (run ∷ runs) [] h = absurd h
-  heard_lines (run ∷ runs) (p ∷ parts) h = record { lines = lines_of (hearing_of run h.0.how); ended = h.0.how } ∷ heard_lines runs parts h.1
+  heard_lines (run ∷ runs) (p ∷ parts) h =
+      record { lines = lines_of (hearing_of run h.0.how); ended = h.0.how } ∷ heard_lines runs parts h.1
 
-  has_taken : (run : ReceiverRun) (p : Part) (h : HasRun directory run p) → IsKnown run → HasTaken directory run (record { lines = lines_of (hearing_of run h.how); ended = h.how })
+  has_taken : (run : ReceiverRun) (p : Part) (h : HasRun directory run p) → IsKnown run
+      → HasTaken directory run (record { lines = lines_of (hearing_of run h.how); ended = h.how })
   has_taken run p h known = record {
     ended = h.ended;
     lines = h.has_heard.ending known;
@@ -28,13 +30,15 @@ module _ (directory : List Address) where
     no_loss = h.has_heard.no_loss known;
   }
 
-  all_taken : (runs : List ReceiverRun) (parts : List Part) (h : EachWith (HasRun directory) runs parts) → Each IsKnown runs → EachWith (HasTaken directory) runs (heard_lines runs parts h)
+  all_taken : (runs : List ReceiverRun) (parts : List Part) (h : EachWith (HasRun directory) runs parts) → Each IsKnown runs
+      → EachWith (HasTaken directory) runs (heard_lines runs parts h)
   all_taken [] [] h known = tt
   all_taken [] (p ∷ parts) h known = absurd h
   all_taken (run ∷ runs) [] h known = absurd h
   all_taken (run ∷ runs) (p ∷ parts) h known = (has_taken run p h.0 known.0, all_taken runs parts h.1 known.1)
 
-  all_told : (runs : List ReceiverRun) (parts : List Part) (h : EachWith (HasRun directory) runs parts) → Each IsKnown runs → map heard_in parts ≡ map tellings (heard_lines runs parts h)
+  all_told : (runs : List ReceiverRun) (parts : List Part) (h : EachWith (HasRun directory) runs parts) → Each IsKnown runs
+      → map heard_in parts ≡ map tellings (heard_lines runs parts h)
   all_told [] [] h known = refl
   all_told [] (p ∷ parts) h known = absurd h
   all_told (run ∷ runs) [] h known = absurd h
@@ -47,7 +51,8 @@ module _ (directory : List Address) where
   all_sent (run ∷ runs) (p ∷ parts) h = (record { how = h.0.how; ended = h.0.ended; sent = h.0.has_sent }, all_sent runs parts h.1)
 
 -- a session that was collected, where all sources are known, is one of the lines taken
-pub heard_session : (own : Address) (commissions : List Commissioned) (runs : List ReceiverRun) (world : WorldView) → Each IsKnown runs → IsCollected own commissions runs world → IsHeardSession own commissions runs world
+pub heard_session : (own : Address) (commissions : List Commissioned) (runs : List ReceiverRun) (world : WorldView) → Each IsKnown runs
+    → IsCollected own commissions runs world → IsHeardSession own commissions runs world
 heard_session own commissions runs world known c =
     let directory = map address_of commissions in
     let told = all_told directory runs c.parts c.each_run known in record {

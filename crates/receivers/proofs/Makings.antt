@@ -32,19 +32,24 @@ module _ {O C R : Type 0} where
     handed = w.handed ∙ u.handed;
   }
 
-acts-append : (source place : ℕ) (xs ys : List Answered) → acts_at source place (xs ++ ys) ≡ acts_at source place xs ++ acts_at source place ys
+acts-append : (source place : ℕ) (xs ys : List Answered)
+    → acts_at source place (xs ++ ys) ≡ acts_at source place xs ++ acts_at source place ys
 acts-append source place xs ys =
-    ap (map (act_by source)) (filter-append (λ (d : Answered). d.own.place == place) xs ys) ∙ map-append (act_by source) (filter (λ (d : Answered). d.own.place == place) xs) (filter (λ (d : Answered). d.own.place == place) ys)
+    ap (map (act_by source)) (filter-append (λ (d : Answered). d.own.place == place) xs ys)
+    ∙ map-append (act_by source) (filter (λ (d : Answered). d.own.place == place) xs)
+    (filter (λ (d : Answered). d.own.place == place) ys)
 
 module _ {O : Type 0} where
   pub answered_nothing : (passes : List (Shown O Event Outcome)) → HaveAnswered [] passes passes
   answered_nothing passes = record { as_many = refl; each = λ k d l. made_nothing (slice_index_or passes k d) }
 
-  pub answered_more : (xs ys : List Answered) (a b c : List (Shown O Event Outcome)) → HaveAnswered xs a b → HaveAnswered ys b c → HaveAnswered (xs ++ ys) a c
+  pub answered_more : (xs ys : List Answered) (a b c : List (Shown O Event Outcome)) → HaveAnswered xs a b → HaveAnswered ys b c
+      → HaveAnswered (xs ++ ys) a c
   answered_more xs ys a b c p q = let many = p.as_many in record {
     as_many = q.as_many ∙ p.as_many;
     each = λ k d l. let u = p.each k d l in let w = q.each k d (omega arith) in
-        subst (λ (acts : List (Act Event Outcome)). HasMade acts (slice_index_or a k d) (slice_index_or c k d)) (sym (acts-append (slice_index_or a k d).number k xs ys))
+        subst (λ (acts : List (Act Event Outcome)). HasMade acts (slice_index_or a k d) (slice_index_or c k d))
+        (sym (acts-append (slice_index_or a k d).number k xs ys))
         (made_more _ _ (slice_index_or a k d) (slice_index_or b k d) (slice_index_or c k d) u
         (subst (λ (n : ℕ). HasMade (acts_at n k ys) (slice_index_or b k d) (slice_index_or c k d)) u.same.2 w));
   }
@@ -68,13 +73,16 @@ module _ (directory : List Address) (line : ℕ) (t : Told) where
   unfolding strange_lines
   one_strange o e = one (strange_of directory) (line, t) o e
 
-pub works_nothing : {O P : Type 0} (directory : List Address) (a b : List (Shown O Event Outcome)) (s s' : Shown P Address Unit) → HaveAnswered [] a b → HasNoted [] s s' → Works directory [] [] (crew a s) (crew b s')
+pub works_nothing : {O P : Type 0} (directory : List Address) (a b : List (Shown O Event Outcome)) (s s' : Shown P Address Unit)
+    → HaveAnswered [] a b → HasNoted [] s s' → Works directory [] [] (crew a s) (crew b s')
 unfolding own_lines strange_lines
 works_nothing directory a b s s' answered noted = record { asked = refl; answered = answered; noted = noted }
 
 -- a line that is no step
-pub hears_none : {O P : Type 0} (directory : List Address) (line : ℕ) (t : Told) (c : Class) (a : List (Shown O Event Outcome)) (s : Shown P Address Unit) (tells : _) (x : List ℕ)
-    → class_by directory t ≡ c → own_by directory line t ≡ None → strange_by directory line t ≡ None → HearsLine directory line t c (Ok tt) (crew a s) (crew a s) tells x x
+pub hears_none : {O P : Type 0} (directory : List Address) (line : ℕ) (t : Told) (c : Class) (a : List (Shown O Event Outcome))
+    (s : Shown P Address Unit) (tells : _) (x : List ℕ)
+    → class_by directory t ≡ c → own_by directory line t ≡ None → strange_by directory line t ≡ None
+    → HearsLine directory line t c (Ok tt) (crew a s) (crew a s) tells x x
 hears_none directory line t c a s tells x class own strange = record {
   class_is = sym class;
   did = [];
@@ -87,34 +95,44 @@ hears_none directory line t c a s tells x class own strange = record {
 }
 
 -- a stranger's line
-pub hears_strange : {O P : Type 0} (directory : List Address) (line : ℕ) (t : Told) (address : Address) (event : Event) (a : List (Shown O Event Outcome)) (s s' : Shown P Address Unit) (tells : _) (x : List ℕ)
-    → t ≡ told.Event address event → place_of directory address ≡ None → HasNoted (record { line = line; address = address } ∷ []) s s' → HearsLine directory line t classes.Strange (Ok tt) (crew a s) (crew a s') tells x x
+pub hears_strange : {O P : Type 0} (directory : List Address) (line : ℕ) (t : Told) (address : Address) (event : Event)
+    (a : List (Shown O Event Outcome)) (s s' : Shown P Address Unit) (tells : _) (x : List ℕ)
+    → t ≡ told.Event address event → place_of directory address ≡ None → HasNoted (record { line = line; address = address } ∷ []) s s'
+    → HearsLine directory line t classes.Strange (Ok tt) (crew a s) (crew a s') tells x x
 hears_strange directory line t address event a s s' tells x is found noted = record {
   class_is = sym (ap (class_by directory) is ∙ ap class_at found);
   did = [];
   works = record {
     asked = sym (one_own directory line t None (ap (own_by directory line) is ∙ ap (own_at line event) found));
     answered = answered_nothing a;
-    noted = subst (λ (ls : List StrangeLine). HasNoted ls s s') (sym (one_strange directory line t (Some (record { line = line; address = address })) (ap (strange_by directory line) is ∙ ap (strange_at line address) found))) noted;
+    noted = subst (λ (ls : List StrangeLine). HasNoted ls s s')
+        (sym (one_strange directory line t (Some (record { line = line; address = address })) (ap (strange_by directory line) is
+        ∙ ap (strange_at line address) found))) noted;
   };
   sent_so = λ _. sym (append-nil x);
 }
 
-sends_one : (tells : _) (sent : Result Unit Failed) (d : Answered) (x y : List ℕ) → Sends tells sent d.outcome x y → SendsAll tells sent (d ∷ []) x y
+sends_one : (tells : _) (sent : Result Unit Failed) (d : Answered) (x y : List ℕ) → Sends tells sent d.outcome x y
+    → SendsAll tells sent (d ∷ []) x y
 sends_one tells (Ok _) d x y sends = λ h. sends h ∙ ap (λ (l : List ℕ). x ++ l) (sym (append-nil (sent_text d)))
 sends_one tells (Err e) d x y sends = (d, refl, sends.0, sends.1)
 
 -- a meter's own line
-pub hears_own : {O P : Type 0} (directory : List Address) (line : ℕ) (t : Told) (address : Address) (event : Event) (place : ℕ) (outcome : Outcome) (sent : Result Unit Failed) (a b : List (Shown O Event Outcome)) (s : Shown P Address Unit) (tells : _) (x y : List ℕ)
-    → t ≡ told.Event address event → place_of directory address ≡ Some place → HaveAnswered (record { own = record { place = place; line = line; event = event }; outcome = outcome } ∷ []) a b
+pub hears_own : {O P : Type 0} (directory : List Address) (line : ℕ) (t : Told) (address : Address) (event : Event) (place : ℕ)
+    (outcome : Outcome) (sent : Result Unit Failed) (a b : List (Shown O Event Outcome)) (s : Shown P Address Unit) (tells : _)
+    (x y : List ℕ)
+    → t ≡ told.Event address event → place_of directory address ≡ Some place
+    → HaveAnswered (record { own = record { place = place; line = line; event = event }; outcome = outcome } ∷ []) a b
     → Sends tells sent outcome x y → HearsLine directory line t classes.Own sent (crew a s) (crew b s) tells x y
 hears_own directory line t address event place outcome sent a b s tells x y is found answered sends = record {
   class_is = sym (ap (class_by directory) is ∙ ap class_at found);
   did = record { own = record { place = place; line = line; event = event }; outcome = outcome } ∷ [];
   works = record {
-    asked = sym (one_own directory line t (Some (record { place = place; line = line; event = event })) (ap (own_by directory line) is ∙ ap (own_at line event) found));
+    asked = sym (one_own directory line t (Some (record { place = place; line = line; event = event })) (ap (own_by directory line) is
+        ∙ ap (own_at line event) found));
     answered = answered;
-    noted = subst (λ (ls : List StrangeLine). HasNoted ls s s) (sym (one_strange directory line t None (ap (strange_by directory line) is ∙ ap (strange_at line address) found))) (made_nothing s);
+    noted = subst (λ (ls : List StrangeLine). HasNoted ls s s)
+        (sym (one_strange directory line t None (ap (strange_by directory line) is ∙ ap (strange_at line address) found))) (made_nothing s);
   };
   sent_so = sends_one tells sent (record { own = record { place = place; line = line; event = event }; outcome = outcome }) x y sends;
 }

@@ -23,7 +23,9 @@ use Rattle.receivers.specs.Told.{told_of}
 
 pub numbered : {X : Type 0} (n : ℕ) (xs : List X) (x : X) → enumerate_from n (xs ++ x ∷ []) ≡ enumerate_from n xs ++ (n + length xs, x) ∷ []
 numbered n [] x = ap (λ m. (m, x) ∷ []) (sym (add-zero n))
-numbered n (y ∷ xs) x = ap (λ rest. (n, y) ∷ rest) (numbered (n + 1) xs x ∙ (let same : n + 1 + length xs ≡ n + length (y ∷ xs) = omega arith in ap (λ m. enumerate_from (n + 1) xs ++ (m, x) ∷ []) same))
+numbered n (y ∷ xs) x =
+    ap (λ rest. (n, y) ∷ rest) (numbered (n + 1) xs x
+    ∙ (let same : n + 1 + length xs ≡ n + length (y ∷ xs) = omega arith in ap (λ m. enumerate_from (n + 1) xs ++ (m, x) ∷ []) same))
 
 -- ---- first ones of a list
 
@@ -56,7 +58,8 @@ one_more : (b : Bool) (n : ℕ) → n + cond b 1 0 ≡ one_if b n
 one_more true n = refl
 one_more false n = add-zero n
 
-pub are_few : (directory : List Address) (heard : List Told) (n : Counts) → n ≡ counts_of directory heard → length heard < 2 ^ 32 - 1 → AreFew n
+pub are_few : (directory : List Address) (heard : List Told) (n : Counts) → n ≡ counts_of directory heard → length heard < 2 ^ 32 - 1
+    → AreFew n
 unfolding counts_of
 are_few directory heard n h few = subst AreFew (sym h) (record {
   room = few;
@@ -76,10 +79,13 @@ made_counts l o s u b = record { lines = l; own = o; strangers = s; unframed = u
 made : (l l' o o' s s' u u' b b' : ℕ) → l ≡ l' → o ≡ o' → s ≡ s' → u ≡ u' → b ≡ b' → made_counts l o s u b ≡ made_counts l' o' s' u' b'
 made l l' o o' s s' u u' b b' p q r t v = λ i. made_counts (p i) (q i) (r i) (t i) (v i)
 
-class_more : (is : Class → Bool) (directory : List Address) (heard : List Told) (t : Told) (n : ℕ) → n ≡ count_of is directory heard → one_if (is (class_by directory t)) n ≡ count_of is directory (heard ++ t ∷ [])
-class_more is directory heard t n h = ap (one_if (is (class_by directory t))) h ∙ (sym (one_more (is (class_by directory t)) (count_of is directory heard)) ∙ sym (count-push (λ x. is (class_by directory x)) heard t))
+class_more : (is : Class → Bool) (directory : List Address) (heard : List Told) (t : Told) (n : ℕ) → n ≡ count_of is directory heard
+    → one_if (is (class_by directory t)) n ≡ count_of is directory (heard ++ t ∷ [])
+class_more is directory heard t n h = ap (one_if (is (class_by directory t))) h
+    ∙ (sym (one_more (is (class_by directory t)) (count_of is directory heard)) ∙ sym (count-push (λ x. is (class_by directory x)) heard t))
 
-counted : (directory : List Address) (heard : List Told) (t : Told) (n : Counts) → n ≡ counts_of directory heard → with_class n (class_by directory t) ≡ counts_of directory (heard ++ t ∷ [])
+counted : (directory : List Address) (heard : List Told) (t : Told) (n : Counts) → n ≡ counts_of directory heard
+    → with_class n (class_by directory t) ≡ counts_of directory (heard ++ t ∷ [])
 unfolding counts_of
 counted directory heard t n h = made _ _ _ _ _ _ _ _ _ _
     (ap (λ (m : Counts). m.lines + 1) h ∙ sym (length-append heard (t ∷ [])))
@@ -99,14 +105,17 @@ pub record HeardSo (tells : Bool) (directory : List Address) (lines : List (List
   pub heard_is : IsTrue tells → heard ≡ map told_of lines
   pub counts_are : counts ≡ counts_of directory heard
 
-pub heard_first : (tells : Bool) (directory : List Address) (all : List (List ℕ)) (n : ℕ) (counts : Counts) → n ≡ 0 → counts ≡ no_counts → HeardSo tells directory (take n all) counts []
+pub heard_first : (tells : Bool) (directory : List Address) (all : List (List ℕ)) (n : ℕ) (counts : Counts) → n ≡ 0 → counts ≡ no_counts
+    → HeardSo tells directory (take n all) counts []
 heard_first tells directory all n counts zero_is none = record {
   heard_is = λ _. ap (λ (k : ℕ). map told_of (take k all)) (sym zero_is);
   counts_are = none ∙ counted_none directory;
 }
 
-pub heard_next : (tells : Bool) (directory : List Address) (old new : List (List ℕ)) (counts counts' : Counts) (heard : List Told) (told : Told) (class : Class)
-    → HeardSo tells directory old counts heard → (IsTrue tells → TellsNext told old new) → class ≡ class_by directory told → counts' ≡ with_class counts class → HeardSo tells directory new counts' (heard ++ told ∷ [])
+pub heard_next : (tells : Bool) (directory : List Address) (old new : List (List ℕ)) (counts counts' : Counts) (heard : List Told)
+    (told : Told) (class : Class)
+    → HeardSo tells directory old counts heard → (IsTrue tells → TellsNext told old new) → class ≡ class_by directory told
+    → counts' ≡ with_class counts class → HeardSo tells directory new counts' (heard ++ told ∷ [])
 heard_next tells directory old new counts counts' heard told class so next is more = record {
   heard_is = λ h. let n = next h in
       (λ i. so.heard_is h i ++ sym n.tells i ∷ []) ∙ (sym (map-append told_of old (n.text ∷ [])) ∙ ap (map told_of) (sym n.more));
@@ -119,8 +128,10 @@ pub record HasEnded (h : Hearing) (lines : List (List ℕ)) : Type 0 where
   pub lines_are : IsTrue h.tells → lines_of h ≡ lines
   pub ending : IsTrue h.tells → IsEnding h.ended h.source.now.taken h.source.now.left (lines_of h)
 
-pub has_heard : (directory : List Address) (h : Hearing) (lines : List (List ℕ)) (heard : List Told) → HeardSo h.tells directory lines h.counts heard → HasEnded h lines
-    → (h.ended ≡ ends.ReadFault → ReadFailed h.source) → h.source.before.faults ≤ h.source.now.faults → (IsTrue h.tells → LosesNothing h.source) → HasHeard directory h heard
+pub has_heard : (directory : List Address) (h : Hearing) (lines : List (List ℕ)) (heard : List Told)
+    → HeardSo h.tells directory lines h.counts heard → HasEnded h lines
+    → (h.ended ≡ ends.ReadFault → ReadFailed h.source) → h.source.before.faults ≤ h.source.now.faults
+    → (IsTrue h.tells → LosesNothing h.source) → HasHeard directory h heard
 has_heard directory h lines heard so ended fault later no_loss = record {
   lines = λ t. so.heard_is t ∙ ap (map told_of) (sym (ended.lines_are t));
   counts = so.counts_are;
@@ -136,14 +147,17 @@ rose_since first before now later rose = ⊎_elim (λ more. inl (omega arith)) (
 
 -- the reader gave no further line
 pub ended_told : (h : Hearing) (old : List (List ℕ)) (n : ℕ) → n ≡ h.counts.lines
-    → (IsTrue h.tells → (lines_taken n h.source.now.taken ≡ old) × IsEnding h.ended h.source.now.taken h.source.now.left (lines_taken n h.source.now.taken)) → HasEnded h old
+    → (IsTrue h.tells → (lines_taken n h.source.now.taken ≡ old)
+    × IsEnding h.ended h.source.now.taken h.source.now.left (lines_taken n h.source.now.taken)) → HasEnded h old
 ended_told h old n number given = record {
   lines_are = λ t. ap (λ (k : ℕ). lines_taken k h.source.now.taken) (sym number) ∙ (given t).0;
-  ending = λ t. subst (λ (k : ℕ). IsEnding h.ended h.source.now.taken h.source.now.left (lines_taken k h.source.now.taken)) number (given t).1;
+  ending =
+      λ t. subst (λ (k : ℕ). IsEnding h.ended h.source.now.taken h.source.now.left (lines_taken k h.source.now.taken)) number (given t).1;
 }
 
 -- it gave one more, for which there was no memory
-pub ended_memory : (directory : List Address) (h : Hearing) (old new : List (List ℕ)) (heard : List Told) (told : Told) → h.ended ≡ ends.Memory → HeardSo h.tells directory old h.counts heard
+pub ended_memory : (directory : List Address) (h : Hearing) (old new : List (List ℕ)) (heard : List Told) (told : Told)
+    → h.ended ≡ ends.Memory → HeardSo h.tells directory old h.counts heard
     → (IsTrue h.tells → TellsNext told old new) → new ≡ lines_taken (h.counts.lines + 1) h.source.now.taken → HasEnded h old
 ended_memory directory h old new heard told is so next new_is = record {
   lines_are = lines_are;
@@ -159,14 +173,17 @@ ended_memory directory h old new heard told is so next new_is = record {
 }
   where
     counted_so : IsTrue h.tells → h.counts.lines ≡ length old
-    counted_so t = let n = lines_counted directory heard h.counts so.counts_are in let long = ap length (so.heard_is t) ∙ length-map old told_of in omega arith
+    counted_so t = let n = lines_counted directory heard h.counts so.counts_are in
+        let long = ap length (so.heard_is t) ∙ length-map old told_of in omega arith
 
     lines_are : IsTrue h.tells → lines_of h ≡ old
     lines_are t = let n = next t in
-        sym (take_less h.counts.lines (all_lines h.source.now.taken)) ∙ (ap (take h.counts.lines) (sym new_is ∙ n.more) ∙ take_front old (n.text ∷ []) h.counts.lines (counted_so t))
+        sym (take_less h.counts.lines (all_lines h.source.now.taken))
+        ∙ (ap (take h.counts.lines) (sym new_is ∙ n.more) ∙ take_front old (n.text ∷ []) h.counts.lines (counted_so t))
 
 -- it gave one more, whose downlink couldn't be written
-pub ended_unsent : (h : Hearing) (old new : List (List ℕ)) (told : Told) → h.ended ≡ ends.TxFault → (IsTrue h.tells → TellsNext told old new) → new ≡ lines_of h → HasEnded h new
+pub ended_unsent : (h : Hearing) (old new : List (List ℕ)) (told : Told) → h.ended ≡ ends.TxFault
+    → (IsTrue h.tells → TellsNext told old new) → new ≡ lines_of h → HasEnded h new
 ended_unsent h old new told is next new_is = record {
   lines_are = λ t. sym new_is;
   ending = λ t. subst (λ e. IsEnding e h.source.now.taken h.source.now.left (lines_of h)) (sym is) (record {

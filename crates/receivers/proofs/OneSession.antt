@@ -22,7 +22,8 @@ use Rattle.receivers.specs.Session.{heard_by, event_at, lines_for, stranger_at, 
 
 -- ---- a world after some steps
 
-pub world_after : (own : Address) (cs : List Commissioned) (before steps : List Step) → after_steps (world_of own cs before) steps ≡ world_of own cs (before ++ steps)
+pub world_after : (own : Address) (cs : List Commissioned) (before steps : List Step)
+    → after_steps (world_of own cs before) steps ≡ world_of own cs (before ++ steps)
 world_after own cs before [] = ap (world_of own cs) (sym (append-nil before))
 world_after own cs before (s ∷ steps) =
     ap (λ w. after_steps w steps) (after_push own cs before s)
@@ -33,25 +34,30 @@ world_after own cs before (s ∷ steps) =
 map-reverse : {X Y : Type 0} (f : X → Y) (xs : List X) → map f (reverse xs) ≡ reverse (map f xs)
 map-reverse f [] = refl
 map-reverse f (x ∷ xs) =
-    ap (map f) (reverse-append (x ∷ []) xs) ∙ (map-append f (reverse xs) (x ∷ []) ∙ (ap (λ ys. ys ++ f x ∷ []) (map-reverse f xs) ∙ sym (reverse-append (f x ∷ []) (map f xs))))
+    ap (map f) (reverse-append (x ∷ []) xs)
+    ∙ (map-append f (reverse xs) (x ∷ []) ∙ (ap (λ ys. ys ++ f x ∷ []) (map-reverse f xs) ∙ sym (reverse-append (f x ∷ []) (map f xs))))
 
 judged_calls : (c : Commissioned) (own : Address) (calls : List Call) → map call_in (judged_journal c own calls) ≡ calls
 judged_calls c own [] = refl
 judged_calls c own (s ∷ calls) = ap (λ l. s ∷ l) (judged_calls c own calls)
 
 pub journal_calls : (c : Commissioned) (own : Address) (calls : List Call) → map call_in (journal_of c own calls) ≡ calls
-journal_calls c own calls = map-reverse call_in (judged_journal c own (reverse calls)) ∙ (ap reverse (judged_calls c own (reverse calls)) ∙ reverse-reverse calls)
+journal_calls c own calls = map-reverse call_in (judged_journal c own (reverse calls))
+    ∙ (ap reverse (judged_calls c own (reverse calls)) ∙ reverse-reverse calls)
 
 abbrev pub pair_of : Call → ℕ × Event
 pair_of k = (k.line, k.event)
 
-pub steps_of_calls : (w : ℕ) (journal : List Entry) → steps_by w journal ≡ map pair_of (filter (λ (k : Call). k.source == w) (map call_in journal))
+pub steps_of_calls : (w : ℕ) (journal : List Entry)
+    → steps_by w journal ≡ map pair_of (filter (λ (k : Call). k.source == w) (map call_in journal))
 steps_of_calls w [] = refl
 steps_of_calls w (x ∷ xs) = at (x.source == w) (steps_of_calls w xs)
   where
     at : (b : Bool) → steps_by w xs ≡ map pair_of (filter (λ (k : Call). k.source == w) (map call_in xs))
-        → map (λ (e : Entry). (e.line, e.event)) (cond b (x ∷ filter (λ (e : Entry). e.source == w) xs) (filter (λ (e : Entry). e.source == w) xs))
-        ≡ map pair_of (cond b (call_in x ∷ filter (λ (k : Call). k.source == w) (map call_in xs)) (filter (λ (k : Call). k.source == w) (map call_in xs)))
+        → map (λ (e : Entry). (e.line, e.event))
+        (cond b (x ∷ filter (λ (e : Entry). e.source == w) xs) (filter (λ (e : Entry). e.source == w) xs))
+        ≡ map pair_of (cond b (call_in x ∷ filter (λ (k : Call). k.source == w) (map call_in xs))
+        (filter (λ (k : Call). k.source == w) (map call_in xs)))
     at true h = ap (λ l. (x.line, x.event) ∷ l) h
     at false h = h
 
@@ -63,11 +69,19 @@ eqb_swap a b = grind (arith, nat_tests)
 abbrev calls_by : ℕ → List Step → List (ℕ × Event)
 calls_by w steps = map pair_of (filter (λ (k : Call). k.source == w) (map call_of steps))
 
-own_step : (w source line : ℕ) (address : Address) (event : Event) (mine by : Bool) (rest : List Step) (lines : List (ℕ × Event)) → (source == w) ≡ by → calls_by w rest ≡ cond by lines []
-    → calls_by w (cond mine (record { source = source; line = line; address = address; event = event } ∷ rest) rest) ≡ cond by (cons_option (cond mine (Some (line, event)) None) lines) []
-own_step w source line address event true true rest lines e h = ap (λ b. map pair_of (cond b (record { source = source; line = line; event = event } ∷ filter (λ (k : Call). k.source == w) (map call_of rest)) (filter (λ (k : Call). k.source == w) (map call_of rest)))) e
+own_step : (w source line : ℕ) (address : Address) (event : Event) (mine by : Bool) (rest : List Step) (lines : List (ℕ × Event))
+    → (source == w) ≡ by → calls_by w rest ≡ cond by lines []
+    → calls_by w (cond mine (record { source = source; line = line; address = address; event = event } ∷ rest) rest) ≡ cond by
+    (cons_option (cond mine (Some (line, event)) None) lines) []
+own_step w source line address event true true rest lines e h =
+    ap (λ b. map pair_of
+    (cond b (record { source = source; line = line; event = event } ∷ filter (λ (k : Call). k.source == w) (map call_of rest))
+    (filter (λ (k : Call). k.source == w) (map call_of rest)))) e
     ∙ ap (λ l. (line, event) ∷ l) h
-own_step w source line address event true false rest lines e h = ap (λ b. map pair_of (cond b (record { source = source; line = line; event = event } ∷ filter (λ (k : Call). k.source == w) (map call_of rest)) (filter (λ (k : Call). k.source == w) (map call_of rest)))) e
+own_step w source line address event true false rest lines e h =
+    ap (λ b. map pair_of
+    (cond b (record { source = source; line = line; event = event } ∷ filter (λ (k : Call). k.source == w) (map call_of rest))
+    (filter (λ (k : Call). k.source == w) (map call_of rest)))) e
     ∙ h
 own_step w source line address event false true rest lines e h = h
 own_step w source line address event false false rest lines e h = h
@@ -78,8 +92,10 @@ unfolding steps_among
 own_lines a w source true [] e = refl
 own_lines a w source false [] e = refl
 own_lines a w source by ((line, told.Event address event) ∷ ls) e =
-    own_step w source line address event (address.0 == a.0) by (filter (is_for a) (steps_among source ls)) (filter_map (λ l. event_at a l.0 l.1) ls) e (own_lines a w source by ls e)
-    ∙ ap (λ b. cond by (cons_option (cond b (Some (line, event)) None) (filter_map (λ l. event_at a l.0 l.1) ls)) []) (eqb_swap address.0 a.0)
+    own_step w source line address event (address.0 == a.0) by (filter (is_for a) (steps_among source ls))
+    (filter_map (λ l. event_at a l.0 l.1) ls) e (own_lines a w source by ls e)
+    ∙ ap (λ b. cond by (cons_option (cond b (Some (line, event)) None) (filter_map (λ l. event_at a l.0 l.1) ls)) [])
+    (eqb_swap address.0 a.0)
 own_lines a w source by ((line, told.Unframed) ∷ ls) e = own_lines a w source by ls e
 own_lines a w source by ((line, told.Bad) ∷ ls) e = own_lines a w source by ls e
 
@@ -88,11 +104,19 @@ own_lines a w source by ((line, told.Bad) ∷ ls) e = own_lines a w source by ls
 abbrev note_of : Heard → ℕ × Address
 note_of h = (h.line, h.address)
 
-strange_step : (w source line : ℕ) (address : Address) (event : Event) (mine by : Bool) (rest : List Step) (lines : List (ℕ × Address)) → (source == w) ≡ by → notes_by w (map heard_of rest) ≡ cond by lines []
-    → notes_by w (map heard_of (cond (not mine) (record { source = source; line = line; address = address; event = event } ∷ rest) rest)) ≡ cond by (cons_option (cond mine None (Some (line, address))) lines) []
-strange_step w source line address event false true rest lines e h = ap (λ b. map note_of (cond b (record { source = source; line = line; address = address } ∷ filter (λ (h : Heard). h.source == w) (map heard_of rest)) (filter (λ (h : Heard). h.source == w) (map heard_of rest)))) e
+strange_step : (w source line : ℕ) (address : Address) (event : Event) (mine by : Bool) (rest : List Step) (lines : List (ℕ × Address))
+    → (source == w) ≡ by → notes_by w (map heard_of rest) ≡ cond by lines []
+    → notes_by w (map heard_of (cond (not mine) (record { source = source; line = line; address = address; event = event } ∷ rest) rest))
+    ≡ cond by (cons_option (cond mine None (Some (line, address))) lines) []
+strange_step w source line address event false true rest lines e h =
+    ap (λ b. map note_of
+    (cond b (record { source = source; line = line; address = address } ∷ filter (λ (h : Heard). h.source == w) (map heard_of rest))
+    (filter (λ (h : Heard). h.source == w) (map heard_of rest)))) e
     ∙ ap (λ l. (line, address) ∷ l) h
-strange_step w source line address event false false rest lines e h = ap (λ b. map note_of (cond b (record { source = source; line = line; address = address } ∷ filter (λ (h : Heard). h.source == w) (map heard_of rest)) (filter (λ (h : Heard). h.source == w) (map heard_of rest)))) e
+strange_step w source line address event false false rest lines e h =
+    ap (λ b. map note_of
+    (cond b (record { source = source; line = line; address = address } ∷ filter (λ (h : Heard). h.source == w) (map heard_of rest))
+    (filter (λ (h : Heard). h.source == w) (map heard_of rest)))) e
     ∙ h
 strange_step w source line address event true true rest lines e h = h
 strange_step w source line address event true false rest lines e h = h
@@ -103,13 +127,16 @@ unfolding steps_among
 strange_lines cs w source true [] e = refl
 strange_lines cs w source false [] e = refl
 strange_lines cs w source by ((line, told.Event address event) ∷ ls) e =
-    strange_step w source line address event (is_commissioned cs address) by (filter (λ s. not (is_commissioned cs s.address)) (steps_among source ls)) (filter_map (λ l. stranger_at cs l.0 l.1) ls) e (strange_lines cs w source by ls e)
+    strange_step w source line address event (is_commissioned cs address) by
+    (filter (λ s. not (is_commissioned cs s.address)) (steps_among source ls)) (filter_map (λ l. stranger_at cs l.0 l.1) ls) e
+    (strange_lines cs w source by ls e)
 strange_lines cs w source by ((line, told.Unframed) ∷ ls) e = strange_lines cs w source by ls e
 strange_lines cs w source by ((line, told.Bad) ∷ ls) e = strange_lines cs w source by ls e
 
 -- ---- the session
 
-only_one : {X : Type 0} (f : List Told → List X) (w : ℕ) (heard : List Told) → f [] ≡ [] → cond (1 == w) (f heard) [] ≡ f (heard_by w (heard ∷ []))
+only_one : {X : Type 0} (f : List Told → List X) (w : ℕ) (heard : List Told) → f [] ≡ []
+    → cond (1 == w) (f heard) [] ≡ f (heard_by w (heard ∷ []))
 only_one f w heard none = at (1 == w)
   where
     at : (b : Bool) → cond b (f heard) [] ≡ f (cond b heard [])
@@ -127,11 +154,13 @@ slot_alone own c heard = record {
       ∙ (own_lines c.address w 1 (1 == w) (enumerate_from 1 heard) refl ∙ only_one (lines_for c.address) w heard refl));
 }
 
-slots_alone : (own : Address) (cs : List Commissioned) (heard : List Told) → EachWith (IsMetersSlot own (heard ∷ [])) cs (map (slot_of own (steps_of 1 heard)) cs)
+slots_alone : (own : Address) (cs : List Commissioned) (heard : List Told)
+    → EachWith (IsMetersSlot own (heard ∷ [])) cs (map (slot_of own (steps_of 1 heard)) cs)
 slots_alone own [] heard = tt
 slots_alone own (c ∷ cs) heard = (slot_alone own c heard, slots_alone own cs heard)
 
-pub session_alone : (own : Address) (cs : List Commissioned) (heard : List Told) → IsSession own cs (heard ∷ []) (world_of own cs (steps_of 1 heard))
+pub session_alone : (own : Address) (cs : List Commissioned) (heard : List Told)
+    → IsSession own cs (heard ∷ []) (world_of own cs (steps_of 1 heard))
 unfolding world_of
 session_alone own cs heard = record {
   meters = slots_alone own cs heard;
@@ -152,9 +181,11 @@ pub record IsHeardAlone (own : Address) (cs : List Commissioned) (h : Hearing) (
   pub world_is : world' ≡ world_of own cs (steps_of 1 heard)
   pub session : IsSession own cs (heard ∷ []) world'
 
-pub heard_alone : (own : Address) (cs : List Commissioned) (h : Hearing) (world world' : WorldView) → world ≡ world_of own cs [] → (x : HasHeardAlone 1 h world world') → IsHeardAlone own cs h world' x.heard
+pub heard_alone : (own : Address) (cs : List Commissioned) (h : Hearing) (world world' : WorldView) → world ≡ world_of own cs []
+    → (x : HasHeardAlone 1 h world world') → IsHeardAlone own cs h world' x.heard
 heard_alone own cs h world world' fresh x =
-    let after : world' ≡ world_of own cs (steps_of 1 x.heard) = x.world_is ∙ (ap (λ w. after_steps w (steps_of 1 x.heard)) fresh ∙ world_after own cs [] (steps_of 1 x.heard)) in record {
+    let after : world' ≡ world_of own cs (steps_of 1 x.heard) =
+    x.world_is ∙ (ap (λ w. after_steps w (steps_of 1 x.heard)) fresh ∙ world_after own cs [] (steps_of 1 x.heard)) in record {
       has_heard = subst (λ d. HasHeard d h x.heard) (ap addresses_in fresh ∙ addresses_alone own cs) x.has_heard;
       world_is = after;
       session = subst (IsSession own cs (x.heard ∷ [])) (sym after) (session_alone own cs x.heard);

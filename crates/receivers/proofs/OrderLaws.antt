@@ -37,9 +37,14 @@ module _ {E : Type 0} where
   abbrev by_one : ℕ → List (ℕ × ℕ × E) → List (ℕ × E)
   by_one w things = map (λ t. (t.1, t.2)) (filter (λ t. t.0 == w) things)
 
-  first_by : (w : ℕ) (t : ℕ × ℕ × E) (ts : List (ℕ × ℕ × E)) (b : Bool) → (t.0 == w) ≡ b → by_one w (t ∷ ts) ≡ cond b ((t.1, t.2) ∷ by_one w ts) (by_one w ts)
-  first_by w t ts true e = ap (λ b. map (λ (s : ℕ × ℕ × E). (s.1, s.2)) (cond b (t ∷ filter (λ (s : ℕ × ℕ × E). s.0 == w) ts) (filter (λ (s : ℕ × ℕ × E). s.0 == w) ts))) e
-  first_by w t ts false e = ap (λ b. map (λ (s : ℕ × ℕ × E). (s.1, s.2)) (cond b (t ∷ filter (λ (s : ℕ × ℕ × E). s.0 == w) ts) (filter (λ (s : ℕ × ℕ × E). s.0 == w) ts))) e
+  first_by : (w : ℕ) (t : ℕ × ℕ × E) (ts : List (ℕ × ℕ × E)) (b : Bool) → (t.0 == w) ≡ b
+      → by_one w (t ∷ ts) ≡ cond b ((t.1, t.2) ∷ by_one w ts) (by_one w ts)
+  first_by w t ts true e =
+      ap (λ b. map (λ (s : ℕ × ℕ × E). (s.1, s.2))
+      (cond b (t ∷ filter (λ (s : ℕ × ℕ × E). s.0 == w) ts) (filter (λ (s : ℕ × ℕ × E). s.0 == w) ts))) e
+  first_by w t ts false e =
+      ap (λ b. map (λ (s : ℕ × ℕ × E). (s.1, s.2))
+      (cond b (t ∷ filter (λ (s : ℕ × ℕ × E). s.0 == w) ts) (filter (λ (s : ℕ × ℕ × E). s.0 == w) ts))) e
 
   -- an order, and what each receiver has, fix the list
   one_list : (xs ys : List (ℕ × ℕ × E)) → in_order_of xs ≡ in_order_of ys → ((w : ℕ) → by_one w xs ≡ by_one w ys) → xs ≡ ys
@@ -50,13 +55,15 @@ module _ {E : Type 0} where
       let pair : (x.0, x.1) ≡ (y.0, y.1) = head_of _ _ _ _ same in
       let source : x.0 ≡ y.0 = ap (λ (p : ℕ × ℕ). p.0) pair in
       let line : x.1 ≡ y.1 = ap (λ (p : ℕ × ℕ). p.1) pair in
-      let here = sym (first_by x.0 x xs true (same_number x.0)) ∙ (parts x.0 ∙ first_by x.0 y ys true (ap (λ s. s == x.0) (sym source) ∙ same_number x.0)) in
+      let here = sym (first_by x.0 x xs true (same_number x.0))
+      ∙ (parts x.0 ∙ first_by x.0 y ys true (ap (λ s. s == x.0) (sym source) ∙ same_number x.0)) in
       let what : x.2 ≡ y.2 = ap (λ (p : ℕ × E). p.1) (head_of _ _ _ _ here) in
       let head : x ≡ y = (λ i. (source i, line i, what i)) in
       (λ i. head i ∷ one_list xs ys (tail_of _ _ _ _ same) (λ w. rest_of w (x.0 == w) refl source) i)
     where
       rest_of : (w : ℕ) (b : Bool) → (x.0 == w) ≡ b → x.0 ≡ y.0 → by_one w xs ≡ by_one w ys
-      rest_of w true e source = tail_of _ _ _ _ (sym (first_by w x xs true e) ∙ (parts w ∙ first_by w y ys true (ap (λ s. s == w) (sym source) ∙ e)))
+      rest_of w true e source =
+          tail_of _ _ _ _ (sym (first_by w x xs true e) ∙ (parts w ∙ first_by w y ys true (ap (λ s. s == w) (sym source) ∙ e)))
       rest_of w false e source = sym (first_by w x xs false e) ∙ (parts w ∙ first_by w y ys false (ap (λ s. s == w) (sym source) ∙ e))
 
   -- what all receivers have, but of w this rest
@@ -68,7 +75,8 @@ module _ {E : Type 0} where
     parts : (w : ℕ) → by_one w things ≡ lists w
 
   -- an order of what the receivers have has a list
-  list_exists : (order : List (ℕ × ℕ)) (lists : ℕ → List (ℕ × E)) → ((w : ℕ) → numbers_by w order ≡ map (λ (l : ℕ × E). l.0) (lists w)) → (things : List (ℕ × ℕ × E)) × IsListOf order lists things
+  list_exists : (order : List (ℕ × ℕ)) (lists : ℕ → List (ℕ × E)) → ((w : ℕ) → numbers_by w order ≡ map (λ (l : ℕ × E). l.0) (lists w))
+      → (things : List (ℕ × ℕ × E)) × IsListOf order lists things
   list_exists [] lists fits = ([], record { in_order = refl; parts = λ w. sym (nothing (lists w) (sym (fits w))) })
     where
       nothing : (l : List (ℕ × E)) → map (λ (x : ℕ × E). x.0) l ≡ [] → l ≡ []
@@ -77,17 +85,23 @@ module _ {E : Type 0} where
   list_exists (p ∷ order) lists fits = first (list_exists order) (lists p.0) refl
     where
       numbers : (w : ℕ) (b : Bool) → (p.0 == w) ≡ b → numbers_by w (p ∷ order) ≡ cond b (p.1 ∷ numbers_by w order) (numbers_by w order)
-      numbers w true e = ap (λ b. map (λ (q : ℕ × ℕ). q.1) (cond b (p ∷ filter (λ (q : ℕ × ℕ). q.0 == w) order) (filter (λ (q : ℕ × ℕ). q.0 == w) order))) e
-      numbers w false e = ap (λ b. map (λ (q : ℕ × ℕ). q.1) (cond b (p ∷ filter (λ (q : ℕ × ℕ). q.0 == w) order) (filter (λ (q : ℕ × ℕ). q.0 == w) order))) e
+      numbers w true e =
+          ap (λ b. map (λ (q : ℕ × ℕ). q.1) (cond b (p ∷ filter (λ (q : ℕ × ℕ). q.0 == w) order) (filter (λ (q : ℕ × ℕ). q.0 == w) order)))
+          e
+      numbers w false e =
+          ap (λ b. map (λ (q : ℕ × ℕ). q.1) (cond b (p ∷ filter (λ (q : ℕ × ℕ). q.0 == w) order) (filter (λ (q : ℕ × ℕ). q.0 == w) order)))
+          e
 
       here : numbers_by p.0 (p ∷ order) ≡ p.1 ∷ numbers_by p.0 order
       here = numbers p.0 true (same_number p.0)
 
-      first : ((ls : ℕ → List (ℕ × E)) → ((w : ℕ) → numbers_by w order ≡ map (λ (l : ℕ × E). l.0) (ls w)) → (things : List (ℕ × ℕ × E)) × IsListOf order ls things)
+      first : ((ls : ℕ → List (ℕ × E)) → ((w : ℕ) → numbers_by w order ≡ map (λ (l : ℕ × E). l.0) (ls w))
+          → (things : List (ℕ × ℕ × E)) × IsListOf order ls things)
           → (l : List (ℕ × E)) → lists p.0 ≡ l → (things : List (ℕ × ℕ × E)) × IsListOf (p ∷ order) lists things
       first go [] is = absurd (let none = sym here ∙ (fits p.0 ∙ ap (map (λ (x : ℕ × E). x.0)) is) in cc)
       first go (x ∷ xs) is =
-          let all : p.1 ∷ numbers_by p.0 order ≡ x.0 ∷ map (λ (y : ℕ × E). y.0) xs = sym here ∙ (fits p.0 ∙ ap (map (λ (y : ℕ × E). y.0)) is) in
+          let all : p.1 ∷ numbers_by p.0 order ≡ x.0 ∷ map (λ (y : ℕ × E). y.0) xs =
+          sym here ∙ (fits p.0 ∙ ap (map (λ (y : ℕ × E). y.0)) is) in
           let rest = go (with_rest lists p.0 xs) (λ w. rest_fits xs all w (p.0 == w) refl) in
           let t : ℕ × ℕ × E = (p.0, p.1, x.1) in (
             t ∷ rest.0,
@@ -97,16 +111,20 @@ module _ {E : Type 0} where
             },
           )
         where
-          rest_fits : (xs : List (ℕ × E)) → p.1 ∷ numbers_by p.0 order ≡ x.0 ∷ map (λ (y : ℕ × E). y.0) xs → (w : ℕ) (b : Bool) → (p.0 == w) ≡ b → numbers_by w order ≡ map (λ (y : ℕ × E). y.0) (with_rest lists p.0 xs w)
+          rest_fits : (xs : List (ℕ × E)) → p.1 ∷ numbers_by p.0 order ≡ x.0 ∷ map (λ (y : ℕ × E). y.0) xs → (w : ℕ) (b : Bool)
+              → (p.0 == w) ≡ b → numbers_by w order ≡ map (λ (y : ℕ × E). y.0) (with_rest lists p.0 xs w)
           rest_fits xs all w true e =
               let same : p.0 ≡ w = is_same p.0 w e in
-              ap (λ v. numbers_by v order) (sym same) ∙ (tail_of _ _ _ _ all ∙ ap (λ b. map (λ (y : ℕ × E). y.0) (cond b xs (lists w))) (sym e))
+              ap (λ v. numbers_by v order) (sym same)
+              ∙ (tail_of _ _ _ _ all ∙ ap (λ b. map (λ (y : ℕ × E). y.0) (cond b xs (lists w))) (sym e))
           rest_fits xs all w false e = sym (numbers w false e) ∙ (fits w ∙ ap (λ b. map (λ (y : ℕ × E). y.0) (cond b xs (lists w))) (sym e))
 
-          part : (x : ℕ × E) (xs : List (ℕ × E)) → lists p.0 ≡ x ∷ xs → p.1 ≡ x.0 → (things : List (ℕ × ℕ × E)) → ((w : ℕ) → by_one w things ≡ with_rest lists p.0 xs w) → (w : ℕ) (b : Bool) → (p.0 == w) ≡ b
+          part : (x : ℕ × E) (xs : List (ℕ × E)) → lists p.0 ≡ x ∷ xs → p.1 ≡ x.0 → (things : List (ℕ × ℕ × E))
+              → ((w : ℕ) → by_one w things ≡ with_rest lists p.0 xs w) → (w : ℕ) (b : Bool) → (p.0 == w) ≡ b
               → by_one w ((p.0, p.1, x.1) ∷ things) ≡ lists w
           part x xs is number things parts w true e =
-              first_by w (p.0, p.1, x.1) things true e ∙ ((λ i. (number i, x.1) ∷ (parts w ∙ ap (λ b. cond b xs (lists w)) e) i) ∙ (sym is ∙ ap lists (is_same p.0 w e)))
+              first_by w (p.0, p.1, x.1) things true e
+              ∙ ((λ i. (number i, x.1) ∷ (parts w ∙ ap (λ b. cond b xs (lists w)) e) i) ∙ (sym is ∙ ap lists (is_same p.0 w e)))
           part x xs is number things parts w false e =
               first_by w (p.0, p.1, x.1) things false e ∙ (parts w ∙ ap (λ b. cond b xs (lists w)) e)
 
@@ -136,7 +154,9 @@ calls_by w (k ∷ ks) = at (k.source == w) (calls_by w ks)
   where
     at : (b : Bool) → map pair_of (filter (λ (j : Call). j.source == w) ks) ≡ by_one w (map thing_of ks)
         → map pair_of (cond b (k ∷ filter (λ (j : Call). j.source == w) ks) (filter (λ (j : Call). j.source == w) ks))
-        ≡ map (λ (t : ℕ × ℕ × Event). (t.1, t.2)) (cond b (thing_of k ∷ filter (λ (t : ℕ × ℕ × Event). t.0 == w) (map thing_of ks)) (filter (λ (t : ℕ × ℕ × Event). t.0 == w) (map thing_of ks)))
+        ≡ map (λ (t : ℕ × ℕ × Event). (t.1, t.2))
+        (cond b (thing_of k ∷ filter (λ (t : ℕ × ℕ × Event). t.0 == w) (map thing_of ks))
+        (filter (λ (t : ℕ × ℕ × Event). t.0 == w) (map thing_of ks)))
     at true h = ap (λ l. pair_of k ∷ l) h
     at false h = h
 
@@ -145,21 +165,29 @@ steps_are : (w : ℕ) (journal : List Entry) → steps_by w journal ≡ by_one w
 steps_are w journal = steps_of_calls w journal ∙ calls_by w (map call_in journal)
 
 -- a meter's slot is fixed by its own lines and the order of its journal
-pub one_slot : (own : Address) (c : Commissioned) (all all' : List (List Told)) (s s' : SlotView) → IsMetersSlot own all c s → IsMetersSlot own all' c s'
-    → ((w : ℕ) → lines_for c.address (heard_by w all) ≡ lines_for c.address (heard_by w all')) → order_of s.journal ≡ order_of s'.journal → s ≡ s'
+pub one_slot : (own : Address) (c : Commissioned) (all all' : List (List Told)) (s s' : SlotView) → IsMetersSlot own all c s
+    → IsMetersSlot own all' c s'
+    → ((w : ℕ) → lines_for c.address (heard_by w all) ≡ lines_for c.address (heard_by w all')) → order_of s.journal ≡ order_of s'.journal
+    → s ≡ s'
 one_slot own c all all' s s' h h' lines order =
-    let things = one_list (map thing_of (map call_in s.journal)) (map thing_of (map call_in s'.journal)) (sym (order_of_calls s.journal) ∙ (order ∙ order_of_calls s'.journal))
+    let things =
+    one_list (map thing_of (map call_in s.journal)) (map thing_of (map call_in s'.journal)) (sym (order_of_calls s.journal)
+    ∙ (order ∙ order_of_calls s'.journal))
     (λ w. sym (steps_are w s.journal) ∙ (h.lines w ∙ (lines w ∙ (sym (h'.lines w) ∙ steps_are w s'.journal)))) in
-    let calls : map call_in s.journal ≡ map call_in s'.journal = sym (calls_back (map call_in s.journal)) ∙ (ap (map call_with) things ∙ calls_back (map call_in s'.journal)) in
-    let journal : s.journal ≡ s'.journal = journal_is c own s.journal h.legal ∙ (ap (journal_of c own) calls ∙ sym (journal_is c own s'.journal h'.legal)) in
+    let calls : map call_in s.journal ≡ map call_in s'.journal =
+    sym (calls_back (map call_in s.journal)) ∙ (ap (map call_with) things ∙ calls_back (map call_in s'.journal)) in
+    let journal : s.journal ≡ s'.journal =
+    journal_is c own s.journal h.legal ∙ (ap (journal_of c own) calls ∙ sym (journal_is c own s'.journal h'.legal)) in
     (λ i. record { own = (h.own_is ∙ sym h'.own_is) i; commission = (h.commission_is ∙ sym h'.commission_is) i; journal = journal i })
 
 -- each order of a meter's own lines has a slot with a journal in that order
-pub slot_exists : (own : Address) (c : Commissioned) (all : List (List Told)) (order : List (ℕ × ℕ)) → IsOrderOf c.address all order → (slot : SlotView) × IsOrderedSlot own all c order slot
+pub slot_exists : (own : Address) (c : Commissioned) (all : List (List Told)) (order : List (ℕ × ℕ)) → IsOrderOf c.address all order
+    → (slot : SlotView) × IsOrderedSlot own all c order slot
 slot_exists own c all order fits =
     let made = list_exists order (λ w. lines_for c.address (heard_by w all)) fits in
     let journal = journal_of c own (map call_with made.0) in
-    let things : map thing_of (map call_in journal) ≡ made.0 = ap (map thing_of) (journal_calls c own (map call_with made.0)) ∙ things_back made.0 in (
+    let things : map thing_of (map call_in journal) ≡ made.0 = ap (map thing_of) (journal_calls c own (map call_with made.0))
+    ∙ things_back made.0 in (
       record { own = own; commission = c; journal = journal },
       record {
         meters = record {
@@ -173,7 +201,8 @@ slot_exists own c all order fits =
     )
 
 -- the order of a journal is one of its meter's own lines
-pub in_order : (own : Address) (c : Commissioned) (all : List (List Told)) (slot : SlotView) → IsMetersSlot own all c slot → IsOrderOf c.address all (order_of slot.journal)
+pub in_order : (own : Address) (c : Commissioned) (all : List (List Told)) (slot : SlotView) → IsMetersSlot own all c slot
+    → IsOrderOf c.address all (order_of slot.journal)
 in_order own c all slot h = λ w. numbers_of w slot.journal ∙ ap (map (λ (l : ℕ × Event). l.0)) (h.lines w)
   where
     numbers_of : (w : ℕ) (journal : List Entry) → numbers_by w (order_of journal) ≡ map (λ (l : ℕ × Event). l.0) (steps_by w journal)
@@ -181,8 +210,12 @@ in_order own c all slot h = λ w. numbers_of w slot.journal ∙ ap (map (λ (l :
     numbers_of w (x ∷ xs) = at (x.source == w) (numbers_of w xs)
       where
         at : (b : Bool) → numbers_by w (order_of xs) ≡ map (λ (l : ℕ × Event). l.0) (steps_by w xs)
-            → map (λ (p : ℕ × ℕ). p.1) (cond b ((x.source, x.line) ∷ filter (λ (p : ℕ × ℕ). p.0 == w) (order_of xs)) (filter (λ (p : ℕ × ℕ). p.0 == w) (order_of xs)))
-            ≡ map (λ (l : ℕ × Event). l.0) (map (λ (e : Entry). (e.line, e.event)) (cond b (x ∷ filter (λ (e : Entry). e.source == w) xs) (filter (λ (e : Entry). e.source == w) xs)))
+            → map (λ (p : ℕ × ℕ). p.1)
+            (cond b ((x.source, x.line) ∷ filter (λ (p : ℕ × ℕ). p.0 == w) (order_of xs))
+            (filter (λ (p : ℕ × ℕ). p.0 == w) (order_of xs)))
+            ≡ map (λ (l : ℕ × Event). l.0)
+            (map (λ (e : Entry). (e.line, e.event))
+            (cond b (x ∷ filter (λ (e : Entry). e.source == w) xs) (filter (λ (e : Entry). e.source == w) xs)))
         at true h = ap (λ l. x.line ∷ l) h
         at false h = h
 
@@ -215,17 +248,23 @@ notes_are w (h ∷ hs) = at (h.source == w) (notes_are w hs)
   where
     at : (b : Bool) → notes_by w hs ≡ by_one w (map note_thing hs)
         → map note_pair (cond b (h ∷ filter (λ (x : Heard). x.source == w) hs) (filter (λ (x : Heard). x.source == w) hs))
-        ≡ map (λ (t : ℕ × ℕ × Address). (t.1, t.2)) (cond b (note_thing h ∷ filter (λ (t : ℕ × ℕ × Address). t.0 == w) (map note_thing hs)) (filter (λ (t : ℕ × ℕ × Address). t.0 == w) (map note_thing hs)))
+        ≡ map (λ (t : ℕ × ℕ × Address). (t.1, t.2))
+        (cond b (note_thing h ∷ filter (λ (t : ℕ × ℕ × Address). t.0 == w) (map note_thing hs))
+        (filter (λ (t : ℕ × ℕ × Address). t.0 == w) (map note_thing hs)))
     at true e = ap (λ l. (h.line, h.address) ∷ l) e
     at false e = e
 
 -- the strangers' list is fixed by their lines and its order
-pub one_strangers : (lines : ℕ → List (ℕ × Address)) (xs ys : List Heard) → ((w : ℕ) → notes_by w xs ≡ lines w) → ((w : ℕ) → notes_by w ys ≡ lines w) → order_of_strangers xs ≡ order_of_strangers ys → xs ≡ ys
+pub one_strangers : (lines : ℕ → List (ℕ × Address)) (xs ys : List Heard) → ((w : ℕ) → notes_by w xs ≡ lines w)
+    → ((w : ℕ) → notes_by w ys ≡ lines w) → order_of_strangers xs ≡ order_of_strangers ys → xs ≡ ys
 one_strangers lines xs ys x y order =
-    sym (notes_back xs) ∙ (ap (map note_with) (one_list (map note_thing xs) (map note_thing ys) (sym (order_of_notes xs) ∙ (order ∙ order_of_notes ys)) (λ w. sym (notes_are w xs) ∙ (x w ∙ (sym (y w) ∙ notes_are w ys)))) ∙ notes_back ys)
+    sym (notes_back xs)
+    ∙ (ap (map note_with) (one_list (map note_thing xs) (map note_thing ys) (sym (order_of_notes xs)
+    ∙ (order ∙ order_of_notes ys)) (λ w. sym (notes_are w xs) ∙ (x w ∙ (sym (y w) ∙ notes_are w ys)))) ∙ notes_back ys)
 
 -- each order of the strangers' lines has a list
-pub strangers_exist : (commissions : List Commissioned) (all : List (List Told)) (order : List (ℕ × ℕ)) → IsOrderOfStrangers commissions all order → (heard : List Heard) × AreOrderedStrangers commissions all order heard
+pub strangers_exist : (commissions : List Commissioned) (all : List (List Told)) (order : List (ℕ × ℕ))
+    → IsOrderOfStrangers commissions all order → (heard : List Heard) × AreOrderedStrangers commissions all order heard
 strangers_exist commissions all order fits =
     let made = list_exists order (λ w. lines_of_strangers commissions (heard_by w all)) fits in
     let things = note_things_back made.0 in (

@@ -14,8 +14,11 @@ use Rattle.receivers.specs.Workers.{CanWork, IsDone}
 use Rattle.receivers.specs.Crews.{IsCrew, AreCrews, AreRoots, CanJoin, HaveAllJoined}
 use Rattle.receivers.specs.Running.{AreDone, HaveRun}
 
-module _ {W S K O P : Type 0} (receiver_of : W → Receiving S K) (crew_of : W → Crew O P) (cells : List (CellShown O)) (strangers : CellShown P) where
-  pub can_work : (n : ℕ) (ws : List W) → AreCrews cells strangers n (map crew_of ws) → All (λ (r : Receiving S K). r.ended ≡ None) (map receiver_of ws) → All (λ (w : W). CanWork cells strangers (receiver_of w).ended (crew_of w)) ws
+module _ {W S K O P : Type 0} (receiver_of : W → Receiving S K) (crew_of : W
+    → Crew O P) (cells : List (CellShown O)) (strangers : CellShown P) where
+  pub can_work : (n : ℕ) (ws : List W) → AreCrews cells strangers n (map crew_of ws)
+      → All (λ (r : Receiving S K). r.ended ≡ None) (map receiver_of ws)
+      → All (λ (w : W). CanWork cells strangers (receiver_of w).ended (crew_of w)) ws
   can_work n [] crews fresh k d l = absurd (omega arith)
   can_work n (w ∷ ws) crews fresh zero d l = record { fresh = fresh 0 (receiver_of w) (omega arith); crew_of = crews.0.crew_of }
   can_work n (w ∷ ws) crews fresh (suc k) d l = can_work (n + 1) ws crews.1 (λ i e m. fresh (suc i) e (omega arith)) k d (omega arith)
@@ -24,8 +27,10 @@ module _ {W S K O P : Type 0} (receiver_of : W → Receiving S K) (crew_of : W �
     abbrev Done : W → W → Type 0
     Done w w' = IsDone cells strangers directory (receiver_run s t (receiver_of w) (receiver_of w')) (crew_of w) (crew_of w')
 
-    are_done : (ws ws' : List W) → length ws' ≡ length ws → ((i : ℕ) (d : W) → i < length ws → Done (slice_index_or ws i d) (slice_index_or ws' i d))
-        → AreDone directory cells strangers (receiver_runs s t (map receiver_of ws) (map receiver_of ws')) (map crew_of ws) (map crew_of ws')
+    are_done : (ws ws' : List W) → length ws' ≡ length ws
+        → ((i : ℕ) (d : W) → i < length ws → Done (slice_index_or ws i d) (slice_index_or ws' i d))
+        → AreDone directory cells strangers (receiver_runs s t (map receiver_of ws) (map receiver_of ws')) (map crew_of ws)
+        (map crew_of ws')
     are_done [] [] many each = tt
     are_done [] (w' ∷ ws') many each = absurd (omega arith)
     are_done (w ∷ ws) [] many each = absurd (omega arith)
@@ -38,26 +43,35 @@ module _ {W S K O P : Type 0} (receiver_of : W → Receiving S K) (crew_of : W �
       stranger = works.noted.same.3 ∙ fresh.stranger.not_first;
     }
 
-    pub can_join : (n : ℕ) (ws ws' : List W) → length ws' ≡ length ws → ((i : ℕ) (d : W) → i < length ws → Done (slice_index_or ws i d) (slice_index_or ws' i d)) → AreCrews cells strangers n (map crew_of ws) → Each (CanJoin cells strangers) (map crew_of ws')
+    pub can_join : (n : ℕ) (ws ws' : List W) → length ws' ≡ length ws
+        → ((i : ℕ) (d : W) → i < length ws → Done (slice_index_or ws i d) (slice_index_or ws' i d))
+        → AreCrews cells strangers n (map crew_of ws) → Each (CanJoin cells strangers) (map crew_of ws')
     can_join n [] [] many each crews = tt
     can_join n [] (w' ∷ ws') many each crews = absurd (omega arith)
     can_join n (w ∷ ws) [] many each crews = absurd (omega arith)
-    can_join n (w ∷ ws) (w' ∷ ws') many each crews = (can_join_one n w w' crews.0 (each 0 w (omega arith)), can_join (n + 1) ws ws' (omega arith) (λ i d l. each (suc i) d (omega arith)) crews.1)
+    can_join n (w ∷ ws) (w' ∷ ws') many each crews = (
+      can_join_one n w w' crews.0 (each 0 w (omega arith)),
+      can_join (n + 1) ws ws' (omega arith) (λ i d l. each (suc i) d (omega arith)) crews.1,
+    )
 
     runs_many : (olds news : List (Receiving S K)) → length news ≡ length olds → length (receiver_runs s t olds news) ≡ length olds
     runs_many [] news many = refl
     runs_many (r ∷ olds) [] many = absurd (omega arith)
     runs_many (r ∷ olds) (r' ∷ news) many = let n = runs_many olds news (omega arith) in omega arith
 
-    module _ (ws ws' : List W) (olds news back : List (Receiving S K)) (many : length ws' ≡ length ws) (olds_are : map receiver_of ws ≡ olds) (news_are : news ≡ map receiver_of ws' ++ back) (none : back ≡ []) where
+    module _ (ws ws' : List W) (olds news back : List (Receiving S K)) (many : length ws' ≡ length ws)
+        (olds_are : map receiver_of ws ≡ olds) (news_are : news ≡ map receiver_of ws' ++ back) (none : back ≡ []) where
       workers_back : map receiver_of ws' ≡ news
       workers_back = sym (news_are ∙ (ap (λ l. map receiver_of ws' ++ l) none ∙ append-nil (map receiver_of ws')))
 
       pub all_back : length news ≡ length olds
-      all_back = let a = ap length workers_back in let b = ap length olds_are in let c = length-map ws' receiver_of in let d = length-map ws receiver_of in omega arith
+      all_back = let a = ap length workers_back in let b = ap length olds_are in let c = length-map ws' receiver_of in
+          let d = length-map ws receiver_of in omega arith
 
-      pub have_run : (hired roots' : List (Shown O Event Outcome)) (p p' : Shown P Address Unit) → ((i : ℕ) (d : W) → i < length ws → Done (slice_index_or ws i d) (slice_index_or ws' i d))
-          → AreRoots cells strangers 0 (length olds) hired p → AreCrews cells strangers 1 (map crew_of ws) → HaveAllJoined (map crew_of ws') hired roots' p p'
+      pub have_run : (hired roots' : List (Shown O Event Outcome)) (p p' : Shown P Address Unit)
+          → ((i : ℕ) (d : W) → i < length ws → Done (slice_index_or ws i d) (slice_index_or ws' i d))
+          → AreRoots cells strangers 0 (length olds) hired p → AreCrews cells strangers 1 (map crew_of ws)
+          → HaveAllJoined (map crew_of ws') hired roots' p p'
           → HaveRun directory cells strangers (receiver_runs s t olds news) roots' p'
       have_run hired roots' p p' each roots crews joined = record {
         fresh = map crew_of ws;
@@ -66,6 +80,7 @@ module _ {W S K O P : Type 0} (receiver_of : W → Receiving S K) (crew_of : W �
         hired_stranger = p;
         are_roots = subst (λ (n : ℕ). AreRoots cells strangers 0 n hired p) (sym (runs_many olds news all_back)) roots;
         are_crews = crews;
-        done = subst (λ (l : List (Receiving S K) × List (Receiving S K)). AreDone directory cells strangers (receiver_runs s t l.0 l.1) (map crew_of ws) (map crew_of ws')) (λ i. (olds_are i, workers_back i)) (are_done ws ws' many each);
+        done = subst (λ (l : List (Receiving S K) × List (Receiving S K)). AreDone directory cells strangers (receiver_runs s t l.0 l.1)
+            (map crew_of ws) (map crew_of ws')) (λ i. (olds_are i, workers_back i)) (are_done ws ws' many each);
         joined = joined;
       }

@@ -29,8 +29,8 @@ tellings r = map told_of r.lines
 abbrev pub IsKnown : ReceiverRun → Type 0
 IsKnown run = IsTrue run.source_tells
 
--- A run took these lines and ended so: the end says which lines of the bytes taken they are, and has its cause; the counts are those of the lines, for the
--- meters of a directory, and no byte is lost.
+-- A run took these lines and ended so: the end says which lines of the bytes taken they are, and has its cause; the counts are
+-- those of the lines, for the meters of a directory, and no byte is lost.
 pub record HasTaken (directory : List Address) (run : ReceiverRun) (r : HeardLines) : Type 0 where
   pub ended : run.ended ≡ Some r.ended
   pub lines : IsEnding r.ended run.source.now.taken run.source.now.left r.lines

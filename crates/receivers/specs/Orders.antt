@@ -34,6 +34,7 @@ abbrev pub IsOrderOfStrangers : List Commissioned → List (List Told) → List 
 IsOrderOfStrangers commissions all order = (w : ℕ) → numbers_by w order ≡ map (λ l. l.0) (lines_of_strangers commissions (heard_by w all))
 
 -- a strangers' list that has this order
-pub record AreOrderedStrangers (commissions : List Commissioned) (all : List (List Told)) (order : List (ℕ × ℕ)) (heard : List Heard) : Type 0 where
+pub record AreOrderedStrangers
+    (commissions : List Commissioned) (all : List (List Told)) (order : List (ℕ × ℕ)) (heard : List Heard) : Type 0 where
   pub lines : (w : ℕ) → notes_by w heard ≡ lines_of_strangers commissions (heard_by w all)
   pub in_order : order_of_strangers heard ≡ order

@@ -5,6 +5,7 @@ mod alone;
 mod class;
 mod crews;
 mod downlinks;
+mod fresh;
 mod hearing;
 pub mod laws;
 mod receiver;
@@ -18,6 +19,7 @@ mod work;
 mod workers;
 
 pub use class::Class;
+pub use fresh::show_untaken;
 pub use meter_slots::{Counts, Ended};
 pub use receiver::Receiver;
 pub use session::{Collected, collect};

@@ -13,7 +13,7 @@ use record_values::{Unit, Value, unit_of, value_of};
 use unit_text::{function_word, put_register, put_unit};
 
 /// So many bytes from a place on, or those of them that there are.
-fn bytes_at(bytes: &[u8], place: usize, count: usize) -> &[u8]
+pub fn bytes_at(bytes: &[u8], place: usize, count: usize) -> &[u8]
     ensures { result.now ≡ bytes_at bytes.now place count }
 {
     let (_, rest) = bytes.split_at(place.min(bytes.len()));
@@ -86,7 +86,8 @@ pub fn put_span<P: Paper>(paper: &mut P, bytes: &[u8], span: &RecordSpan)
     }
 }
 
-fn put_fault_words<P: Paper>(paper: &mut P, fault: RecordFault)
+/// The words of a fault.
+pub fn put_fault_words<P: Paper>(paper: &mut P, fault: RecordFault)
     ensures { Puts P.takes paper.old (fault_text fault) paper.new }
 {
     match fault {

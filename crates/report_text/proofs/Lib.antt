@@ -6,3 +6,7 @@ pub mod LineReport
 pub mod LineSteps
 pub mod LineWalks
 pub mod Texts
+pub mod FirstRecords
+pub mod Utf8Texts
+pub mod TreeLists
+pub mod SameListing

@@ -12,7 +12,10 @@ use Rattle.tpl_headers.specs.declared.header.TplFault.TheVariants as tpl
 use Rattle.message_check.specs.declared.refusal.LayerFault.{LayerFault}
 use Rattle.message_check.specs.declared.refusal.LayerFault.TheVariants.{Ell, Afl, Tpl}
 use Rattle.message_check.specs.declared.refusal.Reason.{Reason}
-use Rattle.message_check.specs.declared.refusal.Reason.TheVariants.{NotUplink, BadLayers, PartInMode5, TooManyParts, BadMessage, OtherAddress, Mode, NoAuth, Kdf, ShortBlocks, Unchecked, BadMac, Stale, CheckBytes, SameAccess, QueueFull, IdsSpent, NoSuch, KeyInMode5}
+use Rattle.message_check.specs.declared.refusal.Reason.TheVariants.{NotUplink, BadLayers, PartInMode5, TooManyParts, BadMessage}
+use Rattle.message_check.specs.declared.refusal.Reason.TheVariants.{OtherAddress, Mode, NoAuth, Kdf, ShortBlocks, Unchecked, BadMac}
+use Rattle.message_check.specs.declared.refusal.Reason.TheVariants.{Stale, CheckBytes, SameAccess, QueueFull, IdsSpent, NoSuch}
+use Rattle.message_check.specs.declared.refusal.Reason.TheVariants.{KeyInMode5}
 use Rattle.meter_slots.specs.declared.entry.Outcome.{Outcome}
 use Rattle.meter_slots.specs.declared.entry.Outcome.TheVariants.{Stored, PartKept, Ticked, Queued, Cancelled, Rekeyed, Refused}
 use Rattle.meter_slots.specs.declared.reading.Reading.{Reading}
@@ -76,7 +79,8 @@ reading_is r = worded_number (literal (codes " ") refl) r.at ⌢ literal (codes 
 stored_is : (counter : ℕ) (reading : Option Reading) (confirmed sent : Option ℕ) → IsWithout 10 (stored_text counter reading confirmed sent)
 unfolding stored_text
 stored_is counter reading confirmed sent =
-    worded_number (literal (codes "stored ") refl) counter ⌢ piece_if reading_text reading_is reading ⌢ worded_if (literal (codes " confirmed ") refl) confirmed ⌢ worded_if (literal (codes " sent ") refl) sent
+    worded_number (literal (codes "stored ") refl) counter ⌢ piece_if reading_text reading_is reading ⌢ worded_if
+    (literal (codes " confirmed ") refl) confirmed ⌢ worded_if (literal (codes " sent ") refl) sent
 
 refused_is : (reason : Reason) → IsWithout 10 (refused_text reason)
 unfolding refused_text

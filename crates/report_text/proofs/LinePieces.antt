@@ -1,5 +1,6 @@
 -- Pieces of text hold no newline.
-use Rattle.std.proofs.Common.{◌≡◌, ℕ, zero, suc, ◌+◌, ◌/◌, ◌%◌, ◌<◌, ◌==◌, nat_lt, Bool, true, false, cond, ◌&&◌, List, [], ◌∷◌, ℤ, pos, negsuc, Option, Some, None, refl, arith}
+use Rattle.std.proofs.Common.{◌≡◌, ℕ, zero, suc, ◌+◌, ◌/◌, ◌%◌, ◌<◌, ◌==◌, nat_lt, Bool, true, false, cond, ◌&&◌, List, [], ◌∷◌, ℤ, pos}
+use Rattle.std.proofs.Common.{negsuc, Option, Some, None, refl, arith}
 use Rattle.std.specs.Prelude.{codes}
 use Rattle.std.specs.List.{list_all}
 use Rattle.std.specs.Fmt.{decimal, signed_decimal, digits, digits_onto, digit_glyph}
@@ -15,14 +16,18 @@ use Rattle.report_text.proofs.LineWalks.{IsWithout, ◌⌢◌, literal, differs,
 -- ---- numbers
 
 glyph_differs : (s d : ℕ) → s < 48 → differs s (digit_glyph false d) ≡ true
-glyph_differs s d low = cond_both (nat_lt d 10) (48 + d) (87 + d) (λ c. differs s c ≡ true) (λ _. byte_differs s (48 + d) (omega arith)) (λ _. byte_differs s (87 + d) (omega arith))
+glyph_differs s d low =
+    cond_both (nat_lt d 10) (48 + d) (87 + d) (λ c. differs s c ≡ true) (λ _. byte_differs s (48 + d) (omega arith))
+    (λ _. byte_differs s (87 + d) (omega arith))
 
-digits_differ : (s : ℕ) → s < 48 → (k base n : ℕ) (behind : List ℕ) → list_all (differs s) behind ≡ true → list_all (differs s) (digits_onto k base false n behind) ≡ true
+digits_differ : (s : ℕ) → s < 48 → (k base n : ℕ) (behind : List ℕ) → list_all (differs s) behind ≡ true
+    → list_all (differs s) (digits_onto k base false n behind) ≡ true
 digits_differ s low zero base n behind h = h
 digits_differ s low (suc k) base n behind h =
     let one : List ℕ = digit_glyph false (n % base) ∷ behind in
     let more : list_all (differs s) one ≡ true = and_from _ _ (glyph_differs s (n % base) low) h in
-    cond_both (n / base == 0) one (digits_onto k base false (n / base) one) (λ t. list_all (differs s) t ≡ true) (λ _. more) (λ _. digits_differ s low k base (n / base) one more)
+    cond_both (n / base == 0) one (digits_onto k base false (n / base) one) (λ t. list_all (differs s) t ≡ true) (λ _. more)
+    (λ _. digits_differ s low k base (n / base) one more)
 
 -- digits stand behind the newline and the space among the codes
 pub number : {s : ℕ} (n : ℕ) → s < 48 → IsWithout s (decimal n)
@@ -35,7 +40,8 @@ signed (negsuc n) = record { passed = (number {s = 10} (suc n) (omega arith)).pa
 
 -- ---- hexadecimal
 
-hex_differs : (s : ℕ) (table bytes : List ℕ) → list_all (differs s) table ≡ true → differs s 0 ≡ true → list_all (differs s) (encode_with table bytes) ≡ true
+hex_differs : (s : ℕ) (table bytes : List ℕ) → list_all (differs s) table ≡ true → differs s 0 ≡ true
+    → list_all (differs s) (encode_with table bytes) ≡ true
 unfolding encode_with
 hex_differs s table [] h k = refl
 hex_differs s table (b ∷ bytes) h k =
@@ -51,14 +57,19 @@ hex_or_dash (b ∷ bytes) = hex (b ∷ bytes)
 -- ---- the letters of a manufacturer
 
 three : (x y z : ℕ) → IsWithout 10 ((x + 64) ∷ (y + 64) ∷ (z + 64) ∷ [])
-three x y z = record { passed = and_from _ _ (byte_differs 10 (x + 64) (omega arith)) (and_from _ _ (byte_differs 10 (y + 64) (omega arith)) (and_from _ _ (byte_differs 10 (z + 64) (omega arith)) refl)) }
+three x y z = record {
+  passed =
+      and_from _ _ (byte_differs 10 (x + 64) (omega arith))
+      (and_from _ _ (byte_differs 10 (y + 64) (omega arith)) (and_from _ _ (byte_differs 10 (z + 64) (omega arith)) refl));
+}
 
 letters_or_dash : (b : Bool) (text : List ℕ) → IsWithout 10 text → IsWithout 10 (letters_text (cond b (Some text) None))
 letters_or_dash true text h = h
 letters_or_dash false text h = literal (codes "-") refl
 
 letters_of_m : (m : ℕ) → IsWithout 10 (letters_text (letters_of_number m))
-letters_of_m m = letters_or_dash (is_letter (m / 1024) && is_letter (m / 32 % 32) && is_letter (m % 32)) _ (three (m / 1024) (m / 32 % 32) (m % 32))
+letters_of_m m = letters_or_dash (is_letter (m / 1024) && is_letter (m / 32 % 32) && is_letter (m % 32)) _
+    (three (m / 1024) (m / 32 % 32) (m % 32))
 
 pub letters : (a : Address) → IsWithout 10 (letters_text (letters_of a))
 unfolding letters_of

@@ -1,5 +1,6 @@
 -- The lines of records, which change no list of steps.
-use Rattle.std.proofs.Common.{ℕ, ℤ, zero, suc, ◌/◌, ◌%◌, ◌==◌, Bool, true, false, cond, List, [], ◌∷◌, Option, Some, None, Result, Ok, Err, refl, arith}
+use Rattle.std.proofs.Common.{ℕ, ℤ, zero, suc, ◌/◌, ◌%◌, ◌==◌, Bool, true, false, cond, List, [], ◌∷◌, Option, Some, None, Result, Ok}
+use Rattle.std.proofs.Common.{Err, refl, arith}
 use Rattle.std.specs.Prelude.{codes}
 use Rattle.dif_vif.specs.declared.fault.RecordFault.{RecordFault}
 use Rattle.dif_vif.specs.declared.fault.RecordFault.TheVariants.{Truncated, TooManyExtensions, Lvar, Selection, Special}
@@ -106,7 +107,8 @@ record_passes bytes span =
 maker_passes : (bytes : List ℕ) (span : RecordSpan) → Passes (maker_line bytes span)
 unfolding maker_line labelled_bytes with_line
 maker_passes bytes span =
-    one_line _ (worded_bytes (literal (codes "maker ") refl) (span.dif ∷ []) ⌢ literal (codes " ") refl ⌢ hex_or_dash (bytes_at bytes span.data_at span.data_len))
+    one_line _ (worded_bytes (literal (codes "maker ") refl) (span.dif ∷ []) ⌢ literal (codes " ") refl ⌢ hex_or_dash
+    (bytes_at bytes span.data_at span.data_len))
 
 one_of : (maker : Bool) {a b : List ℕ} → Passes a → Passes b → Passes (cond maker a b)
 one_of true x y = x
@@ -134,7 +136,8 @@ more_passes (Ok None) = nothing
 more_passes (Ok (Some span)) = one_line (codes "more") (literal (codes "more") refl)
 more_passes (Err fault) = one_line (codes "more") (literal (codes "more") refl)
 
-next_passes : (rest : ℕ → List ℕ) → ((from : ℕ) → Passes (rest from)) → (payload : List ℕ) (next : Result (Option RecordSpan) RecordFault) → Passes (next_text rest payload next)
+next_passes : (rest : ℕ → List ℕ) → ((from : ℕ) → Passes (rest from))
+    → (payload : List ℕ) (next : Result (Option RecordSpan) RecordFault) → Passes (next_text rest payload next)
 next_passes rest h payload (Ok None) = nothing
 next_passes rest h payload (Ok (Some span)) = span_passes payload span ⨾ h span.end
 next_passes rest h payload (Err fault) = fault_passes fault

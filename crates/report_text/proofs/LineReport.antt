@@ -1,5 +1,6 @@
 -- The orders that the text of a report tells.
-use Rattle.std.proofs.Common.{◌≡◌, ℕ, ◌-◌, List, [], ◌∷◌, ◌++◌, map, reverse, length, Option, Some, None, refl, sym, ap, ◌∙◌, append_assoc, append-nil}
+use Rattle.std.proofs.Common.{◌≡◌, ℕ, ◌-◌, List, [], ◌∷◌, ◌++◌, map, reverse, length, Option, Some, None, refl, sym, ap, ◌∙◌}
+use Rattle.std.proofs.Common.{append_assoc, append-nil}
 use Rattle.std.specs.Prelude.{codes, slice_get}
 use Rattle.std.specs.List.{All, AllByRecursion, flat_map, enumerate_from}
 use Rattle.std.proofs.lemmas.List.Elements.{recursion_from_All}
@@ -21,7 +22,9 @@ use Rattle.report_text.specs.declared.lent.ReceiverEnd.{ReceiverEnd}
 use Rattle.report_text.specs.Orders.{Told, lines_in, told, orders, with_line, with_steps, meter_heading, strangers_heading}
 use Rattle.report_text.specs.OrdersLaw.{IsCounted, place_of_step, place_of_stranger, order_of, orders_of}
 use Rattle.paper.specs.Pieces.{optional_text, labelled, labelled_two, labelled_bytes, text_if}
-use Rattle.report_text.specs.Report.{ended_text, counts_text, receiver_text, mode_text, commission_text, numbers_text, step_text, readings_after, steps_text, last_text, pending_text, journal_text, orders_now, meter_text, stranger_text, ring_text, strangers_text, report_text}
+use Rattle.report_text.specs.Report.{ended_text, counts_text, receiver_text, mode_text, commission_text, numbers_text, step_text}
+use Rattle.report_text.specs.Report.{readings_after, steps_text, last_text, pending_text, journal_text, orders_now, meter_text}
+use Rattle.report_text.specs.Report.{stranger_text, ring_text, strangers_text, report_text}
 use Rattle.report_text.proofs.LineWalks.{IsWithout, ◌⌢◌, literal, Tells, Passes, nothing, ◌⨾◌, one_line, same_text}
 use Rattle.report_text.proofs.LinePieces.{letters, number_or_dash, worded_number, worded_two, worded_bytes}
 use Rattle.report_text.proofs.LineOutcomes.{outcome_is}
@@ -47,12 +50,14 @@ ended_is _ = record { passed = refl }
 counts_is : (n : Counts) → IsWithout 10 (counts_text n)
 unfolding counts_text
 counts_is n =
-    worded_number (literal (codes " lines ") refl) n.lines ⌢ worded_number (literal (codes " own ") refl) n.own ⌢ worded_number (literal (codes " strangers ") refl) n.strangers
+    worded_number (literal (codes " lines ") refl) n.lines ⌢ worded_number (literal (codes " own ") refl) n.own ⌢ worded_number
+    (literal (codes " strangers ") refl) n.strangers
     ⌢ worded_number (literal (codes " unframed ") refl) n.unframed ⌢ worded_number (literal (codes " bad ") refl) n.bad
 
 receiver_passes : (r : ℕ × ReceiverEnd) → Passes (receiver_text r)
 unfolding receiver_text labelled with_line
-receiver_passes r = one_line _ (worded_number (literal (codes "receiver ") refl) r.0 ⌢ counts_is r.1.counts ⌢ literal (codes " ") refl ⌢ ended_is r.1.ended)
+receiver_passes r = one_line _
+    (worded_number (literal (codes "receiver ") refl) r.0 ⌢ counts_is r.1.counts ⌢ literal (codes " ") refl ⌢ ended_is r.1.ended)
 
 -- ---- a meter
 
@@ -63,29 +68,35 @@ mode_is Seven = literal (codes "7") refl
 commission_is : (a : Address) (mode : Mode) → IsWithout 10 (commission_text a mode)
 unfolding commission_text
 commission_is a mode =
-    worded_bytes (literal (codes "meter ") refl) (bytes_of a) ⌢ literal (codes " ") refl ⌢ letters a ⌢ literal (codes " mode ") refl ⌢ mode_is mode
+    worded_bytes (literal (codes "meter ") refl) (bytes_of a) ⌢ literal (codes " ") refl ⌢ letters a ⌢ literal
+    (codes " mode ") refl ⌢ mode_is mode
 
 -- a meter's line without its newline
 abbrev numbers_front : Option ℕ → ℕ → ℕ → ℕ → List ℕ
 numbers_front last down steps kept =
-    codes " last " ++ optional_text last ++ labelled (codes " down ") down ++ labelled (codes " steps ") steps ++ labelled (codes " readings ") kept
+    codes " last " ++ optional_text last ++ labelled (codes " down ") down ++ labelled (codes " steps ") steps ++ labelled
+    (codes " readings ") kept
 
 numbers_is : (last : Option ℕ) (down steps kept : ℕ) → IsWithout 10 (numbers_front last down steps kept)
 numbers_is last down steps kept =
-    literal (codes " last ") refl ⌢ number_or_dash last ⌢ worded_number (literal (codes " down ") refl) down ⌢ worded_number (literal (codes " steps ") refl) steps
+    literal (codes " last ") refl ⌢ number_or_dash last ⌢ worded_number (literal (codes " down ") refl) down ⌢ worded_number
+    (literal (codes " steps ") refl) steps
     ⌢ worded_number (literal (codes " readings ") refl) kept
 
-meter_line : (a : Address) (mode : Mode) (last : Option ℕ) (down steps kept : ℕ) → Tells (commission_text a mode ++ numbers_text last down steps kept) meter_heading
+meter_line : (a : Address) (mode : Mode) (last : Option ℕ) (down steps kept : ℕ)
+    → Tells (commission_text a mode ++ numbers_text last down steps kept) meter_heading
 unfolding commission_text labelled_bytes numbers_text with_line
 meter_line a mode last down steps kept =
     same_text _ (sym (append_assoc (commission_text a mode) (numbers_front last down steps kept) (codes "\n")))
     (one_line (commission_text a mode ++ numbers_front last down steps kept) (commission_is a mode ⌢ numbers_is last down steps kept))
 
-step_tells : (reading : Option Reading) (e : Entry) → IsCounted (place_of_step e) → Tells (step_text reading e) (with_steps (place_of_step e ∷ []))
+step_tells : (reading : Option Reading) (e : Entry) → IsCounted (place_of_step e)
+    → Tells (step_text reading e) (with_steps (place_of_step e ∷ []))
 unfolding step_text
 step_tells reading e small = step_line e.source e.line _ small.0 small.1 (outcome_is reading e.outcome)
 
-steps_tell : (kept : List Reading) (journal : List Entry) → AllByRecursion IsCounted (map place_of_step journal) → Tells (steps_text kept journal) (with_steps (map place_of_step journal))
+steps_tell : (kept : List Reading) (journal : List Entry) → AllByRecursion IsCounted (map place_of_step journal)
+    → Tells (steps_text kept journal) (with_steps (map place_of_step journal))
 steps_tell kept [] small = nothing
 steps_tell kept (e ∷ later) small = step_tells (slice_get kept 0) e small.0 ⨾ steps_tell (readings_after e.outcome kept) later small.1
 
@@ -97,7 +108,8 @@ pending_passes : (c : Command) → Passes (pending_text c)
 unfolding pending_text labelled_two with_line
 pending_passes c = one_line _ (worded_two (literal (codes "pending ") refl) c.id c.tries)
 
-journal_tells : (kept : List Reading) (journal : List Entry) (commands : List Command) → AllByRecursion IsCounted (map place_of_step journal)
+journal_tells : (kept : List Reading) (journal : List Entry) (commands : List Command)
+    → AllByRecursion IsCounted (map place_of_step journal)
     → Tells (journal_text kept journal commands) (with_steps (map place_of_step journal))
 unfolding journal_text
 journal_tells kept journal commands small = steps_tell kept journal small ⨾ last_passes kept ⨾ all_pass pending_text pending_passes commands
@@ -105,7 +117,8 @@ journal_tells kept journal commands small = steps_tell kept journal small ⨾ la
 meter_tells : (b : SlotView) → AllByRecursion IsCounted (order_of b) → Tells (meter_text b) (λ t. meter_heading (with_steps (order_of b) t))
 unfolding meter_text
 meter_tells b small =
-    meter_line b.commission.address b.commission.mode (last_counter b.commission (reverse b.journal)) (orders_now b).down (length b.journal) (length (readings b.commission b.journal))
+    meter_line b.commission.address b.commission.mode (last_counter b.commission (reverse b.journal)) (orders_now b).down
+    (length b.journal) (length (readings b.commission b.journal))
     ⨾ journal_tells (readings b.commission b.journal) b.journal (orders_now b).queue.commands small
 
 -- the meters, one after another
@@ -113,13 +126,15 @@ abbrev with_meters : List SlotView → Told → Told
 with_meters [] t = t
 with_meters (b ∷ slots) t = meter_heading (with_steps (order_of b) (with_meters slots t))
 
-meters_tell : (slots : List SlotView) → AllByRecursion (λ order. All IsCounted order) (map order_of slots) → Tells (flat_map meter_text slots) (with_meters slots)
+meters_tell : (slots : List SlotView) → AllByRecursion (λ order. All IsCounted order) (map order_of slots)
+    → Tells (flat_map meter_text slots) (with_meters slots)
 meters_tell [] small = nothing
 meters_tell (b ∷ slots) small = meter_tells b (recursion_from_All IsCounted (order_of b) small.0) ⨾ meters_tell slots small.1
 
 -- below the meters no steps stand above the first heading
 with_meters_is : (slots : List SlotView) (strangers : List (ℕ × ℕ))
-    → with_meters slots (record { above = []; meters = []; strangers = strangers }) ≡ record { above = []; meters = map order_of slots; strangers = strangers }
+    → with_meters slots (record { above = []; meters = []; strangers = strangers }) ≡ record
+    { above = []; meters = map order_of slots; strangers = strangers }
 with_meters_is [] strangers = refl
 with_meters_is (b ∷ slots) strangers =
     ap (λ t. meter_heading (with_steps (order_of b) t)) (with_meters_is slots strangers)
@@ -135,7 +150,8 @@ stranger_tells : (h : Heard) → IsCounted (place_of_stranger h) → Tells (stra
 unfolding stranger_text
 stranger_tells h small = stranger_line h.source h.line small.0 small.1
 
-all_strangers_tell : (heard : List Heard) → AllByRecursion IsCounted (map place_of_stranger heard) → Tells (flat_map stranger_text heard) (with_steps (map place_of_stranger heard))
+all_strangers_tell : (heard : List Heard) → AllByRecursion IsCounted (map place_of_stranger heard)
+    → Tells (flat_map stranger_text heard) (with_steps (map place_of_stranger heard))
 all_strangers_tell [] small = nothing
 all_strangers_tell (h ∷ heard) small = stranger_tells h small.0 ⨾ all_strangers_tell heard small.1
 
@@ -143,7 +159,8 @@ ring_passes : (a : Address) → Passes (ring_text a)
 unfolding ring_text labelled_bytes with_line
 ring_passes a = one_line _ (worded_bytes (literal (codes "ring ") refl) (bytes_of a))
 
-strangers_tell : (heard : List Heard) → AllByRecursion IsCounted (map place_of_stranger heard) → Tells (strangers_text heard) (λ t. strangers_heading (with_steps (map place_of_stranger heard) t))
+strangers_tell : (heard : List Heard) → AllByRecursion IsCounted (map place_of_stranger heard)
+    → Tells (strangers_text heard) (λ t. strangers_heading (with_steps (map place_of_stranger heard) t))
 unfolding strangers_text
 strangers_tell heard small = strangers_line (length heard) ⨾ all_strangers_tell heard small ⨾ all_pass ring_text ring_passes (ring_of heard)
 
@@ -164,22 +181,27 @@ nothing_told : told (lines_in []) ≡ no_lines
 unfolding with_line
 nothing_told = refl
 
-report_tells : (ends : List ReceiverEnd) (slots : List SlotView) (heard : List Heard) → AllByRecursion (λ order. All IsCounted order) (map order_of slots) → AllByRecursion IsCounted (map place_of_stranger heard)
+report_tells : (ends : List ReceiverEnd) (slots : List SlotView) (heard : List Heard)
+    → AllByRecursion (λ order. All IsCounted order) (map order_of slots) → AllByRecursion IsCounted (map place_of_stranger heard)
     → Tells (report_text ends slots heard) (λ t. with_meters slots (strangers_heading (with_steps (map place_of_stranger heard) t)))
 unfolding report_text
 report_tells ends slots heard small_steps small_heard =
-    first_passes ⨾ all_pass receiver_text receiver_passes (enumerate_from 1 ends) ⨾ meters_tell slots small_steps ⨾ strangers_tell heard small_heard ⨾ end_passes
+    first_passes ⨾ all_pass receiver_text receiver_passes
+    (enumerate_from 1 ends) ⨾ meters_tell slots small_steps ⨾ strangers_tell heard small_heard ⨾ end_passes
 
 pub report_orders : (ends : List ReceiverEnd) (slots : List SlotView) (heard : List Heard)
-    → All (λ order. All IsCounted order) (map order_of slots) → All IsCounted (map place_of_stranger heard) → orders (report_text ends slots heard) ≡ orders_of slots heard
+    → All (λ order. All IsCounted order) (map order_of slots) → All IsCounted (map place_of_stranger heard)
+    → orders (report_text ends slots heard) ≡ orders_of slots heard
 report_orders ends slots heard small_steps small_heard =
     let text = report_text ends slots heard in
     let places = map place_of_stranger heard in
     let turned : told (lines_in (text ++ [])) ≡ with_meters slots (strangers_heading (with_steps places (told (lines_in [])))) =
-    (report_tells ends slots heard (recursion_from_All (λ order. All IsCounted order) (map order_of slots) small_steps) (recursion_from_All IsCounted places small_heard)).at [] in
+    (report_tells ends slots heard (recursion_from_All (λ order. All IsCounted order) (map order_of slots) small_steps)
+    (recursion_from_All IsCounted places small_heard)).at [] in
     let whole : told (lines_in text) ≡ record { above = []; meters = map order_of slots; strangers = places } =
     ap (λ t. told (lines_in t)) (sym (append-nil text)) ∙ turned
     ∙ ap (λ t. with_meters slots (strangers_heading (with_steps places t))) nothing_told
-    ∙ ap (λ strangers. with_meters slots (record { above = []; meters = []; strangers = strangers })) (append-nil (places ++ []) ∙ append-nil places)
+    ∙ ap (λ strangers. with_meters slots (record { above = []; meters = []; strangers = strangers }))
+    (append-nil (places ++ []) ∙ append-nil places)
     ∙ with_meters_is slots places in
     ap (λ all. record { meters = all.meters; strangers = all.strangers }) whole

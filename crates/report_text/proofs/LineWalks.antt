@@ -26,7 +26,8 @@ pub byte_differs : (s b : ℕ) → (b ≡ s → ⊥) → differs s b ≡ true
 byte_differs s b h = ap not (ne_eqb b s h)
 
 -- a byte of a table, or zero, which stands for those past its end
-pub found_differs : (s : ℕ) (table : List ℕ) (i : ℕ) → list_all (differs s) table ≡ true → differs s 0 ≡ true → differs s (get_or table i 0) ≡ true
+pub found_differs : (s : ℕ) (table : List ℕ) (i : ℕ) → list_all (differs s) table ≡ true → differs s 0 ≡ true
+    → differs s (get_or table i 0) ≡ true
 found_differs s [] i h k = k
 found_differs s (x ∷ xs) zero h k = (and_parts _ _ h).0
 found_differs s (x ∷ xs) (suc i) h k = found_differs s xs i (and_parts _ _ h).1 k
@@ -34,15 +35,18 @@ found_differs s (x ∷ xs) (suc i) h k = found_differs s xs i (and_parts _ _ h).
 -- ---- cuts
 
 -- the first part ends at the first separator
-pub cut_first : (s : ℕ) (part rest : List ℕ) → list_all (differs s) part ≡ true → slice_split (λ b. b == s) (part ++ s ∷ rest) ≡ part ∷ slice_split (λ b. b == s) rest
+pub cut_first : (s : ℕ) (part rest : List ℕ) → list_all (differs s) part ≡ true
+    → slice_split (λ b. b == s) (part ++ s ∷ rest) ≡ part ∷ slice_split (λ b. b == s) rest
 cut_first s [] rest h = slice_split-cons_yes (λ b. b == s) s rest (eq-eqb s s refl)
 cut_first s (x ∷ part) rest h =
-    slice_split-cons_no (λ b. b == s) x (part ++ s ∷ rest) (not-true _ (and_parts _ _ h).0) ∙ ap (onto_first x) (cut_first s part rest (and_parts _ _ h).1)
+    slice_split-cons_no (λ b. b == s) x (part ++ s ∷ rest) (not-true _ (and_parts _ _ h).0)
+    ∙ ap (onto_first x) (cut_first s part rest (and_parts _ _ h).1)
 
 -- a text without a separator is the last part
 pub cut_last : (s : ℕ) (part : List ℕ) → list_all (differs s) part ≡ true → slice_split (λ b. b == s) part ≡ part ∷ []
 cut_last s [] h = refl
-cut_last s (x ∷ part) h = slice_split-cons_no (λ b. b == s) x part (not-true _ (and_parts _ _ h).0) ∙ ap (onto_first x) (cut_last s part (and_parts _ _ h).1)
+cut_last s (x ∷ part) h = slice_split-cons_no (λ b. b == s) x part (not-true _ (and_parts _ _ h).0)
+    ∙ ap (onto_first x) (cut_last s part (and_parts _ _ h).1)
 
 -- ---- walks
 
@@ -62,7 +66,8 @@ pub ◌⨾◌ : {a b : List ℕ} {f g : Told → Told} → Tells a f → Tells b
 ◌⨾◌ {a} {b} {f} {g} x y = record { at = λ rest. ap (λ t. told (lines_in t)) (append_assoc a b rest) ∙ x.at (b ++ rest) ∙ ap f (y.at rest) }
 
 pub one_line : (line : List ℕ) → IsWithout 10 line → Tells (line ++ codes "\n") (with_line line)
-one_line line h = record { at = λ rest. ap (λ t. told (lines_in t)) (append_assoc line (codes "\n") rest) ∙ ap told (cut_first 10 line rest h.passed) }
+one_line line h = record
+    { at = λ rest. ap (λ t. told (lines_in t)) (append_assoc line (codes "\n") rest) ∙ ap told (cut_first 10 line rest h.passed) }
 
 -- another spelling of a text or of a turn
 pub same_text : {a : List ℕ} {f : Told → Told} (b : List ℕ) → b ≡ a → Tells a f → Tells b f

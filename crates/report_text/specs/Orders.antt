@@ -3,6 +3,7 @@ use Rattle.std.specs.Prelude.{ℕ, ◌==◌, ◌&&◌, ◌||◌, nat_eq, Bool, L
 use Rattle.std.specs.List.{slice_split, starts_with}
 use Rattle.std.specs.Str.{all_ascii_digits}
 use Rattle.std.specs.Str.Parse.{digits_value}
+use Rattle.plain_text.specs.Parts.{fields_of}
 
 -- The steps of each meter and the lines of strangers, each told by its receiver and its line there.
 pub record Orders : Type 0 where
@@ -18,15 +19,13 @@ pub record Told : Type 0 where
 abbrev pub lines_in : List ℕ → List (List ℕ)
 lines_in text = slice_split (λ b. b == 10) text
 
-abbrev pub fields_in : List ℕ → List (List ℕ)
-fields_in line = slice_split (λ b. b == 32) line
-
 abbrev pub begins : List ℕ → List ℕ → Bool
 begins word line = starts_with nat_eq line word
 
 -- The two numbers behind the first word. A line with too few fields, or with another byte than digits in one of the two, is passed over.
 abbrev pub pair_in : List (List ℕ) → List (ℕ × ℕ)
-pair_in (word ∷ first ∷ second ∷ more) = if all_ascii_digits first && all_ascii_digits second then (digits_value 10 first, digits_value 10 second) ∷ [] else []
+pair_in (word ∷ first ∷ second ∷ more) =
+    if all_ascii_digits first && all_ascii_digits second then (digits_value 10 first, digits_value 10 second) ∷ [] else []
 pair_in _ = []
 
 -- a meter's heading opens its list: the steps between it and the next heading are its own
@@ -46,7 +45,7 @@ unfoldable pub with_line : List ℕ → Told → Told
 with_line line below =
     if begins (codes "meter ") line then meter_heading below else
     (if begins (codes "strangers ") line then strangers_heading below else
-    (if begins (codes "step ") line || begins (codes "stranger ") line then with_steps (pair_in (fields_in line)) below else
+    (if begins (codes "step ") line || begins (codes "stranger ") line then with_steps (pair_in (fields_of line)) below else
     below))
 
 abbrev pub told : List (List ℕ) → Told

@@ -73,9 +73,13 @@ abbrev pub steps_text : List Reading → List Entry → List ℕ
 steps_text kept [] = []
 steps_text kept (e ∷ later) = step_text (slice_get kept 0) e ++ steps_text (readings_after e.outcome kept) later
 
+-- the last reading, if there is one
+abbrev pub last_reading : List Reading → Option Reading
+last_reading kept = slice_get kept (length kept - 1)
+
 -- the records of the last reading
 unfoldable pub last_text : List Reading → List ℕ
-last_text kept = text_if (λ r. records_text r.payload) (slice_get kept (length kept - 1))
+last_text kept = text_if (λ r. records_text r.payload) (last_reading kept)
 
 -- a command that waits, and how often it was sent
 unfoldable pub pending_text : Command → List ℕ

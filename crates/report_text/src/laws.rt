@@ -1,7 +1,13 @@
 //! Laws of every report: a function's contract is a law.
 ghost use Rattle.report_text.specs.OrdersLaw.{OrdersAreTold};
+ghost use Rattle.report_text.specs.ReadingsLaw.{JsonListsTheReport};
 
 /// The text of a report tells the order of each meter's steps, and that of the strangers' lines.
 pub fn orders_are_told()
     ensures { OrdersAreTold }
+{}
+
+/// The records, the fault and the `more` that the JSON tells of a payload are those that the report lists.
+pub fn json_lists_the_report()
+    ensures { JsonListsTheReport }
 {}

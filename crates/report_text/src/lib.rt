@@ -1,13 +1,17 @@
-//! The report of a session.
+//! The report of a session, and its readings as JSON.
 #![tactic(auto)]
 
+mod entries;
 mod laws;
 mod lent;
+mod listing;
 mod outcomes;
+mod readings;
 mod writing;
 
-pub use laws::orders_are_told;
+pub use laws::{json_lists_the_report, orders_are_told};
 pub use lent::{ReceiverEnd, Session};
+pub use readings::readings_json;
 pub use writing::report;
 
 #[cfg(test)]

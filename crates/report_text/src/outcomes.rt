@@ -6,7 +6,7 @@ ghost use Rattle.report_text.specs.Outcomes.{bad_layers_text, reason_text, readi
 ghost use Rattle.report_text.specs.Outcomes.{refused_text, ticked_text, outcome_text};
 
 use layer_text::{put_layer_fault, put_named_fault};
-use meter_slots::{Downlink, LayerFault, Outcome, Reading, Reason};
+use meter_slots::{LayerFault, Outcome, Reading, Reason, SentDownlink};
 use paper::{Paper, put_labelled, put_labelled_bytes, put_labelled_if, put_labelled_two, put_text};
 use record_text::put_bytes;
 
@@ -104,10 +104,10 @@ fn put_ticked<P: Paper>(paper: &mut P, expired: Option<u32>)
 }
 
 // The counter of a downlink, where one is sent.
-fn counter_of(sent: &Option<Downlink>) -> Option<u32>
+fn counter_of(sent: &SentDownlink) -> Option<u32>
     ensures { result ≡ option_map (λ s. s.down) sent.now }
 {
-    match sent {
+    match sent.get() {
         None => None,
         Some(downlink) => Some(downlink.down()),
     }

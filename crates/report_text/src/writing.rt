@@ -118,7 +118,7 @@ fn put_records_of<P: Paper>(paper: &mut P, reading: Option<&Reading>)
 fn put_last<P: Paper>(paper: &mut P, readings: &[Reading])
     ensures { Puts P.takes paper.old (last_text readings.now) paper.new }
 {
-    put_records_of(paper, readings.get(readings.len().saturating_sub(1)))
+    put_records_of(paper, readings.last())
 }
 
 #[tactic(auto, unfolding(crate::specs::Report::pending_text), using(paper::proofs::Calls::two_make))]
@@ -298,8 +298,10 @@ impl Printed for Session<'_> {
 
 /// Writes the report of a session, in large pieces and without memory. On `Failed` some first bytes of it were written.
 pub fn report<K: Sink>(session: &Session<'_>, sink: &mut K) -> Result<(), Failed>
-    ensures ok { OnOk result (IsTrue K.tells → K.written sink.new ≡ K.written sink.old ++ report_text session.now.ends.now session.now.slots.now session.now.strangers.now) }
-    ensures err { OnErr result (IsTrue K.tells → AppendsFront (report_text session.now.ends.now session.now.slots.now session.now.strangers.now) (K.written sink.old) (K.written sink.new)) }
+    ensures ok { let text = report_text session.now.ends.now session.now.slots.now session.now.strangers.now in
+        OnOk result (IsTrue K.tells → K.written sink.new ≡ K.written sink.old ++ text) }
+    ensures err { let text = report_text session.now.ends.now session.now.slots.now session.now.strangers.now in
+        OnErr result (IsTrue K.tells → AppendsFront text (K.written sink.old) (K.written sink.new)) }
     ensures later { K.faults sink.old ≤ K.faults sink.new }
     ensures cause { OnErr result (Rose (K.faults sink.old) (K.faults sink.new)) }
 {

@@ -8,7 +8,7 @@ use Rattle.std.specs.Str.Parse.{digits_value}
 use Rattle.std.proofs.lemmas.Bool.Decides.{nat_tests}
 use Rattle.outer_io.specs.Each.{Each}
 use Rattle.plain_text.specs.Numbers.{is_plain, number_of}
-use Rattle.plain_text.specs.Parts.{fields_of}
+use Rattle.plain_text.specs.Parts.{fields_of, is_word}
 use Rattle.meter_address.specs.declared.address.Address.{Address}
 use Rattle.meter_address.specs.declared.commission.Mode.{Mode}
 use Rattle.meter_address.specs.declared.commission.Mode.TheVariants.{Five, Seven}
@@ -21,7 +21,7 @@ use Rattle.roster_file.specs.declared.roster.LineCause.{LineCause}
 use Rattle.roster_file.specs.declared.roster.LineCause.TheVariants as causes
 use Rattle.roster_file.specs.declared.roster.RosterFault.{RosterFault}
 use Rattle.roster_file.specs.declared.roster.RosterFault.TheVariants.{Line}
-use Rattle.roster_file.specs.Roster.{Columns, Enrolled, at_line, columns_of, counter_of, enlisted, enlisted_from, entries_from, head_of, headed, is_text, last_of, meter_of, meter_of_columns, meter_of_kind, meters_of, mode_of, other_of, own_of, own_of_fields, owned, roster_of, second_key_of, with_own}
+use Rattle.roster_file.specs.Roster.{Columns, Enrolled, at_line, columns_of, counter_of, enlisted, enlisted_from, entries_from, head_of, headed, last_of, meter_of, meter_of_columns, meter_of_kind, meters_of, mode_of, other_of, own_of, own_of_fields, owned, roster_of, second_key_of, with_own}
 use Rattle.steps.specs.Steps.{◌>>=◌}
 use Rattle.roster_file.specs.Enrolled.{IsEnrolled}
 
@@ -72,7 +72,7 @@ number_within most text n h = by_test (is_plain text && nat_le (digits_value 10 
 
 other_fits : (mode : Mode) (text : List ℕ) (other : Option (List ℕ)) → other_of mode text ≡ Some other
     → ForSome other IsKey × (mode ≡ Five → other ≡ None)
-other_fits mode text other h = by_dash (is_text text (codes "-")) h
+other_fits mode text other h = by_dash (is_word text (codes "-")) h
   where
     by_key : (mode : Mode) (key : Option (List ℕ)) → second_key_of mode text ≡ key → option_map Some key ≡ Some other
         → ForSome other IsKey × (mode ≡ Five → other ≡ None)
@@ -90,14 +90,15 @@ other_fits mode text other h = by_dash (is_text text (codes "-")) h
     by_dash false given = by_key mode (second_key_of mode text) refl given
 
 last_fits : (mode : Mode) (text : List ℕ) (last : Option ℕ) → last_of mode text ≡ Some last → ForSome last (λ n. n ≤ most_last mode)
-last_fits mode text last h = by_dash (is_text text (codes "-")) h
+last_fits mode text last h = by_dash (is_word text (codes "-")) h
   where
     by_number : (o : Option ℕ) → number_of (most_last mode) text ≡ o → option_map Some o ≡ Some last
         → ForSome last (λ n. n ≤ most_last mode)
     by_number None is given = absurd cc
     by_number (Some n) is given =
         let same : Some n ≡ last = cc in
-        subst (λ (l : Option ℕ). ForSome l (λ n. n ≤ most_last mode)) same (some_is (λ n. n ≤ most_last mode) n (number_within (most_last mode) text n is))
+        subst (λ (l : Option ℕ). ForSome l (λ n. n ≤ most_last mode)) same
+        (some_is (λ n. n ≤ most_last mode) n (number_within (most_last mode) text n is))
 
     by_dash : (b : Bool) → cond b (Some None) (option_map Some (number_of (most_last mode) text)) ≡ Some last
         → ForSome last (λ n. n ≤ most_last mode)
@@ -119,7 +120,8 @@ columns_fit t c h =
     let last = field_ok (last_of mode.0 t.last) causes.Last _ c other.2 in
     let down = field_ok (counter_of t.down) causes.Down _ c last.2 in
     let ids = field_ok (counter_of t.ids) causes.Ids _ c down.2 in
-    let made : Commissioned = record { address = address.0; mode = mode.0; key = key.0; other = other.0; last = last.0; down = down.0; ids = ids.0 } in
+    let made : Commissioned =
+    record { address = address.0; mode = mode.0; key = key.0; other = other.0; last = last.0; down = down.0; ids = ids.0 } in
     let same : made ≡ c = cc ids.2 in
     let fits = other_fits mode.0 t.other other.0 other.1 in
     subst IsCommission same (record {
@@ -133,11 +135,12 @@ columns_fit t c h =
 
 kind_fits : (version : Version) (fields : List (List ℕ)) (c : Commissioned) → meter_of_kind version fields ≡ Ok c → IsCommission c
 kind_fits version [] c h = absurd cc
-kind_fits version (kind ∷ fields) c h = by_kind (is_text kind (codes "meter")) h
+kind_fits version (kind ∷ fields) c h = by_kind (is_word kind (codes "meter")) h
   where
     by_kind : (b : Bool) → cond b (ok_or (columns_of version fields) causes.Fields >>= meter_of_columns) (Err causes.Kind) ≡ Ok c
         → IsCommission c
-    by_kind true given = let step = field_ok (columns_of version fields) causes.Fields meter_of_columns c given in columns_fit step.0 c step.2
+    by_kind true given = let step = field_ok (columns_of version fields) causes.Fields meter_of_columns c given in
+        columns_fit step.0 c step.2
     by_kind false given = absurd cc
 
 meter_fits : (version : Version) (line : List ℕ) (c : Commissioned) → meter_of version line ≡ Ok c → IsCommission c
@@ -187,12 +190,18 @@ stands_with meters more c false true stands is k f h = absurd cc
 stands_with meters more c false false stands is k f h =
     let same : meters ++ c ∷ [] ≡ more = cc in
     let room : length meters < 4096 = grind (arith, nat_tests) in
-    subst CanStand same (record { apart = apart_last meters c stands.apart k; few = omega (arith, length-append meters (c ∷ [])); each = each_last meters c stands.each is })
+    subst CanStand same (record {
+      apart = apart_last meters c stands.apart k;
+      few = omega (arith, length-append meters (c ∷ []));
+      each =
+          each_last meters c stands.each is;
+    })
 
 stands_from : (version : Version) (meters more : List Commissioned) (e : ℕ × List ℕ) → CanStand meters
     → enlisted_from version meters e ≡ Ok more → CanStand more
 stands_from version meters more e stands h =
-    let enlists = bind_ok (meter_of version e.1) (enlisted meters) more (at_line_ok e.0 (meter_of version e.1 >>= enlisted meters) more h) in
+    let enlists =
+    bind_ok (meter_of version e.1) (enlisted meters) more (at_line_ok e.0 (meter_of version e.1 >>= enlisted meters) more h) in
     stands_with meters more enlists.0 _ _ stands (meter_fits version e.1 enlists.0 enlists.1) refl refl enlists.2
 
 all_stand : (version : Version) (meters all : List Commissioned) (entries : List (ℕ × List ℕ)) → CanStand meters
@@ -215,7 +224,7 @@ own_fits line own h = by_fields (fields_of line) h
     by_fields : (fields : List (List ℕ)) → own_of_fields fields ≡ Ok own → own.0 < 2 ^ 64
     by_fields [] given = absurd cc
     by_fields (kind ∷ []) given = absurd cc
-    by_fields (kind ∷ a ∷ []) given = by_kind a (is_text kind (codes "own")) given
+    by_fields (kind ∷ a ∷ []) given = by_kind a (is_word kind (codes "own")) given
     by_fields (kind ∷ a ∷ b ∷ more) given = absurd cc
 
 with_own_is : (own : Address) (ms : Result (List Commissioned) RosterFault) (r : Enrolled) → with_own own ms ≡ Ok r

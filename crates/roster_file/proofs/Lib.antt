@@ -3,3 +3,4 @@ pub mod LinePieces
 pub mod ReadBack
 pub mod RosterLines
 pub mod Words
+pub mod AllFaults

@@ -14,13 +14,15 @@ use Rattle.roster_file.specs.Writing.{name_text, keys_text, counts_text}
 -- fields and spaces, bracketed either way
 brackets : (w a m k o l d i : List ℕ)
     → (w ++ 32 ∷ (a ++ 32 ∷ (m ++ 32 ∷ (k ++ 32 ∷ (o ++ 32 ∷ (l ++ 32 ∷ (d ++ 32 ∷ i))))))) ++ (10 ∷ [])
-    ≡ ((w ++ (32 ∷ [])) ++ a ++ (32 ∷ []) ++ m ++ (32 ∷ [])) ++ (k ++ (32 ∷ []) ++ o ++ (32 ∷ [])) ++ (l ++ (32 ∷ []) ++ d ++ (32 ∷ []) ++ i ++ (10 ∷ []))
+    ≡ ((w ++ (32 ∷ [])) ++ a ++ (32 ∷ []) ++ m ++ (32 ∷ [])) ++ (k ++ (32 ∷ []) ++ o ++ (32 ∷ []))
+    ++ (l ++ (32 ∷ []) ++ d ++ (32 ∷ []) ++ i ++ (10 ∷ []))
 brackets w a m k o l d i = simp append_assoc refl
 
 meter_is : (c : Commissioned) → meter_text c ≡ name_text c ++ keys_text c ++ counts_text c
 unfolding meter_text name_text keys_text counts_text
 meter_is c =
-    brackets (codes "meter") (text_of c.address) (mode_text c.mode) (encode_lower c.key) (other_text c.other) (last_text c.last) (decimal c.down) (decimal c.ids)
+    brackets (codes "meter") (text_of c.address) (mode_text c.mode) (encode_lower c.key) (other_text c.other) (last_text c.last)
+    (decimal c.down) (decimal c.ids)
 
 pub meter_line : {P : Type 0} {takes : P → List ℕ → P → Type 0} {p q r s : P} (c : Commissioned) → Puts takes p (name_text c) q
     → Puts takes q (keys_text c) r → Puts takes r (counts_text c) s → Puts takes p (meter_text c) s

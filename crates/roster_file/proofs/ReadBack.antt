@@ -14,7 +14,7 @@ use Rattle.hex.specs.Hex.{encode_lower, encode_with, lower_digits}
 use Rattle.hex.proofs.HexLemmas.{length-encode_with}
 use Rattle.outer_io.specs.Each.{Each}
 use Rattle.plain_text.specs.Numbers.{is_plain, number_of}
-use Rattle.plain_text.specs.Parts.{fields_of}
+use Rattle.plain_text.specs.Parts.{fields_of, is_word}
 use Rattle.plain_text.proofs.Plain.{written}
 use Rattle.meter_address.specs.declared.address.Address.{Address}
 use Rattle.meter_address.specs.declared.commission.Mode.{Mode}
@@ -29,7 +29,7 @@ use Rattle.roster_file.specs.declared.roster.LineCause.{LineCause}
 use Rattle.roster_file.specs.declared.roster.LineCause.TheVariants as causes
 use Rattle.roster_file.specs.declared.roster.RosterFault.{RosterFault}
 use Rattle.roster_file.specs.declared.roster.RosterFault.TheVariants.{Line}
-use Rattle.roster_file.specs.Roster.{Columns, Enrolled, at_line, columns_of, counter_of, enlisted, enlisted_from, entries_from, headed, is_text, last_of, meter_of, meter_of_columns, meter_of_kind, meters_of, mode_of, other_of, own_of, own_of_fields, owned, roster_of, second_key_of, with_own}
+use Rattle.roster_file.specs.Roster.{Columns, Enrolled, at_line, columns_of, counter_of, enlisted, enlisted_from, entries_from, headed, last_of, meter_of, meter_of_columns, meter_of_kind, meters_of, mode_of, other_of, own_of, own_of_fields, owned, roster_of, second_key_of, with_own}
 use Rattle.steps.specs.Steps.{◌>>=◌}
 use Rattle.roster_file.specs.Text.{mode_text, other_text, last_text, meter_fields, meter_text, own_text, roster_text}
 use Rattle.roster_file.specs.Enrolled.{IsEnrolled}
@@ -38,7 +38,7 @@ use Rattle.roster_file.proofs.Words.{IsAbove, IsWord, IsPrinted, number_above, h
 
 -- ---- a field
 
-number_back : (most n : ℕ) → most < 2 ^ 64 → n ≤ most → number_of most (decimal n) ≡ Some n
+pub number_back : (most n : ℕ) → most < 2 ^ 64 → n ≤ most → number_of most (decimal n) ≡ Some n
 unfolding number_of
 number_back most n small within = by_answer (number_of most (decimal n)) refl
   where
@@ -55,18 +55,18 @@ mode_back Five = refl
 mode_back Seven = refl
 
 -- a dash is no number and no key
-no_dash : (text : List ℕ) → IsAbove 45 text → is_text text (codes "-") ≡ false
+no_dash : (text : List ℕ) → IsAbove 45 text → is_word text (codes "-") ≡ false
 no_dash [] is = refl
 no_dash (b ∷ text) is =
     let first : nat_lt 45 b ≡ true = (and_parts (nat_lt 45 b) (list_all (nat_lt 45) text) is.passed).0 in
     let other : (b == 45) ≡ false = grind (arith, nat_tests) in
-    ap (λ t. t && is_text text []) other
+    ap (λ t. t && is_word text []) other
 
 and_false : (b : Bool) → (b && false) ≡ false
 and_false true = refl
 and_false false = refl
 
-no_dash_key : (key : List ℕ) → length key ≡ 16 → is_text (encode_lower key) (codes "-") ≡ false
+no_dash_key : (key : List ℕ) → length key ≡ 16 → is_word (encode_lower key) (codes "-") ≡ false
 unfolding encode_with
 no_dash_key [] long = absurd (omega arith)
 no_dash_key (b ∷ key) long = and_false (get_or lower_digits (b / 16) 0 == 45)
@@ -77,7 +77,8 @@ other_back mode None one_key keys = refl
 other_back Five (Some key) one_key keys = absurd (let none = one_key refl in cc)
 other_back Seven (Some key) one_key keys =
     let is = keys key refl in
-    ap (λ b. cond b (Some None) (option_map Some (key_of (encode_lower key)))) (no_dash_key key is.long) ∙ ap (option_map Some) (written_key key is)
+    ap (λ b. cond b (Some None) (option_map Some (key_of (encode_lower key)))) (no_dash_key key is.long)
+    ∙ ap (option_map Some) (written_key key is)
 
 most_small : (mode : Mode) → most_last mode < 2 ^ 64
 most_small Five = omega arith
@@ -86,7 +87,8 @@ most_small Seven = omega arith
 last_back : (mode : Mode) (last : Option ℕ) → ForSome last (λ n. n ≤ most_last mode) → last_of mode (last_text last) ≡ Some last
 last_back mode None fits = refl
 last_back mode (Some n) fits =
-    ap (λ b. cond b (Some None) (option_map Some (number_of (most_last mode) (decimal n)))) (no_dash (decimal n) (number_above 45 n (omega arith)))
+    ap (λ b. cond b (Some None) (option_map Some (number_of (most_last mode) (decimal n))))
+    (no_dash (decimal n) (number_above 45 n (omega arith)))
     ∙ ap (option_map Some) (number_back (most_last mode) n (most_small mode) (fits n refl))
 
 counter_back : (n : ℕ) → n < 2 ^ 32 → counter_of (decimal n) ≡ Some n
@@ -183,7 +185,8 @@ new_behind : (before : List Commissioned) (c : Commissioned) (after : List Commi
     → AreApart (map (λ m. m.address) (before ++ c ∷ after)) → list_any (λ m. m.address.0 == c.address.0) before ≡ false
 new_behind [] c after apart = refl
 new_behind (m ∷ before) c after apart =
-    ap (λ b. b || list_any (λ m. m.address.0 == c.address.0) before) (eqb_swap m.address.0 c.address.0 ∙ any_at m.address.0 before c after apart.0)
+    ap (λ b. b || list_any (λ m. m.address.0 == c.address.0) before) (eqb_swap m.address.0 c.address.0
+    ∙ any_at m.address.0 before c after apart.0)
     ∙ new_behind before c after apart.1
 
 enlisted_behind : (before : List Commissioned) (c : Commissioned) (after : List Commissioned)
@@ -191,7 +194,8 @@ enlisted_behind : (before : List Commissioned) (c : Commissioned) (after : List 
     → enlisted before c ≡ Ok (before ++ c ∷ [])
 enlisted_behind before c after apart few =
     let room : nat_le 4096 (length before) ≡ false = (let all = length-append before (c ∷ after) in grind (arith, nat_tests)) in
-    ap (λ b. cond b (Err causes.Same) (cond (nat_le 4096 (length before)) (Err causes.TooMany) (Ok (before ++ c ∷ [])))) (new_behind before c after apart)
+    ap (λ b. cond b (Err causes.Same) (cond (nat_le 4096 (length before)) (Err causes.TooMany) (Ok (before ++ c ∷ []))))
+    (new_behind before c after apart)
     ∙ ap (λ b. cond b (Err causes.TooMany) (Ok (before ++ c ∷ []))) room
 
 -- a line of words is neither empty nor a comment
@@ -204,7 +208,8 @@ meters_back : (n : ℕ) (before after : List Commissioned) → AreApart (map (λ
     → meters_of Two before (entries_from n (map meter_line after)) ≡ Ok (before ++ after)
 meters_back n before [] apart few each = ap (meters_of Two before) (none_left n) ∙ meters_end Two before ∙ ap Ok (sym (append-nil before))
 meters_back n before (c ∷ after) apart few each =
-    let step : enlisted_from Two before (n, meter_line c) ≡ Ok (before ++ c ∷ []) = rw (meter_back c each.0, enlisted_behind before c after apart few) refl in
+    let step : enlisted_from Two before (n, meter_line c) ≡ Ok (before ++ c ∷ []) =
+    rw (meter_back c each.0, enlisted_behind before c after apart few) refl in
     let same : (before ++ c ∷ []) ++ after ≡ before ++ c ∷ after = append_assoc before (c ∷ []) after in
     ap (meters_of Two before) (meter_counts c n (map meter_line after))
     ∙ meters_next Two before (before ++ c ∷ []) (n, meter_line c) (entries_from (n + 1) (map meter_line after)) step
@@ -224,13 +229,15 @@ own_words own = (hex_word (bytes_of own) (IsBytes-bytes_of own), tt)
 
 own_back : (own : Address) → own.0 < 2 ^ 64 → own_of (own_line own) ≡ Ok own
 own_back own fits =
-    ap own_of_fields (fields_joined (codes "own") (text_of own ∷ []) own_word (own_words own)) ∙ ap (λ o. ok_or o causes.Own) (written_address own fits)
+    ap own_of_fields (fields_joined (codes "own") (text_of own ∷ []) own_word (own_words own))
+    ∙ ap (λ o. ok_or o causes.Own) (written_address own fits)
 
 meter_lines : (meters : List Commissioned) → Each IsCommission meters → lines (flat_map meter_text meters) ≡ map meter_line meters
 unfolding meter_text
 meter_lines [] each = refl
 meter_lines (c ∷ meters) each =
-    ended_line (meter_line c) (flat_map meter_text meters) (joined_printed (codes "meter") (behind_meter c) meter_word (meter_words c each.0))
+    ended_line (meter_line c) (flat_map meter_text meters)
+    (joined_printed (codes "meter") (behind_meter c) meter_word (meter_words c each.0))
     ∙ ap (λ ls. meter_line c ∷ ls) (meter_lines meters each.1)
 
 abbrev head_line : List ℕ
@@ -244,7 +251,8 @@ unfolding roster_text own_text
 roster_lines r is =
     ap lines (append_assoc (head_line ++ 10 ∷ []) (own_text r.own) (flat_map meter_text r.meters))
     ∙ ended_line head_line (own_text r.own ++ flat_map meter_text r.meters) head_printed
-    ∙ ap (λ ls. head_line ∷ ls) (ended_line (own_line r.own) (flat_map meter_text r.meters) (joined_printed (codes "own") (text_of r.own ∷ []) own_word (own_words r.own)))
+    ∙ ap (λ ls. head_line ∷ ls) (ended_line (own_line r.own) (flat_map meter_text r.meters)
+    (joined_printed (codes "own") (text_of r.own ∷ []) own_word (own_words r.own)))
     ∙ ap (λ ls. head_line ∷ own_line r.own ∷ ls) (meter_lines r.meters is.each)
 
 -- ---- its length
@@ -289,7 +297,9 @@ eight_len w a m k o l d i =
 meter_len : (c : Commissioned) → IsCommission c → length (meter_text c) ≤ 200
 unfolding meter_text
 meter_len c is =
-    let all = eight_len (codes "meter") (text_of c.address) (mode_text c.mode) (encode_lower c.key) (other_text c.other) (last_text c.last) (decimal c.down) (decimal c.ids) in
+    let all =
+    eight_len (codes "meter") (text_of c.address) (mode_text c.mode) (encode_lower c.key) (other_text c.other) (last_text c.last)
+    (decimal c.down) (decimal c.ids) in
     let address = length-encode_with lower_digits (bytes_of c.address) in
     let eight = length-bytes_of c.address in
     let mode = mode_len c.mode in
@@ -346,6 +356,7 @@ pub written_is_read : (r : Enrolled) → IsEnrolled r → roster_of (roster_text
 unfolding roster_of
 written_is_read r is =
     let short : nat_lt 1048576 (length (roster_text r)) ≡ false = (let few = roster_len r is in grind (arith, nat_tests)) in
-    ap (λ b. cond b (Err (Line 0 causes.TooLong)) (headed (entries_from 1 (lines (roster_text r))) (length (lines (roster_text r)) + 1))) short
+    ap (λ b. cond b (Err (Line 0 causes.TooLong)) (headed (entries_from 1 (lines (roster_text r))) (length (lines (roster_text r)) + 1)))
+    short
     ∙ ap (λ ls. headed (entries_from 1 ls) (length (lines (roster_text r)) + 1)) (roster_lines r is)
     ∙ headed_back r (length (lines (roster_text r)) + 1) is

@@ -11,12 +11,14 @@ use Rattle.steps.specs.Steps.{◌>>=◌}
 pub passed : (n : ℕ) (text : List ℕ) (texts : List (List ℕ)) → is_passed_over text ≡ true
     → entries_from n (text ∷ texts) ≡ entries_from (n + 1) texts
 unfolding entries_from
-passed n text texts h = let rest = filter (λ e. not (is_passed_over e.1)) (enumerate_from (n + 1) texts) in ap (λ b. cond (not b) ((n, text) ∷ rest) rest) h
+passed n text texts h = let rest = filter (λ e. not (is_passed_over e.1)) (enumerate_from (n + 1) texts) in
+    ap (λ b. cond (not b) ((n, text) ∷ rest) rest) h
 
 pub counted : (n : ℕ) (text : List ℕ) (texts : List (List ℕ)) → is_passed_over text ≡ false
     → entries_from n (text ∷ texts) ≡ (n, text) ∷ entries_from (n + 1) texts
 unfolding entries_from
-counted n text texts h = let rest = filter (λ e. not (is_passed_over e.1)) (enumerate_from (n + 1) texts) in ap (λ b. cond (not b) ((n, text) ∷ rest) rest) h
+counted n text texts h = let rest = filter (λ e. not (is_passed_over e.1)) (enumerate_from (n + 1) texts) in
+    ap (λ b. cond (not b) ((n, text) ∷ rest) rest) h
 
 pub none_left : (n : ℕ) → entries_from n [] ≡ []
 unfolding entries_from

@@ -45,7 +45,9 @@ both_above {low} a b x y = record { passed = list_all-append (nat_lt low) a b �
 -- ---- numbers and digits
 
 glyph_above : (low d : ℕ) → low < 48 → nat_lt low (digit_glyph false d) ≡ true
-glyph_above low d h = cond_both (nat_lt d 10) (48 + d) (87 + d) (λ c. nat_lt low c ≡ true) (λ _. above low (48 + d) (omega arith)) (λ _. above low (87 + d) (omega arith))
+glyph_above low d h =
+    cond_both (nat_lt d 10) (48 + d) (87 + d) (λ c. nat_lt low c ≡ true) (λ _. above low (48 + d) (omega arith))
+    (λ _. above low (87 + d) (omega arith))
 
 digits_above : (low : ℕ) → low < 48 → (k base n : ℕ) (behind : List ℕ) → list_all (nat_lt low) behind ≡ true
     → list_all (nat_lt low) (digits_onto k base false n behind) ≡ true
@@ -53,7 +55,8 @@ digits_above low h zero base n behind is = is
 digits_above low h (suc k) base n behind is =
     let one : List ℕ = digit_glyph false (n % base) ∷ behind in
     let more : list_all (nat_lt low) one ≡ true = and_from _ _ (glyph_above low (n % base) h) is in
-    cond_both (n / base == 0) one (digits_onto k base false (n / base) one) (λ t. list_all (nat_lt low) t ≡ true) (λ _. more) (λ _. digits_above low h k base (n / base) one more)
+    cond_both (n / base == 0) one (digits_onto k base false (n / base) one) (λ t. list_all (nat_lt low) t ≡ true) (λ _. more)
+    (λ _. digits_above low h k base (n / base) one more)
 
 pub number_above : (low n : ℕ) → low < 48 → IsAbove low (decimal n)
 unfolding digits
@@ -71,7 +74,8 @@ unfolding encode_with
 hex_above table [] sixteen is fits = refl
 hex_above table (b ∷ bytes) sixteen is fits =
     let byte : b < 256 = fits 0 in
-    and_from _ _ (found_above 32 table (b / 16) (omega arith) is) (and_from _ _ (found_above 32 table (b % 16) (omega arith) is) (hex_above table bytes sixteen is (λ i. fits (suc i))))
+    and_from _ _ (found_above 32 table (b / 16) (omega arith) is)
+    (and_from _ _ (found_above 32 table (b % 16) (omega arith) is) (hex_above table bytes sixteen is (λ i. fits (suc i))))
 
 pub hex_word : (bytes : List ℕ) → IsBytes bytes → IsWord (encode_lower bytes)
 hex_word bytes fits = record { passed = hex_above lower_digits bytes refl refl fits }
@@ -83,13 +87,15 @@ cut_first : (s : ℕ) (part rest : List ℕ) → IsAbove s part
 cut_first s [] rest is = slice_split-cons_yes (λ b. b == s) s rest (grind (arith, nat_tests))
 cut_first s (x ∷ part) rest is =
     let parts = and_parts _ _ is.passed in
-    slice_split-cons_no (λ b. b == s) x (part ++ s ∷ rest) (not_byte s x (is_above s x parts.0)) ∙ ap (onto_first x) (cut_first s part rest (record { passed = parts.1 }))
+    slice_split-cons_no (λ b. b == s) x (part ++ s ∷ rest) (not_byte s x (is_above s x parts.0))
+    ∙ ap (onto_first x) (cut_first s part rest (record { passed = parts.1 }))
 
 cut_last : (s : ℕ) (part : List ℕ) → IsAbove s part → slice_split (λ b. b == s) part ≡ part ∷ []
 cut_last s [] is = refl
 cut_last s (x ∷ part) is =
     let parts = and_parts _ _ is.passed in
-    slice_split-cons_no (λ b. b == s) x part (not_byte s x (is_above s x parts.0)) ∙ ap (onto_first x) (cut_last s part (record { passed = parts.1 }))
+    slice_split-cons_no (λ b. b == s) x part (not_byte s x (is_above s x parts.0))
+    ∙ ap (onto_first x) (cut_last s part (record { passed = parts.1 }))
 
 -- words with blanks between them are fields
 pub fields_joined : (word : List ℕ) (words : List (List ℕ)) → IsWord word → Each IsWord words
@@ -117,7 +123,8 @@ kept_line text is = ap (λ b. cond b (take (length text - 1) text) text) (no_ret
 
 pub printed_line : (text rest : List ℕ) → IsPrinted text → lines (text ++ 10 ∷ rest) ≡ text ∷ lines rest
 printed_line text rest is =
-    lines_cut (text ++ 10 ∷ rest) text rest (cut_first 10 text rest (lower 31 10 text (omega arith) is)) ∙ ap (λ x. x ∷ lines rest) (kept_line text is)
+    lines_cut (text ++ 10 ∷ rest) text rest (cut_first 10 text rest (lower 31 10 text (omega arith) is))
+    ∙ ap (λ x. x ∷ lines rest) (kept_line text is)
 
 -- a line with its newline, in front of others
 pub ended_line : (text rest : List ℕ) → IsPrinted text → lines ((text ++ 10 ∷ []) ++ rest) ≡ text ∷ lines rest

@@ -3,3 +3,4 @@ pub mod Columns
 pub mod Text
 pub mod Writing
 pub mod Enrolled
+pub mod Faults

@@ -1,12 +1,11 @@
 -- The grammar of the roster, with its first fault.
-use Rattle.std.specs.Prelude.{ℕ, ◌==◌, ◌+◌, ◌-◌, ◌^◌, ◌||◌, not, nat_eq, nat_le, nat_lt, Bool, List, [], ◌∷◌, ◌++◌, length, slice_index, filter, codes, Option, Some, None, option_map, Result, Ok, Err, if◌then◌else◌}
+use Rattle.std.specs.Prelude.{ℕ, ◌==◌, ◌+◌, ◌-◌, ◌^◌, ◌||◌, not, nat_le, nat_lt, Bool, List, [], ◌∷◌, ◌++◌, length, slice_index, filter, codes, Option, Some, None, option_map, Result, Ok, Err, if◌then◌else◌}
 use Rattle.std.specs.Option.{ok_or}
 use Rattle.std.specs.List.{enumerate_from, list_any}
-use Rattle.std.specs.Cmp.Lexicographic.{pointwise}
 use Rattle.std.specs.Str.Lines.{lines}
 use Rattle.steps.specs.Steps.{◌>>=◌}
 use Rattle.plain_text.specs.Numbers.{number_of}
-use Rattle.plain_text.specs.Parts.{fields_of}
+use Rattle.plain_text.specs.Parts.{fields_of, is_word}
 use Rattle.meter_address.specs.declared.address.Address.{Address}
 use Rattle.meter_address.specs.declared.commission.Mode.{Mode}
 use Rattle.meter_address.specs.declared.commission.Mode.TheVariants.{Five, Seven}
@@ -24,14 +23,10 @@ pub record Enrolled : Type 0 where
   pub own : Address
   pub meters : List Commissioned
 
--- two texts are the same
-abbrev pub is_text : List ℕ → List ℕ → Bool
-is_text text other = pointwise nat_eq text other
-
 -- ---- a field
 
 abbrev pub mode_of : List ℕ → Option Mode
-mode_of text = if is_text text (codes "5") then Some Five else if is_text text (codes "7") then Some Seven else None
+mode_of text = if is_word text (codes "5") then Some Five else if is_word text (codes "7") then Some Seven else None
 
 -- a second key in mode 7, and none in mode 5
 abbrev pub second_key_of : Mode → List ℕ → Option (List ℕ)
@@ -40,11 +35,11 @@ second_key_of Seven text = key_of text
 
 -- a dash for none, or a second key
 abbrev pub other_of : Mode → List ℕ → Option (Option (List ℕ))
-other_of mode text = if is_text text (codes "-") then Some None else option_map Some (second_key_of mode text)
+other_of mode text = if is_word text (codes "-") then Some None else option_map Some (second_key_of mode text)
 
 -- a dash for none, or a number of the mode's range
 abbrev pub last_of : Mode → List ℕ → Option (Option ℕ)
-last_of mode text = if is_text text (codes "-") then Some None else option_map Some (number_of (most_last mode) text)
+last_of mode text = if is_word text (codes "-") then Some None else option_map Some (number_of (most_last mode) text)
 
 abbrev pub counter_of : List ℕ → Option ℕ
 counter_of text = number_of (2 ^ 32 - 1) text
@@ -84,14 +79,14 @@ meter_of_columns c = do
 abbrev pub meter_of_kind : Version → List (List ℕ) → Result Commissioned LineCause
 meter_of_kind version [] = Err causes.Kind
 meter_of_kind version (kind ∷ fields) =
-    if is_text kind (codes "meter") then ok_or (columns_of version fields) causes.Fields >>= meter_of_columns else Err causes.Kind
+    if is_word kind (codes "meter") then ok_or (columns_of version fields) causes.Fields >>= meter_of_columns else Err causes.Kind
 
 -- what a meter's line says by itself
 abbrev pub meter_of : Version → List ℕ → Result Commissioned LineCause
 meter_of version line = meter_of_kind version (fields_of line)
 
 abbrev pub own_of_fields : List (List ℕ) → Result Address LineCause
-own_of_fields (kind ∷ a ∷ []) = if is_text kind (codes "own") then ok_or (address_of a) causes.Own else Err causes.Own
+own_of_fields (kind ∷ a ∷ []) = if is_word kind (codes "own") then ok_or (address_of a) causes.Own else Err causes.Own
 own_of_fields fields = Err causes.Own
 
 -- what the own line says
@@ -145,7 +140,7 @@ owned version (e ∷ entries) end = at_line e.0 (own_of e.1) >>= λ own. with_ow
 -- the version that a head says
 abbrev pub head_of : List ℕ → Option Version
 head_of line =
-    if is_text line (codes "wmbus-roster 1") then Some One else if is_text line (codes "wmbus-roster 2") then Some Two else None
+    if is_word line (codes "wmbus-roster 1") then Some One else if is_word line (codes "wmbus-roster 2") then Some Two else None
 
 -- the head, and what follows it
 unfoldable pub headed : List (ℕ × List ℕ) → ℕ → Result Enrolled RosterFault

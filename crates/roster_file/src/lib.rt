@@ -1,6 +1,7 @@
 //! The roster: the collector's own address and the commissioned meters, as a text.
 #![tactic(auto)]
 
+mod all_faults;
 mod entries;
 mod fields;
 mod laws;
@@ -9,6 +10,7 @@ mod reader;
 mod roster;
 mod writing;
 
+pub use all_faults::{first_fault_refuses, roster_faults};
 pub use laws::{read_rosters_are_enrolled, written_rosters_are_read_back};
 pub use load::{LoadFault, load_roster};
 pub use reader::{MOST_BYTES, MOST_METERS, read_roster};

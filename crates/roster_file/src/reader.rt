@@ -16,7 +16,7 @@ pub const MOST_BYTES: usize = 1_048_576;
 /// The most meters of a roster.
 pub const MOST_METERS: usize = 4_096;
 
-fn version_of(head: &[u8]) -> Option<Version>
+pub(crate) fn version_of(head: &[u8]) -> Option<Version>
     ensures { result ≡ head_of head.now }
 {
     if head == b"wmbus-roster 1".as_slice() {
@@ -84,7 +84,7 @@ fn enlist(meters: &[Commission], meter: Commission) -> Result<Commission, LineCa
 }
 
 // The meter of a line, where it can stand behind these.
-fn next_meter(
+pub(crate) fn next_meter(
     version: Version,
     entry: &Entry<'_>,
     meters: &[Commission],

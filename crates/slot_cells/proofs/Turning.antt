@@ -28,18 +28,21 @@ pub front_of : {S : Type 0} (l : List (ℕ × S)) (x : S) (ys : List (ℕ × S))
 front_of {S} l x ys e = e ∙ ap (λ (z : List (ℕ × S)). (0, x) ∷ rest z) (sym e)
 
 -- the slot in hand has x now
-pub put_in : {S V : Type 0} (v : V) (l : List (ℕ × S)) (x y : S) (m : Me S V) → m ≡ (v, (0, x) ∷ rest l) → l ≡ (0, y) ∷ [] → m ≡ (v, (0, x) ∷ [])
+pub put_in : {S V : Type 0} (v : V) (l : List (ℕ × S)) (x y : S) (m : Me S V) → m ≡ (v, (0, x) ∷ rest l) → l ≡ (0, y) ∷ []
+    → m ≡ (v, (0, x) ∷ [])
 put_in {S} {V} v l x y m e held = e ∙ ap (λ (z : List (ℕ × S)). let p : Me S V = (v, (0, x) ∷ rest z) in p) held
 
 module _ {B O C R : Type 0} (opening_of : B → O) (acts_of : B → List (Deed C R)) (legal : O → List (Deed C R) → Type 0) where
   abbrev M : Type 0
   M = Me (Option (Kept B)) (Known B C R)
 
-  pub left_is : (v : Known B C R) (k : Kept B) (m m' : M) → m ≡ (v, (0, Some k) ∷ []) → left acts_of (step 0 1 1 0 none) m 0 m' → m' ≡ (back_with v (acts_of k.book.value), [])
+  pub left_is : (v : Known B C R) (k : Kept B) (m m' : M) → m ≡ (v, (0, Some k) ∷ []) → left acts_of (step 0 1 1 0 none) m 0 m'
+      → m' ≡ (back_with v (acts_of k.book.value), [])
   left_is v k m m' e told = subst (λ (z : M). left acts_of (step 0 1 1 0 none) z 0 m') e told
 
   -- what the look tells where it finds the caller's ticket
-  pub turned : (m m0 m' : M) (found ticket t0 : ℕ) → looked opening_of acts_of legal (step 0 1 0 0 none) m found m' → m ≡ m0 → wrapped t0 ≡ ticket → m0.0.stage ≡ Waiting t0 → found ≡ ticket
+  pub turned : (m m0 m' : M) (found ticket t0 : ℕ) → looked opening_of acts_of legal (step 0 1 0 0 none) m found m' → m ≡ m0
+      → wrapped t0 ≡ ticket → m0.0.stage ≡ Waiting t0 → found ≡ ticket
       → (t : ℕ) → m0.0.stage ≡ Waiting t → (k : Kept B) × (IsTurn opening_of acts_of legal m0.0 m'.0 t k × (m'.1 ≡ (0, Some k) ∷ m0.1))
   turned m m0 m' found ticket t0 told same is waits here t at =
       let e : t0 ≡ t = ap stage_number (sym waits ∙ at) in
@@ -98,42 +101,55 @@ module _ {B O C R : Type 0} (opening_of : B → O) (acts_of : B → List (Deed C
   -- fewer tickets are out than there are numbers
   pub few : (g : Co) (s : St) → Ok g s → g.drawn ≤ g.served + 2 ^ 32
   few g s r = let gap : ℕ = g.drawn - g.served in let ordered = r.ordered in
-      let who : (i : ℕ) → i < gap → (seat : ℕ) × (v : V) × (get_elem? s.views seat ≡ some v) × (v.number ≡ g.drawer (g.served + i)) × IsOut (g.served + i) v.stage × Live g seat v = λ i l.
-      let q = r.queue (g.served + i) (omega arith) (omega arith) in (q.0, q.1, q.2, q.3, q.4, (ticketed g q.0 (g.served + i) q.1 q.1.stage q.4 (r.seats q.0 q.1 q.2)).0) in
-      let m : gap ≤ 2 ^ 32 = no_more gap (2 ^ 32) (λ i. g.drawer (g.served + i)) (λ i l. let w = who i l in subst (λ (z : ℕ). z < 2 ^ 32) w.3 w.5.own.small)
+      let who : (i : ℕ) → i < gap → (seat : ℕ) × (v : V) × (get_elem? s.views seat ≡ some v) × (v.number ≡ g.drawer (g.served + i))
+      × IsOut (g.served + i) v.stage × Live g seat v = λ i l.
+      let q = r.queue (g.served + i) (omega arith) (omega arith) in
+      (q.0, q.1, q.2, q.3, q.4, (ticketed g q.0 (g.served + i) q.1 q.1.stage q.4 (r.seats q.0 q.1 q.2)).0) in
+      let m : gap ≤ 2 ^ 32 =
+      no_more gap (2 ^ 32) (λ i. g.drawer (g.served + i)) (λ i l. let w = who i l in subst (λ (z : ℕ). z < 2 ^ 32) w.3 w.5.own.small)
       (λ i j li lj e. let w = who i li in let x = who j lj in
       let seats : w.0 ≡ x.0 = one_seat g w.0 x.0 w.1 x.1 w.5 x.5 (w.3 ∙ (e ∙ sym x.3)) in
       let views : w.1 ≡ x.1 = at_unique s.views x.0 w.1 x.1 (subst (λ (z : ℕ). get_elem? s.views z ≡ some w.1) seats w.2) x.2 in
-      let same : g.served + i ≡ g.served + j = one_number (g.served + i) (g.served + j) x.1.stage (subst (λ (z : V). IsOut (g.served + i) z.stage) views w.4) x.4 in
+      let same : g.served + i ≡ g.served + j =
+      one_number (g.served + i) (g.served + j) x.1.stage (subst (λ (z : V). IsOut (g.served + i) z.stage) views w.4) x.4 in
       omega arith) in
       omega arith
 
   -- each seat's knowledge after one view changed
-  seats_stay : (K : ℕ → V → Type 0) (vs : List V) (me : ℕ) (w : V) → K me w → ((j : ℕ) (d : V) → j ≢ me → get_elem? vs j ≡ some d → K j d) → (j : ℕ) (d : V) → get_elem? (set vs me w) j ≡ some d → K j d
-  seats_stay K vs me w mine others j d e = ⊎_elim (λ (t : (j ≡ me) × (w ≡ d)). subst (λ (x : ℕ × V). K x.0 x.1) (λ i. (sym t.0 i, t.1 i)) mine)
+  seats_stay : (K : ℕ → V → Type 0) (vs : List V) (me : ℕ) (w : V) → K me w → ((j : ℕ) (d : V) → j ≢ me → get_elem? vs j ≡ some d → K j d)
+      → (j : ℕ) (d : V) → get_elem? (set vs me w) j ≡ some d → K j d
+  seats_stay K vs me w mine others j d e =
+      ⊎_elim (λ (t : (j ≡ me) × (w ≡ d)). subst (λ (x : ℕ × V). K x.0 x.1) (λ i. (sym t.0 i, t.1 i)) mine)
       (λ (t : (j ≢ me) × (get_elem? vs j ≡ some d)). others j d t.0 t.1) (at_set vs me j w d e)
 
   set_elsewhere : (vs : List V) (me : ℕ) (w : V) (j : ℕ) (d : V) → j ≢ me → get_elem? vs j ≡ some d → get_elem? (set vs me w) j ≡ some d
   set_elsewhere vs me w j d ne e = set_else vs me j w ne ∙ e
 
-  longest_stays : (log : List (Deed C R)) (vs : List V) (id : ℕ) (v w : V) → get_elem? vs id ≡ some v → IsThere w.stage → w.seen ≡ v.seen → IsLongest log vs → IsLongest log (set vs id w)
+  longest_stays : (log : List (Deed C R)) (vs : List V) (id : ℕ) (v w : V) → get_elem? vs id ≡ some v → IsThere w.stage → w.seen ≡ v.seen
+      → IsLongest log vs → IsLongest log (set vs id w)
   longest_stays log vs id v w at there same h = dite (ℕ_discrete h.0 id)
       (λ e. let is : h.1 ≡ v = at_unique vs id h.1 v (subst (λ (z : ℕ). get_elem? vs z ≡ some h.1) e h.2) at in
       (id, w, set_here vs id w (at_inside vs id v at), there, same ∙ (ap (λ (x : V). x.seen) (sym is) ∙ h.4)))
       (λ ne. (h.0, h.1, set_elsewhere vs id w h.0 h.1 ne h.2, h.3, h.4))
 
-  words_after : (ws : List ℕ) (a b : ℕ) → ws ≡ wrapped a ∷ wrapped b ∷ [] → set ws 0 ((get_or ws 0 0 + 1) % 2 ^ 64) ≡ wrapped (a + 1) ∷ wrapped b ∷ []
-  words_after ws a b e = ap (λ (l : List ℕ). set l 0 ((get_or l 0 0 + 1) % 2 ^ 64)) e ∙ ap (λ (n : ℕ). n ∷ wrapped b ∷ []) (mod-add-mod a (2 ^ 64) 1)
+  words_after : (ws : List ℕ) (a b : ℕ) → ws ≡ wrapped a ∷ wrapped b ∷ []
+      → set ws 0 ((get_or ws 0 0 + 1) % 2 ^ 64) ≡ wrapped (a + 1) ∷ wrapped b ∷ []
+  words_after ws a b e = ap (λ (l : List ℕ). set l 0 ((get_or l 0 0 + 1) % 2 ^ 64)) e
+      ∙ ap (λ (n : ℕ). n ∷ wrapped b ∷ []) (mod-add-mod a (2 ^ 64) 1)
 
-  words_served : (ws : List ℕ) (a b : ℕ) → ws ≡ wrapped a ∷ wrapped b ∷ [] → set ws 1 ((get_or ws 1 0 + 1) % 2 ^ 64) ≡ wrapped a ∷ wrapped (b + 1) ∷ []
-  words_served ws a b e = ap (λ (l : List ℕ). set l 1 ((get_or l 1 0 + 1) % 2 ^ 64)) e ∙ ap (λ (n : ℕ). wrapped a ∷ n ∷ []) (mod-add-mod b (2 ^ 64) 1)
+  words_served : (ws : List ℕ) (a b : ℕ) → ws ≡ wrapped a ∷ wrapped b ∷ []
+      → set ws 1 ((get_or ws 1 0 + 1) % 2 ^ 64) ≡ wrapped a ∷ wrapped (b + 1) ∷ []
+  words_served ws a b e = ap (λ (l : List ℕ). set l 1 ((get_or l 1 0 + 1) % 2 ^ 64)) e
+      ∙ ap (λ (n : ℕ). wrapped a ∷ n ∷ []) (mod-add-mod b (2 ^ 64) 1)
 
   -- what a pass made and saw has nothing to do with its stage
   restaged : (g : Co) (seat : ℕ) (v : V) (st : Stage) → Live g seat v → Live g seat (at_stage v st)
-  restaged g seat v st l = record { opening_is = l.opening_is; prefix = l.prefix; own = l.own; joined = l.joined; apart = l.apart; is_root = l.is_root }
+  restaged g seat v st l =
+      record { opening_is = l.opening_is; prefix = l.prefix; own = l.own; joined = l.joined; apart = l.apart; is_root = l.is_root }
 
   -- Kind 1: a ticket is drawn.
-  pub draws : (slots id : ℕ) (me : Me S V) → me.0.stage ≡ Idle → Allows Rule slots id me 0 (λ n. (n + 1) % 2 ^ 64) (drew (step slots 0 1 0 none) me)
+  pub draws : (slots id : ℕ) (me : Me S V) → me.0.stage ≡ Idle
+      → Allows Rule slots id me 0 (λ n. (n + 1) % 2 ^ 64) (drew (step slots 0 1 0 none) me)
   draws slots id me idle s held long at small =
       let g : Co = held.0 in let r : Ok g s = held.1 in let t : ℕ = g.drawn in let w : V = at_stage me.0 (Waiting t) in
       let ordered = r.ordered in
@@ -142,7 +158,8 @@ module _ {B O C R : Type 0} (opening_of : B → O) (acts_of : B → List (Deed C
       let g' : Co = record g { drawn = t + 1; drawer = drawer' } in
       let stays : (n k : ℕ) → HasTicket g.served t g.drawer n k → HasTicket g.served (t + 1) drawer' n k = λ n k h. let b = h.before in
       record { after = h.after; before = omega arith; drew = changed_else g.drawer t me.0.number n (λ e. omega arith) ∙ h.drew } in
-      let know : (j : ℕ) (d : V) (st : Stage) → Knows b0 g j d st → Knows b0 g' j d st = λ j d st. elim st as (λ st. Knows b0 g j d st → Knows b0 g' j d st) [
+      let know : (j : ℕ) (d : V) (st : Stage) → Knows b0 g j d st → Knows b0 g' j d st =
+      λ j d st. elim st as (λ st. Knows b0 g j d st → Knows b0 g' j d st) [
         | Spent ↦ λ k. tt
         | Idle ↦ λ k. k
         | Waiting n ↦ λ k. (k.0, stays n d.number k.1)
@@ -161,25 +178,50 @@ module _ {B O C R : Type 0} (opening_of : B → O) (acts_of : B → List (Deed C
             ordered = omega arith;
             queue = λ n lo hi. dite (ℕ_discrete n t)
                 (λ e. (id, w, set_here s.views id w (at_inside s.views id me.0 at), sym (changed_here g.drawer t me.0.number n e), sym e))
-                (λ ne. let q = r.queue n lo (omega arith) in
-                (q.0, q.1, set_elsewhere s.views id w q.0 q.1 (not_mine q.0 q.1 n q.2 q.4) q.2, q.3 ∙ sym (changed_else g.drawer t me.0.number n ne), q.4));
-            seats = seats_stay (λ j d. Knows b0 g' j d d.stage) s.views id w
-                (restaged g id me.0 (Waiting t) live, record { after = ordered; before = omega arith; drew = changed_here g.drawer t me.0.number t refl })
+                (λ ne. let q = r.queue n lo (omega arith) in (
+                  q.0,
+                  q.1,
+                  set_elsewhere s.views id w q.0 q.1 (not_mine q.0 q.1 n q.2 q.4) q.2,
+                  q.3
+                      ∙ sym (changed_else g.drawer t me.0.number n ne),
+                  q.4,
+                ));
+            seats = seats_stay (λ j d. Knows b0 g' j d d.stage) s.views id w (
+              restaged g id me.0 (Waiting t) live,
+              record {
+                after = ordered;
+                before = omega arith;
+                drew =
+                    changed_here g.drawer t me.0.number t refl;
+              },
+            )
                 (λ j d ne there. know j d d.stage (r.seats j d there));
             longest = longest_stays g.log s.views id me.0 w at tt refl r.longest;
             is_legal = r.is_legal;
             no_others = r.no_others;
-            placed = elim g.is_out as (λ b. IsPlaced opening_of acts_of o g.log g.served s.views b s.homes → IsPlaced opening_of acts_of o g.log g.served (set s.views id w) b s.homes) [
-              | false ↦ λ p. p
-              | true ↦ λ p. (p.0, (p.1.0, p.1.1, set_elsewhere s.views id w p.1.0 p.1.1 (not_mine p.1.0 p.1.1 g.served p.1.2 (subst (IsOut g.served) (sym p.1.3) refl)) p.1.2, p.1.3))
-            ] r.placed;
+            placed =
+                elim g.is_out as (λ b. IsPlaced opening_of acts_of o g.log g.served s.views b s.homes
+                → IsPlaced opening_of acts_of o g.log g.served (set s.views id w) b s.homes) [
+                  | false ↦ λ p. p
+                  | true ↦ λ p. (
+                    p.0,
+                    (
+                      p.1.0,
+                      p.1.1,
+                      set_elsewhere s.views id w p.1.0 p.1.1
+                          (not_mine p.1.0 p.1.1 g.served p.1.2 (subst (IsOut g.served) (sym p.1.3) refl)) p.1.2,
+                      p.1.3,
+                    ),
+                  )
+                ] r.placed;
           },
         ),
         (t, ap (λ (l : List ℕ). get_or l 0 0) (sym r.words), refl),
       )
 
   -- where a pass waits for the ticket that is served, the book is at home
-  at_home : (g : Co) (s : St) (r : Ok g s) (id : ℕ) (v : V) (t : ℕ) → get_elem? s.views id ≡ some v → v.stage ≡ Waiting t → t ≡ g.served → (b : Bool) → g.is_out ≡ b → IsPlaced opening_of acts_of o g.log g.served s.views b s.homes
+  at_home : (g : Co) (s : St) (r : Ok g s) (id : ℕ) (v : V) (t : ℕ) → get_elem? s.views id ≡ some v → v.stage ≡ Waiting t → t ≡ g.served
+      → (b : Bool) → g.is_out ≡ b → IsPlaced opening_of acts_of o g.log g.served s.views b s.homes
       → (g.is_out ≡ false) × ((k : Kept B) × (s.homes ≡ some (Some k) ∷ []) × StandsFor opening_of acts_of o g.log g.served k)
   at_home g s r id v t at waits now false e p = (e, p)
   at_home g s r id v t at waits now true e p =
@@ -197,13 +239,15 @@ module _ {B O C R : Type 0} (opening_of : B → O) (acts_of : B → List (Deed C
       × looked opening_of acts_of legal (step 0 1 0 0 none) me (get_or s.words 1 0) (w, carried_after me.1 a)
 
   -- Kind 2, where the ticket is served: the book comes out.
-  comes : (id : ℕ) (me : Me S V) (t : ℕ) → me.0.stage ≡ Waiting t → (s : St) (g : Co) (r : Ok g s) → get_elem? s.views id ≡ some me.0 → t ≡ g.served → Looks id me s
+  comes : (id : ℕ) (me : Me S V) (t : ℕ) → me.0.stage ≡ Waiting t → (s : St) (g : Co) (r : Ok g s) → get_elem? s.views id ≡ some me.0
+      → t ≡ g.served → Looks id me s
   comes id me t waits s g r at now =
       let home = at_home g s r id me.0 t at waits now g.is_out refl r.placed in let k : Kept B = home.1.0 in let stands = home.1.2 in
       let w : V = with_book me.0 g.log t in
       let known = subst (Knows b0 g id me.0) waits (r.seats id me.0 at) in let live = known.0 in let ticket = known.1 in
       let g' : Co = record g { is_out = true } in
-      let know : (j : ℕ) (d : V) (st : Stage) → Knows b0 g j d st → Knows b0 g' j d st = λ j d st. elim st as (λ st. Knows b0 g j d st → Knows b0 g' j d st) [
+      let know : (j : ℕ) (d : V) (st : Stage) → Knows b0 g j d st → Knows b0 g' j d st =
+      λ j d st. elim st as (λ st. Knows b0 g j d st → Knows b0 g' j d st) [
         | Spent ↦ λ k. tt
         | Idle ↦ λ k. k
         | Waiting n ↦ λ k. k
@@ -219,11 +263,28 @@ module _ {B O C R : Type 0} (opening_of : B → O) (acts_of : B → List (Deed C
             words = set-get_or s.words 1 0 ∙ r.words;
             ordered = r.ordered;
             queue = λ n lo hi. let q = r.queue n lo hi in dite (ℕ_discrete q.0 id)
-                (λ e. let same : q.1 ≡ me.0 = at_unique s.views id q.1 me.0 (subst (λ (z : ℕ). get_elem? s.views z ≡ some q.1) e q.2) at in
-                (id, w, set_here s.views id w (at_inside s.views id me.0 at), ap (λ (v : V). v.number) (sym same) ∙ q.3, subst (IsOut n) (ap (λ (v : V). v.stage) same ∙ waits) q.4))
+                (λ e. let same : q.1 ≡ me.0 = at_unique s.views id q.1 me.0 (subst (λ (z : ℕ). get_elem? s.views z ≡ some q.1) e q.2) at in (
+                  id,
+                  w,
+                  set_here s.views id w (at_inside s.views id me.0 at),
+                  ap (λ (v : V). v.number) (sym same)
+                      ∙ q.3,
+                  subst (IsOut n) (ap (λ (v : V). v.stage) same ∙ waits) q.4,
+                ))
                 (λ ne. (q.0, q.1, set_elsewhere s.views id w q.0 q.1 ne q.2, q.3, q.4));
-            seats = seats_stay (λ j d. Knows b0 g' j d d.stage) s.views id w
-                (record { opening_is = live.opening_is; prefix = starts_itself g.log; own = live.own; joined = live.joined; apart = live.apart; is_root = live.is_root }, ticket, record { now = now; sees_all = refl; out = refl })
+            seats = seats_stay (λ j d. Knows b0 g' j d d.stage) s.views id w (
+              record {
+                opening_is = live.opening_is;
+                prefix = starts_itself g.log;
+                own = live.own;
+                joined = live.joined;
+                apart =
+                    live.apart;
+                is_root = live.is_root;
+              },
+              ticket,
+              record { now = now; sees_all = refl; out = refl },
+            )
                 (λ j d ne there. know j d d.stage (r.seats j d there));
             longest = (id, w, set_here s.views id w (at_inside s.views id me.0 at), tt, refl);
             is_legal = r.is_legal;
@@ -251,30 +312,37 @@ module _ {B O C R : Type 0} (opening_of : B → O) (acts_of : B → List (Deed C
       )
 
   -- Kind 2, where another ticket is served: nothing is new.
-  waits_on : (id : ℕ) (me : Me S V) (t : ℕ) → me.0.stage ≡ Waiting t → (s : St) (g : Co) (r : Ok g s) → get_elem? s.views id ≡ some me.0 → t ≢ g.served → Looks id me s
+  waits_on : (id : ℕ) (me : Me S V) (t : ℕ) → me.0.stage ≡ Waiting t → (s : St) (g : Co) (r : Ok g s) → get_elem? s.views id ≡ some me.0
+      → t ≢ g.served → Looks id me s
   waits_on id me t waits s g r at other =
-      let known = subst (Knows b0 g id me.0) waits (r.seats id me.0 at) in let after = known.1.after in let before = known.1.before in let most = few g s r in
+      let known = subst (Knows b0 g id me.0) waits (r.seats id me.0 at) in let after = known.1.after in let before = known.1.before in
+      let most = few g s r in
       let found : get_or s.words 1 0 ≡ wrapped g.served = ap (λ (l : List ℕ). get_or l 1 0) r.words in (
         me.0,
         keeps,
         tt,
         subst (λ (ws : List ℕ). Rule record { words = ws; homes = s.homes; views = set s.views id me.0 }) (sym (set-get_or s.words 1 0))
-            (subst (λ (vs : List V). Rule record { words = s.words; homes = s.homes; views = vs }) (sym (set_again s.views id me.0 at)) (g, r)),
+            (subst (λ (vs : List V). Rule record { words = s.words; homes = s.homes; views = vs }) (sym (set_again s.views id me.0 at))
+            (g, r)),
         λ t' waits'. let same : t ≡ t' = ap stage_number (sym waits ∙ waits') in (
           λ is. absurd (other (sym (one_turn g.served t (2 ^ 64) after (omega arith) (sym found ∙ (sym is ∙ ap wrapped (sym same)))))),
           λ isnt. refl,
         ),
       )
 
-  pub looks : (slots id : ℕ) (me : Me S V) (t : ℕ) → me.0.stage ≡ Waiting t → Allows Rule slots id me 1 (λ n. n) (looked opening_of acts_of legal (step slots 1 0 0 none) me)
-  looks slots id me t waits s held long at small = dite (ℕ_discrete t held.0.served) (λ e. comes id me t waits s held.0 held.1 at e) (λ ne. waits_on id me t waits s held.0 held.1 at ne)
+  pub looks : (slots id : ℕ) (me : Me S V) (t : ℕ) → me.0.stage ≡ Waiting t
+      → Allows Rule slots id me 1 (λ n. n) (looked opening_of acts_of legal (step slots 1 0 0 none) me)
+  looks slots id me t waits s held long at small =
+      dite (ℕ_discrete t held.0.served) (λ e. comes id me t waits s held.0 held.1 at e) (λ ne. waits_on id me t waits s held.0 held.1 at ne)
 
   out_there : (g : Co) (s : St) (r : Ok g s) → g.is_out ≡ true → s.homes ≡ none ∷ []
   out_there g s r e = (subst (λ (b : Bool). IsPlaced opening_of acts_of o g.log g.served s.views b s.homes) e r.placed).0
 
   -- Kind 5: the book goes home, with the acts of `fresh` more.
-  pub leaves : (slots id : ℕ) (v : V) (t : ℕ) (k : Kept B) (fresh : List (Deed C R)) → v.stage ≡ Holding t → acts_of k.book.value ≡ v.seen ++ fresh → Each (λ (e : Deed C R). e.source ≡ v.number) fresh
-      → ((b : B) × (v.opening ≡ b ∷ []) × (opening_of b ≡ opening_of k.book.value)) → legal (opening_of k.book.value) (acts_of k.book.value) → wrapped (length (acts_of k.book.value) + k.idle) ≡ wrapped (t + 1)
+  pub leaves : (slots id : ℕ) (v : V) (t : ℕ) (k : Kept B) (fresh : List (Deed C R)) → v.stage ≡ Holding t
+      → acts_of k.book.value ≡ v.seen ++ fresh → Each (λ (e : Deed C R). e.source ≡ v.number) fresh
+      → ((b : B) × (v.opening ≡ b ∷ []) × (opening_of b ≡ opening_of k.book.value)) → legal (opening_of k.book.value) (acts_of k.book.value)
+      → wrapped (length (acts_of k.book.value) + k.idle) ≡ wrapped (t + 1)
       → Allows Rule slots id (v, (0, Some k) ∷ []) 1 (λ n. (n + 1) % 2 ^ 64) (left acts_of (step slots 1 1 0 none) (v, (0, Some k) ∷ []))
   leaves slots id v t k fresh holds added mine opens is_legal turns s held long at small =
       let g : Co = held.0 in let r : Ok g s = held.1 in
@@ -286,22 +354,34 @@ module _ {B O C R : Type 0} (opening_of : B → O) (acts_of : B → List (Deed C
       let g' : Co = record g { served = g.served + 1; log = log'; is_out = false } in
       let before = ticket.before in
       let ticket_now : Ticket g g.served v = subst (λ (z : ℕ). Ticket g z v) now ticket in
-      let further : (seen : List (Deed C R)) → StartsWith g.log seen → StartsWith log' seen = λ seen h. subst (λ (l : List (Deed C R)). StartsWith l seen) (sym grown) (starts_further g.log seen fresh h) in
-      let owned : (j : ℕ) (m : Made C R) → m.number ≢ v.number → IsOwned g.seat_of g.numbers g.log j m → IsOwned g.seat_of g.numbers log' j m = λ j m other h.
-      record { seat_is = h.seat_is; acts_are = acts_by_other v.number m.number g.log fresh log' m.acts grown mine other h.acts_are; in_use = h.in_use; small = h.small } in
-      let apart : (j : ℕ) (m : Made C R) → j ≢ id → IsOwned g.seat_of g.numbers g.log j m → m.number ≢ v.number = λ j m ne h e. ne (sym h.seat_is ∙ (ap g.seat_of e ∙ live.own.seat_is)) in
+      let further : (seen : List (Deed C R)) → StartsWith g.log seen → StartsWith log' seen =
+      λ seen h. subst (λ (l : List (Deed C R)). StartsWith l seen) (sym grown) (starts_further g.log seen fresh h) in
+      let owned : (j : ℕ) (m : Made C R) → m.number ≢ v.number → IsOwned g.seat_of g.numbers g.log j m
+      → IsOwned g.seat_of g.numbers log' j m = λ j m other h.
+      record {
+        seat_is = h.seat_is;
+        acts_are = acts_by_other v.number m.number g.log fresh log' m.acts grown mine other h.acts_are;
+        in_use =
+            h.in_use;
+        small = h.small;
+      } in
+      let apart : (j : ℕ) (m : Made C R) → j ≢ id → IsOwned g.seat_of g.numbers g.log j m → m.number ≢ v.number =
+      λ j m ne h e. ne (sym h.seat_is ∙ (ap g.seat_of e ∙ live.own.seat_is)) in
       let others : (j : ℕ) (d : V) → j ≢ id → Live g j d → Live g' j d = λ j d ne l. record {
         opening_is = l.opening_is;
         prefix = further d.seen l.prefix;
         own = owned j (made d.number d.own) (apart j (made d.number d.own) ne l.own) l.own;
-        joined = each_map (IsOwned g.seat_of g.numbers g.log j) (IsOwned g.seat_of g.numbers log' j) (λ m h. owned j m (apart j m ne h) h) d.joined l.joined;
+        joined =
+            each_map (IsOwned g.seat_of g.numbers g.log j) (IsOwned g.seat_of g.numbers log' j)
+            (λ m h. owned j m (apart j m ne h) h) d.joined l.joined;
         apart = l.apart;
         is_root = l.is_root;
       } in
       let later : (j n : ℕ) (d : V) → j ≢ id → Live g j d → Ticket g n d → g.served + 1 ≤ n = λ j n d ne l h. let after = h.after in
       let other : n ≢ g.served = λ e. ne (one_holder g j id g.served d v l live (subst (λ (z : ℕ). Ticket g z d) e h) ticket_now) in
       dite (ℕ_discrete n g.served) (λ e. absurd (other e)) (λ e. omega arith) in
-      let know : (j : ℕ) (d : V) → j ≢ id → (st : Stage) → Knows b0 g j d st → Knows b0 g' j d st = λ j d ne st. elim st as (λ st. Knows b0 g j d st → Knows b0 g' j d st) [
+      let know : (j : ℕ) (d : V) → j ≢ id → (st : Stage) → Knows b0 g j d st → Knows b0 g' j d st =
+      λ j d ne st. elim st as (λ st. Knows b0 g j d st → Knows b0 g' j d st) [
         | Spent ↦ λ k. tt
         | Idle ↦ λ k. others j d ne k
         | Waiting n ↦ λ k. (others j d ne k.0, record { after = later j n d ne k.0 k.1; before = k.1.before; drew = k.1.drew })
@@ -316,7 +396,8 @@ module _ {B O C R : Type 0} (opening_of : B → O) (acts_of : B → List (Deed C
             words = words_served s.words g.drawn g.served r.words;
             ordered = omega arith;
             queue = λ n lo hi. let q = r.queue n (omega arith) hi in
-                let ne : q.0 ≢ id = λ e. let same : q.1 ≡ v = at_unique s.views id q.1 v (subst (λ (z : ℕ). get_elem? s.views z ≡ some q.1) e q.2) at in
+                let ne : q.0 ≢ id = λ e. let same : q.1 ≡ v =
+                at_unique s.views id q.1 v (subst (λ (z : ℕ). get_elem? s.views z ≡ some q.1) e q.2) at in
                 let is : t ≡ n = subst (IsOut n) (ap (λ (v : V). v.stage) same ∙ holds) q.4 in omega arith in
                 (q.0, q.1, set_elsewhere s.views id w q.0 q.1 ne q.2, q.3, q.4);
             seats = seats_stay (λ j d. Knows b0 g' j d d.stage) s.views id w
@@ -325,32 +406,48 @@ module _ {B O C R : Type 0} (opening_of : B → O) (acts_of : B → List (Deed C
                   prefix = starts_itself log';
                   own = record {
                     seat_is = live.own.seat_is;
-                    acts_are = acts_by_own v.number g.log fresh log' v.own grown mine live.own.acts_are ∙ ap (λ (l : List (Deed C R)). v.own ++ l) (sym (drop_seen v.seen fresh log' added));
+                    acts_are = acts_by_own v.number g.log fresh log' v.own grown mine live.own.acts_are
+                        ∙ ap (λ (l : List (Deed C R)). v.own ++ l) (sym (drop_seen v.seen fresh log' added));
                     in_use = live.own.in_use;
                     small = live.own.small;
                   };
-                  joined = each_both (λ (m : Made C R). m.number ≢ v.number) (IsOwned g.seat_of g.numbers g.log id) (IsOwned g.seat_of g.numbers log' id) (λ m other h. owned id m other h) v.joined live.apart live.joined;
+                  joined =
+                      each_both (λ (m : Made C R). m.number ≢ v.number) (IsOwned g.seat_of g.numbers g.log id)
+                      (IsOwned g.seat_of g.numbers log' id) (λ m other h. owned id m other h) v.joined live.apart live.joined;
                   apart = live.apart;
                   is_root = live.is_root;
                 }
                 (λ j d ne there. know j d ne d.stage (r.seats j d there));
             longest = (id, w, set_here s.views id w (at_inside s.views id v at), tt, refl);
             is_legal = subst (λ (x : O). legal x log') is_o is_legal;
-            no_others = λ n not. let other : n ≢ v.number = λ e. let clash : true ≡ false = sym live.own.in_use ∙ (ap (λ (z : ℕ). is_among z g.numbers) (sym e) ∙ not) in absurd (cc) in
+            no_others = λ n not. let other : n ≢ v.number = λ e. let clash : true ≡ false =
+                sym live.own.in_use ∙ (ap (λ (z : ℕ). is_among z g.numbers) (sym e) ∙ not) in absurd (cc) in
                 acts_by_other v.number n g.log fresh log' [] grown mine other (r.no_others n not);
-            placed = (k, ap (λ (l : List (Maybe S)). set l 0 (some (Some k))) (out_there g s r turn.out), record { opening_is = is_o; acts_are = refl; turns_are = turns ∙ ap (λ (n : ℕ). wrapped (n + 1)) now });
+            placed = (
+              k,
+              ap (λ (l : List (Maybe S)). set l 0 (some (Some k))) (out_there g s r turn.out),
+              record {
+                opening_is = is_o;
+                acts_are =
+                    refl;
+                turns_are = turns ∙ ap (λ (n : ℕ). wrapped (n + 1)) now;
+              },
+            );
           },
         ),
         refl,
       )
 
-  pub leaves_from : (slots id : ℕ) (m : Me S V) (v : V) (t : ℕ) (fresh : List (Deed C R)) (k : Kept B) → m ≡ (v, (0, Some k) ∷ []) → GoesHome opening_of acts_of legal v t fresh k
+  pub leaves_from : (slots id : ℕ) (m : Me S V) (v : V) (t : ℕ) (fresh : List (Deed C R)) (k : Kept B) → m ≡ (v, (0, Some k) ∷ [])
+      → GoesHome opening_of acts_of legal v t fresh k
       → Allows Rule slots id m 1 (λ n. (n + 1) % 2 ^ 64) (left acts_of (step slots 1 1 0 none) m)
-  leaves_from slots id m v t fresh k e h = subst (λ (z : Me S V). Allows Rule slots id z 1 (λ n. (n + 1) % 2 ^ 64) (left acts_of (step slots 1 1 0 none) z)) (sym e)
+  leaves_from slots id m v t fresh k e h =
+      subst (λ (z : Me S V). Allows Rule slots id z 1 (λ n. (n + 1) % 2 ^ 64) (left acts_of (step slots 1 1 0 none) z)) (sym e)
       (leaves slots id v t k fresh h.holds h.added h.mine h.opening_is h.is_legal h.turns)
 
   -- The cell at its making.
-  pub begins : (k : Kept B) (number : ℕ) → number < 2 ^ 32 → opening_of k.book.value ≡ o → acts_of k.book.value ≡ [] → k.idle ≡ 0 → legal o []
+  pub begins : (k : Kept B) (number : ℕ) → number < 2 ^ 32 → opening_of k.book.value ≡ o → acts_of k.book.value ≡ [] → k.idle ≡ 0
+      → legal o []
       → Rule (opening (0 ∷ 0 ∷ []) (Some k ∷ []) (first_known b0 number))
   begins k number small is_o empty idle fine =
       let v : V = first_known b0 number in
@@ -368,7 +465,8 @@ module _ {B O C R : Type 0} (opening_of : B → O) (acts_of : B → List (Deed C
           words = refl;
           ordered = omega arith;
           queue = λ t lo hi. absurd (omega arith);
-          seats = λ j d there. let e = only_one v d j there in subst (λ (x : ℕ × V). Knows b0 g x.0 x.1 x.1.stage) (λ i. (sym e.0 i, e.1 i)) live;
+          seats = λ j d there. let e =
+              only_one v d j there in subst (λ (x : ℕ × V). Knows b0 g x.0 x.1 x.1.stage) (λ i. (sym e.0 i, e.1 i)) live;
           longest = (0, v, refl, tt, refl);
           is_legal = fine;
           no_others = λ n not. refl;
@@ -377,7 +475,8 @@ module _ {B O C R : Type 0} (opening_of : B → O) (acts_of : B → List (Deed C
       )
 
   -- Kind 6: a pass is split off.
-  pub splits : (id : ℕ) (v : V) (number : ℕ) → v.stage ≡ Idle → v.is_first ≡ true → is_among number (v.number ∷ v.handed) ≡ false → number < 2 ^ 32 → Splits Rule id v (hands_out number v) (split_off number v)
+  pub splits : (id : ℕ) (v : V) (number : ℕ) → v.stage ≡ Idle → v.is_first ≡ true → is_among number (v.number ∷ v.handed) ≡ false
+      → number < 2 ^ 32 → Splits Rule id v (hands_out number v) (split_off number v)
   splits id v number idle first unused small s held at =
       let g : Co = held.0 in let r : Ok g s = held.1 in let new : ℕ = length s.views in
       let live : Live g id v = subst (Knows b0 g id v) idle (r.seats id v at) in
@@ -388,9 +487,17 @@ module _ {B O C R : Type 0} (opening_of : B → O) (acts_of : B → List (Deed C
       let g' : Co = record g { seat_of = seat_of'; numbers = numbers' } in
       let free : is_among number g.numbers ≡ false = ap (is_among number) root.1 ∙ unused in
       let owned : (j : ℕ) (m : Made C R) → IsOwned g.seat_of g.numbers g.log j m → IsOwned seat_of' numbers' g.log j m = λ j m h.
-      let other : m.number ≢ number = λ e. let clash : true ≡ false = sym h.in_use ∙ (ap (λ (z : ℕ). is_among z g.numbers) e ∙ free) in absurd (cc) in
-      record { seat_is = changed_else g.seat_of number new m.number other ∙ h.seat_is; acts_are = h.acts_are; in_use = among_more m.number g.numbers (number ∷ []) h.in_use; small = h.small } in
-      let all_owned : (j : ℕ) (ms : List (Made C R)) → Each (IsOwned g.seat_of g.numbers g.log j) ms → Each (IsOwned seat_of' numbers' g.log j) ms = λ j ms h.
+      let other : m.number ≢ number = λ e. let clash : true ≡ false = sym h.in_use ∙ (ap (λ (z : ℕ). is_among z g.numbers) e ∙ free) in
+      absurd (cc) in
+      record {
+        seat_is = changed_else g.seat_of number new m.number other ∙ h.seat_is;
+        acts_are = h.acts_are;
+        in_use =
+            among_more m.number g.numbers (number ∷ []) h.in_use;
+        small = h.small;
+      } in
+      let all_owned : (j : ℕ) (ms : List (Made C R)) → Each (IsOwned g.seat_of g.numbers g.log j) ms
+      → Each (IsOwned seat_of' numbers' g.log j) ms = λ j ms h.
       each_map (IsOwned g.seat_of g.numbers g.log j) (IsOwned seat_of' numbers' g.log j) (owned j) ms h in
       let others : (j : ℕ) (d : V) → j ≢ id → Live g j d → Live g' j d = λ j d ne l. record {
         opening_is = l.opening_is;
@@ -400,7 +507,8 @@ module _ {B O C R : Type 0} (opening_of : B → O) (acts_of : B → List (Deed C
         apart = l.apart;
         is_root = λ f. absurd (ne ((l.is_root f).0 ∙ sym root.0));
       } in
-      let know : (j : ℕ) (d : V) → j ≢ id → (st : Stage) → Knows b0 g j d st → Knows b0 g' j d st = λ j d ne st. elim st as (λ st. Knows b0 g j d st → Knows b0 g' j d st) [
+      let know : (j : ℕ) (d : V) → j ≢ id → (st : Stage) → Knows b0 g j d st → Knows b0 g' j d st =
+      λ j d ne st. elim st as (λ st. Knows b0 g j d st → Knows b0 g' j d st) [
         | Spent ↦ λ k. tt
         | Idle ↦ λ k. others j d ne k
         | Waiting n ↦ λ k. (others j d ne k.0, k.1)
@@ -417,37 +525,50 @@ module _ {B O C R : Type 0} (opening_of : B → O) (acts_of : B → List (Deed C
       let theirs : Live g' new u = record {
         opening_is = live.opening_is;
         prefix = live.prefix;
-        own = record { seat_is = changed_here g.seat_of number new number refl; acts_are = r.no_others number free; in_use = among_last number g.numbers; small = small };
+        own = record {
+          seat_is = changed_here g.seat_of number new number refl;
+          acts_are = r.no_others number free;
+          in_use =
+              among_last number g.numbers;
+          small = small;
+        };
         joined = tt;
         apart = tt;
         is_root = λ f. let clash : false ≡ true = f in absurd (cc);
       } in
       let K : ℕ → V → Type 0 = λ j d. Knows b0 g' j d d.stage in
-      let still : (j : ℕ) (d : V) → get_elem? (set s.views id w) j ≡ some d → K j d = seats_stay K s.views id w (subst (Knows b0 g' id w) (sym idle) mine) (λ j d ne there. know j d ne d.stage (r.seats j d there)) in
+      let still : (j : ℕ) (d : V) → get_elem? (set s.views id w) j ≡ some d → K j d =
+      seats_stay K s.views id w (subst (Knows b0 g' id w) (sym idle) mine) (λ j d ne there. know j d ne d.stage (r.seats j d there)) in
       let not_mine : (j : ℕ) (d : V) (n : ℕ) → get_elem? s.views j ≡ some d → IsOut n d.stage → j ≢ id = λ j d n there out e.
       let same : d ≡ v = at_unique s.views id d v (subst (λ (z : ℕ). get_elem? s.views z ≡ some d) e there) at in
       subst (IsOut n) (ap (λ (v : V). v.stage) same ∙ idle) out in
-      let kept_at : (j : ℕ) (d : V) (n : ℕ) → get_elem? s.views j ≡ some d → IsOut n d.stage → get_elem? (set s.views id w ++ u ∷ []) j ≡ some d = λ j d n there out.
+      let kept_at : (j : ℕ) (d : V) (n : ℕ) → get_elem? s.views j ≡ some d → IsOut n d.stage
+      → get_elem? (set s.views id w ++ u ∷ []) j ≡ some d = λ j d n there out.
       at_longer (set s.views id w) (u ∷ []) j d (set_elsewhere s.views id w j d (not_mine j d n there out) there) in (
         g',
         record {
           words = r.words;
           ordered = r.ordered;
           queue = λ n lo hi. let q = r.queue n lo hi in (q.0, q.1, kept_at q.0 q.1 n q.2 q.4, q.3, q.4);
-          seats = λ j d there. ⊎_elim (still j d) (λ (t : (j ≡ length (set s.views id w)) × (u ≡ d)). let here : j ≡ new = t.0 ∙ length-set s.views id w in
+          seats = λ j d there. ⊎_elim (still j d) (λ (t : (j ≡ length (set s.views id w)) × (u ≡ d)). let here : j ≡ new =
+              t.0 ∙ length-set s.views id w in
               subst (λ (x : ℕ × V). K x.0 x.1) (λ i. (sym here i, t.1 i)) theirs) (at_end (set s.views id w) u d j there);
-          longest = let h = longest_stays g.log s.views id v w at (subst IsThere (sym idle) tt) refl r.longest in (h.0, h.1, at_longer (set s.views id w) (u ∷ []) h.0 h.1 h.2, h.3, h.4);
+          longest = let h = longest_stays g.log s.views id v w at (subst IsThere (sym idle) tt) refl r.longest in
+              (h.0, h.1, at_longer (set s.views id w) (u ∷ []) h.0 h.1 h.2, h.3, h.4);
           is_legal = r.is_legal;
           no_others = λ n not. r.no_others n (among_less n g.numbers (number ∷ []) not);
-          placed = elim g.is_out as (λ b. IsPlaced opening_of acts_of o g.log g.served s.views b s.homes → IsPlaced opening_of acts_of o g.log g.served (set s.views id w ++ u ∷ []) b s.homes) [
-            | false ↦ λ p. p
-            | true ↦ λ p. (p.0, (p.1.0, p.1.1, kept_at p.1.0 p.1.1 g.served p.1.2 (subst (IsOut g.served) (sym p.1.3) refl), p.1.3))
-          ] r.placed;
+          placed =
+              elim g.is_out as (λ b. IsPlaced opening_of acts_of o g.log g.served s.views b s.homes
+              → IsPlaced opening_of acts_of o g.log g.served (set s.views id w ++ u ∷ []) b s.homes) [
+                | false ↦ λ p. p
+                | true ↦ λ p. (p.0, (p.1.0, p.1.1, kept_at p.1.0 p.1.1 g.served p.1.2 (subst (IsOut g.served) (sym p.1.3) refl), p.1.3))
+              ] r.placed;
         },
       )
 
   -- Kinds 7 and 8: a pass takes another in, which is spent.
-  pub joins : (id : ℕ) (v : V) (other : ℕ) (u : V) → v.stage ≡ Idle → u.stage ≡ Idle → u.is_first ≡ false → Joins Rule id v other u (takes_in v u) spent_known
+  pub joins : (id : ℕ) (v : V) (other : ℕ) (u : V) → v.stage ≡ Idle → u.stage ≡ Idle → u.is_first ≡ false
+      → Joins Rule id v other u (takes_in v u) spent_known
   joins id v other u idle idle' second s held at differ there =
       let g : Co = held.0 in let r : Ok g s = held.1 in
       let w : V = takes_in v u in let z : V = spent_known in
@@ -456,44 +577,67 @@ module _ {B O C R : Type 0} (opening_of : B → O) (acts_of : B → List (Deed C
       let live' : Live g other u = subst (Knows b0 g other u) idle' (r.seats other u at') in
       let seat_of' : ℕ → ℕ = moved g.seat_of other id in
       let g' : Co = record g { seat_of = seat_of' } in
-      let stays : (j : ℕ) (m : Made C R) → j ≢ other → IsOwned g.seat_of g.numbers g.log j m → IsOwned seat_of' g.numbers g.log j m = λ j m ne h.
-      record { seat_is = moved_else g.seat_of other id m.number (λ e. ne (sym h.seat_is ∙ e)) ∙ h.seat_is; acts_are = h.acts_are; in_use = h.in_use; small = h.small } in
+      let stays : (j : ℕ) (m : Made C R) → j ≢ other → IsOwned g.seat_of g.numbers g.log j m → IsOwned seat_of' g.numbers g.log j m =
+      λ j m ne h.
+      record {
+        seat_is = moved_else g.seat_of other id m.number (λ e. ne (sym h.seat_is ∙ e)) ∙ h.seat_is;
+        acts_are = h.acts_are;
+        in_use =
+            h.in_use;
+        small = h.small;
+      } in
       let comes_over : (m : Made C R) → IsOwned g.seat_of g.numbers g.log other m → IsOwned seat_of' g.numbers g.log id m = λ m h.
       record { seat_is = moved_here g.seat_of other id m.number h.seat_is; acts_are = h.acts_are; in_use = h.in_use; small = h.small } in
       let others : (j : ℕ) (d : V) → j ≢ other → Live g j d → Live g' j d = λ j d ne l. record {
         opening_is = l.opening_is;
         prefix = l.prefix;
         own = stays j (made d.number d.own) ne l.own;
-        joined = each_map (IsOwned g.seat_of g.numbers g.log j) (IsOwned seat_of' g.numbers g.log j) (λ m h. stays j m ne h) d.joined l.joined;
+        joined =
+            each_map (IsOwned g.seat_of g.numbers g.log j) (IsOwned seat_of' g.numbers g.log j) (λ m h. stays j m ne h) d.joined l.joined;
         apart = l.apart;
         is_root = l.is_root;
       } in
-      let know : (j : ℕ) (d : V) → j ≢ other → (st : Stage) → Knows b0 g j d st → Knows b0 g' j d st = λ j d ne st. elim st as (λ st. Knows b0 g j d st → Knows b0 g' j d st) [
+      let know : (j : ℕ) (d : V) → j ≢ other → (st : Stage) → Knows b0 g j d st → Knows b0 g' j d st =
+      λ j d ne st. elim st as (λ st. Knows b0 g j d st → Knows b0 g' j d st) [
         | Spent ↦ λ k. tt
         | Idle ↦ λ k. others j d ne k
         | Waiting n ↦ λ k. (others j d ne k.0, k.1)
         | Holding n ↦ λ k. (others j d ne k.0, k.1, k.2)
       ] in
       let kept = others id v (λ e. differ (sym e)) live in
-      let apart_from : (m : Made C R) → IsOwned g.seat_of g.numbers g.log other m → m.number ≢ v.number = λ m h e. differ (sym h.seat_is ∙ (ap g.seat_of e ∙ live.own.seat_is)) in
+      let apart_from : (m : Made C R) → IsOwned g.seat_of g.numbers g.log other m → m.number ≢ v.number =
+      λ m h e. differ (sym h.seat_is ∙ (ap g.seat_of e ∙ live.own.seat_is)) in
       let mine : Live g' id w = record {
         opening_is = kept.opening_is;
         prefix = longer_starts g.log v.seen u.seen live.prefix live'.prefix;
         own = kept.own;
-        joined = each_append (IsOwned seat_of' g.numbers g.log id) v.joined (own_and_joined u) kept.joined
-            (comes_over (made u.number u.own) live'.own, each_map (IsOwned g.seat_of g.numbers g.log other) (IsOwned seat_of' g.numbers g.log id) comes_over u.joined live'.joined);
-        apart = each_append (λ (m : Made C R). m.number ≢ v.number) v.joined (own_and_joined u) live.apart
-            (apart_from (made u.number u.own) live'.own, each_map (IsOwned g.seat_of g.numbers g.log other) (λ (m : Made C R). m.number ≢ v.number) apart_from u.joined live'.joined);
+        joined = each_append (IsOwned seat_of' g.numbers g.log id) v.joined (own_and_joined u) kept.joined (
+          comes_over (made u.number u.own) live'.own,
+          each_map (IsOwned g.seat_of g.numbers g.log other) (IsOwned seat_of' g.numbers g.log id) comes_over u.joined live'.joined,
+        );
+        apart = each_append (λ (m : Made C R). m.number ≢ v.number) v.joined (own_and_joined u) live.apart (
+          apart_from (made u.number u.own) live'.own,
+          each_map (IsOwned g.seat_of g.numbers g.log other)
+              (λ (m : Made C R). m.number ≢ v.number) apart_from u.joined live'.joined,
+        );
         is_root = live.is_root;
       } in
       let K : ℕ → V → Type 0 = λ j d. Knows b0 g' j d d.stage in
-      let not_idle : (i j : ℕ) (d b : V) (n : ℕ) → get_elem? s.views j ≡ some d → IsOut n d.stage → get_elem? s.views i ≡ some b → b.stage ≡ Idle → j ≢ i = λ i j d b n here out there idle e.
+      let not_idle : (i j : ℕ) (d b : V) (n : ℕ) → get_elem? s.views j ≡ some d → IsOut n d.stage → get_elem? s.views i ≡ some b
+      → b.stage ≡ Idle → j ≢ i = λ i j d b n here out there idle e.
       let same : d ≡ b = at_unique s.views i d b (subst (λ (z : ℕ). get_elem? s.views z ≡ some d) e here) there in
       subst (IsOut n) (ap (λ (v : V). v.stage) same ∙ idle) out in
-      let kept_at : (j : ℕ) (d : V) (n : ℕ) → get_elem? s.views j ≡ some d → IsOut n d.stage → get_elem? (set (set s.views id w) other z) j ≡ some d = λ j d n here out.
-      set_elsewhere (set s.views id w) other z j d (not_idle other j d u n here out at' idle') (set_elsewhere s.views id w j d (not_idle id j d v n here out at idle) here) in
-      let new_one : longer v.seen u.seen ≡ g.log → IsLongest g.log (set (set s.views id w) other z) = λ e.
-      (id, w, set_elsewhere (set s.views id w) other z id w (λ e. differ (sym e)) (set_here s.views id w (at_inside s.views id v at)), subst IsThere (sym idle) tt, e) in
+      let kept_at : (j : ℕ) (d : V) (n : ℕ) → get_elem? s.views j ≡ some d → IsOut n d.stage
+      → get_elem? (set (set s.views id w) other z) j ≡ some d = λ j d n here out.
+      set_elsewhere (set s.views id w) other z j d (not_idle other j d u n here out at' idle')
+      (set_elsewhere s.views id w j d (not_idle id j d v n here out at idle) here) in
+      let new_one : longer v.seen u.seen ≡ g.log → IsLongest g.log (set (set s.views id w) other z) = λ e. (
+        id,
+        w,
+        set_elsewhere (set s.views id w) other z id w (λ e. differ (sym e)) (set_here s.views id w (at_inside s.views id v at)),
+        subst IsThere (sym idle) tt,
+        e,
+      ) in
       let h = r.longest in
       let longest : IsLongest g.log (set (set s.views id w) other z) = dite (ℕ_discrete h.0 id)
       (λ e. let is : h.1 ≡ v = at_unique s.views id h.1 v (subst (λ (k : ℕ). get_elem? s.views k ≡ some h.1) e h.2) at in
@@ -513,30 +657,37 @@ module _ {B O C R : Type 0} (opening_of : B → O) (acts_of : B → List (Deed C
           longest = longest;
           is_legal = r.is_legal;
           no_others = r.no_others;
-          placed = elim g.is_out as (λ b. IsPlaced opening_of acts_of o g.log g.served s.views b s.homes → IsPlaced opening_of acts_of o g.log g.served (set (set s.views id w) other z) b s.homes) [
-            | false ↦ λ p. p
-            | true ↦ λ p. (p.0, (p.1.0, p.1.1, kept_at p.1.0 p.1.1 g.served p.1.2 (subst (IsOut g.served) (sym p.1.3) refl), p.1.3))
-          ] r.placed;
+          placed =
+              elim g.is_out as (λ b. IsPlaced opening_of acts_of o g.log g.served s.views b s.homes
+              → IsPlaced opening_of acts_of o g.log g.served (set (set s.views id w) other z) b s.homes) [
+                | false ↦ λ p. p
+                | true ↦ λ p. (p.0, (p.1.0, p.1.1, kept_at p.1.0 p.1.1 g.served p.1.2 (subst (IsOut g.served) (sym p.1.3) refl), p.1.3))
+              ] r.placed;
         },
       )
 
   -- a number that a pass owns is at its seat
-  owned_at : (f : ℕ → ℕ) (numbers : List ℕ) (log : List (Deed C R)) (j n : ℕ) (ms : List (Made C R)) → Each (IsOwned f numbers log j) ms → is_among n (sources ms) ≡ true → f n ≡ j
+  owned_at : (f : ℕ → ℕ) (numbers : List ℕ) (log : List (Deed C R)) (j n : ℕ) (ms : List (Made C R)) → Each (IsOwned f numbers log j) ms
+      → is_among n (sources ms) ≡ true → f n ≡ j
   owned_at f numbers log j n [] h e = let clash : false ≡ true = e in absurd (cc)
   owned_at f numbers log j n (m ∷ ms) h e = dite (ℕ_discrete m.number n) (λ is. ap f (sym is) ∙ h.0.seat_is)
       (λ isnt. owned_at f numbers log j n ms h.1 (sym (ap (λ b. b || is_among n (sources ms)) (ne_eqb m.number n isnt)) ∙ e))
 
-  made_of : (f : ℕ → ℕ) (numbers : List ℕ) (log : List (Deed C R)) (j n : ℕ) (ms : List (Made C R)) → Each (IsOwned f numbers log j) ms → is_among n (sources ms) ≡ true → acts_by n log ≡ made_by n ms
+  made_of : (f : ℕ → ℕ) (numbers : List ℕ) (log : List (Deed C R)) (j n : ℕ) (ms : List (Made C R)) → Each (IsOwned f numbers log j) ms
+      → is_among n (sources ms) ≡ true → acts_by n log ≡ made_by n ms
   made_of f numbers log j n [] h e = let clash : false ≡ true = e in absurd (cc)
   made_of f numbers log j n (m ∷ ms) h e = dite (ℕ_discrete m.number n)
-      (λ is. ap (λ (z : ℕ). acts_by z log) (sym is) ∙ (h.0.acts_are ∙ sym (ap (λ b. if b then m.acts else made_by n ms) (eq-eqb m.number n is))))
-      (λ isnt. made_of f numbers log j n ms h.1 (sym (ap (λ b. b || is_among n (sources ms)) (ne_eqb m.number n isnt)) ∙ e) ∙ sym (ap (λ b. if b then m.acts else made_by n ms) (ne_eqb m.number n isnt)))
+      (λ is. ap (λ (z : ℕ). acts_by z log) (sym is)
+      ∙ (h.0.acts_are ∙ sym (ap (λ b. if b then m.acts else made_by n ms) (eq-eqb m.number n is))))
+      (λ isnt. made_of f numbers log j n ms h.1 (sym (ap (λ b. b || is_among n (sources ms)) (ne_eqb m.number n isnt)) ∙ e)
+      ∙ sym (ap (λ b. if b then m.acts else made_by n ms) (ne_eqb m.number n isnt)))
 
   made_none : (n : ℕ) (ms : List (Made C R)) → is_among n (sources ms) ≡ false → made_by n ms ≡ []
   made_none n [] e = refl
   made_none n (m ∷ ms) e = dite (ℕ_discrete m.number n)
       (λ is. let clash : true ≡ false = sym (ap (λ b. b || is_among n (sources ms)) (eq-eqb m.number n is)) ∙ e in absurd (cc))
-      (λ isnt. ap (λ b. if b then m.acts else made_by n ms) (ne_eqb m.number n isnt) ∙ made_none n ms (sym (ap (λ b. b || is_among n (sources ms)) (ne_eqb m.number n isnt)) ∙ e))
+      (λ isnt. ap (λ b. if b then m.acts else made_by n ms) (ne_eqb m.number n isnt)
+      ∙ made_none n ms (sym (ap (λ b. b || is_among n (sources ms)) (ne_eqb m.number n isnt)) ∙ e))
 
   -- what a book stands for when the cell is closed
   pub record IsClosed (v : V) (k : Kept B) : Type 0 where
@@ -546,19 +697,24 @@ module _ {B O C R : Type 0} (opening_of : B → O) (acts_of : B → List (Deed C
     pub acts : (n : ℕ) → acts_by n (acts_of k.book.value) ≡ made_by n (own_and_joined v)
 
   -- with all passes joined the book is at home, and has the acts that the passes made
-  ends : (id : ℕ) (v : V) (s : St) (g : Co) (r : Ok g s) → get_elem? s.views id ≡ some v → v.stage ≡ Idle → v.is_first ≡ true → Each (λ (n : ℕ). is_among n (sources v.joined) ≡ true) v.handed
+  ends : (id : ℕ) (v : V) (s : St) (g : Co) (r : Ok g s) → get_elem? s.views id ≡ some v → v.stage ≡ Idle → v.is_first ≡ true
+      → Each (λ (n : ℕ). is_among n (sources v.joined) ≡ true) v.handed
       → (k : Kept B) × (s.homes ≡ some (Some k) ∷ []) × IsClosed v k
   ends id v s g r at idle first all =
       let live : Live g id v = subst (Knows b0 g id v) idle (r.seats id v at) in let root = (live.is_root first).1 in
       let ms : List (Made C R) = own_and_joined v in
       let owned : Each (IsOwned g.seat_of g.numbers g.log id) ms = (live.own, live.joined) in
-      let in_mine : (n : ℕ) → is_among n g.numbers ≡ true → is_among n (sources ms) ≡ true = λ n e. either_way (v.number == n) (is_among n v.handed) (is_among n (sources v.joined))
+      let in_mine : (n : ℕ) → is_among n g.numbers ≡ true → is_among n (sources ms) ≡ true =
+      λ n e. either_way (v.number == n) (is_among n v.handed) (is_among n (sources v.joined))
       (among_all n v.handed (sources v.joined) all) (sym (ap (is_among n) root) ∙ e) in
-      let acts : (n : ℕ) (b : Bool) → is_among n (sources ms) ≡ b → acts_by n g.log ≡ made_by n ms = λ n b. elim b as (λ b. is_among n (sources ms) ≡ b → acts_by n g.log ≡ made_by n ms) [
+      let acts : (n : ℕ) (b : Bool) → is_among n (sources ms) ≡ b → acts_by n g.log ≡ made_by n ms =
+      λ n b. elim b as (λ b. is_among n (sources ms) ≡ b → acts_by n g.log ≡ made_by n ms) [
         | true ↦ λ e. made_of g.seat_of g.numbers g.log id n ms owned e
-        | false ↦ λ e. r.no_others n (not_among (is_among n g.numbers) (λ h. let clash : true ≡ false = sym (in_mine n h) ∙ e in absurd (cc))) ∙ sym (made_none n ms e)
+        | false ↦ λ e. r.no_others n (not_among (is_among n g.numbers) (λ h. let clash : true ≡ false =
+            sym (in_mine n h) ∙ e in absurd (cc))) ∙ sym (made_none n ms e)
       ] in
-      elim g.is_out as (λ b. IsPlaced opening_of acts_of o g.log g.served s.views b s.homes → (k : Kept B) × (s.homes ≡ some (Some k) ∷ []) × IsClosed v k) [
+      elim g.is_out as (λ b. IsPlaced opening_of acts_of o g.log g.served s.views b s.homes
+      → (k : Kept B) × (s.homes ≡ some (Some k) ∷ []) × IsClosed v k) [
         | false ↦ λ p. (
           p.0,
           p.1,
@@ -571,22 +727,27 @@ module _ {B O C R : Type 0} (opening_of : B → O) (acts_of : B → List (Deed C
         )
         | true ↦ λ p. let u : V = p.1.1 in let there = p.1.2 in
             let theirs = ticketed g p.1.0 g.served u u.stage (subst (IsOut g.served) (sym p.1.3) refl) (r.seats p.1.0 u there) in
-            let seats : p.1.0 ≡ id = sym theirs.0.own.seat_is ∙ owned_at g.seat_of g.numbers g.log id u.number ms owned (in_mine u.number theirs.0.own.in_use) in
+            let seats : p.1.0 ≡ id = sym theirs.0.own.seat_is
+            ∙ owned_at g.seat_of g.numbers g.log id u.number ms owned (in_mine u.number theirs.0.own.in_use) in
             let same : u ≡ v = at_unique s.views id u v (subst (λ (z : ℕ). get_elem? s.views z ≡ some u) seats there) at in
             let clash : Holding g.served ≡ Idle = sym p.1.3 ∙ (ap (λ (z : V). z.stage) same ∙ idle) in
             absurd (cc)
       ] r.placed
 
-  pub closes : (id : ℕ) (v : V) (ws : List ℕ) (xs : List S) → v.stage ≡ Idle → v.is_first ≡ true → Each (λ (n : ℕ). is_among n (sources v.joined) ≡ true) v.handed → Final (Seen Rule id v) ws xs
+  pub closes : (id : ℕ) (v : V) (ws : List ℕ) (xs : List S) → v.stage ≡ Idle → v.is_first ≡ true
+      → Each (λ (n : ℕ). is_among n (sources v.joined) ≡ true) v.handed → Final (Seen Rule id v) ws xs
       → (k : Kept B) × (get_elem? xs 0 ≡ some (Some k)) × IsClosed v k
-  closes id v ws xs idle first all f = let e = ends id v f.0 f.1.0.0 f.1.0.1 f.1.1 idle first all in (e.0, f.4 0 (Some e.0) (ap (λ (l : List (Maybe S)). get_elem? l 0) e.1), e.2)
+  closes id v ws xs idle first all f = let e =
+      ends id v f.0 f.1.0.0 f.1.0.1 f.1.1 idle first all in (e.0, f.4 0 (Some e.0) (ap (λ (l : List (Maybe S)). get_elem? l 0) e.1), e.2)
 
-  pub closes_with : (id : ℕ) (v : V) (ws : List ℕ) (xs : List S) → v.stage ≡ Idle → v.is_first ≡ true → Each (λ (n : ℕ). is_among n (sources v.joined) ≡ true) v.handed → Final (Seen Rule id v) ws xs
+  pub closes_with : (id : ℕ) (v : V) (ws : List ℕ) (xs : List S) → v.stage ≡ Idle → v.is_first ≡ true
+      → Each (λ (n : ℕ). is_among n (sources v.joined) ≡ true) v.handed → Final (Seen Rule id v) ws xs
       → (x : S) (k : Kept B) → get_elem? xs 0 ≡ some x → x ≡ Some k → IsClosed v k
   closes_with id v ws xs idle first all f x k at is = let e = closes id v ws xs idle first all f in
       let same : Some e.0 ≡ Some k = at_unique xs 0 (Some e.0) x e.1 at ∙ is in let eq : e.0 ≡ k = cc in subst (IsClosed v) eq e.2
 
-  pub closes_some : (id : ℕ) (v : V) (ws : List ℕ) (xs : List S) → v.stage ≡ Idle → v.is_first ≡ true → Each (λ (n : ℕ). is_among n (sources v.joined) ≡ true) v.handed → Final (Seen Rule id v) ws xs
+  pub closes_some : (id : ℕ) (v : V) (ws : List ℕ) (xs : List S) → v.stage ≡ Idle → v.is_first ≡ true
+      → Each (λ (n : ℕ). is_among n (sources v.joined) ≡ true) v.handed → Final (Seen Rule id v) ws xs
       → get_elem? xs 0 ≡ some None → ⊥
   closes_some id v ws xs idle first all f at = let e = closes id v ws xs idle first all f in
       let clash : Some e.0 ≡ None = at_unique xs 0 (Some e.0) None e.1 at in cc

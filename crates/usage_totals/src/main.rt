@@ -7,13 +7,12 @@ ghost use Rattle.std.specs.Process.{exit_status};
 ghost use Rattle.outer_io.specs.Shown.{source_change, sink_change};
 ghost use Rattle.usage_totals_main.specs.declared.status.TotalsStatus.{TotalsStatus};
 ghost use Rattle.usage_totals_main.specs.Run.{IsRun, code_of};
-ghost use Rattle.usage_totals.specs.Exit.{own_text, asks_for_text, IsTold};
+ghost use Rattle.program_words.specs.OwnTexts.{asks_for_text, IsTold};
 
 use line_reader::TextReader;
 use outer_io::{Sink, Source, StdSink, StdSource};
-use std::env;
+use program_words::{NoWords, Numbered, command_words, own_text, tell};
 use std::fs::{File, Files};
-use std::io::{self, ErrorKind};
 use std::process::ExitCode;
 use usage_totals_main::{LINE_MAX, TotalsStatus, totals_run};
 
@@ -38,41 +37,12 @@ exit status: 0 done, 2 faulty words, 5 edits not read, 7 answer not written,
 
 const VERSION: &str = "usage_totals 0.1.0\n";
 
-// A text of the program's own.
-#[derive(Clone, Copy)]
-enum OwnText {
-    Help,
-    Version,
-}
-
-impl OwnText {
-    ghost use Rattle.std.specs.Prelude.{◌≡◌};
-    ghost use Rattle.usage_totals.specs.Exit.{text_of};
-
-    fn text(self) -> &'static str
-        ensures { result.now ≡ text_of self }
-    {
-        match self {
-            OwnText::Help => HELP,
-            OwnText::Version => VERSION,
-        }
+// How a status is said.
+fn said(code: u8) -> Numbered {
+    Numbered {
+        program: "usage_totals",
+        code,
     }
-}
-
-// The text of the program's own that the words ask for, where they ask for one.
-fn own_text(command: &[String]) -> Option<OwnText>
-    ensures { result ≡ own_text (map string_bytes command.now) }
-{
-    let [word] = command else {
-        return None;
-    };
-    if word.as_str() == "--help" {
-        return Some(OwnText::Help);
-    }
-    if word.as_str() == "--version" {
-        return Some(OwnText::Version);
-    }
-    None
 }
 
 // Says the exit status, unless all is done, and ends with it.
@@ -80,27 +50,7 @@ fn end(rt: &impl Eprint, status: TotalsStatus) -> ExitCode
     ensures { exit_status result ≡ code_of status }
 {
     let code = status.code();
-    if code != 0 {
-        let _ = eprintln!(rt; "usage_totals: status {code}");
-    }
-    ExitCode::from(code)
-}
-
-// Prints a text of the program's own.
-fn tell<R: Print + Eprint>(rt: &R, text: &str) -> ExitCode
-    ensures { IsTold (exit_status result) }
-{
-    match rt.print(text) {
-        Ok(()) => ExitCode::SUCCESS,
-        Err(_) => end(rt, TotalsStatus::Write),
-    }
-}
-
-fn cannot_open(rt: &impl Eprint) -> ExitCode
-    ensures { exit_status result ≡ 11 }
-{
-    let _ = eprintln!(rt; "usage_totals: status 11");
-    ExitCode::from(11)
+    program_words::end(rt, code, said(code))
 }
 
 // Answers the lines of a file, and ends with the status of that.
@@ -134,39 +84,34 @@ fn perform<R: Print + Eprint + Files<File = File> + AllocGlobal>(
     command: &[String],
     mut out: StdSink,
 ) -> ExitCode
-    ensures text { asks_for_text (map string_bytes command.now) ≡ true → IsTold (exit_status result) }
+    ensures text { asks_for_text (map string_bytes command.now) ≡ true → IsTold 7 (exit_status result) }
     ensures faulty { length command.now ≢ 1 → exit_status result ≡ 2 }
 {
     if let Some(own) = own_text(command) {
-        return tell(rt, own.text());
+        let unwritten = TotalsStatus::Write.code();
+        return tell(rt, own.text(HELP, VERSION), unwritten, said(unwritten));
     }
     let [edits] = command else {
         return end(rt, TotalsStatus::Words);
     };
     let Ok(file) = File::open(rt, edits.as_str()) else {
-        return cannot_open(rt);
+        return program_words::end(rt, 11, said(11));
     };
     let mut lines = TextReader::new(StdSource::file(file), LINE_MAX);
     answer(rt, command, &mut lines, &mut out)
 }
 
-// What it means that the words can't be had: there is no memory for them, or one isn't UTF-8, which makes them faulty.
-fn status_without_words(error: &io::Error) -> TotalsStatus {
-    if error.kind() == ErrorKind::OutOfMemory {
-        TotalsStatus::Memory
-    } else {
-        TotalsStatus::Words
+// What it means that the words can't be had.
+fn status_without_words(reason: NoWords) -> TotalsStatus {
+    match reason {
+        NoWords::Memory => TotalsStatus::Memory,
+        NoWords::NotText => TotalsStatus::Words,
     }
 }
 
 fn main(rt: HostRuntime) -> ExitCode {
-    let args = match env::args(&rt) {
-        Ok(args) => args,
-        Err(error) => return end(&rt, status_without_words(&error)),
-    };
-    let Ok(command) = args.skip(1).collect::<Vec<String>>(rt.alloc()) else {
-        return end(&rt, TotalsStatus::Memory);
-    };
-    let out = StdSink::standard(rt.stdout());
-    perform(&rt, command.as_slice(), out)
+    match command_words(&rt) {
+        Ok(command) => perform(&rt, &command, StdSink::standard(rt.stdout())),
+        Err(reason) => end(&rt, status_without_words(reason)),
+    }
 }

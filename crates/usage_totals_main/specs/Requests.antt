@@ -1,10 +1,9 @@
 -- What one line asks for.
-use Rattle.std.specs.Prelude.{ℕ, ◌≡◌, ◌-◌, ◌^◌, nat_eq, nat_lt, Bool, List, [], ◌∷◌, length, codes, Option, Some, None, Result, Ok, Err, if◌then◌else◌}
+use Rattle.std.specs.Prelude.{ℕ, ◌≡◌, ◌-◌, ◌^◌, nat_lt, Bool, List, [], ◌∷◌, length, codes, Option, Some, None, Result, Ok, Err, if◌then◌else◌}
 use Rattle.std.specs.Result.{result_ok}
-use Rattle.std.specs.Cmp.Lexicographic.{pointwise}
 use Rattle.hex.specs.Hex.{decode_of}
 use Rattle.plain_text.specs.Numbers.{number_of}
-use Rattle.plain_text.specs.Parts.{fields_of}
+use Rattle.plain_text.specs.Parts.{fields_of, is_word}
 use Rattle.meter_address.specs.declared.address.Address.{Address}
 use Rattle.meter_address.specs.Address.{address_of}
 use Rattle.meter_usage.specs.Edits.{Edit, addition, replacement, removal}
@@ -65,9 +64,6 @@ unfoldable pub question_in : List (List ℕ) → Option Request
 question_in [] = Some totals
 question_in (text ∷ []) = address_of text >>= λ address. Some (usages address)
 question_in fields = None
-
-abbrev pub is_word : List ℕ → List ℕ → Bool
-is_word text word = pointwise nat_eq text word
 
 -- the first field is one of four signs
 unfoldable pub by_sign : List (List ℕ) → Option Request

@@ -4,7 +4,8 @@ use Rattle.afl_fragments.proofs.places.is_front_held.Goals as goal
 
 pub returns-then-not-leads : goal.returns-then-not-leads
 returns-then-not-leads c =
-    front_stops _ _ _ _ c.requires.ordered c.loop-place-test.true c.requires.count c.loop-place.invariant (sym c.leads.ensures ∙ c.if-not-leads.true)
+    front_stops _ _ _ _ c.requires.ordered c.loop-place-test.true c.requires.count c.loop-place.invariant (sym c.leads.ensures
+    ∙ c.if-not-leads.true)
 
 pub loop-place-preserved : goal.loop-place-preserved
 loop-place-preserved c =

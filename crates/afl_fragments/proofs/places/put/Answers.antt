@@ -11,14 +11,16 @@ pub insert-requires : goal.insert-requires
 insert-requires c =
     let same = ap (λ a. a.fid) c.afl-place.ensures.header in
     let few =
-    others_few c.args.places.now c.args.order.now.items (c.afl-place.result.fid - 1) c.args.part c.requires.ordered (omega (arith, same, c.requires.counted)) (at_its_place _ _ same c.afl-place.ensures.first) in
+    others_few c.args.places.now c.args.order.now.items (c.afl-place.result.fid - 1) c.args.part c.requires.ordered
+    (omega (arith, same, c.requires.counted)) (at_its_place _ _ same c.afl-place.ensures.first) in
     (omega arith, (omega arith, rw c.leave_out.ensures few))
 
 pub returns-clause-ordered : goal.returns-clause-ordered
 returns-clause-ordered c =
     let same = ap (λ a. a.fid) c.afl-place.ensures.header in
     rw (c.insert.ensures.items, c.leave_out.ensures)
-    (placed_ordered c.args.places.now c.args.order.now.items (c.afl-place.result.fid - 1) c.args.part c.requires.ordered (omega (arith, same, c.requires.counted)) (at_its_place _ _ same c.afl-place.ensures.first))
+    (placed_ordered c.args.places.now c.args.order.now.items (c.afl-place.result.fid - 1) c.args.part c.requires.ordered
+    (omega (arith, same, c.requires.counted)) (at_its_place _ _ same c.afl-place.ensures.first))
 
 pub returns-clause-held : goal.returns-clause-held
 returns-clause-held c =
@@ -26,4 +28,5 @@ returns-clause-held c =
     let place = c.afl-place.result.fid - 1 in
     let after : List HeldPart = set c.args.places.now place (record { ticks = 0; part = c.args.part }) in
     ap (held_in after) (c.insert.ensures.items ∙ ap (λ is. place ∷ is) c.leave_out.ensures)
-    ∙ placed c.args.places.now c.args.order.now.items place c.args.part c.requires.ordered (omega (arith, same, c.requires.counted)) (at_its_place _ _ same c.afl-place.ensures.first)
+    ∙ placed c.args.places.now c.args.order.now.items place c.args.part c.requires.ordered (omega (arith, same, c.requires.counted))
+    (at_its_place _ _ same c.afl-place.ensures.first)

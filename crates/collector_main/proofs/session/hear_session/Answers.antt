@@ -2,18 +2,18 @@ use Rattle.std.proofs.Common.{Some, None, [], ap, refl, ◌∙◌, rules}
 use Rattle.meter_slots.specs.declared.counts.Ended.TheVariants as ends
 use Rattle.meter_slots.specs.World.{world_of}
 use Rattle.collector_main.specs.declared.status.Status.TheVariants as statuses
-use Rattle.collector_main.proofs.Runs.{heard_run, unheard_run}
+use Rattle.collector_main.proofs.Runs.{heard_run, alone_unheard}
 use Rattle.collector_main.proofs.session.hear_session.Goals as goal
 
 pub returns-in-Err-clause-run : goal.returns-in-Err-clause-run
-returns-in-Err-clause-run g c = unheard_run _ _ _ _ _ c.in-Err.status None c.in-Err.ensures.status c.requires.fresh tt c.enrolled.ensures.no_loss (λ told. refl) refl
+returns-in-Err-clause-run g c = alone_unheard _ _ _ _ _ c.in-Err.status None c.in-Err.ensures.status c.requires.fresh tt c.enrolled.ensures.no_loss (λ told. refl) refl
 
 pub returns-in_default-clause-run : goal.returns-in_default-clause-run
-returns-in_default-clause-run g c = unheard_run _ _ _ _ _ statuses.Memory None tt c.requires.fresh tt c.enrolled.ensures.no_loss (λ told. refl) refl
+returns-in_default-clause-run g c = alone_unheard _ _ _ _ _ statuses.Memory None tt c.requires.fresh tt c.enrolled.ensures.no_loss (λ told. refl) refl
 
 pub returns-in-Memory-clause-run : goal.returns-in-Memory-clause-run
 returns-in-Memory-clause-run g c =
-    unheard_run _ _ _ _ _ statuses.Memory (Some ends.Memory) tt (c.work_alone.ensures.ended ∙ ap Some c.in-Memory.is) tt c.enrolled.ensures.no_loss
+    alone_unheard _ _ _ _ _ statuses.Memory (Some ends.Memory) tt (c.work_alone.ensures.ended ∙ ap Some c.in-Memory.is) tt c.enrolled.ensures.no_loss
     c.work_alone.ensures.heard.has_heard.no_loss refl
 
 pub returns-clause-run : goal.returns-clause-run

@@ -9,7 +9,9 @@ invariant-reading g l = record {
   alone : newlines (take l.searched l.held) ≡ 0;
   given_up : l.given_up ≤ l.most;
   later : g.S.Source.faults l.fn.source ≤ g.S.Source.faults l.source;
-  line : IsTrue g.S.Source.tells → IsReading l.longest l.fn.held (g.S.Source.taken l.fn.source) (g.S.Source.left l.fn.source) (g.S.Source.taken l.source) (g.S.Source.left l.source) l.held l.given_up;
+  line : IsTrue g.S.Source.tells
+      → IsReading l.longest l.fn.held (g.S.Source.taken l.fn.source) (g.S.Source.left l.fn.source) (g.S.Source.taken l.source)
+      (g.S.Source.left l.source) l.held l.given_up;
 }
 
 abbrev pub decreases-reading : goal.decreases-reading

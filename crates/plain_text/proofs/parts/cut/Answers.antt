@@ -7,5 +7,6 @@ returns-in_default c = record { whole = refl; alone = cut_none _ c.args.text.now
 
 pub returns : goal.returns
 returns c = record {
-  first = next_part c.args.separator c.args.text.now _ _ _ c.in-Some.place (sym c.first_place.ensures ∙ c.in-Some.is) c.split_at.ensures.front c.split_at.ensures.back c.split_at-2.ensures.back;
+  first = next_part c.args.separator c.args.text.now _ _ _ c.in-Some.place (sym c.first_place.ensures
+      ∙ c.in-Some.is) c.split_at.ensures.front c.split_at.ensures.back c.split_at-2.ensures.back;
 }

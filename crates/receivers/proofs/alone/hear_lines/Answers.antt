@@ -16,13 +16,16 @@ lines-init g c = record {
   at = ap (λ (n : Counts). n.lines) c.requires.counts ∙ sym c.requires.fresh;
   later = omega arith;
   bytes = λ tells. refl;
-  so = alone_first g.S.Source.tells c.args.source (all_lines (g.S.Source.taken c.args.lines.now.source)) c.args.lines.now.line c.args.counts.now c.args.world.now c.requires.fresh c.requires.counts;
+  so = alone_first g.S.Source.tells c.args.source
+      (all_lines (g.S.Source.taken c.args.lines.now.source)) c.args.lines.now.line c.args.counts.now c.args.world.now c.requires.fresh
+      c.requires.counts;
 }
 
 pub count-requires : goal.count-requires
 count-requires g c =
     let so = c.lines.invariant.so in let directory = addresses_in c.args.world.now in
-    let n = lines_counted directory so.heard c.lines.counts so.so.counts_are in let at = c.lines.invariant.at in let few = c.lines.invariant.few in
+    let n = lines_counted directory so.heard c.lines.counts so.so.counts_are in let at = c.lines.invariant.at in
+    let few = c.lines.invariant.few in
     are_few directory so.heard c.lines.counts so.so.counts_are (omega arith)
 
 pub returns-in-Err-clause-heard : goal.returns-in-Err-clause-heard
@@ -32,7 +35,9 @@ returns-in-Err-clause-heard g c =
       heard = so.heard;
       has_heard = has_heard (addresses_in c.args.world.now) h (given g.S.Source.taken c.lines.lines) so.heard so.so
           (ended_told h (given g.S.Source.taken c.lines.lines) c.next_told.new.lines.line (e.same ∙ sym inv.at) e.ended)
-          (λ fault. rose_since (g.S.Source.faults c.args.lines.now.source) (g.S.Source.faults c.lines.lines.source) (g.S.Source.faults c.next_told.new.lines.source) inv.later (e.cause fault)) (omega (arith, inv.later, e.later)) (λ tells. e.bytes tells ∙ inv.bytes tells);
+          (λ fault. rose_since (g.S.Source.faults c.args.lines.now.source) (g.S.Source.faults c.lines.lines.source)
+          (g.S.Source.faults c.next_told.new.lines.source) inv.later (e.cause fault)) (omega (arith, inv.later, e.later))
+          (λ tells. e.bytes tells ∙ inv.bytes tells);
       world_is = so.world_is;
     }
 
@@ -42,7 +47,8 @@ returns-in-Err-hear_told-clause-heard g c =
     let h = hearing g.S.Source c.args.lines.now.source c.next_told.new.lines.source c.lines.counts ends.Memory in record {
       heard = so.heard;
       has_heard = has_heard (addresses_in c.args.world.now) h (given g.S.Source.taken c.lines.lines) so.heard so.so
-          (ended_memory (addresses_in c.args.world.now) h (given g.S.Source.taken c.lines.lines) (given g.S.Source.taken c.next_told.new.lines) so.heard c.in-Ok.told refl so.so e.told
+          (ended_memory (addresses_in c.args.world.now) h (given g.S.Source.taken c.lines.lines)
+          (given g.S.Source.taken c.next_told.new.lines) so.heard c.in-Ok.told refl so.so e.told
           (ap (λ (n : ℕ). lines_taken n (g.S.Source.taken c.next_told.new.lines.source)) (e.goes_on.0 ∙ ap (λ n. n + 1) (sym at))))
           (λ fault. absurd cc) (omega (arith, inv.later, e.later)) (λ tells. e.bytes tells ∙ inv.bytes tells);
       world_is = c.in-Err-hear_told.ensures.memory ∙ so.world_is;
@@ -55,6 +61,8 @@ lines-preserved g c = let inv = c.lines.invariant in let e = c.in-Ok.ensures in 
   at = ap (λ (n : Counts). n.lines) c.count.ensures ∙ (let at = inv.at in ap (λ n. n + 1) at ∙ sym e.goes_on.0);
   later = omega (arith, inv.later, e.later);
   bytes = λ tells. e.bytes tells ∙ inv.bytes tells;
-  so = alone_next g.S.Source.tells c.args.source (given g.S.Source.taken c.lines.lines) (given g.S.Source.taken c.next_told.new.lines) c.lines.counts c.count.result (c.lines.counts.lines + 1) c.in-Ok.told
-      c.in-Ok-hear_told.class c.args.world.now c.lines.world c.hear_told.new.world inv.so e.told refl c.in-Ok-hear_told.ensures.heard c.count.ensures;
+  so = alone_next g.S.Source.tells c.args.source (given g.S.Source.taken c.lines.lines)
+      (given g.S.Source.taken c.next_told.new.lines) c.lines.counts c.count.result (c.lines.counts.lines + 1) c.in-Ok.told
+      c.in-Ok-hear_told.class c.args.world.now c.lines.world c.hear_told.new.world inv.so e.told refl c.in-Ok-hear_told.ensures.heard
+      c.count.ensures;
 }

@@ -11,7 +11,8 @@ invariant-lines g l = record {
   at : l.counts.lines ≡ l.lines.line;
   later : g.S.Source.faults l.fn.lines.source ≤ g.S.Source.faults l.lines.source;
   bytes : IsTrue g.S.Source.tells →
-      g.S.Source.taken l.lines.source ++ g.S.Source.left l.lines.source ≡ g.S.Source.taken l.fn.lines.source ++ g.S.Source.left l.fn.lines.source;
+      g.S.Source.taken l.lines.source ++ g.S.Source.left l.lines.source ≡ g.S.Source.taken l.fn.lines.source ++ g.S.Source.left
+      l.fn.lines.source;
   so : AloneSo g.S.Source.tells l.source (given g.S.Source.taken l.lines) l.counts l.fn.world l.world;
 }
 

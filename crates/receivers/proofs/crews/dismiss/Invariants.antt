@@ -10,7 +10,8 @@ invariant-loop-worker g l = record {
   roots : ArePassesOf l.cells l.roots;
   stranger : IsPassOf l.strangers l.stranger_root;
   can : Each (CanJoin l.cells l.strangers) (map (λ w. crew w.passes.items w.stranger_pass) l.workers.items);
-  gone : IsDismissed (map (λ w. crew w.passes.items w.stranger_pass) l.fn.workers.items) (map (λ w. crew w.passes.items w.stranger_pass) l.workers.items) l.fn.roots l.roots l.fn.stranger_root l.stranger_root;
+  gone : IsDismissed (map (λ w. crew w.passes.items w.stranger_pass) l.fn.workers.items)
+      (map (λ w. crew w.passes.items w.stranger_pass) l.workers.items) l.fn.roots l.roots l.fn.stranger_root l.stranger_root;
   back : map (λ w. w.receiver) l.workers.items ++ l.receivers.items ≡ map (λ w. w.receiver) l.fn.workers.items ++ l.fn.receivers.items;
 }
 

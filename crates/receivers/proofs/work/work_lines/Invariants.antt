@@ -14,10 +14,12 @@ invariant-lines g l = record {
   later : g.S.Source.faults l.fn.lines.source ≤ g.S.Source.faults l.lines.source;
   tx_later : g.K.Sink.faults l.fn.tx ≤ g.K.Sink.faults l.tx;
   bytes : IsTrue g.S.Source.tells →
-      g.S.Source.taken l.lines.source ++ g.S.Source.left l.lines.source ≡ g.S.Source.taken l.fn.lines.source ++ g.S.Source.left l.fn.lines.source;
+      g.S.Source.taken l.lines.source ++ g.S.Source.left l.lines.source ≡ g.S.Source.taken l.fn.lines.source ++ g.S.Source.left
+      l.fn.lines.source;
   passes : ArePassesOf l.cells l.passes;
   stranger_pass : IsPassOf l.strangers l.stranger_pass;
-  so : WorksSo l.directory g.S.Source.tells (given g.S.Source.taken l.lines) l.counts (crew l.fn.passes l.fn.stranger_pass) (crew l.passes l.stranger_pass) g.K.Sink.tells (g.K.Sink.written l.fn.tx) (g.K.Sink.written l.tx);
+  so : WorksSo l.directory g.S.Source.tells (given g.S.Source.taken l.lines) l.counts (crew l.fn.passes l.fn.stranger_pass)
+      (crew l.passes l.stranger_pass) g.K.Sink.tells (g.K.Sink.written l.fn.tx) (g.K.Sink.written l.tx);
 }
 
 abbrev pub decreases-lines : goal.decreases-lines

@@ -5,4 +5,5 @@ use Rattle.report_text.proofs.writing.put_steps.Given as goal
 
 -- once the entries that are left are put, all are
 abbrev pub invariant-loop-entry : goal.invariant-loop-entry
-invariant-loop-entry g l = (q : g.row.P.Denot) → Puts g.P.Paper.takes l.paper (steps_text l.left (drop l.entry-index l.journal)) q → Puts g.P.Paper.takes l.initial.paper (steps_text l.readings l.journal) q
+invariant-loop-entry g l = (q : g.row.P.Denot) → Puts g.P.Paper.takes l.paper (steps_text l.left (drop l.entry-index l.journal)) q
+    → Puts g.P.Paper.takes l.initial.paper (steps_text l.readings l.journal) q

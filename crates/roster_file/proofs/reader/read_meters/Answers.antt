@@ -6,7 +6,9 @@ use Rattle.roster_file.proofs.reader.read_meters.Goals as goal
 pub returns-in-Err-clause-fault : goal.returns-in-Err-clause-fault
 returns-in-Err-clause-fault c =
     let given = rw c.as_slice.ensures.value at c.in-Err.ensures in
-    inr (c.lines.invariant ∙ ap (meters_of c.args.version c.lines.meters.items) c.in-Ok.ensures.entry ∙ meters_fault c.args.version c.lines.meters.items c.in-Err.fault (c.in-Ok.entry.line, c.in-Ok.entry.text.now) c.next.new.self.entries given)
+    inr (c.lines.invariant ∙ ap (meters_of c.args.version c.lines.meters.items) c.in-Ok.ensures.entry
+    ∙ meters_fault c.args.version c.lines.meters.items c.in-Err.fault
+    (c.in-Ok.entry.line, c.in-Ok.entry.text.now) c.next.new.self.entries given)
 
 pub lines-preserved : goal.lines-preserved
 lines-preserved c =
@@ -14,8 +16,10 @@ lines-preserved c =
     let more = meters ++ c.in-Ok-next_meter.meter ∷ [] in
     let given = rw c.as_slice.ensures.value at c.in-Ok-next_meter.ensures in
     let pushed = c.push.ensures.items ∙ ap (λ b. cond b more meters) (c.is_err.ensures.negation ∙ ap not c.if-is_err.false) in
-    c.lines.invariant ∙ ap (meters_of c.args.version meters) c.in-Ok.ensures.entry ∙ meters_next c.args.version meters more (c.in-Ok.entry.line, c.in-Ok.entry.text.now) c.next.new.self.entries given
+    c.lines.invariant ∙ ap (meters_of c.args.version meters) c.in-Ok.ensures.entry
+    ∙ meters_next c.args.version meters more (c.in-Ok.entry.line, c.in-Ok.entry.text.now) c.next.new.self.entries given
     ∙ ap (λ ms. meters_of c.args.version ms c.next.new.self.entries) (sym pushed)
 
 pub returns-clause-found : goal.returns-clause-found
-returns-clause-found c = c.lines.invariant ∙ ap (meters_of c.args.version c.lines.meters.items) c.in_default.ensures.entry.0 ∙ meters_end c.args.version c.lines.meters.items
+returns-clause-found c = c.lines.invariant ∙ ap (meters_of c.args.version c.lines.meters.items) c.in_default.ensures.entry.0
+    ∙ meters_end c.args.version c.lines.meters.items

@@ -12,4 +12,8 @@ from_one false fid f u = grind (arith, nat_tests)
 pub returns-clause-first : goal.returns-clause-first
 returns-clause-first c =
     let header = c.self.inside.afl in
-    omega (arith, ap (λ (p : Fragment). p.afl.fid) c.self.view_is, from_one header.more header.fid c.self.invariant.1.fragment c.self.invariant.1.numbered)
+    omega (
+      arith,
+      ap (λ (p : Fragment). p.afl.fid) c.self.view_is,
+      from_one header.more header.fid c.self.invariant.1.fragment c.self.invariant.1.numbered,
+    )

@@ -10,7 +10,8 @@ returns-then-fid-gt-PARTS_MAX-clause-held c told h =
 
 pub returns-clause-held : goal.returns-clause-held
 returns-clause-held c told h =
-    c.put.ensures.held ∙ ap (held_with c.args.part) (c.self.view_is ∙ h) ∙ sym (held-piece c.args.part told (omega (arith, ap (λ a. a.fid) c.afl-fid.ensures.header)))
+    c.put.ensures.held ∙ ap (held_with c.args.part) (c.self.view_is ∙ h)
+    ∙ sym (held-piece c.args.part told (omega (arith, ap (λ a. a.fid) c.afl-fid.ensures.header)))
 
 pub returns-clause-room : goal.returns-clause-room
 returns-clause-room c = rw (c.put.ensures.held, c.self.view_is) (held_with_room c.args.part c.args.self.now)

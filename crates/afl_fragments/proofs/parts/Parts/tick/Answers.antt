@@ -6,7 +6,8 @@ use Rattle.afl_fragments.proofs.PlaceLaws.{aged_places, aged_ordered}
 use Rattle.afl_fragments.proofs.parts.Parts.tick.Goals as goal
 
 pub invariant_of-self : goal.invariant_of-self
-invariant_of-self c = rw (c.grow_older.ensures, c.keep_fresh.ensures) (aged_ordered c.self.inside.places c.self.inside.order.items c.self.invariant)
+invariant_of-self c =
+    rw (c.grow_older.ensures, c.keep_fresh.ensures) (aged_ordered c.self.inside.places c.self.inside.order.items c.self.invariant)
 
 pub returns : goal.returns
 returns c told h =

@@ -21,9 +21,12 @@ returns-clause-lines g c = λ told.
           (named w.in-Ok-Line.field-0 texts.Line longest text old new w.in-Ok-Line.field-0-is (w.in-Ok-Line.ensures.lines told)))
       | in-Ok-TooLong w ↦
           subst P (sym w.result-is) (gives_long old new (subst (λ n. GivesLongLine n old new) c.self.invariant
-          (named w.in-Ok-TooLong.field-0 texts.TooLong longest text old new w.in-Ok-TooLong.field-0-is (w.in-Ok-TooLong.ensures.lines told))))
-      | in-Ok-End w ↦ subst P (sym w.result-is) (named w.in-Ok-End.field-0 texts.End longest text old new w.in-Ok-End.field-0-is (w.in-Ok-End.ensures.lines told))
-      | in-Ok-Cut w ↦ subst P (sym w.result-is) (named w.in-Ok-Cut.field-0 texts.Cut longest text old new w.in-Ok-Cut.field-0-is (w.in-Ok-Cut.ensures.lines told))
+          (named w.in-Ok-TooLong.field-0 texts.TooLong longest text old new w.in-Ok-TooLong.field-0-is
+          (w.in-Ok-TooLong.ensures.lines told))))
+      | in-Ok-End w ↦ subst P (sym w.result-is)
+          (named w.in-Ok-End.field-0 texts.End longest text old new w.in-Ok-End.field-0-is (w.in-Ok-End.ensures.lines told))
+      | in-Ok-Cut w ↦ subst P (sym w.result-is)
+          (named w.in-Ok-Cut.field-0 texts.Cut longest text old new w.in-Ok-Cut.field-0-is (w.in-Ok-Cut.ensures.lines told))
       | in-Err w ↦ subst P (sym w.result-is) (w.in-Err.ensures.lines told)
     ] in
     rw (← c.self.view_is) gives

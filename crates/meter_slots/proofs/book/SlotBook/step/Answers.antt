@@ -14,7 +14,14 @@ invariant_of-self-2 c =
     let judged =
     answer_kept b.opening b.own b.entries.items b.standing b.readings.items c.args.event given c.self.invariant
     c.in_ok-served.ensures.outcome in
-    rw (c.push_reserved.ensures.items, c.note.ensures, c.reserve.ensures.items, c.reserve-2.ensures.items, c.copied.ensures, c.in_ok-kept.ensures)
+    rw (
+      c.push_reserved.ensures.items,
+      c.note.ensures,
+      c.reserve.ensures.items,
+      c.reserve-2.ensures.items,
+      c.copied.ensures,
+      c.in_ok-kept.ensures,
+    )
     (kept_after b.opening b.own b.entries.items b.standing b.readings.items x c.answer.new.self _ c.self.invariant c.show_payload.ensures
     judged
     c.in_ok-served.ensures.number c.in_ok-served.ensures.reading c.in_ok-served.ensures.moves)

@@ -1,11 +1,48 @@
-use Rattle.std.proofs.Common.{◌≡◌, Bool, ap, ◌∙◌, subst}
+use Rattle.std.proofs.Common.{◌≡◌, ℕ, Bool, List, Option, Result, ap, ◌∙◌, subst, option_to_list}
 use Rattle.std.specs.Prelude.{slice_index}
+use Rattle.meter_address.specs.Commission.{Commissioned}
 use Rattle.afl_fragments.specs.Held.{StandsFor}
 use Rattle.ell_layer.specs.declared.access.Access.{Access}
+use Rattle.message_check.specs.Opening.{Found}
+use Rattle.message_check.specs.declared.refusal.Reason.{Reason}
 use Rattle.meter_slots.specs.Hearing.{is_response, received}
-use Rattle.meter_slots.specs.Journal.{verdict, access_of, orders_heard}
-use Rattle.meter_slots.specs.Keeping.{Kept, standing_for}
+use Rattle.meter_slots.specs.Journal.{verdict, access_of, heard, orders_heard, reading_at, stored_in}
+use Rattle.meter_slots.specs.Keeping.{Kept, standing_for, verdict_as}
 use Rattle.meter_slots.proofs.standing.Standing.hear.Goals as goal
+
+pub returns-clause-outcome : goal.returns-clause-outcome
+returns-clause-outcome c format told =
+    let b = c.self.inside in
+    let t = c.args.telegram.now in
+    let own = c.args.own in
+    let k : Kept = record { commission = b.judge.commission; last = b.judge.last; parts = b.parts; orders = b.commands } in
+    let access : Kept → Access = λ k. access_of (received k.commission.mode t) (verdict k.commission (standing_for k told) t) in
+    let response = is_response (slice_index t 1) in
+    let Answered : Kept → Type 0 = λ k. StandsFor k.parts told
+    → c.hear-outcome.result ≡ heard own k.commission k.orders (access k) response (verdict k.commission (standing_for k told) t) in
+    let found = verdict_as c.hear-judged.new.message c.hear-judged.result.verdict in
+    let answered : Answered k = λ stands. c.hear-outcome.ensures.outcome c.hear-judged.new.message
+    ∙ ap (λ (n : Commissioned). heard own n b.commands c.hear-judged.result.access c.has_response_control-response.result found)
+    c.commission.ensures
+    ∙ ap (λ (a : Access). heard own b.judge.commission b.commands a c.has_response_control-response.result found)
+    (c.hear-judged.ensures.access ∙ ap (access_of (received b.judge.commission.mode t)) (c.hear-judged.ensures.verdict told stands))
+    ∙ ap (λ (r : Bool). heard own b.judge.commission b.commands (access k) r found)
+    (c.has_response_control-response.ensures ∙ ap is_response c.control.ensures)
+    ∙ ap (λ (v : Result (Option Found) Reason). heard own b.judge.commission b.commands (access k) response v)
+    (c.hear-judged.ensures.verdict told stands) in
+    subst Answered c.self.view_is answered
+
+pub returns-clause-reading : goal.returns-clause-reading
+returns-clause-reading c format told =
+    let b = c.self.inside in
+    let t = c.args.telegram.now in
+    let k : Kept = record { commission = b.judge.commission; last = b.judge.last; parts = b.parts; orders = b.commands } in
+    let Reads : Kept → Type 0 = λ k. StandsFor k.parts told
+    → option_to_list c.reading_from-reading.result ≡ reading_at c.args.at (stored_in (verdict k.commission (standing_for k told) t)) in
+    let reads : Reads k = λ stands. c.reading_from-reading.ensures
+    ∙ ap (λ (bytes : List ℕ). reading_at c.args.at (stored_in (verdict_as bytes c.hear-judged.result.verdict))) c.deref.ensures
+    ∙ ap (λ (v : Result (Option Found) Reason). reading_at c.args.at (stored_in v)) (c.hear-judged.ensures.verdict told stands) in
+    subst Reads c.self.view_is reads
 
 pub returns-clause-orders : goal.returns-clause-orders
 returns-clause-orders c format told =

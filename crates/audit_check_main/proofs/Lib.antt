@@ -1,0 +1,12 @@
+pub mod Compared
+pub mod HeardLists
+pub mod InputReads
+pub mod Notes
+pub mod OneVerdict
+pub mod OrderChecks
+pub mod Overs
+pub mod ReadLists
+pub mod Runs
+pub mod Slots
+pub mod Steps
+pub mod Verdicts

@@ -1,0 +1,13 @@
+use Rattle.std.proofs.Common.{◌≡◌, ◌+◌, ◌++◌, ◌∷◌, [], ◌∙◌, ℕ, List, ap, sym, length, set, get_or, arith}
+use Rattle.audit_check_main.proofs.ReadLists.{on_ok, set-last}
+use Rattle.audit_check_main.proofs.lists.add_to_last.Goals as goal
+
+pub returns : goal.returns
+returns c =
+    let len = c.args.lists.now.ok.0 in
+    let some = c.if-count-eq0.false in
+    let is = c.len-count.ensures in record {
+      ok = on_ok c.push.result c.push.ensures.ok (λ pushed.
+          ap (set c.args.lists.now.items _) (pushed ∙ ap (λ l. l ++ c.args.pair ∷ []) c.index_mut-last.ensures.value)
+          ∙ set-last c.args.lists.now.items _ c.index_mut-last.result.now (c.args.pair ∷ []) (omega arith));
+    }

@@ -1,0 +1,12 @@
+use Rattle.std.proofs.Common.{◌≡◌, map, take}
+use Rattle.meter_slots.specs.Journal.{SlotView}
+use Rattle.receivers.specs.Orders.{IsOrderedSlot}
+use Rattle.audit_check_main.specs.Hearing.{tells}
+use Rattle.audit_check_main.proofs.stepping.step_meter.Given as goal
+
+abbrev pub invariant-loop-pair : goal.invariant-loop-pair
+invariant-loop-pair l = record {
+  own_is : l.slot.own ≡ l.fn.own;
+  commission_is : l.slot.commission ≡ l.fn.commission;
+  so : (target : SlotView) → IsOrderedSlot l.fn.own (map tells l.heard) l.fn.commission l.order target → l.slot.journal ≡ take l.pair-index target.journal;
+}

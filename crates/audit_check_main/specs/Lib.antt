@@ -1,0 +1,13 @@
+pub mod Audit
+pub mod Auditing
+pub mod Comparing
+pub mod Cursors
+pub mod Difference
+pub mod Hearing
+pub mod Lists
+pub mod Order
+pub mod Reading
+pub mod Run
+pub mod Statuses
+pub mod Stepping
+pub mod Texts

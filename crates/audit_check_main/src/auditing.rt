@@ -1,0 +1,223 @@
+//! The audit.
+ghost use Rattle.std.specs.Prelude.{◌≡◌, ◌<◌, ◌+◌, ◌^◌, List, [], ℕ, false, true, length, map, reverse, slice_index_or, Ok, IfOk, MatchOption};
+ghost use Rattle.outer_io.specs.Each.{Each, IsFirst};
+ghost use Rattle.line_reader.specs.Lines.{is_over};
+ghost use Rattle.report_text.specs.Orders.{lines_in, orders};
+ghost use Rattle.report_text.specs.Report.{report_text};
+ghost use Rattle.roster_file.specs.Enrolled.{IsEnrolled};
+ghost use Rattle.roster_file.specs.Roster.{roster_of};
+ghost use Rattle.audit_check_main.specs.Audit.{IsVerdict};
+ghost use Rattle.meter_address.specs.Address.{AreApart};
+ghost use Rattle.receivers.specs.Orders.{IsOrderOfStrangers};
+ghost use Rattle.audit_check_main.specs.Auditing.{end_of, IsCompared, IsStepped};
+ghost use Rattle.audit_check_main.specs.Hearing.{heard_input, tells};
+ghost use Rattle.audit_check_main.specs.Stepping.{IsOrderOfEach};
+ghost use Rattle.audit_check_main.specs.Lists.{AreInForm, lists_printed};
+ghost use Rattle.audit_check_main.specs.declared.verdict.Verdict.{Verdict};
+
+use crate::comparing::difference;
+use crate::hearing::{Hearing, hear_all, is_over};
+use crate::input::Input;
+use crate::lists::{ListsFault, read_lists};
+use crate::orders::first_wrong;
+use crate::printed::Order;
+use crate::stepping::{note_strangers, step_meters};
+use crate::verdict::{Cause, Verdict};
+use meter_address::{Address, Commission};
+use meter_slots::{Directory, Ended, SlotBook};
+use outer_io::Memory;
+use report_text::{ReceiverEnd, Session};
+use roster_file::{Roster, RosterFault, read_roster};
+use std::alloc::Global;
+use stranger_ring::Strangers;
+
+// The first input, from 1, that goes past the limits.
+fn first_over(inputs: &[Input]) -> Option<u32>
+    requires { length inputs.now < 2 ^ 32 }
+    ensures { MatchOption result (Each (λ input. is_over input ≡ false) inputs.now)
+        (λ w. IsFirst (λ input. is_over input ≡ false) (λ input. is_over input ≡ true) w inputs.now) }
+{
+    for (place, input) in inputs.iter().enumerate() {
+        if is_over(input.bytes()) {
+            return Some(place as u32 + 1);
+        }
+    }
+    None
+}
+
+// The receivers' ends: each input was heard to its end.
+fn receiver_ends(alloc: Global, heard: &[Hearing<'_>]) -> Result<Vec<ReceiverEnd>, Memory>
+    ensures { IfOk result (λ ends. ends.items ≡ map end_of heard.now) }
+{
+    let ends = heard
+        .iter()
+        .map(|h| ReceiverEnd {
+            counts: h.counts(),
+            ended: Ended::End,
+        })
+        .collect::<Vec<ReceiverEnd>>(alloc)?;
+    Ok(ends)
+}
+
+// Compares a report with the text of a session.
+fn compare(
+    alloc: Global,
+    report: &[u8],
+    heard: &[Hearing<'_>],
+    slots: &[SlotBook],
+    strangers: &Strangers,
+) -> Result<Verdict, Memory>
+    ensures { IfOk result (IsCompared report.now (report_text (map end_of heard.now) slots.now strangers.now)) }
+{
+    let ends = receiver_ends(alloc, heard)?;
+    let session = Session {
+        ends: ends.as_slice(),
+        slots,
+        strangers,
+    };
+    match difference(report, &session) {
+        None => Ok(Verdict::Yes),
+        Some(place) => Ok(Verdict::No(Cause::Text(place))),
+    }
+}
+
+// The addresses of the meters.
+fn addresses_of(alloc: Global, meters: &[Commission]) -> Result<Vec<Address>, Memory>
+    ensures { IfOk result (λ addresses. addresses.items ≡ map (λ c. c.address) meters.now) }
+{
+    let addresses = meters.iter().map(|c| c.address).collect(alloc)?;
+    Ok(addresses)
+}
+
+// What all inputs tell.
+fn hear_inputs<'a>(
+    alloc: Global,
+    meters: &[Commission],
+    inputs: &'a [Input],
+) -> Result<Vec<Hearing<'a>>, Memory>
+    requires apart { AreApart (map (λ c. c.address) meters.now) }
+    requires few { length meters.now < 2 ^ 32 }
+    requires within { Each (λ input. is_over input ≡ false) inputs.now }
+    ensures { IfOk result (λ heard. heard.items ≡ map (heard_input meters.now) inputs.now) }
+{
+    let addresses = addresses_of(alloc, meters)?;
+    let directory = Directory::new(alloc, addresses.as_slice())?;
+    hear_all(alloc, meters, &directory, inputs)
+}
+
+// Steps the slots in the printed orders, and compares a report with the text of that session.
+fn audit_orders(
+    alloc: Global,
+    own: Address,
+    meters: &[Commission],
+    report: &[u8],
+    heard: &[Hearing<'_>],
+    lists: &[Order],
+) -> Result<Verdict, Memory>
+    requires long { length lists.now ≡ length meters.now + 1 }
+    requires orders { IsOrderOfEach (map tells heard.now) meters.now lists.now }
+    requires strangers { IsOrderOfStrangers meters.now (map tells heard.now) (slice_index_or lists.now (length meters.now) []) }
+    ensures { IfOk result (IsStepped own meters.now heard.now lists.now report.now) }
+{
+    let slots = step_meters(alloc, own, meters, heard, lists)?;
+    let strangers = note_strangers(alloc, meters, heard, lists[meters.len()].pairs())?;
+    compare(alloc, report, heard, slots.as_slice(), &strangers)
+}
+
+// Audits a report whose lists were read.
+fn audit_lists(
+    alloc: Global,
+    roster: &Roster,
+    report: &[u8],
+    inputs: &[Input],
+    lists: &[Order],
+) -> Result<Verdict, Memory>
+    requires enrolled { IsEnrolled roster.now }
+    requires within { Each (λ input. is_over input ≡ false) inputs.now }
+    requires lines { length (lines_in report.now) < 2 ^ 32 }
+    requires in_form { AreInForm (length roster.now.meters) (reverse (lines_in report.now)) }
+    requires lists { lists.now ≡ lists_printed (length roster.now.meters) (orders report.now) }
+    ensures { IfOk result (λ verdict. (text : List ℕ) → roster_of text ≡ Ok roster.now
+        → IsVerdict (record { roster = text; report = report.now; inputs = inputs.now }) verdict) }
+{
+    let heard = hear_inputs(alloc, roster.meters(), inputs)?;
+    match first_wrong(alloc, heard.as_slice(), lists)? {
+        Some((list, place)) => Ok(Verdict::No(Cause::Order {
+            list: list as u32,
+            place: place as u32,
+        })),
+        None => audit_orders(
+            alloc,
+            roster.own(),
+            roster.meters(),
+            report,
+            heard.as_slice(),
+            lists,
+        ),
+    }
+}
+
+// Audits a report where the roster is one and no input goes past the limits.
+fn audit_readable(
+    alloc: Global,
+    roster: &Roster,
+    report: &[u8],
+    inputs: &[Input],
+) -> Result<Verdict, Memory>
+    requires enrolled { IsEnrolled roster.now }
+    requires within { Each (λ input. is_over input ≡ false) inputs.now }
+    requires lines { length (lines_in report.now) < 2 ^ 32 }
+    ensures { IfOk result (λ verdict. (text : List ℕ) → roster_of text ≡ Ok roster.now
+        → IsVerdict (record { roster = text; report = report.now; inputs = inputs.now }) verdict) }
+{
+    match read_lists(alloc, report, roster.meters().len()) {
+        Ok(lists) => audit_lists(alloc, roster, report, inputs, lists.as_slice()),
+        Err(ListsFault::Form(line)) => Ok(Verdict::No(Cause::Form(line))),
+        Err(ListsFault::Memory) => Err(Memory),
+    }
+}
+
+// The verdict on a report.
+fn verdict_on(
+    alloc: Global,
+    roster: &[u8],
+    report: &[u8],
+    inputs: &[Input],
+) -> Result<Verdict, Memory>
+    requires lines { length (lines_in report.now) < 2 ^ 32 }
+    requires few { length inputs.now < 2 ^ 32 }
+    ensures verdict { IfOk result (IsVerdict (record { roster = roster.now; report = report.now; inputs = inputs.now })) }
+{
+    let roster = match read_roster(alloc, roster) {
+        Ok(roster) => roster,
+        Err(RosterFault::Line(line, cause)) => {
+            return Ok(Verdict::No(Cause::Roster(line, cause)));
+        }
+        Err(RosterFault::Memory) => return Err(Memory),
+    };
+    match first_over(inputs) {
+        Some(w) => Ok(Verdict::No(Cause::Over(w))),
+        None => audit_readable(alloc, &roster, report, inputs),
+    }
+}
+
+/// Whether a report is what a collector prints of a roster and of what its receivers heard, each input to its end, and if not,
+/// the first cause.
+///
+/// It believes nothing but the roster and the inputs, and takes memory for the slots, not for a second report.
+pub fn audit(
+    alloc: Global,
+    roster: &[u8],
+    report: &[u8],
+    inputs: &[Input],
+) -> Result<Verdict, Memory>
+    requires lines { length (lines_in report.now) < 2 ^ 32 }
+    requires few { length inputs.now < 2 ^ 32 }
+    ensures verdict { IfOk result (IsVerdict (record { roster = roster.now; report = report.now; inputs = inputs.now })) }
+
+    // No other verdict holds: each comes exactly where its definition does.
+    ensures only { IfOk result (λ verdict. (other : Verdict)
+        → IsVerdict (record { roster = roster.now; report = report.now; inputs = inputs.now }) other → other ≡ verdict) }
+{
+    verdict_on(alloc, roster, report, inputs)
+}

@@ -1,0 +1,25 @@
+//! The audit of a printed session: whether a report is what a collector prints of a roster and of what its receivers heard.
+#![tactic(auto)]
+
+mod auditing;
+mod comparing;
+mod hearing;
+mod input;
+mod lists;
+mod orders;
+mod printed;
+mod report_lines;
+mod running;
+mod status;
+mod stepping;
+mod texts;
+mod verdict;
+
+pub use auditing::audit;
+pub use input::Input;
+pub use running::{FilesNamed, REPORT_MAX, audit_run, files_named};
+pub use status::AuditStatus;
+pub use verdict::{Cause, Verdict};
+
+#[cfg(test)]
+mod tests;

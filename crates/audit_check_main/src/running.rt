@@ -1,0 +1,194 @@
+//! The top call.
+ghost use Rattle.std.specs.Prelude.{◌≡◌, ◌≤◌, ◌<◌, ◌+◌, ◌^◌, [], ℕ, true, false, map, length, vec_len, is_some, ◌⊎◌, Err, IsTrue, IfOk, IfSome};
+ghost use Rattle.std.specs.String.{string_bytes};
+ghost use Rattle.outer_io.specs.Bytes.{AppendsFront};
+ghost use Rattle.outer_io.specs.Each.{Each, EachWith, IsFirst};
+ghost use Rattle.outer_io.specs.Shown.{source_change, sink_change, ReadFailed, LosesNothing, WriteFailed};
+ghost use Rattle.audit_check_main.specs.Run.{IsRun, IsReadPast, source_changes, are_files, writes};
+ghost use Rattle.audit_check_main.specs.Statuses.{status_of};
+ghost use Rattle.audit_check_main.specs.Texts.{verdict_text};
+
+use crate::auditing::audit;
+use crate::input::Input;
+use crate::status::AuditStatus;
+use crate::verdict::Verdict;
+use line_reader::BYTES_MAX;
+use outer_io::{Memory, Sink, Source};
+use paper::write;
+use roster_file::MOST_BYTES;
+use std::alloc::Global;
+
+/// The most bytes of a report.
+pub const REPORT_MAX: usize = 1_073_741_824;
+
+// Why a source isn't read.
+#[derive(Clone, Copy, Debug, PartialEq, Eq)]
+enum Unread {
+    Failed,
+    Memory,
+}
+
+// Reads a source to its end, or past `most` bytes.
+fn read_past<S: Source>(alloc: Global, source: &mut S, most: usize) -> Result<Vec<u8>, Unread>
+    requires { most < 2 ^ 63 }
+    ensures read { IfOk result (λ bytes. IsTrue S.tells → IsReadPast most (source_change S.Source source.old source.new) bytes.items) }
+    ensures failed { result ≡ Err Unread.Failed → ReadFailed (source_change S.Source source.old source.new) }
+    ensures no_loss { IsTrue S.tells → LosesNothing (source_change S.Source source.old source.new) }
+{
+    let mut bytes = Vec::new(alloc);
+    let mut buffer = [0u8; 4096];
+    'reads: while bytes.len() <= most {
+        let Ok(count) = source.read(&mut buffer) else {
+            return Err(Unread::Failed);
+        };
+        if count == 0 {
+            return Ok(bytes);
+        }
+        if bytes.extend_from_slice(&buffer[..count]).is_err() {
+            return Err(Unread::Memory);
+        }
+    }
+    Ok(bytes)
+}
+
+// Why the inputs aren't read.
+#[derive(Clone, Copy, Debug, PartialEq, Eq)]
+enum InputFault {
+    // This input, from 1, can't be read.
+    Read(u32),
+    Memory,
+}
+
+// Reads all inputs, each to its end or past the limit of a receiver.
+fn read_inputs<S: Source>(alloc: Global, inputs: &mut Vec<S>) -> Result<Vec<Input>, InputFault>
+    requires { vec_len inputs.old ≤ 16 }
+    ensures read { IfOk result (λ read. IsTrue S.tells →
+        EachWith (IsReadPast 67108864) (source_changes S.Source inputs.old.items inputs.new.items) read.items) }
+    ensures count { IfOk result (λ read. vec_len read ≤ 16) }
+    ensures failed { (w : ℕ) → result ≡ Err (InputFault.Read w) →
+        IsFirst (λ source. Unit {0}) ReadFailed w (source_changes S.Source inputs.old.items inputs.new.items) }
+    ensures no_loss { IsTrue S.tells → Each LosesNothing (source_changes S.Source inputs.old.items inputs.new.items) }
+{
+    let mut read = Vec::new(alloc);
+    for place in 0..inputs.len() {
+        let source = &mut inputs[place];
+        match read_past(alloc, source, BYTES_MAX) {
+            Ok(bytes) => {
+                if read.push(Input::new(bytes)).is_err() {
+                    return Err(InputFault::Memory);
+                }
+            }
+            Err(Unread::Failed) => return Err(InputFault::Read(place as u32 + 1)),
+            Err(Unread::Memory) => return Err(InputFault::Memory),
+        }
+    }
+    Ok(read)
+}
+
+/// The files that the words name.
+#[derive(Clone, Copy, Debug)]
+pub struct FilesNamed<'a> {
+    /// The roster.
+    pub roster: &'a str,
+    /// The report.
+    pub report: &'a str,
+    /// What the receivers heard, in their order.
+    pub inputs: &'a [String],
+}
+
+/// The files that the words `ROSTER REPORT RX..` name: none where they aren't 3 to 18 words.
+pub fn files_named(words: &[String]) -> Option<FilesNamed<'_>>
+    ensures named { is_some result ≡ are_files (map string_bytes words.now) }
+    ensures inputs { IfSome result (λ files. length files.inputs.now + 2 ≡ length words.now) }
+{
+    let [roster, report, inputs @ ..] = words else {
+        return None;
+    };
+    if inputs.is_empty() || inputs.len() > 16 {
+        return None;
+    }
+    Some(FilesNamed {
+        roster: roster.as_str(),
+        report: report.as_str(),
+        inputs,
+    })
+}
+
+// Writes a verdict, and answers its status or that of a failed write.
+fn finish<K: Sink>(out: &mut K, verdict: Verdict) -> AuditStatus
+    requires { IsTrue K.tells → K.written out.old ≡ [] }
+    ensures status { (result ≡ status_of verdict) ⊎ (result ≡ AuditStatus.Write) }
+    ensures written { result ≡ status_of verdict → IsTrue K.tells → K.written out.new ≡ verdict_text verdict }
+    ensures front { result ≡ AuditStatus.Write → IsTrue K.tells → AppendsFront (verdict_text verdict) [] (K.written out.new) }
+    ensures failed { result ≡ AuditStatus.Write → WriteFailed (sink_change K.Sink out.old out.new) }
+{
+    match write(out, &verdict) {
+        Ok(()) => AuditStatus::of(verdict),
+        Err(_) => AuditStatus::Write,
+    }
+}
+
+/// Audits a report that is read from a source, and writes the verdict: `yes`, or `no` and its cause. Each source is read to its end,
+/// a roster and an input until they are too long.
+///
+/// The words are those of the program, without its name: `ROSTER REPORT` and 1 to 16 inputs.
+pub fn audit_run<S: Source, K: Sink>(
+    alloc: Global,
+    words: &[String],
+    roster: &mut S,
+    report: &mut S,
+    inputs: &mut Vec<S>,
+    out: &mut K,
+) -> AuditStatus
+    requires count { are_files (map string_bytes words.now) ≡ true → vec_len inputs.old + 2 ≡ length words.now }
+    requires empty { IsTrue K.tells → K.written out.old ≡ [] }
+
+    // Each status with its cause, and what is written.
+    ensures run { IsRun (record {
+      sources_tell = S.tells;
+      sinks_tell = K.tells;
+      words = map string_bytes words.now;
+      roster = source_change S.Source roster.old roster.new;
+      report = source_change S.Source report.old report.new;
+      inputs = source_changes S.Source inputs.old.items inputs.new.items;
+      out = sink_change K.Sink out.old out.new;
+      status = result;
+    }) }
+
+    // After faulty words all is as it was, and where there is no verdict the output is.
+    ensures unread { result ≡ AuditStatus.Words →
+        (roster.new ≡ roster.old) × (report.new ≡ report.old) × (inputs.new.items ≡ inputs.old.items) }
+    ensures unwritten { writes result ≡ false → out.new ≡ out.old }
+{
+    match files_named(words) {
+        None => return AuditStatus::Words,
+        Some(_) => {}
+    }
+    let roster = match read_past(alloc, roster, MOST_BYTES) {
+        Ok(bytes) => bytes,
+        Err(Unread::Failed) => return AuditStatus::ReadRoster,
+        Err(Unread::Memory) => return AuditStatus::Memory,
+    };
+    let report = match read_past(alloc, report, REPORT_MAX) {
+        Ok(bytes) => bytes,
+        Err(Unread::Failed) => return AuditStatus::ReadReport,
+        Err(Unread::Memory) => return AuditStatus::Memory,
+    };
+    if report.len() > REPORT_MAX {
+        return AuditStatus::LongReport;
+    }
+    let inputs = match read_inputs(alloc, inputs) {
+        Ok(inputs) => inputs,
+        Err(InputFault::Read(w)) => return AuditStatus::Read(w),
+        Err(InputFault::Memory) => return AuditStatus::Memory,
+    };
+    match audit(
+        alloc,
+        roster.as_slice(),
+        report.as_slice(),
+        inputs.as_slice(),
+    ) {
+        Ok(verdict) => finish(out, verdict),
+        Err(Memory) => AuditStatus::Memory,
+    }
+}

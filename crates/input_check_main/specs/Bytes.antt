@@ -1,0 +1,26 @@
+-- What is wrong with the bytes of a roster as a whole.
+use Rattle.std.specs.Prelude.{ℕ, ◌==◌, ◌&&◌, Bool, false, List, [], ◌∷◌, ◌++◌, codes, if◌then◌else◌}
+use Rattle.std.specs.List.{list_any}
+
+-- a byte order mark of UTF-8 stands in front
+abbrev pub has_mark : List ℕ → Bool
+has_mark (a ∷ b ∷ c ∷ rest) = a == 239 && b == 187 && c == 191
+has_mark bytes = false
+
+abbrev pub has_byte : ℕ → List ℕ → Bool
+has_byte byte bytes = list_any (λ b. b == byte) bytes
+
+abbrev pub mark_words : List ℕ → List ℕ
+mark_words bytes =
+    if has_mark bytes then codes "roster: a byte order mark (ef bb bf) stands in front, which is no part of a roster: save it without one\n" else []
+
+abbrev pub tab_words : List ℕ → List ℕ
+tab_words bytes = if has_byte 9 bytes then codes "roster: there are tabs in it: write one space in the place of each\n" else []
+
+abbrev pub return_words : List ℕ → List ℕ
+return_words bytes =
+    if has_byte 13 bytes then codes "roster: there are carriage returns in it: one in front of a newline is right, any other is not\n" else []
+
+-- what may be behind the faults of a roster with these bytes
+unfoldable pub bytes_words : List ℕ → List ℕ
+bytes_words bytes = mark_words bytes ++ tab_words bytes ++ return_words bytes

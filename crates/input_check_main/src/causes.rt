@@ -1,0 +1,121 @@
+//! What is wrong, in words, and what to do.
+ghost use Rattle.std.specs.Prelude.{◌≡◌};
+ghost use Rattle.paper.specs.Puts.{Puts};
+ghost use Rattle.input_check_main.specs.Causes.{roster_words, bad_words, frame_words, line_words};
+
+use crate::faulty::LineFault;
+use crate::pieces::{put_between, put_between_two};
+use frame_formats::FrameFault;
+use line_reader::BadLine;
+use paper::{Paper, put_text};
+use roster_file::LineCause;
+
+/// What is wrong with a line of a roster.
+pub(crate) fn roster_words(cause: LineCause) -> &'static str
+    ensures { result.now ≡ roster_words cause }
+{
+    match cause {
+        LineCause::TooLong => "the roster has more than 1,048,576 bytes: split it",
+        LineCause::Head =>
+            "the first line is neither `wmbus-roster 2` nor `wmbus-roster 1`: write the former in its place",
+        LineCause::Own =>
+            "this isn't `own` and an address: write the line `own ADDRESS` behind the first one",
+        LineCause::Kind => "the line doesn't begin with `meter`: a comment begins with #",
+        LineCause::Fields =>
+            "the line hasn't the fields of the head's version, eight in version 2, with just one space between two of them",
+        LineCause::Address =>
+            "the address isn't sixteen hexadecimal digits: meter_name makes it of what the label says",
+        LineCause::Mode => "the security mode is neither 5 nor 7",
+        LineCause::Key => "the key isn't 32 hexadecimal digits",
+        LineCause::Other =>
+            "the second key is neither - nor 32 hexadecimal digits, or the mode is 5, which has none",
+        LineCause::Last =>
+            "the last counter is neither - nor a plain number, below 256 in mode 5 and below 4294967296 in mode 7",
+        LineCause::Down => "the last downlink counter isn't a plain number below 4294967296",
+        LineCause::Ids => "the last command id isn't a plain number below 4294967296",
+        LineCause::Same => "an earlier line has this address: keep one of the two",
+        LineCause::TooMany => "there are 4,096 meters before it: split the roster",
+        LineCause::Missing => "the head or the line `own ADDRESS` is missing",
+    }
+}
+
+// Puts why a receiver's line says nothing.
+fn put_bad_words<P: Paper>(paper: &mut P, bad: BadLine)
+    ensures { Puts P.takes paper.old (bad_words bad) paper.new }
+{
+    match bad {
+        BadLine::TooLong => put_text(paper, "the line has more than 1,024 bytes"),
+        BadLine::Word => put_text(
+            paper,
+            "the line begins with none of A, B, T, Q, X and K and a space: a tab is no space, a byte order mark in front of the first line is none either, and a receiver's own output has to be turned into such lines first",
+        ),
+        BadLine::Fields => put_text(
+            paper,
+            "the line hasn't as many fields as its first one asks for, with just one space between two of them",
+        ),
+        BadLine::Number => put_text(
+            paper,
+            "the moment or the id is no plain decimal number of its range",
+        ),
+        BadLine::Address => put_text(
+            paper,
+            "the address isn't sixteen hexadecimal digits: meter_name makes it of what the label says",
+        ),
+        BadLine::Hex => put_text(
+            paper,
+            "the bytes aren't an even number of hexadecimal digits: the line is cut short, or has other letters in it",
+        ),
+        BadLine::Payload(count) => put_between(
+            paper,
+            "the command has a payload of ",
+            count as u64,
+            " bytes, where it has 1 to 94",
+        ),
+        BadLine::Key => put_text(paper, "the key isn't 32 hexadecimal digits"),
+    }
+}
+
+// Puts why bytes are no frame.
+fn put_frame_words<P: Paper>(paper: &mut P, fault: FrameFault)
+    ensures { Puts P.takes paper.old (frame_words fault) paper.new }
+{
+    match fault {
+        FrameFault::Empty => put_text(paper, "the frame has no bytes"),
+        FrameFault::Short(l) => put_between(
+            paper,
+            "the first byte of the frame, L, is ",
+            l as u64,
+            ", below the least of its format: the bytes are no frame, or their beginning is missing",
+        ),
+        FrameFault::Gap(l) => put_between(
+            paper,
+            "the first byte of the frame, L, is ",
+            l as u64,
+            ", which format B leaves out: the bytes are no frame, or one of format A",
+        ),
+        FrameFault::Length { want, have } => put_between_two(
+            paper,
+            "the frame has to have ",
+            want as u64,
+            " bytes by its L, and has ",
+            have as u64,
+            ": it is cut short, of the other format, or without its CRCs",
+        ),
+        FrameFault::Crc(block) => put_between(
+            paper,
+            "the CRC of block ",
+            block as u64,
+            " differs: the frame was heard wrongly, or has no CRCs any more",
+        ),
+    }
+}
+
+/// Puts what is wrong with a receiver's line.
+pub(crate) fn put_line_words<P: Paper>(paper: &mut P, fault: LineFault)
+    ensures { Puts P.takes paper.old (line_words fault) paper.new }
+{
+    match fault {
+        LineFault::Bad(bad) => put_bad_words(paper, bad),
+        LineFault::Unframed(fault) => put_frame_words(paper, fault),
+    }
+}

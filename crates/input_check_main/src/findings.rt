@@ -1,0 +1,123 @@
+//! What is printed for faulty lines.
+ghost use Rattle.std.specs.List.{flat_map};
+ghost use Rattle.paper.specs.Puts.{Puts};
+ghost use Rattle.input_check_main.specs.Findings.{roster_line, roster_lines, bytes_words_if, receiver_line, count_line};
+
+use crate::bytes::put_bytes_words;
+use crate::causes::{put_line_words, roster_words};
+use crate::faulty::{FaultyLine, FaultyLines};
+use crate::pieces::put_between_two;
+use paper::{Paper, Printed, put_labelled, put_text};
+use roster_file::RosterFault;
+
+// Puts a faulty line of a roster.
+#[tactic(auto, unfolding(crate::specs::Findings::roster_line), using(paper::proofs::Calls::four_make, paper::proofs::Calls::none))]
+fn put_roster_line<P: Paper>(paper: &mut P, fault: &RosterFault)
+    ensures { Puts P.takes paper.old (roster_line fault.now) paper.new }
+{
+    match fault {
+        RosterFault::Line(line, cause) => {
+            put_labelled(paper, "roster line ", *line as u64);
+            put_text(paper, ": ");
+            put_text(paper, roster_words(*cause));
+            put_text(paper, "\n");
+        }
+        RosterFault::Memory => {}
+    }
+}
+
+/// The faulty lines of a roster, and its bytes.
+#[derive(Drop)]
+pub(crate) struct RosterFindings<'a> {
+    pub(crate) faults: &'a [RosterFault],
+    pub(crate) bytes: &'a [u8],
+}
+
+#[tactic(auto, using(paper::proofs::Calls::none))]
+fn put_roster_lines<P: Paper>(paper: &mut P, faults: &[RosterFault])
+    ensures { Puts P.takes paper.old (roster_lines faults.now) paper.new }
+{
+    for fault in faults {
+        put_roster_line(paper, fault);
+    }
+}
+
+// Puts, behind faulty lines, what may be behind them.
+#[tactic(auto, using(paper::proofs::Calls::none))]
+fn put_bytes_words_if<P: Paper>(paper: &mut P, faults: &[RosterFault], bytes: &[u8])
+    ensures { Puts P.takes paper.old (bytes_words_if faults.now bytes.now) paper.new }
+{
+    match faults {
+        [] => {}
+        [_, ..] => put_bytes_words(paper, bytes),
+    }
+}
+
+impl Printed for RosterFindings<'_> {
+    ghost use Rattle.input_check_main.specs.Findings.{roster_text};
+
+    ghost text = { λ f. roster_text f.faults.now f.bytes.now };
+
+    #[tactic(auto, unfolding(crate::specs::Findings::roster_text), using(paper::proofs::Calls::two_make))]
+    fn print<P: Paper>(&self, paper: &mut P) {
+        put_roster_lines(paper, self.faults);
+        put_bytes_words_if(paper, self.faults, self.bytes);
+    }
+}
+
+// Puts a faulty line of a receiver.
+#[tactic(auto, unfolding(crate::specs::Findings::receiver_line), using(paper::proofs::Calls::five_make))]
+fn put_receiver_line<P: Paper>(paper: &mut P, receiver: u32, faulty: &FaultyLine)
+    ensures { Puts P.takes paper.old (receiver_line receiver faulty.now) paper.new }
+{
+    put_labelled(paper, "receiver ", receiver as u64);
+    put_labelled(paper, " line ", faulty.line as u64);
+    put_text(paper, ": ");
+    put_line_words(paper, faulty.fault);
+    put_text(paper, "\n");
+}
+
+#[tactic(auto, using(paper::proofs::Calls::none))]
+fn put_receiver_lines<P: Paper>(paper: &mut P, receiver: u32, first: &[FaultyLine])
+    ensures { Puts P.takes paper.old (flat_map (receiver_line receiver) first.now) paper.new }
+{
+    for faulty in first {
+        put_receiver_line(paper, receiver, faulty);
+    }
+}
+
+// Puts how many faulty lines a receiver has, where not all are shown.
+#[tactic(auto, using(paper::proofs::Calls::none))]
+fn put_count_line<P: Paper>(paper: &mut P, receiver: u32, count: u32)
+    ensures { Puts P.takes paper.old (count_line receiver count) paper.new }
+{
+    if count > 100 {
+        put_between_two(
+            paper,
+            "receiver ",
+            receiver as u64,
+            ": ",
+            count as u64,
+            " lines are faulty, of which the first 100 are shown\n",
+        );
+    }
+}
+
+/// The faulty lines of a receiver.
+#[derive(Drop)]
+pub(crate) struct ReceiverFindings<'a> {
+    pub(crate) receiver: u32,
+    pub(crate) found: &'a FaultyLines,
+}
+
+impl Printed for ReceiverFindings<'_> {
+    ghost use Rattle.input_check_main.specs.Findings.{shown_lines};
+
+    ghost text = { λ f. shown_lines f.receiver f.found.now.first.items f.found.now.count };
+
+    #[tactic(auto, unfolding(crate::specs::Findings::shown_lines), using(paper::proofs::Calls::two_make))]
+    fn print<P: Paper>(&self, paper: &mut P) {
+        put_receiver_lines(paper, self.receiver, &self.found.first);
+        put_count_line(paper, self.receiver, self.found.count);
+    }
+}

@@ -1,0 +1,21 @@
+//! What is wrong with a roster and with the lines of receivers: every faulty line, in words, with what to do.
+#![tactic(auto)]
+
+mod bytes;
+mod causes;
+mod faulty;
+mod findings;
+mod hints;
+mod noticing;
+mod pieces;
+mod receivers;
+mod rosters;
+
+pub use faulty::{FaultyLine, FaultyLines, LineFault, MOST_SHOWN};
+pub use hints::{Hint, Note, print_notes};
+pub use noticing::{hearing_notes, key_notes};
+pub use receivers::check_receiver;
+pub use rosters::{CheckedRoster, Stop, check_roster};
+
+#[cfg(test)]
+mod tests;

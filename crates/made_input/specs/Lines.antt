@@ -1,0 +1,51 @@
+-- The lines of a made session, and in which order each receiver hears them.
+use Rattle.std.specs.Prelude.{ℕ, ◌+◌, ◌-◌, ◌/◌, ◌%◌, List, [], ◌∷◌, ◌++◌, length, map, take, drop, slice_get, codes, Option, Some, None}
+use Rattle.std.specs.List.{range_with_len}
+use Rattle.paper.specs.Pieces.{labelled, labelled_bytes}
+use Rattle.meter_address.specs.Commission.{Commissioned}
+use Rattle.frame_formats.specs.Decoding.{frame_a}
+use Rattle.made_input.specs.Uplinks.{uplink, stranger}
+
+-- ---- the telegrams, counted from 1: the meters and a stranger take turns
+
+-- whose turn the telegram is, of so many meters: the place of a meter, or their number for the stranger
+abbrev pub turn_of : ℕ → ℕ → ℕ
+turn_of meters number = (number - 1) % (meters + 1)
+
+-- the round that it belongs to, counted from 1: the counter of a meter's message
+abbrev pub round_of : ℕ → ℕ → ℕ
+round_of meters number = 1 + (number - 1) / (meters + 1)
+
+-- a meter's message, or the stranger's telegram
+abbrev pub sent_by : Option Commissioned → ℕ → ℕ → List ℕ
+sent_by (Some c) round number = uplink c round
+sent_by None round number = stranger number
+
+abbrev pub telegram_of : List Commissioned → ℕ → List ℕ
+telegram_of meters number = sent_by (slice_get meters (turn_of (length meters) number)) (round_of (length meters) number) number
+
+-- the line of a telegram without its end: `A`, its number as the moment, its frame of format A
+abbrev pub frame_text : ℕ → List ℕ → List ℕ
+frame_text number t = labelled (codes "A ") number ++ labelled_bytes (codes " ") (frame_a t)
+
+unfoldable pub frame_line : ℕ → List ℕ → List ℕ
+frame_line number t = frame_text number t ++ codes "\n"
+
+abbrev pub line_at : List Commissioned → ℕ → List ℕ
+line_at meters number = frame_line number (telegram_of meters number)
+
+-- the lines of so many telegrams
+abbrev pub lines_of : List Commissioned → ℕ → List (List ℕ)
+lines_of meters count = map (line_at meters) (range_with_len 1 count)
+
+-- ---- the receivers
+
+-- a group that begins at a later place, with those before it at the end
+abbrev pub rotated : {A : Type 0} → ℕ → List A → List A
+rotated by group = let place = by % length group in drop place group ++ take place group
+
+-- the lines in groups of four, of which the last may be shorter, each group rotated
+unfoldable pub heard : {A : Type 0} → ℕ → List A → List A
+heard by [] = []
+heard by (a ∷ b ∷ c ∷ d ∷ later) = rotated by (a ∷ b ∷ c ∷ d ∷ []) ++ heard by later
+heard by group = rotated by group

@@ -1,0 +1,19 @@
+//! Made sessions: a roster and the lines of four receivers, drawn from a number, for measuring and trying a collector.
+#![tactic(auto)]
+
+mod draws;
+mod laws;
+mod lines;
+mod made;
+mod meters;
+mod summary;
+mod uplinks;
+
+pub use laws::{
+    lines_are_heard_in_another_order, lines_are_own, turns_are_taken, uplinks_are_genuine,
+};
+pub use made::{Made, make};
+pub use summary::Summary;
+
+#[cfg(test)]
+mod tests;

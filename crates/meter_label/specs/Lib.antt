@@ -1,0 +1,4 @@
+pub mod Label
+pub mod DeviceTypes
+pub mod Reading
+pub mod Texts

@@ -1,0 +1,11 @@
+pub mod Agreeing
+pub mod Genuineness
+pub mod Executing
+pub mod Refusing
+pub mod Hearing
+pub mod Others
+pub mod LinesHeard
+pub mod Answering
+pub mod Sessions
+pub mod Runs
+pub mod Places

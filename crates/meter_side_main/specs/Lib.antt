@@ -1,0 +1,12 @@
+pub mod Reading
+pub mod Genuine
+pub mod Listening
+pub mod Side
+pub mod Laws
+pub mod Refusals
+pub mod Lines
+pub mod Answers
+pub mod Session
+pub mod Statuses
+pub mod Run
+pub mod Refused

@@ -1,0 +1,46 @@
+-- Statuses and their codes.
+use Rattle.std.specs.Prelude.{ℕ, Bool, true, false}
+use Rattle.roster_file.specs.declared.load.LoadFault.{LoadFault}
+use Rattle.roster_file.specs.declared.load.LoadFault.TheVariants as loads
+use Rattle.meter_side_main.specs.declared.session.Ended.{Ended}
+use Rattle.meter_side_main.specs.declared.session.Ended.TheVariants as ends
+use Rattle.meter_side_main.specs.declared.status.SideStatus.{SideStatus}
+use Rattle.meter_side_main.specs.declared.status.SideStatus.TheVariants as statuses
+
+-- the exit status of the program
+abbrev pub code_of : SideStatus → ℕ
+code_of statuses.Done = 0
+code_of statuses.Words = 2
+code_of (statuses.Roster line cause) = 3
+code_of statuses.ReadRoster = 4
+code_of statuses.Read = 5
+code_of statuses.Write = 7
+code_of statuses.Cut = 8
+code_of statuses.Memory = 10
+code_of statuses.Uncommissioned = 12
+
+-- whether the deliveries were heard, so after statuses 0, 5, 7 and 8
+abbrev pub was_heard : SideStatus → Bool
+was_heard statuses.Done = true
+was_heard statuses.Read = true
+was_heard statuses.Cut = true
+was_heard statuses.Write = true
+was_heard _ = false
+
+-- the status where the source of deliveries ended so, and the output has its whole text
+abbrev pub status_at : Ended → SideStatus
+status_at ends.End = statuses.Done
+status_at ends.Cut = statuses.Cut
+status_at ends.Fault = statuses.Read
+
+-- the status where a write failed: an end of the source that is no `End` comes first
+abbrev pub unwritten_at : Ended → SideStatus
+unwritten_at ends.End = statuses.Write
+unwritten_at ends.Cut = statuses.Cut
+unwritten_at ends.Fault = statuses.Read
+
+-- the status of a roster that can't be loaded
+abbrev pub refused_at : LoadFault → SideStatus
+refused_at loads.Read = statuses.ReadRoster
+refused_at (loads.Line line cause) = statuses.Roster line cause
+refused_at loads.Memory = statuses.Memory

@@ -1,0 +1,161 @@
+//! The top call.
+ghost use Rattle.std.specs.Prelude.{◌≡◌, [], map, true, false, length, None, Err, IsTrue, IfOk, IfErr, is_some};
+ghost use Rattle.std.specs.String.{string_bytes};
+ghost use Rattle.outer_io.specs.Shown.{LosesNothing, source_change, sink_change};
+ghost use Rattle.meter_side_main.specs.Statuses.{was_heard, status_at, unwritten_at, refused_at};
+ghost use Rattle.meter_side_main.specs.Run.{address_in, meter_with, IsRun, Hears};
+ghost use Rattle.meter_side_main.specs.Refused.{IsNamed, IsRefused, IsHeardFor};
+
+use crate::session::{Ended, hear_source};
+use crate::status::SideStatus;
+use meter_address::{Address, Commission};
+use outer_io::{Sink, Source, write_all};
+use roster_file::{LoadFault, load_roster};
+use std::alloc::Global;
+
+// The address in the words.
+#[tactic(auto, unfolding(crate::specs::Run::address_in))]
+fn named_address(words: &[String]) -> Option<Address>
+    ensures { result ≡ address_in (map string_bytes words.now) }
+{
+    match words {
+        [_, address, _] => Address::read_text(address.as_bytes()).ok(),
+        _ => None,
+    }
+}
+
+/// Whether the words name a meter: they are three, and the second is an address.
+pub fn names_meter(words: &[String]) -> bool
+    ensures named { result ≡ is_some (address_in (map string_bytes words.now)) }
+    ensures three { result ≡ true → length words.now ≡ 3 }
+{
+    named_address(words).is_some()
+}
+
+// The meter with this address.
+fn meter_of(meters: &[Commission], address: Address) -> Option<Commission>
+    ensures { result ≡ meter_with address meters.now }
+{
+    for meter in meters {
+        if meter.address.0 == address.0 {
+            return Some(*meter);
+        }
+    }
+    None
+}
+
+// The status of a roster that can't be loaded.
+fn unloaded(fault: LoadFault) -> SideStatus
+    ensures { result ≡ refused_at fault }
+{
+    match fault {
+        LoadFault::Read => SideStatus::ReadRoster,
+        LoadFault::Line(line, cause) => SideStatus::Roster(line, cause),
+        LoadFault::Memory => SideStatus::Memory,
+    }
+}
+
+// A meter of a roster, and the collector's own address.
+#[derive(Drop)]
+pub(crate) struct Meter {
+    own: Address,
+    commission: Commission,
+}
+
+// The meter that the words name, of a roster's source, or the status that says why there is none.
+fn find_meter<S: Source>(
+    alloc: Global,
+    words: &[String],
+    roster: &mut S,
+) -> Result<Meter, SideStatus>
+    ensures found { IfOk result (λ meter. IsTrue S.tells →
+        IsNamed (map string_bytes words.now) (source_change S.Source roster.old roster.new) meter) }
+    ensures refused { IfErr result (λ status.
+        IsRefused (map string_bytes words.now) S.tells (source_change S.Source roster.old roster.new) status) }
+    ensures words { address_in (map string_bytes words.now) ≡ None → (result ≡ Err SideStatus.Words) × (roster.new ≡ roster.old) }
+    ensures no_loss { IsTrue S.tells → LosesNothing (source_change S.Source roster.old roster.new) }
+{
+    let Some(address) = named_address(words) else {
+        return Err(SideStatus::Words);
+    };
+    let roster = match load_roster(alloc, roster) {
+        Ok(roster) => roster,
+        Err(fault) => return Err(unloaded(fault)),
+    };
+    let Some(commission) = meter_of(roster.meters(), address) else {
+        return Err(SideStatus::Uncommissioned);
+    };
+    let own = roster.own();
+    Ok(Meter { own, commission })
+}
+
+// The status where the source of deliveries ended so, and the output has its whole text.
+fn status_of(ended: Ended) -> SideStatus
+    ensures { result ≡ status_at ended }
+{
+    match ended {
+        Ended::End => SideStatus::Done,
+        Ended::Cut => SideStatus::Cut,
+        Ended::Fault => SideStatus::Read,
+    }
+}
+
+// The status where a write failed: an end of the source that is no `End` comes first.
+fn unwritten(ended: Ended) -> SideStatus
+    ensures { result ≡ unwritten_at ended }
+{
+    match ended {
+        Ended::End => SideStatus::Write,
+        Ended::Cut => SideStatus::Cut,
+        Ended::Fault => SideStatus::Read,
+    }
+}
+
+// Hears the deliveries for a meter, and writes what is answered.
+fn hear<S: Source, K: Sink>(alloc: Global, meter: Meter, tx: &mut S, out: &mut K) -> SideStatus
+    requires untaken { IsTrue S.tells → S.taken tx.old ≡ [] }
+    requires empty { IsTrue K.tells → K.written out.old ≡ [] }
+    ensures heard { IsTrue (was_heard result) → IsTrue S.tells →
+        Hears meter.own meter.commission (source_change S.Source tx.old tx.new) K.tells (sink_change K.Sink out.old out.new) result }
+    ensures cause { IsHeardFor S.tells (source_change S.Source tx.old tx.new) (sink_change K.Sink out.old out.new) result }
+    ensures no_loss { IsTrue S.tells → LosesNothing (source_change S.Source tx.old tx.new) }
+    ensures silent { was_heard result ≡ false → out.new ≡ out.old }
+{
+    let Ok(heard) = hear_source(alloc, meter.own, meter.commission, tx) else {
+        return SideStatus::Memory;
+    };
+    match write_all(out, &heard.text) {
+        Ok(()) => status_of(heard.ended),
+        Err(_) => unwritten(heard.ended),
+    }
+}
+
+/// Hears the deliveries of `tx` for the meter of the roster that the words `ROSTER ADDRESS TX` name, and writes what is answered.
+pub fn meter_run<S: Source, K: Sink>(
+    alloc: Global,
+    words: &[String],
+    roster: &mut S,
+    tx: &mut S,
+    out: &mut K,
+) -> SideStatus
+    requires untaken { IsTrue S.tells → (S.taken roster.old ≡ []) × (S.taken tx.old ≡ []) }
+    requires empty { IsTrue K.tells → K.written out.old ≡ [] }
+    ensures run { IsRun (record {
+      words = map string_bytes words.now;
+      sources_tell = S.tells;
+      sinks_tell = K.tells;
+      roster = source_change S.Source roster.old roster.new;
+      tx = source_change S.Source tx.old tx.new;
+      out = sink_change K.Sink out.old out.new;
+      status = result;
+    }) }
+
+    // What stays as it was: the output where no delivery was heard, and the roster after faulty words.
+    ensures out { was_heard result ≡ false → out.new ≡ out.old }
+    ensures roster { address_in (map string_bytes words.now) ≡ None → roster.new ≡ roster.old }
+{
+    match find_meter(alloc, words, roster) {
+        Ok(meter) => hear(alloc, meter, tx, out),
+        Err(status) => status,
+    }
+}

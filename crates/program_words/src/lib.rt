@@ -1,0 +1,14 @@
+//! What the mains of all programs share: the words of the command line, the texts of a program's own that one word asks
+//! for, and how a program ends and says so.
+#![tactic(auto)]
+
+mod ending;
+mod own_texts;
+mod words;
+
+pub use ending::{Numbered, cannot_open, end};
+pub use own_texts::{OwnText, own_text, tell};
+pub use words::{NoWords, command_words};
+
+#[cfg(test)]
+mod tests;

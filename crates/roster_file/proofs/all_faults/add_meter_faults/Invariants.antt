@@ -1,0 +1,10 @@
+use Rattle.std.proofs.Common.{◌≡◌, [], ◌++◌, length}
+use Rattle.roster_file.specs.Faults.{faults_in}
+use Rattle.roster_file.proofs.all_faults.add_meter_faults.Given as goal
+
+abbrev pub invariant-lines : goal.invariant-lines
+invariant-lines l =
+    l.initial.faults.items ++ faults_in l.version [] l.initial.entries.entries ≡ l.faults.items ++ faults_in l.version l.meters.items l.entries.entries
+
+abbrev pub decreases-lines : goal.decreases-lines
+decreases-lines l = length l.entries.entries
