@@ -83,11 +83,18 @@ module _ {S : Type 0} (s : sources.Ghosts S) where
 
   pub inputs_first : (olds news : List S) (read : List (List ℕ)) → news ≡ olds → read ≡ [] → InputsSo 0 olds news read
   inputs_first olds news read same none =
-      subst (InputsSo 0 olds news) (sym none) (record { front = []; news_are = same; count = refl; inside = omega arith; counted = refl;
-      each = λ t. tt; steady = λ t. tt })
+      subst (InputsSo 0 olds news) (sym none) (record {
+        front = [];
+        news_are = same;
+        count = refl;
+        inside = omega arith;
+        counted = refl;
+        each = λ t. tt;
+        steady = λ t. tt;
+      })
 
   module _ (place : ℕ) (olds news news' : List S) (read : List (List ℕ)) (x x' : S) (so : InputsSo place olds news read)
-  (more : place < length olds) (is : x ≡ get_or news place x) (after : news' ≡ set news place x') where
+      (more : place < length olds) (is : x ≡ get_or news place x) (after : news' ≡ set news place x') where
     old_is : get_or olds place x ≡ x
     old_is = sym (is ∙ (ap (λ l. get_or l place x) (so.news_are ∙ ap (λ l. so.front ++ l) (drop_more place olds x more))
         ∙ there so.front (get_or olds place x) x (drop (place + 1) olds) place so.count))
@@ -109,7 +116,7 @@ module _ {S : Type 0} (s : sources.Ghosts S) where
         long_take (suc i) (x ∷ xs) h = ap suc (long_take i xs (omega arith))
 
     changed : source_changes s (take place olds ++ x ∷ []) (so.front ++ x' ∷ []) ≡ source_changes s (take place olds) so.front
-    ++ source_change s x x' ∷ []
+        ++ source_change s x x' ∷ []
     changed = changes_append (take place olds) (x ∷ []) so.front (x' ∷ []) long
 
     pub inputs_next : (bytes : List ℕ) (read' : List (List ℕ)) → read' ≡ read ++ bytes ∷ []
@@ -122,16 +129,16 @@ module _ {S : Type 0} (s : sources.Ghosts S) where
       inside = omega arith;
       counted = length-append read (bytes ∷ []) ∙ ap (λ n. n + 1) so.counted;
       each = λ t. subst (λ c. EachWith (IsReadPast 67108864) c (read ++ bytes ∷ []))
-      (sym (ap (λ o. source_changes s o (so.front ++ x' ∷ [])) taken_more ∙ changed))
+          (sym (ap (λ o. source_changes s o (so.front ++ x' ∷ [])) taken_more ∙ changed))
           (each_with_push (IsReadPast 67108864) (source_changes s (take place olds) so.front) read (source_change s x x') bytes (so.each t)
           (past t));
       steady = λ t. subst (Each LosesNothing) (sym (ap (λ o. source_changes s o (so.front ++ x' ∷ [])) taken_more
-      ∙ changed)) (each_append LosesNothing (source_changes s (take place olds) so.front) (source_change s x x' ∷ []) (so.steady t)
-      (lost t, tt));
+          ∙ changed)) (each_append LosesNothing (source_changes s (take place olds) so.front) (source_change s x x' ∷ []) (so.steady t)
+          (lost t, tt));
     })
 
     all_changes : source_changes s olds news' ≡ source_changes s (take place olds) so.front ++ source_change s x x'
-    ∷ source_changes s (drop (place + 1) olds) (drop (place + 1) olds)
+        ∷ source_changes s (drop (place + 1) olds) (drop (place + 1) olds)
     all_changes =
         (λ i. source_changes s (whole i) (news_more i))
         ∙ (changes_append (take place olds ++ x ∷ []) (drop (place + 1) olds) (so.front ++ x' ∷ []) (drop (place + 1) olds)

@@ -55,8 +55,10 @@ ends_all : (cs : List Commissioned) (inputs : List (List ℕ)) → Each (λ inpu
     → map end_of (map (heard_input cs) inputs) ≡ map (heard_out (map (λ c. c.address) cs)) inputs
 ends_all cs [] h = refl
 ends_all cs (x ∷ inputs) h =
-    (λ i. record { counts = counts_of (map (λ (c : Commissioned). c.address) cs) (map told_of (sym (all_within x h.0) i));
-    ended = ends.End } ∷ ends_all cs inputs h.1 i)
+    (λ i. record {
+      counts = counts_of (map (λ (c : Commissioned). c.address) cs) (map told_of (sym (all_within x h.0) i));
+      ended = ends.End;
+    } ∷ ends_all cs inputs h.1 i)
 
 -- ---- numbers of lines
 
@@ -160,7 +162,7 @@ with_line_size line below =
     at : (a b c : Bool)
         → size (cond a (meter_heading below) (cond b (strangers_heading below)
         (cond c (with_steps (pair_in (fields_of line)) below) below)))
-    ≤ 1 + size below
+        ≤ 1 + size below
     at true b c = omega arith
     at false true c = let l = length-append below.above below.strangers in omega arith
     at false false true = let l = length-append (pair_in (fields_of line)) below.above in let s = pair_short (fields_of line) in omega arith
@@ -194,7 +196,7 @@ module _ (r : Enrolled) (text report : List ℕ) (inputs : List (List ℕ)) (ros
   readable = record { roster_is = roster_is; within = within }
 
   module _ (in_form : AreInForm (length r.meters) (reverse (lines_in report))) (lists : List (List (ℕ × ℕ)))
-  (lists_are : lists ≡ lists_printed (length r.meters) (orders report)) where
+      (lists_are : lists ≡ lists_printed (length r.meters) (orders report)) where
     form : IsInForm audited r
     form = record { readable = readable; in_form = in_form }
 
@@ -202,14 +204,17 @@ module _ (r : Enrolled) (text report : List ℕ) (inputs : List (List ℕ)) (ros
         → IsVerdict audited (No (causes.Order list place))
     first_wrong_is list place wrong =
         let numbers : numbers_in_list (map (heard_input r.meters) inputs) ≡ wanted r.meters (map told_in inputs) =
-            (λ i k w. numbers_same r.meters inputs within k w i) in
-        (r, form, subst (λ l. IsFirstWrong (wanted r.meters (map told_in inputs)) l list place) lists_are
-        (subst (λ f. IsFirstWrong f lists list place) numbers wrong))
+        (λ i k w. numbers_same r.meters inputs within k w i) in (
+          r,
+          form,
+          subst (λ l. IsFirstWrong (wanted r.meters (map told_in inputs)) l list place) lists_are
+              (subst (λ f. IsFirstWrong f lists list place) numbers wrong),
+        )
 
     module _ (slots : List SlotView) (strangers : List Heard) (so : AreOrderedSlots r.own (map tells (map (heard_input r.meters) inputs))
-            r.meters lists slots)
+        r.meters lists slots)
         (noted : AreOrderedStrangers r.meters (map tells (map (heard_input r.meters) inputs)) (get_or lists (length r.meters) [])
-            strangers) where
+        strangers) where
       abbrev world : WorldView
       world = record { slots = slots; strangers = strangers }
 
@@ -229,8 +234,8 @@ module _ (r : Enrolled) (text report : List ℕ) (inputs : List (List ℕ)) (ros
       printed =
           let long : length lists ≡ length r.meters + 1 = ap length lists_are ∙ length-lists_printed (length r.meters) (orders report) in
           let many : length (map (λ (s : SlotView). order_of s.journal) slots) ≡ length r.meters =
-              length-map slots (λ (s : SlotView). order_of s.journal)
-              ∙ as_many_slots _ _ r.meters slots (meters_slots _ _ r.meters lists slots so) in
+          length-map slots (λ (s : SlotView). order_of s.journal)
+          ∙ as_many_slots _ _ r.meters slots (meters_slots _ _ r.meters lists slots so) in
           sym lists_are ∙ (slots_orders _ _ r.meters lists slots so
           ∙ (λ i. sym (as_many-all (length r.meters) (map (λ (s : SlotView). order_of s.journal) slots) many) i
           ++ (lists_end (length r.meters) lists [] long ∙ ap (λ o. o ∷ []) (sym noted.in_order)) i))
