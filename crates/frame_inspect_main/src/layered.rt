@@ -8,6 +8,7 @@ ghost use Rattle.frame_inspect_main.specs.Layered.{access_word, extension_text, 
 
 use crate::item::Item;
 use crate::look::Look;
+use crate::room::Room;
 use crate::shown::Shown;
 use afl_layer::Afl;
 use ell_layer::{Access, Ell};
@@ -18,9 +19,8 @@ use meter_address::Address;
 use outer_io::Memory;
 use paper::{
     Paper, Printed, put_hex, put_labelled, put_labelled_bytes, put_labelled_two, put_number,
-    put_optional, put_text, written,
+    put_optional, put_text,
 };
-use std::alloc::Global;
 use tpl_headers::Tpl;
 
 fn word_of_access(access: Access) -> &'static str
@@ -238,8 +238,7 @@ impl Look for Layered {
 
     ghost meaning = { λ look number next. layered_text number next };
 
-    fn look(&self, alloc: Global, number: u32, next: &Item) -> Result<Shown, Memory> {
-        let bytes = written(alloc, &Numbered { number, item: next })?;
-        Ok(Shown::new(bytes))
+    fn look(&self, room: &mut Room, number: u32, next: &Item) -> Result<Shown, Memory> {
+        Ok(room.shown(&Numbered { number, item: next })?)
     }
 }

@@ -2,6 +2,7 @@
 ghost use Rattle.std.specs.Prelude.{◌≡◌, IfOk, vec_len};
 
 use super::*;
+use bytes::Bytes;
 use line_reader::Lines;
 use outer_io::{Memory, MemorySink, MemorySource};
 use std::alloc::{AllocError, Global};
@@ -20,14 +21,14 @@ impl Look for Gate {
 
     ghost meaning = { λ look number item. [] };
 
-    fn look(&self, alloc: Global, number: u32, _next: &Item) -> Result<Shown, Memory> {
+    fn look(&self, _room: &mut Room, number: u32, _next: &Item) -> Result<Shown, Memory> {
         if number == 2 {
             self.second_begun.store(1, Ordering::SeqCst);
-            return Ok(Shown::new(Vec::new(alloc)));
+            return Ok(Shown::new(Bytes::new()));
         }
         for _ in 0..self.turns {
             if self.second_begun.load(Ordering::SeqCst) == 1 {
-                return Ok(Shown::new(Vec::new(alloc)));
+                return Ok(Shown::new(Bytes::new()));
             }
         }
         Err(Memory)
