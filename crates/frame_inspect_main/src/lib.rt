@@ -12,8 +12,8 @@ mod shown;
 mod status;
 
 pub use inspecting::{ITEMS_MAX, WORKERS_MAX, inspect};
-pub use item::{HeardBytes, Item};
-pub use laws::{frames_are_shown, runs_are_even};
+pub use item::{Item, LineText};
+pub use laws::{frames_are_shown, items_say_their_lines, runs_are_even};
 pub use layered::Layered;
 pub use look::Look;
 pub use room::Room;
