@@ -6,9 +6,8 @@ use Rattle.plain_text.specs.Parts.{fields_of}
 use Rattle.line_reader.specs.declared.line.Line.{Line}
 use Rattle.line_reader.specs.declared.line.BadLine.{BadLine}
 use Rattle.line_reader.specs.declared.line.BadLine.TheVariants as bads
-use Rattle.frame_inspect_main.specs.declared.item.Item.{Item}
 use Rattle.frame_inspect_main.specs.declared.item.Item.TheVariants as items
-use Rattle.frame_inspect_main.specs.Items.{item_of, said_by}
+use Rattle.frame_inspect_main.specs.Items.{said_by}
 use Rattle.frame_inspect_main.specs.Laws.{ItemsSayTheirLines}
 
 -- by whether the line is too long

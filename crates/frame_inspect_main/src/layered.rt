@@ -213,8 +213,8 @@ fn put_line<P: Paper>(paper: &mut P, line: &Line)
 fn put_item<P: Paper>(paper: &mut P, next: &Item)
     ensures { Puts P.takes paper.old (said_text (said_by next.now)) paper.new }
 {
-    match next.said() {
-        Ok(line) => put_line(paper, &line),
+    match &next.said() {
+        Ok(line) => put_line(paper, line),
         Err(_) => put_text(paper, " bad"),
     }
 }
