@@ -1,14 +1,12 @@
 //! What the mains of all programs share: the words of the command line, the texts of a program's own that one word asks
-//! for, how a program ends and says so, and the standard error as a sink.
+//! for, and how a program ends and says so.
 #![tactic(auto)]
 
 mod ending;
-mod error_sink;
 mod own_texts;
 mod words;
 
 pub use ending::{Numbered, cannot_open, end};
-pub use error_sink::ErrorSink;
 pub use own_texts::{OwnText, own_text, tell};
 pub use words::{NoWords, command_words};
 

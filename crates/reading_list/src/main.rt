@@ -11,9 +11,10 @@ ghost use Rattle.program_words.specs.OwnTexts.{asks_for_text, IsTold};
 
 mod status_words;
 
+use error_sink::ErrorSink;
 use line_reader::TextReader;
 use outer_io::{Sink, Source, StdSink, StdSource};
-use program_words::{ErrorSink, NoWords, cannot_open, command_words, own_text, tell};
+use program_words::{NoWords, cannot_open, command_words, own_text, tell};
 use reading_list_main::{Form, LINE_MAX, ListStatus, list_report};
 use status_words::{Said, Stopped};
 use std::fs::{File, Files};

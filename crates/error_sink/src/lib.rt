@@ -1,4 +1,6 @@
 //! The standard error as a sink.
+#![tactic(auto)]
+
 ghost use Rattle.std.specs.Prelude.{◌≡◌, ◌<◌, ◌≤◌, false, [], length, IfOk, OnErr};
 ghost use Rattle.outer_io.specs.Faults.{Rose};
 
