@@ -44,7 +44,10 @@ def joined(parts):
 
 def tag(name, *inside, **attributes):
     """An element. An attribute's name may end with _, and has - for each other _; one without a value is left out, and True stands for its name alone."""
-    told = "".join([f" {key.rstrip('_').replace('_', '-')}" + ("" if value is True else f'="{escape(str(value))}"') for key, value in attributes.items() if value])
+    told = ""
+    for key, value in attributes.items():
+        if value:
+            told += f" {key.rstrip('_').replace('_', '-')}" + ("" if value is True else f'="{escape(str(value))}"')
     return Html(f"<{name}{told}>{joined(inside)}</{name}>")
 
 
