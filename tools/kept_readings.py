@@ -143,4 +143,4 @@ def check_tables(database, path):
     if application != APPLICATION:
         raise NoDatabase(f"{path}: this is no database of readings")
     if version != VERSION:
-        raise NoDatabase(f"{path}: it was made by another version (its tables are of version {version}, these tools know {VERSION})")
+        raise NoDatabase(f"{path}: it was made by another version: its tables are of version {version}, these tools know {VERSION}")
