@@ -5,7 +5,7 @@ import re
 from decimal import Decimal
 from html import escape
 
-from explained import TOP
+from explained import CODE, TOP
 
 # moments in this range are shown as seconds since 1970, others as plain numbers
 FIRST_TIME, LAST_TIME = 100_000_000, 253_402_300_799
@@ -74,8 +74,11 @@ def number_cell(*inside):
 
 def words_of_page(text):
     """Words of the page of formats, which stand there in Markdown."""
-    parts = re.split(r"`([^`]+)`", text)
-    return joined([tag("code", part) if place % 2 else part for place, part in enumerate(parts)])
+    parts, end = [], 0
+    for found in CODE.finditer(text):
+        parts += [text[end:found.start()], tag("code", (found.group(1) or found.group(2)).strip())]
+        end = found.end()
+    return joined([*parts, text[end:]])
 
 
 def is_address(text):
