@@ -4,6 +4,14 @@ import re
 
 TOP = os.path.dirname(os.path.dirname(os.path.realpath(__file__)))
 PAGE = "docs/FORMATS.md"
+# a piece between backticks, or between two of them where there are some in it
+CODE = re.compile(r"``(.+?)``|`([^`]+)`")
+
+
+def codes_of(text):
+    """The pieces between backticks."""
+    return [(long or short).strip() for long, short in CODE.findall(text)]
+
 
 
 class Row:
@@ -12,17 +20,14 @@ class Row:
     def __init__(self, number, section, cells):
         self.number = number
         self.section = section
-        self.words = re.findall(r"`([^`]+)`", cells[0])
+        self.words = codes_of(cells[0])
         self.first = cells[0]
         self.middle = cells[1:-2]
         self.meaning, self.to_do = cells[-2:]
 
 
 def cells_of(line):
-    """The cells of a line of a table; a bar between backticks is none of its own."""
-    parts = re.split(r"(`[^`]*`)", line.strip().strip("|"))
-    text = "".join(part.replace("|", "\0") if part.startswith("`") else part for part in parts)
-    return [cell.strip().replace("\0", "|") for cell in text.split("|")]
+    return [cell.strip() for cell in line.strip().strip("|").split("|")]
 
 
 def explained_rows():

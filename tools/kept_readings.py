@@ -1,7 +1,7 @@
 """The database of readings that tools/keep_readings fills and tools/report_page shows: a SQLite file.
 
-What a report says of stored steps is kept for ever, each step once. What it says beside that (refusals, commands that wait, strangers, how its receivers ended) is kept for
-each report, and goes with it when a later report takes its place."""
+What a report says of stored steps is kept for ever, each step once. What it says beside that (refusals, commands that wait, strangers,
+how its receivers ended) is kept for each report, and goes with it when a later report takes its place."""
 import os
 import sqlite3
 
@@ -143,4 +143,4 @@ def check_tables(database, path):
     if application != APPLICATION:
         raise NoDatabase(f"{path}: this is no database of readings")
     if version != VERSION:
-        raise NoDatabase(f"{path}: it was made by another version (its tables are of version {version}, these tools know {VERSION})")
+        raise NoDatabase(f"{path}: it was made by another version: its tables are of version {version}, these tools know {VERSION}")
