@@ -4,6 +4,7 @@ use Rattle.std.proofs.Common.{None, refl, sym, ap, subst, ◌∙◌, arith}
 use Rattle.std.specs.List.{range_with_len, list_any}
 use Rattle.std.specs.Int.{w64, from_be_bytes, to_be_bytes}
 use Rattle.std.proofs.lemmas.Simd.{map-map}
+use Rattle.std.proofs.Common.{eq-eqb}
 use Rattle.std.proofs.lemmas.Bool.{eqb-true}
 use Rattle.std.proofs.lemmas.List.FromFn.{length-map-range_with_len}
 use Rattle.outer_io.specs.Each.{Each}
@@ -18,7 +19,10 @@ use Rattle.roster_file.specs.Enrolled.{IsEnrolled}
 use Rattle.made_input.specs.Meters.{bcd_byte, bcd, address_at, meter_at, meters_of, roster_of}
 use Rattle.made_input.proofs.Genuine as genuine
 use Rattle.made_input.proofs.OwnLines.{made_bytes, address_bytes}
-use Rattle.made_input.proofs.MadeTexts.{each_of_range}
+use Rattle.made_input.specs.Made.{made}
+use Rattle.made_input.specs.Laws.{MadeSessionsAreReadable}
+use Rattle.roster_file.proofs.ReadBack.{written_is_read}
+use Rattle.made_input.proofs.MadeTexts.{each_of_range, heard_lines}
 
 -- ---- addresses differ
 
@@ -58,6 +62,45 @@ pub apart : (from count : ℕ) → from + count ≤ 1024 → AreApart (map addre
 apart from zero few = tt
 apart from (suc n) few = (none_later from (from + 1) n (omega arith) (omega arith), apart (from + 1) n (omega arith))
 
+-- ---- addresses of their own
+
+same_of_addresses : (p q : ℕ) → p < 1024 → q < 1024 → (address_at p).0 ≡ (address_at q).0 → p ≡ q
+same_of_addresses p q few_p few_q same = same_place p q few_p few_q (sym (address_bytes p) ∙ bytes_by p q same ∙ address_bytes q)
+
+-- meters at different places have different addresses
+pub same_address : (p q : ℕ) → p < 1024 → q < 1024 → ((address_at p).0 == (address_at q).0) ≡ (p == q)
+same_address p q few_p few_q = at (p == q) refl
+  where
+    other : (b : Bool) → ((address_at p).0 == (address_at q).0) ≡ b → (p == q) ≡ false → b ≡ false
+    other false is not = refl
+    other true is not = absurd (let yes = eq-eqb p q (same_of_addresses p q few_p few_q (eqb-true _ _ is)) in cc)
+
+    at : (b : Bool) → (p == q) ≡ b → ((address_at p).0 == (address_at q).0) ≡ b
+    at true e = eq-eqb (address_at p).0 (address_at q).0 (ap (λ n. (address_at n).0) (eqb-true p q e))
+    at false e = other ((address_at p).0 == (address_at q).0) refl e
+
+abbrev stranger_number : ℕ
+stranger_number = 0x9315999999990107
+
+abbrev stranger_bytes : List ℕ
+stranger_bytes = 0x93 ∷ 0x15 ∷ 0x99 ∷ 0x99 ∷ 0x99 ∷ 0x99 ∷ 0x01 ∷ 0x07 ∷ []
+
+no_place : (p : ℕ) → p < 1024 → made_bytes p ≡ stranger_bytes → ⊥
+unfolding bcd
+no_place p few same = let high : bcd_byte ((p + 1) / 100) ≡ 0x99 = cc in omega arith
+
+bytes_so : (p : ℕ) → (address_at p).0 ≡ stranger_number → bytes_of (address_at p) ≡ stranger_bytes
+unfolding bytes_of
+bytes_so p same = ap (to_be_bytes w64) same
+
+-- and none has the stranger's
+pub stranger_apart : (p : ℕ) → p < 1024 → ((address_at p).0 == 0x9315999999990107) ≡ false
+stranger_apart p few = at ((address_at p).0 == 0x9315999999990107) refl
+  where
+    at : (b : Bool) → ((address_at p).0 == 0x9315999999990107) ≡ b → b ≡ false
+    at false is = refl
+    at true is = absurd (no_place p few (sym (address_bytes p) ∙ bytes_so p (eqb-true _ _ is)))
+
 -- ---- each meter can be commissioned
 
 is_key : (key : List ℕ) → IsBlock key → IsKey key
@@ -89,4 +132,17 @@ made_is_enrolled count number few = record {
   few = omega (arith, length-map-range_with_len (meter_at number) 0 count, few);
   apart = subst AreApart (sym (map-map (λ (c : Commissioned). c.address) (meter_at number) (range_with_len 0 count))) (apart 0 count (omega arith));
   each = each_of_range IsCommission (meter_at number) 0 count (λ place least most. is_commission number place);
+}
+
+-- ---- whole sessions
+
+pub made_is_readable : MadeSessionsAreReadable
+unfolding made
+made_is_readable count telegrams number few_meters few_telegrams = record {
+  enrolled = made_is_enrolled count number few_meters;
+  roster = written_is_read (roster_of count number) (made_is_enrolled count number few_meters);
+  first = heard_lines count telegrams number 0 few_telegrams;
+  second = heard_lines count telegrams number 1 few_telegrams;
+  third = heard_lines count telegrams number 2 few_telegrams;
+  fourth = heard_lines count telegrams number 3 few_telegrams;
 }

@@ -30,7 +30,7 @@ use Rattle.made_input.proofs.OwnLines.{turns_are_taken, frame_bytes, frame_few, 
 
 -- ---- facts on each line
 
-each_joined : {A : Type 0} (P : A → Type 0) (xs ys : List A) → Each P xs → Each P ys → Each P (xs ++ ys)
+pub each_joined : {A : Type 0} (P : A → Type 0) (xs ys : List A) → Each P xs → Each P ys → Each P (xs ++ ys)
 each_joined P [] ys one two = two
 each_joined P (x ∷ xs) ys one two = (one.0, each_joined P xs ys one.1 two)
 
@@ -49,7 +49,7 @@ each_rotated P by group each =
     each_joined P (drop (by % length group) group) (take (by % length group) group) (each_left P (by % length group) group each)
     (each_taken P (by % length group) group each)
 
-each_heard : {A : Type 0} (P : A → Type 0) (by : ℕ) (xs : List A) → Each P xs → Each P (heard by xs)
+pub each_heard : {A : Type 0} (P : A → Type 0) (by : ℕ) (xs : List A) → Each P xs → Each P (heard by xs)
 unfolding heard
 each_heard P by [] each = tt
 each_heard P by (a ∷ []) each = each_rotated P by (a ∷ []) each
@@ -162,10 +162,10 @@ uplink_fits number place n k small moment =
     let key = genuine.IsBlock-drawn number place in
     line_fits k (uplink c n) (genuine.bytes c n key small) (genuine.telegram c n key small).most moment
 
-turn_most : (count k : ℕ) → turn_of count k < count + 1
+pub turn_most : (count k : ℕ) → turn_of count k < count + 1
 turn_most count k = mod-lt (k - 1) (omega arith)
 
-in_turn : (turn count : ℕ) → turn ≤ count → (turn < count) ⊎ (turn ≡ count)
+pub in_turn : (turn count : ℕ) → turn ≤ count → (turn < count) ⊎ (turn ≡ count)
 in_turn turn count most = grind arith
 
 telegram_fits : (count number k : ℕ) → k ≤ 16384 → IsLine (frame_text k (telegram_of (meters_of count number) k))

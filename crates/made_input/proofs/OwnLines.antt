@@ -135,7 +135,7 @@ line_short k frame few small =
       few,
     )
 
-line_read : (k : ℕ) (frame : List ℕ) → IsBytes frame → length frame ≤ 300 → k < 2 ^ 64
+pub line_read : (k : ℕ) (frame : List ℕ) → IsBytes frame → length frame ≤ 300 → k < 2 ^ 64
     → line_of (labelled (codes "A ") k ++ labelled_bytes (codes " ") frame) ≡ Ok (Frame A k frame)
 unfolding line_of by_word frame_line
 line_read k frame all few small =
