@@ -91,10 +91,12 @@ pub fn run<R: Threads + Wait + Sync, S: Source + Send + Drop, K: Sink + Send + D
         Ok(Plan::Collect(_)) => {
             collect_session(rt, alloc, roster, receivers, next, readings, report)
         }
-        Ok(Plan::Made {
-            meters,
-            telegrams,
-            number,
-        }) => made_session(rt, alloc, meters, telegrams, number, readings, report),
+        Ok(
+            Plan::Made {
+                meters,
+                telegrams,
+                number,
+            },
+        ) => made_session(rt, alloc, meters, telegrams, number, readings, report),
     }
 }

@@ -123,9 +123,37 @@ line_fits k t all few small =
 stranger_fits : (k : ℕ) → k < 2 ^ 64 → IsLine (frame_text k (stranger k))
 unfolding stranger
 stranger_fits k small =
-    line_fits k (stranger k)
-    (omega arith, (omega arith, (omega arith, (omega arith, (omega arith, (omega arith, (omega arith, (omega arith, (omega arith, (omega arith,
-    (omega arith, (omega arith, (omega arith, (omega arith, (omega arith, tt)))))))))))))))
+    line_fits k (stranger k) (
+      omega arith,
+      (
+        omega arith,
+        (
+          omega arith,
+          (
+            omega arith,
+            (
+              omega arith,
+              (
+                omega arith,
+                (
+                  omega arith,
+                  (
+                    omega arith,
+                    (
+                      omega arith,
+                      (
+                        omega arith,
+                        (omega arith, (omega arith, (omega arith, (omega arith, (omega arith, tt))))),
+                      ),
+                    ),
+                  ),
+                ),
+              ),
+            ),
+          ),
+        ),
+      ),
+    )
     (omega arith) small
 
 uplink_fits : (number place n k : ℕ) → n < 2 ^ 32 → k < 2 ^ 64 → IsLine (frame_text k (uplink (meter_at number place) n))
