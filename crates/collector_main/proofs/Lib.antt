@@ -2,3 +2,4 @@ mod ManyReceivers
 pub mod OneReceiver
 pub mod Orders
 pub mod Runs
+pub mod MadeSessions

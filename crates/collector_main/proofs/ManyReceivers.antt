@@ -36,8 +36,9 @@ use Rattle.roster_file.specs.Text.{roster_text}
 use Rattle.collector_main.specs.declared.status.Status.{Status}
 use Rattle.collector_main.specs.declared.status.Status.TheVariants as statuses
 use Rattle.collector_main.specs.Heard.{Heard, next_roster, next_of, readings_of, receiver_end, report_of}
-use Rattle.collector_main.specs.Ready.{IsEndOf, IsReady}
+use Rattle.collector_main.specs.Ready.{IsEndOf, HaveHeard, IsReady}
 use Rattle.collector_main.specs.declared.collecting.Ready.{Ready}
+use Rattle.collector_main.specs.declared.together.HeardTogether.{HeardTogether}
 use Rattle.collector_main.specs.Run.{Run, Output, IsRun, EndsSo, HasEnded, IsWhole, IsUnwritten, EndIsCaused, IsCausedBy}
 use Rattle.collector_main.specs.Showing.{IsFresh, report_output, all_outputs}
 use Rattle.collector_main.specs.Statuses.{IsUnread, was_heard, stop_at, stop_from, status_after, unwritten, Wrote}
@@ -233,13 +234,13 @@ mapped_more f xs i d ys y inside so one =
     ap (λ t. t ++ y ∷ []) so ∙ (ap (λ z. map f (take i xs) ++ z ∷ []) one
     ∙ (sym (map-append f (take i xs) (get_or xs i d ∷ [])) ∙ ap (map f) (sym (take_more xs i d inside))))
 
-each_known : (st : Bool) (runs : List ReceiverRun) → Each (λ r. r.source_tells ≡ st) runs → IsTrue st → Each IsKnown runs
+pub each_known : (st : Bool) (runs : List ReceiverRun) → Each (λ r. r.source_tells ≡ st) runs → IsTrue st → Each IsKnown runs
 each_known st [] knows told = tt
 each_known st (r ∷ runs) knows told = (knows.0 ∙ told, each_known st runs knows.1 told)
 
 -- ---- outputs
 
-write_is : (n m : ℕ) → statuses.Write n ≡ statuses.Write m → n ≡ m
+pub write_is : (n m : ℕ) → statuses.Write n ≡ statuses.Write m → n ≡ m
 write_is n m e = cc
 
 suc_is : {n m : ℕ} → suc n ≡ suc m → n ≡ m
@@ -249,7 +250,7 @@ wrote_or : (kt : Bool) (text now : List ℕ) → (IsTrue kt → now ≡ text) �
 wrote_or true text now wrote = inl (wrote refl)
 wrote_or false text now wrote = inr refl
 
-text_of : (kt : Bool) (text : List ℕ) (sink : Change SinkShown) (came : Result Unit Failed) → Wrote kt text sink came → IsTrue kt → HasText text sink
+pub text_of : (kt : Bool) (text : List ℕ) (sink : Change SinkShown) (came : Result Unit Failed) → Wrote kt text sink came → IsTrue kt → HasText text sink
 text_of kt text sink (Ok done) wrote writes = inl (wrote writes)
 text_of kt text sink (Err failed) wrote writes = inr (wrote.0, wrote.1 writes)
 
@@ -470,26 +471,39 @@ module _ {S K : Type 0} (s : sources.Ghosts S) (k : sinks.Ghosts K) where
   same_keeps [] = tt
   same_keeps (r ∷ rs) = (refl, same_keeps rs)
 
-  -- what is ready of a session
-  pub ready_is : {E : Type 0} (e : Enrolled) (own : Address) (meters : List Commissioned) (olds olds' news news' : List (Receiving S K)) (slots : List SlotView) (strangers : List Stranger)
-      (es : List ReceiverEnd) (result : Result Ready E) → own ≡ e.own → meters ≡ e.meters → olds' ≡ olds → news' ≡ news
-      → Each (λ r. IsTrue s.tells → s.taken r.source ≡ []) olds'
-      → IsCollected own meters (receiver_runs s k olds news) (record { slots = slots; strangers = strangers }) → length news ≡ length olds → EachWith IsEndOf news' es
-      → IfOk result (λ r. r.collected.slots.items ≡ slots) → IfOk result (λ r. r.collected.strangers ≡ strangers) → IfOk result (λ r. r.ends.items ≡ es)
-      → IfOk result (λ r. r.next ≡ next_roster own slots) → IfOk result (λ r. string_bytes r.readings ≡ readings_text slots)
-      → IfOk result (IsReady s k e olds news)
-  ready_is e own meters olds olds' news news' slots strangers es (Err _) same same_meters o n untaken collected many ended a b c d f = tt
-  ready_is e own meters olds olds' news news' slots strangers es (Ok r) same same_meters o n untaken collected many ended a b c d f =
-      let W : List SlotView → List Stranger → WorldView = λ x y. record { slots = x; strangers = y } in
-      let P : Address → WorldView → Type 0 = λ x w. IsCollected x e.meters (receiver_runs s k olds news) w in
+  -- what receivers heard together
+  pub heard_is : (e : Enrolled) (own : Address) (meters : List Commissioned) (olds olds' news news' : List (Receiving S K)) (h : HeardTogether)
+      → own ≡ e.own → meters ≡ e.meters → olds' ≡ olds → news' ≡ news → Each (λ r. IsTrue s.tells → s.taken r.source ≡ []) olds'
+      → IsCollected own meters (receiver_runs s k olds news) (record { slots = h.collected.slots.items; strangers = h.collected.strangers })
+      → length news ≡ length olds → EachWith IsEndOf news' h.ends.items → HaveHeard s k e olds news h
+  heard_is e own meters olds olds' news news' h same same_meters o n untaken collected many ended =
+      let world : WorldView = record { slots = h.collected.slots.items; strangers = h.collected.strangers } in
       record {
         untaken = subst (λ l. Each (λ r. IsTrue s.tells → s.taken r.source ≡ []) l) o untaken;
-        collected = subst (λ x. P x (W r.collected.slots.items r.collected.strangers)) same
-            (subst (λ x. P own (W x r.collected.strangers)) (sym a) (subst (λ y. P own (W slots y)) (sym b)
-            (subst (λ m. IsCollected own m (receiver_runs s k olds news) (W slots strangers)) same_meters collected)));
+        collected = subst (λ x. IsCollected x e.meters (receiver_runs s k olds news) world) same
+            (subst (λ m. IsCollected own m (receiver_runs s k olds news) world) same_meters collected);
         as_many = many;
-        receiver_ends = subst (λ l. EachWith IsEndOf l r.ends.items) n (subst (λ l. EachWith IsEndOf news' l) (sym c) ended);
-        next = d ∙ (ap (λ x. next_roster x slots) same ∙ ap (next_roster e.own) (sym a));
+        receiver_ends = subst (λ l. EachWith IsEndOf l h.ends.items) n ended;
+      }
+
+  -- what is ready of a session
+  pub ready_is : {E : Type 0} (e : Enrolled) (own : Address) (olds news : List (Receiving S K)) (h : HeardTogether) (result : Result Ready E) → own ≡ e.own
+      → HaveHeard s k e olds news h → IfOk result (λ r. r.collected.slots.items ≡ h.collected.slots.items)
+      → IfOk result (λ r. r.collected.strangers ≡ h.collected.strangers) → IfOk result (λ r. r.ends.items ≡ h.ends.items)
+      → IfOk result (λ r. r.next ≡ next_roster own h.collected.slots.items) → IfOk result (λ r. string_bytes r.readings ≡ readings_text h.collected.slots.items)
+      → IfOk result (IsReady s k e olds news)
+  ready_is e own olds news h (Err _) same have a b c d f = tt
+  ready_is e own olds news h (Ok r) same have a b c d f =
+      let W : List SlotView → List Stranger → WorldView = λ x y. record { slots = x; strangers = y } in
+      let P : WorldView → Type 0 = λ w. IsCollected e.own e.meters (receiver_runs s k olds news) w in
+      record {
+        heard = record {
+          untaken = have.untaken;
+          collected = subst (λ x. P (W x r.collected.strangers)) (sym a) (subst (λ y. P (W h.collected.slots.items y)) (sym b) have.collected);
+          as_many = have.as_many;
+          receiver_ends = subst (λ l. EachWith IsEndOf news l) (sym c) have.receiver_ends;
+        };
+        next = d ∙ (ap (λ x. next_roster x h.collected.slots.items) same ∙ ap (next_roster e.own) (sym a));
         readings = f ∙ ap readings_text (sym a);
       }
 
@@ -508,7 +522,7 @@ module _ {S K : Type 0} (s : sources.Ghosts S) (k : sinks.Ghosts K) where
     result_so = result_is ∙ ap (λ o. status_after o (unwritten a b c)) stop_is
 
     ended : EachWith IsEnd runs ready.ends.items
-    ended = runs_ended olds news ready.ends.items is.as_many is.receiver_ends
+    ended = runs_ended olds news ready.ends.items is.heard.as_many is.heard.receiver_ends
 
     writes : Writes s.tells k.tells roster runs next readings report e world ready.ends.items
         (report_text ready.ends.items ready.collected.slots.items ready.collected.strangers) a b c
@@ -521,9 +535,9 @@ module _ {S K : Type 0} (s : sources.Ghosts S) (k : sinks.Ghosts K) where
     pub ready_run : (IsTrue s.tells → roster_of roster.before.left ≡ Ok e) → (IsTrue s.tells → IsReadOut roster) → (IsTrue s.tells → LosesNothing roster)
         → IsRun (this s.tells k.tells roster runs next readings report e world ready.ends.items result)
     ready_run found read kept =
-        let many = runs_many olds news is.as_many in
+        let many = runs_many olds news is.heard.as_many in
         collected_run s.tells k.tells roster runs next readings report e world ready.ends.items a b c writes ended result result_so
-        (runs_known olds news) (runs_untaken olds news is.untaken) (omega arith) is.collected found read kept
+        (runs_known olds news) (runs_untaken olds news is.heard.untaken) (omega arith) is.heard.collected found read kept
 
     pub ready_heard : IsUnread result → ⊥
     ready_heard unread = not_unread result

@@ -1,4 +1,5 @@
 pub mod Heard
+pub mod MadeRun
 pub mod Ready
 pub mod Rosters
 pub mod Run

@@ -1,18 +1,23 @@
 -- Words of private contracts: what a session of several receivers came to, before it is written.
-use Rattle.std.specs.Prelude.{◌≡◌, ◌≢◌, ◌<◌, ◌^◌, List, [], Some, IsTrue, length}
+use Rattle.std.specs.Prelude.{ℕ, ◌≡◌, ◌≢◌, ◌<◌, ◌^◌, List, [], Some, None, IsTrue, length}
 use Rattle.std.specs.String.{string_bytes}
 use Rattle.outer_io.specs.Each.{Each, EachWith}
 use Rattle.outer_io.specs.declared.sources.Source as sources
 use Rattle.outer_io.specs.declared.sinks.Sink as sinks
+use Rattle.made_input.specs.Made.{Session}
+use Rattle.made_input.specs.Streams.{Text}
 use Rattle.meter_slots.specs.declared.counts.Ended.TheVariants as ends
 use Rattle.receivers.specs.Collected.{IsCollected}
 use Rattle.receivers.specs.Receiver.{Receiving}
 use Rattle.receivers.specs.Run.{receiver_runs}
 use Rattle.report_text.specs.declared.lent.ReceiverEnd.{ReceiverEnd}
 use Rattle.report_text.specs.Readings.{readings_text}
+use Rattle.report_text.specs.Report.{report_text}
 use Rattle.roster_file.specs.Roster.{Enrolled}
-use Rattle.collector_main.specs.Heard.{next_roster}
+use Rattle.collector_main.specs.Heard.{Heard, next_roster, report_of}
+use Rattle.collector_main.specs.MadeRun.{IsMadeHeard}
 use Rattle.collector_main.specs.declared.collecting.Ready.{Ready}
+use Rattle.collector_main.specs.declared.together.HeardTogether.{HeardTogether}
 
 -- a receiver that worked, and found memory for all its lines, ended so
 pub record IsEndOf {S K : Type 0} (r : Receiving S K) (e : ReceiverEnd) : Type 0 where
@@ -21,13 +26,29 @@ pub record IsEndOf {S K : Type 0} (r : Receiving S K) (e : ReceiverEnd) : Type 0
   pub few : e.counts.lines < 2 ^ 32
   pub found_memory : e.ended ≢ ends.Memory
 
--- some receivers worked for the meters of a roster, and what is written of that is ready
-pub record IsReady {S K : Type 0} (s : sources.Ghosts S) (k : sinks.Ghosts K) (e : Enrolled) (olds news : List (Receiving S K))
-    (ready : Ready) : Type 0 where
+-- some receivers worked at once for the meters of a roster, and each found memory for all its lines
+pub record HaveHeard {S K : Type 0} (s : sources.Ghosts S) (k : sinks.Ghosts K) (e : Enrolled) (olds news : List (Receiving S K))
+    (heard : HeardTogether) : Type 0 where
   pub untaken : Each (λ r. IsTrue s.tells → s.taken r.source ≡ []) olds
   pub collected : IsCollected e.own e.meters (receiver_runs s k olds news)
-      (record { slots = ready.collected.slots.items; strangers = ready.collected.strangers })
+      (record { slots = heard.collected.slots.items; strangers = heard.collected.strangers })
   pub as_many : length news ≡ length olds
-  pub receiver_ends : EachWith IsEndOf news ready.ends.items
+  pub receiver_ends : EachWith IsEndOf news heard.ends.items
+
+-- the same, and what is written of that is ready
+pub record IsReady {S K : Type 0} (s : sources.Ghosts S) (k : sinks.Ghosts K) (e : Enrolled) (olds news : List (Receiving S K))
+    (ready : Ready) : Type 0 where
+  pub heard : HaveHeard s k e olds news (record { collected = ready.collected; ends = ready.ends })
   pub next : ready.next ≡ next_roster e.own ready.collected.slots.items
   pub readings : string_bytes ready.readings ≡ readings_text ready.collected.slots.items
+
+-- a fresh receiver that hears a text
+pub record HearsText {K : Type 0} (r : Receiving Text K) (text : List ℕ) : Type 0 where
+  pub source : r.source ≡ record { taken = []; left = text }
+  pub fresh : r.ended ≡ None
+
+-- what some receivers heard together is all that was made
+pub record IsMadeTogether (made : Session) (h : HeardTogether) : Type 0 where
+  pub heard : Heard
+  pub is_heard : IsMadeHeard made heard
+  pub report : report_text h.ends.items h.collected.slots.items h.collected.strangers ≡ report_of heard

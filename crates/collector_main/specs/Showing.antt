@@ -6,6 +6,7 @@ use Rattle.collector_main.specs.declared.command_words.Plan.{Plan}
 use Rattle.collector_main.specs.declared.command_words.Plan.TheVariants as plans
 use Rattle.collector_main.specs.declared.command_words.WordsFault.{WordsFault}
 use Rattle.collector_main.specs.Heard.{report_of, next_of, readings_of}
+use Rattle.collector_main.specs.MadeRun.{made_outputs}
 use Rattle.collector_main.specs.Run.{Output}
 
 -- a receiver whose one run is still to come
@@ -25,18 +26,43 @@ all_outputs next readings report =
 abbrev pub receiver_count : Plan → ℕ
 receiver_count plans.Hear = 1
 receiver_count (plans.Collect count) = count
+receiver_count (plans.Made meters telegrams number) = 0
+
+-- whether a plan reads a roster and has receivers hear, and doesn't make all that itself
+abbrev pub hears : Plan → Bool
+hears plans.Hear = true
+hears (plans.Collect count) = true
+hears (plans.Made meters telegrams number) = false
+
+-- of a made session, with its meters, its telegrams and its number, this holds
+abbrev pub IfMade : (ℕ → ℕ → ℕ → Type 0) → Plan → Type 0
+IfMade P (plans.Made meters telegrams number) = P meters telegrams number
+IfMade P plan = Unit {0}
 
 -- whether a plan's receivers work at once and send downlinks
 abbrev pub sends_downlinks : Plan → Bool
 sends_downlinks plans.Hear = false
 sends_downlinks (plans.Collect count) = true
+sends_downlinks (plans.Made meters telegrams number) = false
 
 -- whether words ask for that
 abbrev pub collects : Result Plan WordsFault → Bool
 collects (Ok plan) = sends_downlinks plan
 collects (Err fault) = false
 
+-- whether a plan writes readings
+abbrev pub writes_readings : Plan → Bool
+writes_readings plans.Hear = false
+writes_readings (plans.Collect count) = true
+writes_readings (plans.Made meters telegrams number) = true
+
+-- whether words ask for that
+abbrev pub asks_for_readings : Result Plan WordsFault → Bool
+asks_for_readings (Ok plan) = writes_readings plan
+asks_for_readings (Err fault) = false
+
 -- the outputs of a plan, in the order in which they are written
 abbrev pub outputs_of : Plan → (next readings report : Change SinkShown) → List Output
 outputs_of plans.Hear next readings report = report_output report ∷ []
 outputs_of (plans.Collect count) next readings report = all_outputs next readings report
+outputs_of (plans.Made meters telegrams number) next readings report = made_outputs meters telegrams readings report

@@ -17,11 +17,12 @@ ghost use Rattle.collector_main.specs.Statuses.{IsUnread, Wrote};
 use crate::at_once::{let_go, parts_made};
 use crate::rosters::enrolled;
 use crate::status::Status;
-use crate::stops::{Writes, ends_of, first_stop, status_after};
+use crate::stops::{Writes, first_stop, status_after};
+use crate::together::{HeardTogether, hear_together};
 use meter_address::{Address, Commission};
 use meter_slots::SlotBook;
 use outer_io::{Failed, Memory, Sink, Source, write_all};
-use receivers::{Collected, Receiver, collect, show_untaken};
+use receivers::{Collected, Receiver};
 use report_text::{MeterPart, ReceiverEnd, Session, readings_json, report, report_of_parts};
 use roster_file::Roster;
 use std::alloc::Global;
@@ -102,11 +103,8 @@ fn hear_all<R: Threads + Wait + Sync, S: Source + Send + Drop, K: Sink + Send + 
     requires fresh { Each IsFresh receivers.old.items }
     ensures { IfOk result (IsReady S.Source K.Sink roster.now receivers.old.items receivers.new.items) }
 {
-    show_untaken(receivers.as_slice());
-    let own = roster.own();
-    let collected = collect(rt, alloc, own, roster.meters(), receivers)?;
-    let ends = ends_of(alloc, receivers.as_slice())?;
-    make_ready(alloc, own, collected, ends)
+    let HeardTogether { collected, ends } = hear_together(rt, alloc, roster, receivers)?;
+    make_ready(alloc, roster.own(), collected, ends)
 }
 
 // Writes a report by its slots' parts, or from the slots where there are none.

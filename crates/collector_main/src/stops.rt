@@ -71,7 +71,7 @@ pub(crate) struct Writes {
 }
 
 // The status of the first output that couldn't be written.
-fn unwritten(writes: Writes) -> Status
+pub(crate) fn unwritten(writes: Writes) -> Status
     ensures { result ≡ unwritten writes.next writes.readings writes.report }
 {
     if writes.next.is_err() {

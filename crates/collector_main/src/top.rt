@@ -3,15 +3,18 @@ ghost use Rattle.std.specs.Prelude.{◌≡◌, ◌≢◌, [], Err, false, IsTrue
 ghost use Rattle.std.specs.String.{string_bytes};
 ghost use Rattle.outer_io.specs.Each.{Each};
 ghost use Rattle.outer_io.specs.Shown.{source_change, sink_change};
+ghost use Rattle.made_input.specs.Made.{made};
 ghost use Rattle.receivers.specs.Run.{receiver_runs};
+ghost use Rattle.collector_main.specs.MadeRun.{IsMadeRun, made_outputs};
 ghost use Rattle.collector_main.specs.Run.{IsRun};
-ghost use Rattle.collector_main.specs.Showing.{IsFresh, receiver_count, collects, sends_downlinks, outputs_of};
+ghost use Rattle.collector_main.specs.Showing.{IsFresh, IfMade, receiver_count, hears, collects, asks_for_readings, sends_downlinks, outputs_of};
 ghost use Rattle.collector_main.specs.Statuses.{IsUnread};
 ghost use Rattle.collector_main.specs.Words.{plan_of};
 ghost use Rattle.collector_main.specs.declared.command_words.WordsFault.{WordsFault};
 
 use crate::collecting::collect_session;
 use crate::command_words::{Plan, words};
+use crate::making::made_session;
 use crate::session::hear_session;
 use crate::status::Status;
 use outer_io::{Sink, Source};
@@ -22,7 +25,8 @@ use std::thread::Threads;
 
 /// Runs what the words ask for, over sources and sinks. For `hear` the receiver is the one of the vector; `next` and
 /// `readings` stay as they are, and so does the receiver's `tx`. For `collect` all receivers of the vector are heard at once, in the order of
-/// their numbers, and it may wait; after `Memory` nothing is said of them.
+/// their numbers, and it may wait; after `Memory` nothing is said of them. For `made` there is no receiver in the vector: a session is made,
+/// its report goes to `readings` and its summary to `report`, and `next` and the roster stay as they are.
 pub fn run<R: Threads + Wait + Sync, S: Source + Send + Drop, K: Sink + Send + Drop>(
     rt: &R,
     alloc: Global,
@@ -36,15 +40,16 @@ pub fn run<R: Threads + Wait + Sync, S: Source + Send + Drop, K: Sink + Send + D
     requires count { IfOk (plan_of (map string_bytes command.now)) (λ plan. vec_len receivers.old ≡ receiver_count plan) }
     requires fresh { IsOk (plan_of (map string_bytes command.now)) → Each IsFresh receivers.old.items }
     requires empty { IsTrue K.tells → K.written report.old ≡ [] }
-    requires all_empty { IsTrue (collects (plan_of (map string_bytes command.now))) → IsTrue K.tells →
-        (K.written next.old ≡ []) × (K.written readings.old ≡ []) }
+    requires empty_next { IsTrue (collects (plan_of (map string_bytes command.now))) → IsTrue K.tells → K.written next.old ≡ [] }
+    requires empty_readings { IsTrue (asks_for_readings (plan_of (map string_bytes command.now))) → IsTrue K.tells →
+        K.written readings.old ≡ [] }
 
     // Status 2 comes exactly by the words.
     ensures words { IfErr (plan_of (map string_bytes command.now)) (λ fault. result ≡ Status.Words fault) }
     ensures only_words { (fault : WordsFault) → result ≡ Status.Words fault → plan_of (map string_bytes command.now) ≡ Err fault }
 
-    // A run of the receivers, with the outputs that the plan names.
-    ensures run { IfOk (plan_of (map string_bytes command.now)) (λ plan. IsRun (record {
+    // For `hear` and `collect` a run of the receivers, with the outputs that the plan names.
+    ensures run { IfOk (plan_of (map string_bytes command.now)) (λ plan. IsTrue (hears plan) → IsRun (record {
       sources_tell = S.tells;
       sinks_tell = K.tells;
       roster = source_change S.Source roster.old roster.new;
@@ -55,9 +60,19 @@ pub fn run<R: Threads + Wait + Sync, S: Source + Send + Drop, K: Sink + Send + D
       status = result;
     })) }
 
-    // What stays as it was: all after faulty words, the receivers after statuses 3 and 4, their number, and for `hear` each `tx` and the
-    // other outputs.
+    // For `made` a run of the session that is made of the numbers.
+    ensures made { IfOk (plan_of (map string_bytes command.now)) (IfMade (λ meters telegrams number. IsMadeRun (record {
+      made = made meters telegrams number;
+      sinks_tell = K.tells;
+      outputs = made_outputs meters telegrams (sink_change K.Sink readings.old readings.new) (sink_change K.Sink report.old report.new);
+      status = result;
+    }))) }
+
+    // What stays as it was: all after faulty words, the roster and the receivers for `made`, the receivers after statuses 3 and 4, their
+    // number, and each `tx` and the outputs that the plan doesn't name.
     ensures roster { IfErr (plan_of (map string_bytes command.now)) (λ _. roster.new ≡ roster.old) }
+    ensures aside { IfOk (plan_of (map string_bytes command.now)) (IfMade (λ meters telegrams number.
+        (roster.new ≡ roster.old) × (receivers.new.items ≡ receivers.old.items))) }
     ensures report { IfErr (plan_of (map string_bytes command.now)) (λ _. report.new ≡ report.old) }
     ensures unread { IsUnread result → receivers.new.items ≡ receivers.old.items }
     ensures receivers { (IsTrue (collects (plan_of (map string_bytes command.now))) → result ≢ Status.Memory)
@@ -65,7 +80,7 @@ pub fn run<R: Threads + Wait + Sync, S: Source + Send + Drop, K: Sink + Send + D
     ensures tx { collects (plan_of (map string_bytes command.now)) ≡ false
         → map (λ r. r.tx) receivers.new.items ≡ map (λ r. r.tx) receivers.old.items }
     ensures next { collects (plan_of (map string_bytes command.now)) ≡ false → next.new ≡ next.old }
-    ensures readings { collects (plan_of (map string_bytes command.now)) ≡ false → readings.new ≡ readings.old }
+    ensures readings { asks_for_readings (plan_of (map string_bytes command.now)) ≡ false → readings.new ≡ readings.old }
 {
     match words(command) {
         Err(fault) => Status::Words(fault),
@@ -76,5 +91,12 @@ pub fn run<R: Threads + Wait + Sync, S: Source + Send + Drop, K: Sink + Send + D
         Ok(Plan::Collect(_)) => {
             collect_session(rt, alloc, roster, receivers, next, readings, report)
         }
+        Ok(
+            Plan::Made {
+                meters,
+                telegrams,
+                number,
+            },
+        ) => made_session(rt, alloc, meters, telegrams, number, readings, report),
     }
 }

@@ -150,6 +150,19 @@ fn open_collect<R: Eprint + Files<File = File> + AllocGlobal>(
     })
 }
 
+// A made session reads and writes no file but the standard output.
+fn open_nothing<R: AllocGlobal>(rt: &R) -> Opened
+    ensures fresh { Each IsFresh result.receivers.items }
+    ensures count { vec_len result.receivers ≡ 0 }
+{
+    Opened {
+        roster: StdSource::nothing(),
+        next: StdSink::nothing(),
+        readings: StdSink::nothing(),
+        receivers: Vec::new(rt.alloc()),
+    }
+}
+
 /// Opens the files that the words name, in their order; those that are written are made empty. What can't be opened is said, and is
 /// status 11; want of memory is 10.
 pub(crate) fn open_all<R: Eprint + Files<File = File> + AllocGlobal>(
@@ -162,11 +175,14 @@ pub(crate) fn open_all<R: Eprint + Files<File = File> + AllocGlobal>(
     ensures count { IfOk result (λ files. vec_len files.receivers ≡ receiver_count plan) }
     ensures unopened { IfErr result (λ code. IsUnopened (exit_status code)) }
 {
-    match command {
-        [_, roster, rx] => open_hear(rt, roster.as_str(), rx.as_str()),
-        [_, roster, next, readings, names @ ..] => {
-            open_collect(rt, roster.as_str(), next.as_str(), readings.as_str(), names)
-        }
-        _ => unreachable!(),
+    match plan {
+        Plan::Hear => open_hear(rt, command[1].as_str(), command[2].as_str()),
+        Plan::Collect(_) => match command {
+            [_, roster, next, readings, names @ ..] => {
+                open_collect(rt, roster.as_str(), next.as_str(), readings.as_str(), names)
+            }
+            _ => unreachable!(),
+        },
+        Plan::Made { .. } => Ok(open_nothing(rt)),
     }
 }

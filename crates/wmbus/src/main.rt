@@ -25,6 +25,7 @@ const HELP: &str = "wmbus: a collector for wireless M-Bus and OMS meters
 
 usage: wmbus hear ROSTER RX
        wmbus collect ROSTER NEXT READINGS RX TX [RX TX ..]
+       wmbus made METERS TELEGRAMS NUMBER
        wmbus --help
        wmbus --version
 
@@ -39,6 +40,13 @@ reading as JSON, and the standard output the report. Files that are written are
 made empty first; a FIFO or a terminal may stand for any of them.
 
   wmbus collect meters.roster next.roster readings.json a.rx a.tx b.rx b.tx
+
+made needs no meter and no file: it draws 1 to 1024 meters with their keys from
+NUMBER (below 2^64), makes 1 to 16384 telegrams of them and of a stranger, has
+four receivers hear all of these at once, as collect does, and writes a summary
+to the standard output. The same words give the same summary everywhere.
+
+  wmbus made 50 5000 7
 
 exit status: 0 done, 2 faulty words, 3 faulty roster, 4 roster not read,
 5 receiver not read, 6 downlink not written, 7 next, readings or report not

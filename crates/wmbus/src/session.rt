@@ -4,10 +4,12 @@ ghost use Rattle.std.specs.String.{string_bytes};
 ghost use Rattle.std.specs.Process.{exit_status};
 ghost use Rattle.outer_io.specs.Each.{Each};
 ghost use Rattle.outer_io.specs.Shown.{source_change, sink_change};
+ghost use Rattle.made_input.specs.Made.{made};
 ghost use Rattle.receivers.specs.Run.{receiver_runs};
 ghost use Rattle.collector_main.specs.declared.status.Status.{Status as RunStatus};
+ghost use Rattle.collector_main.specs.MadeRun.{IsMadeRun, made_outputs};
 ghost use Rattle.collector_main.specs.Run.{IsRun};
-ghost use Rattle.collector_main.specs.Showing.{IsFresh, receiver_count, collects, sends_downlinks, outputs_of};
+ghost use Rattle.collector_main.specs.Showing.{IsFresh, IfMade, receiver_count, hears, collects, asks_for_readings, sends_downlinks, outputs_of};
 ghost use Rattle.collector_main.specs.Statuses.{code_of};
 ghost use Rattle.collector_main.specs.Words.{plan_of};
 ghost use Rattle.wmbus.specs.Exit.{IsSessionExit};
@@ -45,9 +47,9 @@ pub(crate) fn run_over<
     requires empty { IsTrue K.tells →
         (K.written next.old ≡ []) × (K.written readings.old ≡ []) × (K.written report.old ≡ []) }
 
-    // The exit status is that of a run of the receivers, and one of those that the program has for a session.
+    // The exit status is that of a run of the receivers, or of a made session, and one of those that the program has for a session.
     ensures run { (status : RunStatus) × (exit_status result ≡ code_of status) ×
-        IfOk (plan_of (map string_bytes command.now)) (λ plan. IsRun (record {
+        IfOk (plan_of (map string_bytes command.now)) (λ plan. IsTrue (hears plan) → IsRun (record {
           sources_tell = S.tells;
           sinks_tell = K.tells;
           roster = source_change S.Source roster.old roster.new;
@@ -57,11 +59,18 @@ pub(crate) fn run_over<
               (sink_change K.Sink report.old report.new);
           status = status;
         })) }
+    ensures made { (status : RunStatus) × (exit_status result ≡ code_of status) ×
+        IfOk (plan_of (map string_bytes command.now)) (IfMade (λ meters telegrams number. IsMadeRun (record {
+          made = made meters telegrams number;
+          sinks_tell = K.tells;
+          outputs = made_outputs meters telegrams (sink_change K.Sink readings.old readings.new) (sink_change K.Sink report.old report.new);
+          status = status;
+        }))) }
     ensures session { IsSessionExit (exit_status result) }
 
-    // What stays as it was for `hear`.
+    // What stays as it was: the outputs that the plan doesn't name.
     ensures next { collects (plan_of (map string_bytes command.now)) ≡ false → next.new ≡ next.old }
-    ensures readings { collects (plan_of (map string_bytes command.now)) ≡ false → readings.new ≡ readings.old }
+    ensures readings { asks_for_readings (plan_of (map string_bytes command.now)) ≡ false → readings.new ≡ readings.old }
 {
     let status = run(
         rt,

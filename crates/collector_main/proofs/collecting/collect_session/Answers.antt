@@ -12,8 +12,8 @@ returns-in-Err-clause-run g c =
 pub first_stop-stop-requires : goal.first_stop-stop-requires
 first_stop-stop-requires g c =
     let is = c.in-Ok-hear_all.ensures in
-    let many = each_many _ _ _ is.receiver_ends in
-    let as_many = is.as_many in
+    let many = each_many _ _ _ is.heard.receiver_ends in
+    let as_many = is.heard.as_many in
     let few = c.requires.few in
     let len = c.as_slice.ensures.len in
     omega arith

@@ -11,3 +11,6 @@ returns-clause-session g c =
 
 pub returns-clause-run : goal.returns-clause-run
 returns-clause-run g c = (c.run-status.result, c.end.ensures, c.run-status.ensures.run)
+
+pub returns-clause-made : goal.returns-clause-made
+returns-clause-made g c = (c.run-status.result, c.end.ensures, c.run-status.ensures.made)

@@ -1,0 +1,25 @@
+use Rattle.std.proofs.Common.{rules, ◌<◌, ◌^◌, length, refl, arith}
+use Rattle.roster_file.proofs.Enrolling.{read_is_enrolled}
+use Rattle.collector_main.specs.Ready.{HearsText}
+use Rattle.collector_main.proofs.ManyReceivers.{each_many}
+use Rattle.collector_main.proofs.MadeSessions.{four_fresh, made_heard}
+use Rattle.collector_main.proofs.making.hear_made.Goals as goal
+
+pub hear_together-requires-clause-enrolled : goal.hear_together-requires-clause-enrolled
+hear_together-requires-clause-enrolled g c κs within = read_is_enrolled c.as_slice.result.now c.in-Ok.roster c.in-Ok.ensures.found
+
+pub hear_together-requires-clause-few : goal.hear_together-requires-clause-few
+hear_together-requires-clause-few g c κs within =
+    let many = each_many HearsText c.in_ok-receivers.receivers.items _ c.in_ok-receivers.ensures in
+    let few : length c.in_ok-receivers.receivers.items < 2 ^ 32 = omega (arith, many) in
+    search rules
+
+pub hear_together-requires-clause-fresh : goal.hear_together-requires-clause-fresh
+hear_together-requires-clause-fresh g c κs within = four_fresh c.in_ok-receivers.receivers.items _ c.in_ok-receivers.ensures
+
+pub returns : goal.returns
+returns g c =
+    made_heard _ _ refl (λ x. refl) (λ x. refl) (λ x. refl) (λ x. refl) c.args.meters c.args.telegrams c.args.number c.requires.meters.1 c.requires.telegrams.1
+    c.in_ok-roster.field-0 c.roster.inside.roster.items c.roster.inside.first.items c.roster.inside.second.items c.roster.inside.third.items
+    c.roster.inside.fourth.items c.as_slice.result.now c.roster.view_is c.in_ok-roster.ensures c.as_slice.ensures.value c.in-Ok.roster c.in-Ok.ensures.found
+    c.in_ok-receivers.receivers.items c.hear_together.new.receivers.items c.in_ok-receivers.ensures c.hear_together.result c.hear_together.ensures
