@@ -1,10 +1,12 @@
 pub mod Compared
 pub mod HeardLists
+pub mod InForm
 pub mod InputReads
 pub mod Notes
 pub mod OneVerdict
 pub mod OrderChecks
 pub mod Overs
+pub mod Prints
 pub mod ReadLists
 pub mod Runs
 pub mod Slots

@@ -29,7 +29,8 @@ use Rattle.audit_check_main.specs.declared.verdict.Cause.TheVariants as causes
 use Rattle.audit_check_main.specs.declared.verdict.Verdict.{Verdict}
 use Rattle.audit_check_main.specs.declared.verdict.Verdict.TheVariants.{Yes, No}
 use Rattle.audit_check_main.specs.Audit.{Audited, told_in, heard_of, heard_out, report_of, IsReadable, IsInForm, IsOrdered, IsFaithful, IsUnfaithfulAt, IsCause, IsVerdict}
-use Rattle.audit_check_main.specs.Auditing.{end_of, IsCompared, IsStepped}
+use Rattle.audit_check_main.specs.Auditing.{IsCompared, IsStepped}
+use Rattle.audit_check_main.specs.Printing.{end_of}
 use Rattle.audit_check_main.specs.Difference.{DiffersAt}
 use Rattle.audit_check_main.specs.Hearing.{HeardInput, heard_input, tells, no_input, input_of, numbers_in_list}
 use Rattle.audit_check_main.specs.Lists.{AreInForm, as_many, lists_printed}

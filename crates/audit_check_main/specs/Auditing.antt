@@ -6,18 +6,13 @@ use Rattle.meter_slots.specs.Journal.{SlotView}
 use Rattle.stranger_ring.specs.declared.strangers.Heard.{Heard}
 use Rattle.receivers.specs.Orders.{AreOrderedStrangers}
 use Rattle.report_text.specs.Report.{report_text}
-use Rattle.meter_slots.specs.declared.counts.Ended.TheVariants as ends
-use Rattle.report_text.specs.declared.lent.ReceiverEnd.{ReceiverEnd}
 use Rattle.audit_check_main.specs.declared.verdict.Cause.TheVariants as causes
 use Rattle.audit_check_main.specs.declared.verdict.Verdict.{Verdict}
 use Rattle.audit_check_main.specs.declared.verdict.Verdict.TheVariants.{Yes, No}
 use Rattle.audit_check_main.specs.Difference.{DiffersAt}
 use Rattle.audit_check_main.specs.Hearing.{HeardInput, tells}
+use Rattle.audit_check_main.specs.Printing.{end_of}
 use Rattle.audit_check_main.specs.Stepping.{AreOrderedSlots}
-
--- a receiver that heard an input to its end
-abbrev pub end_of : HeardInput → ReceiverEnd
-end_of h = record { counts = h.counts; ended = ends.End }
 
 -- what a report is found to be beside a text
 abbrev pub IsCompared : (report text : List ℕ) → Verdict → Type 0

@@ -3,9 +3,11 @@ pub mod Auditing
 pub mod Comparing
 pub mod Cursors
 pub mod Difference
+pub mod FormLaw
 pub mod Hearing
 pub mod Lists
 pub mod Order
+pub mod Printing
 pub mod Reading
 pub mod Run
 pub mod Statuses

@@ -3,33 +3,30 @@ ghost use Rattle.std.specs.Prelude.{◌≡◌, ◌<◌, ◌+◌, ◌^◌, List, 
 ghost use Rattle.outer_io.specs.Each.{Each, IsFirst};
 ghost use Rattle.line_reader.specs.Lines.{is_over};
 ghost use Rattle.report_text.specs.Orders.{lines_in, orders};
-ghost use Rattle.report_text.specs.Report.{report_text};
 ghost use Rattle.roster_file.specs.Enrolled.{IsEnrolled};
 ghost use Rattle.roster_file.specs.Roster.{roster_of};
 ghost use Rattle.audit_check_main.specs.Audit.{IsVerdict};
 ghost use Rattle.meter_address.specs.Address.{AreApart};
 ghost use Rattle.receivers.specs.Orders.{IsOrderOfStrangers};
-ghost use Rattle.audit_check_main.specs.Auditing.{end_of, IsCompared, IsStepped};
+ghost use Rattle.audit_check_main.specs.Auditing.{IsStepped};
 ghost use Rattle.audit_check_main.specs.Hearing.{heard_input, tells};
 ghost use Rattle.audit_check_main.specs.Stepping.{IsOrderOfEach};
 ghost use Rattle.audit_check_main.specs.Lists.{AreInForm, lists_printed};
 ghost use Rattle.audit_check_main.specs.declared.verdict.Verdict.{Verdict};
 
-use crate::comparing::difference;
+use crate::comparing::Comparing;
 use crate::hearing::{Hearing, hear_all, is_over};
 use crate::input::Input;
 use crate::lists::{ListsFault, read_lists};
 use crate::orders::first_wrong;
 use crate::printed::Order;
-use crate::stepping::{note_strangers, step_meters};
+use crate::printing::put_session;
 use crate::verdict::{Cause, Verdict};
 use meter_address::{Address, Commission};
-use meter_slots::{Directory, Ended, SlotBook};
+use meter_slots::Directory;
 use outer_io::Memory;
-use report_text::{ReceiverEnd, Session};
 use roster_file::{Roster, RosterFault, read_roster};
 use std::alloc::Global;
-use stranger_ring::Strangers;
 
 // The first input, from 1, that goes past the limits.
 fn first_over(inputs: &[Input]) -> Option<u32>
@@ -43,42 +40,6 @@ fn first_over(inputs: &[Input]) -> Option<u32>
         }
     }
     None
-}
-
-// The receivers' ends: each input was heard to its end.
-fn receiver_ends(alloc: Global, heard: &[Hearing<'_>]) -> Result<Vec<ReceiverEnd>, Memory>
-    ensures { IfOk result (λ ends. ends.items ≡ map end_of heard.now) }
-{
-    let ends = heard
-        .iter()
-        .map(|h| ReceiverEnd {
-            counts: h.counts(),
-            ended: Ended::End,
-        })
-        .collect::<Vec<ReceiverEnd>>(alloc)?;
-    Ok(ends)
-}
-
-// Compares a report with the text of a session.
-fn compare(
-    alloc: Global,
-    report: &[u8],
-    heard: &[Hearing<'_>],
-    slots: &[SlotBook],
-    strangers: &Strangers,
-) -> Result<Verdict, Memory>
-    ensures { IfOk result (IsCompared report.now (report_text (map end_of heard.now) slots.now strangers.now)) }
-{
-    let ends = receiver_ends(alloc, heard)?;
-    let session = Session {
-        ends: ends.as_slice(),
-        slots,
-        strangers,
-    };
-    match difference(report, &session) {
-        None => Ok(Verdict::Yes),
-        Some(place) => Ok(Verdict::No(Cause::Text(place))),
-    }
 }
 
 // The addresses of the meters.
@@ -105,7 +66,7 @@ fn hear_inputs<'a>(
     hear_all(alloc, meters, &directory, inputs)
 }
 
-// Steps the slots in the printed orders, and compares a report with the text of that session.
+// Compares a report with the text of the session of the printed orders.
 fn audit_orders(
     alloc: Global,
     own: Address,
@@ -119,9 +80,9 @@ fn audit_orders(
     requires strangers { IsOrderOfStrangers meters.now (map tells heard.now) (slice_index_or lists.now (length meters.now) []) }
     ensures { IfOk result (IsStepped own meters.now heard.now lists.now report.now) }
 {
-    let slots = step_meters(alloc, own, meters, heard, lists)?;
-    let strangers = note_strangers(alloc, meters, heard, lists[meters.len()].pairs())?;
-    compare(alloc, report, heard, slots.as_slice(), &strangers)
+    let mut paper = Comparing::new(report);
+    put_session(alloc, own, meters, heard, lists, &mut paper)?;
+    Ok(paper.verdict())
 }
 
 // Audits a report whose lists were read.

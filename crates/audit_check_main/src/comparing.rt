@@ -1,10 +1,9 @@
 //! A text that is compared with another one while it is printed.
-ghost use Rattle.std.specs.Prelude.{◌≡◌, ◌≤◌, [], false, true, length, take, drop, slice_get, MatchOption};
-ghost use Rattle.paper.specs.Puts.{Puts};
+ghost use Rattle.std.specs.Prelude.{◌≡◌, ◌≤◌, [], false, true, length, take, drop, slice_get};
 ghost use Rattle.audit_check_main.specs.Comparing.{Compared, IsCommon};
-ghost use Rattle.audit_check_main.specs.Difference.{DiffersAt};
 
-use paper::{Paper, Printed};
+use crate::verdict::{Cause, Verdict};
+use paper::Paper;
 use std::marker::Model;
 
 // How many first bytes of two texts are the same.
@@ -21,9 +20,9 @@ fn common(text: &[u8], other: &[u8]) -> usize
     count
 }
 
-// A paper that keeps nothing of what is put on it but how far it is a given text.
+/// A paper that keeps nothing of what is put on it but how far it is a given text.
 #[derive(Drop)]
-struct Comparing<'a> {
+pub(crate) struct Comparing<'a> {
     text: &'a [u8],
     place: usize,
     differs: bool,
@@ -41,10 +40,12 @@ impl<'a> Model for Comparing<'a> {
 }
 
 impl<'a> Comparing<'a> {
-    ghost use Rattle.std.specs.Prelude.{◌≡◌, ◌≤◌, false, length};
+    ghost use Rattle.std.specs.Prelude.{◌≡◌, ℕ, List, false};
+    ghost use Rattle.audit_check_main.specs.Auditing.{IsCompared};
+    ghost use Rattle.audit_check_main.specs.Comparing.{IsSoFar};
 
-    // Nothing is put yet.
-    fn new(text: &'a [u8]) -> Comparing<'a>
+    /// Nothing is put yet.
+    pub(crate) fn new(text: &'a [u8]) -> Comparing<'a>
         ensures { result ≡ record { text = text.now; place = 0; differs = false } }
     {
         Comparing {
@@ -52,6 +53,19 @@ impl<'a> Comparing<'a> {
             place: 0,
             differs: false,
         }
+    }
+
+    /// What the text is found to be beside all that was put: the same, or another from its first differing byte on.
+    pub(crate) fn verdict(&self) -> Verdict
+        ensures { (put : List ℕ) → IsSoFar self.now put → IsCompared self.now.text put result }
+    {
+        if self.differs {
+            return Verdict::No(Cause::Text(self.place));
+        }
+        if self.place < self.text.len() {
+            return Verdict::No(Cause::Text(self.place));
+        }
+        Verdict::Yes
     }
 }
 
@@ -69,19 +83,4 @@ impl<'a> Paper for Comparing<'a> {
         self.place += count;
         self.differs = count < bytes.len();
     }
-}
-
-/// The first byte at which a text differs from that of a thing: none exactly where they are the same.
-pub(crate) fn difference<T: Printed>(text: &[u8], thing: &T) -> Option<usize>
-    ensures { MatchOption result (text.now ≡ T.text thing.now) (λ place. DiffersAt place text.now (T.text thing.now)) }
-{
-    let mut paper = Comparing::new(text);
-    thing.print(&mut paper);
-    if paper.differs {
-        return Some(paper.place);
-    }
-    if paper.place < text.len() {
-        return Some(paper.place);
-    }
-    None
 }

@@ -1,10 +1,8 @@
 //! The session of the printed orders: each slot makes its steps in the order that is printed.
 ghost use Rattle.std.specs.Prelude.{◌≡◌, ◌<◌, ◌+◌, List, ℕ, length, map, IfOk, slice_index_or};
-ghost use Rattle.outer_io.specs.Each.{EachWith};
 ghost use Rattle.receivers.specs.Orders.{IsOrderOf, IsOrderedSlot, IsOrderOfStrangers, AreOrderedStrangers};
 ghost use Rattle.meter_address.specs.Commission.{Commissioned};
 ghost use Rattle.audit_check_main.specs.Hearing.{tells, told_at};
-ghost use Rattle.audit_check_main.specs.Stepping.{AreOrderedSlots, IsOrderOfEach};
 
 use crate::hearing::Hearing;
 use crate::printed::Order;
@@ -28,8 +26,8 @@ fn told_at(heard: &[Hearing<'_>], source: u32, line: u32) -> Told
     }
 }
 
-// The slot of a meter after its own lines, in this order of them.
-fn step_meter(
+/// The slot of a meter after its own lines, in this order of them.
+pub(crate) fn step_meter(
     alloc: Global,
     own: Address,
     commission: Commission,
@@ -47,25 +45,6 @@ fn step_meter(
         slot.step(pair.0, pair.1, event)?;
     }
     Ok(slot)
-}
-
-/// The slots of all meters, each after its own lines in the order of its list.
-pub(crate) fn step_meters(
-    alloc: Global,
-    own: Address,
-    meters: &[Commission],
-    heard: &[Hearing<'_>],
-    lists: &[Order],
-) -> Result<Vec<SlotBook>, Memory>
-    requires lists { length meters.now < length lists.now }
-    requires right { IsOrderOfEach (map tells heard.now) meters.now lists.now }
-    ensures { IfOk result (λ slots. AreOrderedSlots own (map tells heard.now) meters.now lists.now slots.items) }
-{
-    let mut slots = Vec::new(alloc);
-    for (list, commission) in meters.iter().enumerate() {
-        slots.push(step_meter(alloc, own, *commission, heard, lists[list].pairs())?)?;
-    }
-    Ok(slots)
 }
 
 /// The strangers after their lines, in this order of them.

@@ -1,4 +1,4 @@
--- The lines of records, which change no list of steps.
+-- The lines of records, which belong to no list of steps.
 use Rattle.std.proofs.Common.{ℕ, ℤ, zero, suc, ◌/◌, ◌%◌, ◌==◌, Bool, true, false, cond, List, [], ◌∷◌, Option, Some, None, Result, Ok}
 use Rattle.std.proofs.Common.{Err, refl, arith}
 use Rattle.std.specs.Prelude.{codes}
@@ -19,8 +19,7 @@ use Rattle.record_text.specs.RecordText.{more_text, next_text, listed, records_t
 use Rattle.record_text.specs.Values.{two_digits, four_digits, day_text, time_text, marked, value_text}
 use Rattle.unit_text.specs.Pieces.{register_text, unit_text}
 use Rattle.unit_text.specs.Words.{function_text, quantity_text, name_text}
-use Rattle.report_text.specs.Orders.{with_line}
-use Rattle.report_text.proofs.LineWalks.{IsWithout, ◌⌢◌, literal, Passes, nothing, ◌⨾◌, one_line}
+use Rattle.report_text.proofs.LineWalks.{IsWithout, ◌⌢◌, literal, IsOther, Others, no_others, ◌⨟◌, one_other}
 use Rattle.paper.specs.Pieces.{labelled_bytes}
 use Rattle.report_text.proofs.LinePieces.{number, signed, hex_or_dash, worded_number, worded_bytes}
 
@@ -97,25 +96,26 @@ unfolding data_text
 data_is modifiers v sent =
     literal (codes " ") refl ⌢ hex_or_dash modifiers ⌢ literal (codes " ") refl ⌢ value_is v ⌢ literal (codes " ") refl ⌢ hex_or_dash sent
 
-record_passes : (bytes : List ℕ) (span : RecordSpan) → Passes (record_line bytes span)
-unfolding record_line with_line
-record_passes bytes span =
+record_others : (bytes : List ℕ) (span : RecordSpan) → Others (record_line bytes span)
+unfolding record_line
+record_others bytes span =
     let u = unit bytes span in
-    one_line _ (literal (codes "record ") refl ⌢ place_is span ⌢ unit_is u.quantity u.name u.exponent
+    one_other _ (literal (codes "record ") refl ⌢ place_is span ⌢ unit_is u.quantity u.name u.exponent
     ⌢ data_is (bytes_at bytes u.modifiers_at u.modifiers) (value bytes span) (bytes_at bytes span.data_at span.data_len))
+    (record { meter = refl; strangers = refl; step = refl; stranger = refl })
 
-maker_passes : (bytes : List ℕ) (span : RecordSpan) → Passes (maker_line bytes span)
-unfolding maker_line labelled_bytes with_line
-maker_passes bytes span =
-    one_line _ (worded_bytes (literal (codes "maker ") refl) (span.dif ∷ []) ⌢ literal (codes " ") refl ⌢ hex_or_dash
-    (bytes_at bytes span.data_at span.data_len))
+maker_others : (bytes : List ℕ) (span : RecordSpan) → Others (maker_line bytes span)
+unfolding maker_line labelled_bytes
+maker_others bytes span =
+    one_other _ (worded_bytes (literal (codes "maker ") refl) (span.dif ∷ []) ⌢ literal (codes " ") refl ⌢ hex_or_dash
+    (bytes_at bytes span.data_at span.data_len)) (record { meter = refl; strangers = refl; step = refl; stranger = refl })
 
-one_of : (maker : Bool) {a b : List ℕ} → Passes a → Passes b → Passes (cond maker a b)
+one_of : (maker : Bool) {a b : List ℕ} → Others a → Others b → Others (cond maker a b)
 one_of true x y = x
 one_of false x y = y
 
-span_passes : (bytes : List ℕ) (span : RecordSpan) → Passes (span_line bytes span)
-span_passes bytes span = one_of span.maker (maker_passes bytes span) (record_passes bytes span)
+span_others : (bytes : List ℕ) (span : RecordSpan) → Others (span_line bytes span)
+span_others bytes span = one_of span.maker (maker_others bytes span) (record_others bytes span)
 
 fault_is : (fault : RecordFault) → IsWithout 10 (fault_text fault)
 fault_is (Truncated place) = worded_number (literal (codes "truncated ") refl) place
@@ -124,28 +124,31 @@ fault_is (Lvar lvar) = worded_bytes (literal (codes "lvar ") refl) (lvar ∷ [])
 fault_is (Selection place) = worded_number (literal (codes "selection ") refl) place
 fault_is (Special dif) = worded_bytes (literal (codes "special ") refl) (dif ∷ [])
 
-fault_passes : (fault : RecordFault) → Passes (fault_line fault)
-unfolding fault_line with_line
-fault_passes fault = one_line _ (literal (codes "fault ") refl ⌢ fault_is fault)
+fault_others : (fault : RecordFault) → Others (fault_line fault)
+unfolding fault_line
+fault_others fault =
+    one_other _ (literal (codes "fault ") refl ⌢ fault_is fault) (record { meter = refl; strangers = refl; step = refl; stranger = refl })
 
 -- ---- listings
 
-more_passes : (next : Result (Option RecordSpan) RecordFault) → Passes (more_text next)
-unfolding with_line
-more_passes (Ok None) = nothing
-more_passes (Ok (Some span)) = one_line (codes "more") (literal (codes "more") refl)
-more_passes (Err fault) = one_line (codes "more") (literal (codes "more") refl)
+more_line : Others (codes "more\n")
+more_line = one_other (codes "more") (literal (codes "more") refl) (record { meter = refl; strangers = refl; step = refl; stranger = refl })
 
-next_passes : (rest : ℕ → List ℕ) → ((from : ℕ) → Passes (rest from))
-    → (payload : List ℕ) (next : Result (Option RecordSpan) RecordFault) → Passes (next_text rest payload next)
-next_passes rest h payload (Ok None) = nothing
-next_passes rest h payload (Ok (Some span)) = span_passes payload span ⨾ h span.end
-next_passes rest h payload (Err fault) = fault_passes fault
+more_others : (next : Result (Option RecordSpan) RecordFault) → Others (more_text next)
+more_others (Ok None) = no_others
+more_others (Ok (Some span)) = more_line
+more_others (Err fault) = more_line
 
-listed_passes : (n : ℕ) (payload : List ℕ) (from : ℕ) → Passes (listed n payload from)
+next_others : (rest : ℕ → List ℕ) → ((from : ℕ) → Others (rest from))
+    → (payload : List ℕ) (next : Result (Option RecordSpan) RecordFault) → Others (next_text rest payload next)
+next_others rest h payload (Ok None) = no_others
+next_others rest h payload (Ok (Some span)) = span_others payload span ⨟ h span.end
+next_others rest h payload (Err fault) = fault_others fault
+
+listed_others : (n : ℕ) (payload : List ℕ) (from : ℕ) → Others (listed n payload from)
 unfolding listed
-listed_passes zero payload from = more_passes (next_of payload from)
-listed_passes (suc n) payload from = next_passes (listed n payload) (listed_passes n payload) payload (next_of payload from)
+listed_others zero payload from = more_others (next_of payload from)
+listed_others (suc n) payload from = next_others (listed n payload) (listed_others n payload) payload (next_of payload from)
 
-pub records_pass : (payload : List ℕ) → Passes (records_text payload)
-records_pass payload = listed_passes 256 payload 0
+pub records_others : (payload : List ℕ) → Others (records_text payload)
+records_others payload = listed_others 256 payload 0

@@ -25,21 +25,21 @@ use Rattle.paper.specs.Pieces.{optional_text, labelled, labelled_two, labelled_b
 use Rattle.report_text.specs.Report.{ended_text, counts_text, receiver_text, mode_text, commission_text, numbers_text, step_text}
 use Rattle.report_text.specs.Report.{readings_after, steps_text, last_text, pending_text, journal_text, orders_now, meter_text}
 use Rattle.report_text.specs.Report.{stranger_text, ring_text, strangers_text, report_text}
-use Rattle.report_text.proofs.LineWalks.{IsWithout, ◌⌢◌, literal, Tells, Passes, nothing, ◌⨾◌, one_line, same_text}
+use Rattle.report_text.proofs.LineWalks.{IsWithout, ◌⌢◌, literal, Tells, nothing, ◌⨾◌, one_line, same_text, IsOther, Others, no_others, ◌⨟◌, one_other, others_pass}
 use Rattle.report_text.proofs.LinePieces.{letters, number_or_dash, worded_number, worded_two, worded_bytes}
 use Rattle.report_text.proofs.LineOutcomes.{outcome_is}
-use Rattle.report_text.proofs.LineRecords.{records_pass}
+use Rattle.report_text.proofs.LineRecords.{records_others}
 use Rattle.report_text.proofs.LineSteps.{step_line, stranger_line}
 
--- ---- lists of passing texts
+-- ---- texts of lines that belong to no list
 
-all_pass : {X : Type 0} (text : X → List ℕ) → ((x : X) → Passes (text x)) → (xs : List X) → Passes (flat_map text xs)
-all_pass text h [] = nothing
-all_pass text h (x ∷ xs) = h x ⨾ all_pass text h xs
+pub all_others : {X : Type 0} (text : X → List ℕ) → ((x : X) → Others (text x)) → (xs : List X) → Others (flat_map text xs)
+all_others text h [] = no_others
+all_others text h (x ∷ xs) = h x ⨟ all_others text h xs
 
-if_passes : {X : Type 0} (text : X → List ℕ) → ((x : X) → Passes (text x)) → (o : Option X) → Passes (text_if text o)
-if_passes text h None = nothing
-if_passes text h (Some x) = h x
+if_others : {X : Type 0} (text : X → List ℕ) → ((x : X) → Others (text x)) → (o : Option X) → Others (text_if text o)
+if_others text h None = no_others
+if_others text h (Some x) = h x
 
 -- ---- receivers
 
@@ -54,10 +54,11 @@ counts_is n =
     (literal (codes " strangers ") refl) n.strangers
     ⌢ worded_number (literal (codes " unframed ") refl) n.unframed ⌢ worded_number (literal (codes " bad ") refl) n.bad
 
-receiver_passes : (r : ℕ × ReceiverEnd) → Passes (receiver_text r)
-unfolding receiver_text labelled with_line
-receiver_passes r = one_line _
+pub receiver_others : (r : ℕ × ReceiverEnd) → Others (receiver_text r)
+unfolding receiver_text labelled
+receiver_others r = one_other _
     (worded_number (literal (codes "receiver ") refl) r.0 ⌢ counts_is r.1.counts ⌢ literal (codes " ") refl ⌢ ended_is r.1.ended)
+    (record { meter = refl; strangers = refl; step = refl; stranger = refl })
 
 -- ---- a meter
 
@@ -65,19 +66,19 @@ mode_is : (mode : Mode) → IsWithout 10 (mode_text mode)
 mode_is Five = literal (codes "5") refl
 mode_is Seven = literal (codes "7") refl
 
-commission_is : (a : Address) (mode : Mode) → IsWithout 10 (commission_text a mode)
+pub commission_is : (a : Address) (mode : Mode) → IsWithout 10 (commission_text a mode)
 unfolding commission_text
 commission_is a mode =
     worded_bytes (literal (codes "meter ") refl) (bytes_of a) ⌢ literal (codes " ") refl ⌢ letters a ⌢ literal
     (codes " mode ") refl ⌢ mode_is mode
 
 -- a meter's line without its newline
-abbrev numbers_front : Option ℕ → ℕ → ℕ → ℕ → List ℕ
+abbrev pub numbers_front : Option ℕ → ℕ → ℕ → ℕ → List ℕ
 numbers_front last down steps kept =
     codes " last " ++ optional_text last ++ labelled (codes " down ") down ++ labelled (codes " steps ") steps ++ labelled
     (codes " readings ") kept
 
-numbers_is : (last : Option ℕ) (down steps kept : ℕ) → IsWithout 10 (numbers_front last down steps kept)
+pub numbers_is : (last : Option ℕ) (down steps kept : ℕ) → IsWithout 10 (numbers_front last down steps kept)
 numbers_is last down steps kept =
     literal (codes " last ") refl ⌢ number_or_dash last ⌢ worded_number (literal (codes " down ") refl) down ⌢ worded_number
     (literal (codes " steps ") refl) steps
@@ -100,19 +101,24 @@ steps_tell : (kept : List Reading) (journal : List Entry) → AllByRecursion IsC
 steps_tell kept [] small = nothing
 steps_tell kept (e ∷ later) small = step_tells (slice_get kept 0) e small.0 ⨾ steps_tell (readings_after e.outcome kept) later small.1
 
-last_passes : (kept : List Reading) → Passes (last_text kept)
+last_others : (kept : List Reading) → Others (last_text kept)
 unfolding last_text
-last_passes kept = if_passes (λ r. records_text r.payload) (λ r. records_pass r.payload) (slice_get kept (length kept - 1))
+last_others kept = if_others (λ r. records_text r.payload) (λ r. records_others r.payload) (slice_get kept (length kept - 1))
 
-pending_passes : (c : Command) → Passes (pending_text c)
-unfolding pending_text labelled_two with_line
-pending_passes c = one_line _ (worded_two (literal (codes "pending ") refl) c.id c.tries)
+pending_others : (c : Command) → Others (pending_text c)
+unfolding pending_text labelled_two
+pending_others c = one_other _ (worded_two (literal (codes "pending ") refl) c.id c.tries) (record { meter = refl; strangers = refl; step = refl; stranger = refl })
+
+-- what stands behind a journal's steps
+pub behind_steps : (kept : List Reading) (commands : List Command) → Others (last_text kept ++ flat_map pending_text commands)
+behind_steps kept commands = last_others kept ⨟ all_others pending_text pending_others commands
 
 journal_tells : (kept : List Reading) (journal : List Entry) (commands : List Command)
     → AllByRecursion IsCounted (map place_of_step journal)
     → Tells (journal_text kept journal commands) (with_steps (map place_of_step journal))
 unfolding journal_text
-journal_tells kept journal commands small = steps_tell kept journal small ⨾ last_passes kept ⨾ all_pass pending_text pending_passes commands
+journal_tells kept journal commands small =
+    steps_tell kept journal small ⨾ others_pass (last_others kept) ⨾ others_pass (all_others pending_text pending_others commands)
 
 meter_tells : (b : SlotView) → AllByRecursion IsCounted (order_of b) → Tells (meter_text b) (λ t. meter_heading (with_steps (order_of b) t))
 unfolding meter_text
@@ -155,24 +161,27 @@ all_strangers_tell : (heard : List Heard) → AllByRecursion IsCounted (map plac
 all_strangers_tell [] small = nothing
 all_strangers_tell (h ∷ heard) small = stranger_tells h small.0 ⨾ all_strangers_tell heard small.1
 
-ring_passes : (a : Address) → Passes (ring_text a)
-unfolding ring_text labelled_bytes with_line
-ring_passes a = one_line _ (worded_bytes (literal (codes "ring ") refl) (bytes_of a))
+ring_others : (a : Address) → Others (ring_text a)
+unfolding ring_text labelled_bytes
+ring_others a = one_other _ (worded_bytes (literal (codes "ring ") refl) (bytes_of a)) (record { meter = refl; strangers = refl; step = refl; stranger = refl })
+
+pub rings_others : (heard : List Heard) → Others (flat_map ring_text (ring_of heard))
+rings_others heard = all_others ring_text ring_others (ring_of heard)
 
 strangers_tell : (heard : List Heard) → AllByRecursion IsCounted (map place_of_stranger heard)
     → Tells (strangers_text heard) (λ t. strangers_heading (with_steps (map place_of_stranger heard) t))
 unfolding strangers_text
-strangers_tell heard small = strangers_line (length heard) ⨾ all_strangers_tell heard small ⨾ all_pass ring_text ring_passes (ring_of heard)
+strangers_tell heard small = strangers_line (length heard) ⨾ all_strangers_tell heard small ⨾ others_pass (rings_others heard)
 
 -- ---- the report
 
-first_passes : Passes (codes "wmbus-report 1\n")
-unfolding with_line
-first_passes = one_line (codes "wmbus-report 1") (literal (codes "wmbus-report 1") refl)
+pub head_others : (ends : List ReceiverEnd) → Others (codes "wmbus-report 1\n" ++ flat_map receiver_text (enumerate_from 1 ends))
+head_others ends =
+    one_other (codes "wmbus-report 1") (literal (codes "wmbus-report 1") refl) (record { meter = refl; strangers = refl; step = refl; stranger = refl })
+    ⨟ all_others receiver_text receiver_others (enumerate_from 1 ends)
 
-end_passes : Passes (codes "end\n")
-unfolding with_line
-end_passes = one_line (codes "end") (literal (codes "end") refl)
+pub end_others : Others (codes "end\n")
+end_others = one_other (codes "end") (literal (codes "end") refl) (record { meter = refl; strangers = refl; step = refl; stranger = refl })
 
 abbrev no_lines : Told
 no_lines = record { above = []; meters = []; strangers = [] }
@@ -186,8 +195,7 @@ report_tells : (ends : List ReceiverEnd) (slots : List SlotView) (heard : List H
     → Tells (report_text ends slots heard) (λ t. with_meters slots (strangers_heading (with_steps (map place_of_stranger heard) t)))
 unfolding report_text
 report_tells ends slots heard small_steps small_heard =
-    first_passes ⨾ all_pass receiver_text receiver_passes
-    (enumerate_from 1 ends) ⨾ meters_tell slots small_steps ⨾ strangers_tell heard small_heard ⨾ end_passes
+    others_pass (head_others ends) ⨾ meters_tell slots small_steps ⨾ strangers_tell heard small_heard ⨾ others_pass end_others
 
 pub report_orders : (ends : List ReceiverEnd) (slots : List SlotView) (heard : List Heard)
     → All (λ order. All IsCounted order) (map order_of slots) → All IsCounted (map place_of_stranger heard)

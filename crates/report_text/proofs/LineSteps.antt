@@ -33,17 +33,17 @@ pair_of_decimals word n m more small_n small_m =
     ∙ same_pair _ _ n m (digits_value-decimal own n (omega arith)) (digits_value-decimal own m (omega arith))
 
 -- the pieces of such a line, bracketed to the right
-behind_word : (word a b : List ℕ) → word ++ codes " " ++ a ++ codes " " ++ b ≡ word ++ 32 ∷ (a ++ 32 ∷ b)
+pub behind_word : (word a b : List ℕ) → word ++ codes " " ++ a ++ codes " " ++ b ≡ word ++ 32 ∷ (a ++ 32 ∷ b)
 behind_word word a b =
     append_assoc (word ++ codes " " ++ a) (codes " ") b ∙ append_assoc (word ++ codes " ") a (32 ∷ b)
     ∙ append_assoc word (codes " ") (a ++ 32 ∷ b)
 
-behind_two : (word a b o : List ℕ) → word ++ codes " " ++ a ++ codes " " ++ b ++ codes " " ++ o ≡ word ++ 32 ∷ (a ++ 32 ∷ (b ++ 32 ∷ o))
+pub behind_two : (word a b o : List ℕ) → word ++ codes " " ++ a ++ codes " " ++ b ++ codes " " ++ o ≡ word ++ 32 ∷ (a ++ 32 ∷ (b ++ 32 ∷ o))
 behind_two word a b o =
     append_assoc (word ++ codes " " ++ a ++ codes " " ++ b) (codes " ") o
     ∙ append_assoc (word ++ codes " " ++ a ++ codes " ") b (32 ∷ o) ∙ behind_word word a (b ++ 32 ∷ o)
 
-fields_of_two : (word : List ℕ) (n m : ℕ) → IsWithout 32 word
+pub fields_of_two : (word : List ℕ) (n m : ℕ) → IsWithout 32 word
     → fields_of (word ++ 32 ∷ (decimal n ++ 32 ∷ decimal m)) ≡ word ∷ decimal n ∷ decimal m ∷ []
 fields_of_two word n m h =
     cut_first 32 word (decimal n ++ 32 ∷ decimal m) h.passed
@@ -51,7 +51,7 @@ fields_of_two word n m h =
     (cut_first 32 (decimal n) (decimal m) (number n (omega arith)).passed
     ∙ ap (λ fields. decimal n ∷ fields) (cut_last 32 (decimal m) (number m (omega arith)).passed))
 
-fields_of_more : (word : List ℕ) (n m : ℕ) (o : List ℕ) → IsWithout 32 word
+pub fields_of_more : (word : List ℕ) (n m : ℕ) (o : List ℕ) → IsWithout 32 word
     → fields_of (word ++ 32 ∷ (decimal n ++ 32 ∷ (decimal m ++ 32 ∷ o))) ≡ word ∷ decimal n ∷ decimal m ∷ fields_of o
 fields_of_more word n m o h =
     cut_first 32 word (decimal n ++ 32 ∷ (decimal m ++ 32 ∷ o)) h.passed

@@ -113,6 +113,10 @@ unfoldable pub strangers_text : List Heard → List ℕ
 strangers_text heard =
     labelled (codes "strangers ") (length heard) ++ codes "\n" ++ flat_map stranger_text heard ++ flat_map ring_text (ring_of heard)
 
+-- the first lines of a report: its head, and its receivers, which are numbered from 1
+unfoldable pub head_text : List ReceiverEnd → List ℕ
+head_text ends = codes "wmbus-report 1\n" ++ flat_map receiver_text (enumerate_from 1 ends)
+
 -- a report: its receivers, which are numbered from 1, the text of its meters, and its strangers
 abbrev pub report_around : List ReceiverEnd → List ℕ → List Heard → List ℕ
 report_around ends meters heard =

@@ -14,7 +14,7 @@ pub use laws::{json_lists_the_report, orders_are_told};
 pub use lent::{ReceiverEnd, Session};
 pub use parts::{MeterPart, meter_parts, report_of_parts};
 pub use readings::readings_json;
-pub use writing::report;
+pub use writing::{put_end, put_head, put_meter, put_strangers, report};
 
 #[cfg(test)]
 mod tests;

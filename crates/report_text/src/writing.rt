@@ -1,5 +1,5 @@
 //! The text of the report.
-ghost use Rattle.std.specs.Prelude.{◌≡◌, ◌++◌, ◌≤◌, IsTrue, OnOk, OnErr, option_copied};
+ghost use Rattle.std.specs.Prelude.{◌≡◌, ◌++◌, ◌≤◌, codes, IsTrue, OnOk, OnErr, option_copied};
 ghost use Rattle.std.specs.List.{flat_map, enumerate_from};
 ghost use Rattle.outer_io.specs.Bytes.{AppendsFront};
 ghost use Rattle.outer_io.specs.Faults.{Rose};
@@ -10,7 +10,7 @@ ghost use Rattle.paper.specs.Pieces.{text_if};
 ghost use Rattle.report_text.specs.Report.{ended_text, counts_text, receiver_text};
 ghost use Rattle.report_text.specs.Report.{mode_text, commission_text, numbers_text, meter_text};
 ghost use Rattle.report_text.specs.Report.{step_text, readings_after, steps_text, last_text, pending_text, journal_text};
-ghost use Rattle.report_text.specs.Report.{stranger_text, ring_text, strangers_text, report_around, report_text};
+ghost use Rattle.report_text.specs.Report.{stranger_text, ring_text, strangers_text, head_text, report_around, report_text};
 
 use crate::lent::{ReceiverEnd, Session};
 use crate::outcomes::put_outcome;
@@ -194,8 +194,9 @@ fn put_numbers<P: Paper>(paper: &mut P, last: Option<u32>, down: u32, steps: usi
     put_text(paper, "\n");
 }
 
+/// Puts what a report says of a meter: its line, its journal, the records of its last reading, and its waiting commands.
 #[tactic(auto, unfolding(crate::specs::Report::meter_text), using(paper::proofs::Calls::three_make))]
-pub(crate) fn put_meter<P: Paper>(paper: &mut P, slot: &SlotBook)
+pub fn put_meter<P: Paper>(paper: &mut P, slot: &SlotBook)
     ensures { Puts P.takes paper.old (meter_text slot.now) paper.new }
 {
     let now = slot.commission();
@@ -264,8 +265,9 @@ fn put_ring<P: Paper>(paper: &mut P, strangers: &Strangers)
     }
 }
 
+/// Puts what a report says of the strangers: how many of their lines were heard, each of these, and the ring of addresses.
 #[tactic(auto, unfolding(crate::specs::Report::strangers_text), using(paper::proofs::Calls::four_make))]
-fn put_strangers<P: Paper>(paper: &mut P, strangers: &Strangers)
+pub fn put_strangers<P: Paper>(paper: &mut P, strangers: &Strangers)
     ensures { Puts P.takes paper.old (strangers_text strangers.now) paper.new }
 {
     let heard = strangers.heard();
@@ -275,8 +277,24 @@ fn put_strangers<P: Paper>(paper: &mut P, strangers: &Strangers)
     put_ring(paper, strangers);
 }
 
+/// Puts the first lines of a report: its head, and a line for each receiver, in their order.
+#[tactic(auto, unfolding(crate::specs::Report::head_text), using(paper::proofs::Calls::two_make))]
+pub fn put_head<P: Paper>(paper: &mut P, ends: &[ReceiverEnd])
+    ensures { Puts P.takes paper.old (head_text ends.now) paper.new }
+{
+    put_text(paper, "wmbus-report 1\n");
+    put_receivers(paper, ends);
+}
+
+/// Puts the last line of a report.
+pub fn put_end<P: Paper>(paper: &mut P)
+    ensures { Puts P.takes paper.old (codes "end\n") paper.new }
+{
+    put_text(paper, "end\n");
+}
+
 // Puts a report around what has the text of its meters.
-#[tactic(auto, using(paper::proofs::Calls::five_make))]
+#[tactic(auto, unfolding(crate::specs::Report::head_text), using(paper::proofs::Calls::four_make))]
 pub(crate) fn put_around<P: Paper, M: Printed>(
     paper: &mut P,
     ends: &[ReceiverEnd],
@@ -285,11 +303,10 @@ pub(crate) fn put_around<P: Paper, M: Printed>(
 )
     ensures { Puts P.takes paper.old (report_around ends.now (M.text meters.now) strangers.now) paper.new }
 {
-    put_text(paper, "wmbus-report 1\n");
-    put_receivers(paper, ends);
+    put_head(paper, ends);
     meters.print(paper);
     put_strangers(paper, strangers);
-    put_text(paper, "end\n");
+    put_end(paper);
 }
 
 // The slots of a report.

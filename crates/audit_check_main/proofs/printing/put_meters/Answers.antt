@@ -1,14 +1,16 @@
-use Rattle.std.proofs.Common.{◌≡◌, ◌+◌, ◌∙◌, ℕ, List, [], length, take, map, get_or, sym, subst, ap, arith}
-use Rattle.meter_address.specs.declared.address.Address.{Address}
+use Rattle.std.proofs.Common.{◌≡◌, ◌+◌, ◌∙◌, ℕ, List, [], length, map, get_or, sym, subst, arith}
 use Rattle.meter_address.specs.Commission.{Commissioned}
 use Rattle.receivers.specs.Orders.{IsOrderOf, IsOrderedSlot}
 use Rattle.audit_check_main.specs.Hearing.{tells}
-use Rattle.audit_check_main.specs.Stepping.{AreOrderedSlots}
-use Rattle.audit_check_main.proofs.Slots.{order_at, slots_more, order_there}
-use Rattle.audit_check_main.proofs.stepping.step_meters.Goals as goal
+use Rattle.audit_check_main.proofs.Prints.{no_meters, meters_more}
+use Rattle.audit_check_main.proofs.Slots.{order_at, order_there}
+use Rattle.audit_check_main.proofs.printing.put_meters.Goals as goal
+
+pub loop-list-init : goal.loop-list-init
+loop-list-init g c = no_meters g.P.Paper.takes c.args.own (map tells c.args.heard.now) c.args.lists.now _
 
 pub step_meter-requires : goal.step_meter-requires
-step_meter-requires c =
+step_meter-requires g c =
     let inside = c.loop-list-test.true in let few = c.requires.lists in
     let order =
     order_there c.args.lists.now c.loop-list.list c.pairs.result.now c.index-lists-list.result (omega arith)
@@ -20,15 +22,12 @@ step_meter-requires c =
     c.args.meters.now c.args.lists.now c.loop-list.list c.index-meters-list.result c.requires.right inside))
 
 pub loop-list-preserved : goal.loop-list-preserved
-loop-list-preserved c =
+loop-list-preserved g c =
     let inside = c.loop-list-test.true in let few = c.requires.lists in
     let order =
     order_there c.args.lists.now c.loop-list.list c.pairs.result.now c.index-lists-list.result (omega arith)
     c.pairs.ensures c.index-lists-list.is in
-    subst (AreOrderedSlots c.args.own (map tells c.args.heard.now) (take (c.loop-list.list + 1) c.args.meters.now) c.args.lists.now)
-    (sym c.in_ok-push.ensures.items)
-    (slots_more c.args.own (map tells c.args.heard.now)
-    c.args.meters.now c.loop-list.list c.index-meters-list.result c.args.lists.now c.loop-list.slots.items c.in_ok-step_meter.field-0
-    c.loop-list.invariant inside few c.index-meters-list.is
+    meters_more g.P.Paper.takes c.args.own (map tells c.args.heard.now) c.args.lists.now c.args.meters.now c.loop-list.list
+    c.index-meters-list.result _ _ _ c.in_ok-slot.slot c.loop-list.invariant inside few c.index-meters-list.is
     (subst (λ (o : List (ℕ × ℕ)). IsOrderedSlot c.args.own (map tells c.args.heard.now)
-    c.index-meters-list.result o c.in_ok-step_meter.field-0) order c.in_ok-step_meter.ensures))
+    c.index-meters-list.result o c.in_ok-slot.slot) order c.in_ok-slot.ensures) c.put_meter.ensures

@@ -1,0 +1,7 @@
+use Rattle.std.proofs.Common.{map, take}
+use Rattle.audit_check_main.specs.Hearing.{tells}
+use Rattle.audit_check_main.specs.Printing.{AreMetersPut}
+use Rattle.audit_check_main.proofs.printing.put_meters.Given as goal
+
+abbrev pub invariant-loop-list : goal.invariant-loop-list
+invariant-loop-list g l = AreMetersPut g.P.Paper.takes l.own (map tells l.heard) (take l.list l.meters) l.lists l.initial.paper l.paper
