@@ -9,17 +9,14 @@ use std::alloc::Global;
 use std::thread;
 use std::thread::Threads;
 
-// As many threads as there are processors, or one where that isn't known.
-fn thread_count<R: Threads>(rt: &R) -> usize
-    ensures { 0 < result }
-{
-    match thread::available_parallelism(rt) {
-        Ok(count) => count.get(),
-        Err(_) => 1,
-    }
-}
-
-fn make_each<R: Threads + Sync>(rt: &R, alloc: Global, parts: &mut Vec<MeterPart<'_>>)
+// Makes the parts in so many threads.
+fn make_each<R: Threads + Sync>(
+    rt: &R,
+    alloc: Global,
+    threads: usize,
+    parts: &mut Vec<MeterPart<'_>>,
+)
+    requires { 0 < threads }
     ensures as_many { length parts.new.items ≡ length parts.old.items }
     ensures each { (i : ℕ) (d : _) → i < length parts.old.items →
         slice_index_or parts.new.items i d ≡ slice_index_or parts.old.items i d }
@@ -27,23 +24,28 @@ fn make_each<R: Threads + Sync>(rt: &R, alloc: Global, parts: &mut Vec<MeterPart
     thread::for_each_mut(
         rt,
         parts.as_mut_slice(),
-        thread_count(rt),
+        threads,
         &|_, part| part.make(alloc),
     );
 }
 
-/// The slots' parts of the report, made ahead as far as there is memory: nothing where there is none for their list.
+/// The slots' parts of the report after some receivers, made ahead as far as there is memory: nothing where there is none for their list,
+/// nor after one receiver, whose report is written as fast from the slots. As many threads make them as receivers worked.
 pub(crate) fn parts_made<'s, R: Threads + Sync>(
     rt: &R,
     alloc: Global,
+    receivers: usize,
     slots: &'s [SlotBook],
 ) -> Option<Vec<MeterPart<'s>>>
     ensures { IfSome result (λ parts. parts.items ≡ map meter_text slots.now) }
 {
+    if receivers < 2 {
+        return None;
+    }
     let Ok(mut parts) = meter_parts(alloc, slots) else {
         return None;
     };
-    make_each(rt, alloc, &mut parts);
+    make_each(rt, alloc, receivers, &mut parts);
     Some(parts)
 }
 
@@ -51,17 +53,21 @@ fn renew(alloc: Global, own: Address, slot: &mut SlotBook) {
     *slot = SlotBook::new(alloc, own, slot.commission());
 }
 
-/// Lets slots go. Their journals are most of what a session holds.
+/// Lets slots go after some receivers, in as many threads as worked. Their journals are most of what a session holds.
 pub(crate) fn let_go<R: Threads + Sync>(
     rt: &R,
     alloc: Global,
     own: Address,
+    receivers: usize,
     mut slots: Vec<SlotBook>,
 ) {
+    if receivers < 2 {
+        return;
+    }
     thread::for_each_mut(
         rt,
         slots.as_mut_slice(),
-        thread_count(rt),
+        receivers,
         &|_, slot| renew(alloc, own, slot),
     );
 }

@@ -147,7 +147,7 @@ fn write_outputs<R: Threads + Sync, K: Sink>(
         slots: ready.collected.slots.as_slice(),
         strangers: &ready.collected.strangers,
     };
-    let parts = parts_made(rt, alloc, session.slots);
+    let parts = parts_made(rt, alloc, session.ends.len(), session.slots);
     Writes {
         next: paper::write(next, &ready.next),
         readings: write_all(readings, ready.readings.as_bytes()),
@@ -196,6 +196,12 @@ pub fn collect_session<R: Threads + Wait + Sync, S: Source + Send + Drop, K: Sin
     };
     let stop = first_stop(0, ready.ends.as_slice());
     let writes = write_outputs(rt, alloc, &ready, next, readings, report);
-    let_go(rt, alloc, roster.own(), ready.collected.slots);
+    let_go(
+        rt,
+        alloc,
+        roster.own(),
+        receivers.len(),
+        ready.collected.slots,
+    );
     status_after(stop, writes)
 }
