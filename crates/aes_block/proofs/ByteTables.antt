@@ -36,14 +36,17 @@ unfolding holds_below
 substitutes_are_bytes = refl
 
 pub substitute-lt : (b : ℕ) → b < 256 → substitute b < 256
-substitute-lt b h = rw (← substituted_at b h) (ltb-true _ _ (at_each_below 256 (λ k. ltb (get_or SUBSTITUTION k 0) 256) substitutes_are_bytes b h))
+substitute-lt b h =
+    rw (← substituted_at b h) (ltb-true _ _ (at_each_below 256 (λ k. ltb (get_or SUBSTITUTION k 0) 256) substitutes_are_bytes b h))
 
 inverse_substitutes_are_bytes : holds_below 256 (λ k. ltb (get_or INVERSE_SUBSTITUTION k 0) 256) ≡ true
 unfolding holds_below
 inverse_substitutes_are_bytes = refl
 
 pub inverse_substitute-lt : (b : ℕ) → b < 256 → inverse_substitute b < 256
-inverse_substitute-lt b h = rw (← inverse_substituted_at b h) (ltb-true _ _ (at_each_below 256 (λ k. ltb (get_or INVERSE_SUBSTITUTION k 0) 256) inverse_substitutes_are_bytes b h))
+inverse_substitute-lt b h =
+    rw (← inverse_substituted_at b h)
+    (ltb-true _ _ (at_each_below 256 (λ k. ltb (get_or INVERSE_SUBSTITUTION k 0) 256) inverse_substitutes_are_bytes b h))
 
 there_and_back : holds_below 256 (λ k. get_or INVERSE_SUBSTITUTION (get_or SUBSTITUTION k 0) 0 == k) ≡ true
 unfolding holds_below

@@ -37,19 +37,34 @@ pub IsBlock-sub_bytes : (s : List ℕ) → IsBlock s → IsBlock (sub_bytes s)
 IsBlock-sub_bytes s h = record { count = length-map s substitute ∙ h.count; bytes = AreBytes-map substitute substitute-lt s h.bytes }
 
 pub IsBlock-inverse_sub_bytes : (s : List ℕ) → IsBlock s → IsBlock (inverse_sub_bytes s)
-IsBlock-inverse_sub_bytes s h = record { count = length-map s inverse_substitute ∙ h.count; bytes = AreBytes-map inverse_substitute inverse_substitute-lt s h.bytes }
+IsBlock-inverse_sub_bytes s h =
+    record { count = length-map s inverse_substitute ∙ h.count; bytes = AreBytes-map inverse_substitute inverse_substitute-lt s h.bytes }
 
 pub IsBlock-shift_rows : (s : List ℕ) → IsBlock s → IsBlock (shift_rows s)
-IsBlock-shift_rows s h = record { count = refl; bytes = AreBytes-made (λ i. element s (i % 4) (i / 4 + i % 4)) (λ i. byte_at s h.bytes _) (range_with_len 0 16) }
+IsBlock-shift_rows s h =
+    record { count = refl; bytes = AreBytes-made (λ i. element s (i % 4) (i / 4 + i % 4)) (λ i. byte_at s h.bytes _) (range_with_len 0 16) }
 
 pub IsBlock-inverse_shift_rows : (s : List ℕ) → IsBlock s → IsBlock (inverse_shift_rows s)
-IsBlock-inverse_shift_rows s h = record { count = refl; bytes = AreBytes-made (λ i. element s (i % 4) (i / 4 + 4 - i % 4)) (λ i. byte_at s h.bytes _) (range_with_len 0 16) }
+IsBlock-inverse_shift_rows s h =
+    record {
+      count = refl;
+      bytes = AreBytes-made (λ i. element s (i % 4) (i / 4 + 4 - i % 4)) (λ i. byte_at s h.bytes _)
+          (range_with_len 0 16);
+    }
 
 pub IsBlock-mix_columns : (s : List ℕ) → IsBlock s → IsBlock (mix_columns s)
-IsBlock-mix_columns s h = record { count = length-mix mix_polynomial 4 s h.count; bytes = AreBytes-mix mix_polynomial 4 s h.count AreBytes-mix_polynomial h.bytes }
+IsBlock-mix_columns s h =
+    record {
+      count = length-mix mix_polynomial 4 s h.count;
+      bytes = AreBytes-mix mix_polynomial 4 s h.count AreBytes-mix_polynomial h.bytes;
+    }
 
 pub IsBlock-inverse_mix_columns : (s : List ℕ) → IsBlock s → IsBlock (inverse_mix_columns s)
-IsBlock-inverse_mix_columns s h = record { count = length-mix inverse_mix_polynomial 4 s h.count; bytes = AreBytes-mix inverse_mix_polynomial 4 s h.count AreBytes-inverse_mix_polynomial h.bytes }
+IsBlock-inverse_mix_columns s h =
+    record {
+      count = length-mix inverse_mix_polynomial 4 s h.count;
+      bytes = AreBytes-mix inverse_mix_polynomial 4 s h.count AreBytes-inverse_mix_polynomial h.bytes;
+    }
 
 -- ---- what undoes what
 map-undone : (f g : ℕ → ℕ) → ((x : ℕ) → x < 256 → f (g x) ≡ x) → (xs : List ℕ) → AreBytes xs → map f (map g xs) ≡ xs
@@ -79,8 +94,11 @@ IsWord-turned n w h =
     let P : ℕ → Type 0 = λ x. x < 256 in
     at_four (λ w. AreBytes w → IsWord (turned_word n w))
     (λ a b c d hs.
-    let at : (i : ℕ) → get_or (a ∷ b ∷ c ∷ d ∷ []) i 0 < 256 = byte_at (a ∷ b ∷ c ∷ d ∷ []) hs in
-    (refl, AreBytes-4 _ _ _ _ (xor_of_8 _ _ (substitute-lt b (at 1)) (power_of_x-lt n)) (substitute-lt c (at 2)) (substitute-lt d (at 3)) (substitute-lt a (at 0))))
+    let at : (i : ℕ) → get_or (a ∷ b ∷ c ∷ d ∷ []) i 0 < 256 = byte_at (a ∷ b ∷ c ∷ d ∷ []) hs in (
+      refl,
+      AreBytes-4 _ _ _ _ (xor_of_8 _ _ (substitute-lt b (at 1)) (power_of_x-lt n)) (substitute-lt c (at 2)) (substitute-lt d (at 3))
+          (substitute-lt a (at 0)),
+    ))
     w h.0 h.1
 
 IsWord-add : (v w : List ℕ) → IsWord v → IsWord w → IsWord (add v w)
@@ -130,7 +148,8 @@ module _ (key : List ℕ) (is_key : IsBlock key) where
   unfolding inverse_state_after
   IsBlock-inverse_state_after zero s h = IsBlock-add s _ h (key_at 10)
   IsBlock-inverse_state_after (suc n) s h =
-      IsBlock-inverse_mix_columns _ (IsBlock-add _ _ (IsBlock-inverse_sub_bytes _ (IsBlock-inverse_shift_rows _ (IsBlock-inverse_state_after n s h))) (key_at (9 - n)))
+      IsBlock-inverse_mix_columns _
+      (IsBlock-add _ _ (IsBlock-inverse_sub_bytes _ (IsBlock-inverse_shift_rows _ (IsBlock-inverse_state_after n s h))) (key_at (9 - n)))
 
   pub IsBlock-encrypt : (s : List ℕ) → IsBlock s → IsBlock (encrypt key s)
   unfolding encrypt
@@ -138,7 +157,8 @@ module _ (key : List ℕ) (is_key : IsBlock key) where
 
   pub IsBlock-decrypt : (s : List ℕ) → IsBlock s → IsBlock (decrypt key s)
   unfolding decrypt
-  IsBlock-decrypt s h = IsBlock-add _ _ (IsBlock-inverse_sub_bytes _ (IsBlock-inverse_shift_rows _ (IsBlock-inverse_state_after 9 s h))) (key_at 0)
+  IsBlock-decrypt s h =
+      IsBlock-add _ _ (IsBlock-inverse_sub_bytes _ (IsBlock-inverse_shift_rows _ (IsBlock-inverse_state_after 9 s h))) (key_at 0)
 
   inner_undone : (s : List ℕ) → IsBlock s → inverse_sub_bytes (inverse_shift_rows (shift_rows (sub_bytes s))) ≡ s
   inner_undone s h =
@@ -147,7 +167,8 @@ module _ (key : List ℕ) (is_key : IsBlock key) where
 
   outer_undone : (s : List ℕ) → IsBlock s → shift_rows (sub_bytes (inverse_sub_bytes (inverse_shift_rows s))) ≡ s
   outer_undone s h =
-      ap shift_rows (map-undone substitute inverse_substitute substitute-inverse_substitute (inverse_shift_rows s) (IsBlock-inverse_shift_rows s h).bytes)
+      ap shift_rows (map-undone substitute inverse_substitute substitute-inverse_substitute (inverse_shift_rows s)
+      (IsBlock-inverse_shift_rows s h).bytes)
       ∙ shift_rows-inverse_shift_rows s h.count
 
   module _ (s : List ℕ) (is_block : IsBlock s) where
@@ -164,7 +185,8 @@ module _ (key : List ℕ) (is_key : IsBlock key) where
         let up : 9 - n ≡ suc j = omega arith in
         let inner = IsBlock-shift_rows _ (IsBlock-sub_bytes _ (after j)) in
         rw (taken_back n (suc j) (omega arith), inner_undone (state_after (suc j) key s) (after (suc j)), up)
-        (ap inverse_mix_columns (added_twice (mix_columns (shift_rows (sub_bytes (state_after j key s)))) (suc j) (IsBlock-mix_columns _ inner))
+        (ap inverse_mix_columns (added_twice (mix_columns (shift_rows (sub_bytes (state_after j key s)))) (suc j)
+        (IsBlock-mix_columns _ inner))
         ∙ inverse_mix-mix 4 (shift_rows (sub_bytes (state_after j key s))) inner.count inner.bytes)
 
     decrypt-encrypt : decrypt key (encrypt key s) ≡ s
@@ -177,16 +199,23 @@ module _ (key : List ℕ) (is_key : IsBlock key) where
     before n = IsBlock-inverse_state_after n s is_block
 
     -- j rounds of what was taken back leave what n rounds taken back leave
-    made_again : (n j : ℕ) → n + j ≡ 9 → state_after j key (decrypt key s) ≡ inverse_sub_bytes (inverse_shift_rows (inverse_state_after n key s))
+    made_again : (n j : ℕ) → n + j ≡ 9
+        → state_after j key (decrypt key s) ≡ inverse_sub_bytes (inverse_shift_rows (inverse_state_after n key s))
     unfolding inverse_state_after state_after decrypt
     made_again n zero e =
         let nine : n ≡ 9 = omega arith in
-        rw nine (added_twice (inverse_sub_bytes (inverse_shift_rows (inverse_state_after 9 key s))) 0 (IsBlock-inverse_sub_bytes _ (IsBlock-inverse_shift_rows _ (before 9))))
+        rw nine (added_twice (inverse_sub_bytes (inverse_shift_rows (inverse_state_after 9 key s))) 0
+        (IsBlock-inverse_sub_bytes _ (IsBlock-inverse_shift_rows _ (before 9))))
     made_again n (suc j) e =
         let up : 9 - n ≡ suc j = omega arith in
         let inner = IsBlock-inverse_sub_bytes _ (IsBlock-inverse_shift_rows _ (before n)) in
         let sum = IsBlock-add _ _ inner (key_at (9 - n)) in
-        rw (made_again (suc n) j (omega arith), outer_undone (inverse_state_after (suc n) key s) (before (suc n)), mix-inverse_mix 4 _ sum.count sum.bytes, up)
+        rw (
+          made_again (suc n) j (omega arith),
+          outer_undone (inverse_state_after (suc n) key s) (before (suc n)),
+          mix-inverse_mix 4 _ sum.count sum.bytes,
+          up,
+        )
         (added_twice _ (suc j) inner)
 
     encrypt-decrypt : encrypt key (decrypt key s) ≡ s

@@ -65,10 +65,13 @@ bytes_at b s h e (suc (suc (suc (suc c)))) lt = absurd (omega arith)
 
 -- the words of a mixed block
 pub words_of-mix : (m s : List ℕ) → length s ≡ 16 →
-    words_of (mix m s) ≡ word (column_product m (column s 0)) ∷ word (column_product m (column s 1)) ∷ word (column_product m (column s 2)) ∷ word (column_product m (column s 3)) ∷ []
+    words_of (mix m s) ≡ word (column_product m (column s 0)) ∷ word (column_product m (column s 1)) ∷ word (column_product m (column s 2))
+    ∷ word (column_product m (column s 3)) ∷ []
 words_of-mix m s h =
     let f : (c : ℕ) → length (column_product m (column s c)) ≡ 4 = λ c. length-column_product m (column s c) refl in
-    ap words_of (sym (mixed_block m s (column_product m (column s 0)) (column_product m (column s 1)) (column_product m (column s 2)) (column_product m (column s 3)) h refl refl refl refl))
+    ap words_of
+    (sym (mixed_block m s (column_product m (column s 0)) (column_product m (column s 1)) (column_product m (column s 2))
+    (column_product m (column s 3)) h refl refl refl refl))
     ∙ (λ i. word (four (column_product m (column s 0)) (f 0) i) ∷ word (four (column_product m (column s 1)) (f 1) i)
     ∷ word (four (column_product m (column s 2)) (f 2) i) ∷ word (four (column_product m (column s 3)) (f 3) i) ∷ [])
 
@@ -97,7 +100,8 @@ IsColumn-product m x hm hx = record {
 }
 
 pub word_of_mixed : (m : List ℕ) (a b c d : ℕ) → AreBytes m → a < 256 → b < 256 → c < 256 → d < 256 →
-    bit_xor (bit_xor (bit_xor (word (column_product m (one_byte 0 a))) (word (column_product m (one_byte 1 b)))) (word (column_product m (one_byte 2 c)))) (word (column_product m (one_byte 3 d)))
+    bit_xor (bit_xor (bit_xor (word (column_product m (one_byte 0 a))) (word (column_product m (one_byte 1 b))))
+    (word (column_product m (one_byte 2 c)))) (word (column_product m (one_byte 3 d)))
     ≡ word (column_product m (a ∷ b ∷ c ∷ d ∷ []))
 word_of_mixed m a b c d hm ha hb hc hd =
     let z : 0 < 256 = omega arith in
@@ -111,10 +115,12 @@ word_of_mixed m a b c d hm ha hb hc hd =
     let hD : IsColumn D = record { count = refl; bytes = AreBytes-4 0 0 0 d z z z hd } in
     let W : List ℕ → ℕ = λ x. word (column_product m x) in
     let sum : (x y : List ℕ) → IsColumn x → IsColumn y → W (add x y) ≡ bit_xor (W x) (W y) =
-    λ x y hx hy. ap word (column_product_of_sum m x y hx.count hy.count) ∙ word-add (column_product m x) (column_product m y) (IsColumn-product m x hm hx) (IsColumn-product m y hm hy) in
+    λ x y hx hy. ap word (column_product_of_sum m x y hx.count hy.count)
+    ∙ word-add (column_product m x) (column_product m y) (IsColumn-product m x hm hx) (IsColumn-product m y hm hy) in
     let plus : (x y : List ℕ) → IsColumn x → IsColumn y → IsColumn (add x y) =
     λ x y hx hy. record { count = omega (arith, length-add x y, hx.count, hy.count); bytes = AreBytes-add x y hx.bytes hy.bytes } in
-    let split : add (add (add A B) C) D ≡ a ∷ b ∷ c ∷ d ∷ [] = rw (xor_zero_r a, xor_zero_r a, xor_zero_r a, xor_zero_r b, xor_zero_r b, xor_zero_r c) refl in
+    let split : add (add (add A B) C) D ≡ a ∷ b ∷ c ∷ d ∷ [] =
+    rw (xor_zero_r a, xor_zero_r a, xor_zero_r a, xor_zero_r b, xor_zero_r b, xor_zero_r c) refl in
     sym (
     ap W (sym split)
     ∙ sum (add (add A B) C) D (plus (add A B) C (plus A B hA hB) hC) hD
@@ -143,12 +149,15 @@ inverse_mixed_sum x y z w hx hy hz hw =
     word_of_mixed inverse_mix_polynomial x y z w AreBytes-inverse_mix_polynomial hx hy hz hw
 
 pub inverse_mixed_substitute_sum : (x y z w : ℕ) → x < 256 → y < 256 → z < 256 → w < 256 →
-    bit_xor (bit_xor (bit_xor (inverse_mixed_substitute 0 x) (inverse_mixed_substitute 1 y)) (inverse_mixed_substitute 2 z)) (inverse_mixed_substitute 3 w)
-    ≡ word (column_product inverse_mix_polynomial (inverse_substitute x ∷ inverse_substitute y ∷ inverse_substitute z ∷ inverse_substitute w ∷ []))
+    bit_xor (bit_xor (bit_xor (inverse_mixed_substitute 0 x) (inverse_mixed_substitute 1 y)) (inverse_mixed_substitute 2 z))
+    (inverse_mixed_substitute 3 w)
+    ≡ word (column_product inverse_mix_polynomial (inverse_substitute x ∷ inverse_substitute y ∷ inverse_substitute z
+    ∷ inverse_substitute w ∷ []))
 unfolding inverse_mixed_substitute
 inverse_mixed_substitute_sum x y z w hx hy hz hw =
     word_of_mixed inverse_mix_polynomial (inverse_substitute x) (inverse_substitute y) (inverse_substitute z) (inverse_substitute w)
-    AreBytes-inverse_mix_polynomial (inverse_substitute-lt x hx) (inverse_substitute-lt y hy) (inverse_substitute-lt z hz) (inverse_substitute-lt w hw)
+    AreBytes-inverse_mix_polynomial (inverse_substitute-lt x hx) (inverse_substitute-lt y hy) (inverse_substitute-lt z hz)
+    (inverse_substitute-lt w hw)
 
 -- the words after a round, by the bytes of the words before it
 module _ (b s : List ℕ) (is_block : IsBlock b) (e : s ≡ words_of b) where
@@ -166,10 +175,14 @@ module _ (b s : List ℕ) (is_block : IsBlock b) (e : s ≡ words_of b) where
   literal = map (λ i. get_or b i 0) (range_with_len 0 16)
 
   pub forward_words :
-      word (column_product mix_polynomial (substitute (row (get_or s 0 0) 0) ∷ substitute (row (get_or s 1 0) 1) ∷ substitute (row (get_or s 2 0) 2) ∷ substitute (row (get_or s 3 0) 3) ∷ []))
-      ∷ word (column_product mix_polynomial (substitute (row (get_or s 1 0) 0) ∷ substitute (row (get_or s 2 0) 1) ∷ substitute (row (get_or s 3 0) 2) ∷ substitute (row (get_or s 0 0) 3) ∷ []))
-      ∷ word (column_product mix_polynomial (substitute (row (get_or s 2 0) 0) ∷ substitute (row (get_or s 3 0) 1) ∷ substitute (row (get_or s 0 0) 2) ∷ substitute (row (get_or s 1 0) 3) ∷ []))
-      ∷ word (column_product mix_polynomial (substitute (row (get_or s 3 0) 0) ∷ substitute (row (get_or s 0 0) 1) ∷ substitute (row (get_or s 1 0) 2) ∷ substitute (row (get_or s 2 0) 3) ∷ [])) ∷ []
+      word (column_product mix_polynomial (substitute (row (get_or s 0 0) 0) ∷ substitute (row (get_or s 1 0) 1)
+      ∷ substitute (row (get_or s 2 0) 2) ∷ substitute (row (get_or s 3 0) 3) ∷ []))
+      ∷ word (column_product mix_polynomial (substitute (row (get_or s 1 0) 0) ∷ substitute (row (get_or s 2 0) 1)
+      ∷ substitute (row (get_or s 3 0) 2) ∷ substitute (row (get_or s 0 0) 3) ∷ []))
+      ∷ word (column_product mix_polynomial (substitute (row (get_or s 2 0) 0) ∷ substitute (row (get_or s 3 0) 1)
+      ∷ substitute (row (get_or s 0 0) 2) ∷ substitute (row (get_or s 1 0) 3) ∷ []))
+      ∷ word (column_product mix_polynomial (substitute (row (get_or s 3 0) 0) ∷ substitute (row (get_or s 0 0) 1)
+      ∷ substitute (row (get_or s 1 0) 2) ∷ substitute (row (get_or s 2 0) 3) ∷ [])) ∷ []
       ≡ words_of (mix mix_polynomial (shift_rows (sub_bytes b)))
   unfolding literal
   forward_words =
@@ -178,29 +191,39 @@ module _ (b s : List ℕ) (is_block : IsBlock b) (e : s ≡ words_of b) where
       let r : 2 < 4 = omega arith in
       let t : 3 < 4 = omega arith in
       let W : List ℕ → ℕ = λ x. word (column_product mix_polynomial x) in
-      (λ n. W (rows substitute 0 1 2 3 p q r t n) ∷ W (rows substitute 1 2 3 0 q r t p n) ∷ W (rows substitute 2 3 0 1 r t p q n) ∷ W (rows substitute 3 0 1 2 t p q r n) ∷ [])
+      (λ n. W (rows substitute 0 1 2 3 p q r t n) ∷ W (rows substitute 1 2 3 0 q r t p n) ∷ W (rows substitute 2 3 0 1 r t p q n)
+      ∷ W (rows substitute 3 0 1 2 t p q r n) ∷ [])
       ∙ sym (words_of-mix mix_polynomial (shift_rows (sub_bytes literal)) refl)
       ∙ ap (λ x. words_of (mix mix_polynomial (shift_rows (sub_bytes x)))) (sym (sixteen b is_block.count))
 
   pub last_words :
-      word (substitute (row (get_or s 0 0) 0) ∷ substitute (row (get_or s 1 0) 1) ∷ substitute (row (get_or s 2 0) 2) ∷ substitute (row (get_or s 3 0) 3) ∷ [])
-      ∷ word (substitute (row (get_or s 1 0) 0) ∷ substitute (row (get_or s 2 0) 1) ∷ substitute (row (get_or s 3 0) 2) ∷ substitute (row (get_or s 0 0) 3) ∷ [])
-      ∷ word (substitute (row (get_or s 2 0) 0) ∷ substitute (row (get_or s 3 0) 1) ∷ substitute (row (get_or s 0 0) 2) ∷ substitute (row (get_or s 1 0) 3) ∷ [])
-      ∷ word (substitute (row (get_or s 3 0) 0) ∷ substitute (row (get_or s 0 0) 1) ∷ substitute (row (get_or s 1 0) 2) ∷ substitute (row (get_or s 2 0) 3) ∷ []) ∷ []
+      word (substitute (row (get_or s 0 0) 0) ∷ substitute (row (get_or s 1 0) 1) ∷ substitute (row (get_or s 2 0) 2)
+      ∷ substitute (row (get_or s 3 0) 3) ∷ [])
+      ∷ word (substitute (row (get_or s 1 0) 0) ∷ substitute (row (get_or s 2 0) 1) ∷ substitute (row (get_or s 3 0) 2)
+      ∷ substitute (row (get_or s 0 0) 3) ∷ [])
+      ∷ word (substitute (row (get_or s 2 0) 0) ∷ substitute (row (get_or s 3 0) 1) ∷ substitute (row (get_or s 0 0) 2)
+      ∷ substitute (row (get_or s 1 0) 3) ∷ [])
+      ∷ word (substitute (row (get_or s 3 0) 0) ∷ substitute (row (get_or s 0 0) 1) ∷ substitute (row (get_or s 1 0) 2)
+      ∷ substitute (row (get_or s 2 0) 3) ∷ []) ∷ []
       ≡ words_of (shift_rows (sub_bytes b))
   last_words =
       let p : 0 < 4 = omega arith in
       let q : 1 < 4 = omega arith in
       let r : 2 < 4 = omega arith in
       let t : 3 < 4 = omega arith in
-      (λ n. word (rows substitute 0 1 2 3 p q r t n) ∷ word (rows substitute 1 2 3 0 q r t p n) ∷ word (rows substitute 2 3 0 1 r t p q n) ∷ word (rows substitute 3 0 1 2 t p q r n) ∷ [])
+      (λ n. word (rows substitute 0 1 2 3 p q r t n) ∷ word (rows substitute 1 2 3 0 q r t p n) ∷ word (rows substitute 2 3 0 1 r t p q n)
+      ∷ word (rows substitute 3 0 1 2 t p q r n) ∷ [])
       ∙ ap (λ x. words_of (shift_rows (sub_bytes x))) (sym (sixteen b is_block.count))
 
   pub inverse_round_words :
-      word (inverse_substitute (row (get_or s 0 0) 0) ∷ inverse_substitute (row (get_or s 3 0) 1) ∷ inverse_substitute (row (get_or s 2 0) 2) ∷ inverse_substitute (row (get_or s 1 0) 3) ∷ [])
-      ∷ word (inverse_substitute (row (get_or s 1 0) 0) ∷ inverse_substitute (row (get_or s 0 0) 1) ∷ inverse_substitute (row (get_or s 3 0) 2) ∷ inverse_substitute (row (get_or s 2 0) 3) ∷ [])
-      ∷ word (inverse_substitute (row (get_or s 2 0) 0) ∷ inverse_substitute (row (get_or s 1 0) 1) ∷ inverse_substitute (row (get_or s 0 0) 2) ∷ inverse_substitute (row (get_or s 3 0) 3) ∷ [])
-      ∷ word (inverse_substitute (row (get_or s 3 0) 0) ∷ inverse_substitute (row (get_or s 2 0) 1) ∷ inverse_substitute (row (get_or s 1 0) 2) ∷ inverse_substitute (row (get_or s 0 0) 3) ∷ []) ∷ []
+      word (inverse_substitute (row (get_or s 0 0) 0) ∷ inverse_substitute (row (get_or s 3 0) 1)
+      ∷ inverse_substitute (row (get_or s 2 0) 2) ∷ inverse_substitute (row (get_or s 1 0) 3) ∷ [])
+      ∷ word (inverse_substitute (row (get_or s 1 0) 0) ∷ inverse_substitute (row (get_or s 0 0) 1)
+      ∷ inverse_substitute (row (get_or s 3 0) 2) ∷ inverse_substitute (row (get_or s 2 0) 3) ∷ [])
+      ∷ word (inverse_substitute (row (get_or s 2 0) 0) ∷ inverse_substitute (row (get_or s 1 0) 1)
+      ∷ inverse_substitute (row (get_or s 0 0) 2) ∷ inverse_substitute (row (get_or s 3 0) 3) ∷ [])
+      ∷ word (inverse_substitute (row (get_or s 3 0) 0) ∷ inverse_substitute (row (get_or s 2 0) 1)
+      ∷ inverse_substitute (row (get_or s 1 0) 2) ∷ inverse_substitute (row (get_or s 0 0) 3) ∷ []) ∷ []
       ≡ words_of (inverse_sub_bytes (inverse_shift_rows b))
   inverse_round_words =
       let p : 0 < 4 = omega arith in
@@ -208,14 +231,19 @@ module _ (b s : List ℕ) (is_block : IsBlock b) (e : s ≡ words_of b) where
       let r : 2 < 4 = omega arith in
       let t : 3 < 4 = omega arith in
       let f = inverse_substitute in
-      (λ n. word (rows inverse_substitute 0 3 2 1 p t r q n) ∷ word (rows inverse_substitute 1 0 3 2 q p t r n) ∷ word (rows inverse_substitute 2 1 0 3 r q p t n) ∷ word (rows inverse_substitute 3 2 1 0 t r q p n) ∷ [])
+      (λ n. word (rows inverse_substitute 0 3 2 1 p t r q n) ∷ word (rows inverse_substitute 1 0 3 2 q p t r n)
+      ∷ word (rows inverse_substitute 2 1 0 3 r q p t n) ∷ word (rows inverse_substitute 3 2 1 0 t r q p n) ∷ [])
       ∙ ap (λ x. words_of (inverse_sub_bytes (inverse_shift_rows x))) (sym (sixteen b is_block.count))
 
   pub backward_words :
-      word (column_product inverse_mix_polynomial (inverse_substitute (row (get_or s 0 0) 0) ∷ inverse_substitute (row (get_or s 3 0) 1) ∷ inverse_substitute (row (get_or s 2 0) 2) ∷ inverse_substitute (row (get_or s 1 0) 3) ∷ []))
-      ∷ word (column_product inverse_mix_polynomial (inverse_substitute (row (get_or s 1 0) 0) ∷ inverse_substitute (row (get_or s 0 0) 1) ∷ inverse_substitute (row (get_or s 3 0) 2) ∷ inverse_substitute (row (get_or s 2 0) 3) ∷ []))
-      ∷ word (column_product inverse_mix_polynomial (inverse_substitute (row (get_or s 2 0) 0) ∷ inverse_substitute (row (get_or s 1 0) 1) ∷ inverse_substitute (row (get_or s 0 0) 2) ∷ inverse_substitute (row (get_or s 3 0) 3) ∷ []))
-      ∷ word (column_product inverse_mix_polynomial (inverse_substitute (row (get_or s 3 0) 0) ∷ inverse_substitute (row (get_or s 2 0) 1) ∷ inverse_substitute (row (get_or s 1 0) 2) ∷ inverse_substitute (row (get_or s 0 0) 3) ∷ [])) ∷ []
+      word (column_product inverse_mix_polynomial (inverse_substitute (row (get_or s 0 0) 0) ∷ inverse_substitute (row (get_or s 3 0) 1)
+      ∷ inverse_substitute (row (get_or s 2 0) 2) ∷ inverse_substitute (row (get_or s 1 0) 3) ∷ []))
+      ∷ word (column_product inverse_mix_polynomial (inverse_substitute (row (get_or s 1 0) 0) ∷ inverse_substitute (row (get_or s 0 0) 1)
+      ∷ inverse_substitute (row (get_or s 3 0) 2) ∷ inverse_substitute (row (get_or s 2 0) 3) ∷ []))
+      ∷ word (column_product inverse_mix_polynomial (inverse_substitute (row (get_or s 2 0) 0) ∷ inverse_substitute (row (get_or s 1 0) 1)
+      ∷ inverse_substitute (row (get_or s 0 0) 2) ∷ inverse_substitute (row (get_or s 3 0) 3) ∷ []))
+      ∷ word (column_product inverse_mix_polynomial (inverse_substitute (row (get_or s 3 0) 0) ∷ inverse_substitute (row (get_or s 2 0) 1)
+      ∷ inverse_substitute (row (get_or s 1 0) 2) ∷ inverse_substitute (row (get_or s 0 0) 3) ∷ [])) ∷ []
       ≡ words_of (mix inverse_mix_polynomial (inverse_sub_bytes (inverse_shift_rows b)))
   unfolding literal
   backward_words =
@@ -224,15 +252,20 @@ module _ (b s : List ℕ) (is_block : IsBlock b) (e : s ≡ words_of b) where
       let r : 2 < 4 = omega arith in
       let t : 3 < 4 = omega arith in
       let W : List ℕ → ℕ = λ x. word (column_product inverse_mix_polynomial x) in
-      (λ n. W (rows inverse_substitute 0 3 2 1 p t r q n) ∷ W (rows inverse_substitute 1 0 3 2 q p t r n) ∷ W (rows inverse_substitute 2 1 0 3 r q p t n) ∷ W (rows inverse_substitute 3 2 1 0 t r q p n) ∷ [])
+      (λ n. W (rows inverse_substitute 0 3 2 1 p t r q n) ∷ W (rows inverse_substitute 1 0 3 2 q p t r n)
+      ∷ W (rows inverse_substitute 2 1 0 3 r q p t n) ∷ W (rows inverse_substitute 3 2 1 0 t r q p n) ∷ [])
       ∙ sym (words_of-mix inverse_mix_polynomial (inverse_sub_bytes (inverse_shift_rows literal)) refl)
       ∙ ap (λ x. words_of (mix inverse_mix_polynomial (inverse_sub_bytes (inverse_shift_rows x)))) (sym (sixteen b is_block.count))
 
   pub words_mixed_back :
-      word (column_product inverse_mix_polynomial (row (get_or s 0 0) 0 ∷ row (get_or s 0 0) 1 ∷ row (get_or s 0 0) 2 ∷ row (get_or s 0 0) 3 ∷ []))
-      ∷ word (column_product inverse_mix_polynomial (row (get_or s 1 0) 0 ∷ row (get_or s 1 0) 1 ∷ row (get_or s 1 0) 2 ∷ row (get_or s 1 0) 3 ∷ []))
-      ∷ word (column_product inverse_mix_polynomial (row (get_or s 2 0) 0 ∷ row (get_or s 2 0) 1 ∷ row (get_or s 2 0) 2 ∷ row (get_or s 2 0) 3 ∷ []))
-      ∷ word (column_product inverse_mix_polynomial (row (get_or s 3 0) 0 ∷ row (get_or s 3 0) 1 ∷ row (get_or s 3 0) 2 ∷ row (get_or s 3 0) 3 ∷ [])) ∷ []
+      word (column_product inverse_mix_polynomial (row (get_or s 0 0) 0 ∷ row (get_or s 0 0) 1 ∷ row (get_or s 0 0) 2
+      ∷ row (get_or s 0 0) 3 ∷ []))
+      ∷ word (column_product inverse_mix_polynomial (row (get_or s 1 0) 0 ∷ row (get_or s 1 0) 1 ∷ row (get_or s 1 0) 2
+      ∷ row (get_or s 1 0) 3 ∷ []))
+      ∷ word (column_product inverse_mix_polynomial (row (get_or s 2 0) 0 ∷ row (get_or s 2 0) 1 ∷ row (get_or s 2 0) 2
+      ∷ row (get_or s 2 0) 3 ∷ []))
+      ∷ word (column_product inverse_mix_polynomial (row (get_or s 3 0) 0 ∷ row (get_or s 3 0) 1 ∷ row (get_or s 3 0) 2
+      ∷ row (get_or s 3 0) 3 ∷ [])) ∷ []
       ≡ words_of (mix inverse_mix_polynomial b)
   words_mixed_back =
       let p : 0 < 4 = omega arith in
@@ -240,7 +273,8 @@ module _ (b s : List ℕ) (is_block : IsBlock b) (e : s ≡ words_of b) where
       let r : 2 < 4 = omega arith in
       let t : 3 < 4 = omega arith in
       let W : List ℕ → ℕ = λ x. word (column_product inverse_mix_polynomial x) in
-      (λ n. W (rows (λ x. x) 0 0 0 0 p p p p n) ∷ W (rows (λ x. x) 1 1 1 1 q q q q n) ∷ W (rows (λ x. x) 2 2 2 2 r r r r n) ∷ W (rows (λ x. x) 3 3 3 3 t t t t n) ∷ [])
+      (λ n. W (rows (λ x. x) 0 0 0 0 p p p p n) ∷ W (rows (λ x. x) 1 1 1 1 q q q q n) ∷ W (rows (λ x. x) 2 2 2 2 r r r r n)
+      ∷ W (rows (λ x. x) 3 3 3 3 t t t t n) ∷ [])
       ∙ sym (words_of-mix inverse_mix_polynomial b is_block.count)
 
   pub stored :
@@ -254,5 +288,6 @@ module _ (b s : List ℕ) (is_block : IsBlock b) (e : s ≡ words_of b) where
       let r : 2 < 4 = omega arith in
       let t : 3 < 4 = omega arith in
       let J : List ℕ → List ℕ → List ℕ → List ℕ → List ℕ = λ x y z w. x ++ (y ++ (z ++ (w ++ []))) in
-      (λ n. J (rows (λ x. x) 0 0 0 0 p p p p n) (rows (λ x. x) 1 1 1 1 q q q q n) (rows (λ x. x) 2 2 2 2 r r r r n) (rows (λ x. x) 3 3 3 3 t t t t n))
+      (λ n. J (rows (λ x. x) 0 0 0 0 p p p p n) (rows (λ x. x) 1 1 1 1 q q q q n) (rows (λ x. x) 2 2 2 2 r r r r n)
+      (rows (λ x. x) 3 3 3 3 t t t t n))
       ∙ sym (sixteen b is_block.count)

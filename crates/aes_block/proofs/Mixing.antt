@@ -16,7 +16,11 @@ length-column_product_4 : (m : List ℕ) (a b c d : ℕ) → length (column_prod
 unfolding column_product
 length-column_product_4 [] a b c d = refl
 length-column_product_4 (k ∷ m) a b c d =
-    omega (arith, length-add (map (product k) (a ∷ b ∷ c ∷ d ∷ [])) (column_product m (d ∷ a ∷ b ∷ c ∷ [])), length-column_product_4 m d a b c)
+    omega (
+      arith,
+      length-add (map (product k) (a ∷ b ∷ c ∷ d ∷ [])) (column_product m (d ∷ a ∷ b ∷ c ∷ [])),
+      length-column_product_4 m d a b c,
+    )
 
 pub length-column_product : (m x : List ℕ) → length x ≡ 4 → length (column_product m x) ≡ 4
 length-column_product m = at_four (λ x. length (column_product m x) ≡ 4) (length-column_product_4 m)
@@ -39,7 +43,8 @@ pub column_product_of_sum : (m x y : List ℕ) → length x ≡ 4 → length y �
     column_product m (add x y) ≡ add (column_product m x) (column_product m y)
 column_product_of_sum m x y hx hy =
     at_four (λ x. column_product m (add x y) ≡ add (column_product m x) (column_product m y))
-    (λ a b c d. at_four (λ y. column_product m (add (a ∷ b ∷ c ∷ d ∷ []) y) ≡ add (column_product m (a ∷ b ∷ c ∷ d ∷ [])) (column_product m y))
+    (λ a b c d. at_four (λ y. column_product m (add (a ∷ b ∷ c ∷ d ∷ []) y) ≡ add (column_product m (a ∷ b ∷ c ∷ d ∷ []))
+    (column_product m y))
     (sum_of_fours m a b c d) y hy)
     x hx
 
@@ -101,7 +106,8 @@ AreBytes-product k (x ∷ xs) hk h =
     All-cons P (product k x) (map (product k) xs) (product-lt k x hk (All-head P x xs h)) (AreBytes-product k xs hk (All-tail P x xs h))
 
 pub All-4 : (P : ℕ → Type 0) (a b c d : ℕ) → P a → P b → P c → P d → All P (a ∷ b ∷ c ∷ d ∷ [])
-All-4 P a b c d ha hb hc hd = All-cons P a (b ∷ c ∷ d ∷ []) ha (All-cons P b (c ∷ d ∷ []) hb (All-cons P c (d ∷ []) hc (All-cons P d [] hd (All-nil P))))
+All-4 P a b c d ha hb hc hd =
+    All-cons P a (b ∷ c ∷ d ∷ []) ha (All-cons P b (c ∷ d ∷ []) hb (All-cons P c (d ∷ []) hc (All-cons P d [] hd (All-nil P))))
 
 pub AreBytes-4 : (a b c d : ℕ) → a < 256 → b < 256 → c < 256 → d < 256 → AreBytes (a ∷ b ∷ c ∷ d ∷ [])
 AreBytes-4 = All-4 (λ x. x < 256)
@@ -118,7 +124,8 @@ unfolding column_product
 AreBytes-column_product [] a b c d hm ha hb hc hd = AreBytes-4 0 0 0 0 (omega arith) (omega arith) (omega arith) (omega arith)
 AreBytes-column_product (k ∷ m) a b c d hm ha hb hc hd =
     let Q : ℕ → Type 0 = λ x. x < 256 in
-    AreBytes-add (map (product k) (a ∷ b ∷ c ∷ d ∷ [])) (column_product m (d ∷ a ∷ b ∷ c ∷ [])) (AreBytes-product k (a ∷ b ∷ c ∷ d ∷ []) (All-head Q k m hm) (AreBytes-4 a b c d ha hb hc hd))
+    AreBytes-add (map (product k) (a ∷ b ∷ c ∷ d ∷ [])) (column_product m (d ∷ a ∷ b ∷ c ∷ []))
+    (AreBytes-product k (a ∷ b ∷ c ∷ d ∷ []) (All-head Q k m hm) (AreBytes-4 a b c d ha hb hc hd))
     (AreBytes-column_product m d a b c (All-tail Q k m hm) hd ha hb hc)
 
 mix_append : (m x y : List ℕ) → length x ≡ 4 → mix m (x ++ y) ≡ column_product m x ++ mix m y
@@ -132,12 +139,14 @@ add_fours x y s t hx hy =
     x hx
 
 -- one more column of a sum
-mix_one_more : (m x y s t : List ℕ) → length x ≡ 4 → length y ≡ 4 → mix m (add s t) ≡ add (mix m s) (mix m t) → mix m (add (x ++ s) (y ++ t)) ≡ add (mix m (x ++ s)) (mix m (y ++ t))
+mix_one_more : (m x y s t : List ℕ) → length x ≡ 4 → length y ≡ 4 → mix m (add s t) ≡ add (mix m s) (mix m t)
+    → mix m (add (x ++ s) (y ++ t)) ≡ add (mix m (x ++ s)) (mix m (y ++ t))
 mix_one_more m x y s t hx hy rest =
     ap (mix m) (add_fours x y s t hx hy)
     ∙ mix_append m (add x y) (add s t) (omega (arith, length-add x y, hx, hy))
     ∙ ap₂ (λ (p q : List ℕ). p ++ q) (column_product_of_sum m x y hx hy) rest
-    ∙ sym (add_fours (column_product m x) (column_product m y) (mix m s) (mix m t) (length-column_product m x hx) (length-column_product m y hy))
+    ∙ sym (add_fours (column_product m x) (column_product m y) (mix m s) (mix m t) (length-column_product m x hx)
+    (length-column_product m y hy))
     ∙ sym (ap₂ add (mix_append m x s hx) (mix_append m y t hy))
 
 no_column : (m : List ℕ) → mix m (add [] []) ≡ add (mix m []) (mix m [])
@@ -182,10 +191,12 @@ module _ (m : List ℕ) where
       let h2 = All-tail P b (c ∷ d ∷ s) h1 in
       let h3 = All-tail P c (d ∷ s) h2 in
       All-append P (column_product m (a ∷ b ∷ c ∷ d ∷ [])) (mix m s)
-      (AreBytes-column_product m a b c d hm (All-head P a (b ∷ c ∷ d ∷ s) hs) (All-head P b (c ∷ d ∷ s) h1) (All-head P c (d ∷ s) h2) (All-head P d s h3))
+      (AreBytes-column_product m a b c d hm (All-head P a (b ∷ c ∷ d ∷ s) hs) (All-head P b (c ∷ d ∷ s) h1) (All-head P c (d ∷ s) h2)
+      (All-head P d s h3))
       (AreBytes-mix q s rest hm (All-tail P d s h3))
 
-mix_undone : (n m : List ℕ) → holds_below 256 (undoes n m) ≡ true → (q : ℕ) (s : List ℕ) → length s ≡ 4 * q → AreBytes s → mix n (mix m s) ≡ s
+mix_undone : (n m : List ℕ) → holds_below 256 (undoes n m) ≡ true → (q : ℕ) (s : List ℕ) → length s ≡ 4 * q → AreBytes s
+    → mix n (mix m s) ≡ s
 unfolding mix
 mix_undone n m each q [] h hs = refl
 mix_undone n m each q (a ∷ []) h hs = absurd (omega arith)
@@ -200,7 +211,8 @@ mix_undone n m each (suc q) (a ∷ b ∷ c ∷ d ∷ s) h hs =
     let h3 = All-tail P c (d ∷ s) h2 in
     mix_append n (column_product m (a ∷ b ∷ c ∷ d ∷ [])) (mix m s) (length-column_product_4 m a b c d)
     ∙ ap₂ (λ (x y : List ℕ). x ++ y)
-    (undone_four n m each a b c d (All-head P a (b ∷ c ∷ d ∷ s) hs) (All-head P b (c ∷ d ∷ s) h1) (All-head P c (d ∷ s) h2) (All-head P d s h3))
+    (undone_four n m each a b c d (All-head P a (b ∷ c ∷ d ∷ s) hs) (All-head P b (c ∷ d ∷ s) h1) (All-head P c (d ∷ s) h2)
+    (All-head P d s h3))
     (mix_undone n m each q s rest (All-tail P d s h3))
 
 pub inverse_mix-mix : (q : ℕ) (s : List ℕ) → length s ≡ 4 * q → AreBytes s → mix inverse_mix_polynomial (mix mix_polynomial s) ≡ s

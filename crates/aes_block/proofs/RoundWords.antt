@@ -16,7 +16,9 @@ use Rattle.aes_block.specs.Words.{word, words_of, round_words, first_key, AreExp
 
 -- ---- the next round key
 pub next_words_are : (b : List ℕ) (n : ℕ) → IsBlock b →
-    let t : ℕ = word (bit_xor (substitute (get_or b 13 0)) (power_of_x n) ∷ substitute (get_or b 14 0) ∷ substitute (get_or b 15 0) ∷ substitute (get_or b 12 0) ∷ []) in
+    let t : ℕ =
+    word (bit_xor (substitute (get_or b 13 0)) (power_of_x n) ∷ substitute (get_or b 14 0) ∷ substitute (get_or b 15 0)
+    ∷ substitute (get_or b 12 0) ∷ []) in
     bit_xor (word (column b 0)) t
     ∷ bit_xor (word (column b 1)) (bit_xor (word (column b 0)) t)
     ∷ bit_xor (word (column b 2)) (bit_xor (word (column b 1)) (bit_xor (word (column b 0)) t))
@@ -24,8 +26,15 @@ pub next_words_are : (b : List ℕ) (n : ℕ) → IsBlock b →
     ≡ words_of (next_round_key n b)
 next_words_are b n h =
     let at : (i : ℕ) → get_or b i 0 < 256 = byte_at b h.bytes in
-    let T : List ℕ = bit_xor (substitute (get_or b 13 0)) (power_of_x n) ∷ substitute (get_or b 14 0) ∷ substitute (get_or b 15 0) ∷ substitute (get_or b 12 0) ∷ [] in
-    let hT : IsColumn T = record { count = refl; bytes = AreBytes-4 _ _ _ _ (xor_of_8 _ _ (substitute-lt _ (at 13)) (power_of_x-lt n)) (substitute-lt _ (at 14)) (substitute-lt _ (at 15)) (substitute-lt _ (at 12)) } in
+    let T : List ℕ =
+    bit_xor (substitute (get_or b 13 0)) (power_of_x n) ∷ substitute (get_or b 14 0) ∷ substitute (get_or b 15 0)
+    ∷ substitute (get_or b 12 0) ∷ [] in
+    let hT : IsColumn T =
+    record {
+      count = refl;
+      bytes = AreBytes-4 _ _ _ _ (xor_of_8 _ _ (substitute-lt _ (at 13)) (power_of_x-lt n))
+          (substitute-lt _ (at 14)) (substitute-lt _ (at 15)) (substitute-lt _ (at 12));
+    } in
     let plus : (x y : List ℕ) → IsColumn x → IsColumn y → IsColumn (add x y) =
     λ x y hx hy. record { count = omega (arith, length-add x y, hx.count, hy.count); bytes = AreBytes-add x y hx.bytes hy.bytes } in
     let k : (c : ℕ) → IsColumn (column b c) = IsColumn-column b h in
@@ -40,7 +49,8 @@ next_words_are b n h =
     word-add (column b 1) v0 (k 1) h0 ∙ ap (bit_xor (word (column b 1))) e0 in
     let e2 : word v2 ≡ bit_xor (word (column b 2)) (bit_xor (word (column b 1)) (bit_xor (word (column b 0)) (word T))) =
     word-add (column b 2) v1 (k 2) h1 ∙ ap (bit_xor (word (column b 2))) e1 in
-    let e3 : word (add (column b 3) v2) ≡ bit_xor (word (column b 3)) (bit_xor (word (column b 2)) (bit_xor (word (column b 1)) (bit_xor (word (column b 0)) (word T)))) =
+    let e3 : word (add (column b 3) v2) ≡ bit_xor (word (column b 3))
+    (bit_xor (word (column b 2)) (bit_xor (word (column b 1)) (bit_xor (word (column b 0)) (word T)))) =
     word-add (column b 3) v2 (k 3) h2 ∙ ap (bit_xor (word (column b 3))) e2 in
     (λ i. sym e0 i ∷ sym e1 i ∷ sym e2 i ∷ sym e3 i ∷ [])
     ∙ ap (λ x. words_of (next_round_key n x)) (sym (sixteen b h.count))
@@ -51,15 +61,18 @@ unfolding round_words
 length-round_words zero key = refl
 length-round_words (suc n) key = omega (arith, length-append (round_words n key) (words_of (round_key key n)), length-round_words n key)
 
-pub round_word_at : (m : ℕ) (key : List ℕ) (n j : ℕ) → n < m → j < 4 → get_or (round_words m key) (4 * n + j) 0 ≡ get_or (words_of (round_key key n)) j 0
+pub round_word_at : (m : ℕ) (key : List ℕ) (n j : ℕ) → n < m → j < 4
+    → get_or (round_words m key) (4 * n + j) 0 ≡ get_or (words_of (round_key key n)) j 0
 unfolding round_words
 round_word_at zero key n j h lt = absurd (omega arith)
 round_word_at (suc m) key n j h lt = elim (cases_lt n m) [
-  | inl a ↦ get_or_append_left (round_words m key) (words_of (round_key key m)) 0 (4 * n + j) (omega (arith, length-round_words m key)) ∙ round_word_at m key n j a lt
+  | inl a ↦ get_or_append_left (round_words m key) (words_of (round_key key m)) 0 (4 * n + j) (omega (arith, length-round_words m key))
+      ∙ round_word_at m key n j a lt
   | inr b ↦
       let e : m ≡ n = omega arith in
       let k : 4 * n + j - 4 * n ≡ j = omega arith in
-      rw e (get_or-append_right (round_words n key) (words_of (round_key key n)) (4 * n) (4 * n + j) 0 (length-round_words n key) (omega arith) ∙ ap (λ p. get_or (words_of (round_key key n)) p 0) k)
+      rw e (get_or-append_right (round_words n key) (words_of (round_key key n)) (4 * n) (4 * n + j) 0 (length-round_words n key)
+      (omega arith) ∙ ap (λ p. get_or (words_of (round_key key n)) p 0) k)
 ]
 
 -- the first four words are the key's

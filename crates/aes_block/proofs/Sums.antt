@@ -29,7 +29,8 @@ digit_times_sum d x y h = elim (digit d h) [
   | inl e ↦ rw e (
       let a : 0 * bit_xor x y ≡ 0 = omega arith in let b : 0 * x ≡ 0 = omega arith in let c : 0 * y ≡ 0 = omega arith in rw (a, b, c) refl)
   | inr e ↦ rw e (
-      let a : 1 * bit_xor x y ≡ bit_xor x y = omega arith in let b : 1 * x ≡ x = omega arith in let c : 1 * y ≡ y = omega arith in rw (a, b, c) refl)
+      let a : 1 * bit_xor x y ≡ bit_xor x y =
+      omega arith in let b : 1 * x ≡ x = omega arith in let c : 1 * y ≡ y = omega arith in rw (a, b, c) refl)
 ]
 
 sum_of_digits_times : (d e m : ℕ) → d < 2 → e < 2 → bit_xor d e * m ≡ bit_xor (d * m) (e * m)
@@ -43,12 +44,17 @@ sum_of_digits_times d e m hd he =
       ]
     ]
 
-polynomial_product_of_sum : (n a x y : ℕ) → polynomial_product n a (bit_xor x y) ≡ bit_xor (polynomial_product n a x) (polynomial_product n a y)
+polynomial_product_of_sum : (n a x y : ℕ)
+    → polynomial_product n a (bit_xor x y) ≡ bit_xor (polynomial_product n a x) (polynomial_product n a y)
 unfolding polynomial_product
 polynomial_product_of_sum zero a x y = refl
 polynomial_product_of_sum (suc n) a x y =
     let d : a % 2 < 2 = omega arith in
-    rw (digit_times_sum (a % 2) x y d, polynomial_product_of_sum n (a / 2) x y, double_of_sum (polynomial_product n (a / 2) x) (polynomial_product n (a / 2) y))
+    rw (
+      digit_times_sum (a % 2) x y d,
+      polynomial_product_of_sum n (a / 2) x y,
+      double_of_sum (polynomial_product n (a / 2) x) (polynomial_product n (a / 2) y),
+    )
     (xor_swap (a % 2 * x) (a % 2 * y) (2 * polynomial_product n (a / 2) x) (2 * polynomial_product n (a / 2) y))
 
 bit_of_sum : (p q k : ℕ) → bit_xor p q / 2 ^ k % 2 ≡ bit_xor (p / 2 ^ k % 2) (q / 2 ^ k % 2)
@@ -61,7 +67,11 @@ remainder_of_sum (suc n) p q =
     let m : ℕ = 0x11B * 2 ^ n in
     let dp : p / 2 ^ (8 + n) % 2 < 2 = omega arith in
     let dq : q / 2 ^ (8 + n) % 2 < 2 = omega arith in
-    rw (bit_of_sum p q (8 + n), sum_of_digits_times (p / 2 ^ (8 + n) % 2) (q / 2 ^ (8 + n) % 2) m dp dq, xor_swap p q (p / 2 ^ (8 + n) % 2 * m) (q / 2 ^ (8 + n) % 2 * m))
+    rw (
+      bit_of_sum p q (8 + n),
+      sum_of_digits_times (p / 2 ^ (8 + n) % 2) (q / 2 ^ (8 + n) % 2) m dp dq,
+      xor_swap p q (p / 2 ^ (8 + n) % 2 * m) (q / 2 ^ (8 + n) % 2 * m),
+    )
     (remainder_of_sum n (bit_xor p (p / 2 ^ (8 + n) % 2 * m)) (bit_xor q (q / 2 ^ (8 + n) % 2 * m)))
 
 pub product_of_sum : (a x y : ℕ) → product a (bit_xor x y) ≡ bit_xor (product a x) (product a y)

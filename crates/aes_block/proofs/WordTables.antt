@@ -12,7 +12,8 @@ abbrev mixed_at : ℕ → ℕ → ℕ
 mixed_at r y = word (column_product mix_polynomial (one_byte r y))
 
 -- by the table of the substitution, which computes fast
-mixed_substitution_is_table : holds_below 4 (λ r. holds_below 256 (λ x. get_or (get_or MIXED_SUBSTITUTION r []) x 0 == mixed_at r (get_or SUBSTITUTION x 0))) ≡ true
+mixed_substitution_is_table : holds_below 4 (λ r. holds_below 256
+    (λ x. get_or (get_or MIXED_SUBSTITUTION r []) x 0 == mixed_at r (get_or SUBSTITUTION x 0))) ≡ true
 unfolding holds_below word column_product product polynomial_product remainder
 mixed_substitution_is_table = refl
 
@@ -20,7 +21,8 @@ pub mixed_substitution_at : (r x : ℕ) → r < 4 → x < 256 → get_or (get_or
 unfolding mixed_substitute
 mixed_substitution_at r x hr hx =
     same_below 256 (λ x. get_or (get_or MIXED_SUBSTITUTION r []) x 0) (λ x. mixed_at r (get_or SUBSTITUTION x 0))
-    (at_each_below 4 (λ r. holds_below 256 (λ x. get_or (get_or MIXED_SUBSTITUTION r []) x 0 == mixed_at r (get_or SUBSTITUTION x 0))) mixed_substitution_is_table r hr)
+    (at_each_below 4 (λ r. holds_below 256 (λ x. get_or (get_or MIXED_SUBSTITUTION r []) x 0 == mixed_at r (get_or SUBSTITUTION x 0)))
+    mixed_substitution_is_table r hr)
     x hx
     ∙ ap (mixed_at r) (substituted_at x hx)
 
@@ -31,20 +33,25 @@ inverse_mixture_is_table = refl
 pub inverse_mixture_at : (r x : ℕ) → r < 4 → x < 256 → get_or (get_or INVERSE_MIXED r []) x 0 ≡ inverse_mixed r x
 inverse_mixture_at r x hr hx =
     same_below 256 (λ x. get_or (get_or INVERSE_MIXED r []) x 0) (inverse_mixed r)
-    (at_each_below 4 (λ r. holds_below 256 (λ x. get_or (get_or INVERSE_MIXED r []) x 0 == inverse_mixed r x)) inverse_mixture_is_table r hr) x hx
+    (at_each_below 4 (λ r. holds_below 256 (λ x. get_or (get_or INVERSE_MIXED r []) x 0 == inverse_mixed r x))
+    inverse_mixture_is_table r hr) x hx
 
 -- the column of a byte, mixed back
 abbrev mixed_back_at : ℕ → ℕ → ℕ
 mixed_back_at r y = word (column_product inverse_mix_polynomial (one_byte r y))
 
-inverse_mixed_substitution_is_table : holds_below 4 (λ r. holds_below 256 (λ x. get_or (get_or INVERSE_MIXED_SUBSTITUTION r []) x 0 == mixed_back_at r (get_or INVERSE_SUBSTITUTION x 0))) ≡ true
+inverse_mixed_substitution_is_table : holds_below 4 (λ r. holds_below 256
+    (λ x. get_or (get_or INVERSE_MIXED_SUBSTITUTION r []) x 0 == mixed_back_at r (get_or INVERSE_SUBSTITUTION x 0))) ≡ true
 unfolding holds_below word column_product product polynomial_product remainder
 inverse_mixed_substitution_is_table = refl
 
-pub inverse_mixed_substitution_at : (r x : ℕ) → r < 4 → x < 256 → get_or (get_or INVERSE_MIXED_SUBSTITUTION r []) x 0 ≡ inverse_mixed_substitute r x
+pub inverse_mixed_substitution_at : (r x : ℕ) → r < 4 → x < 256
+    → get_or (get_or INVERSE_MIXED_SUBSTITUTION r []) x 0 ≡ inverse_mixed_substitute r x
 unfolding inverse_mixed_substitute
 inverse_mixed_substitution_at r x hr hx =
     same_below 256 (λ x. get_or (get_or INVERSE_MIXED_SUBSTITUTION r []) x 0) (λ x. mixed_back_at r (get_or INVERSE_SUBSTITUTION x 0))
-    (at_each_below 4 (λ r. holds_below 256 (λ x. get_or (get_or INVERSE_MIXED_SUBSTITUTION r []) x 0 == mixed_back_at r (get_or INVERSE_SUBSTITUTION x 0))) inverse_mixed_substitution_is_table r hr)
+    (at_each_below 4
+    (λ r. holds_below 256 (λ x. get_or (get_or INVERSE_MIXED_SUBSTITUTION r []) x 0 == mixed_back_at r (get_or INVERSE_SUBSTITUTION x 0)))
+    inverse_mixed_substitution_is_table r hr)
     x hx
     ∙ ap (mixed_back_at r) (inverse_substituted_at x hx)

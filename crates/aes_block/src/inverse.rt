@@ -52,7 +52,8 @@ impl<'k> InverseKeys<'k> {
         requires first { 1 ≤ n }
         requires last { n < 10 }
         ensures { (b : List ℕ) →
-            AreWordsOf words b → AreWordsOf result (inverse_mix_columns (add (inverse_sub_bytes (inverse_shift_rows b)) (round_key self.now n))) }
+            AreWordsOf words b
+            → AreWordsOf result (inverse_mix_columns (add (inverse_sub_bytes (inverse_shift_rows b)) (round_key self.now n))) }
     {
         added(backward_round(words), self.mixed[n - 1])
     }

@@ -15,7 +15,8 @@ use Rattle.afl_layer.proofs.HeaderLaws.{not_false, two_bytes, judged}
 abbrev no_header : AflFault → Result Afl AflFault
 no_header f = Err f
 
-guard_err : {A : Type 0} (b : Bool) (d f : AflFault) (r : Result A AflFault) → cond b (Err d) r ≡ Err f → ((b ≡ true) × (d ≡ f)) ⊎ ((b ≡ false) × (r ≡ Err f))
+guard_err : {A : Type 0} (b : Bool) (d f : AflFault) (r : Result A AflFault) → cond b (Err d) r ≡ Err f → ((b ≡ true) × (d ≡ f))
+    ⊎ ((b ≡ false) × (r ≡ Err f))
 guard_err true d f r e = inl (refl, cc)
 guard_err false d f r e = inr (refl, e)
 
@@ -25,7 +26,8 @@ not_true false e = refl
 
 -- ---- what is refused has its fault
 
-judged_fault : (bytes : List ℕ) (said fcl : ℕ) (rest : List ℕ) (f : AflFault) → BeginsWithFcl bytes said fcl rest → length bytes ≡ 4 + length rest → judged said fcl rest ≡ Err f
+judged_fault : (bytes : List ℕ) (said fcl : ℕ) (rest : List ℕ) (f : AflFault) → BeginsWithFcl bytes said fcl rest
+    → length bytes ≡ 4 + length rest → judged said fcl rest ≡ Err f
     → IsAflFault bytes f
 unfolding judged
 judged_fault bytes said fcl rest f begins len e =
@@ -83,7 +85,8 @@ fault_found (a ∷ said ∷ low ∷ high ∷ rest) f ci fits e =
 
 -- ---- a fault gives its refusal
 
-word_at : (ci said low high fcl : ℕ) (rest : List ℕ) → from_le_bytes w16 (low ∷ high ∷ []) ≡ fcl → afl_at (ci ∷ said ∷ low ∷ high ∷ rest) ≡ judged said fcl rest
+word_at : (ci said low high fcl : ℕ) (rest : List ℕ) → from_le_bytes w16 (low ∷ high ∷ []) ≡ fcl
+    → afl_at (ci ∷ said ∷ low ∷ high ∷ rest) ≡ judged said fcl rest
 unfolding afl_at judged
 word_at ci said low high fcl rest word = ap (λ (n : ℕ). judged said n rest) word
 
@@ -102,11 +105,16 @@ few_at (a ∷ b ∷ c ∷ d ∷ rest) few = absurd (omega (arith, few))
 with_fields : (bytes : List ℕ) (fcl : ℕ) (h : HasFields bytes fcl)
     → afl_at bytes ≡ cond (misplaces fcl) (Err (FieldPlace fcl)) (cond (uncounts fcl) (Err FidZero) (Ok (fields_at fcl h.rest)))
 unfolding judged
-with_fields bytes fcl h = judged_at bytes (2 + fields_len fcl) fcl h.rest h.begins ∙ rw (eq-eqb (2 + fields_len fcl) (2 + fields_len fcl) refl, le-ltb (length h.rest) (fields_len fcl) h.enough) refl
+with_fields bytes fcl h =
+    judged_at bytes (2 + fields_len fcl) fcl h.rest h.begins
+    ∙ rw (eq-eqb (2 + fields_len fcl) (2 + fields_len fcl) refl, le-ltb (length h.rest) (fields_len fcl) h.enough) refl
 
-too_few : (bytes : List ℕ) (fcl : ℕ) (rest : List ℕ) → BeginsWithFcl bytes (2 + fields_len fcl) fcl rest → length rest < fields_len fcl → afl_at bytes ≡ Err (Truncated (4 + length rest))
+too_few : (bytes : List ℕ) (fcl : ℕ) (rest : List ℕ) → BeginsWithFcl bytes (2 + fields_len fcl) fcl rest → length rest < fields_len fcl
+    → afl_at bytes ≡ Err (Truncated (4 + length rest))
 unfolding judged
-too_few bytes fcl rest h few = judged_at bytes (2 + fields_len fcl) fcl rest h ∙ rw (eq-eqb (2 + fields_len fcl) (2 + fields_len fcl) refl, lt-ltb (length rest) (fields_len fcl) few) refl
+too_few bytes fcl rest h few =
+    judged_at bytes (2 + fields_len fcl) fcl rest h
+    ∙ rw (eq-eqb (2 + fields_len fcl) (2 + fields_len fcl) refl, lt-ltb (length rest) (fields_len fcl) few) refl
 
 fault_again : (bytes : List ℕ) (f : AflFault) → IsAflFault bytes f → afl_at bytes ≡ Err f
 unfolding judged
@@ -126,5 +134,6 @@ fault_again bytes FidZero h = with_fields bytes h.0 h.1 ∙ rw (h.2, h.3) refl
 pub faults : (bytes : List ℕ) (f : AflFault) → slice_get bytes 0 ≡ Some 0x90 → IsBytes bytes → (afl_at bytes ≡ Err f) ↔ IsAflFault bytes f
 faults bytes f ci fits = (fault_found bytes f ci fits, fault_again bytes f)
 
-pub is_fault : (bytes : List ℕ) (r : Result Afl AflFault) → slice_get bytes 0 ≡ Some 0x90 → IsBytes bytes → r ≡ afl_at bytes → (f : AflFault) → (r ≡ Err f) ↔ IsAflFault bytes f
+pub is_fault : (bytes : List ℕ) (r : Result Afl AflFault) → slice_get bytes 0 ≡ Some 0x90 → IsBytes bytes → r ≡ afl_at bytes
+    → (f : AflFault) → (r ≡ Err f) ↔ IsAflFault bytes f
 is_fault bytes r ci fits h f = (λ e. fault_found bytes f ci fits (sym h ∙ e), λ is. h ∙ fault_again bytes f is)

@@ -47,12 +47,26 @@ bits_of more mcl ml mcr mac ki fid a b c d e f g = record {
   below = omega arith;
 }
 
-fcl_is : (a : Afl) → fcl_of a ≡ word (one a.more) (one (is_some a.mcl)) (one (is_some a.ml)) (one (is_some a.mcr)) (one (is_some a.mac)) (one (is_some a.ki)) a.fid
+fcl_is : (a : Afl)
+    → fcl_of a ≡ word (one a.more) (one (is_some a.mcl)) (one (is_some a.ml)) (one (is_some a.mcr)) (one (is_some a.mac))
+    (one (is_some a.ki)) a.fid
 unfolding fcl_of
-fcl_is a = rw (bit_is a.more (2 ^ 14), bit_is (is_some a.mcl) (2 ^ 13), bit_is (is_some a.ml) (2 ^ 12), bit_is (is_some a.mcr) (2 ^ 11), bit_is (is_some a.mac) (2 ^ 10), bit_is (is_some a.ki) (2 ^ 9)) refl
+fcl_is a =
+    rw (
+      bit_is a.more (2 ^ 14),
+      bit_is (is_some a.mcl) (2 ^ 13),
+      bit_is (is_some a.ml) (2 ^ 12),
+      bit_is (is_some a.mcr) (2 ^ 11),
+      bit_is (is_some a.mac) (2 ^ 10),
+      bit_is (is_some a.ki) (2 ^ 9),
+    ) refl
 
-bits : (a : Afl) → a.fid < 2 ^ 8 → Bits (fcl_of a) (one a.more) (one (is_some a.mcl)) (one (is_some a.ml)) (one (is_some a.mcr)) (one (is_some a.mac)) (one (is_some a.ki)) a.fid
-bits a fid = rw (fcl_is a) (bits_of _ _ _ _ _ _ a.fid (one_most a.more) (one_most (is_some a.mcl)) (one_most (is_some a.ml)) (one_most (is_some a.mcr)) (one_most (is_some a.mac)) (one_most (is_some a.ki)) fid)
+bits : (a : Afl) → a.fid < 2 ^ 8
+    → Bits (fcl_of a) (one a.more) (one (is_some a.mcl)) (one (is_some a.ml)) (one (is_some a.mcr)) (one (is_some a.mac))
+    (one (is_some a.ki)) a.fid
+bits a fid =
+    rw (fcl_is a) (bits_of _ _ _ _ _ _ a.fid (one_most a.more) (one_most (is_some a.mcl)) (one_most (is_some a.ml))
+    (one_most (is_some a.mcr)) (one_most (is_some a.mac)) (one_most (is_some a.ki)) fid)
 
 -- a set bit is read back
 read_bit : (x : ℕ) (b : Bool) → x ≡ one b → b ≡ eqb x 1
@@ -72,7 +86,8 @@ says_of a fid =
     }
 
 -- a header that was written is read back
-pub written_again : (text rest : List ℕ) (a : Afl) (n : ℕ) → text ≡ afl_bytes (fcl_of a) a → n ≡ length (afl_bytes (fcl_of a) a) → Fits a → IsPlaced a
+pub written_again : (text rest : List ℕ) (a : Afl) (n : ℕ) → text ≡ afl_bytes (fcl_of a) a → n ≡ length (afl_bytes (fcl_of a) a) → Fits a
+    → IsPlaced a
     → afl_at (text ++ rest) ≡ Ok (record a { len = n })
 unfolding fcl_of
 written_again text rest a n written len fits placed =
@@ -81,7 +96,15 @@ written_again text rest a n written len fits placed =
       rest = rest;
       word = (bits a fits.fid).below;
       parts = ap (λ (x : List ℕ). x ++ rest) written;
-      says = (let says = says_of a fits.fid in record { more = says.more; fid = says.fid; mcl = says.mcl; ki = says.ki; mcr = says.mcr; mac = says.mac; ml = says.ml });
+      says = (let says = says_of a fits.fid in record {
+        more = says.more;
+        fid = says.fid;
+        mcl = says.mcl;
+        ki = says.ki;
+        mcr = says.mcr;
+        mac = says.mac;
+        ml = says.ml;
+      });
       fits = record { fid = fits.fid; ki = fits.ki; mcr = fits.mcr; mac = fits.mac; ml = fits.ml };
       placed = record { fields = placed.fields; fid = placed.fid };
       len = len;

@@ -9,7 +9,8 @@ use Rattle.afl_layer.specs.Header.{byte_in, two_in, four_in, all_in}
 
 -- eight bytes, one by one
 pub eight_cells : (xs : List ℕ) → length xs ≡ 8
-    → Some (get_or xs 0 0 ∷ get_or xs 1 0 ∷ get_or xs 2 0 ∷ get_or xs 3 0 ∷ get_or xs 4 0 ∷ get_or xs 5 0 ∷ get_or xs 6 0 ∷ get_or xs 7 0 ∷ []) ≡ all_in xs
+    → Some (get_or xs 0 0 ∷ get_or xs 1 0 ∷ get_or xs 2 0 ∷ get_or xs 3 0 ∷ get_or xs 4 0 ∷ get_or xs 5 0 ∷ get_or xs 6 0 ∷ get_or xs 7 0
+    ∷ []) ≡ all_in xs
 eight_cells [] len = absurd (omega arith)
 eight_cells (a ∷ []) len = absurd (omega arith)
 eight_cells (a ∷ b ∷ []) len = absurd (omega arith)
@@ -40,23 +41,34 @@ pub record IsField {A : Type 0} (spell : A → List ℕ) (named : Bool) (text : 
   pub text_is : field_bytes spell v ≡ text
   pub named_is : is_some v ≡ named
 
-pub one_is : (named : Bool) (bytes : List ℕ) → where_so named 1 ≤ length bytes → IsField one_byte named (take (where_so named 1) bytes) (byte_in (take (where_so named 1) bytes))
+pub one_is : (named : Bool) (bytes : List ℕ) → where_so named 1 ≤ length bytes
+    → IsField one_byte named (take (where_so named 1) bytes) (byte_in (take (where_so named 1) bytes))
 one_is true [] enough = absurd (omega arith)
 one_is true (b ∷ bytes) enough = record { text_is = refl; named_is = refl }
 one_is false bytes enough = record { text_is = refl; named_is = refl }
 
-pub two_is : (named : Bool) (bytes : List ℕ) → IsBytes bytes → where_so named 2 ≤ length bytes → IsField (to_le_bytes w16) named (take (where_so named 2) bytes) (two_in (take (where_so named 2) bytes)) × IfSome (two_in (take (where_so named 2) bytes)) (λ n. n < 2 ^ 16)
+pub two_is : (named : Bool) (bytes : List ℕ) → IsBytes bytes → where_so named 2 ≤ length bytes
+    → IsField (to_le_bytes w16) named (take (where_so named 2) bytes) (two_in (take (where_so named 2) bytes))
+    × IfSome (two_in (take (where_so named 2) bytes)) (λ n. n < 2 ^ 16)
 two_is true [] fits enough = absurd (omega arith)
 two_is true (a ∷ []) fits enough = absurd (omega arith)
-two_is true (a ∷ b ∷ bytes) fits enough = (record { text_is = le_bytes_2 (a ∷ b ∷ []) _ refl (IsBytes-take 2 (a ∷ b ∷ bytes) fits) refl; named_is = refl }, omega (arith, fits 0, fits 1))
+two_is true (a ∷ b ∷ bytes) fits enough = (
+  record { text_is = le_bytes_2 (a ∷ b ∷ []) _ refl (IsBytes-take 2 (a ∷ b ∷ bytes) fits) refl; named_is = refl },
+  omega (arith, fits 0, fits 1),
+)
 two_is false bytes fits enough = (record { text_is = refl; named_is = refl }, tt)
 
-pub four_is : (named : Bool) (bytes : List ℕ) → IsBytes bytes → where_so named 4 ≤ length bytes → IsField (to_le_bytes w32) named (take (where_so named 4) bytes) (four_in (take (where_so named 4) bytes)) × IfSome (four_in (take (where_so named 4) bytes)) (λ n. n < 2 ^ 32)
+pub four_is : (named : Bool) (bytes : List ℕ) → IsBytes bytes → where_so named 4 ≤ length bytes
+    → IsField (to_le_bytes w32) named (take (where_so named 4) bytes) (four_in (take (where_so named 4) bytes))
+    × IfSome (four_in (take (where_so named 4) bytes)) (λ n. n < 2 ^ 32)
 four_is true [] fits enough = absurd (omega arith)
 four_is true (a ∷ []) fits enough = absurd (omega arith)
 four_is true (a ∷ b ∷ []) fits enough = absurd (omega arith)
 four_is true (a ∷ b ∷ c ∷ []) fits enough = absurd (omega arith)
-four_is true (a ∷ b ∷ c ∷ d ∷ bytes) fits enough = (record { text_is = le_bytes_4 (a ∷ b ∷ c ∷ d ∷ []) _ refl (IsBytes-take 4 (a ∷ b ∷ c ∷ d ∷ bytes) fits) refl; named_is = refl }, omega (arith, fits 0, fits 1, fits 2, fits 3))
+four_is true (a ∷ b ∷ c ∷ d ∷ bytes) fits enough = (
+  record { text_is = le_bytes_4 (a ∷ b ∷ c ∷ d ∷ []) _ refl (IsBytes-take 4 (a ∷ b ∷ c ∷ d ∷ bytes) fits) refl; named_is = refl },
+  omega (arith, fits 0, fits 1, fits 2, fits 3),
+)
 four_is false bytes fits enough = (record { text_is = refl; named_is = refl }, tt)
 
 abbrev pub itself : List ℕ → List ℕ
@@ -66,7 +78,9 @@ eight_of : (xs : List ℕ) → length xs ≡ 8 → IsField itself true xs (all_i
 eight_of [] len = absurd (omega arith)
 eight_of (a ∷ xs) len = (record { text_is = refl; named_is = refl }, len)
 
-pub eight_is : (named : Bool) (bytes : List ℕ) → where_so named 8 ≤ length bytes → IsField itself named (take (where_so named 8) bytes) (all_in (take (where_so named 8) bytes)) × IfSome (all_in (take (where_so named 8) bytes)) (λ mac. length mac ≡ 8)
+pub eight_is : (named : Bool) (bytes : List ℕ) → where_so named 8 ≤ length bytes
+    → IsField itself named (take (where_so named 8) bytes) (all_in (take (where_so named 8) bytes))
+    × IfSome (all_in (take (where_so named 8) bytes)) (λ mac. length mac ≡ 8)
 eight_is true bytes enough = eight_of (take 8 bytes) (omega (arith, length-take 8 bytes))
 eight_is false bytes enough = (record { text_is = refl; named_is = refl }, tt)
 

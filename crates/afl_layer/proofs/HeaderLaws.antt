@@ -34,18 +34,27 @@ five_front : (a b c d e after : List ℕ) → five a b c d e ++ after ≡ a ++ (
 five_front a b c d e after = simp append_assoc
 
 length-five : (a b c d e : List ℕ) → length (five a b c d e) ≡ length a + (length b + (length c + (length d + length e)))
-length-five a b c d e = omega (arith, length-append a (b ++ (c ++ (d ++ e))), length-append b (c ++ (d ++ e)), length-append c (d ++ e), length-append d e)
+length-five a b c d e =
+    omega (arith, length-append a (b ++ (c ++ (d ++ e))), length-append b (c ++ (d ++ e)), length-append c (d ++ e), length-append d e)
 
 -- a list that is cut into five parts and the rest
 cut_in_five : (bytes : List ℕ) (m k r c l : ℕ)
-    → bytes ≡ five (take m bytes) (take k (drop m bytes)) (take r (drop k (drop m bytes))) (take c (drop r (drop k (drop m bytes)))) (take l (drop c (drop r (drop k (drop m bytes))))) ++ drop l (drop c (drop r (drop k (drop m bytes))))
+    → bytes ≡ five (take m bytes) (take k (drop m bytes)) (take r (drop k (drop m bytes))) (take c (drop r (drop k (drop m bytes))))
+    (take l (drop c (drop r (drop k (drop m bytes))))) ++ drop l (drop c (drop r (drop k (drop m bytes))))
 cut_in_five bytes m k r c l =
     let after_m : List ℕ = drop m bytes in
     let after_k : List ℕ = drop k after_m in
     let after_r : List ℕ = drop r after_k in
     let after_c : List ℕ = drop c after_r in
     let front = five_front (take m bytes) (take k after_m) (take r after_k) (take c after_r) (take l after_c) (drop l after_c) in
-    sym (front ∙ rw (take-append-drop l after_c, take-append-drop c after_r, take-append-drop r after_k, take-append-drop k after_m, take-append-drop m bytes) refl)
+    sym (front
+    ∙ rw (
+      take-append-drop l after_c,
+      take-append-drop c after_r,
+      take-append-drop r after_k,
+      take-append-drop k after_m,
+      take-append-drop m bytes,
+    ) refl)
 
 -- the fields that are read are spelled so
 pub record TakesFields (fcl : ℕ) (bytes : List ℕ) (a : Afl) : Type 0 where
@@ -91,7 +100,15 @@ fields_take fcl bytes fits enough =
       rest = drop l after_mac;
       parts = cut_in_five bytes m k r c l ∙ ap (λ (x : List ℕ). x ++ drop l after_mac) (sym text);
       len = ap length text ∙ len ∙ omega arith;
-      says = record { more = refl; fid = refl; mcl = mcl.named_is; ki = ki.0.named_is; mcr = mcr.0.named_is; mac = mac.0.named_is; ml = ml.0.named_is };
+      says = record {
+        more = refl;
+        fid = refl;
+        mcl = mcl.named_is;
+        ki = ki.0.named_is;
+        mcr = mcr.0.named_is;
+        mac = mac.0.named_is;
+        ml = ml.0.named_is;
+      };
       fits = record { fid = omega arith; ki = ki.1; mcr = mcr.1; mac = mac.1; ml = ml.1 };
     }
 
@@ -111,11 +128,13 @@ placed_by fcl a says fields fid =
     let counted : is_uncounted a.more a.fid ≡ is_uncounted (has_more fcl) (fid_of fcl) = rw (says.more, says.fid) refl in
     record { fields = same ∙ fields; fid = counted ∙ fid }
 
-len_is : (fcl : ℕ) (rest : List ℕ) → length (fields_bytes (fields_at fcl rest)) ≡ fields_len fcl → (fields_at fcl rest).len ≡ length (afl_bytes fcl (fields_at fcl rest))
+len_is : (fcl : ℕ) (rest : List ℕ) → length (fields_bytes (fields_at fcl rest)) ≡ fields_len fcl
+    → (fields_at fcl rest).len ≡ length (afl_bytes fcl (fields_at fcl rest))
 unfolding fields_at
 len_is fcl rest len = omega (arith, len)
 
-takes_at : (ci said low high : ℕ) (rest : List ℕ) (a : Afl) → ci ≡ 0x90 → IsBytes (ci ∷ said ∷ low ∷ high ∷ rest) → afl_at (ci ∷ said ∷ low ∷ high ∷ rest) ≡ Ok a
+takes_at : (ci said low high : ℕ) (rest : List ℕ) (a : Afl) → ci ≡ 0x90 → IsBytes (ci ∷ said ∷ low ∷ high ∷ rest)
+    → afl_at (ci ∷ said ∷ low ∷ high ∷ rest) ≡ Ok a
     → BeginsWithAfl (ci ∷ said ∷ low ∷ high ∷ rest) a
 unfolding afl_at
 takes_at ci said low high rest a is_afl fits e =
@@ -127,7 +146,8 @@ takes_at ci said low high rest a is_afl fits e =
     let same : fields_at fcl rest ≡ a = cc numbered.1 in
     let fields = fields_take fcl rest (λ i. fits (suc (suc (suc (suc i))))) (ltb-false _ _ enough.0) in
     let word = le_bytes_2 (low ∷ high ∷ []) fcl refl (two_bytes low high (fits 2) (fits 3)) refl in
-    let said_is : said ≡ 2 + length (fields_bytes (fields_at fcl rest)) = eqb-true _ _ (not_false _ counted.0) ∙ ap (λ (n : ℕ). 2 + n) (sym fields.len) in
+    let said_is : said ≡ 2 + length (fields_bytes (fields_at fcl rest)) =
+    eqb-true _ _ (not_false _ counted.0) ∙ ap (λ (n : ℕ). 2 + n) (sym fields.len) in
     let text : List ℕ = fields_bytes (fields_at fcl rest) in
     let made : BeginsWithAfl (ci ∷ said ∷ low ∷ high ∷ rest) (fields_at fcl rest) = record {
       fcl = fcl;
@@ -169,22 +189,34 @@ judged said fcl rest =
     (cond (misplaces fcl) (Err (FieldPlace fcl))
     (cond (uncounts fcl) (Err FidZero) (Ok (fields_at fcl rest)))))
 
-judged_ok : (said fcl : ℕ) (rest : List ℕ) → said ≡ 2 + fields_len fcl → fields_len fcl ≤ length rest → misplaces fcl ≡ false → uncounts fcl ≡ false
+judged_ok : (said fcl : ℕ) (rest : List ℕ) → said ≡ 2 + fields_len fcl → fields_len fcl ≤ length rest → misplaces fcl ≡ false
+    → uncounts fcl ≡ false
     → judged said fcl rest ≡ Ok (fields_at fcl rest)
 unfolding judged
 judged_ok said fcl rest counted enough placed numbered =
     rw (eq-eqb said (2 + fields_len fcl) counted, le-ltb (length rest) (fields_len fcl) enough, placed, numbered) refl
 
-header_parts : (ci said low high fcl : ℕ) (rest : List ℕ) → from_le_bytes w16 (low ∷ high ∷ []) ≡ fcl → said ≡ 2 + fields_len fcl → fields_len fcl ≤ length rest
+header_parts : (ci said low high fcl : ℕ) (rest : List ℕ) → from_le_bytes w16 (low ∷ high ∷ []) ≡ fcl → said ≡ 2 + fields_len fcl
+    → fields_len fcl ≤ length rest
     → misplaces fcl ≡ false → uncounts fcl ≡ false → afl_at (ci ∷ said ∷ low ∷ high ∷ rest) ≡ Ok (fields_at fcl rest)
 unfolding afl_at judged
 header_parts ci said low high fcl rest word counted enough placed numbered =
     ap (λ (n : ℕ). judged said n rest) word ∙ judged_ok said fcl rest counted enough placed numbered
 
 -- the fields of these lengths are those in front
-fields_at_is : (fcl : ℕ) (a b c d e rest : List ℕ) → length a ≡ where_so (names_mcl fcl) 1 → length b ≡ where_so (names_ki fcl) 2 → length c ≡ where_so (names_mcr fcl) 4
+fields_at_is : (fcl : ℕ) (a b c d e rest : List ℕ) → length a ≡ where_so (names_mcl fcl) 1 → length b ≡ where_so (names_ki fcl) 2
+    → length c ≡ where_so (names_mcr fcl) 4
     → length d ≡ where_so (names_mac fcl) 8 → length e ≡ where_so (names_ml fcl) 2
-    → fields_at fcl (a ++ (b ++ (c ++ (d ++ (e ++ rest))))) ≡ record { more = has_more fcl; fid = fid_of fcl; mcl = byte_in a; ki = two_in b; mcr = four_in c; mac = all_in d; ml = two_in e; len = 4 + fields_len fcl }
+    → fields_at fcl (a ++ (b ++ (c ++ (d ++ (e ++ rest))))) ≡ record {
+      more = has_more fcl;
+      fid = fid_of fcl;
+      mcl = byte_in a;
+      ki = two_in b;
+      mcr = four_in c;
+      mac = all_in d;
+      ml = two_in e;
+      len = 4 + fields_len fcl;
+    }
 unfolding fields_at
 fields_at_is fcl a b c d e rest la lb lc ld le =
     let ra : List ℕ = b ++ (c ++ (d ++ (e ++ rest))) in
@@ -204,16 +236,27 @@ fields_at_is fcl a b c d e rest la lb lc ld le =
     )
     refl
 
-again_fields : (fcl : ℕ) (a : Afl) (rest : List ℕ) → Says fcl a → Fits a → a.len ≡ 4 + fields_len fcl → fields_at fcl (fields_bytes a ++ rest) ≡ a
+again_fields : (fcl : ℕ) (a : Afl) (rest : List ℕ) → Says fcl a → Fits a → a.len ≡ 4 + fields_len fcl
+    → fields_at fcl (fields_bytes a ++ rest) ≡ a
 again_fields fcl a rest says fits len =
-    ap (fields_at fcl) (five_front (field_bytes one_byte a.mcl) (field_bytes (to_le_bytes w16) a.ki) (field_bytes (to_le_bytes w32) a.mcr) (field_bytes itself a.mac) (field_bytes (to_le_bytes w16) a.ml) rest)
+    ap (fields_at fcl) (five_front (field_bytes one_byte a.mcl) (field_bytes (to_le_bytes w16) a.ki) (field_bytes (to_le_bytes w32) a.mcr)
+    (field_bytes itself a.mac) (field_bytes (to_le_bytes w16) a.ml) rest)
     ∙ fields_at_is fcl _ _ _ _ _ rest
     (length-one a.mcl ∙ ap (λ (b : Bool). where_so b 1) says.mcl)
     (length-two a.ki ∙ ap (λ (b : Bool). where_so b 2) says.ki)
     (length-four a.mcr ∙ ap (λ (b : Bool). where_so b 4) says.mcr)
     (length-eight a.mac fits.mac ∙ ap (λ (b : Bool). where_so b 8) says.mac)
     (length-two a.ml ∙ ap (λ (b : Bool). where_so b 2) says.ml)
-    ∙ rw (one_again a.mcl, two_again a.ki fits.ki, four_again a.mcr fits.mcr, eight_again a.mac fits.mac, two_again a.ml fits.ml, ← says.more, ← says.fid, ← len) refl
+    ∙ rw (
+      one_again a.mcl,
+      two_again a.ki fits.ki,
+      four_again a.mcr fits.mcr,
+      eight_again a.mac fits.mac,
+      two_again a.ml fits.ml,
+      ← says.more,
+      ← says.fid,
+      ← len,
+    ) refl
 
 pub length-fields_bytes : (fcl : ℕ) (a : Afl) → Says fcl a → Fits a → length (fields_bytes a) ≡ fields_len fcl
 unfolding fields_len
@@ -223,7 +266,8 @@ length-fields_bytes fcl a says fits =
     let mcr = length-four a.mcr ∙ ap (λ (b : Bool). where_so b 4) says.mcr in
     let mac = length-eight a.mac fits.mac ∙ ap (λ (b : Bool). where_so b 8) says.mac in
     let ml = length-two a.ml ∙ ap (λ (b : Bool). where_so b 2) says.ml in
-    length-five (field_bytes one_byte a.mcl) (field_bytes (to_le_bytes w16) a.ki) (field_bytes (to_le_bytes w32) a.mcr) (field_bytes itself a.mac) (field_bytes (to_le_bytes w16) a.ml)
+    length-five (field_bytes one_byte a.mcl) (field_bytes (to_le_bytes w16) a.ki) (field_bytes (to_le_bytes w32) a.mcr)
+    (field_bytes itself a.mac) (field_bytes (to_le_bytes w16) a.ml)
     ∙ rw (mcl, ki, mcr, mac, ml) refl
 
 -- FCL's places are those of the header that it says
@@ -241,12 +285,15 @@ again bytes a h =
     let places = placed_of h.fcl a h.says h.placed in
     let whole : length (afl_bytes h.fcl a) ≡ 4 + length (fields_bytes a) = omega arith in
     ap afl_at h.parts
-    ∙ header_parts 0x90 (2 + length (fields_bytes a)) _ _ h.fcl (fields_bytes a ++ h.rest) (from_le_bytes-to_le_bytes_2 h.fcl h.word) (ap (λ (n : ℕ). 2 + n) len) (omega (arith, len, length-append (fields_bytes a) h.rest)) places.0 places.1
-    ∙ ap (λ (x : Afl). let r : Result Afl AflFault = Ok x in r) (again_fields h.fcl a h.rest h.says h.fits (h.len ∙ whole ∙ ap (λ (n : ℕ). 4 + n) len))
+    ∙ header_parts 0x90 (2 + length (fields_bytes a)) _ _ h.fcl (fields_bytes a ++ h.rest) (from_le_bytes-to_le_bytes_2 h.fcl h.word)
+    (ap (λ (n : ℕ). 2 + n) len) (omega (arith, len, length-append (fields_bytes a) h.rest)) places.0 places.1
+    ∙ ap (λ (x : Afl). let r : Result Afl AflFault = Ok x in r) (again_fields h.fcl a h.rest h.says h.fits (h.len ∙ whole
+    ∙ ap (λ (n : ℕ). 4 + n) len))
 
 pub is_only : (bytes : List ℕ) (r : Result Afl AflFault) → r ≡ afl_at bytes → (a : Afl) → BeginsWithAfl bytes a → r ≡ Ok a
 is_only bytes r h a begins = h ∙ again bytes a begins
 
-pub is_found : (bytes : List ℕ) (r : Result Afl AflFault) → slice_get bytes 0 ≡ Some 0x90 → IsBytes bytes → r ≡ afl_at bytes → IfOk r (λ a. BeginsWithAfl bytes a)
+pub is_found : (bytes : List ℕ) (r : Result Afl AflFault) → slice_get bytes 0 ≡ Some 0x90 → IsBytes bytes → r ≡ afl_at bytes
+    → IfOk r (λ a. BeginsWithAfl bytes a)
 is_found bytes (Ok a) ci fits h = takes bytes a ci fits (sym h)
 is_found bytes (Err f) ci fits h = tt

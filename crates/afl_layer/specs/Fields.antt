@@ -35,7 +35,9 @@ where_so so n = cond so n 0
 
 -- how many bytes the fields that FCL names have: MCL, KI, MCR, MAC, ML
 unfoldable pub fields_len : ℕ → ℕ
-fields_len fcl = where_so (names_mcl fcl) 1 + (where_so (names_ki fcl) 2 + (where_so (names_mcr fcl) 4 + (where_so (names_mac fcl) 8 + where_so (names_ml fcl) 2)))
+fields_len fcl =
+    where_so (names_mcl fcl) 1
+    + (where_so (names_ki fcl) 2 + (where_so (names_mcr fcl) 4 + (where_so (names_mac fcl) 8 + where_so (names_ml fcl) 2)))
 
 -- the bytes of a field, where it is there
 abbrev pub field_bytes : {A : Type 0} → (A → List ℕ) → Option A → List ℕ
@@ -47,7 +49,10 @@ one_byte b = b ∷ []
 
 -- the bytes of the fields, in their order, numbers with their low byte first
 abbrev pub fields_bytes : Afl → List ℕ
-fields_bytes a = field_bytes one_byte a.mcl ++ (field_bytes (to_le_bytes w16) a.ki ++ (field_bytes (to_le_bytes w32) a.mcr ++ (field_bytes (λ mac. mac) a.mac ++ field_bytes (to_le_bytes w16) a.ml)))
+fields_bytes a =
+    field_bytes one_byte a.mcl ++ (field_bytes (to_le_bytes w16) a.ki
+    ++ (field_bytes (to_le_bytes w32) a.mcr
+    ++ (field_bytes (λ mac. mac) a.mac ++ field_bytes (to_le_bytes w16) a.ml)))
 
 -- the MAC stands in the last fragment alone, and the other fields in the first alone
 abbrev pub is_misplaced : Bool → ℕ → Bool → Bool → Bool → Bool → Bool → Bool
@@ -57,10 +62,14 @@ is_misplaced more fid mcl ki mcr mac ml = (more && mac) || (nat_le 2 fid && ((mc
 abbrev pub is_uncounted : Bool → ℕ → Bool
 is_uncounted more fid = more && fid == 0
 
--- a header is that of a fragment where more fragments follow (MF = 1) or its number FID is at least 2; every other is that of a whole message
+-- a header is that of a fragment where more fragments follow (MF = 1) or its number FID is at least 2; every other is that of a whole
+-- message
 abbrev pub is_fragment : Afl → Bool
 is_fragment a = a.more || nat_le 2 a.fid
 
 -- FCL of a header: a bit for MF and for each field that is there, and FID. The bits that aren't used are 0
 unfoldable pub fcl_of : Afl → ℕ
-fcl_of a = where_so a.more (2 ^ 14) + (where_so (is_some a.mcl) (2 ^ 13) + (where_so (is_some a.ml) (2 ^ 12) + (where_so (is_some a.mcr) (2 ^ 11) + (where_so (is_some a.mac) (2 ^ 10) + (where_so (is_some a.ki) (2 ^ 9) + a.fid)))))
+fcl_of a =
+    where_so a.more (2 ^ 14) + (where_so (is_some a.mcl) (2 ^ 13)
+    + (where_so (is_some a.ml) (2 ^ 12) + (where_so (is_some a.mcr) (2 ^ 11)
+    + (where_so (is_some a.mac) (2 ^ 10) + (where_so (is_some a.ki) (2 ^ 9) + a.fid)))))

@@ -67,13 +67,15 @@ pub record HasFields (bytes : List ℕ) (fcl : ℕ) : Type 0 where
 
 -- the bytes are cut off: there are fewer than four, or fewer fields than AFLL counts
 abbrev pub IsCutOff : List ℕ → Type 0
-IsCutOff bytes = (length bytes < 4) ⊎ ((fcl : ℕ) × (rest : List ℕ) × BeginsWithFcl bytes (2 + fields_len fcl) fcl rest × (length rest < fields_len fcl))
+IsCutOff bytes =
+    (length bytes < 4) ⊎ ((fcl : ℕ) × (rest : List ℕ) × BeginsWithFcl bytes (2 + fields_len fcl) fcl rest × (length rest < fields_len fcl))
 
 -- why bytes that have CI 90 begin with no header: AFLL counts other fields than FCL names; they are cut off; FCL names a field that
 -- doesn't stand in this fragment; it is that of a fragment of several, and has no number
 abbrev pub IsAflFault : List ℕ → AflFault → Type 0
 IsAflFault bytes (Truncated n) = IsCutOff bytes × (n ≡ length bytes)
-IsAflFault bytes (AflLength said fields) = (fcl : ℕ) × (rest : List ℕ) × BeginsWithFcl bytes said fcl rest × (fields ≡ 2 + fields_len fcl) × (said ≢ fields)
+IsAflFault bytes (AflLength said fields) =
+    (fcl : ℕ) × (rest : List ℕ) × BeginsWithFcl bytes said fcl rest × (fields ≡ 2 + fields_len fcl) × (said ≢ fields)
 IsAflFault bytes (FieldPlace fcl) = HasFields bytes fcl × (misplaces fcl ≡ true)
 IsAflFault bytes FidZero = (fcl : ℕ) × HasFields bytes fcl × (misplaces fcl ≡ false) × (uncounts fcl ≡ true)
 

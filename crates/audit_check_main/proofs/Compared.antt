@@ -34,14 +34,16 @@ take-plus [] (suc n) i = ap (λ m. take m []) (let s : suc n + i ≡ suc (n + i)
     nothing : {X : Type 0} (i : ℕ) → let e : List X = [] in e ≡ take i e
     nothing zero = refl
     nothing (suc i) = refl
-take-plus (x ∷ xs) (suc n) i = ap (λ m. take m (x ∷ xs)) (let s : suc n + i ≡ suc (n + i) = omega arith in s) ∙ ap (λ l. x ∷ l) (take-plus xs n i)
+take-plus (x ∷ xs) (suc n) i =
+    ap (λ m. take m (x ∷ xs)) (let s : suc n + i ≡ suc (n + i) = omega arith in s) ∙ ap (λ l. x ∷ l) (take-plus xs n i)
 
 take-behind : {X : Type 0} (xs ys : List X) (n i : ℕ) → n ≡ length xs → take (n + i) (xs ++ ys) ≡ xs ++ take i ys
 take-behind xs ys n i e = ap (λ m. take (m + i) (xs ++ ys)) e ∙ at xs
   where
     at : (xs : List _) → take (length xs + i) (xs ++ ys) ≡ xs ++ take i ys
     at [] = ap (λ m. take m ys) (let z : 0 + i ≡ i = omega arith in z)
-    at (x ∷ xs) = ap (λ m. take m (x ∷ (xs ++ ys))) (let s : length (x ∷ xs) + i ≡ suc (length xs + i) = omega arith in s) ∙ ap (λ l. x ∷ l) (at xs)
+    at (x ∷ xs) =
+        ap (λ m. take m (x ∷ (xs ++ ys))) (let s : length (x ∷ xs) + i ≡ suc (length xs + i) = omega arith in s) ∙ ap (λ l. x ∷ l) (at xs)
 
 -- ---- one piece
 
@@ -58,17 +60,24 @@ skipped c piece d = record {
 }
 
 -- a piece of which so many first bytes follow in the text
-pub compared : (c c' : Compared) (piece rest : List ℕ) (count : ℕ) → c.differs ≡ false → rest ≡ drop c.place c.text → c.place ≤ length c.text → IsCommon count rest piece → c'.text ≡ c.text → c'.place ≡ c.place + count
+pub compared : (c c' : Compared) (piece rest : List ℕ) (count : ℕ) → c.differs ≡ false → rest ≡ drop c.place c.text
+    → c.place ≤ length c.text → IsCommon count rest piece → c'.text ≡ c.text → c'.place ≡ c.place + count
     → (c'.differs ≡ false → count ≡ length piece) → (c'.differs ≡ true → count < length piece) → Compares c piece c'
 compared c c' piece rest count off back within common text place whole part = record {
   same_text = text;
   goes_on = λ put so. record {
     within = (let l = ap length back ∙ length-drop c.place c.text in let i = common.in_text in let t = ap length text in omega arith);
-    same = λ e. (λ i. so.same off i ++ all_of piece count (whole e) i) ∙ (ap (λ l. take c.place c.text ++ l) (sym common.same ∙ ap (take count) back) ∙ (sym (take-plus c.text c.place count) ∙ (λ i. take (sym place i) (sym text i))));
-    front = λ e. ap (λ m. take m (put ++ piece)) place ∙ (take-behind put piece c.place count (put_long put so) ∙ ((λ i. so.same off i ++ (sym common.same ∙ ap (take count) back) i) ∙ (sym (take-plus c.text c.place count) ∙ (λ i. take (sym place i) (sym text i)))));
+    same = λ e. (λ i. so.same off i ++ all_of piece count (whole e) i)
+        ∙ (ap (λ l. take c.place c.text ++ l) (sym common.same ∙ ap (take count) back)
+        ∙ (sym (take-plus c.text c.place count) ∙ (λ i. take (sym place i) (sym text i))));
+    front = λ e. ap (λ m. take m (put ++ piece)) place ∙ (take-behind put piece c.place count (put_long put so)
+        ∙ ((λ i. so.same off i ++ (sym common.same ∙ ap (take count) back) i)
+        ∙ (sym (take-plus c.text c.place count) ∙ (λ i. take (sym place i) (sym text i)))));
     inside = λ e. let l = length-append put piece in let p = part e in let m = put_long put so in omega arith;
     other = λ e same. common.stops (part e)
-        (ap (λ r. slice_get r count) back ∙ (get-drop c.text c.place count ∙ ((λ i. slice_get (sym text i) (sym place i)) ∙ (same ∙ (ap (slice_get (put ++ piece)) place ∙ get-behind put piece c.place count (put_long put so))))));
+        (ap (λ r. slice_get r count) back ∙ (get-drop c.text c.place count
+        ∙ ((λ i. slice_get (sym text i) (sym place i))
+        ∙ (same ∙ (ap (slice_get (put ++ piece)) place ∙ get-behind put piece c.place count (put_long put so))))));
   };
 }
   where
@@ -80,30 +89,45 @@ compared c c' piece rest count off back within common text place whole part = re
     put_long : (put : List ℕ) → IsSoFar c put → c.place ≡ length put
     put_long put so = sym (ap length (so.same off) ∙ length-take-le c.place c.text within)
 
-pub put_piece : (text : List ℕ) (place : ℕ) (differs : Bool) (piece rest : List ℕ) (count : ℕ) (old : Compared) → record { text = text; place = place; differs = differs } ≡ old → differs ≡ false → rest ≡ drop place text → place ≤ length text → IsCommon count rest piece
+pub put_piece : (text : List ℕ) (place : ℕ) (differs : Bool) (piece rest : List ℕ) (count : ℕ) (old : Compared)
+    → record { text = text; place = place; differs = differs } ≡ old → differs ≡ false → rest ≡ drop place text → place ≤ length text
+    → IsCommon count rest piece
     → Compares old piece (record { text = text; place = place + count; differs = nat_lt count (length piece) })
 put_piece text place differs piece rest count old is off back within common =
     subst (λ p. Compares p piece (record { text = text; place = place + count; differs = nat_lt count (length piece) })) is
-    (compared (record { text = text; place = place; differs = differs }) (record { text = text; place = place + count; differs = nat_lt count (length piece) }) piece rest count off back within common refl refl
-    (λ e. let i = common.in_other in let m : count ≡ length piece = grind (arith, nat_tests) in m) (λ e. let l : count < length piece = grind (arith, nat_tests) in l))
+    (compared (record { text = text; place = place; differs = differs })
+    (record { text = text; place = place + count; differs = nat_lt count (length piece) }) piece rest count off back within common refl refl
+    (λ e. let i = common.in_other in let m : count ≡ length piece = grind (arith, nat_tests) in m)
+    (λ e. let l : count < length piece = grind (arith, nat_tests) in l))
 
 -- ---- all pieces
 
-calls_compare : (p q : Compared) (parts : List (List ℕ)) → FoldsTo Compares p parts q → (put : List ℕ) → IsSoFar p put → (q.text ≡ p.text) × IsSoFar q (put ++ concat parts)
-calls_compare p q [] same put so = (ap (λ (c : Compared). c.text) (sym same), subst (λ l. IsSoFar q l) (sym (append-nil put)) (subst (λ c. IsSoFar c put) same so))
+calls_compare : (p q : Compared) (parts : List (List ℕ)) → FoldsTo Compares p parts q → (put : List ℕ) → IsSoFar p put → (q.text ≡ p.text)
+    × IsSoFar q (put ++ concat parts)
+calls_compare p q [] same put so =
+    (ap (λ (c : Compared). c.text) (sym same), subst (λ l. IsSoFar q l) (sym (append-nil put)) (subst (λ c. IsSoFar c put) same so))
 calls_compare p q (piece ∷ parts) (j, one, rest) put so =
     let later = calls_compare j q parts rest (put ++ piece) (one.goes_on put so) in
     (later.0 ∙ one.same_text, subst (IsSoFar q) (append_assoc put piece (concat parts)) later.1)
 
-pub so_far : (p q : Compared) (text put : List ℕ) → p ≡ record { text = text; place = 0; differs = false } → Puts Compares p put q → (q.text ≡ text) × IsSoFar q put
+pub so_far : (p q : Compared) (text put : List ℕ) → p ≡ record { text = text; place = 0; differs = false } → Puts Compares p put q
+    → (q.text ≡ text) × IsSoFar q put
 so_far p q text put fresh puts =
-    let first : IsSoFar p [] = subst (λ c. IsSoFar c []) (sym fresh) (record { within = omega arith; same = λ e. refl; front = λ e. absurd cc; inside = λ e. absurd cc; other = λ e. absurd cc }) in
+    let first : IsSoFar p [] =
+    subst (λ c. IsSoFar c []) (sym fresh) (record {
+      within = omega arith;
+      same = λ e. refl;
+      front = λ e. absurd cc;
+      inside = λ e. absurd cc;
+      other = λ e. absurd cc;
+    }) in
     let all = calls_compare p q puts.calls.parts puts.calls.calls [] first in
     (all.0 ∙ ap (λ (c : Compared). c.text) fresh, subst (IsSoFar q) puts.calls.whole all.1)
 
 -- ---- what is found
 
-pub same_text : (q : Compared) (text put : List ℕ) → q.text ≡ text → IsSoFar q put → q.differs ≡ false → length q.text ≤ q.place → text ≡ put
+pub same_text : (q : Compared) (text put : List ℕ) → q.text ≡ text → IsSoFar q put → q.differs ≡ false → length q.text ≤ q.place
+    → text ≡ put
 same_text q text put is so off past = sym (so.same off ∙ (take_whole q.place q.text past ∙ is))
   where
     take_whole : (n : ℕ) (xs : List ℕ) → length xs ≤ n → take n xs ≡ xs
@@ -116,13 +140,15 @@ pub differs_there : (q : Compared) (text put : List ℕ) → q.text ≡ text →
 differs_there q text put is so on = subst (λ t. DiffersAt q.place t put) is (record { same = sym (so.front on); differs = so.other on })
 
 -- the text goes on behind all that was put
-pub goes_on_there : (q : Compared) (text put : List ℕ) → q.text ≡ text → IsSoFar q put → q.differs ≡ false → q.place < length q.text → DiffersAt q.place text put
+pub goes_on_there : (q : Compared) (text put : List ℕ) → q.text ≡ text → IsSoFar q put → q.differs ≡ false → q.place < length q.text
+    → DiffersAt q.place text put
 goes_on_there q text put is so off more = subst (λ t. DiffersAt q.place t put) is (record {
   same = sym (ap (take q.place) (so.same off) ∙ again q.place q.text);
   differs = λ e.
       let some = slice_get-get_or q.text q.place 0 more in
       let long = ap length (so.same off) ∙ length-take-le q.place q.text so.within in
-      let none = slice_get_past put q.place (omega arith) in absurd (let x : Some (get_or q.text q.place 0) ≡ None = sym some ∙ (e ∙ none) in cc);
+      let none =
+      slice_get_past put q.place (omega arith) in absurd (let x : Some (get_or q.text q.place 0) ≡ None = sym some ∙ (e ∙ none) in cc);
 })
   where
     again : (n : ℕ) (xs : List ℕ) → take n (take n xs) ≡ take n xs
@@ -132,21 +158,27 @@ goes_on_there q text put is so off more = subst (λ t. DiffersAt q.place t put) 
 
 -- ---- common first bytes
 
-pub common_stop : (text other : List ℕ) (count : ℕ) → count < length text → count < length other → take count text ≡ take count other → (get_or text count 0 ≡ get_or other count 0 → ⊥) → IsCommon count text other
+pub common_stop : (text other : List ℕ) (count : ℕ) → count < length text → count < length other → take count text ≡ take count other
+    → (get_or text count 0 ≡ get_or other count 0 → ⊥) → IsCommon count text other
 common_stop text other count in_text in_other same differs = record {
   in_text = omega arith;
   in_other = omega arith;
   same = same;
-  stops = λ h e. differs (let x : Some (get_or text count 0) ≡ Some (get_or other count 0) = sym (slice_get-get_or text count 0 in_text) ∙ (e ∙ slice_get-get_or other count 0 in_other) in cc);
+  stops = λ h e. differs (let x : Some (get_or text count 0) ≡ Some (get_or other count 0) = sym (slice_get-get_or text count 0 in_text)
+      ∙ (e ∙ slice_get-get_or other count 0 in_other) in cc);
 }
 
-pub common_end : (text other : List ℕ) (count : ℕ) → count ≤ length text → count ≤ length other → take count text ≡ take count other → (count < length other → length text ≤ count) → IsCommon count text other
+pub common_end : (text other : List ℕ) (count : ℕ) → count ≤ length text → count ≤ length other → take count text ≡ take count other
+    → (count < length other → length text ≤ count) → IsCommon count text other
 common_end text other count in_text in_other same end = record {
   in_text = in_text;
   in_other = in_other;
   same = same;
-  stops = λ h e. absurd (let x : None ≡ Some (get_or other count 0) = sym (slice_get_past text count (end h)) ∙ (e ∙ slice_get-get_or other count 0 h) in cc);
+  stops = λ h e. absurd (let x : None ≡ Some (get_or other count 0) = sym (slice_get_past text count (end h))
+      ∙ (e ∙ slice_get-get_or other count 0 h) in cc);
 }
 
-pub common_more : (text other : List ℕ) (count : ℕ) → count < length text → count < length other → take count text ≡ take count other → get_or text count 0 ≡ get_or other count 0 → take (count + 1) text ≡ take (count + 1) other
-common_more text other count in_text in_other same next = take_more text count 0 in_text ∙ ((λ i. same i ++ next i ∷ []) ∙ sym (take_more other count 0 in_other))
+pub common_more : (text other : List ℕ) (count : ℕ) → count < length text → count < length other → take count text ≡ take count other
+    → get_or text count 0 ≡ get_or other count 0 → take (count + 1) text ≡ take (count + 1) other
+common_more text other count in_text in_other same next =
+    take_more text count 0 in_text ∙ ((λ i. same i ++ next i ∷ []) ∙ sym (take_more other count 0 in_other))

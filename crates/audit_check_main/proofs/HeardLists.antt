@@ -38,7 +38,8 @@ one f x = at (f x)
     at (Some y) = refl
 
 numbers_more : {Y : Type 0} (f : ℕ × Told → Option (ℕ × Y)) (heard : List Told) (t : Told) (line : ℕ) → line ≡ 1 + length heard
-    → map number_of (filter_map f (enumerate_from 1 (heard ++ t ∷ []))) ≡ map number_of (filter_map f (enumerate_from 1 heard)) ++ map number_of (option_to_list (f (line, t)))
+    → map number_of (filter_map f (enumerate_from 1 (heard ++ t ∷ []))) ≡ map number_of (filter_map f (enumerate_from 1 heard))
+    ++ map number_of (option_to_list (f (line, t)))
 numbers_more f heard t line number =
     ap (λ ls. map number_of (filter_map f ls)) (numbered 1 heard t)
     ∙ (ap (map number_of) (filter_map-append f (enumerate_from 1 heard) ((1 + length heard, t) ∷ []))
@@ -65,7 +66,8 @@ or_parts true y h = absurd cc
 or_parts false y h = (refl, h)
 
 -- where no meter has the address, no list of a meter changes
-unchanged : (f : Commissioned → List ℕ) (a b n : ℕ) (cs : List Commissioned) → b ≡ a → list_any (λ (x : Address). x.0 == b) (map (λ (c : Commissioned). c.address) cs) ≡ false
+unchanged : (f : Commissioned → List ℕ) (a b n : ℕ) (cs : List Commissioned) → b ≡ a
+    → list_any (λ (x : Address). x.0 == b) (map (λ (c : Commissioned). c.address) cs) ≡ false
     → (map (λ c. f c ++ one_if (is_for a c) n) cs ≡ map f cs) × (list_any (is_for a) cs ≡ false)
 unchanged f a b n [] same h = (refl, refl)
 unchanged f a b n (c ∷ cs) same h =
@@ -90,16 +92,19 @@ placed f s a n (c ∷ cs) apart = at (c.address.0 == a) refl (placed f s a n cs 
         let none = unchanged f a c.address.0 n cs (is_same c.address.0 a e) apart.0 in
         (λ i. with_number (cond (not (e i)) (1 + place_in a cs) 0) n (f c ∷ (map f cs ++ s ∷ [])))
         ∙ (λ i. (f c ++ one_if (sym e i) n) ∷ (sym none.0 i ++ (sym (append-nil s) i) ∷ []))
-        ∙ (λ i. (f c ++ one_if (c.address.0 == a) n) ∷ (map (λ d. f d ++ one_if (is_for a d) n) cs ++ (s ++ one_if (not (sym e i || list_any (is_for a) cs)) n) ∷ []))
+        ∙ (λ i. (f c ++ one_if (c.address.0 == a) n) ∷ (map (λ d. f d ++ one_if (is_for a d) n) cs
+        ++ (s ++ one_if (not (sym e i || list_any (is_for a) cs)) n) ∷ []))
     at false e h =
         (λ i. with_number (cond (not (e i)) (1 + place_in a cs) 0) n (f c ∷ (map f cs ++ s ∷ [])))
         ∙ (ap (λ j. with_number j n (f c ∷ (map f cs ++ s ∷ []))) (let e' : 1 + place_in a cs ≡ suc (place_in a cs) = omega arith in e')
         ∙ (λ i. (sym (append-nil (f c)) i) ∷ h i))
-        ∙ (λ i. (f c ++ one_if (sym e i) n) ∷ (map (λ d. f d ++ one_if (is_for a d) n) cs ++ (s ++ one_if (not (sym e i || list_any (is_for a) cs)) n) ∷ []))
+        ∙ (λ i. (f c ++ one_if (sym e i) n) ∷ (map (λ d. f d ++ one_if (is_for a d) n) cs
+        ++ (s ++ one_if (not (sym e i || list_any (is_for a) cs)) n) ∷ []))
 
 -- ---- all lists, and one line more
 
-lists_with : (f g : Commissioned → List ℕ) (s r : List ℕ) (cs : List Commissioned) → ((c : Commissioned) → f c ≡ g c) → s ≡ r → map f cs ++ s ∷ [] ≡ map g cs ++ r ∷ []
+lists_with : (f g : Commissioned → List ℕ) (s r : List ℕ) (cs : List Commissioned) → ((c : Commissioned) → f c ≡ g c) → s ≡ r
+    → map f cs ++ s ∷ [] ≡ map g cs ++ r ∷ []
 lists_with f g s r [] same e = ap (λ l. l ∷ []) e
 lists_with f g s r (c ∷ cs) same e = (λ i. same c i ∷ lists_with f g s r cs same e i)
 
@@ -107,24 +112,30 @@ own_number : (b : Bool) (line : ℕ) (event : Event) → map number_of (option_t
 own_number true line event = refl
 own_number false line event = refl
 
-strange_number : (b : Bool) (line : ℕ) (address : Address) → map number_of (option_to_list (cond b None (Some (line, address)))) ≡ one_if (not b) line
+strange_number : (b : Bool) (line : ℕ) (address : Address)
+    → map number_of (option_to_list (cond b None (Some (line, address)))) ≡ one_if (not b) line
 strange_number true line address = refl
 strange_number false line address = refl
 
 abbrev own_numbers : List Told → Commissioned → List ℕ
 own_numbers heard c = map number_of (lines_for c.address heard)
 
-pub numbers_for-push : (cs : List Commissioned) (heard : List Told) (t : Told) (line : ℕ) → AreApart (map (λ (c : Commissioned). c.address) cs) → line ≡ 1 + length heard
+pub numbers_for-push : (cs : List Commissioned) (heard : List Told) (t : Told) (line : ℕ)
+    → AreApart (map (λ (c : Commissioned). c.address) cs) → line ≡ 1 + length heard
     → noted (map (λ c. c.address) cs) line t (numbers_for cs heard) ≡ numbers_for cs (heard ++ t ∷ [])
 numbers_for-push cs heard (told.Event address event) line apart number =
     placed (own_numbers heard) (map number_of (lines_of_strangers cs heard)) address.0 line cs apart
-    ∙ lists_with (λ c. own_numbers heard c ++ one_if (is_for address.0 c) line) (own_numbers (heard ++ told.Event address event ∷ [])) _ _ cs
-    (λ c. sym (numbers_more (λ l. event_at c.address l.0 l.1) heard (told.Event address event) line number ∙ ap (λ l. own_numbers heard c ++ l) (own_number (is_for address.0 c) line event)))
-    (sym (numbers_more (λ l. stranger_at cs l.0 l.1) heard (told.Event address event) line number ∙ ap (λ l. map number_of (lines_of_strangers cs heard) ++ l) (strange_number (is_commissioned cs address) line address)))
+    ∙ lists_with (λ c. own_numbers heard c ++ one_if (is_for address.0 c) line) (own_numbers (heard ++ told.Event address event ∷ []))
+    _ _ cs
+    (λ c. sym (numbers_more (λ l. event_at c.address l.0 l.1) heard (told.Event address event) line number
+    ∙ ap (λ l. own_numbers heard c ++ l) (own_number (is_for address.0 c) line event)))
+    (sym (numbers_more (λ l. stranger_at cs l.0 l.1) heard (told.Event address event) line number
+    ∙ ap (λ l. map number_of (lines_of_strangers cs heard) ++ l) (strange_number (is_commissioned cs address) line address)))
 numbers_for-push cs heard told.Unframed line apart number =
     lists_with (own_numbers heard) (own_numbers (heard ++ told.Unframed ∷ [])) _ _ cs
     (λ c. sym (numbers_more (λ l. event_at c.address l.0 l.1) heard told.Unframed line number ∙ append-nil (own_numbers heard c)))
-    (sym (numbers_more (λ l. stranger_at cs l.0 l.1) heard told.Unframed line number ∙ append-nil (map number_of (lines_of_strangers cs heard))))
+    (sym (numbers_more (λ l. stranger_at cs l.0 l.1) heard told.Unframed line number
+    ∙ append-nil (map number_of (lines_of_strangers cs heard))))
 numbers_for-push cs heard told.Bad line apart number =
     lists_with (own_numbers heard) (own_numbers (heard ++ told.Bad ∷ [])) _ _ cs
     (λ c. sym (numbers_more (λ l. event_at c.address l.0 l.1) heard told.Bad line number ∙ append-nil (own_numbers heard c)))
@@ -148,12 +159,14 @@ place_none p xs h =
 pub place_some : (p : Address → Bool) (xs : List Address) (k : ℕ) → position p xs ≡ Some k → k ≡ position_or_len p xs
 place_some p xs k h = sym (some_if _ _ k h)
 
-pub class_own : (p : Address → Bool) (xs : List Address) (n : ℕ) → n ≡ length xs → position_or_len p xs < n → classes.Own ≡ class_at (position p xs)
+pub class_own : (p : Address → Bool) (xs : List Address) (n : ℕ) → n ≡ length xs → position_or_len p xs < n
+    → classes.Own ≡ class_at (position p xs)
 class_own p xs n e within =
     let test : true ≡ nat_lt (position_or_len p xs) (length xs) = grind (arith, nat_tests) in
     ap (λ b. class_at (cond b (Some (position_or_len p xs)) None)) test
 
-pub class_strange : (p : Address → Bool) (xs : List Address) (n : ℕ) → n ≡ length xs → n ≤ position_or_len p xs → classes.Strange ≡ class_at (position p xs)
+pub class_strange : (p : Address → Bool) (xs : List Address) (n : ℕ) → n ≡ length xs → n ≤ position_or_len p xs
+    → classes.Strange ≡ class_at (position p xs)
 class_strange p xs n e past =
     let test : false ≡ nat_lt (position_or_len p xs) (length xs) = grind (arith, nat_tests) in
     ap (λ b. class_at (cond b (Some (position_or_len p xs)) None)) test
@@ -164,7 +177,8 @@ abbrev addresses : List Commissioned → List Address
 addresses cs = map (λ c. c.address) cs
 
 -- the lines so far, and what they came to
-pub record HasHeardSo (cs : List Commissioned) (input : List ℕ) (given left : List (List ℕ)) (lists : List (List ℕ)) (kinds : List Class) : Type 0 where
+pub record HasHeardSo (cs : List Commissioned) (input : List ℕ) (given left : List (List ℕ)) (lists : List (List ℕ)) (kinds : List Class)
+    : Type 0 where
   pub cut : lines input ≡ given ++ left
   pub lists_are : lists ≡ numbers_for cs (map told_of given)
   pub classes_are : kinds ≡ map (class_by (map (λ c. c.address) cs)) (map told_of given)
@@ -173,11 +187,13 @@ empty_numbers : (cs : List Commissioned) → map (λ (c : Commissioned). []) cs 
 empty_numbers [] = refl
 empty_numbers (c ∷ cs) = ap (λ l. [] ∷ l) (rest cs)
   where
-    rest : (cs : List Commissioned) → map (λ (c : Commissioned). []) cs ++ [] ∷ [] ≡ map (λ (c : Commissioned). map number_of (lines_for c.address [])) cs ++ [] ∷ []
+    rest : (cs : List Commissioned) → map (λ (c : Commissioned). []) cs ++ [] ∷ []
+        ≡ map (λ (c : Commissioned). map number_of (lines_for c.address [])) cs ++ [] ∷ []
     rest [] = refl
     rest (c ∷ cs) = ap (λ l. [] ∷ l) (rest cs)
 
-pub heard_none : (cs : List Commissioned) (input : List ℕ) (given left : List (List ℕ)) (lists : List (List ℕ)) (kinds : List Class) → given ≡ [] → left ≡ lines input → lists ≡ map (λ (c : Commissioned). []) cs ++ [] ∷ [] → kinds ≡ []
+pub heard_none : (cs : List Commissioned) (input : List ℕ) (given left : List (List ℕ)) (lists : List (List ℕ)) (kinds : List Class)
+    → given ≡ [] → left ≡ lines input → lists ≡ map (λ (c : Commissioned). []) cs ++ [] ∷ [] → kinds ≡ []
     → HasHeardSo cs input given left lists kinds
 heard_none cs input given left lists kinds none all empty no_kinds = record {
   cut = sym all ∙ ap (λ l. l ++ left) (sym none);
@@ -185,8 +201,10 @@ heard_none cs input given left lists kinds none all empty no_kinds = record {
   classes_are = no_kinds ∙ ap (λ l. map (class_by (map (λ c. c.address) cs)) (map told_of l)) (sym none);
 }
 
-heard_more : (cs : List Commissioned) (input : List ℕ) (given left rest : List (List ℕ)) (text : List ℕ) (number : ℕ) (lists lists' : List (List ℕ)) (kinds : List Class) (class : Class) → AreApart (map (λ (c : Commissioned). c.address) cs)
-    → HasHeardSo cs input given left lists kinds → left ≡ text ∷ rest → number ≡ length given + 1 → lists' ≡ noted (map (λ c. c.address) cs) number (told_of text) lists → class ≡ class_by (map (λ c. c.address) cs) (told_of text)
+heard_more : (cs : List Commissioned) (input : List ℕ) (given left rest : List (List ℕ)) (text : List ℕ) (number : ℕ)
+    (lists lists' : List (List ℕ)) (kinds : List Class) (class : Class) → AreApart (map (λ (c : Commissioned). c.address) cs)
+    → HasHeardSo cs input given left lists kinds → left ≡ text ∷ rest → number ≡ length given + 1
+    → lists' ≡ noted (map (λ c. c.address) cs) number (told_of text) lists → class ≡ class_by (map (λ c. c.address) cs) (told_of text)
     → HasHeardSo cs input (given ++ text ∷ []) rest lists' (kinds ++ class ∷ [])
 heard_more cs input given left rest text number lists lists' kinds class apart before next counted after is = record {
   cut = before.cut ∙ (ap (λ l. given ++ l) next ∙ sym (append_assoc given (text ∷ []) rest));
@@ -194,27 +212,36 @@ heard_more cs input given left rest text number lists lists' kinds class apart b
       ∙ (numbers_for-push cs (map told_of given) (told_of text) number apart (let l = length-map given told_of in omega arith)
       ∙ ap (numbers_for cs) (sym (map-append told_of given (text ∷ [])))));
   classes_are = (λ i. before.classes_are i ++ is i ∷ [])
-      ∙ (sym (map-append (class_by (addresses cs)) (map told_of given) (told_of text ∷ [])) ∙ ap (map (class_by (addresses cs))) (sym (map-append told_of given (text ∷ []))));
+      ∙ (sym (map-append (class_by (addresses cs)) (map told_of given) (told_of text ∷ []))
+      ∙ ap (map (class_by (addresses cs))) (sym (map-append told_of given (text ∷ []))));
 }
 
-pub heard_next : (cs : List Commissioned) (input : List ℕ) (given given' left rest : List (List ℕ)) (text : List ℕ) (number : ℕ) (lists lists' : List (List ℕ)) (kinds kinds' : List Class) (class : Class) → AreApart (map (λ (c : Commissioned). c.address) cs)
-    → HasHeardSo cs input given left lists kinds → left ≡ text ∷ rest → number ≡ length given + 1 → lists' ≡ noted (map (λ c. c.address) cs) number (told_of text) lists → class ≡ class_by (map (λ c. c.address) cs) (told_of text)
+pub heard_next : (cs : List Commissioned) (input : List ℕ) (given given' left rest : List (List ℕ)) (text : List ℕ) (number : ℕ)
+    (lists lists' : List (List ℕ)) (kinds kinds' : List Class) (class : Class) → AreApart (map (λ (c : Commissioned). c.address) cs)
+    → HasHeardSo cs input given left lists kinds → left ≡ text ∷ rest → number ≡ length given + 1
+    → lists' ≡ noted (map (λ c. c.address) cs) number (told_of text) lists → class ≡ class_by (map (λ c. c.address) cs) (told_of text)
     → given' ≡ given ++ text ∷ [] → kinds' ≡ kinds ++ class ∷ [] → HasHeardSo cs input given' rest lists' kinds'
 heard_next cs input given given' left rest text number lists lists' kinds kinds' class apart before next counted after is more more_kinds =
-    subst (λ g. HasHeardSo cs input g rest lists' kinds') (sym more) (subst (λ k. HasHeardSo cs input (given ++ text ∷ []) rest lists' k) (sym more_kinds)
+    subst (λ g. HasHeardSo cs input g rest lists' kinds') (sym more)
+    (subst (λ k. HasHeardSo cs input (given ++ text ∷ []) rest lists' k) (sym more_kinds)
     (heard_more cs input given left rest text number lists lists' kinds class apart before next counted after is))
 
-pub kinds_few : (cs : List Commissioned) (input : List ℕ) (given left : List (List ℕ)) (lists : List (List ℕ)) (kinds : List Class) → HasHeardSo cs input given left lists kinds → length kinds ≡ length given
+pub kinds_few : (cs : List Commissioned) (input : List ℕ) (given left : List (List ℕ)) (lists : List (List ℕ)) (kinds : List Class)
+    → HasHeardSo cs input given left lists kinds → length kinds ≡ length given
 kinds_few cs input given left lists kinds so =
     ap length so.classes_are ∙ (length-map (map told_of given) (class_by (map (λ c. c.address) cs)) ∙ length-map given told_of)
 
 -- an input within the limits has few lines
 pub few_lines : (input : List ℕ) → is_over input ≡ false → length (lines input) ≤ 131072
 unfolding is_over
-few_lines input h = let parts : (nat_lt 67108864 (length input) ≡ false) × (nat_lt 131072 (length (lines input)) ≡ false) = or_parts _ _ h in let few : nat_lt 131072 (length (lines input)) ≡ false = parts.1 in grind (arith, nat_tests)
+few_lines input h =
+    let parts : (nat_lt 67108864 (length input) ≡ false) × (nat_lt 131072 (length (lines input)) ≡ false) =
+    or_parts _ _ h in let few : nat_lt 131072 (length (lines input)) ≡ false = parts.1 in grind (arith, nat_tests)
 
-pub given_few : (cs : List Commissioned) (input : List ℕ) (given left : List (List ℕ)) (lists : List (List ℕ)) (kinds : List Class) → is_over input ≡ false → HasHeardSo cs input given left lists kinds → length given + length left ≤ 131072
-given_few cs input given left lists kinds within so = let few = few_lines input within in let l = ap length so.cut ∙ length-append given left in omega arith
+pub given_few : (cs : List Commissioned) (input : List ℕ) (given left : List (List ℕ)) (lists : List (List ℕ)) (kinds : List Class)
+    → is_over input ≡ false → HasHeardSo cs input given left lists kinds → length given + length left ≤ 131072
+given_few cs input given left lists kinds within so =
+    let few = few_lines input within in let l = ap length so.cut ∙ length-append given left in omega arith
 
 -- one list for each meter, and one
 pub length-numbers_for : (cs : List Commissioned) (heard : List Told) → length (numbers_for cs heard) ≡ length cs + 1
@@ -224,9 +251,12 @@ length-numbers_for cs heard = length-append (map (own_numbers heard) cs) _ ∙ a
 
 count-map : {X Y : Type 0} (p : Y → Bool) (f : X → Y) (xs : List X) → count_by p (map f xs) ≡ count_by (λ x. p (f x)) xs
 count-map p f [] = refl
-count-map p f (x ∷ xs) = sum_by-cons (λ y. cond (p y) 1 0) (f x) (map f xs) ∙ (ap (λ n. cond (p (f x)) 1 0 + n) (count-map p f xs) ∙ sym (sum_by-cons (λ y. cond (p (f y)) 1 0) x xs))
+count-map p f (x ∷ xs) =
+    sum_by-cons (λ y. cond (p y) 1 0) (f x) (map f xs) ∙ (ap (λ n. cond (p (f x)) 1 0 + n) (count-map p f xs)
+    ∙ sym (sum_by-cons (λ y. cond (p (f y)) 1 0) x xs))
 
-pub counted_classes : (directory : List Address) (heard : List Told) → counts_in (map (class_by directory) heard) ≡ counts_of directory heard
+pub counted_classes : (directory : List Address) (heard : List Told)
+    → counts_in (map (class_by directory) heard) ≡ counts_of directory heard
 unfolding counts_of
 counted_classes directory heard = (λ i. record {
   lines = length-map heard (class_by directory) i;
@@ -236,12 +266,15 @@ counted_classes directory heard = (λ i. record {
   bad = count-map is_bad (class_by directory) heard i;
 })
 
-pub heard_all : (cs : List Commissioned) (input : List ℕ) (given left : List (List ℕ)) (lists : List (List ℕ)) (kinds : List Class) (counts : Counts) → HasHeardSo cs input given left lists kinds → left ≡ [] → counts ≡ counts_in kinds
+pub heard_all : (cs : List Commissioned) (input : List ℕ) (given left : List (List ℕ)) (lists : List (List ℕ)) (kinds : List Class)
+    (counts : Counts) → HasHeardSo cs input given left lists kinds → left ≡ [] → counts ≡ counts_in kinds
     → record { lines = given; lists = lists; counts = counts } ≡ heard_input cs input
 heard_all cs input given left lists kinds counts so none is =
     let whole : given ≡ lines input = sym (so.cut ∙ (ap (λ l. given ++ l) none ∙ append-nil given)) in
     (λ i. record {
       lines = whole i;
       lists = (so.lists_are ∙ ap (λ g. numbers_for cs (map told_of g)) whole) i;
-      counts = (is ∙ (ap counts_in so.classes_are ∙ (counted_classes (addresses cs) (map told_of given) ∙ ap (λ g. counts_of (addresses cs) (map told_of g)) whole))) i;
+      counts = (is
+          ∙ (ap counts_in so.classes_are ∙ (counted_classes (addresses cs) (map told_of given)
+          ∙ ap (λ g. counts_of (addresses cs) (map told_of g)) whole))) i;
     })

@@ -14,20 +14,23 @@ each_append : {A : Type 0} (P : A → Type 0) (xs ys : List A) → Each P xs →
 each_append P [] ys h k = k
 each_append P (x ∷ xs) ys h k = (h.0, each_append P xs ys h.1 k)
 
-each_with_push : {A B : Type 0} (P : A → B → Type 0) (xs : List A) (ys : List B) (x : A) (y : B) → EachWith P xs ys → P x y → EachWith P (xs ++ x ∷ []) (ys ++ y ∷ [])
+each_with_push : {A B : Type 0} (P : A → B → Type 0) (xs : List A) (ys : List B) (x : A) (y : B) → EachWith P xs ys → P x y
+    → EachWith P (xs ++ x ∷ []) (ys ++ y ∷ [])
 each_with_push P [] [] x y h k = (k, tt)
 each_with_push P [] (b ∷ ys) x y h k = absurd h
 each_with_push P (a ∷ xs) [] x y h k = absurd h
 each_with_push P (a ∷ xs) (b ∷ ys) x y h k = (h.0, each_with_push P xs ys x y h.1 k)
 
-pass_behind : {A : Type 0} (Q : A → Type 0) (n m : ℕ) (xs : List A) (x : A) (ys : List A) → m ≡ n + length xs → Q x → PassUntil (λ (y : ℕ × A). Unit {0}) (λ (y : ℕ × A). (y.0 ≡ m) × Q y.1) (enumerate_from n (xs ++ x ∷ ys))
+pass_behind : {A : Type 0} (Q : A → Type 0) (n m : ℕ) (xs : List A) (x : A) (ys : List A) → m ≡ n + length xs → Q x
+    → PassUntil (λ (y : ℕ × A). Unit {0}) (λ (y : ℕ × A). (y.0 ≡ m) × Q y.1) (enumerate_from n (xs ++ x ∷ ys))
 pass_behind Q n m [] x ys e h = inl (omega arith, h)
 pass_behind Q n m (a ∷ xs) x ys e h = inr (tt, pass_behind Q (n + 1) m xs x ys (omega arith) h)
 
 drop_more : {X : Type 0} (i : ℕ) (xs : List X) (d : X) → i < length xs → drop i xs ≡ get_or xs i d ∷ drop (i + 1) xs
 drop_more i [] d h = absurd (omega arith)
 drop_more zero (x ∷ xs) d h = refl
-drop_more (suc i) (x ∷ xs) d h = drop_more i xs d (omega arith) ∙ ap (λ n. get_or xs i d ∷ drop n (x ∷ xs)) (let e : suc (i + 1) ≡ suc i + 1 = omega arith in e)
+drop_more (suc i) (x ∷ xs) d h =
+    drop_more i xs d (omega arith) ∙ ap (λ n. get_or xs i d ∷ drop n (x ∷ xs)) (let e : suc (i + 1) ≡ suc i + 1 = omega arith in e)
 
 there : {X : Type 0} (front : List X) (x d : X) (rest : List X) (n : ℕ) → length front ≡ n → get_or (front ++ x ∷ rest) n d ≡ x
 there [] x d rest zero e = refl
@@ -35,7 +38,8 @@ there [] x d rest (suc n) e = absurd (omega arith)
 there (y ∷ front) x d rest zero e = absurd (omega arith)
 there (y ∷ front) x d rest (suc n) e = there front x d rest n (omega arith)
 
-set_there : {X : Type 0} (front : List X) (x y : X) (rest : List X) (n : ℕ) → length front ≡ n → set (front ++ x ∷ rest) n y ≡ (front ++ y ∷ []) ++ rest
+set_there : {X : Type 0} (front : List X) (x y : X) (rest : List X) (n : ℕ) → length front ≡ n
+    → set (front ++ x ∷ rest) n y ≡ (front ++ y ∷ []) ++ rest
 set_there [] x y rest zero e = refl
 set_there [] x y rest (suc n) e = absurd (omega arith)
 set_there (z ∷ front) x y rest zero e = absurd (omega arith)
@@ -50,7 +54,8 @@ take_none (x ∷ xs) (suc n) e = take_none xs n (omega arith)
 -- ---- sources
 
 module _ {S : Type 0} (s : sources.Ghosts S) where
-  changes_append : (xs ys xs' ys' : List S) → length xs ≡ length xs' → source_changes s (xs ++ ys) (xs' ++ ys') ≡ source_changes s xs xs' ++ source_changes s ys ys'
+  changes_append : (xs ys xs' ys' : List S) → length xs ≡ length xs'
+      → source_changes s (xs ++ ys) (xs' ++ ys') ≡ source_changes s xs xs' ++ source_changes s ys ys'
   changes_append [] ys [] ys' e = refl
   changes_append [] ys (x' ∷ xs') ys' e = absurd (omega arith)
   changes_append (x ∷ xs) ys [] ys' e = absurd (omega arith)
@@ -77,17 +82,30 @@ module _ {S : Type 0} (s : sources.Ghosts S) where
     pub steady : IsTrue s.tells → Each LosesNothing (source_changes s (take place olds) front)
 
   pub inputs_first : (olds news : List S) (read : List (List ℕ)) → news ≡ olds → read ≡ [] → InputsSo 0 olds news read
-  inputs_first olds news read same none = subst (InputsSo 0 olds news) (sym none) (record { front = []; news_are = same; count = refl; inside = omega arith; counted = refl; each = λ t. tt; steady = λ t. tt })
+  inputs_first olds news read same none =
+      subst (InputsSo 0 olds news) (sym none) (record {
+        front = [];
+        news_are = same;
+        count = refl;
+        inside = omega arith;
+        counted = refl;
+        each = λ t. tt;
+        steady = λ t. tt;
+      })
 
-  module _ (place : ℕ) (olds news news' : List S) (read : List (List ℕ)) (x x' : S) (so : InputsSo place olds news read) (more : place < length olds) (is : x ≡ get_or news place x) (after : news' ≡ set news place x') where
+  module _ (place : ℕ) (olds news news' : List S) (read : List (List ℕ)) (x x' : S) (so : InputsSo place olds news read)
+      (more : place < length olds) (is : x ≡ get_or news place x) (after : news' ≡ set news place x') where
     old_is : get_or olds place x ≡ x
-    old_is = sym (is ∙ (ap (λ l. get_or l place x) (so.news_are ∙ ap (λ l. so.front ++ l) (drop_more place olds x more)) ∙ there so.front (get_or olds place x) x (drop (place + 1) olds) place so.count))
+    old_is = sym (is ∙ (ap (λ l. get_or l place x) (so.news_are ∙ ap (λ l. so.front ++ l) (drop_more place olds x more))
+        ∙ there so.front (get_or olds place x) x (drop (place + 1) olds) place so.count))
 
     taken_more : take (place + 1) olds ≡ take place olds ++ x ∷ []
     taken_more = take_more olds place x more ∙ ap (λ y. take place olds ++ y ∷ []) old_is
 
     news_more : news' ≡ (so.front ++ x' ∷ []) ++ drop (place + 1) olds
-    news_more = after ∙ (ap (λ l. set l place x') (so.news_are ∙ ap (λ l. so.front ++ l) (drop_more place olds x more)) ∙ set_there so.front (get_or olds place x) x' (drop (place + 1) olds) place so.count)
+    news_more =
+        after ∙ (ap (λ l. set l place x') (so.news_are ∙ ap (λ l. so.front ++ l) (drop_more place olds x more))
+        ∙ set_there so.front (get_or olds place x) x' (drop (place + 1) olds) place so.count)
 
     long : length (take place olds) ≡ length so.front
     long = long_take place olds more ∙ sym so.count
@@ -97,52 +115,74 @@ module _ {S : Type 0} (s : sources.Ghosts S) where
         long_take zero (x ∷ xs) h = refl
         long_take (suc i) (x ∷ xs) h = ap suc (long_take i xs (omega arith))
 
-    changed : source_changes s (take place olds ++ x ∷ []) (so.front ++ x' ∷ []) ≡ source_changes s (take place olds) so.front ++ source_change s x x' ∷ []
+    changed : source_changes s (take place olds ++ x ∷ []) (so.front ++ x' ∷ []) ≡ source_changes s (take place olds) so.front
+        ++ source_change s x x' ∷ []
     changed = changes_append (take place olds) (x ∷ []) so.front (x' ∷ []) long
 
-    pub inputs_next : (bytes : List ℕ) (read' : List (List ℕ)) → read' ≡ read ++ bytes ∷ [] → (IsTrue s.tells → IsReadPast 67108864 (source_change s x x') bytes) → (IsTrue s.tells → LosesNothing (source_change s x x')) → InputsSo (place + 1) olds news' read'
+    pub inputs_next : (bytes : List ℕ) (read' : List (List ℕ)) → read' ≡ read ++ bytes ∷ []
+        → (IsTrue s.tells → IsReadPast 67108864 (source_change s x x') bytes) → (IsTrue s.tells → LosesNothing (source_change s x x'))
+        → InputsSo (place + 1) olds news' read'
     inputs_next bytes read' pushed past lost = subst (InputsSo (place + 1) olds news') (sym pushed) (record {
       front = so.front ++ x' ∷ [];
       news_are = news_more;
       count = length-append so.front (x' ∷ []) ∙ ap (λ n. n + 1) so.count;
       inside = omega arith;
       counted = length-append read (bytes ∷ []) ∙ ap (λ n. n + 1) so.counted;
-      each = λ t. subst (λ c. EachWith (IsReadPast 67108864) c (read ++ bytes ∷ [])) (sym (ap (λ o. source_changes s o (so.front ++ x' ∷ [])) taken_more ∙ changed))
-          (each_with_push (IsReadPast 67108864) (source_changes s (take place olds) so.front) read (source_change s x x') bytes (so.each t) (past t));
-      steady = λ t. subst (Each LosesNothing) (sym (ap (λ o. source_changes s o (so.front ++ x' ∷ [])) taken_more ∙ changed)) (each_append LosesNothing (source_changes s (take place olds) so.front) (source_change s x x' ∷ []) (so.steady t) (lost t, tt));
+      each = λ t. subst (λ c. EachWith (IsReadPast 67108864) c (read ++ bytes ∷ []))
+          (sym (ap (λ o. source_changes s o (so.front ++ x' ∷ [])) taken_more ∙ changed))
+          (each_with_push (IsReadPast 67108864) (source_changes s (take place olds) so.front) read (source_change s x x') bytes (so.each t)
+          (past t));
+      steady = λ t. subst (Each LosesNothing) (sym (ap (λ o. source_changes s o (so.front ++ x' ∷ [])) taken_more
+          ∙ changed)) (each_append LosesNothing (source_changes s (take place olds) so.front) (source_change s x x' ∷ []) (so.steady t)
+          (lost t, tt));
     })
 
-    all_changes : source_changes s olds news' ≡ source_changes s (take place olds) so.front ++ source_change s x x' ∷ source_changes s (drop (place + 1) olds) (drop (place + 1) olds)
+    all_changes : source_changes s olds news' ≡ source_changes s (take place olds) so.front ++ source_change s x x'
+        ∷ source_changes s (drop (place + 1) olds) (drop (place + 1) olds)
     all_changes =
         (λ i. source_changes s (whole i) (news_more i))
-        ∙ (changes_append (take place olds ++ x ∷ []) (drop (place + 1) olds) (so.front ++ x' ∷ []) (drop (place + 1) olds) (length-append (take place olds) (x ∷ []) ∙ (ap (λ n. n + 1) long ∙ sym (length-append so.front (x' ∷ []))))
+        ∙ (changes_append (take place olds ++ x ∷ []) (drop (place + 1) olds) (so.front ++ x' ∷ []) (drop (place + 1) olds)
+        (length-append (take place olds) (x ∷ []) ∙ (ap (λ n. n + 1) long ∙ sym (length-append so.front (x' ∷ []))))
         ∙ (ap (λ c. c ++ source_changes s (drop (place + 1) olds) (drop (place + 1) olds)) changed
-        ∙ append_assoc (source_changes s (take place olds) so.front) (source_change s x x' ∷ []) (source_changes s (drop (place + 1) olds) (drop (place + 1) olds))))
+        ∙ append_assoc (source_changes s (take place olds) so.front) (source_change s x x' ∷ [])
+        (source_changes s (drop (place + 1) olds) (drop (place + 1) olds))))
       where
         whole : olds ≡ (take place olds ++ x ∷ []) ++ drop (place + 1) olds
         whole = sym (take-append-drop (place + 1) olds) ∙ ap (λ l. l ++ drop (place + 1) olds) taken_more
 
-    pub inputs_lost : (IsTrue s.tells → LosesNothing (source_change s x x')) → IsTrue s.tells → Each LosesNothing (source_changes s olds news')
-    inputs_lost lost t = subst (Each LosesNothing) (sym all_changes) (each_append LosesNothing (source_changes s (take place olds) so.front) (source_change s x x' ∷ source_changes s (drop (place + 1) olds) (drop (place + 1) olds)) (so.steady t) (lost t, untouched (drop (place + 1) olds)))
+    pub inputs_lost : (IsTrue s.tells → LosesNothing (source_change s x x')) → IsTrue s.tells
+        → Each LosesNothing (source_changes s olds news')
+    inputs_lost lost t =
+        subst (Each LosesNothing) (sym all_changes) (each_append LosesNothing (source_changes s (take place olds) so.front)
+        (source_change s x x' ∷ source_changes s (drop (place + 1) olds) (drop (place + 1) olds)) (so.steady t)
+        (lost t, untouched (drop (place + 1) olds)))
 
-    pub inputs_failed : ReadFailed (source_change s x x') → IsFirst (λ source. Unit {0}) ReadFailed (place + 1) (source_changes s olds news')
+    pub inputs_failed : ReadFailed (source_change s x x')
+        → IsFirst (λ source. Unit {0}) ReadFailed (place + 1) (source_changes s olds news')
     inputs_failed failed =
         subst (λ c. IsFirst (λ source. Unit {0}) ReadFailed (place + 1) c) (sym all_changes)
-        (pass_behind ReadFailed 1 (place + 1) (source_changes s (take place olds) so.front) (source_change s x x') (source_changes s (drop (place + 1) olds) (drop (place + 1) olds))
+        (pass_behind ReadFailed 1 (place + 1) (source_changes s (take place olds) so.front) (source_change s x x')
+        (source_changes s (drop (place + 1) olds) (drop (place + 1) olds))
         (let l = length-changes (take place olds) so.front long in let m = long in let n = so.count in omega arith) failed)
 
-  whole_changes : (n : ℕ) (olds news : List S) (read : List (List ℕ)) (so : InputsSo n olds news read) → length olds ≤ n → source_changes s olds news ≡ source_changes s (take n olds) so.front
+  whole_changes : (n : ℕ) (olds news : List S) (read : List (List ℕ)) (so : InputsSo n olds news read) → length olds ≤ n
+      → source_changes s olds news ≡ source_changes s (take n olds) so.front
   whole_changes n olds news read so past =
       let e : n ≡ length olds = let i = so.inside in omega arith in
-      (λ i. source_changes s (sym (ap (λ m. take m olds) e ∙ take-length olds) i) ((so.news_are ∙ (ap (λ l. so.front ++ l) (take_none olds n e) ∙ append-nil so.front)) i))
+      (λ i. source_changes s (sym (ap (λ m. take m olds) e ∙ take-length olds) i) ((so.news_are
+      ∙ (ap (λ l. so.front ++ l) (take_none olds n e) ∙ append-nil so.front)) i))
 
-  pub inputs_read : (n : ℕ) (olds news : List S) (read : List (List ℕ)) → InputsSo n olds news read → length olds ≤ n → IsTrue s.tells → EachWith (IsReadPast 67108864) (source_changes s olds news) read
-  inputs_read n olds news read so past t = subst (λ c. EachWith (IsReadPast 67108864) c read) (sym (whole_changes n olds news read so past)) (so.each t)
+  pub inputs_read : (n : ℕ) (olds news : List S) (read : List (List ℕ)) → InputsSo n olds news read → length olds ≤ n → IsTrue s.tells
+      → EachWith (IsReadPast 67108864) (source_changes s olds news) read
+  inputs_read n olds news read so past t =
+      subst (λ c. EachWith (IsReadPast 67108864) c read) (sym (whole_changes n olds news read so past)) (so.each t)
 
-  pub inputs_steady : (n : ℕ) (olds news : List S) (read : List (List ℕ)) → InputsSo n olds news read → length olds ≤ n → IsTrue s.tells → Each LosesNothing (source_changes s olds news)
+  pub inputs_steady : (n : ℕ) (olds news : List S) (read : List (List ℕ)) → InputsSo n olds news read → length olds ≤ n → IsTrue s.tells
+      → Each LosesNothing (source_changes s olds news)
   inputs_steady n olds news read so past t = subst (Each LosesNothing) (sym (whole_changes n olds news read so past)) (so.steady t)
 
 -- what a push that worked leaves
-pub pushed : {T E A : Type 0} (r : Result T E) (new old : List A) (x : A) (b : Bool) → new ≡ cond (is_ok r) (old ++ x ∷ []) old → b ≡ is_err r → b ≡ false → new ≡ old ++ x ∷ []
+pub pushed : {T E A : Type 0} (r : Result T E) (new old : List A) (x : A) (b : Bool) → new ≡ cond (is_ok r) (old ++ x ∷ []) old
+    → b ≡ is_err r → b ≡ false → new ≡ old ++ x ∷ []
 pushed (Ok t) new old x b e f g = e
 pushed (Err y) new old x b e f g = absurd (let d : true ≡ false = sym f ∙ g in cc)

@@ -19,17 +19,21 @@ use Rattle.audit_check_main.proofs.Steps.{tells_of, all_lines_told, of_all, IsCu
 abbrev pub HasAddress : Told → Address → Type 0
 HasAddress t address = (event : Event) × (t ≡ told.Event address event)
 
-address_if : (b : Bool) (line : ℕ) (address : Address) (event : Event) (p : ℕ × Address) → cond b None (Some (line, address)) ≡ Some p → (p.0 ≡ line) × HasAddress (told.Event address event) p.1
+address_if : (b : Bool) (line : ℕ) (address : Address) (event : Event) (p : ℕ × Address) → cond b None (Some (line, address)) ≡ Some p
+    → (p.0 ≡ line) × HasAddress (told.Event address event) p.1
 address_if true line address event p e = absurd cc
 address_if false line address event p e =
-    let same : (line, address) ≡ p = cc in (sym (ap (λ (q : ℕ × Address). q.0) same), (event, ap (λ a. told.Event a event) (ap (λ (q : ℕ × Address). q.1) same)))
+    let same : (line, address) ≡ p =
+    cc in (sym (ap (λ (q : ℕ × Address). q.0) same), (event, ap (λ a. told.Event a event) (ap (λ (q : ℕ × Address). q.1) same)))
 
-address_fits : (cs : List Commissioned) (line : ℕ) (t : Told) (p : ℕ × Address) → stranger_at cs line t ≡ Some p → (p.0 ≡ line) × HasAddress t p.1
+address_fits : (cs : List Commissioned) (line : ℕ) (t : Told) (p : ℕ × Address) → stranger_at cs line t ≡ Some p → (p.0 ≡ line)
+    × HasAddress t p.1
 address_fits cs line (told.Event address event) p e = address_if (is_commissioned cs address) line address event p e
 address_fits cs line told.Unframed p e = absurd cc
 address_fits cs line told.Bad p e = absurd cc
 
-module _ (heard : List HeardInput) (cs : List Commissioned) (order : List (ℕ × ℕ)) (target : List Heard) (h : AreOrderedStrangers cs (map tells heard) order target) where
+module _ (heard : List HeardInput) (cs : List Commissioned) (order : List (ℕ
+    × ℕ)) (target : List Heard) (h : AreOrderedStrangers cs (map tells heard) order target) where
   note_told : Each (λ (x : Heard). HasAddress (told_at heard x.source x.line) x.address) target
   note_told = of_all (λ (x : Heard). x.source) (λ (x : Heard). (x.line, x.address)) (λ w p. HasAddress (told_at heard w p.0) p.1) target
       (λ w. subst (Each (λ (p : ℕ × Address). HasAddress (told_at heard w p.0) p.1))
@@ -39,17 +43,22 @@ module _ (heard : List HeardInput) (cs : List Commissioned) (order : List (ℕ �
   order_long : length order ≡ length target
   order_long = sym (ap length h.in_order) ∙ length-map target (λ (x : Heard). (x.source, x.line))
 
-  pair_is : (i : ℕ) (pair : ℕ × ℕ) (k : IsCutAt i target) → i < length order → pair ≡ get_or order i (0, 0) → pair ≡ (k.item.source, k.item.line)
+  pair_is : (i : ℕ) (pair : ℕ × ℕ) (k : IsCutAt i target) → i < length order → pair ≡ get_or order i (0, 0)
+      → pair ≡ (k.item.source, k.item.line)
   pair_is i pair k inside is =
       let l = order_long in
       let m : i < length target = omega arith in
       is ∙ (ap (λ o. get_or o i (0, 0)) (sym h.in_order) ∙ (get-map (λ (x : Heard). (x.source, x.line)) target i (0, 0) k.item m
-      ∙ ap (λ (x : Heard). (x.source, x.line)) (item_there target (take i target) k.item k.item k.later i k.cut (sym (long_take i target m)))))
+      ∙ ap (λ (x : Heard). (x.source, x.line)) (item_there target (take i target) k.item k.item k.later i k.cut
+      (sym (long_take i target m)))))
 
   address_there : (i : ℕ) (k : IsCutAt i target) → HasAddress (told_at heard k.item.source k.item.line) k.item.address
-  address_there i k = each_item (λ (x : Heard). HasAddress (told_at heard x.source x.line) x.address) (take i target) k.item k.later (subst (Each (λ (x : Heard). HasAddress (told_at heard x.source x.line) x.address)) k.cut note_told)
+  address_there i k =
+      each_item (λ (x : Heard). HasAddress (told_at heard x.source x.line) x.address) (take i target) k.item k.later
+      (subst (Each (λ (x : Heard). HasAddress (told_at heard x.source x.line) x.address)) k.cut note_told)
 
-  pub noted_told : (i : ℕ) (pair : ℕ × ℕ) → i < length order → pair ≡ get_or order i (0, 0) → (address : Address) × HasAddress (told_at heard pair.0 pair.1) address
+  pub noted_told : (i : ℕ) (pair : ℕ × ℕ) → i < length order → pair ≡ get_or order i (0, 0) → (address : Address)
+      × HasAddress (told_at heard pair.0 pair.1) address
   noted_told i pair inside is =
       let l = order_long in
       let k = cut_at i target (omega arith) in
@@ -57,19 +66,24 @@ module _ (heard : List HeardInput) (cs : List Commissioned) (order : List (ℕ �
       let same = pair_is i pair k inside is in
       (k.item.address, (e.0, (λ j. told_at heard (same j).0 (same j).1) ∙ e.1))
 
-  pub note_more : (i : ℕ) (pair : ℕ × ℕ) (address : Address) (event : Event) (heard_so : List Heard) → i < length order → pair ≡ get_or order i (0, 0) → heard_so ≡ take i target
-      → told_at heard pair.0 pair.1 ≡ told.Event address event → heard_so ++ record { source = pair.0; line = pair.1; address = address } ∷ [] ≡ take (i + 1) target
+  pub note_more : (i : ℕ) (pair : ℕ × ℕ) (address : Address) (event : Event) (heard_so : List Heard) → i < length order
+      → pair ≡ get_or order i (0, 0) → heard_so ≡ take i target
+      → told_at heard pair.0 pair.1 ≡ told.Event address event → heard_so ++ record { source = pair.0; line = pair.1; address = address }
+      ∷ [] ≡ take (i + 1) target
   note_more i pair address event heard_so inside is so tells_event =
       let l = order_long in
       let m : i < length target = omega arith in
       let k = cut_at i target m in
       let same = pair_is i pair k inside is in
       let e = address_there i k in
-      let both : told.Event address event ≡ told.Event k.item.address e.0 = sym tells_event ∙ ((λ j. told_at heard (same j).0 (same j).1) ∙ e.1) in
+      let both : told.Event address event ≡ told.Event k.item.address e.0 =
+      sym tells_event ∙ ((λ j. told_at heard (same j).0 (same j).1) ∙ e.1) in
       let address_is : address ≡ k.item.address = cc in
-      (λ j. so j ++ record { source = (same j).0; line = (same j).1; address = address_is j } ∷ []) ∙ take_cut target i k.item k.later m k.cut
+      (λ j. so j ++ record { source = (same j).0; line = (same j).1; address = address_is j } ∷ [])
+      ∙ take_cut target i k.item k.later m k.cut
 
-  pub all_noted : (strangers : List Heard) (n : ℕ) → n ≡ length order → strangers ≡ take n target → AreOrderedStrangers cs (map tells heard) order strangers
+  pub all_noted : (strangers : List Heard) (n : ℕ) → n ≡ length order → strangers ≡ take n target
+      → AreOrderedStrangers cs (map tells heard) order strangers
   all_noted strangers n e so =
       let same : target ≡ strangers = sym (so ∙ (ap (λ m. take m target) (e ∙ order_long) ∙ take-length target)) in
       subst (AreOrderedStrangers cs (map tells heard) order) same h

@@ -35,11 +35,13 @@ use Rattle.audit_check_main.proofs.Slots.{as_many_slots}
 
 -- ---- the first input past the limits
 
-until_not : {A : Type 0} (P : A → Type 0) (Q : A → Type 0) → ((a : A) → P a → Q a → ⊥) → (n w : ℕ) (xs : List A) → PassUntil (λ (x : ℕ × A). P x.1) (λ (x : ℕ × A). (x.0 ≡ w) × Q x.1) (enumerate_from n xs) → Each P xs → ⊥
+until_not : {A : Type 0} (P : A → Type 0) (Q : A → Type 0) → ((a : A) → P a → Q a → ⊥) → (n w : ℕ) (xs : List A)
+    → PassUntil (λ (x : ℕ × A). P x.1) (λ (x : ℕ × A). (x.0 ≡ w) × Q x.1) (enumerate_from n xs) → Each P xs → ⊥
 until_not P Q never n w [] h all = h
 until_not P Q never n w (x ∷ xs) h all = ⊎_elim (λ stop. never x all.0 stop.1) (λ later. until_not P Q never (n + 1) w xs later.1 all.1) h
 
-until_one : {A : Type 0} (P : A → Type 0) (Q : A → Type 0) → ((a : A) → P a → Q a → ⊥) → (n w v : ℕ) (xs : List A) → PassUntil (λ (x : ℕ × A). P x.1) (λ (x : ℕ × A). (x.0 ≡ w) × Q x.1) (enumerate_from n xs)
+until_one : {A : Type 0} (P : A → Type 0) (Q : A → Type 0) → ((a : A) → P a → Q a → ⊥) → (n w v : ℕ) (xs : List A)
+    → PassUntil (λ (x : ℕ × A). P x.1) (λ (x : ℕ × A). (x.0 ≡ w) × Q x.1) (enumerate_from n xs)
     → PassUntil (λ (x : ℕ × A). P x.1) (λ (x : ℕ × A). (x.0 ≡ v) × Q x.1) (enumerate_from n xs) → w ≡ v
 until_one P Q never n w v [] h k = absurd h
 until_one P Q never n w v (x ∷ xs) h k =
@@ -56,9 +58,11 @@ record IsInside (front : List (List ℕ)) (line : List ℕ) (other : List (List 
   later : List (List ℕ)
   is : other ≡ front ++ line ∷ later
 
-inside : (front front' below below' : List (List ℕ)) (line line' : List ℕ) → front ++ line ∷ below ≡ front' ++ line' ∷ below' → length front < length front' → IsInside front line front'
+inside : (front front' below below' : List (List ℕ)) (line line' : List ℕ) → front ++ line ∷ below ≡ front' ++ line' ∷ below'
+    → length front < length front' → IsInside front line front'
 inside [] [] below below' line line' e h = absurd (omega arith)
-inside [] (x ∷ front') below below' line line' e h = record { later = front'; is = let same : line ≡ x = cc in ap (λ l. l ∷ front') (sym same) }
+inside [] (x ∷ front') below below' line line' e h =
+    record { later = front'; is = let same : line ≡ x = cc in ap (λ l. l ∷ front') (sym same) }
 inside (x ∷ front) [] below below' line line' e h = absurd (omega arith)
 inside (x ∷ front) (y ∷ front') below below' line line' e h =
     let same : x ≡ y = cc in
@@ -70,13 +74,15 @@ in_form_back : (n : ℕ) (later earlier : List (List ℕ)) → AreInForm n (late
 in_form_back n [] earlier h = h
 in_form_back n (line ∷ later) earlier h = in_form_back n later earlier h.1
 
-from_line : (front : List (List ℕ)) (line : List ℕ) (later : List (List ℕ)) → reverse (front ++ line ∷ later) ≡ reverse later ++ line ∷ reverse front
+from_line : (front : List (List ℕ)) (line : List ℕ) (later : List (List ℕ))
+    → reverse (front ++ line ∷ later) ≡ reverse later ++ line ∷ reverse front
 from_line [] line later = front_back line later
 from_line (x ∷ front) line later =
     front_back x (front ++ line ∷ later) ∙ (ap (λ l. l ++ x ∷ []) (from_line front line later)
     ∙ (append_assoc (reverse later) (line ∷ reverse front) (x ∷ []) ∙ ap (λ l. reverse later ++ line ∷ l) (sym (front_back x front))))
 
-fine_inside : (n : ℕ) (front : List (List ℕ)) (line : List ℕ) (later : List (List ℕ)) → AreInForm n (reverse (front ++ line ∷ later)) → is_faulty n (reverse front) line ≡ true → ⊥
+fine_inside : (n : ℕ) (front : List (List ℕ)) (line : List ℕ) (later : List (List ℕ)) → AreInForm n (reverse (front ++ line ∷ later))
+    → is_faulty n (reverse front) line ≡ true → ⊥
 fine_inside n front line later h faulty =
     let fine = in_form_back n (reverse later) (line ∷ reverse front) (subst (AreInForm n) (from_line front line later) h) in
     absurd (let e : false ≡ true = sym fine.0 ∙ faulty in cc)
@@ -91,7 +97,8 @@ not_earlier n p q lines h k less =
     fine_inside n h.above h.line cuts.later (subst (λ l. AreInForm n (reverse l)) cuts.is k.in_form) h.faulty
 
 by_order : (P : Type 0) (p q : ℕ) → (p < q → ⊥) → (q < p → ⊥) → p ≡ q
-by_order P p q h k = ⊎_elim (λ less. absurd (h less)) (λ more. ⊎_elim (λ less. absurd (k less)) (λ le. omega arith) (cases_lt q p)) (cases_lt p q)
+by_order P p q h k =
+    ⊎_elim (λ less. absurd (h less)) (λ more. ⊎_elim (λ less. absurd (k less)) (λ le. omega arith) (cases_lt q p)) (cases_lt p q)
 
 one_faulty : (n p q : ℕ) (lines : List (List ℕ)) → IsFirstFaulty n lines p → IsFirstFaulty n lines q → p ≡ q
 one_faulty n p q lines h k = by_order ⊥ p q (not_earlier n p q lines h k) (not_earlier n q p lines k h)
@@ -99,13 +106,17 @@ one_faulty n p q lines h k = by_order ⊥ p q (not_earlier n p q lines h k) (not
 -- ---- where a list goes wrong
 
 numbers_append : (w : ℕ) (xs ys : List (ℕ × ℕ)) → numbers_by w (xs ++ ys) ≡ numbers_by w xs ++ numbers_by w ys
-numbers_append w xs ys = ap (map (λ (p : ℕ × ℕ). p.1)) (filter-append (λ (p : ℕ × ℕ). p.0 == w) xs ys) ∙ map-append (λ (p : ℕ × ℕ). p.1) (filter (λ (p : ℕ × ℕ). p.0 == w) xs) (filter (λ (p : ℕ × ℕ). p.0 == w) ys)
+numbers_append w xs ys =
+    ap (map (λ (p : ℕ × ℕ). p.1)) (filter-append (λ (p : ℕ × ℕ). p.0 == w) xs ys)
+    ∙ map-append (λ (p : ℕ × ℕ). p.1) (filter (λ (p : ℕ × ℕ). p.0 == w) xs) (filter (λ (p : ℕ × ℕ). p.0 == w) ys)
 
 -- the first pairs of those that are each the next one are so too
-fewer_next : (numbers : ℕ → List ℕ) (order front rest : List (ℕ × ℕ)) → order ≡ front ++ rest → AreNext numbers order → AreNext numbers front
+fewer_next : (numbers : ℕ → List ℕ) (order front rest : List (ℕ × ℕ)) → order ≡ front ++ rest → AreNext numbers order
+    → AreNext numbers front
 fewer_next numbers order front rest e next w = record {
   rest = numbers_by w rest ++ (next w).rest;
-  joined = (next w).joined ∙ (ap (λ o. numbers_by w o ++ (next w).rest) e ∙ (ap (λ l. l ++ (next w).rest) (numbers_append w front rest) ∙ append_assoc (numbers_by w front) (numbers_by w rest) (next w).rest));
+  joined = (next w).joined ∙ (ap (λ o. numbers_by w o ++ (next w).rest) e
+      ∙ (ap (λ l. l ++ (next w).rest) (numbers_append w front rest) ∙ append_assoc (numbers_by w front) (numbers_by w rest) (next w).rest));
 }
 
 right_next : (numbers : ℕ → List ℕ) (order : List (ℕ × ℕ)) → IsRight numbers order → AreNext numbers order
@@ -125,7 +136,8 @@ shorter (suc p) (suc q) (x ∷ order) h = let s = shorter p q order (omega arith
 wrong_not_right : (numbers : ℕ → List ℕ) (order : List (ℕ × ℕ)) (place : ℕ) → IsWrongAt numbers order place → IsRight numbers order → ⊥
 wrong_not_right numbers order place wrong right =
     ⊎_elim (λ less. let s = shorter (place + 1) (length order) order (omega arith) in
-    wrong.wrong_pair less (fewer_next numbers order (take (place + 1) order) s.rest (sym (take-length order) ∙ s.is) (right_next numbers order right)))
+    wrong.wrong_pair less (fewer_next numbers order (take (place + 1) order) s.rest (sym (take-length order)
+    ∙ s.is) (right_next numbers order right)))
     (λ more. let w = wrong.within in wrong.missing (omega arith) right) (cases_lt place (length order))
 
 not_before : (numbers : ℕ → List ℕ) (order : List (ℕ × ℕ)) (p q : ℕ) → IsWrongAt numbers order p → IsWrongAt numbers order q → p < q → ⊥
@@ -137,64 +149,86 @@ not_before numbers order p q h k less =
 one_place : (numbers : ℕ → List ℕ) (order : List (ℕ × ℕ)) (p q : ℕ) → IsWrongAt numbers order p → IsWrongAt numbers order q → p ≡ q
 one_place numbers order p q h k = by_order ⊥ p q (not_before numbers order p q h k) (not_before numbers order q p k h)
 
-one_list : (numbers : ℕ → ℕ → List ℕ) (lists : List (List (ℕ × ℕ))) (l m p q : ℕ) → IsFirstWrong numbers lists l p → IsFirstWrong numbers lists m q → l ≡ m
+one_list : (numbers : ℕ → ℕ → List ℕ) (lists : List (List (ℕ × ℕ))) (l m p q : ℕ) → IsFirstWrong numbers lists l p
+    → IsFirstWrong numbers lists m q → l ≡ m
 one_list numbers lists l m p q h k =
-    by_order ⊥ l m (λ less. wrong_not_right (numbers l) (get_or lists l []) p h.wrong (k.right_before l less)) (λ less. wrong_not_right (numbers m) (get_or lists m []) q k.wrong (h.right_before m less))
+    by_order ⊥ l m (λ less. wrong_not_right (numbers l) (get_or lists l []) p h.wrong (k.right_before l less))
+    (λ less. wrong_not_right (numbers m) (get_or lists m []) q k.wrong (h.right_before m less))
 
 -- ---- a session's lists are right
 
-numbers_of_notes : (w : ℕ) (heard : List Heard) → numbers_by w (order_of_strangers heard) ≡ map (λ (l : ℕ × Address). l.0) (notes_by w heard)
+numbers_of_notes : (w : ℕ) (heard : List Heard)
+    → numbers_by w (order_of_strangers heard) ≡ map (λ (l : ℕ × Address). l.0) (notes_by w heard)
 numbers_of_notes w [] = refl
 numbers_of_notes w (x ∷ xs) = at (x.source == w) (numbers_of_notes w xs)
   where
     at : (b : Bool) → numbers_by w (order_of_strangers xs) ≡ map (λ (l : ℕ × Address). l.0) (notes_by w xs)
-        → map (λ (p : ℕ × ℕ). p.1) (cond b ((x.source, x.line) ∷ filter (λ (p : ℕ × ℕ). p.0 == w) (order_of_strangers xs)) (filter (λ (p : ℕ × ℕ). p.0 == w) (order_of_strangers xs)))
-        ≡ map (λ (l : ℕ × Address). l.0) (map (λ (h : Heard). (h.line, h.address)) (cond b (x ∷ filter (λ (h : Heard). h.source == w) xs) (filter (λ (h : Heard). h.source == w) xs)))
+        → map (λ (p : ℕ × ℕ). p.1) (cond b ((x.source, x.line) ∷ filter (λ (p : ℕ × ℕ). p.0 == w) (order_of_strangers xs))
+        (filter (λ (p : ℕ × ℕ). p.0 == w) (order_of_strangers xs)))
+        ≡ map (λ (l : ℕ × Address). l.0) (map (λ (h : Heard). (h.line, h.address))
+        (cond b (x ∷ filter (λ (h : Heard). h.source == w) xs) (filter (λ (h : Heard). h.source == w) xs)))
     at true e = ap (λ l. x.line ∷ l) e
     at false e = e
 
 abbrev own_numbers : List (List Told) → ℕ → Commissioned → List ℕ
 own_numbers all w c = map (λ l. l.0) (lines_for c.address (heard_by w all))
 
-each_right : (own : Address) (all : List (List Told)) (behind : ℕ → List ℕ) (noted : List (ℕ × ℕ)) → ((w : ℕ) → numbers_by w noted ≡ behind w) → (cs : List Commissioned) (slots : List SlotView) → EachWith (IsMetersSlot own all) cs slots
-    → (k : ℕ) → k ≤ length cs → (w : ℕ) → numbers_by w (get_or (map (λ (s : SlotView). order_of s.journal) slots ++ noted ∷ []) k []) ≡ get_or (map (own_numbers all w) cs ++ behind w ∷ []) k []
+each_right : (own : Address) (all : List (List Told)) (behind : ℕ → List ℕ) (noted : List (ℕ × ℕ))
+    → ((w : ℕ) → numbers_by w noted ≡ behind w) → (cs : List Commissioned) (slots : List SlotView)
+    → EachWith (IsMetersSlot own all) cs slots
+    → (k : ℕ) → k ≤ length cs → (w : ℕ)
+    → numbers_by w (get_or (map (λ (s : SlotView). order_of s.journal) slots ++ noted ∷ []) k []) ≡ get_or
+    (map (own_numbers all w) cs ++ behind w ∷ []) k []
 each_right own all behind noted last [] [] h zero le w = last w
 each_right own all behind noted last [] [] h (suc k) le w = absurd (omega arith)
 each_right own all behind noted last [] (s ∷ slots) h k le w = absurd h
 each_right own all behind noted last (c ∷ cs) [] h k le w = absurd h
 each_right own all behind noted last (c ∷ cs) (s ∷ slots) h zero le w = in_order own c all s h.0 w
-each_right own all behind noted last (c ∷ cs) (s ∷ slots) h (suc k) le w = each_right own all behind noted last cs slots h.1 k (omega arith) w
+each_right own all behind noted last (c ∷ cs) (s ∷ slots) h (suc k) le w =
+    each_right own all behind noted last cs slots h.1 k (omega arith) w
 
 -- the lists of a session
 abbrev lists_of : WorldView → List (List (ℕ × ℕ))
 lists_of world = map (λ (s : SlotView). order_of s.journal) world.slots ++ order_of_strangers world.strangers ∷ []
 
-lists_are : (own : Address) (cs : List Commissioned) (all : List (List Told)) (world : WorldView) → IsSession own cs all world → lists_printed (length cs) (orders_of world.slots world.strangers) ≡ lists_of world
+lists_are : (own : Address) (cs : List Commissioned) (all : List (List Told)) (world : WorldView) → IsSession own cs all world
+    → lists_printed (length cs) (orders_of world.slots world.strangers) ≡ lists_of world
 lists_are own cs all world session =
     ap (λ l. l ++ order_of_strangers world.strangers ∷ [])
-    (as_many-all (length cs) (map (λ (s : SlotView). order_of s.journal) world.slots) (length-map world.slots (λ (s : SlotView). order_of s.journal) ∙ as_many_slots own all cs world.slots session.meters))
+    (as_many-all (length cs) (map (λ (s : SlotView). order_of s.journal) world.slots)
+    (length-map world.slots (λ (s : SlotView). order_of s.journal) ∙ as_many_slots own all cs world.slots session.meters))
 
-printed_are : (a : Audited) (r : Enrolled) (world : WorldView) → IsOrdered a r world → lists_printed (length r.meters) (orders a.report) ≡ lists_of world
+printed_are : (a : Audited) (r : Enrolled) (world : WorldView) → IsOrdered a r world
+    → lists_printed (length r.meters) (orders a.report) ≡ lists_of world
 printed_are a r world h = h.printed ∙ lists_are r.own r.meters (heard_of a) world h.session
 
-ordered_right : (a : Audited) (r : Enrolled) (world : WorldView) → IsOrdered a r world → (k : ℕ) → k < length (lists_printed (length r.meters) (orders a.report))
+ordered_right : (a : Audited) (r : Enrolled) (world : WorldView) → IsOrdered a r world → (k : ℕ)
+    → k < length (lists_printed (length r.meters) (orders a.report))
     → IsRight (wanted r.meters (heard_of a) k) (get_or (lists_printed (length r.meters) (orders a.report)) k [])
 ordered_right a r world h k inside =
     let same = printed_are a r world h in
     let count = as_many_slots r.own (heard_of a) r.meters world.slots h.session.meters in
-    let long = ap length same ∙ (length-append (map (λ (s : SlotView). order_of s.journal) world.slots) (order_of_strangers world.strangers ∷ []) ∙ ap (λ n. n + 1) (length-map world.slots (λ (s : SlotView). order_of s.journal))) in
+    let long =
+    ap length same ∙ (length-append (map (λ (s : SlotView). order_of s.journal) world.slots) (order_of_strangers world.strangers ∷ [])
+    ∙ ap (λ n. n + 1) (length-map world.slots (λ (s : SlotView). order_of s.journal))) in
     subst (λ ls. IsRight (wanted r.meters (heard_of a) k) (get_or ls k [])) (sym same)
-    (each_right r.own (heard_of a) (λ w. map (λ l. l.0) (lines_of_strangers r.meters (heard_by w (heard_of a)))) (order_of_strangers world.strangers)
-    (λ w. numbers_of_notes w world.strangers ∙ ap (map (λ (l : ℕ × Address). l.0)) (h.session.strangers w)) r.meters world.slots h.session.meters k (omega arith))
+    (each_right r.own (heard_of a) (λ w. map (λ l. l.0) (lines_of_strangers r.meters (heard_by w (heard_of a))))
+    (order_of_strangers world.strangers)
+    (λ w. numbers_of_notes w world.strangers ∙ ap (map (λ (l : ℕ × Address). l.0)) (h.session.strangers w))
+    r.meters world.slots h.session.meters k (omega arith))
 
-wrong_not_ordered : (a : Audited) (r : Enrolled) (world : WorldView) (list place : ℕ) → IsFirstWrong (wanted r.meters (heard_of a)) (lists_printed (length r.meters) (orders a.report)) list place → IsOrdered a r world → ⊥
+wrong_not_ordered : (a : Audited) (r : Enrolled) (world : WorldView) (list place : ℕ)
+    → IsFirstWrong (wanted r.meters (heard_of a)) (lists_printed (length r.meters) (orders a.report)) list place → IsOrdered a r world → ⊥
 wrong_not_ordered a r world list place wrong h =
-    wrong_not_right (wanted r.meters (heard_of a) list) (get_or (lists_printed (length r.meters) (orders a.report)) list []) place wrong.wrong (ordered_right a r world h list wrong.within)
+    wrong_not_right (wanted r.meters (heard_of a) list) (get_or (lists_printed (length r.meters) (orders a.report)) list [])
+    place wrong.wrong (ordered_right a r world h list wrong.within)
 
 -- ---- one session
 
-one_each : (own : Address) (all : List (List Told)) (cs : List Commissioned) (slots slots' : List SlotView) (x y : List (ℕ × ℕ)) → EachWith (IsMetersSlot own all) cs slots → EachWith (IsMetersSlot own all) cs slots'
-    → map (λ (s : SlotView). order_of s.journal) slots ++ x ∷ [] ≡ map (λ (s : SlotView). order_of s.journal) slots' ++ y ∷ [] → (slots ≡ slots') × (x ≡ y)
+one_each : (own : Address) (all : List (List Told)) (cs : List Commissioned) (slots slots' : List SlotView) (x y : List (ℕ × ℕ))
+    → EachWith (IsMetersSlot own all) cs slots → EachWith (IsMetersSlot own all) cs slots'
+    → map (λ (s : SlotView). order_of s.journal) slots ++ x ∷ [] ≡ map (λ (s : SlotView). order_of s.journal) slots' ++ y ∷ []
+    → (slots ≡ slots') × (x ≡ y)
 one_each own all [] [] [] x y h k e = (refl, cc)
 one_each own all [] [] (s ∷ slots') x y h k e = absurd k
 one_each own all [] (s ∷ slots) slots' x y h k e = absurd h
@@ -202,15 +236,21 @@ one_each own all (c ∷ cs) [] slots' x y h k e = absurd h
 one_each own all (c ∷ cs) (s ∷ slots) [] x y h k e = absurd k
 one_each own all (c ∷ cs) (s ∷ slots) (s' ∷ slots') x y h k e =
     let head : order_of s.journal ≡ order_of s'.journal = cc in
-    let tail : map (λ (t : SlotView). order_of t.journal) slots ++ x ∷ [] ≡ map (λ (t : SlotView). order_of t.journal) slots' ++ y ∷ [] = cc in
+    let tail : map (λ (t : SlotView). order_of t.journal) slots ++ x ∷ [] ≡ map (λ (t : SlotView). order_of t.journal) slots' ++ y ∷ [] =
+    cc in
     let rest = one_each own all cs slots slots' x y h.1 k.1 tail in
     let same = one_slot own c all all s s' h.0 k.0 (λ w. refl) head in
     ((λ i. same i ∷ rest.0 i), rest.1)
 
 one_world : (a : Audited) (r : Enrolled) (world world' : WorldView) → IsOrdered a r world → IsOrdered a r world' → world ≡ world'
 one_world a r world world' h k =
-    let parts = one_each r.own (heard_of a) r.meters world.slots world'.slots (order_of_strangers world.strangers) (order_of_strangers world'.strangers) h.session.meters k.session.meters (sym (printed_are a r world h) ∙ printed_are a r world' k) in
-    let strangers = one_strangers (λ w. lines_of_strangers r.meters (heard_by w (heard_of a))) world.strangers world'.strangers h.session.strangers k.session.strangers parts.1 in
+    let parts =
+    one_each r.own (heard_of a) r.meters world.slots world'.slots (order_of_strangers world.strangers)
+    (order_of_strangers world'.strangers) h.session.meters k.session.meters (sym (printed_are a r world h)
+    ∙ printed_are a r world' k) in
+    let strangers =
+    one_strangers (λ w. lines_of_strangers r.meters (heard_by w (heard_of a)))
+    world.strangers world'.strangers h.session.strangers k.session.strangers parts.1 in
     (λ i. record { slots = parts.0 i; strangers = strangers i })
 
 -- ---- one place of a difference
@@ -245,14 +285,18 @@ module _ (a : Audited) where
   form_not : (line : ℕ) (r r' : Enrolled) → IsReadable a r → IsFirstFaulty (length r.meters) (lines_in a.report) line → IsInForm a r' → ⊥
   form_not line r r' read h k =
       let same = same_roster a r r' read.roster_is k.readable.roster_is in
-      faulty_not (length r.meters) line (lines_in a.report) h (subst (λ e. AreInForm (length e.meters) (reverse (lines_in a.report))) same k.in_form)
+      faulty_not (length r.meters) line (lines_in a.report) h (subst (λ e. AreInForm (length e.meters) (reverse (lines_in a.report)))
+      same k.in_form)
 
-  order_not : (list place : ℕ) (r r' : Enrolled) (world : WorldView) → IsInForm a r → IsFirstWrong (wanted r.meters (heard_of a)) (lists_printed (length r.meters) (orders a.report)) list place → IsOrdered a r' world → ⊥
+  order_not : (list place : ℕ) (r r' : Enrolled) (world : WorldView) → IsInForm a r
+      → IsFirstWrong (wanted r.meters (heard_of a)) (lists_printed (length r.meters) (orders a.report)) list place → IsOrdered a r' world
+      → ⊥
   order_not list place r r' world form h k =
       let same = same_roster a r r' form.readable.roster_is k.form.readable.roster_is in
       wrong_not_ordered a r world list place h (subst (λ e. IsOrdered a e world) same k)
 
-  same_text : (r r' : Enrolled) (world world' : WorldView) → IsOrdered a r world → IsOrdered a r' world' → report_of a r' world' ≡ report_of a r world
+  same_text : (r r' : Enrolled) (world world' : WorldView) → IsOrdered a r world → IsOrdered a r' world'
+      → report_of a r' world' ≡ report_of a r world
   same_text r r' world world' h k =
       let same = same_roster a r r' h.form.readable.roster_is k.form.readable.roster_is in
       let worlds = one_world a r world' world (subst (λ e. IsOrdered a e world') same k) h in
@@ -273,10 +317,12 @@ module _ (a : Audited) where
   one_order : (l p m q : ℕ) → IsCause a (causes.Order l p) → IsCause a (causes.Order m q) → causes.Order l p ≡ causes.Order m q
   one_order l p m q h k =
       let same = same_roster a h.0 k.0 h.1.readable.roster_is k.1.readable.roster_is in
-      let k' = subst (λ (e : Enrolled). IsFirstWrong (wanted e.meters (heard_of a)) (lists_printed (length e.meters) (orders a.report)) m q) same k.2 in
+      let k' = subst (λ (e : Enrolled). IsFirstWrong (wanted e.meters (heard_of a)) (lists_printed (length e.meters) (orders a.report))
+      m q) same k.2 in
       let lists = one_list (wanted h.0.meters (heard_of a)) (lists_printed (length h.0.meters) (orders a.report)) l m p q h.2 k' in
       let places = one_place (wanted h.0.meters (heard_of a) m) (get_or (lists_printed (length h.0.meters) (orders a.report)) m []) p q
-      (subst (λ n. IsWrongAt (wanted h.0.meters (heard_of a) n) (get_or (lists_printed (length h.0.meters) (orders a.report)) n []) p) lists h.2.wrong) k'.wrong in
+      (subst (λ n. IsWrongAt (wanted h.0.meters (heard_of a) n) (get_or (lists_printed (length h.0.meters) (orders a.report)) n []) p)
+      lists h.2.wrong) k'.wrong in
       (λ i. causes.Order (lists i) (places i))
 
   one_text : (p q : ℕ) → IsUnfaithfulAt p a → IsUnfaithfulAt q a → causes.Text p ≡ causes.Text q
@@ -287,7 +333,8 @@ module _ (a : Audited) where
   one_form : (l m : ℕ) → IsCause a (causes.Form l) → IsCause a (causes.Form m) → causes.Form l ≡ causes.Form m
   one_form l m h k =
       let same = same_roster a h.0 k.0 h.1.roster_is k.1.roster_is in
-      ap causes.Form (one_faulty (length h.0.meters) l m (lines_in a.report) h.2 (subst (λ (e : Enrolled). IsFirstFaulty (length e.meters) (lines_in a.report) m) same k.2))
+      ap causes.Form (one_faulty (length h.0.meters) l m (lines_in a.report) h.2
+      (subst (λ (e : Enrolled). IsFirstFaulty (length e.meters) (lines_in a.report) m) same k.2))
 
   one_cause : (c d : Cause) → IsCause a c → IsCause a d → c ≡ d
   one_cause (causes.Roster line cause) (causes.Roster line' cause') h k = cc
@@ -296,7 +343,8 @@ module _ (a : Audited) where
   one_cause (causes.Roster line cause) (causes.Order l p) h k = absurd (no_roster k.0 h k.1.readable.roster_is)
   one_cause (causes.Roster line cause) (causes.Text p) h k = absurd (no_roster k.enrolled h k.ordered.form.readable.roster_is)
   one_cause (causes.Over w) (causes.Roster line cause) h k = absurd (no_roster h.0 k h.1)
-  one_cause (causes.Over w) (causes.Over v) h k = ap causes.Over (until_one (λ input. is_over input ≡ false) (λ input. is_over input ≡ true) not_both 1 w v a.inputs h.2 k.2)
+  one_cause (causes.Over w) (causes.Over v) h k =
+      ap causes.Over (until_one (λ input. is_over input ≡ false) (λ input. is_over input ≡ true) not_both 1 w v a.inputs h.2 k.2)
   one_cause (causes.Over w) (causes.Form l) h k = absurd (over_not w k.0 h.2 k.1)
   one_cause (causes.Over w) (causes.Order l p) h k = absurd (over_not w k.0 h.2 k.1.readable)
   one_cause (causes.Over w) (causes.Text p) h k = absurd (over_not w k.enrolled h.2 k.ordered.form.readable)
@@ -322,6 +370,7 @@ module _ (a : Audited) where
   one_verdict (No c) Yes h k = absurd (not_faithful c h k)
   one_verdict (No c) (No d) h k = ap No (one_cause c d h k)
 
-pub only_verdict : {E : Type 0} (a : Audited) (r : Result Verdict E) → IfOk r (IsVerdict a) → IfOk r (λ v. (other : Verdict) → IsVerdict a other → other ≡ v)
+pub only_verdict : {E : Type 0} (a : Audited) (r : Result Verdict E) → IfOk r (IsVerdict a)
+    → IfOk r (λ v. (other : Verdict) → IsVerdict a other → other ≡ v)
 only_verdict a (Ok v) h = λ other k. one_verdict a other v k h
 only_verdict a (Err e) h = tt

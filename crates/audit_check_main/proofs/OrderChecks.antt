@@ -45,23 +45,27 @@ more_of : (xs : List ℕ) (c n : ℕ) → slice_get xs c ≡ Some n → take c x
 more_of xs c n h = sym (take_more xs c n (slice_get_within xs c n h) ∙ ap (λ x. take c xs ++ x ∷ []) (get_or_from_slice_get xs c n n h))
 
 module _ (numbers : ℕ → List ℕ) (order : List (ℕ × ℕ)) (taken : List ℕ) (so : HaveTaken numbers order taken) where
-  pub taken_next : (r s n : ℕ) → s ≡ r + 1 → r < length taken → slice_get (numbers (r + 1)) (get_or taken r 0) ≡ Some n → HaveTaken numbers (order ++ (s, n) ∷ []) (set taken r (get_or taken r 0 + 1))
+  pub taken_next : (r s n : ℕ) → s ≡ r + 1 → r < length taken → slice_get (numbers (r + 1)) (get_or taken r 0) ≡ Some n
+      → HaveTaken numbers (order ++ (s, n) ∷ []) (set taken r (get_or taken r 0 + 1))
   taken_next r s n number inside next = record { first_ones = firsts; within = within }
     where
       next' : slice_get (numbers (suc r)) (get_or taken r 0) ≡ Some n
       next' = (let e : r + 1 ≡ suc r = omega arith in sym (ap (λ w. slice_get (numbers w) (get_or taken r 0)) e)) ∙ next
 
-      mine : (v : ℕ) → v ≡ r → numbers_by (suc v) (order ++ (s, n) ∷ []) ≡ take (get_or (set taken r (get_or taken r 0 + 1)) v 0) (numbers (suc v))
+      mine : (v : ℕ) → v ≡ r
+          → numbers_by (suc v) (order ++ (s, n) ∷ []) ≡ take (get_or (set taken r (get_or taken r 0 + 1)) v 0) (numbers (suc v))
       mine v e =
           let test : (s == suc v) ≡ true = grind (arith, nat_tests) in
-          let here : get_or (set taken r (get_or taken r 0 + 1)) v 0 ≡ get_or taken r 0 + 1 = ap (λ k. get_or (set taken r (get_or taken r 0 + 1)) k 0) e ∙ get_or-set_same taken r (get_or taken r 0 + 1) 0 inside in
+          let here : get_or (set taken r (get_or taken r 0 + 1)) v 0 ≡ get_or taken r 0 + 1 =
+          ap (λ k. get_or (set taken r (get_or taken r 0 + 1)) k 0) e ∙ get_or-set_same taken r (get_or taken r 0 + 1) 0 inside in
           numbers_push (suc v) order (s, n)
           ∙ ((λ i. so.first_ones (suc v) i ++ one_if (test i) n)
           ∙ ((λ i. take (get_or taken (e i) 0) (numbers (suc (e i))) ++ n ∷ [])
           ∙ (more_of (numbers (suc r)) (get_or taken r 0) n next'
           ∙ (λ i. take (sym here i) (numbers (suc (sym e i)))))))
 
-      other : (v : ℕ) → (v ≡ r → ⊥) → numbers_by (suc v) (order ++ (s, n) ∷ []) ≡ take (get_or (set taken r (get_or taken r 0 + 1)) v 0) (numbers (suc v))
+      other : (v : ℕ) → (v ≡ r → ⊥)
+          → numbers_by (suc v) (order ++ (s, n) ∷ []) ≡ take (get_or (set taken r (get_or taken r 0 + 1)) v 0) (numbers (suc v))
       other v ne =
           let test : (s == suc v) ≡ false = other_number s (suc v) (λ e. ne (omega arith)) in
           numbers_push (suc v) order (s, n)
@@ -78,7 +82,8 @@ module _ (numbers : ℕ → List ℕ) (order : List (ℕ × ℕ)) (taken : List 
       within : (w : ℕ) → taken_of (set taken r (get_or taken r 0 + 1)) w ≤ length (numbers w)
       within zero = omega arith
       within (suc v) = dite (ℕ_discrete v r)
-          (λ e. let here : get_or (set taken r (get_or taken r 0 + 1)) v 0 ≡ get_or taken r 0 + 1 = ap (λ k. get_or (set taken r (get_or taken r 0 + 1)) k 0) e ∙ get_or-set_same taken r (get_or taken r 0 + 1) 0 inside in
+          (λ e. let here : get_or (set taken r (get_or taken r 0 + 1)) v 0 ≡ get_or taken r 0 + 1 = ap
+          (λ k. get_or (set taken r (get_or taken r 0 + 1)) k 0) e ∙ get_or-set_same taken r (get_or taken r 0 + 1) 0 inside in
           let l = slice_get_within (numbers (suc r)) (get_or taken r 0) n next' in
           let m : length (numbers (suc v)) ≡ length (numbers (suc r)) = ap (λ k. length (numbers (suc k))) e in omega arith)
           (λ ne. let there = get_or-set_other taken r v (get_or taken r 0 + 1) 0 ne in let l = so.within (suc v) in omega arith)
@@ -88,7 +93,8 @@ module _ (numbers : ℕ → List ℕ) (order : List (ℕ × ℕ)) (taken : List 
   front_of : (w : ℕ) → IsFrontOf (numbers_by w order) (numbers w)
   front_of w = record {
     rest = drop (taken_of taken w) (numbers w);
-    joined = sym (take-append-drop (taken_of taken w) (numbers w)) ∙ ap (λ l. l ++ drop (taken_of taken w) (numbers w)) (sym (so.first_ones w));
+    joined = sym (take-append-drop (taken_of taken w) (numbers w))
+        ∙ ap (λ l. l ++ drop (taken_of taken w) (numbers w)) (sym (so.first_ones w));
   }
 
   pub next_so_far : AreNext numbers order
@@ -98,7 +104,8 @@ module _ (numbers : ℕ → List ℕ) (order : List (ℕ × ℕ)) (taken : List 
   at_end [] rest n = refl
   at_end (x ∷ front) rest n = at_end front rest n
 
-  pub not_next : (r s n : ℕ) → s ≡ r + 1 → (slice_get (numbers (r + 1)) (get_or taken r 0) ≡ Some n → ⊥) → AreNext numbers (order ++ (s, n) ∷ []) → ⊥
+  pub not_next : (r s n : ℕ) → s ≡ r + 1 → (slice_get (numbers (r + 1)) (get_or taken r 0) ≡ Some n → ⊥)
+      → AreNext numbers (order ++ (s, n) ∷ []) → ⊥
   not_next r s n number differs next =
       let e : suc r ≡ r + 1 = omega arith in
       let test : (s == suc r) ≡ true = grind (arith, nat_tests) in
@@ -113,7 +120,8 @@ module _ (numbers : ℕ → List ℕ) (order : List (ℕ × ℕ)) (taken : List 
   no_receiver s n none next =
       let front = next s in
       let whole : [] ≡ (numbers_by s order ++ n ∷ []) ++ front.rest =
-      sym none ∙ (front.joined ∙ ap (λ l. l ++ front.rest) (numbers_push s order (s, n) ∙ ap (λ b. numbers_by s order ++ one_if b n) (same_number s))) in
+      sym none ∙ (front.joined ∙ ap (λ l. l ++ front.rest) (numbers_push s order (s, n)
+      ∙ ap (λ b. numbers_by s order ++ one_if b n) (same_number s))) in
       let l = ap length whole ∙ length-append (numbers_by s order ++ n ∷ []) front.rest in
       let m = length-append (numbers_by s order) (n ∷ []) in absurd (omega arith)
 
@@ -140,7 +148,8 @@ abbrev zeros : ℕ → List ℕ
 zeros n = replicate n 0
 
 pub taken_none : (numbers : ℕ → List ℕ) (n : ℕ) → HaveTaken numbers [] (replicate n 0)
-taken_none numbers n = record { first_ones = λ w. sym (ap (λ k. take k (numbers w)) (nothing w)); within = λ w. let z = nothing w in omega arith }
+taken_none numbers n =
+    record { first_ones = λ w. sym (ap (λ k. take k (numbers w)) (nothing w)); within = λ w. let z = nothing w in omega arith }
   where
     nothing : (w : ℕ) → taken_of (zeros n) w ≡ 0
     nothing zero = refl
@@ -162,25 +171,32 @@ nothing_from heard list (suc w) past = ap (λ (h : HeardInput). get_or h.lists l
     past_end (x ∷ heard) zero h = absurd (omega arith)
     past_end (x ∷ heard) (suc w) h = past_end heard w (omega arith)
 
-pub all_of_each : (heard : List HeardInput) (list : ℕ) (taken : List ℕ) → ((k : ℕ) → k < length heard → length (numbers_in_list heard list (k + 1)) ≡ get_or taken k 0) → (w : ℕ) → length (numbers_in_list heard list w) ≤ taken_of taken w
+pub all_of_each : (heard : List HeardInput) (list : ℕ) (taken : List ℕ)
+    → ((k : ℕ) → k < length heard → length (numbers_in_list heard list (k + 1)) ≡ get_or taken k 0) → (w : ℕ)
+    → length (numbers_in_list heard list w) ≤ taken_of taken w
 all_of_each heard list taken each zero = omega arith
 all_of_each heard list taken each (suc w) = ⊎_elim
-    (λ inside. let e : w + 1 ≡ suc w = omega arith in let l = sym (ap (λ v. length (numbers_in_list heard list v)) e) ∙ each w inside in omega arith)
+    (λ inside. let e : w + 1 ≡ suc w = omega arith in let l = sym (ap (λ v. length (numbers_in_list heard list v)) e)
+    ∙ each w inside in omega arith)
     (λ past. let none = ap length (nothing_from heard list (suc w) (omega arith)) in omega arith) (cases_lt w (length heard))
 
 -- ---- where a list goes wrong
 
 -- the pairs so far are each the next one, and the pair behind them isn't
-pub wrong_at : (numbers : ℕ → List ℕ) (order : List (ℕ × ℕ)) (taken : List ℕ) (place : ℕ) (pair : ℕ × ℕ) → place < length order → pair ≡ get_or order place (0, 0) → HaveTaken numbers (take place order) taken
+pub wrong_at : (numbers : ℕ → List ℕ) (order : List (ℕ × ℕ)) (taken : List ℕ) (place : ℕ) (pair : ℕ × ℕ) → place < length order
+    → pair ≡ get_or order place (0, 0) → HaveTaken numbers (take place order) taken
     → (AreNext numbers (take place order ++ pair ∷ []) → ⊥) → IsWrongAt numbers order place
 wrong_at numbers order taken place pair inside is so differs = record {
   within = omega arith;
   right_before = next_so_far numbers (take place order) taken so;
-  wrong_pair = λ h next. differs (subst (AreNext numbers) (take_more order place (0, 0) inside ∙ ap (λ p. take place order ++ p ∷ []) (sym is)) next);
+  wrong_pair =
+      λ h next. differs (subst (AreNext numbers) (take_more order place (0, 0) inside
+      ∙ ap (λ p. take place order ++ p ∷ []) (sym is)) next);
   missing = λ e. absurd (omega arith);
 }
 
-pub wrong_end : (numbers : ℕ → List ℕ) (order : List (ℕ × ℕ)) (taken : List ℕ) → HaveTaken numbers order taken → (IsRight numbers order → ⊥) → IsWrongAt numbers order (length order)
+pub wrong_end : (numbers : ℕ → List ℕ) (order : List (ℕ × ℕ)) (taken : List ℕ) → HaveTaken numbers order taken
+    → (IsRight numbers order → ⊥) → IsWrongAt numbers order (length order)
 wrong_end numbers order taken so misses = record {
   within = omega arith;
   right_before = subst (AreNext numbers) (sym (take-length order)) (next_so_far numbers order taken so);
@@ -188,17 +204,22 @@ wrong_end numbers order taken so misses = record {
   missing = λ e. misses;
 }
 
-pub taken_all : (numbers : ℕ → List ℕ) (order : List (ℕ × ℕ)) (taken : List ℕ) (n : ℕ) → n ≡ length order → HaveTaken numbers (take n order) taken → HaveTaken numbers order taken
+pub taken_all : (numbers : ℕ → List ℕ) (order : List (ℕ × ℕ)) (taken : List ℕ) (n : ℕ) → n ≡ length order
+    → HaveTaken numbers (take n order) taken → HaveTaken numbers order taken
 taken_all numbers order taken n e so = subst (λ o. HaveTaken numbers o taken) (ap (λ k. take k order) e ∙ take-length order) so
 
-pub taken_more : (numbers : ℕ → List ℕ) (order : List (ℕ × ℕ)) (taken : List ℕ) (place : ℕ) (pair : ℕ × ℕ) → place < length order → pair ≡ get_or order place (0, 0) → HaveTaken numbers (take place order ++ pair ∷ []) taken → HaveTaken numbers (take (place + 1) order) taken
-taken_more numbers order taken place pair inside is so = subst (λ o. HaveTaken numbers o taken) (sym (take_more order place (0, 0) inside ∙ ap (λ p. take place order ++ p ∷ []) (sym is))) so
+pub taken_more : (numbers : ℕ → List ℕ) (order : List (ℕ × ℕ)) (taken : List ℕ) (place : ℕ) (pair : ℕ × ℕ) → place < length order
+    → pair ≡ get_or order place (0, 0) → HaveTaken numbers (take place order ++ pair ∷ []) taken
+    → HaveTaken numbers (take (place + 1) order) taken
+taken_more numbers order taken place pair inside is so =
+    subst (λ o. HaveTaken numbers o taken) (sym (take_more order place (0, 0) inside ∙ ap (λ p. take place order ++ p ∷ []) (sym is))) so
 
 -- ---- tests of the code
 
 is_some_number : (o : Option ℕ) (n : ℕ) (b : Bool) → b ≡ not (option_eq (λ x y. x == y) o (Some n)) → b ≡ false → o ≡ Some n
 is_some_number None n b e off = absurd (let x : true ≡ false = sym e ∙ off in cc)
-is_some_number (Some m) n b e off = let same : (m == n) ≡ true = not_false (m == n) (sym e ∙ off) in let x : m ≡ n = grind (arith, nat_tests) in ap Some x
+is_some_number (Some m) n b e off =
+    let same : (m == n) ≡ true = not_false (m == n) (sym e ∙ off) in let x : m ≡ n = grind (arith, nat_tests) in ap Some x
   where
     not_false : (b : Bool) → not b ≡ false → b ≡ true
     not_false true h = refl
@@ -223,7 +244,8 @@ pub same_place : {E : Type 0} (a b : ℕ) → (let r : Result (Option ℕ) E = O
 same_place a b e = cc
 
 -- a receiver's numbers, by its place
-pub numbers_at_place : (heard : List HeardInput) (list r : ℕ) (h : HeardInput) → r < length heard → h ≡ get_or heard r h → get_or h.lists list [] ≡ numbers_in_list heard list (suc r)
+pub numbers_at_place : (heard : List HeardInput) (list r : ℕ) (h : HeardInput) → r < length heard → h ≡ get_or heard r h
+    → get_or h.lists list [] ≡ numbers_in_list heard list (suc r)
 numbers_at_place heard list r h inside is = ap (λ (x : HeardInput). get_or x.lists list []) (is ∙ other_default heard r h no_input inside)
   where
     other_default : (xs : List HeardInput) (r : ℕ) (d e : HeardInput) → r < length xs → get_or xs r d ≡ get_or xs r e

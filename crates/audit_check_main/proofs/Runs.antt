@@ -20,22 +20,36 @@ use Rattle.audit_check_main.specs.Texts.{verdict_text}
 not_both : (b : Bool) → b ≡ true → b ≡ false → ⊥
 not_both b h k = absurd (let e : true ≡ false = sym h ∙ k in cc)
 
-fails_none : {A : Type 0} (Q : A → Type 0) (n w : ℕ) (xs : List A) → PassUntil (λ (y : ℕ × A). Unit {0}) (λ (y : ℕ × A). (y.0 ≡ w) × Q y.1) (enumerate_from n xs) → Each (λ x. Q x → ⊥) xs → ⊥
+fails_none : {A : Type 0} (Q : A → Type 0) (n w : ℕ) (xs : List A)
+    → PassUntil (λ (y : ℕ × A). Unit {0}) (λ (y : ℕ × A). (y.0 ≡ w) × Q y.1) (enumerate_from n xs) → Each (λ x. Q x → ⊥) xs → ⊥
 fails_none Q n w [] h all = h
 fails_none Q n w (x ∷ xs) h all = ⊎_elim (λ stop. all.0 stop.1) (λ later. fails_none Q (n + 1) w xs later.1 all.1) h
 
 -- all that a source had was read, where no more than this was
-pub read_all_of : (most : ℕ) (source : Change SourceShown) (bytes : List ℕ) → IsReadPast most source bytes → length bytes ≤ most → length source.before.left ≤ most
+pub read_all_of : (most : ℕ) (source : Change SourceShown) (bytes : List ℕ) → IsReadPast most source bytes → length bytes ≤ most
+    → length source.before.left ≤ most
 read_all_of most source bytes h few =
     let none = ap length (h.ended few) in
     let whole = ap length h.moved.front ∙ length-append bytes source.now.left in omega arith
 
-pub read_long_of : (most : ℕ) (source : Change SourceShown) (bytes : List ℕ) → IsReadPast most source bytes → most < length bytes → most < length source.before.left
+pub read_long_of : (most : ℕ) (source : Change SourceShown) (bytes : List ℕ) → IsReadPast most source bytes → most < length bytes
+    → most < length source.before.left
 read_long_of most source bytes h long = let whole = ap length h.moved.front ∙ length-append bytes source.now.left in omega arith
 
-module _ (sources_tell sinks_tell : Bool) (words : List (List ℕ)) (roster report : Change SourceShown) (inputs : List (Change SourceShown)) (out : Change SinkShown) where
+module _ (sources_tell sinks_tell : Bool) (words : List (List ℕ)) (roster report : Change SourceShown) (inputs : List (Change SourceShown))
+    (out : Change SinkShown) where
   abbrev pub run_with : AuditStatus → Run
-  run_with status = record { sources_tell = sources_tell; sinks_tell = sinks_tell; words = words; roster = roster; report = report; inputs = inputs; out = out; status = status }
+  run_with status =
+      record {
+        sources_tell = sources_tell;
+        sinks_tell = sinks_tell;
+        words = words;
+        roster = roster;
+        report = report;
+        inputs = inputs;
+        out = out;
+        status = status;
+      }
 
   abbrev pub Keeps : Type 0
   Keeps = IsTrue sources_tell → LosesNothing roster × LosesNothing report × Each LosesNothing inputs
@@ -73,7 +87,8 @@ module _ (sources_tell sinks_tell : Bool) (words : List (List ℕ)) (roster repo
     silent = λ h. silent;
   }
 
-  pub run_long : are_files words ≡ true → (IsTrue sources_tell → 1073741824 < length report.before.left) → Keeps → IsSilent out → IsRun (run_with statuses.LongReport)
+  pub run_long : are_files words ≡ true → (IsTrue sources_tell → 1073741824 < length report.before.left) → Keeps → IsSilent out
+      → IsRun (run_with statuses.LongReport)
   run_long files long keeps silent = record {
     caused = long;
     refused = λ h. absurd (not_both (are_files words) files h);
@@ -83,7 +98,8 @@ module _ (sources_tell sinks_tell : Bool) (words : List (List ℕ)) (roster repo
     silent = λ h. silent;
   }
 
-  pub run_read : (w : ℕ) → are_files words ≡ true → IsShort → IsFirst (λ source. Unit {0}) ReadFailed w inputs → Keeps → IsSilent out → IsRun (run_with (statuses.Read w))
+  pub run_read : (w : ℕ) → are_files words ≡ true → IsShort → IsFirst (λ source. Unit {0}) ReadFailed w inputs → Keeps → IsSilent out
+      → IsRun (run_with (statuses.Read w))
   run_read w files short failed keeps silent = record {
     caused = failed;
     refused = λ h. absurd (not_both (are_files words) files h);
@@ -113,7 +129,8 @@ module _ (sources_tell sinks_tell : Bool) (words : List (List ℕ)) (roster repo
     silent = λ h. absurd cc;
   }
 
-  pub run_no : (cause : Cause) → are_files words ≡ true → IsShort → IsAnswered (run_with (statuses.No cause)) (No cause) → Keeps → IsRun (run_with (statuses.No cause))
+  pub run_no : (cause : Cause) → are_files words ≡ true → IsShort → IsAnswered (run_with (statuses.No cause)) (No cause) → Keeps
+      → IsRun (run_with (statuses.No cause))
   run_no cause files short answered keeps = record {
     caused = answered;
     refused = λ h. absurd (not_both (are_files words) files h);
@@ -134,14 +151,25 @@ module _ (sources_tell sinks_tell : Bool) (words : List (List ℕ)) (roster repo
   }
 
   -- a verdict was found, and written or not
-  pub run_found : (verdict : Verdict) (status : AuditStatus) → are_files words ≡ true → IsShort → (IsTrue sources_tell → HasVerdict (run_with status) verdict) → (status ≡ status_of verdict) ⊎ (status ≡ statuses.Write)
-      → (status ≡ status_of verdict → IsTrue sinks_tell → out.now.written ≡ verdict_text verdict) → (status ≡ statuses.Write → IsTrue sinks_tell → AppendsFront (verdict_text verdict) [] out.now.written) → (status ≡ statuses.Write → WriteFailed out)
+  pub run_found : (verdict : Verdict) (status : AuditStatus) → are_files words ≡ true → IsShort
+      → (IsTrue sources_tell → HasVerdict (run_with status) verdict) → (status ≡ status_of verdict) ⊎ (status ≡ statuses.Write)
+      → (status ≡ status_of verdict → IsTrue sinks_tell → out.now.written ≡ verdict_text verdict)
+      → (status ≡ statuses.Write → IsTrue sinks_tell → AppendsFront (verdict_text verdict) [] out.now.written)
+      → (status ≡ statuses.Write → WriteFailed out)
       → Keeps → IsRun (run_with status)
   run_found verdict status files short found which written front failed keeps =
-      ⊎_elim (λ e. subst (λ s. IsRun (run_with s)) (sym e) (answered verdict (λ t. subst (λ s. HasVerdict (run_with s) verdict) e (found t)) (written e)))
-      (λ e. subst (λ s. IsRun (run_with s)) (sym e) (run_unwritten files short (record { verdict = verdict; answer = λ t. subst (λ s. HasVerdict (run_with s) verdict) e (found t); written = front e; failed = failed e }) keeps)) which
+      ⊎_elim (λ e. subst (λ s. IsRun (run_with s)) (sym e) (answered verdict
+      (λ t. subst (λ s. HasVerdict (run_with s) verdict) e (found t)) (written e)))
+      (λ e. subst (λ s. IsRun (run_with s)) (sym e) (run_unwritten files short
+      (record {
+        verdict = verdict;
+        answer = λ t. subst (λ s. HasVerdict (run_with s) verdict) e (found t);
+        written = front e;
+        failed = failed e;
+      }) keeps)) which
     where
-      answered : (v : Verdict) → (IsTrue sources_tell → HasVerdict (run_with (status_of v)) v) → (IsTrue sinks_tell → out.now.written ≡ verdict_text v) → IsRun (run_with (status_of v))
+      answered : (v : Verdict) → (IsTrue sources_tell → HasVerdict (run_with (status_of v)) v)
+          → (IsTrue sinks_tell → out.now.written ≡ verdict_text v) → IsRun (run_with (status_of v))
       answered Yes h w = run_yes files short (record { answer = h; written = w }) keeps
       answered (No cause) h w = run_no cause files short (record { answer = h; written = w }) keeps
 

@@ -46,21 +46,27 @@ all_within : (input : List ℕ) → is_over input ≡ false → all_lines input 
 unfolding all_lines
 all_within input h = ap (λ b. cond b (whole_lines input) (lines input)) h
 
-pub tells_all : (cs : List Commissioned) (inputs : List (List ℕ)) → Each (λ input. is_over input ≡ false) inputs → map tells (map (heard_input cs) inputs) ≡ map told_in inputs
+pub tells_all : (cs : List Commissioned) (inputs : List (List ℕ)) → Each (λ input. is_over input ≡ false) inputs
+    → map tells (map (heard_input cs) inputs) ≡ map told_in inputs
 tells_all cs [] h = refl
 tells_all cs (x ∷ inputs) h = (λ i. map told_of (sym (all_within x h.0) i) ∷ tells_all cs inputs h.1 i)
 
-ends_all : (cs : List Commissioned) (inputs : List (List ℕ)) → Each (λ input. is_over input ≡ false) inputs → map end_of (map (heard_input cs) inputs) ≡ map (heard_out (map (λ c. c.address) cs)) inputs
+ends_all : (cs : List Commissioned) (inputs : List (List ℕ)) → Each (λ input. is_over input ≡ false) inputs
+    → map end_of (map (heard_input cs) inputs) ≡ map (heard_out (map (λ c. c.address) cs)) inputs
 ends_all cs [] h = refl
 ends_all cs (x ∷ inputs) h =
-    (λ i. record { counts = counts_of (map (λ (c : Commissioned). c.address) cs) (map told_of (sym (all_within x h.0) i)); ended = ends.End } ∷ ends_all cs inputs h.1 i)
+    (λ i. record {
+      counts = counts_of (map (λ (c : Commissioned). c.address) cs) (map told_of (sym (all_within x h.0) i));
+      ended = ends.End;
+    } ∷ ends_all cs inputs h.1 i)
 
 -- ---- numbers of lines
 
 nothing_heard : (cs : List Commissioned) (k : ℕ) → get_or (numbers_for cs []) k [] ≡ []
 nothing_heard cs k = at cs k
   where
-    at : (cs : List Commissioned) (k : ℕ) → get_or (map (λ (c : Commissioned). map (λ l. l.0) (lines_for c.address [])) cs ++ [] ∷ []) k [] ≡ []
+    at : (cs : List Commissioned) (k : ℕ)
+        → get_or (map (λ (c : Commissioned). map (λ l. l.0) (lines_for c.address [])) cs ++ [] ∷ []) k [] ≡ []
     at [] zero = refl
     at [] (suc k) = refl
     at (c ∷ cs) zero = refl
@@ -72,9 +78,12 @@ numbers_at cs [] h k v = sym (nothing_heard cs k)
 numbers_at cs (x ∷ inputs) h k zero = ap (λ ls. get_or (numbers_for cs (map told_of ls)) k []) (sym (all_within x h.0))
 numbers_at cs (x ∷ inputs) h k (suc v) = numbers_at cs inputs h.1 k v
 
-pub numbers_same : (cs : List Commissioned) (inputs : List (List ℕ)) → Each (λ input. is_over input ≡ false) inputs → (k w : ℕ) → numbers_in_list (map (heard_input cs) inputs) k w ≡ wanted cs (map told_in inputs) k w
-numbers_same cs inputs h k zero = sym (ap (λ heard. get_or (numbers_for cs heard) k []) (heard_none 0 (map told_in inputs)) ∙ nothing_heard cs k)
-numbers_same cs inputs h k (suc v) = numbers_at cs inputs h k v ∙ ap (λ heard. get_or (numbers_for cs heard) k []) (sym (heard_suc v (map told_in inputs)))
+pub numbers_same : (cs : List Commissioned) (inputs : List (List ℕ)) → Each (λ input. is_over input ≡ false) inputs → (k w : ℕ)
+    → numbers_in_list (map (heard_input cs) inputs) k w ≡ wanted cs (map told_in inputs) k w
+numbers_same cs inputs h k zero =
+    sym (ap (λ heard. get_or (numbers_for cs heard) k []) (heard_none 0 (map told_in inputs)) ∙ nothing_heard cs k)
+numbers_same cs inputs h k (suc v) =
+    numbers_at cs inputs h k v ∙ ap (λ heard. get_or (numbers_for cs heard) k []) (sym (heard_suc v (map told_in inputs)))
 
 -- ---- right lists
 
@@ -85,25 +94,35 @@ last_there (y ∷ xs) x d = last_there xs x d
 abbrev own_numbers : List (List Told) → ℕ → Commissioned → List ℕ
 own_numbers all w c = map (λ l. l.0) (lines_for c.address (heard_by w all))
 
-each_order : (all : List (List Told)) (behind : ℕ → List ℕ) (cs : List Commissioned) (lists : List (List (ℕ × ℕ))) → length cs < length lists
-    → ((k : ℕ) → k < length cs → (w : ℕ) → numbers_by w (get_or lists k []) ≡ get_or (map (own_numbers all w) cs ++ behind w ∷ []) k []) → IsOrderOfEach all cs lists
+each_order : (all : List (List Told)) (behind : ℕ → List ℕ) (cs : List Commissioned) (lists : List (List (ℕ × ℕ)))
+    → length cs < length lists
+    → ((k : ℕ) → k < length cs → (w : ℕ) → numbers_by w (get_or lists k []) ≡ get_or (map (own_numbers all w) cs ++ behind w ∷ []) k [])
+    → IsOrderOfEach all cs lists
 each_order all behind [] lists few h = tt
 each_order all behind (c ∷ cs) [] few h = absurd (omega arith)
-each_order all behind (c ∷ cs) (order ∷ lists) few h = (h 0 (omega arith), each_order all behind cs lists (omega arith) (λ k inside. h (suc k) (omega arith)))
+each_order all behind (c ∷ cs) (order ∷ lists) few h =
+    (h 0 (omega arith), each_order all behind cs lists (omega arith) (λ k inside. h (suc k) (omega arith)))
 
-module _ (cs : List Commissioned) (inputs : List (List ℕ)) (within : Each (λ input. is_over input ≡ false) inputs) (lists : List (List (ℕ × ℕ))) (long : length lists ≡ length cs + 1)
+module _ (cs : List Commissioned) (inputs : List (List ℕ)) (within : Each (λ input. is_over input ≡ false) inputs)
+    (lists : List (List (ℕ × ℕ))) (long : length lists ≡ length cs + 1)
     (right : (k : ℕ) → k < length lists → IsRight (numbers_in_list (map (heard_input cs) inputs) k) (get_or lists k [])) where
-  right_at : (k : ℕ) → k < length lists → (w : ℕ) → numbers_by w (get_or lists k []) ≡ wanted cs (map tells (map (heard_input cs) inputs)) k w
-  right_at k inside w = right k inside w ∙ (numbers_same cs inputs within k w ∙ ap (λ all. wanted cs all k w) (sym (tells_all cs inputs within)))
+  right_at : (k : ℕ) → k < length lists → (w : ℕ)
+      → numbers_by w (get_or lists k []) ≡ wanted cs (map tells (map (heard_input cs) inputs)) k w
+  right_at k inside w =
+      right k inside w ∙ (numbers_same cs inputs within k w ∙ ap (λ all. wanted cs all k w) (sym (tells_all cs inputs within)))
 
   pub orders_right : IsOrderOfEach (map tells (map (heard_input cs) inputs)) cs lists
-  orders_right = each_order (map tells (map (heard_input cs) inputs)) (λ w. map (λ l. l.0) (lines_of_strangers cs (heard_by w (map tells (map (heard_input cs) inputs))))) cs lists (omega arith) (λ k inside w. right_at k (omega arith) w)
+  orders_right =
+      each_order (map tells (map (heard_input cs) inputs)) (λ w. map (λ l. l.0)
+      (lines_of_strangers cs (heard_by w (map tells (map (heard_input cs) inputs))))) cs lists (omega arith)
+      (λ k inside w. right_at k (omega arith) w)
 
   pub strangers_right : IsOrderOfStrangers cs (map tells (map (heard_input cs) inputs)) (get_or lists (length cs) [])
   strangers_right w =
       let all : List (List Told) = map tells (map (heard_input cs) inputs) in
       right_at (length cs) (omega arith) w
-      ∙ (ap (λ n. get_or (map (own_numbers all w) cs ++ map (λ l. l.0) (lines_of_strangers cs (heard_by w all)) ∷ []) n []) (sym (length-map cs (own_numbers all w)))
+      ∙ (ap (λ n. get_or (map (own_numbers all w) cs ++ map (λ l. l.0) (lines_of_strangers cs (heard_by w all)) ∷ []) n [])
+      (sym (length-map cs (own_numbers all w)))
       ∙ last_there (map (own_numbers all w) cs) (map (λ l. l.0) (lines_of_strangers cs (heard_by w all))) [])
 
 -- ---- as many lists as there are meters, and one
@@ -128,7 +147,8 @@ pair_short : (fields : List (List ℕ)) → length (pair_in fields) ≤ 1
 pair_short [] = omega arith
 pair_short (word ∷ []) = omega arith
 pair_short (word ∷ first ∷ []) = omega arith
-pair_short (word ∷ first ∷ second ∷ more) = one_if (all_ascii_digits first && all_ascii_digits second) (digits_value 10 first, digits_value 10 second)
+pair_short (word ∷ first ∷ second ∷ more) =
+    one_if (all_ascii_digits first && all_ascii_digits second) (digits_value 10 first, digits_value 10 second)
   where
     one_if : (b : Bool) (p : ℕ × ℕ) → length (cond b (p ∷ []) []) ≤ 1
     one_if true p = omega arith
@@ -136,9 +156,13 @@ pair_short (word ∷ first ∷ second ∷ more) = one_if (all_ascii_digits first
 
 with_line_size : (line : List ℕ) (below : text.Told) → size (with_line line below) ≤ 1 + size below
 unfolding with_line
-with_line_size line below = at (begins (codes "meter ") line) (begins (codes "strangers ") line) (begins (codes "step ") line || begins (codes "stranger ") line)
+with_line_size line below =
+    at (begins (codes "meter ") line) (begins (codes "strangers ") line) (begins (codes "step ") line || begins (codes "stranger ") line)
   where
-    at : (a b c : Bool) → size (cond a (meter_heading below) (cond b (strangers_heading below) (cond c (with_steps (pair_in (fields_of line)) below) below))) ≤ 1 + size below
+    at : (a b c : Bool)
+        → size (cond a (meter_heading below) (cond b (strangers_heading below)
+        (cond c (with_steps (pair_in (fields_of line)) below) below)))
+        ≤ 1 + size below
     at true b c = omega arith
     at false true c = let l = length-append below.above below.strangers in omega arith
     at false false true = let l = length-append (pair_in (fields_of line)) below.above in let s = pair_short (fields_of line) in omega arith
@@ -148,7 +172,8 @@ told_size : (ls : List (List ℕ)) → size (told ls) ≤ length ls
 told_size [] = omega arith
 told_size (line ∷ ls) = let w = with_line_size line (told ls) in let t = told_size ls in omega arith
 
-list_size : (n : ℕ) (lists : List (List (ℕ × ℕ))) (behind : List (ℕ × ℕ)) (k : ℕ) → length (get_or (as_many n lists ++ behind ∷ []) k []) ≤ sizes lists + length behind
+list_size : (n : ℕ) (lists : List (List (ℕ × ℕ))) (behind : List (ℕ × ℕ)) (k : ℕ)
+    → length (get_or (as_many n lists ++ behind ∷ []) k []) ≤ sizes lists + length behind
 list_size zero lists behind zero = omega arith
 list_size zero lists behind (suc k) = omega arith
 list_size (suc n) [] behind zero = omega arith
@@ -157,33 +182,46 @@ list_size (suc n) (list ∷ lists) behind zero = omega arith
 list_size (suc n) (list ∷ lists) behind (suc k) = let l = list_size n lists behind k in omega arith
 
 pub list_short : (n : ℕ) (report : List ℕ) (k : ℕ) → length (get_or (lists_printed n (orders report)) k []) ≤ length (lines_in report)
-list_short n report k = let l = list_size n (orders report).meters (orders report).strangers k in let t = told_size (lines_in report) in omega arith
+list_short n report k =
+    let l = list_size n (orders report).meters (orders report).strangers k in let t = told_size (lines_in report) in omega arith
 
 -- ---- verdicts
 
-module _ (r : Enrolled) (text report : List ℕ) (inputs : List (List ℕ)) (roster_is : roster_of text ≡ Ok r) (within : Each (λ input. is_over input ≡ false) inputs) where
+module _ (r : Enrolled) (text report : List ℕ) (inputs : List (List ℕ)) (roster_is : roster_of text ≡ Ok r)
+    (within : Each (λ input. is_over input ≡ false) inputs) where
   abbrev audited : Audited
   audited = record { roster = text; report = report; inputs = inputs }
 
   readable : IsReadable audited r
   readable = record { roster_is = roster_is; within = within }
 
-  module _ (in_form : AreInForm (length r.meters) (reverse (lines_in report))) (lists : List (List (ℕ × ℕ))) (lists_are : lists ≡ lists_printed (length r.meters) (orders report)) where
+  module _ (in_form : AreInForm (length r.meters) (reverse (lines_in report))) (lists : List (List (ℕ × ℕ)))
+      (lists_are : lists ≡ lists_printed (length r.meters) (orders report)) where
     form : IsInForm audited r
     form = record { readable = readable; in_form = in_form }
 
-    pub first_wrong_is : (list place : ℕ) → IsFirstWrong (numbers_in_list (map (heard_input r.meters) inputs)) lists list place → IsVerdict audited (No (causes.Order list place))
+    pub first_wrong_is : (list place : ℕ) → IsFirstWrong (numbers_in_list (map (heard_input r.meters) inputs)) lists list place
+        → IsVerdict audited (No (causes.Order list place))
     first_wrong_is list place wrong =
-        let numbers : numbers_in_list (map (heard_input r.meters) inputs) ≡ wanted r.meters (map told_in inputs) = (λ i k w. numbers_same r.meters inputs within k w i) in
-        (r, form, subst (λ l. IsFirstWrong (wanted r.meters (map told_in inputs)) l list place) lists_are (subst (λ f. IsFirstWrong f lists list place) numbers wrong))
+        let numbers : numbers_in_list (map (heard_input r.meters) inputs) ≡ wanted r.meters (map told_in inputs) =
+        (λ i k w. numbers_same r.meters inputs within k w i) in (
+          r,
+          form,
+          subst (λ l. IsFirstWrong (wanted r.meters (map told_in inputs)) l list place) lists_are
+              (subst (λ f. IsFirstWrong f lists list place) numbers wrong),
+        )
 
-    module _ (slots : List SlotView) (strangers : List Heard) (so : AreOrderedSlots r.own (map tells (map (heard_input r.meters) inputs)) r.meters lists slots)
-        (noted : AreOrderedStrangers r.meters (map tells (map (heard_input r.meters) inputs)) (get_or lists (length r.meters) []) strangers) where
+    module _ (slots : List SlotView) (strangers : List Heard) (so : AreOrderedSlots r.own (map tells (map (heard_input r.meters) inputs))
+        r.meters lists slots)
+        (noted : AreOrderedStrangers r.meters (map tells (map (heard_input r.meters) inputs)) (get_or lists (length r.meters) [])
+        strangers) where
       abbrev world : WorldView
       world = record { slots = slots; strangers = strangers }
 
       session : IsSession r.own r.meters (map told_in inputs) world
-      session = subst (λ all. IsSession r.own r.meters all world) (tells_all r.meters inputs within) (record { meters = meters_slots _ _ r.meters lists slots so; strangers = noted.lines })
+      session =
+          subst (λ all. IsSession r.own r.meters all world) (tells_all r.meters inputs within)
+          (record { meters = meters_slots _ _ r.meters lists slots so; strangers = noted.lines })
 
       lists_end : {X : Type 0} (n : ℕ) (xs : List X) (d : X) → length xs ≡ n + 1 → drop n xs ≡ get_or xs n d ∷ []
       lists_end zero [] d h = absurd (omega arith)
@@ -195,9 +233,12 @@ module _ (r : Enrolled) (text report : List ℕ) (inputs : List (List ℕ)) (ros
       printed : lists_printed (length r.meters) (orders report) ≡ lists_printed (length r.meters) (orders_of slots strangers)
       printed =
           let long : length lists ≡ length r.meters + 1 = ap length lists_are ∙ length-lists_printed (length r.meters) (orders report) in
-          let many : length (map (λ (s : SlotView). order_of s.journal) slots) ≡ length r.meters = length-map slots (λ (s : SlotView). order_of s.journal) ∙ as_many_slots _ _ r.meters slots (meters_slots _ _ r.meters lists slots so) in
+          let many : length (map (λ (s : SlotView). order_of s.journal) slots) ≡ length r.meters =
+          length-map slots (λ (s : SlotView). order_of s.journal)
+          ∙ as_many_slots _ _ r.meters slots (meters_slots _ _ r.meters lists slots so) in
           sym lists_are ∙ (slots_orders _ _ r.meters lists slots so
-          ∙ (λ i. sym (as_many-all (length r.meters) (map (λ (s : SlotView). order_of s.journal) slots) many) i ++ (lists_end (length r.meters) lists [] long ∙ ap (λ o. o ∷ []) (sym noted.in_order)) i))
+          ∙ (λ i. sym (as_many-all (length r.meters) (map (λ (s : SlotView). order_of s.journal) slots) many) i
+          ++ (lists_end (length r.meters) lists [] long ∙ ap (λ o. o ∷ []) (sym noted.in_order)) i))
 
       ordered : IsOrdered audited r world
       ordered = record { form = form; session = session; printed = printed }
@@ -205,23 +246,29 @@ module _ (r : Enrolled) (text report : List ℕ) (inputs : List (List ℕ)) (ros
       text_is : report_text (map end_of (map (heard_input r.meters) inputs)) slots strangers ≡ report_of audited r world
       text_is = ap (λ e. report_text e slots strangers) (ends_all r.meters inputs within)
 
-      pub compared_is : (verdict : Verdict) → IsCompared report (report_text (map end_of (map (heard_input r.meters) inputs)) slots strangers) verdict → IsVerdict audited verdict
+      pub compared_is : (verdict : Verdict)
+          → IsCompared report (report_text (map end_of (map (heard_input r.meters) inputs)) slots strangers) verdict
+          → IsVerdict audited verdict
       compared_is Yes h = record { enrolled = r; world = world; ordered = ordered; text = h ∙ text_is }
-      compared_is (No (causes.Text place)) h = record { enrolled = r; world = world; ordered = ordered; differs = subst (λ t. DiffersAt place report t) text_is h }
+      compared_is (No (causes.Text place)) h =
+          record { enrolled = r; world = world; ordered = ordered; differs = subst (λ t. DiffersAt place report t) text_is h }
       compared_is (No (causes.Roster line cause)) h = absurd h
       compared_is (No (causes.Over w)) h = absurd h
       compared_is (No (causes.Form line)) h = absurd h
       compared_is (No (causes.Order list place)) h = absurd h
 
-    pub stepped_is : {E : Type 0} (result : Result Verdict E) (own : Address) (meters : List Commissioned) (heard : List HeardInput) → own ≡ r.own → meters ≡ r.meters → heard ≡ map (heard_input r.meters) inputs
+    pub stepped_is : {E : Type 0} (result : Result Verdict E) (own : Address) (meters : List Commissioned) (heard : List HeardInput)
+        → own ≡ r.own → meters ≡ r.meters → heard ≡ map (heard_input r.meters) inputs
         → IfOk result (IsStepped own meters heard lists report) → IfOk result (IsVerdict audited)
     stepped_is (Err e) own meters heard own_is meters_are heard_is h = tt
     stepped_is (Ok verdict) own meters heard own_is meters_are heard_is h =
         let there = subst (λ o. IsStepped o r.meters (map (heard_input r.meters) inputs) lists report verdict) own_is
-        (subst (λ m. IsStepped own m (map (heard_input r.meters) inputs) lists report verdict) meters_are (subst (λ k. IsStepped own meters k lists report verdict) heard_is h)) in
+        (subst (λ m. IsStepped own m (map (heard_input r.meters) inputs) lists report verdict) meters_are
+        (subst (λ k. IsStepped own meters k lists report verdict) heard_is h)) in
         compared_is there.slots there.strangers there.so there.noted verdict there.compared
 
 -- the verdict of each roster's text
-pub for_each_text : {E T : Type 0} {Q : T → Type 0} (result : Result Verdict E) (P : T → Verdict → Type 0) → ((t : T) → Q t → IfOk result (P t)) → IfOk result (λ v. (t : T) → Q t → P t v)
+pub for_each_text : {E T : Type 0} {Q : T → Type 0} (result : Result Verdict E) (P : T → Verdict → Type 0)
+    → ((t : T) → Q t → IfOk result (P t)) → IfOk result (λ v. (t : T) → Q t → P t v)
 for_each_text (Err e) P h = tt
 for_each_text (Ok v) P h = h

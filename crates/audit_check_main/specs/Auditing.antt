@@ -26,7 +26,8 @@ IsCompared report text (No (causes.Text place)) = DiffersAt place report text
 IsCompared report text _ = ⊥
 
 -- slots and strangers in the order of some lists, and what a report is found to be beside the text of that session
-pub record IsStepped (own : Address) (meters : List Commissioned) (heard : List HeardInput) (lists : List (List (ℕ × ℕ))) (report : List ℕ) (verdict : Verdict) : Type 0 where
+pub record IsStepped (own : Address) (meters : List Commissioned) (heard : List HeardInput) (lists : List (List (ℕ × ℕ))) (report : List ℕ)
+    (verdict : Verdict) : Type 0 where
   pub slots : List SlotView
   pub strangers : List Heard
   pub so : AreOrderedSlots own (map tells heard) meters lists slots

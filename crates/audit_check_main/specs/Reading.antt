@@ -25,7 +25,8 @@ onto_last (list ∷ next ∷ lists) more = list ∷ onto_last (next ∷ lists) m
 
 -- the lists read so far, with what the lines below tell
 abbrev pub joined_to : Open → ListsRead → Told → Told
-joined_to opens.Nothing l below = record { above = below.above; meters = l.meters ++ below.meters; strangers = l.strangers ++ below.strangers }
+joined_to opens.Nothing l below =
+    record { above = below.above; meters = l.meters ++ below.meters; strangers = l.strangers ++ below.strangers }
 joined_to opens.Meter l below =
     record { above = []; meters = onto_last l.meters below.above ++ below.meters; strangers = l.strangers ++ below.strangers }
 joined_to opens.Strangers l below =

@@ -15,5 +15,6 @@ IsOrderOfEach all (c ∷ cs) (order ∷ lists) = IsOrderOf c.address all order �
 -- each meter's slot, with the order of its list
 abbrev pub AreOrderedSlots : Address → List (List Told) → List Commissioned → List (List (ℕ × ℕ)) → List SlotView → Type 0
 AreOrderedSlots own all [] lists [] = Unit {0}
-AreOrderedSlots own all (c ∷ cs) (order ∷ lists) (slot ∷ slots) = IsOrderedSlot own all c order slot × AreOrderedSlots own all cs lists slots
+AreOrderedSlots own all (c ∷ cs) (order ∷ lists) (slot ∷ slots) =
+    IsOrderedSlot own all c order slot × AreOrderedSlots own all cs lists slots
 AreOrderedSlots own all _ _ _ = ⊥

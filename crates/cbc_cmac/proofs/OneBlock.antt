@@ -20,7 +20,8 @@ unfolding chain
 none_before key block zero h = refl
 none_before key block (suc n) h = absurd (omega arith)
 
-pub cmac-block : (key block subkey : List ℕ) → length block ≡ 16 → subkey ≡ first_subkey key → encrypt key (add block subkey) ≡ cmac key block
+pub cmac-block : (key block subkey : List ℕ) → length block ≡ 16 → subkey ≡ first_subkey key
+    → encrypt key (add block subkey) ≡ cmac key block
 unfolding cmac
 cmac-block key block subkey h is =
     let none : before_last block ≡ 0 = omega (arith, h) in
@@ -29,4 +30,5 @@ cmac-block key block subkey h is =
     ap (λ (n : ℕ). masked key (drop n block)) at ∙ masked_whole key block h ∙ ap (add block) (sym is) in
     let k : length subkey ≡ 16 = ap length is ∙ (IsBlock-doubled (encrypt key zeros)).count in
     let long : length (add block subkey) ≡ 16 = omega (arith, length-add block subkey, h, k) in
-    sym (ap₂ (λ (x y : List ℕ). encrypt key (add x y)) (none_before key block (before_last block) none) last ∙ ap (encrypt key) (add_zeros 16 (add block subkey) long))
+    sym (ap₂ (λ (x y : List ℕ). encrypt key (add x y)) (none_before key block (before_last block) none) last
+    ∙ ap (encrypt key) (add_zeros 16 (add block subkey) long))

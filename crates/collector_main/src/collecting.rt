@@ -1,11 +1,11 @@
 //! A session of several receivers, which hear at once.
-ghost use Rattle.std.specs.Prelude.{◌≡◌, ◌≢◌, ◌<◌, ◌^◌, [], IsTrue, IfOk, true, map, vec_len};
+ghost use Rattle.std.specs.Prelude.{◌≡◌, ◌≢◌, ◌<◌, ◌^◌, [], IsTrue, IfOk, IfSome, true, map, vec_len};
 ghost use Rattle.std.specs.String.{string_bytes};
 ghost use Rattle.outer_io.specs.Each.{Each};
 ghost use Rattle.outer_io.specs.Shown.{source_change, sink_change};
 ghost use Rattle.receivers.specs.Run.{receiver_runs};
 ghost use Rattle.report_text.specs.Readings.{readings_text};
-ghost use Rattle.report_text.specs.Report.{report_text};
+ghost use Rattle.report_text.specs.Report.{meter_text, report_text};
 ghost use Rattle.roster_file.specs.Enrolled.{IsEnrolled};
 ghost use Rattle.roster_file.specs.Text.{roster_text};
 ghost use Rattle.collector_main.specs.Heard.{commission_now, next_roster};
@@ -14,14 +14,15 @@ ghost use Rattle.collector_main.specs.Ready.{IsReady};
 ghost use Rattle.collector_main.specs.Showing.{IsFresh, all_outputs};
 ghost use Rattle.collector_main.specs.Statuses.{IsUnread, Wrote};
 
+use crate::at_once::{let_go, parts_made};
 use crate::rosters::enrolled;
 use crate::status::Status;
 use crate::stops::{Writes, ends_of, first_stop, status_after};
 use meter_address::{Address, Commission};
 use meter_slots::SlotBook;
-use outer_io::{Memory, Sink, Source, write_all};
+use outer_io::{Failed, Memory, Sink, Source, write_all};
 use receivers::{Collected, Receiver, collect, show_untaken};
-use report_text::{ReceiverEnd, Session, readings_json, report};
+use report_text::{MeterPart, ReceiverEnd, Session, readings_json, report, report_of_parts};
 use roster_file::Roster;
 use std::alloc::Global;
 use std::sync::Wait;
@@ -108,8 +109,28 @@ fn hear_all<R: Threads + Wait + Sync, S: Source + Send + Drop, K: Sink + Send + 
     make_ready(alloc, own, collected, ends)
 }
 
-// Writes the next roster, the readings and the report, each whatever became of the ones before it.
-fn write_outputs<K: Sink>(
+// Writes a report by its slots' parts, or from the slots where there are none.
+fn write_report<K: Sink>(
+    session: &Session<'_>,
+    parts: &Option<Vec<MeterPart<'_>>>,
+    sink: &mut K,
+) -> Result<(), Failed>
+    requires empty { IsTrue K.tells → K.written sink.old ≡ [] }
+    requires parts { IfSome parts.now (λ parts. parts.items ≡ map meter_text session.now.slots.now) }
+    ensures { Wrote K.tells (report_text session.now.ends.now session.now.slots.now session.now.strangers.now)
+        (sink_change K.Sink sink.old sink.new) result }
+{
+    match parts {
+        Some(parts) => report_of_parts(session, parts.as_slice(), sink),
+        None => report(session, sink),
+    }
+}
+
+// Writes the next roster, the readings and the report, each whatever became of the ones before it. What memory there is for parts of
+// the report is taken before anything is written.
+fn write_outputs<R: Threads + Sync, K: Sink>(
+    rt: &R,
+    alloc: Global,
     ready: &Ready,
     next: &mut K,
     readings: &mut K,
@@ -128,10 +149,11 @@ fn write_outputs<K: Sink>(
         slots: ready.collected.slots.as_slice(),
         strangers: &ready.collected.strangers,
     };
+    let parts = parts_made(rt, alloc, session.slots);
     Writes {
         next: paper::write(next, &ready.next),
         readings: write_all(readings, ready.readings.as_bytes()),
-        report: report(&session, report_sink),
+        report: write_report(&session, &parts, report_sink),
     }
 }
 
@@ -175,6 +197,7 @@ pub fn collect_session<R: Threads + Wait + Sync, S: Source + Send + Drop, K: Sin
         return Status::Memory;
     };
     let stop = first_stop(0, ready.ends.as_slice());
-    let writes = write_outputs(&ready, next, readings, report);
+    let writes = write_outputs(rt, alloc, &ready, next, readings, report);
+    let_go(rt, alloc, roster.own(), ready.collected.slots);
     status_after(stop, writes)
 }

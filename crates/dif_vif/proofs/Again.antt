@@ -22,14 +22,16 @@ bytes_again start count part rest len =
 
 -- ---- extensions
 
-chain_len_again : (start room byte : ℕ) (part rest : List ℕ) → IsChain byte part → length part ≤ room → chain_len start room byte (part ++ rest) ≡ Ok (length part)
+chain_len_again : (start room byte : ℕ) (part rest : List ℕ) → IsChain byte part → length part ≤ room
+    → chain_len start room byte (part ++ rest) ≡ Ok (length part)
 chain_len_again start room byte [] rest chain few = chain_done start room byte rest chain
 chain_len_again start zero byte (next ∷ part) rest chain few = absurd (omega arith)
 chain_len_again start (suc room) byte (next ∷ part) rest chain few =
     let others = chain_len_again start room next part rest chain.1 (omega arith) in
     chain_more start room byte next (part ++ rest) chain.0 ∙ rw others (ap Ok (add-one (length part)))
 
-chain_again : (start byte : ℕ) (part rest : List ℕ) → IsChain byte part → length part ≤ 10 → chain_at start byte (part ++ rest) ≡ Ok (part, rest)
+chain_again : (start byte : ℕ) (part rest : List ℕ) → IsChain byte part → length part ≤ 10
+    → chain_at start byte (part ++ rest) ≡ Ok (part, rest)
 unfolding chain_at
 chain_again start byte part rest chain few =
     rw (chain_len_again start 10 byte part rest chain few, take_at part rest (length part) refl, drop_at part rest (length part) refl) refl
@@ -37,9 +39,12 @@ chain_again start byte part rest chain few =
 -- ---- the data information block
 
 -- the DIF of a record has no data field without a width but D
-not_field : (dif : ℕ) (lvar : Option ℕ) (width field : ℕ) → data_width dif lvar ≡ Some width → field_width field ≡ None → (field ≡ 13 → ⊥) → dif % 16 ≡ field → ⊥
+not_field : (dif : ℕ) (lvar : Option ℕ) (width field : ℕ) → data_width dif lvar ≡ Some width → field_width field ≡ None → (field ≡ 13 → ⊥)
+    → dif % 16 ≡ field → ⊥
 not_field dif None width field wide without other here = let none : None ≡ Some width = sym without ∙ ap field_width (sym here) ∙ wide in cc
-not_field dif (Some lvar) width field wide without other here = let none : None ≡ Some width = sym (cond-false (eqb (dif % 16) 13) (lvar_width lvar) None (ne_eqb (dif % 16) 13 (λ e. other (sym here ∙ e)))) ∙ wide in cc
+not_field dif (Some lvar) width field wide without other here =
+    let none : None ≡ Some width =
+    sym (cond-false (eqb (dif % 16) 13) (lvar_width lvar) None (ne_eqb (dif % 16) 13 (λ e. other (sym here ∙ e)))) ∙ wide in cc
 
 -- so it is no special function
 pub not_special : (dif : ℕ) (lvar : Option ℕ) (width : ℕ) → data_width dif lvar ≡ Some width → dif % 16 ≡ 15 → ⊥
@@ -70,12 +75,19 @@ text_again start vif (count ∷ letters) rest some =
 pub vib_again : (start : ℕ) (v : Vib) (rest : List ℕ) → IsVib v → vib_at start (vib_spelling v ++ rest) ≡ Ok (v, rest)
 unfolding vib_at
 vib_again start v rest is =
-    let regrouped : vib_spelling v ++ rest ≡ v.vif ∷ (v.text ++ (v.vifes ++ rest)) = ap (λ (x : List ℕ). v.vif ∷ x) (append_assoc v.text v.vifes rest) in
-    ap (vib_at start) regrouped ∙ rw (byte_again start v.vif (v.text ++ (v.vifes ++ rest)), text_again start v.vif v.text (v.vifes ++ rest) is.text, chain_again start v.vif v.vifes rest is.vifes is.few) refl
+    let regrouped : vib_spelling v ++ rest ≡ v.vif ∷ (v.text ++ (v.vifes ++ rest)) =
+    ap (λ (x : List ℕ). v.vif ∷ x) (append_assoc v.text v.vifes rest) in
+    ap (vib_at start) regrouped
+    ∙ rw (
+      byte_again start v.vif (v.text ++ (v.vifes ++ rest)),
+      text_again start v.vif v.text (v.vifes ++ rest) is.text,
+      chain_again start v.vif v.vifes rest is.vifes is.few,
+    ) refl
 
 -- ---- the data
 
-pub lvar_again : (start dif : ℕ) (lvar : Option ℕ) (width : ℕ) (rest : List ℕ) → data_width dif lvar ≡ Some width → lvar_at start dif (option_to_list lvar ++ rest) ≡ Ok (lvar, rest)
+pub lvar_again : (start dif : ℕ) (lvar : Option ℕ) (width : ℕ) (rest : List ℕ) → data_width dif lvar ≡ Some width
+    → lvar_at start dif (option_to_list lvar ++ rest) ≡ Ok (lvar, rest)
 unfolding lvar_at
 lvar_again start dif None width rest wide =
     let not_13 : dif % 16 ≡ 13 → ⊥ = λ field. (let none : field_width 13 ≡ Some width = ap field_width (sym field) ∙ wide in cc) in
@@ -86,18 +98,29 @@ lvar_again start dif (Some lvar) width rest wide =
       | inr h ↦ absurd (let none = h.1 in cc)
     ]
 
-contents_again : (start : ℕ) (r : DataRecord) (rest : List ℕ) → IsRecord r → contents_at start r.dib.dif (contents_spelling r.contents ++ rest) ≡ Ok (r.contents, rest)
+contents_again : (start : ℕ) (r : DataRecord) (rest : List ℕ) → IsRecord r
+    → contents_at start r.dib.dif (contents_spelling r.contents ++ rest) ≡ Ok (r.contents, rest)
 unfolding contents_at
 contents_again start r rest is =
-    let regrouped : contents_spelling r.contents ++ rest ≡ option_to_list r.contents.lvar ++ (r.contents.sent ++ rest) = append_assoc (option_to_list r.contents.lvar) r.contents.sent rest in
-    let width : length r.contents.sent ≡ unwrap_or (data_width r.dib.dif r.contents.lvar) 0 = ap (λ (o : Option ℕ). unwrap_or o 0) (sym is.sent) in
-    ap (contents_at start r.dib.dif) regrouped ∙ rw (lvar_again start r.dib.dif r.contents.lvar _ (r.contents.sent ++ rest) is.sent, bytes_again start _ r.contents.sent rest width) refl
+    let regrouped : contents_spelling r.contents ++ rest ≡ option_to_list r.contents.lvar ++ (r.contents.sent ++ rest) =
+    append_assoc (option_to_list r.contents.lvar) r.contents.sent rest in
+    let width : length r.contents.sent ≡ unwrap_or (data_width r.dib.dif r.contents.lvar) 0 =
+    ap (λ (o : Option ℕ). unwrap_or o 0) (sym is.sent) in
+    ap (contents_at start r.dib.dif) regrouped
+    ∙ rw (lvar_again start r.dib.dif r.contents.lvar _ (r.contents.sent ++ rest) is.sent, bytes_again start _ r.contents.sent rest width)
+    refl
 
 -- ---- the record
 
 -- the blocks of a record are whole
 dib_of_record : (r : DataRecord) → IsRecord r → IsDib r.dib
-dib_of_record r is = record { not_special = not_special r.dib.dif r.contents.lvar _ is.sent; not_selection = not_selection r.dib.dif r.contents.lvar _ is.sent; difes = is.difes; few = is.few_difes }
+dib_of_record r is =
+    record {
+      not_special = not_special r.dib.dif r.contents.lvar _ is.sent;
+      not_selection = not_selection r.dib.dif r.contents.lvar _ is.sent;
+      difes = is.difes;
+      few = is.few_difes;
+    }
 
 vib_of_record : (r : DataRecord) → IsRecord r → IsVib r.vib
 vib_of_record r is = record { text = is.text; vifes = is.vifes; few = is.few_vifes }
@@ -105,5 +128,12 @@ vib_of_record r is = record { text = is.text; vifes = is.vifes; few = is.few_vif
 pub record_again : (start : ℕ) (r : DataRecord) (rest : List ℕ) → IsRecord r → record_at start (spelling r ++ rest) ≡ Ok (r, rest)
 unfolding record_at
 record_again start r rest is =
-    let regrouped : spelling r ++ rest ≡ dib_spelling r.dib ++ (vib_spelling r.vib ++ (contents_spelling r.contents ++ rest)) = append_assoc (dib_spelling r.dib) (vib_spelling r.vib ++ contents_spelling r.contents) rest ∙ ap (λ (x : List ℕ). dib_spelling r.dib ++ x) (append_assoc (vib_spelling r.vib) (contents_spelling r.contents) rest) in
-    ap (record_at start) regrouped ∙ rw (dib_again start r.dib (vib_spelling r.vib ++ (contents_spelling r.contents ++ rest)) (dib_of_record r is), vib_again start r.vib (contents_spelling r.contents ++ rest) (vib_of_record r is), contents_again start r rest is) refl
+    let regrouped : spelling r ++ rest ≡ dib_spelling r.dib ++ (vib_spelling r.vib ++ (contents_spelling r.contents ++ rest)) =
+    append_assoc (dib_spelling r.dib) (vib_spelling r.vib ++ contents_spelling r.contents) rest
+    ∙ ap (λ (x : List ℕ). dib_spelling r.dib ++ x) (append_assoc (vib_spelling r.vib) (contents_spelling r.contents) rest) in
+    ap (record_at start) regrouped
+    ∙ rw (
+      dib_again start r.dib (vib_spelling r.vib ++ (contents_spelling r.contents ++ rest)) (dib_of_record r is),
+      vib_again start r.vib (contents_spelling r.contents ++ rest) (vib_of_record r is),
+      contents_again start r rest is,
+    ) refl

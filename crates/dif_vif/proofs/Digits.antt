@@ -15,10 +15,12 @@ one_more base digit number power d n = omega (arith, mul-le-mul_left base n)
 pub low_first-below : (base : ℕ) (xs : List ℕ) → ((i : ℕ) → get_or xs i 0 < base) → low_first base xs < base ^ length xs
 low_first-below base [] below = omega (arith, pow-zero base)
 low_first-below base (x ∷ xs) below =
-    rw (pow-succ' base (length xs)) (one_more base x (low_first base xs) (base ^ length xs) (below 0) (low_first-below base xs (λ i. below (suc i))))
+    rw (pow-succ' base (length xs)) (one_more base x (low_first base xs) (base ^ length xs) (below 0)
+    (low_first-below base xs (λ i. below (suc i))))
 
 -- a number of at most so many digits
-pub low_first-few : (base most : ℕ) (xs : List ℕ) → 0 < base → length xs ≤ most → ((i : ℕ) → get_or xs i 0 < base) → low_first base xs < base ^ most
+pub low_first-few : (base most : ℕ) (xs : List ℕ) → 0 < base → length xs ≤ most → ((i : ℕ) → get_or xs i 0 < base)
+    → low_first base xs < base ^ most
 low_first-few base most xs some few below = omega (arith, low_first-below base xs below, pow-le-pow_right some few)
 
 -- one element more, from the back
@@ -27,7 +29,8 @@ drop-before xs left some within =
     let back : left - 1 + 1 ≡ left = omega arith in
     drop_more xs (left - 1) 0 (omega arith) ∙ ap (λ (k : ℕ). get_or xs (left - 1) 0 ∷ drop k xs) back
 
-pub low_first-step : (base : ℕ) (xs : List ℕ) (left number : ℕ) → 0 < left → left ≤ length xs → number ≡ low_first base (drop left xs) → number * base + get_or xs (left - 1) 0 ≡ low_first base (drop (left - 1) xs)
+pub low_first-step : (base : ℕ) (xs : List ℕ) (left number : ℕ) → 0 < left → left ≤ length xs → number ≡ low_first base (drop left xs)
+    → number * base + get_or xs (left - 1) 0 ≡ low_first base (drop (left - 1) xs)
 low_first-step base xs left number some within is = rw (drop-before xs left some within, ← is) (omega arith)
 
 -- ---- the digits of extensions
@@ -40,9 +43,11 @@ digit_below base lowest xs some i =
     ]
 
 -- the number of the digits from a place on, of at most ten
-pub number_bound : (base lowest : ℕ) (xs : List ℕ) (left number : ℕ) → 0 < base → length xs ≤ 10 → number ≡ low_first base (map (λ x. x / lowest % base) (drop left xs)) → number < base ^ 10
+pub number_bound : (base lowest : ℕ) (xs : List ℕ) (left number : ℕ) → 0 < base → length xs ≤ 10
+    → number ≡ low_first base (map (λ x. x / lowest % base) (drop left xs)) → number < base ^ 10
 number_bound base lowest xs left number some few is =
-    rw is (low_first-few base 10 (map (λ x. x / lowest % base) (drop left xs)) some (omega (arith, length-map (drop left xs) (λ x. x / lowest % base), length-drop left xs)) (digit_below base lowest (drop left xs) some))
+    rw is (low_first-few base 10 (map (λ x. x / lowest % base) (drop left xs)) some
+    (omega (arith, length-map (drop left xs) (λ x. x / lowest % base), length-drop left xs)) (digit_below base lowest (drop left xs) some))
 
 pub times_base : (base number : ℕ) → base ≤ 16 → number < base ^ 10 → number * base ≤ 2 ^ 44
 times_base base number small h =
@@ -62,5 +67,6 @@ pub low_first-reverse : (base : ℕ) (digits : List ℕ) → low_first base digi
 low_first-reverse base [] = refl
 low_first-reverse base (digit ∷ digits) =
     let turned : reverse (digit ∷ digits) ≡ reverse digits ++ digit ∷ [] = reverse-append (digit ∷ []) digits in
-    let pushed : number_from_digits base (reverse digits ++ digit ∷ []) ≡ number_from_digits base (reverse digits) * base + digit = number_push base (reverse digits) digit in
+    let pushed : number_from_digits base (reverse digits ++ digit ∷ []) ≡ number_from_digits base (reverse digits) * base + digit =
+    number_push base (reverse digits) digit in
     rw (turned, pushed, ← low_first-reverse base digits) (omega arith)

@@ -10,7 +10,8 @@ use Rattle.dif_vif.proofs.Listings.{ending_is, next_is}
 
 -- nothing comes after the end
 at_end : (bytes : List ℕ) (from : ℕ) → from ≤ length bytes → length bytes ≤ from → next_of bytes from ≡ Ok None
-at_end bytes from le ge = next_only bytes from None le (record { ordered = le; within = omega arith; fillers = λ place low high. absurd (omega arith) })
+at_end bytes from le ge =
+    next_only bytes from None le (record { ordered = le; within = omega arith; fillers = λ place low high. absurd (omega arith) })
 
 -- how a span that comes next lies
 record Places (bytes : List ℕ) (from : ℕ) (span : RecordSpan) : Type 0 where
@@ -29,13 +30,15 @@ unfolding spans_from
 spans_done zero bytes from e = refl
 spans_done (suc n) bytes from e = ap (next_spans (spans_from n bytes)) e
 
-pub spans_stopped : (n : ℕ) (bytes : List ℕ) (from : ℕ) (fault : RecordFault) → next_of bytes from ≡ Err fault → spans_from n bytes from ≡ []
+pub spans_stopped : (n : ℕ) (bytes : List ℕ) (from : ℕ) (fault : RecordFault) → next_of bytes from ≡ Err fault
+    → spans_from n bytes from ≡ []
 unfolding spans_from
 spans_stopped zero bytes from fault e = refl
 spans_stopped (suc n) bytes from fault e = ap (next_spans (spans_from n bytes)) e
 
 -- how many there may be makes no difference, once there may be one for each byte
-same_by : (n m : ℕ) (bytes : List ℕ) (from : ℕ) (next : Result (Option RecordSpan) RecordFault) → from ≤ length bytes → next_of bytes from ≡ next
+same_by : (n m : ℕ) (bytes : List ℕ) (from : ℕ) (next : Result (Option RecordSpan) RecordFault) → from ≤ length bytes
+    → next_of bytes from ≡ next
     → ((at : ℕ) → at ≤ length bytes → from < at → spans_from n bytes at ≡ spans_from m bytes at)
     → next_spans (spans_from n bytes) next ≡ next_spans (spans_from m bytes) next
 same_by n m bytes from (Ok (Some span)) le e same =
@@ -62,7 +65,8 @@ spans_here bytes from span le e =
     ∙ ap (next_spans (spans_from (length bytes) bytes)) e
 
 -- the spans of a listing are those that are found
-listed_from : (n : ℕ) (bytes : List ℕ) (from : ℕ) (spans : List RecordSpan) (ending : Option RecordFault) → from ≤ length bytes → length bytes - from ≤ n
+listed_from : (n : ℕ) (bytes : List ℕ) (from : ℕ) (spans : List RecordSpan) (ending : Option RecordFault) → from ≤ length bytes
+    → length bytes - from ≤ n
     → IsListing bytes from spans ending → spans_from n bytes from ≡ spans
 unfolding spans_from
 listed_from n bytes from [] None le few l = spans_done n bytes from (ending_is bytes from None l)

@@ -29,7 +29,8 @@ one_span bytes s t is_s is_t e =
 
 -- ---- where none begins, a fault is answered
 
-fillers_miss : (bytes : List ℕ) (from to place : ℕ) → AreFillers bytes from to → from ≤ place → (slice_get bytes place ≡ Some 0x2f → ⊥) → to ≤ place
+fillers_miss : (bytes : List ℕ) (from to place : ℕ) → AreFillers bytes from to → from ≤ place → (slice_get bytes place ≡ Some 0x2f → ⊥)
+    → to ≤ place
 fillers_miss bytes from to place f low other =
     elim (cases_lt place to) [
       | inl lt ↦ absurd (other (f.fillers place low lt))
@@ -37,39 +38,49 @@ fillers_miss bytes from to place f low other =
     ]
 
 none_is_no_next : (bytes : List ℕ) (from : ℕ) (next : Option RecordSpan) → NoneBegins bytes from → IsNext bytes from next → ⊥
-none_is_no_next bytes from None n next = omega (arith, fillers_miss bytes from (length bytes) n.place next n.fillers.ordered n.not_filler, n.within)
+none_is_no_next bytes from None n next =
+    omega (arith, fillers_miss bytes from (length bytes) n.place next n.fillers.ordered n.not_filler, n.within)
 none_is_no_next bytes from (Some span) n next =
     let low = fillers_miss bytes from span.start n.place next.0 n.fillers.ordered n.not_filler in
-    let high = fillers_miss bytes from n.place span.start n.fillers next.0.ordered (λ filler. span_not_filler bytes span next.1 (get_or_from_slice_get bytes span.start 0x2f 0 filler)) in
+    let high =
+    fillers_miss bytes from n.place span.start n.fillers next.0.ordered
+    (λ filler. span_not_filler bytes span next.1 (get_or_from_slice_get bytes span.start 0x2f 0 filler)) in
     n.no_span span (omega arith) next.1
 
-pub refused_iff : (bytes : List ℕ) (from : ℕ) (r : Result (Option RecordSpan) RecordFault) → from ≤ length bytes → r ≡ next_of bytes from → (IsErr r → NoneBegins bytes from) × (NoneBegins bytes from → IsErr r)
-refused_iff bytes from (Ok next) le e = (λ bad. absurd cc, λ n. absurd (none_is_no_next bytes from next n (next_found bytes from next le (sym e))))
+pub refused_iff : (bytes : List ℕ) (from : ℕ) (r : Result (Option RecordSpan) RecordFault) → from ≤ length bytes → r ≡ next_of bytes from
+    → (IsErr r → NoneBegins bytes from) × (NoneBegins bytes from → IsErr r)
+refused_iff bytes from (Ok next) le e =
+    (λ bad. absurd cc, λ n. absurd (none_is_no_next bytes from next n (next_found bytes from next le (sym e))))
 refused_iff bytes from (Err fault) le e = (λ _. next_refused bytes from fault le (sym e), λ _. refl)
 
 -- ---- each payload has a listing
 
-by_next : (bytes : List ℕ) (from : ℕ) (next : Option RecordSpan) → ((at : ℕ) → at ≤ length bytes → from < at → Listing bytes at) → IsNext bytes from next → Listing bytes from
+by_next : (bytes : List ℕ) (from : ℕ) (next : Option RecordSpan) → ((at : ℕ) → at ≤ length bytes → from < at → Listing bytes at)
+    → IsNext bytes from next → Listing bytes from
 by_next bytes from None further n = record { spans = []; ending = None; listed = n }
 by_next bytes from (Some span) further n =
     let places = LiesWithin-from_span bytes span n.1 in
     let others = further span.end places.within (omega (arith, places.begins, places.ends, n.0.ordered)) in
     record { spans = span ∷ others.spans; ending = others.ending; listed = (n, others.listed) }
 
-by_answer : (bytes : List ℕ) (from : ℕ) (r : Result (Option RecordSpan) RecordFault) → from ≤ length bytes → ((at : ℕ) → at ≤ length bytes → from < at → Listing bytes at) → next_of bytes from ≡ r → Listing bytes from
+by_answer : (bytes : List ℕ) (from : ℕ) (r : Result (Option RecordSpan) RecordFault) → from ≤ length bytes
+    → ((at : ℕ) → at ≤ length bytes → from < at → Listing bytes at) → next_of bytes from ≡ r → Listing bytes from
 by_answer bytes from (Ok next) le further e = by_next bytes from next further (next_found bytes from next le e)
-by_answer bytes from (Err fault) le further e = record { spans = []; ending = Some fault; listed = (next_refused bytes from fault le e, ends_found bytes from fault le e) }
+by_answer bytes from (Err fault) le further e =
+    record { spans = []; ending = Some fault; listed = (next_refused bytes from fault le e, ends_found bytes from fault le e) }
 
 listing_in : (left : ℕ) (bytes : List ℕ) (from : ℕ) → from ≤ length bytes → length bytes - from < left → Listing bytes from
 listing_in zero bytes from le few = absurd (omega arith)
-listing_in (suc left) bytes from le few = by_answer bytes from (next_of bytes from) le (λ at within further. listing_in left bytes at within (omega arith)) refl
+listing_in (suc left) bytes from le few =
+    by_answer bytes from (next_of bytes from) le (λ at within further. listing_in left bytes at within (omega arith)) refl
 
 pub some_listing : (bytes : List ℕ) → Listing bytes 0
 some_listing bytes = listing_in (length bytes + 1) bytes 0 (omega arith) (omega arith)
 
 -- ---- and no other one
 
-pub ending_is : (bytes : List ℕ) (from : ℕ) (ending : Option RecordFault) → IsEnding bytes from ending → next_of bytes from ≡ answer_of_ending ending
+pub ending_is : (bytes : List ℕ) (from : ℕ) (ending : Option RecordFault) → IsEnding bytes from ending
+    → next_of bytes from ≡ answer_of_ending ending
 ending_is bytes from None is = next_only bytes from None is.ordered is
 ending_is bytes from (Some fault) is = ends_only bytes from fault is.1
 
@@ -86,7 +97,8 @@ no_more : (ending : Option RecordFault) (span : RecordSpan) → answer_of_ending
 no_more None span same = cc
 no_more (Some fault) span same = cc
 
-pub same_listing : (bytes : List ℕ) (from : ℕ) (ss ts : List RecordSpan) (e f : Option RecordFault) → IsListing bytes from ss e → IsListing bytes from ts f → (ss ≡ ts) × (e ≡ f)
+pub same_listing : (bytes : List ℕ) (from : ℕ) (ss ts : List RecordSpan) (e f : Option RecordFault) → IsListing bytes from ss e
+    → IsListing bytes from ts f → (ss ≡ ts) × (e ≡ f)
 same_listing bytes from [] [] e f l m = (refl, same_ending e f (sym (ending_is bytes from e l) ∙ ending_is bytes from f m))
 same_listing bytes from [] (t ∷ ts) e f l m = absurd (no_more e t (sym (ending_is bytes from e l) ∙ next_is bytes from t m.0))
 same_listing bytes from (s ∷ ss) [] e f l m = absurd (no_more f s (sym (ending_is bytes from f m) ∙ next_is bytes from s l.0))

@@ -4,19 +4,15 @@ use Rattle.std.specs.Prelude.{unwrap_or}
 use Rattle.std.proofs.lemmas.Bool.{agree_below_at, ne_eqb, or_from, or_cases, both_ways}
 use Rattle.dif_vif.specs.declared.fault.RecordFault.{RecordFault}
 use Rattle.dif_vif.specs.Spelling.{field_width}
-use Rattle.dif_vif.specs.Reading.{◌>>=◌}
-
--- the value of a step that did not fail
-pub bind_ok : {A B : Type 0} (r : Result A RecordFault) (f : A → Result B RecordFault) (y : B) → (r >>= f) ≡ Ok y → (x : A) × (r ≡ Ok x) × (f x ≡ Ok y)
-bind_ok (Ok x) f y e = (x, refl, e)
-bind_ok (Err d) f y e = absurd cc
 
 -- a test that did not fail
-pub guard_ok : {A : Type 0} (b : Bool) (d : RecordFault) (r : Result A RecordFault) (y : A) → cond b (Err d) r ≡ Ok y → (b ≡ false) × (r ≡ Ok y)
+pub guard_ok : {A : Type 0} (b : Bool) (d : RecordFault) (r : Result A RecordFault) (y : A) → cond b (Err d) r ≡ Ok y → (b ≡ false)
+    × (r ≡ Ok y)
 guard_ok true d r y e = absurd cc
 guard_ok false d r y e = (refl, e)
 
-pub guard_ok_if : {A : Type 0} (b : Bool) (d : RecordFault) (r : Result A RecordFault) (y : A) → cond b r (Err d) ≡ Ok y → (b ≡ true) × (r ≡ Ok y)
+pub guard_ok_if : {A : Type 0} (b : Bool) (d : RecordFault) (r : Result A RecordFault) (y : A) → cond b r (Err d) ≡ Ok y → (b ≡ true)
+    × (r ≡ Ok y)
 guard_ok_if true d r y e = (refl, e)
 guard_ok_if false d r y e = absurd cc
 
@@ -39,7 +35,9 @@ some_is None e = absurd cc
 pub field_some : (field : ℕ) → field < 16 → (field ≡ 8 → ⊥) → (field ≡ 13 → ⊥) → (field ≡ 15 → ⊥) → is_some (field_width field) ≡ true
 field_some field lt not_8 not_13 not_15 =
     let width_or_not = agree_below_at (λ f. is_some (field_width f) || (eqb f 8 || (eqb f 13 || eqb f 15))) (λ _. true) 16 field refl lt in
-    let not_any = or_from (eqb field 8) (eqb field 13 || eqb field 15) (ne_eqb field 8 not_8) (or_from (eqb field 13) (eqb field 15) (ne_eqb field 13 not_13) (ne_eqb field 15 not_15)) in
+    let not_any =
+    or_from (eqb field 8) (eqb field 13 || eqb field 15) (ne_eqb field 8 not_8)
+    (or_from (eqb field 13) (eqb field 15) (ne_eqb field 13 not_13) (ne_eqb field 15 not_15)) in
     elim (or_cases (is_some (field_width field)) (eqb field 8 || (eqb field 13 || eqb field 15)) width_or_not) [
       | inl some ↦ some
       | inr any ↦ absurd (both_ways (eqb field 8 || (eqb field 13 || eqb field 15)) not_any any)

@@ -14,14 +14,16 @@ use Rattle.dif_vif.proofs.Again.{byte_again, dif_again, dib_again, text_again, v
 
 -- ---- extensions
 
-chain_open : (start room byte : ℕ) (bytes : List ℕ) → IsOpen byte bytes → length bytes ≤ room → chain_len start room byte bytes ≡ Err (Truncated start)
+chain_open : (start room byte : ℕ) (bytes : List ℕ) → IsOpen byte bytes → length bytes ≤ room
+    → chain_len start room byte bytes ≡ Err (Truncated start)
 chain_open start room byte [] goes_on few = chain_missing start room byte goes_on
 chain_open start zero byte (next ∷ rest) goes_on few = absurd (omega arith)
 chain_open start (suc room) byte (next ∷ rest) goes_on few =
     let others = chain_open start room next rest goes_on.1 (omega arith) in
     chain_more start room byte next rest goes_on.0 ∙ rw others refl
 
-chain_eleventh : (start room byte : ℕ) (part : List ℕ) (next : ℕ) (rest : List ℕ) → IsOpen byte part → length part ≡ room → chain_len start room byte (part ++ next ∷ rest) ≡ Err (TooManyExtensions start)
+chain_eleventh : (start room byte : ℕ) (part : List ℕ) (next : ℕ) (rest : List ℕ) → IsOpen byte part → length part ≡ room
+    → chain_len start room byte (part ++ next ∷ rest) ≡ Err (TooManyExtensions start)
 chain_eleventh start zero byte [] next rest goes_on full = chain_full start byte next rest goes_on
 chain_eleventh start (suc room) byte [] next rest goes_on full = absurd (omega arith)
 chain_eleventh start zero byte (p ∷ part) next rest goes_on full = absurd (omega arith)
@@ -29,11 +31,13 @@ chain_eleventh start (suc room) byte (p ∷ part) next rest goes_on full =
     let others = chain_eleventh start room p part next rest goes_on.1 (omega arith) in
     chain_more start room byte p (part ++ next ∷ rest) goes_on.0 ∙ rw others refl
 
-chain_at_open : (start byte : ℕ) (bytes : List ℕ) → IsOpen byte bytes → length bytes ≤ 10 → chain_at start byte bytes ≡ Err (Truncated start)
+chain_at_open : (start byte : ℕ) (bytes : List ℕ) → IsOpen byte bytes → length bytes ≤ 10
+    → chain_at start byte bytes ≡ Err (Truncated start)
 unfolding chain_at
 chain_at_open start byte bytes goes_on few = rw (chain_open start 10 byte bytes goes_on few) refl
 
-chain_at_eleventh : (start byte : ℕ) (part : List ℕ) (next : ℕ) (rest : List ℕ) → IsOpen byte part → length part ≡ 10 → chain_at start byte (part ++ next ∷ rest) ≡ Err (TooManyExtensions start)
+chain_at_eleventh : (start byte : ℕ) (part : List ℕ) (next : ℕ) (rest : List ℕ) → IsOpen byte part → length part ≡ 10
+    → chain_at start byte (part ++ next ∷ rest) ≡ Err (TooManyExtensions start)
 unfolding chain_at
 chain_at_eleventh start byte part next rest goes_on full = rw (chain_eleventh start 10 byte part next rest goes_on full) refl
 
@@ -43,11 +47,13 @@ from_dib : (start : ℕ) (bytes : List ℕ) (fault : RecordFault) → dib_at sta
 unfolding record_at
 from_dib start bytes fault e = rw e refl
 
-from_vib : (start : ℕ) (b : Dib) (rest : List ℕ) (fault : RecordFault) → IsDib b → vib_at start rest ≡ Err fault → record_at start (dib_spelling b ++ rest) ≡ Err fault
+from_vib : (start : ℕ) (b : Dib) (rest : List ℕ) (fault : RecordFault) → IsDib b → vib_at start rest ≡ Err fault
+    → record_at start (dib_spelling b ++ rest) ≡ Err fault
 unfolding record_at
 from_vib start b rest fault is e = rw (dib_again start b rest is, e) refl
 
-from_contents : (start : ℕ) (b : Dib) (v : Vib) (rest : List ℕ) (fault : RecordFault) → IsDib b → IsVib v → contents_at start b.dif rest ≡ Err fault → record_at start (dib_spelling b ++ (vib_spelling v ++ rest)) ≡ Err fault
+from_contents : (start : ℕ) (b : Dib) (v : Vib) (rest : List ℕ) (fault : RecordFault) → IsDib b → IsVib v
+    → contents_at start b.dif rest ≡ Err fault → record_at start (dib_spelling b ++ (vib_spelling v ++ rest)) ≡ Err fault
 unfolding record_at
 from_contents start b v rest fault is_b is_v e = rw (dib_again start b (vib_spelling v ++ rest) is_b, vib_again start v rest is_v, e) refl
 
@@ -65,7 +71,8 @@ dib_selection : (start dif : ℕ) (rest : List ℕ) → dif % 16 ≡ 8 → dib_a
 unfolding dib_at dif_at
 dib_selection start dif rest field = rw (byte_again start dif rest, ne_eqb (dif % 16) 15 (λ e. omega arith), eq-eqb (dif % 16) 8 field) refl
 
-dib_chain : (start : ℕ) (b : Dib) (rest : List ℕ) (fault : RecordFault) → (b.dif % 16 ≡ 15 → ⊥) → (b.dif % 16 ≡ 8 → ⊥) → chain_at start b.dif (b.difes ++ rest) ≡ Err fault → dib_at start (dib_spelling b ++ rest) ≡ Err fault
+dib_chain : (start : ℕ) (b : Dib) (rest : List ℕ) (fault : RecordFault) → (b.dif % 16 ≡ 15 → ⊥) → (b.dif % 16 ≡ 8 → ⊥)
+    → chain_at start b.dif (b.difes ++ rest) ≡ Err fault → dib_at start (dib_spelling b ++ rest) ≡ Err fault
 unfolding dib_at
 dib_chain start b rest fault not_15 not_8 e = rw (dif_again start b.dif (b.difes ++ rest) not_15 not_8, e) refl
 
@@ -75,11 +82,13 @@ vib_empty : (start : ℕ) → vib_at start [] ≡ Err (Truncated start)
 unfolding vib_at byte_at
 vib_empty start = refl
 
-vib_text : (start vif : ℕ) (rest : List ℕ) (fault : RecordFault) → text_at start vif rest ≡ Err fault → vib_at start (vif ∷ rest) ≡ Err fault
+vib_text : (start vif : ℕ) (rest : List ℕ) (fault : RecordFault) → text_at start vif rest ≡ Err fault
+    → vib_at start (vif ∷ rest) ≡ Err fault
 unfolding vib_at
 vib_text start vif rest fault e = rw (byte_again start vif rest, e) refl
 
-vib_chain : (start : ℕ) (v : Vib) (rest : List ℕ) (fault : RecordFault) → IsPlainText v.vif v.text → chain_at start v.vif rest ≡ Err fault → vib_at start (v.vif ∷ (v.text ++ rest)) ≡ Err fault
+vib_chain : (start : ℕ) (v : Vib) (rest : List ℕ) (fault : RecordFault) → IsPlainText v.vif v.text → chain_at start v.vif rest ≡ Err fault
+    → vib_at start (v.vif ∷ (v.text ++ rest)) ≡ Err fault
 unfolding vib_at
 vib_chain start v rest fault plain e = rw (byte_again start v.vif (v.text ++ rest), text_again start v.vif v.text rest plain, e) refl
 
@@ -87,9 +96,11 @@ text_missing : (start vif : ℕ) → vif % 128 ≡ 0x7c → text_at start vif []
 unfolding text_at byte_at
 text_missing start vif plain = rw (eq-eqb (vif % 128) 0x7c plain) refl
 
-text_short : (start vif count : ℕ) (letters : List ℕ) → vif % 128 ≡ 0x7c → length letters < count → text_at start vif (count ∷ letters) ≡ Err (Truncated start)
+text_short : (start vif count : ℕ) (letters : List ℕ) → vif % 128 ≡ 0x7c → length letters < count
+    → text_at start vif (count ∷ letters) ≡ Err (Truncated start)
 unfolding text_at bytes_at
-text_short start vif count letters plain short = rw (eq-eqb (vif % 128) 0x7c plain, byte_again start count letters, lt-ltb (length letters) count short) refl
+text_short start vif count letters plain short =
+    rw (eq-eqb (vif % 128) 0x7c plain, byte_again start count letters, lt-ltb (length letters) count short) refl
 
 -- ---- the data
 
@@ -97,13 +108,15 @@ contents_missing : (start dif : ℕ) → dif % 16 ≡ 13 → contents_at start d
 unfolding contents_at lvar_at byte_at
 contents_missing start dif field = rw (eq-eqb (dif % 16) 13 field) refl
 
-contents_unused : (start dif lvar : ℕ) (rest : List ℕ) → dif % 16 ≡ 13 → lvar_width lvar ≡ None → contents_at start dif (lvar ∷ rest) ≡ Err (Lvar lvar)
+contents_unused : (start dif lvar : ℕ) (rest : List ℕ) → dif % 16 ≡ 13 → lvar_width lvar ≡ None
+    → contents_at start dif (lvar ∷ rest) ≡ Err (Lvar lvar)
 unfolding contents_at lvar_at
 contents_unused start dif lvar rest field none =
     let unused : is_some (lvar_width lvar) ≡ false = ap is_some none in
     rw (eq-eqb (dif % 16) 13 field, byte_again start lvar rest, unused) refl
 
-contents_short : (start dif : ℕ) (lvar : Option ℕ) (sent : List ℕ) (width : ℕ) → data_width dif lvar ≡ Some width → length sent < width → contents_at start dif (option_to_list lvar ++ sent) ≡ Err (Truncated start)
+contents_short : (start dif : ℕ) (lvar : Option ℕ) (sent : List ℕ) (width : ℕ) → data_width dif lvar ≡ Some width → length sent < width
+    → contents_at start dif (option_to_list lvar ++ sent) ≡ Err (Truncated start)
 unfolding contents_at bytes_at
 contents_short start dif lvar sent width wide short =
     let announced : unwrap_or (data_width dif lvar) 0 ≡ width = ap (λ (o : Option ℕ). unwrap_or o 0) wide in
@@ -116,30 +129,53 @@ cut_stops : (start : ℕ) (bytes : List ℕ) → IsCut bytes → record_at start
 cut_stops start bytes (no_dif e) = rw e (from_dib start [] (Truncated start) (dib_empty start))
 cut_stops start bytes (no_dife b not_15 not_8 goes_on few e) =
     let all : b.difes ++ [] ≡ b.difes = append-nil b.difes in
-    let cut : chain_at start b.dif (b.difes ++ []) ≡ Err (Truncated start) = ap (chain_at start b.dif) all ∙ chain_at_open start b.dif b.difes goes_on few in
-    ap (record_at start) (e ∙ sym (append-nil (dib_spelling b))) ∙ from_dib start (dib_spelling b ++ []) (Truncated start) (dib_chain start b [] (Truncated start) not_15 not_8 cut)
-cut_stops start bytes (no_vif b is e) = ap (record_at start) (e ∙ sym (append-nil (dib_spelling b))) ∙ from_vib start b [] (Truncated start) is (vib_empty start)
-cut_stops start bytes (no_text b vif is plain e) = ap (record_at start) e ∙ from_vib start b (vif ∷ []) (Truncated start) is (vib_text start vif [] (Truncated start) (text_missing start vif plain))
-cut_stops start bytes (short_text b vif count letters is plain short e) = ap (record_at start) e ∙ from_vib start b (vif ∷ count ∷ letters) (Truncated start) is (vib_text start vif (count ∷ letters) (Truncated start) (text_short start vif count letters plain short))
-cut_stops start bytes (no_vife b v is plain goes_on few e) = ap (record_at start) e ∙ from_vib start b (vib_spelling v) (Truncated start) is (vib_chain start v v.vifes (Truncated start) plain (chain_at_open start v.vif v.vifes goes_on few))
+    let cut : chain_at start b.dif (b.difes ++ []) ≡ Err (Truncated start) =
+    ap (chain_at start b.dif) all ∙ chain_at_open start b.dif b.difes goes_on few in
+    ap (record_at start) (e ∙ sym (append-nil (dib_spelling b)))
+    ∙ from_dib start (dib_spelling b ++ []) (Truncated start) (dib_chain start b [] (Truncated start) not_15 not_8 cut)
+cut_stops start bytes (no_vif b is e) =
+    ap (record_at start) (e ∙ sym (append-nil (dib_spelling b))) ∙ from_vib start b [] (Truncated start) is (vib_empty start)
+cut_stops start bytes (no_text b vif is plain e) =
+    ap (record_at start) e
+    ∙ from_vib start b (vif ∷ []) (Truncated start) is (vib_text start vif [] (Truncated start) (text_missing start vif plain))
+cut_stops start bytes (short_text b vif count letters is plain short e) =
+    ap (record_at start) e
+    ∙ from_vib start b (vif ∷ count ∷ letters) (Truncated start) is
+    (vib_text start vif (count ∷ letters) (Truncated start) (text_short start vif count letters plain short))
+cut_stops start bytes (no_vife b v is plain goes_on few e) =
+    ap (record_at start) e
+    ∙ from_vib start b (vib_spelling v) (Truncated start) is (vib_chain start v v.vifes (Truncated start) plain
+    (chain_at_open start v.vif v.vifes goes_on few))
 cut_stops start bytes (no_lvar b v is_b is_v field e) =
     let open_end : vib_spelling v ≡ vib_spelling v ++ [] = sym (append-nil (vib_spelling v)) in
-    ap (record_at start) (e ∙ ap (λ (r : List ℕ). dib_spelling b ++ r) open_end) ∙ from_contents start b v [] (Truncated start) is_b is_v (contents_missing start b.dif field)
-cut_stops start bytes (short_data b v lvar sent width is_b is_v wide short e) = ap (record_at start) e ∙ from_contents start b v (option_to_list lvar ++ sent) (Truncated start) is_b is_v (contents_short start b.dif lvar sent width wide short)
+    ap (record_at start) (e ∙ ap (λ (r : List ℕ). dib_spelling b ++ r) open_end)
+    ∙ from_contents start b v [] (Truncated start) is_b is_v (contents_missing start b.dif field)
+cut_stops start bytes (short_data b v lvar sent width is_b is_v wide short e) =
+    ap (record_at start) e
+    ∙ from_contents start b v (option_to_list lvar ++ sent) (Truncated start) is_b is_v
+    (contents_short start b.dif lvar sent width wide short)
 
 eleventh_stops : (start : ℕ) (bytes : List ℕ) → HasEleventh bytes → record_at start bytes ≡ Err (TooManyExtensions start)
 eleventh_stops start bytes (dife b next rest not_15 not_8 goes_on full e) =
-    ap (record_at start) e ∙ from_dib start (dib_spelling b ++ next ∷ rest) (TooManyExtensions start) (dib_chain start b (next ∷ rest) (TooManyExtensions start) not_15 not_8 (chain_at_eleventh start b.dif b.difes next rest goes_on full))
+    ap (record_at start) e
+    ∙ from_dib start (dib_spelling b ++ next ∷ rest) (TooManyExtensions start)
+    (dib_chain start b (next ∷ rest) (TooManyExtensions start) not_15 not_8 (chain_at_eleventh start b.dif b.difes next rest goes_on full))
 eleventh_stops start bytes (vife b v next rest is plain goes_on full e) =
-    let regrouped : vib_spelling v ++ next ∷ rest ≡ v.vif ∷ (v.text ++ (v.vifes ++ next ∷ rest)) = ap (λ (x : List ℕ). v.vif ∷ x) (append_assoc v.text v.vifes (next ∷ rest)) in
-    let eleventh = vib_chain start v (v.vifes ++ next ∷ rest) (TooManyExtensions start) plain (chain_at_eleventh start v.vif v.vifes next rest goes_on full) in
-    ap (record_at start) e ∙ from_vib start b (vib_spelling v ++ next ∷ rest) (TooManyExtensions start) is (ap (vib_at start) regrouped ∙ eleventh)
+    let regrouped : vib_spelling v ++ next ∷ rest ≡ v.vif ∷ (v.text ++ (v.vifes ++ next ∷ rest)) =
+    ap (λ (x : List ℕ). v.vif ∷ x) (append_assoc v.text v.vifes (next ∷ rest)) in
+    let eleventh =
+    vib_chain start v (v.vifes ++ next ∷ rest) (TooManyExtensions start) plain
+    (chain_at_eleventh start v.vif v.vifes next rest goes_on full) in
+    ap (record_at start) e ∙ from_vib start b (vib_spelling v ++ next ∷ rest) (TooManyExtensions start) is (ap (vib_at start) regrouped
+    ∙ eleventh)
 
 pub stops_record : (start : ℕ) (bytes : List ℕ) (fault : RecordFault) → Stops start bytes fault → record_at start bytes ≡ Err fault
 stops_record start bytes (Truncated place) s = rw s.0 (cut_stops start bytes s.1)
 stops_record start bytes (TooManyExtensions place) s = rw s.0 (eleventh_stops start bytes s.1)
 stops_record start bytes (Lvar lvar) s =
-    ap (record_at start) s.spelled ∙ from_contents start s.dib s.vib (lvar ∷ s.rest) (Lvar lvar) s.is_dib s.is_vib (contents_unused start s.dib.dif lvar s.rest s.by_lvar s.unused)
+    ap (record_at start) s.spelled
+    ∙ from_contents start s.dib s.vib (lvar ∷ s.rest) (Lvar lvar) s.is_dib s.is_vib
+    (contents_unused start s.dib.dif lvar s.rest s.by_lvar s.unused)
 stops_record start bytes (Selection place) s =
     rw (s.0, s.2.begins) (from_dib start (s.1 ∷ s.2.rest) (Selection start) (dib_selection start s.1 s.2.rest s.3))
 stops_record start bytes (Special dif) s =

@@ -1,15 +1,11 @@
 -- Reading a record from left to right, with the first fault that is met.
 use Rattle.std.specs.Prelude.{◌≡◌, ℕ, ◌+◌, ◌-◌, ◌%◌, Bool, ◌||◌, List, [], ◌∷◌, length, take, drop, Option, Some, None, Result, Ok, Err, nat_lt, ◌==◌, if◌then◌else◌, is_some, unwrap_or}
+use Rattle.steps.specs.Steps.{◌>>=◌}
 use Rattle.dif_vif.specs.declared.fault.RecordFault.{RecordFault}
 use Rattle.dif_vif.specs.declared.fault.RecordFault.TheVariants.{Truncated, TooManyExtensions, Lvar, Selection, Special}
 use Rattle.dif_vif.specs.declared.span.RecordSpan.{RecordSpan}
 use Rattle.dif_vif.specs.Spelling.{Dib, Vib, Contents, DataRecord, lvar_width, data_width}
 use Rattle.dif_vif.specs.Spans.{span_of, maker_span}
-
-infixl 10 ◌>>=◌
-abbrev pub ◌>>=◌ : {A B : Type 0} → Result A RecordFault → (A → Result B RecordFault) → Result B RecordFault
-(Ok x) >>= f = f x
-(Err e) >>= f = Err e
 
 -- What a function returned, seen by view, is what reading gives.
 abbrev pub Gives : {X Y : Type 0} → (X → Y) → Result X RecordFault → Result Y RecordFault → Type 0
@@ -56,7 +52,10 @@ dib_at start bytes = do
 
 -- the plain text unit with the length before it, where the VIF has one
 unfoldable pub text_at : ℕ → ℕ → List ℕ → Result (List ℕ × List ℕ) RecordFault
-text_at start vif bytes = if vif % 128 == 0x7c then (byte_at start bytes >>= λ count. bytes_at start count.0 count.1 >>= λ letters. Ok (count.0 ∷ letters.0, letters.1)) else Ok ([], bytes)
+text_at start vif bytes =
+    if vif % 128 == 0x7c
+    then (byte_at start bytes >>= λ count. bytes_at start count.0 count.1 >>= λ letters. Ok (count.0 ∷ letters.0, letters.1))
+    else Ok ([], bytes)
 
 -- the value information block
 unfoldable pub vib_at : ℕ → List ℕ → Result (Vib × List ℕ) RecordFault
@@ -68,7 +67,10 @@ vib_at start bytes = do
 
 -- the LVAR, where the DIF has one
 unfoldable pub lvar_at : ℕ → ℕ → List ℕ → Result (Option ℕ × List ℕ) RecordFault
-lvar_at start dif bytes = if dif % 16 == 13 then (byte_at start bytes >>= λ lvar. if is_some (lvar_width lvar.0) then Ok (Some lvar.0, lvar.1) else Err (Lvar lvar.0)) else Ok (None, bytes)
+lvar_at start dif bytes =
+    if dif % 16 == 13
+    then (byte_at start bytes >>= λ lvar. if is_some (lvar_width lvar.0) then Ok (Some lvar.0, lvar.1) else Err (Lvar lvar.0))
+    else Ok (None, bytes)
 
 -- the data, behind the LVAR
 unfoldable pub contents_at : ℕ → ℕ → List ℕ → Result (Contents × List ℕ) RecordFault
@@ -92,12 +94,16 @@ begins_maker dif = dif == 0x0f || dif == 0x1f
 -- the span at a place that has no filler, of a payload of so many bytes
 unfoldable pub span_at : ℕ → ℕ → List ℕ → Result RecordSpan RecordFault
 span_at len start [] = Err (Truncated start)
-span_at len start (dif ∷ rest) = if begins_maker dif then Ok (maker_span start dif len) else (record_at start (dif ∷ rest) >>= λ found. Ok (span_of start found.0))
+span_at len start (dif ∷ rest) =
+    if begins_maker dif then Ok (maker_span start dif len)
+    else (record_at start (dif ∷ rest) >>= λ found. Ok (span_of start found.0))
 
 -- the next span from a place, where the bytes from there on are left
 unfoldable pub next_at : ℕ → ℕ → List ℕ → Result (Option RecordSpan) RecordFault
 next_at len start [] = Ok None
-next_at len start (byte ∷ rest) = if byte == 0x2f then next_at len (start + 1) rest else (span_at len start (byte ∷ rest) >>= λ span. Ok (Some span))
+next_at len start (byte ∷ rest) =
+    if byte == 0x2f then next_at len (start + 1) rest
+    else (span_at len start (byte ∷ rest) >>= λ span. Ok (Some span))
 
 -- the next span of a payload from a place on, or the first fault
 abbrev pub next_of : List ℕ → ℕ → Result (Option RecordSpan) RecordFault

@@ -30,15 +30,20 @@ pub data IsCut (bytes : List ℕ) : Type 0 where
   no_dife : (b : Dib) → b.dif % 16 ≢ 15 → b.dif % 16 ≢ 8 → IsOpen b.dif b.difes → length b.difes ≤ 10 → bytes ≡ dib_spelling b → IsCut bytes
   no_vif : (b : Dib) → IsDib b → bytes ≡ dib_spelling b → IsCut bytes
   no_text : (b : Dib) (vif : ℕ) → IsDib b → vif % 128 ≡ 0x7c → bytes ≡ dib_spelling b ++ vif ∷ [] → IsCut bytes
-  short_text : (b : Dib) (vif count : ℕ) (letters : List ℕ) → IsDib b → vif % 128 ≡ 0x7c → length letters < count → bytes ≡ dib_spelling b ++ vif ∷ count ∷ letters → IsCut bytes
-  no_vife : (b : Dib) (v : Vib) → IsDib b → IsPlainText v.vif v.text → IsOpen v.vif v.vifes → length v.vifes ≤ 10 → bytes ≡ dib_spelling b ++ vib_spelling v → IsCut bytes
+  short_text : (b : Dib) (vif count : ℕ) (letters : List ℕ) → IsDib b → vif % 128 ≡ 0x7c → length letters < count
+      → bytes ≡ dib_spelling b ++ vif ∷ count ∷ letters → IsCut bytes
+  no_vife : (b : Dib) (v : Vib) → IsDib b → IsPlainText v.vif v.text → IsOpen v.vif v.vifes → length v.vifes ≤ 10
+      → bytes ≡ dib_spelling b ++ vib_spelling v → IsCut bytes
   no_lvar : (b : Dib) (v : Vib) → IsDib b → IsVib v → b.dif % 16 ≡ 13 → bytes ≡ dib_spelling b ++ vib_spelling v → IsCut bytes
-  short_data : (b : Dib) (v : Vib) (lvar : Option ℕ) (sent : List ℕ) (width : ℕ) → IsDib b → IsVib v → data_width b.dif lvar ≡ Some width → length sent < width → bytes ≡ dib_spelling b ++ (vib_spelling v ++ (option_to_list lvar ++ sent)) → IsCut bytes
+  short_data : (b : Dib) (v : Vib) (lvar : Option ℕ) (sent : List ℕ) (width : ℕ) → IsDib b → IsVib v → data_width b.dif lvar ≡ Some width
+      → length sent < width → bytes ≡ dib_spelling b ++ (vib_spelling v ++ (option_to_list lvar ++ sent)) → IsCut bytes
 
 -- An eleventh extension of the DIF or of the VIF stands there.
 pub data HasEleventh (bytes : List ℕ) : Type 0 where
-  dife : (b : Dib) (next : ℕ) (rest : List ℕ) → b.dif % 16 ≢ 15 → b.dif % 16 ≢ 8 → IsOpen b.dif b.difes → length b.difes ≡ 10 → bytes ≡ dib_spelling b ++ next ∷ rest → HasEleventh bytes
-  vife : (b : Dib) (v : Vib) (next : ℕ) (rest : List ℕ) → IsDib b → IsPlainText v.vif v.text → IsOpen v.vif v.vifes → length v.vifes ≡ 10 → bytes ≡ dib_spelling b ++ (vib_spelling v ++ next ∷ rest) → HasEleventh bytes
+  dife : (b : Dib) (next : ℕ) (rest : List ℕ) → b.dif % 16 ≢ 15 → b.dif % 16 ≢ 8 → IsOpen b.dif b.difes → length b.difes ≡ 10
+      → bytes ≡ dib_spelling b ++ next ∷ rest → HasEleventh bytes
+  vife : (b : Dib) (v : Vib) (next : ℕ) (rest : List ℕ) → IsDib b → IsPlainText v.vif v.text → IsOpen v.vif v.vifes → length v.vifes ≡ 10
+      → bytes ≡ dib_spelling b ++ (vib_spelling v ++ next ∷ rest) → HasEleventh bytes
 
 -- The blocks are whole, and an LVAR that isn't used here stands behind them.
 pub record HasUnusedLvar (bytes : List ℕ) (lvar : ℕ) : Type 0 where

@@ -40,7 +40,8 @@ pub IsBlock-zeros : IsBlock zeros
 IsBlock-zeros = record { count = refl; bytes = All-replicate Byte 16 0 (omega arith) }
 
 -- a derived key is a block
-pub IsBlock-key : (c : Commissioned) (purpose : KeyUse) (down : ℕ) → IsBlock c.key → IsBlock (derived c.key purpose down (identification_of c.address))
+pub IsBlock-key : (c : Commissioned) (purpose : KeyUse) (down : ℕ) → IsBlock c.key
+    → IsBlock (derived c.key purpose down (identification_of c.address))
 IsBlock-key c purpose down key = IsBlock-derived c.key purpose down (identification_of c.address) key (AreBytes-identification_of c.address)
 
 pub AreBytes-1 : (a : ℕ) → a < 256 → AreBytes (a ∷ [])
@@ -53,15 +54,18 @@ AreBytes-counter down = AreBytes-4 _ _ _ _ (omega arith) (omega arith) (omega ar
 
 pub AreBytes-link_bytes : (own : Address) (blocks : ℕ) → blocks ≤ 6 → AreBytes (link_bytes own blocks)
 AreBytes-link_bytes own blocks h =
-    All-cons Byte (40 + 16 * blocks) (0x43 ∷ bytes_of own) (omega arith) (All-cons Byte 0x43 (bytes_of own) (omega arith) (AreBytes-bytes_of own))
+    All-cons Byte (40 + 16 * blocks) (0x43 ∷ bytes_of own) (omega arith)
+    (All-cons Byte 0x43 (bytes_of own) (omega arith) (AreBytes-bytes_of own))
 
 pub AreBytes-authentication_bytes : (down : ℕ) (mac : List ℕ) → AreBytes mac → AreBytes (authentication_bytes down mac)
 AreBytes-authentication_bytes down mac h =
-    let four : AreBytes (0x90 ∷ 0x0F ∷ 0x00 ∷ 0x2C ∷ []) = AreBytes-4 0x90 0x0F 0x00 0x2C (omega arith) (omega arith) (omega arith) (omega arith) in
+    let four : AreBytes (0x90 ∷ 0x0F ∷ 0x00 ∷ 0x2C ∷ []) =
+    AreBytes-4 0x90 0x0F 0x00 0x2C (omega arith) (omega arith) (omega arith) (omega arith) in
     let control : AreBytes (0x25 ∷ []) = AreBytes-1 0x25 (omega arith) in
     let five : List ℕ = 0x90 ∷ 0x0F ∷ 0x00 ∷ 0x2C ∷ 0x25 ∷ [] in
     All-append Byte (five ++ to_le_bytes w32 down) mac
-    (All-append Byte five (to_le_bytes w32 down) (All-append Byte (0x90 ∷ 0x0F ∷ 0x00 ∷ 0x2C ∷ []) (0x25 ∷ []) four control) (AreBytes-counter down)) h
+    (All-append Byte five (to_le_bytes w32 down) (All-append Byte (0x90 ∷ 0x0F ∷ 0x00 ∷ 0x2C ∷ []) (0x25 ∷ []) four control)
+    (AreBytes-counter down)) h
 
 two_bytes : (n : ℕ) → AreBytes (to_le_bytes w16 n)
 two_bytes n = All-cons Byte (n % 256) (n / 256 % 256 ∷ []) (omega arith) (AreBytes-1 (n / 256 % 256) (omega arith))
@@ -81,4 +85,5 @@ AreBytes-header_bytes meter down blocks =
     let three : List ℕ = two ++ to_le_bytes w16 (configuration blocks) in
     let ones : AreBytes one = All-append Byte (0x5B ∷ []) (header_order meter) (AreBytes-1 0x5B (omega arith)) order in
     let twos : AreBytes two = All-append Byte one (down % 256 ∷ 0x00 ∷ []) ones access in
-    All-append Byte three (0x10 ∷ []) (All-append Byte two (to_le_bytes w16 (configuration blocks)) twos (two_bytes (configuration blocks))) (AreBytes-1 0x10 (omega arith))
+    All-append Byte three (0x10 ∷ []) (All-append Byte two (to_le_bytes w16 (configuration blocks)) twos
+    (two_bytes (configuration blocks))) (AreBytes-1 0x10 (omega arith))

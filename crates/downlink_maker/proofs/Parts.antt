@@ -19,7 +19,14 @@ length-front own p h = omega arith
 
 module _ (own meter : Address) (p : Parts) (t : List ℕ) (h : HasParts own meter p t) where
   pub part-length : length t ≡ 41 + 16 * p.blocks
-  part-length = omega (arith, ap length h.whole, length-append (layers_before own meter p) p.content, length-layers_before own meter p h.eight, h.content)
+  part-length =
+      omega (
+        arith,
+        ap length h.whole,
+        length-append (layers_before own meter p) p.content,
+        length-layers_before own meter p h.eight,
+        h.content,
+      )
 
   pub part-l : get_or t 0 0 ≡ 40 + 16 * p.blocks
   part-l = ap (λ (x : List ℕ). get_or x 0 0) h.whole
@@ -37,11 +44,14 @@ module _ (own meter : Address) (p : Parts) (t : List ℕ) (h : HasParts own mete
   -- the message: its transport header and its content
   pub part-message : drop 27 t ≡ header_bytes meter p.down p.blocks ++ p.content
   part-message =
-      ap (drop 27) (h.whole ∙ append_assoc (link_bytes own p.blocks ++ authentication_bytes p.down p.mac) (header_bytes meter p.down p.blocks) p.content)
-      ∙ drop_at (link_bytes own p.blocks ++ authentication_bytes p.down p.mac) (header_bytes meter p.down p.blocks ++ p.content) 27 (length-front own p h.eight)
+      ap (drop 27) (h.whole
+      ∙ append_assoc (link_bytes own p.blocks ++ authentication_bytes p.down p.mac) (header_bytes meter p.down p.blocks) p.content)
+      ∙ drop_at (link_bytes own p.blocks ++ authentication_bytes p.down p.mac) (header_bytes meter p.down p.blocks ++ p.content) 27
+      (length-front own p h.eight)
 
   pub part-content : drop 41 t ≡ p.content
   part-content = ap (drop 41) h.whole ∙ drop_at (layers_before own meter p) p.content 41 (length-layers_before own meter p h.eight)
 
   pub part-telegram : IsTelegram t
-  part-telegram = record { least = omega (arith, part-length); most = omega (arith, part-length, h.most); counted = omega (arith, part-l, part-length) }
+  part-telegram =
+      record { least = omega (arith, part-length); most = omega (arith, part-length, h.most); counted = omega (arith, part-l, part-length) }

@@ -50,12 +50,14 @@ module _ (c : Commissioned) (down : ℕ) (payload : List ℕ) (key : IsBlock c.k
   pub AreBytes-encrypted_content : AreBytes (encrypted_content c down payload)
   unfolding encrypted_content
   AreBytes-encrypted_content =
-      AreBytes-cbc_encrypted (cipher_key c down) zeros (plain_content payload) (IsBlock-key c PartnerCipher down key) IsBlock-zeros (AreBytes-plain_content payload bytes) whole
+      AreBytes-cbc_encrypted (cipher_key c down) zeros (plain_content payload) (IsBlock-key c PartnerCipher down key) IsBlock-zeros
+      (AreBytes-plain_content payload bytes) whole
 
   pub length-encrypted_content : length (encrypted_content c down payload) ≡ 16 * blocks_for (length payload)
   unfolding encrypted_content
   length-encrypted_content =
-      length-cbc_encrypted (cipher_key c down) zeros (plain_content payload) (IsBlock-key c PartnerCipher down key) IsBlock-zeros (AreBytes-plain_content payload bytes) whole
+      length-cbc_encrypted (cipher_key c down) zeros (plain_content payload) (IsBlock-key c PartnerCipher down key) IsBlock-zeros
+      (AreBytes-plain_content payload bytes) whole
       ∙ length-plain_content payload
 
   pub AreBytes-message_bytes : AreBytes (message_bytes c down payload)
@@ -72,7 +74,8 @@ module _ (c : Commissioned) (down : ℕ) (payload : List ℕ) (key : IsBlock c.k
 
   pub length-mac_of : length (mac_of c down payload) ≡ 8
   unfolding mac_of
-  length-mac_of = omega (arith, length-take 8 (cmac (mac_key c down) (0x25 ∷ to_le_bytes w32 down ++ message_bytes c down payload)), mac_block.count)
+  length-mac_of =
+      omega (arith, length-take 8 (cmac (mac_key c down) (0x25 ∷ to_le_bytes w32 down ++ message_bytes c down payload)), mac_block.count)
 
   pub AreBytes-mac_of : AreBytes (mac_of c down payload)
   unfolding mac_of
@@ -81,7 +84,8 @@ module _ (c : Commissioned) (down : ℕ) (payload : List ℕ) (key : IsBlock c.k
 pub content_is_read_back : ContentIsReadBack
 content_is_read_back c down payload key bytes = decrypted_again c down payload key bytes
 
-module _ (own : Address) (c : Commissioned) (down : ℕ) (payload : List ℕ) (key : IsBlock c.key) (counter : down < 2 ^ 32) (is : IsPayload payload) where
+module _ (own : Address) (c : Commissioned) (down : ℕ) (payload : List ℕ) (key : IsBlock c.key) (counter : down < 2 ^ 32)
+    (is : IsPayload payload) where
   parts : HasParts own c.address (parts_to c down payload) (telegram_to own c down payload)
   unfolding telegram_to message_bytes
   parts = record {
@@ -102,13 +106,20 @@ module _ (own : Address) (c : Commissioned) (down : ℕ) (payload : List ℕ) (k
       let front = All-append Byte (link_bytes own n) (authentication_bytes down mac) (AreBytes-link_bytes own n (omega (arith, is.most)))
       (AreBytes-authentication_bytes down mac (AreBytes-mac_of c down payload key is.bytes)) in
       all_bytes (link_bytes own n ++ authentication_bytes down mac ++ message_bytes c down payload)
-      (All-append Byte (link_bytes own n ++ authentication_bytes down mac) (message_bytes c down payload) front (AreBytes-message_bytes c down payload key is.bytes))
+      (All-append Byte (link_bytes own n ++ authentication_bytes down mac) (message_bytes c down payload) front
+      (AreBytes-message_bytes c down payload key is.bytes))
 
   telegram : IsTelegram (telegram_to own c down payload)
   telegram = part-telegram own c.address (parts_to c down payload) (telegram_to own c down payload) parts
 
   pub is_laid_out : IsLaidOut own c down payload
-  is_laid_out = record { telegram = telegram; bytes = bytes; decoded = (one_frame_a (telegram_to own c down payload) telegram bytes).1; parts = parts }
+  is_laid_out =
+      record {
+        telegram = telegram;
+        bytes = bytes;
+        decoded = (one_frame_a (telegram_to own c down payload) telegram bytes).1;
+        parts = parts;
+      }
 
 pub downlinks_are_laid_out : DownlinksAreLaidOut
 downlinks_are_laid_out own c down payload key counter is = is_laid_out own c down payload key counter is

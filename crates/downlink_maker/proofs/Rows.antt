@@ -15,7 +15,8 @@ pub afl_bytes-authentication_of : (down : ℕ) (mac : List ℕ) → length mac �
 unfolding fcl_of
 afl_bytes-authentication_of down mac h =
     let count : 2 + length (0x25 ∷ to_le_bytes w32 down ++ mac) ≡ 0x0F = omega arith in
-    ap (λ (m : List ℕ). 0x90 ∷ (2 + length (0x25 ∷ to_le_bytes w32 down ++ m)) ∷ 0x00 ∷ 0x2C ∷ 0x25 ∷ to_le_bytes w32 down ++ m) (append-nil mac)
+    ap (λ (m : List ℕ). 0x90 ∷ (2 + length (0x25 ∷ to_le_bytes w32 down ++ m)) ∷ 0x00 ∷ 0x2C ∷ 0x25 ∷ to_le_bytes w32 down ++ m)
+    (append-nil mac)
     ∙ ap (λ (n : ℕ). 0x90 ∷ n ∷ 0x00 ∷ 0x2C ∷ 0x25 ∷ to_le_bytes w32 down ++ mac) count
 
 -- what stands behind the link layer

@@ -60,7 +60,8 @@ authentication_bytes down mac = 0x90 ∷ 0x0F ∷ 0x00 ∷ 0x2C ∷ 0x25 ∷ to_
 
 -- what is read of that layer
 abbrev pub authentication_of : ℕ → List ℕ → Afl
-authentication_of down mac = record { more = false; fid = 0; mcl = Some 0x25; ki = None; mcr = Some down; mac = Some mac; ml = None; len = 17 }
+authentication_of down mac =
+    record { more = false; fid = 0; mcl = Some 0x25; ki = None; mcr = Some down; mac = Some mac; ml = None; len = 17 }
 
 -- the telegram to the meter
 unfoldable pub telegram_to : Address → Commissioned → ℕ → List ℕ → List ℕ

@@ -13,7 +13,8 @@ use Rattle.ell_layer.proofs.Headers.{made, chosen, ci_of}
 abbrev no_header : EllFault → Result Ell EllFault
 no_header f = Err f
 
-bind_err : {A B : Type 0} (r : Result A EllFault) (f : A → Result B EllFault) (e : EllFault) → (r >>= f) ≡ Err e → (r ≡ Err e) ⊎ ((x : A) × (r ≡ Ok x) × (f x ≡ Err e))
+bind_err : {A B : Type 0} (r : Result A EllFault) (f : A → Result B EllFault) (e : EllFault) → (r >>= f) ≡ Err e → (r ≡ Err e)
+    ⊎ ((x : A) × (r ≡ Ok x) × (f x ≡ Err e))
 bind_err (Ok x) f e h = inr (x, refl, h)
 bind_err (Err d) f e h = let same : d ≡ e = cc in inl (ap Err same)
 
@@ -48,7 +49,8 @@ fault_found [] f e =
     subst (IsEllFault []) same none
 fault_found (ci ∷ rest) f e =
     let bytes : List ℕ = ci ∷ rest in
-    elim (bind_err (header_len bytes) (λ n. cond (ltb (length bytes) n) (Err (Truncated (length bytes))) (Ok (made (get_or bytes 1 0) (get_or bytes 2 0) n))) f e) [
+    elim (bind_err (header_len bytes) (λ n. cond (ltb (length bytes) n) (Err (Truncated (length bytes)))
+    (Ok (made (get_or bytes 1 0) (get_or bytes 2 0) n))) f e) [
       | inl kind ↦ kind_is ci rest f kind
       | inr len ↦
           let cut = guard_err (ltb (length bytes) len.0) (Truncated (length bytes)) f _ len.2 in
@@ -73,7 +75,8 @@ other_kind : (ci : ℕ) (rest : List ℕ) → ci ≢ 0x8C → ci ≢ 0x8E → el
 unfolding ell_at header_len
 other_kind ci rest short long = rw (differ ci 0x8C short, differ ci 0x8E long) refl
 
-cut_at : (ci kind : ℕ) (rest : List ℕ) → ci ≡ kind → ell_at (kind ∷ rest) ≡ Err (Truncated (length (kind ∷ rest))) → ell_at (ci ∷ rest) ≡ Err (Truncated (length (ci ∷ rest)))
+cut_at : (ci kind : ℕ) (rest : List ℕ) → ci ≡ kind → ell_at (kind ∷ rest) ≡ Err (Truncated (length (kind ∷ rest)))
+    → ell_at (ci ∷ rest) ≡ Err (Truncated (length (ci ∷ rest)))
 cut_at ci kind rest same cut = rw same cut
 
 fault_again : (bytes : List ℕ) (f : EllFault) → IsEllFault bytes f → ell_at bytes ≡ Err f

@@ -22,7 +22,8 @@ pub chosen : {A : Type 0} (b : Bool) (x y z : A) → cond b x y ≡ z → ((b �
 chosen true x y z e = inl (refl, e)
 chosen false x y z e = inr (refl, e)
 
-bind_ok : {A B : Type 0} (r : Result A EllFault) (f : A → Result B EllFault) (y : B) → (r >>= f) ≡ Ok y → (x : A) × (r ≡ Ok x) × (f x ≡ Ok y)
+bind_ok : {A B : Type 0} (r : Result A EllFault) (f : A → Result B EllFault) (y : B) → (r >>= f) ≡ Ok y → (x : A) × (r ≡ Ok x)
+    × (f x ≡ Ok y)
 bind_ok (Ok x) f y e = (x, refl, e)
 bind_ok (Err d) f y e = absurd cc
 
@@ -43,7 +44,8 @@ ci_of ci n rest e =
           ]
     ]
 
-short_takes : (bytes : List ℕ) (e : Ell) → 3 ≤ length bytes → made (get_or bytes 1 0) (get_or bytes 2 0) 3 ≡ e → get_or bytes 0 0 ≡ 0x8C → BeginsWithEll bytes e
+short_takes : (bytes : List ℕ) (e : Ell) → 3 ≤ length bytes → made (get_or bytes 1 0) (get_or bytes 2 0) 3 ≡ e → get_or bytes 0 0 ≡ 0x8C
+    → BeginsWithEll bytes e
 short_takes [] e long same ci = absurd (omega arith)
 short_takes (a ∷ []) e long same ci = absurd (omega arith)
 short_takes (a ∷ b ∷ []) e long same ci = absurd (omega arith)
@@ -56,7 +58,8 @@ short_takes (a ∷ b ∷ c ∷ rest) e long same ci =
       spelt = inl (record { control = b; bytes = ap (λ (x : ℕ). x ∷ b ∷ c ∷ []) ci; access = refl });
     })
 
-long_takes : (bytes : List ℕ) (e : Ell) → 11 ≤ length bytes → made (get_or bytes 1 0) (get_or bytes 2 0) 11 ≡ e → get_or bytes 0 0 ≡ 0x8E → BeginsWithEll bytes e
+long_takes : (bytes : List ℕ) (e : Ell) → 11 ≤ length bytes → made (get_or bytes 1 0) (get_or bytes 2 0) 11 ≡ e → get_or bytes 0 0 ≡ 0x8E
+    → BeginsWithEll bytes e
 long_takes [] e long same ci = absurd (omega arith)
 long_takes (a ∷ []) e long same ci = absurd (omega arith)
 long_takes (a ∷ b ∷ []) e long same ci = absurd (omega arith)
@@ -67,7 +70,13 @@ long_takes (a ∷ b ∷ c ∷ rest) e long same ci =
       rest = drop 8 rest;
       parts = ap (λ (x : List ℕ). a ∷ b ∷ c ∷ x) (sym (take-append-drop 8 rest));
       len = omega (arith, eight);
-      spelt = inr (record { control = b; address = take 8 rest; eight = eight; bytes = ap (λ (x : ℕ). x ∷ b ∷ c ∷ take 8 rest) ci; access = refl });
+      spelt = inr (record {
+        control = b;
+        address = take 8 rest;
+        eight = eight;
+        bytes = ap (λ (x : ℕ). x ∷ b ∷ c ∷ take 8 rest) ci;
+        access = refl;
+      });
     })
 
 -- what is read is spelled so
@@ -76,7 +85,9 @@ unfolding ell_at header_len
 takes [] e h = absurd cc
 takes (ci ∷ rest) e h =
     let bytes : List ℕ = ci ∷ rest in
-    let len = bind_ok (header_len bytes) (λ n. cond (ltb (length bytes) n) (Err (Truncated (length bytes))) (Ok (made (get_or bytes 1 0) (get_or bytes 2 0) n))) e h in
+    let len =
+    bind_ok (header_len bytes) (λ n. cond (ltb (length bytes) n) (Err (Truncated (length bytes)))
+    (Ok (made (get_or bytes 1 0) (get_or bytes 2 0) n))) e h in
     let enough = guard_ok (ltb (length bytes) len.0) (Truncated (length bytes)) _ e len.2 in
     let long = ltb-false _ _ enough.0 in
     elim (ci_of ci len.0 rest len.1) [
@@ -104,9 +115,12 @@ again bytes e h =
           let len : e.len ≡ 3 = h.len ∙ ap length short.bytes in
           ap ell_at whole ∙ short_again short.control e.acc h.rest ∙ ap read (sym (is_made e short.control 3 short.access len))
       | inr long ↦
-          let whole : bytes ≡ 0x8E ∷ long.control ∷ e.acc ∷ (long.address ++ h.rest) = h.parts ∙ ap (λ (x : List ℕ). x ++ h.rest) long.bytes in
+          let whole : bytes ≡ 0x8E ∷ long.control ∷ e.acc ∷ (long.address ++ h.rest) =
+          h.parts ∙ ap (λ (x : List ℕ). x ++ h.rest) long.bytes in
           let len : e.len ≡ 11 = h.len ∙ ap length long.bytes ∙ ap (λ (n : ℕ). suc (suc (suc n))) long.eight in
-          ap ell_at whole ∙ long_again long.control e.acc (long.address ++ h.rest) (omega (arith, length-append long.address h.rest, long.eight)) ∙ ap read (sym (is_made e long.control 11 long.access len))
+          ap ell_at whole
+          ∙ long_again long.control e.acc (long.address ++ h.rest) (omega (arith, length-append long.address h.rest, long.eight))
+          ∙ ap read (sym (is_made e long.control 11 long.access len))
     ]
 
 pub is_found : (bytes : List ℕ) (r : Result Ell EllFault) → r ≡ ell_at bytes → IfOk r (λ e. BeginsWithEll bytes e)

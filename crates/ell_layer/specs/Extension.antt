@@ -51,4 +51,5 @@ header_len (ci ∷ rest) = if ci == 0x8C then Ok 3 else if ci == 0x8E then Ok 11
 unfoldable pub ell_at : List ℕ → Result Ell EllFault
 ell_at bytes = do
   len ← header_len bytes
-  if nat_lt (length bytes) len then Err (Truncated (length bytes)) else Ok (record { access = access_in (slice_index bytes 1); acc = slice_index bytes 2; len = len })
+  if nat_lt (length bytes) len then Err (Truncated (length bytes))
+      else Ok (record { access = access_in (slice_index bytes 1); acc = slice_index bytes 2; len = len })

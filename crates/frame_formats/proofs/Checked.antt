@@ -43,14 +43,22 @@ checked_is (b ∷ blocks) bytes all is =
     let parts = bytes-append b (is.0 / 256 ∷ is.0 % 256 ∷ is.1) (bytes_same _ _ is.3 all)
     in let same : is.0 ≡ crc_of b = same_crc b is.0 (crc_of b) is.2 (is_crc b parts.0)
     in let rest : is.1 ≡ flat_map with_crc blocks = checked_is blocks is.1 parts.1.1.1 is.4
-    in is.3 ∙ ap (λ c. b ++ c / 256 ∷ c % 256 ∷ is.1) same ∙ ap (λ x. b ++ crc_of b / 256 ∷ crc_of b % 256 ∷ x) rest ∙ sym (append_assoc b (crc_of b / 256 ∷ crc_of b % 256 ∷ []) (flat_map with_crc blocks))
+    in is.3 ∙ ap (λ c. b ++ c / 256 ∷ c % 256 ∷ is.1) same ∙ ap (λ x. b ++ crc_of b / 256 ∷ crc_of b % 256 ∷ x) rest
+    ∙ sym (append_assoc b (crc_of b / 256 ∷ crc_of b % 256 ∷ []) (flat_map with_crc blocks))
 
 -- and the other way round
 pub is_checked : (blocks : List (List ℕ)) → IsBytes (concat blocks) → AreChecked blocks (flat_map with_crc blocks)
 is_checked [] all = refl
 is_checked (b ∷ blocks) all =
     let parts = bytes-append b (concat blocks) all
-    in (crc_of b, flat_map with_crc blocks, is_crc b parts.0, append_assoc b (crc_of b / 256 ∷ crc_of b % 256 ∷ []) (flat_map with_crc blocks), is_checked blocks parts.1)
+    in (
+      crc_of b,
+      flat_map with_crc blocks,
+      is_crc b parts.0,
+      append_assoc b (crc_of b / 256 ∷ crc_of b % 256 ∷ [])
+          (flat_map with_crc blocks),
+      is_checked blocks parts.1,
+    )
 
 pub checked_same : (blocks : List (List ℕ)) (k l : List ℕ) → k ≡ l → AreChecked blocks l → AreChecked blocks k
 checked_same blocks k l same is = let P : List ℕ → Type 0 = λ x. AreChecked blocks x in subst P (sym same) is
@@ -86,15 +94,20 @@ parted block c hi lo is low =
     in ap (λ x. block ++ x ∷ lo ∷ []) high ∙ ap (λ x. block ++ c / 256 ∷ x ∷ []) rest
 
 -- a block that was read is followed by its CRC
-pub block_found : (n : ℕ) (piece block : List ℕ) → IsBytes piece → 2 ≤ length piece → block_of n piece ≡ Ok block → (piece ≡ with_crc block) × (length block + 2 ≡ length piece)
+pub block_found : (n : ℕ) (piece block : List ℕ) → IsBytes piece → 2 ≤ length piece → block_of n piece ≡ Ok block
+    → (piece ≡ with_crc block) × (length block + 2 ≡ length piece)
 unfolding block_of
 block_found n piece block all some is =
     let size : ℕ = length piece - 2
-    in let g : (eqb (crc_of (take size piece)) (get_or piece size 0 * 256 + get_or piece (size + 1) 0) ≡ true) × (take size piece ≡ block) = guard_ok _ _ _ _ is
+    in let g : (eqb (crc_of (take size piece)) (get_or piece size 0 * 256 + get_or piece (size + 1) 0) ≡ true) × (take size piece ≡ block) =
+    guard_ok _ _ _ _ is
     in let last : drop size piece ≡ get_or piece size 0 ∷ get_or piece (size + 1) 0 ∷ [] =
-    two (drop size piece) (omega (arith, length-drop size piece)) ∙ ap (λ x. x ∷ get_or (drop size piece) 1 0 ∷ []) (get_or-drop size piece 0 0 ∙ ap (λ k. get_or piece k 0) (add-zero size)) ∙ ap (λ x. get_or piece size 0 ∷ x ∷ []) (get_or-drop size piece 1 0)
+    two (drop size piece) (omega (arith, length-drop size piece))
+    ∙ ap (λ x. x ∷ get_or (drop size piece) 1 0 ∷ []) (get_or-drop size piece 0 0 ∙ ap (λ k. get_or piece k 0) (add-zero size))
+    ∙ ap (λ x. get_or piece size 0 ∷ x ∷ []) (get_or-drop size piece 1 0)
     in (
-      sym (take-append-drop size piece) ∙ ap (λ x. take size piece ++ x) last ∙ parted (take size piece) (crc_of (take size piece)) _ _ (eqb-true _ _ g.0) (byte_at piece (size + 1) all) ∙ ap with_crc g.1,
+      sym (take-append-drop size piece) ∙ ap (λ x. take size piece ++ x) last
+          ∙ parted (take size piece) (crc_of (take size piece)) _ _ (eqb-true _ _ g.0) (byte_at piece (size + 1) all) ∙ ap with_crc g.1,
       omega (arith, ap length g.1, length-take size piece),
     )
 
@@ -108,14 +121,17 @@ read_again n c b is =
     let piece : List ℕ = b ++ c / 256 ∷ c % 256 ∷ []
     in let size : length piece - 2 ≡ length b = omega (arith, length-append b (c / 256 ∷ c % 256 ∷ []))
     in let front : take (length piece - 2) piece ≡ b = ap (λ k. take k piece) size ∙ take_at b _ _ refl
-    in let hi : get_or piece (length piece - 2) 0 ≡ c / 256 = ap (λ k. get_or piece k 0) size ∙ get_or_at b (c / 256) (c % 256 ∷ []) 0 (length b) refl
+    in let hi : get_or piece (length piece - 2) 0 ≡ c / 256 =
+    ap (λ k. get_or piece k 0) size ∙ get_or_at b (c / 256) (c % 256 ∷ []) 0 (length b) refl
     in let lo : get_or piece (length piece - 2 + 1) 0 ≡ c % 256 =
-    ap (λ k. get_or piece (k + 1) 0) size ∙ ap (λ x. get_or x (length b + 1) 0) (sym (append_assoc b (c / 256 ∷ []) (c % 256 ∷ []))) ∙ get_or_at (b ++ c / 256 ∷ []) (c % 256) [] 0 (length b + 1) (length-append b (c / 256 ∷ []))
+    ap (λ k. get_or piece (k + 1) 0) size ∙ ap (λ x. get_or x (length b + 1) 0) (sym (append_assoc b (c / 256 ∷ []) (c % 256 ∷ [])))
+    ∙ get_or_at (b ++ c / 256 ∷ []) (c % 256) [] 0 (length b + 1) (length-append b (c / 256 ∷ []))
     in guard_again _ _ _ _ (eq-eqb _ _ (ap crc_of front ∙ is ∙ omega (arith, hi, lo))) front
 
 pub block_again : (n : ℕ) (b : List ℕ) → block_of n (with_crc b) ≡ Ok b
 block_again n b = read_again n (crc_of b) b refl
 
-pub bind_ok : {A B : Type 0} (r : Result A FrameFault) (f : A → Result B FrameFault) (y : B) → (r >>= f) ≡ Ok y → (x : A) × (r ≡ Ok x) × (f x ≡ Ok y)
+pub bind_ok : {A B : Type 0} (r : Result A FrameFault) (f : A → Result B FrameFault) (y : B) → (r >>= f) ≡ Ok y → (x : A) × (r ≡ Ok x)
+    × (f x ≡ Ok y)
 bind_ok (Ok x) f y is = (x, refl, is)
 bind_ok (Err e) f y is = cc

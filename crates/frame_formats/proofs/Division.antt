@@ -22,7 +22,9 @@ near_same a b e = record { multiple = as_multiple _ _ (ap (λ x. bit_xor x b) e 
 
 -- what stands in both goes out
 outer : (a b c : ℕ) → bit_xor (bit_xor a b) (bit_xor b c) ≡ bit_xor a c
-outer a b c = ap (λ x. bit_xor (bit_xor a b) x) (xor_comm b c) ∙ middle a b c b ∙ ap (λ x. bit_xor (bit_xor a c) x) (xor_self b) ∙ xor_zero_r (bit_xor a c)
+outer a b c =
+    ap (λ x. bit_xor (bit_xor a b) x) (xor_comm b c) ∙ middle a b c b ∙ ap (λ x. bit_xor (bit_xor a c) x) (xor_self b)
+    ∙ xor_zero_r (bit_xor a c)
 
 -- a sum less one of its parts
 less : (a b : ℕ) → bit_xor a (bit_xor a b) ≡ b
@@ -40,7 +42,8 @@ near_sum a b c d m n = record { multiple = as_multiple _ _ (middle a c b d) (sum
 -- a multiple times x^k
 multiple_scaled : (k p : ℕ) → IsMultiple p → IsMultiple (p * 2 ^ k)
 multiple_scaled zero p m = as_multiple _ _ (omega arith) m
-multiple_scaled (suc k) p m = as_multiple _ _ (ap (λ y. p * y) (pow-suc 2 k) ∙ sym (mul_assoc p (2 ^ k) 2)) (twice _ (multiple_scaled k p m))
+multiple_scaled (suc k) p m =
+    as_multiple _ _ (ap (λ y. p * y) (pow-suc 2 k) ∙ sym (mul_assoc p (2 ^ k) 2)) (twice _ (multiple_scaled k p m))
 
 pub near_scaled : (k a b : ℕ) → Near a b → Near (a * 2 ^ k) (b * 2 ^ k)
 near_scaled k a b m = record { multiple = as_multiple _ _ (scaled a b k) (multiple_scaled k _ m.multiple) }
@@ -57,7 +60,8 @@ one_less k p high low =
     in let divisor : generator * 2 ^ k ≡ bit_xor (1 * 2 ^ n) (0x3D65 * 2 ^ k) = omega (arith, split, xor_shifted 1 n (0x3D65 * 2 ^ k) lower)
     in let gone : bit_xor p (generator * 2 ^ k) ≡ bit_xor (p - 2 ^ n) (0x3D65 * 2 ^ k) =
     ap (λ x. bit_xor x (generator * 2 ^ k)) top ∙ ap (λ x. bit_xor (bit_xor (1 * 2 ^ n) (p - 2 ^ n)) x) divisor
-    ∙ middle (1 * 2 ^ n) (p - 2 ^ n) (1 * 2 ^ n) (0x3D65 * 2 ^ k) ∙ ap (λ x. bit_xor x (bit_xor (p - 2 ^ n) (0x3D65 * 2 ^ k))) (xor_self (1 * 2 ^ n)) ∙ xor_zero_l _
+    ∙ middle (1 * 2 ^ n) (p - 2 ^ n) (1 * 2 ^ n) (0x3D65 * 2 ^ k)
+    ∙ ap (λ x. bit_xor x (bit_xor (p - 2 ^ n) (0x3D65 * 2 ^ k))) (xor_self (1 * 2 ^ n)) ∙ xor_zero_l _
     in omega (arith, gone, xor_lt n _ _ rest lower)
 
 pub remainder_near : (k p : ℕ) → p < 2 ^ (16 + k) → Near p (remainder k p) × (remainder k p < 2 ^ 16)
@@ -65,7 +69,9 @@ unfolding remainder
 remainder_near zero p lt = (near_same p p refl, lt)
 remainder_near (suc k) p lt = elim (cases_lt p (2 ^ (16 + k))) [
   | inl low ↦
-      let P : Bool → Type 0 = λ b. Near p (remainder k (cond b p (bit_xor p (generator * 2 ^ k)))) × (remainder k (cond b p (bit_xor p (generator * 2 ^ k))) < 2 ^ 16)
+      let P : Bool → Type 0 =
+      λ b. Near p (remainder k (cond b p (bit_xor p (generator * 2 ^ k))))
+      × (remainder k (cond b p (bit_xor p (generator * 2 ^ k))) < 2 ^ 16)
       in subst P (sym (lt-ltb p (2 ^ (16 + k)) low)) (remainder_near k p low)
   | inr high ↦
       let next : ℕ = bit_xor p (generator * 2 ^ k)
@@ -81,10 +87,13 @@ product_lt : (q : List Bool) → product q generator < 2 ^ (16 + length q)
 unfolding product
 product_lt [] = omega arith
 product_lt (true ∷ q) =
-    let whole : 2 ^ (16 + suc (length q)) ≡ 2 ^ 17 * 2 ^ length q = let n : 16 + suc (length q) ≡ 17 + length q = omega arith in ap (λ n. 2 ^ n) n ∙ pow-add 2 17 (length q)
-    in xor_lt (16 + suc (length q)) (generator * 2 ^ length q) (product q generator) (omega (arith, whole, pow_pos (length q))) (omega (arith, whole, product_lt q, pow-add 2 16 (length q)))
+    let whole : 2 ^ (16 + suc (length q)) ≡ 2 ^ 17 * 2 ^ length q =
+    let n : 16 + suc (length q) ≡ 17 + length q = omega arith in ap (λ n. 2 ^ n) n ∙ pow-add 2 17 (length q)
+    in xor_lt (16 + suc (length q)) (generator * 2 ^ length q) (product q generator) (omega (arith, whole, pow_pos (length q)))
+    (omega (arith, whole, product_lt q, pow-add 2 16 (length q)))
 product_lt (false ∷ q) =
-    let whole : 2 ^ (16 + suc (length q)) ≡ 2 ^ 17 * 2 ^ length q = let n : 16 + suc (length q) ≡ 17 + length q = omega arith in ap (λ n. 2 ^ n) n ∙ pow-add 2 17 (length q)
+    let whole : 2 ^ (16 + suc (length q)) ≡ 2 ^ 17 * 2 ^ length q =
+    let n : 16 + suc (length q) ≡ 17 + length q = omega arith in ap (λ n. 2 ^ n) n ∙ pow-add 2 17 (length q)
     in omega (arith, whole, product_lt q, pow-add 2 16 (length q), xor_zero_l (product q generator))
 
 -- no multiple but 0 has a lower degree than the generator
@@ -95,7 +104,8 @@ product_low (true ∷ q) low =
     let k : ℕ = 16 + length q
     in let split : 2 ^ k ≡ 2 ^ 16 * 2 ^ length q = pow-add 2 16 (length q)
     in let rest : 0x3D65 * 2 ^ length q < 2 ^ k = omega (arith, split, pow_pos (length q))
-    in let top : generator * 2 ^ length q ≡ bit_xor (1 * 2 ^ k) (0x3D65 * 2 ^ length q) = omega (arith, split, xor_shifted 1 k (0x3D65 * 2 ^ length q) rest)
+    in let top : generator * 2 ^ length q ≡ bit_xor (1 * 2 ^ k) (0x3D65 * 2 ^ length q) =
+    omega (arith, split, xor_shifted 1 k (0x3D65 * 2 ^ length q) rest)
     in let all : product (true ∷ q) generator ≡ 1 * 2 ^ k + bit_xor (0x3D65 * 2 ^ length q) (product q generator) =
     ap (λ x. bit_xor x (product q generator)) top ∙ xor_assoc (1 * 2 ^ k) (0x3D65 * 2 ^ length q) (product q generator)
     ∙ xor_shifted 1 k (bit_xor (0x3D65 * 2 ^ length q) (product q generator)) (xor_lt k _ _ rest (product_lt q))
@@ -148,20 +158,24 @@ each_byte [] f = tt
 each_byte (b ∷ bytes) f = (f 0, each_byte bytes (λ k. f (suc k)))
 
 -- the remainder of a sum of two polynomials of which one has a low degree
-pub near_byte : (p r b t : ℕ) → HasRemainder (p * 2 ^ 16) r → b < 256 → t ≡ remainder 8 (bit_xor (r / 256) b * 2 ^ 16) → HasRemainder ((p * 256 + b) * 2 ^ 16) (bit_xor (r * 256 % 2 ^ 16) t)
+pub near_byte : (p r b t : ℕ) → HasRemainder (p * 2 ^ 16) r → b < 256 → t ≡ remainder 8 (bit_xor (r / 256) b * 2 ^ 16)
+    → HasRemainder ((p * 256 + b) * 2 ^ 16) (bit_xor (r * 256 % 2 ^ 16) t)
 near_byte p r b t is byte table =
     let hi : ℕ = r / 256
     in let lo : ℕ = r * 256 % 2 ^ 16
     in let high : hi < 256 = omega (arith, is.lower)
     in let index : bit_xor hi b < 2 ^ 8 = xor_lt 8 hi b (omega arith) (omega arith)
-    in let divided : Near (bit_xor hi b * 2 ^ 16) (remainder 8 (bit_xor hi b * 2 ^ 16)) × (remainder 8 (bit_xor hi b * 2 ^ 16) < 2 ^ 16) = remainder_near 8 (bit_xor hi b * 2 ^ 16) (omega arith)
+    in let divided : Near (bit_xor hi b * 2 ^ 16) (remainder 8 (bit_xor hi b * 2 ^ 16)) × (remainder 8 (bit_xor hi b * 2 ^ 16) < 2 ^ 16) =
+    remainder_near 8 (bit_xor hi b * 2 ^ 16) (omega arith)
     in let apart : (p * 256 + b) * 2 ^ 16 ≡ p * 2 ^ 24 + b * 2 ^ 16 = omega arith
     in let shifted : p * 2 ^ 24 ≡ p * 2 ^ 16 * 2 ^ 8 = omega arith
     in let spread : (p * 256 + b) * 2 ^ 16 ≡ bit_xor (p * 2 ^ 16 * 2 ^ 8) (b * 2 ^ 16) =
     apart ∙ sym (xor_shifted p 24 (b * 2 ^ 16) (omega arith)) ∙ ap (λ x. bit_xor x (b * 2 ^ 16)) shifted
-    in let parts : r * 2 ^ 8 ≡ bit_xor (hi * 2 ^ 16) lo = let cut : r * 2 ^ 8 ≡ hi * 2 ^ 16 + lo = omega (arith, is.lower) in cut ∙ sym (xor_shifted hi 16 lo (omega arith))
+    in let parts : r * 2 ^ 8 ≡ bit_xor (hi * 2 ^ 16) lo =
+    let cut : r * 2 ^ 8 ≡ hi * 2 ^ 16 + lo = omega (arith, is.lower) in cut ∙ sym (xor_shifted hi 16 lo (omega arith))
     in let gathered : bit_xor (r * 2 ^ 8) (b * 2 ^ 16) ≡ bit_xor (bit_xor hi b * 2 ^ 16) lo =
-    ap (λ x. bit_xor x (b * 2 ^ 16)) parts ∙ xor_assoc (hi * 2 ^ 16) lo (b * 2 ^ 16) ∙ ap (λ x. bit_xor (hi * 2 ^ 16) x) (xor_comm lo (b * 2 ^ 16))
+    ap (λ x. bit_xor x (b * 2 ^ 16)) parts ∙ xor_assoc (hi * 2 ^ 16) lo (b * 2 ^ 16)
+    ∙ ap (λ x. bit_xor (hi * 2 ^ 16) x) (xor_comm lo (b * 2 ^ 16))
     ∙ sym (xor_assoc (hi * 2 ^ 16) (b * 2 ^ 16) lo) ∙ ap (λ x. bit_xor x lo) (scaled hi b 16)
     in let before : Near (p * 2 ^ 16) r = record { multiple = is.multiple }
     in let same : Near (b * 2 ^ 16) (b * 2 ^ 16) = near_same _ _ refl
@@ -178,14 +192,18 @@ pub nothing_left : HasRemainder (polynomial [] * 2 ^ 16) 0
 nothing_left = record { multiple = none; lower = omega arith }
 
 -- where all bytes went through
-pub all_through : (bytes : List ℕ) (i r : ℕ) → length bytes ≤ i → HasRemainder (polynomial (take i bytes) * 2 ^ 16) r → IsCrc bytes (2 ^ 16 - 1 - r)
+pub all_through : (bytes : List ℕ) (i r : ℕ) → length bytes ≤ i → HasRemainder (polynomial (take i bytes) * 2 ^ 16) r
+    → IsCrc bytes (2 ^ 16 - 1 - r)
 all_through bytes i r end is =
     let P : List ℕ → Type 0 = λ x. HasRemainder (polynomial x * 2 ^ 16) r
     in record { left = r; division = subst P (take_all i bytes end) is; complement = omega (arith, is.lower) }
 
 -- one more byte
-pub one_more : (bytes : List ℕ) (i s : ℕ) → i < length bytes → HasRemainder ((polynomial (take i bytes) * 256 + get_or bytes i 0) * 2 ^ 16) s → HasRemainder (polynomial (take (i + 1) bytes) * 2 ^ 16) s
+pub one_more : (bytes : List ℕ) (i s : ℕ) → i < length bytes
+    → HasRemainder ((polynomial (take i bytes) * 256 + get_or bytes i 0) * 2 ^ 16) s
+    → HasRemainder (polynomial (take (i + 1) bytes) * 2 ^ 16) s
 one_more bytes i s more is =
     let P : ℕ → Type 0 = λ x. HasRemainder (x * 2 ^ 16) s
-    in let longer : take (i + 1) bytes ≡ take i bytes ++ get_or bytes i 0 ∷ [] = ap (λ n. take n bytes) (add-one i) ∙ take-suc bytes i 0 more
+    in let longer : take (i + 1) bytes ≡ take i bytes ++ get_or bytes i 0 ∷ [] =
+    ap (λ n. take n bytes) (add-one i) ∙ take-suc bytes i 0 more
     in subst P (sym (ap polynomial longer ∙ fold-append (λ p byte. p * 256 + byte) 0 (take i bytes) (get_or bytes i 0 ∷ []))) is

@@ -18,7 +18,8 @@ use Rattle.frame_formats.proofs.FirstFault.{fault_found_a, fault_only_a, fault_f
 use Rattle.frame_formats.proofs.RelationA.{found as found_a, only as only_a}
 use Rattle.frame_formats.proofs.RelationB.{found as found_b, only as only_b}
 
-pub decodes : (format : Format) (bytes old new : List ℕ) (r : Result (Unit {0}) FrameFault) → IsBytes bytes → Answers r (decoded format bytes) new → OnErr r (new ≡ old)
+pub decodes : (format : Format) (bytes old new : List ℕ) (r : Result (Unit {0}) FrameFault) → IsBytes bytes
+    → Answers r (decoded format bytes) new → OnErr r (new ≡ old)
     → Decodes format bytes old new r
 decodes formats.A bytes old new r all is kept = record {
   found = found_by (FrameA bytes) r (decoded_a bytes) new is (λ t. found_a bytes t all);
@@ -47,7 +48,8 @@ blocks_bytes blocks bytes all is = content_bytes blocks (bytes_same bytes _ (che
 sent_bytes : (l : ℕ) (sent bytes : List ℕ) → IsBytes bytes → OneBlock l sent bytes ⊎ TwoBlocks l sent bytes → IsBytes sent
 sent_bytes l sent bytes all (inl one) = bytes_same (sent ++ []) sent (append-nil sent) (blocks_bytes (sent ∷ []) bytes all one.frame)
 sent_bytes l sent bytes all (inr two) =
-    bytes_same (take 126 sent ++ (drop 126 sent ++ [])) sent (ap (λ (x : List ℕ). take 126 sent ++ x) (append-nil (drop 126 sent)) ∙ take-append-drop 126 sent)
+    bytes_same (take 126 sent ++ (drop 126 sent ++ [])) sent (ap (λ (x : List ℕ). take 126 sent ++ x) (append-nil (drop 126 sent))
+    ∙ take-append-drop 126 sent)
     (blocks_bytes (take 126 sent ∷ drop 126 sent ∷ []) bytes all two.frame)
 
 -- of a telegram, L is a byte where the others are
@@ -58,4 +60,5 @@ with_l (b ∷ t) l telegram all = (omega (arith, telegram.counted, telegram.most
 pub telegrams_are_bytes : TelegramsAreBytes
 telegrams_are_bytes formats.A bytes t all frame =
     bytes_same (concat (frame.first ∷ frame.others)) t (sym frame.content) (blocks_bytes (frame.first ∷ frame.others) bytes all frame.frame)
-telegrams_are_bytes formats.B bytes t all frame = with_l t frame.l frame.telegram (sent_bytes frame.l (frame.l ∷ drop 1 t) bytes all frame.blocks)
+telegrams_are_bytes formats.B bytes t all frame =
+    with_l t frame.l frame.telegram (sent_bytes frame.l (frame.l ∷ drop 1 t) bytes all frame.blocks)

@@ -39,7 +39,8 @@ pub fault_found_a : (bytes : List ℕ) (e : FrameFault) → IsBytes bytes → de
 unfolding decoded
 fault_found_a bytes e all is =
     let l : ℕ = get_or bytes 0 0
-    in chain_err (FaultA bytes e) (eqb (length bytes) 0) (ltb l 10) false (eqb (length bytes) (frame_len l)) faults.Empty (faults.Short l) faults.Empty (faults.Length (frame_len l) (length bytes)) (content_of 1 (pieces_a bytes)) e is
+    in chain_err (FaultA bytes e) (eqb (length bytes) 0) (ltb l 10) false (eqb (length bytes) (frame_len l)) faults.Empty (faults.Short l)
+    faults.Empty (faults.Length (frame_len l) (length bytes)) (content_of 1 (pieces_a bytes)) e is
     (λ empty same. fault_same_a bytes _ _ same (nil_from_length bytes (eqb-true _ _ empty)))
     (λ some short same. fault_same_a bytes _ _ same (begins bytes some, ltb-true _ _ short))
     (λ some long no same. cc)
@@ -54,19 +55,22 @@ pub fault_only_a : (bytes : List ℕ) (e : FrameFault) → IsBytes bytes → Fau
 unfolding decoded
 fault_only_a bytes faults.Empty all is =
     let k : ℕ = get_or bytes 0 0
-    in chain_first (eqb (length bytes) 0) (ltb k 10) false (eqb (length bytes) (frame_len k)) faults.Empty (faults.Short k) faults.Empty (faults.Length (frame_len k) (length bytes)) (content_of 1 (pieces_a bytes))
+    in chain_first (eqb (length bytes) 0) (ltb k 10) false (eqb (length bytes) (frame_len k)) faults.Empty (faults.Short k) faults.Empty
+    (faults.Length (frame_len k) (length bytes)) (content_of 1 (pieces_a bytes))
     (eq-eqb _ _ (ap length is))
 fault_only_a bytes (faults.Short l) all is =
     let k : ℕ = get_or bytes 0 0
     in let same : k ≡ l = first_is bytes l is.0
-    in chain_second (eqb (length bytes) 0) (ltb k 10) false (eqb (length bytes) (frame_len k)) faults.Empty (faults.Short k) faults.Empty (faults.Length (frame_len k) (length bytes)) (content_of 1 (pieces_a bytes))
+    in chain_second (eqb (length bytes) 0) (ltb k 10) false (eqb (length bytes) (frame_len k)) faults.Empty (faults.Short k) faults.Empty
+    (faults.Length (frame_len k) (length bytes)) (content_of 1 (pieces_a bytes))
     (some_begin bytes l is.0) (lt-ltb _ _ (omega (arith, is.1))) ∙ ap (λ x. Err (faults.Short x)) same
 fault_only_a bytes (faults.Gap l) all is = absurd is
 fault_only_a bytes (faults.Length want have) all is =
     let k : ℕ = get_or bytes 0 0
     in let same : k ≡ is.0 = first_is bytes is.0 is.1
     in let wanted : frame_len k ≡ want = ap frame_len same ∙ sym is.3
-    in chain_last (eqb (length bytes) 0) (ltb k 10) false (eqb (length bytes) (frame_len k)) faults.Empty (faults.Short k) faults.Empty (faults.Length (frame_len k) (length bytes)) (content_of 1 (pieces_a bytes))
+    in chain_last (eqb (length bytes) 0) (ltb k 10) false (eqb (length bytes) (frame_len k)) faults.Empty (faults.Short k) faults.Empty
+    (faults.Length (frame_len k) (length bytes)) (content_of 1 (pieces_a bytes))
     (some_begin bytes is.0 is.1) (le-ltb _ _ (omega (arith, is.2))) refl (ne_eqb _ _ (λ e. is.5 (is.4 ∙ e ∙ wanted)))
     ∙ ap (λ x. Err (faults.Length x (length bytes))) wanted ∙ ap (λ x. Err (faults.Length want x)) (sym is.4)
 fault_only_a bytes (faults.Crc n) all is =
@@ -74,7 +78,8 @@ fault_only_a bytes (faults.Crc n) all is =
     in let same : k ≡ is.0 = first_is bytes is.0 is.1
     in let least : 10 ≤ k = omega (arith, is.2)
     in let len : length bytes ≡ frame_len k = is.3 ∙ sym (ap frame_len same)
-    in chain_passed (eqb (length bytes) 0) (ltb k 10) false (eqb (length bytes) (frame_len k)) faults.Empty (faults.Short k) faults.Empty (faults.Length (frame_len k) (length bytes)) (content_of 1 (pieces_a bytes))
+    in chain_passed (eqb (length bytes) 0) (ltb k 10) false (eqb (length bytes) (frame_len k)) faults.Empty (faults.Short k) faults.Empty
+    (faults.Length (frame_len k) (length bytes)) (content_of 1 (pieces_a bytes))
     (some_begin bytes is.0 is.1) (le-ltb _ _ least) refl (eq-eqb _ _ len)
     ∙ first_wrong_again n (pieces_a bytes) (whole_a bytes k all least len) is.4
 
@@ -113,7 +118,13 @@ gap_again l (inl one) = either_again _ _ (inl (eq-eqb _ _ one))
 gap_again l (inr two) = either_again _ _ (inr (eq-eqb _ _ two))
 
 length_of : (l : ℕ) → ltb l 12 ≡ false → (eqb l 128 || eqb l 129) ≡ false → IsLengthB l
-length_of l long no_gap = let both = neither (eqb l 128) (eqb l 129) no_gap in record { least = ltb-false _ _ long; not_128 = eqb-false _ _ both.0; not_129 = eqb-false _ _ both.1 }
+length_of l long no_gap =
+    let both =
+    neither (eqb l 128) (eqb l 129) no_gap in record {
+      least = ltb-false _ _ long;
+      not_128 = eqb-false _ _ both.0;
+      not_129 = eqb-false _ _ both.1;
+    }
 
 no_gap_again : (l : ℕ) → IsLengthB l → (eqb l 128 || eqb l 129) ≡ false
 no_gap_again l is = neither_again _ _ (ne_eqb _ _ is.not_128) (ne_eqb _ _ is.not_129)
@@ -130,11 +141,13 @@ pub fault_found_b : (bytes : List ℕ) (e : FrameFault) → IsBytes bytes → de
 unfolding decoded
 fault_found_b bytes e all is =
     let l : ℕ = get_or bytes 0 0
-    in chain_err (FaultB bytes e) (eqb (length bytes) 0) (ltb l 12) (eqb l 128 || eqb l 129) (eqb (length bytes) (l + 1)) faults.Empty (faults.Short l) (faults.Gap l) (faults.Length (l + 1) (length bytes)) (telegram_b bytes) e is
+    in chain_err (FaultB bytes e) (eqb (length bytes) 0) (ltb l 12) (eqb l 128 || eqb l 129) (eqb (length bytes) (l + 1)) faults.Empty
+    (faults.Short l) (faults.Gap l) (faults.Length (l + 1) (length bytes)) (telegram_b bytes) e is
     (λ empty same. fault_same_b bytes _ _ same (nil_from_length bytes (eqb-true _ _ empty)))
     (λ some short same. fault_same_b bytes _ _ same (begins bytes some, ltb-true _ _ short))
     (λ some long gap same. fault_same_b bytes _ _ same (begins bytes some, gap_of l gap))
-    (λ some long no_gap other same. fault_same_b bytes _ _ same (l, begins bytes some, length_of l long no_gap, refl, refl, eqb-false _ _ other))
+    (λ some long no_gap other same. fault_same_b bytes _ _ same
+    (l, begins bytes some, length_of l long no_gap, refl, refl, eqb-false _ _ other))
     (λ some long no_gap whole err.
     let lengths : IsLengthB l = length_of l long no_gap
     in let len : length bytes ≡ l + 1 = eqb-true _ _ whole
@@ -145,19 +158,22 @@ pub fault_only_b : (bytes : List ℕ) (e : FrameFault) → IsBytes bytes → Fau
 unfolding decoded
 fault_only_b bytes faults.Empty all is =
     let k : ℕ = get_or bytes 0 0
-    in chain_first (eqb (length bytes) 0) (ltb k 12) (eqb k 128 || eqb k 129) (eqb (length bytes) (k + 1)) faults.Empty (faults.Short k) (faults.Gap k) (faults.Length (k + 1) (length bytes)) (telegram_b bytes)
+    in chain_first (eqb (length bytes) 0) (ltb k 12) (eqb k 128 || eqb k 129) (eqb (length bytes) (k + 1)) faults.Empty (faults.Short k)
+    (faults.Gap k) (faults.Length (k + 1) (length bytes)) (telegram_b bytes)
     (eq-eqb _ _ (ap length is))
 fault_only_b bytes (faults.Short l) all is =
     let k : ℕ = get_or bytes 0 0
     in let same : k ≡ l = first_is bytes l is.0
-    in chain_second (eqb (length bytes) 0) (ltb k 12) (eqb k 128 || eqb k 129) (eqb (length bytes) (k + 1)) faults.Empty (faults.Short k) (faults.Gap k) (faults.Length (k + 1) (length bytes)) (telegram_b bytes)
+    in chain_second (eqb (length bytes) 0) (ltb k 12) (eqb k 128 || eqb k 129) (eqb (length bytes) (k + 1)) faults.Empty (faults.Short k)
+    (faults.Gap k) (faults.Length (k + 1) (length bytes)) (telegram_b bytes)
     (some_begin bytes l is.0) (lt-ltb _ _ (omega (arith, is.1))) ∙ ap (λ x. Err (faults.Short x)) same
 fault_only_b bytes (faults.Gap l) all is =
     let k : ℕ = get_or bytes 0 0
     in let same : k ≡ l = first_is bytes l is.0
     in let gap : (eqb k 128 || eqb k 129) ≡ true = ap (λ x. eqb x 128 || eqb x 129) same ∙ gap_again l is.1
     in let high : 12 ≤ k = gap_high k gap
-    in chain_third (eqb (length bytes) 0) (ltb k 12) (eqb k 128 || eqb k 129) (eqb (length bytes) (k + 1)) faults.Empty (faults.Short k) (faults.Gap k) (faults.Length (k + 1) (length bytes)) (telegram_b bytes)
+    in chain_third (eqb (length bytes) 0) (ltb k 12) (eqb k 128 || eqb k 129) (eqb (length bytes) (k + 1)) faults.Empty (faults.Short k)
+    (faults.Gap k) (faults.Length (k + 1) (length bytes)) (telegram_b bytes)
     (some_begin bytes l is.0) (le-ltb _ _ high) gap ∙ ap (λ x. Err (faults.Gap x)) same
   where
     gap_high : (k : ℕ) → (eqb k 128 || eqb k 129) ≡ true → 12 ≤ k
@@ -170,7 +186,8 @@ fault_only_b bytes (faults.Length want have) all is =
     in let same : k ≡ is.0 = first_is bytes is.0 is.1
     in let wanted : k + 1 ≡ want = ap (λ x. x + 1) same ∙ sym is.3
     in let no_gap : (eqb k 128 || eqb k 129) ≡ false = ap (λ x. eqb x 128 || eqb x 129) same ∙ no_gap_again is.0 is.2
-    in chain_last (eqb (length bytes) 0) (ltb k 12) (eqb k 128 || eqb k 129) (eqb (length bytes) (k + 1)) faults.Empty (faults.Short k) (faults.Gap k) (faults.Length (k + 1) (length bytes)) (telegram_b bytes)
+    in chain_last (eqb (length bytes) 0) (ltb k 12) (eqb k 128 || eqb k 129) (eqb (length bytes) (k + 1)) faults.Empty (faults.Short k)
+    (faults.Gap k) (faults.Length (k + 1) (length bytes)) (telegram_b bytes)
     (some_begin bytes is.0 is.1) (le-ltb _ _ (omega (arith, is.2.least))) no_gap (ne_eqb _ _ (λ e. is.5 (is.4 ∙ e ∙ wanted)))
     ∙ ap (λ x. Err (faults.Length x (length bytes))) wanted ∙ ap (λ x. Err (faults.Length want x)) (sym is.4)
 fault_only_b bytes (faults.Crc n) all is =
@@ -178,6 +195,7 @@ fault_only_b bytes (faults.Crc n) all is =
     in let same : k ≡ is.0 = first_is bytes is.0 is.1
     in let len : length bytes ≡ k + 1 = is.3 ∙ sym (ap (λ x. x + 1) same)
     in let no_gap : (eqb k 128 || eqb k 129) ≡ false = ap (λ x. eqb x 128 || eqb x 129) same ∙ no_gap_again is.0 is.2
-    in chain_passed (eqb (length bytes) 0) (ltb k 12) (eqb k 128 || eqb k 129) (eqb (length bytes) (k + 1)) faults.Empty (faults.Short k) (faults.Gap k) (faults.Length (k + 1) (length bytes)) (telegram_b bytes)
+    in chain_passed (eqb (length bytes) 0) (ltb k 12) (eqb k 128 || eqb k 129) (eqb (length bytes) (k + 1)) faults.Empty (faults.Short k)
+    (faults.Gap k) (faults.Length (k + 1) (length bytes)) (telegram_b bytes)
     (some_begin bytes is.0 is.1) (le-ltb _ _ (omega (arith, is.2.least))) no_gap (eq-eqb _ _ len)
     ∙ counted_fault bytes (faults.Crc n) (first_wrong_again n (pieces_b bytes) (whole_b bytes is.0 all is.2 is.3) is.4)

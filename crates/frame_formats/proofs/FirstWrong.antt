@@ -24,11 +24,16 @@ checked_found : (n : ℕ) (piece block : List ℕ) → IsPiece piece → block_o
 checked_found n piece block is read =
     let found = block_found n piece block is.bytes is.room read
     in let whole : piece ≡ flat_map with_crc (block ∷ []) = found.0 ∙ sym (append-nil (with_crc block))
-    in record { block = block; checked = checked_same (block ∷ []) _ _ whole (is_checked (block ∷ []) (content_bytes (block ∷ []) (bytes_same _ _ whole is.bytes))) }
+    in record {
+      block = block;
+      checked = checked_same (block ∷ []) _ _ whole
+          (is_checked (block ∷ []) (content_bytes (block ∷ []) (bytes_same _ _ whole is.bytes)));
+    }
 
 -- what is checked is read
 checked_again : (n : ℕ) (piece : List ℕ) → IsBytes piece → (is : IsChecked piece) → block_of n piece ≡ Ok is.block
-checked_again n piece all is = ap (block_of n) (checked_is (is.block ∷ []) piece all is.checked ∙ append-nil (with_crc is.block)) ∙ block_again n is.block
+checked_again n piece all is =
+    ap (block_of n) (checked_is (is.block ∷ []) piece all is.checked ∙ append-nil (with_crc is.block)) ∙ block_again n is.block
 
 -- a block is read, or is at fault by its number
 guard_err : (b : Bool) (x : List ℕ) (e f : FrameFault) → cond b (Ok x) (Err e) ≡ Err f → e ≡ f
@@ -49,7 +54,8 @@ pub record IsAt (n : ℕ) (pieces : List (List ℕ)) (e : FrameFault) : Type 0 w
   pub fault : e ≡ faults.Crc (n + before)
   pub wrong : IsFirstWrong (before + 1) pieces
 
-here : (n : ℕ) (piece : List ℕ) (pieces : List (List ℕ)) (e : FrameFault) → IsBytes piece → block_of n piece ≡ Err e → IsAt n (piece ∷ pieces) e
+here : (n : ℕ) (piece : List ℕ) (pieces : List (List ℕ)) (e : FrameFault) → IsBytes piece → block_of n piece ≡ Err e
+    → IsAt n (piece ∷ pieces) e
 here n piece pieces e all is = record {
   before = 0;
   fault = sym (block_err n piece e is) ∙ ap faults.Crc (sym (add-zero n));
@@ -64,7 +70,8 @@ here n piece pieces e all is = record {
   };
 }
 
-further : (n : ℕ) (piece : List ℕ) (pieces : List (List ℕ)) (e : FrameFault) → IsChecked piece → IsAt (n + 1) pieces e → IsAt n (piece ∷ pieces) e
+further : (n : ℕ) (piece : List ℕ) (pieces : List (List ℕ)) (e : FrameFault) → IsChecked piece → IsAt (n + 1) pieces e
+    → IsAt n (piece ∷ pieces) e
 further n piece pieces e checked at = record {
   before = suc at.before;
   fault = at.fault ∙ ap faults.Crc (let same : n + 1 + at.before ≡ n + suc at.before = omega arith in same);
@@ -79,10 +86,12 @@ further n piece pieces e checked at = record {
   };
 }
 
-by_first : (n : ℕ) (piece : List ℕ) (pieces : List (List ℕ)) (e : FrameFault) (r : Result (List ℕ) FrameFault) → IsPiece piece → block_of n piece ≡ r → content_of n (piece ∷ pieces) ≡ Err e
+by_first : (n : ℕ) (piece : List ℕ) (pieces : List (List ℕ)) (e : FrameFault) (r : Result (List ℕ) FrameFault) → IsPiece piece
+    → block_of n piece ≡ r → content_of n (piece ∷ pieces) ≡ Err e
     → (content_of (n + 1) pieces ≡ Err e → IsAt (n + 1) pieces e) → IsAt n (piece ∷ pieces) e
 by_first n piece pieces e (Ok block) is read err rest =
-    further n piece pieces e (checked_found n piece block is read) (rest (with_front_err block _ e (sym (first_read n piece block pieces read) ∙ err)))
+    further n piece pieces e (checked_found n piece block is read)
+    (rest (with_front_err block _ e (sym (first_read n piece block pieces read) ∙ err)))
 by_first n piece pieces e (Err f) is read err rest =
     let both : Err f ≡ Err e = sym (first_fault n piece pieces f read) ∙ err
     in let same : f ≡ e = cc
@@ -91,27 +100,34 @@ by_first n piece pieces e (Err f) is read err rest =
 -- the fault is that of the first wrong piece
 pub wrong_found : (n : ℕ) (pieces : List (List ℕ)) (e : FrameFault) → ArePieces pieces → content_of n pieces ≡ Err e → IsAt n pieces e
 wrong_found n [] e are is = let both : Ok [] ≡ Err e = sym (nothing_read n) ∙ is in cc
-wrong_found n (piece ∷ pieces) e are is = by_first n piece pieces e (block_of n piece) are.0 refl is (λ err. wrong_found (n + 1) pieces e are.1 err)
+wrong_found n (piece ∷ pieces) e are is =
+    by_first n piece pieces e (block_of n piece) are.0 refl is (λ err. wrong_found (n + 1) pieces e are.1 err)
 
-wrong_read : (n : ℕ) (piece : List ℕ) (r : Result (List ℕ) FrameFault) → IsPiece piece → ¬ IsChecked piece → block_of n piece ≡ r → block_of n piece ≡ Err (faults.Crc n)
+wrong_read : (n : ℕ) (piece : List ℕ) (r : Result (List ℕ) FrameFault) → IsPiece piece → ¬ IsChecked piece → block_of n piece ≡ r
+    → block_of n piece ≡ Err (faults.Crc n)
 wrong_read n piece (Ok block) is differs read = absurd (differs (checked_found n piece block is read))
 wrong_read n piece (Err e) is differs read = read ∙ ap Err (sym (block_err n piece e read))
 
 -- the first wrong piece is the fault
-pub wrong_again : (before : List (List ℕ)) (n : ℕ) (wrong : List ℕ) (behind : List (List ℕ)) → ArePieces (before ++ wrong ∷ behind) → AllChecked before → ¬ IsChecked wrong
+pub wrong_again : (before : List (List ℕ)) (n : ℕ) (wrong : List ℕ) (behind : List (List ℕ)) → ArePieces (before ++ wrong ∷ behind)
+    → AllChecked before → ¬ IsChecked wrong
     → content_of n (before ++ wrong ∷ behind) ≡ Err (faults.Crc (n + length before))
-wrong_again [] n wrong behind are right differs = first_fault n wrong behind (faults.Crc n) (wrong_read n wrong (block_of n wrong) are.0 differs refl) ∙ ap (λ k. Err (faults.Crc k)) (sym (add-zero n))
+wrong_again [] n wrong behind are right differs =
+    first_fault n wrong behind (faults.Crc n) (wrong_read n wrong (block_of n wrong) are.0 differs refl)
+    ∙ ap (λ k. Err (faults.Crc k)) (sym (add-zero n))
 wrong_again (piece ∷ before) n wrong behind are right differs =
     let same : n + 1 + length before ≡ n + suc (length before) = omega arith
     in first_read n piece right.0.block (before ++ wrong ∷ behind) (checked_again n piece are.0.bytes right.0)
     ∙ ap (with_front right.0.block) (wrong_again before (n + 1) wrong behind are.1 right.1 differs)
     ∙ ap (λ k. Err (faults.Crc k)) same
 
-pub first_wrong_again : (n : ℕ) (pieces : List (List ℕ)) → ArePieces pieces → IsFirstWrong n pieces → content_of 1 pieces ≡ Err (faults.Crc n)
+pub first_wrong_again : (n : ℕ) (pieces : List (List ℕ)) → ArePieces pieces → IsFirstWrong n pieces
+    → content_of 1 pieces ≡ Err (faults.Crc n)
 first_wrong_again n pieces are is =
     let same : 1 + length is.before ≡ n = omega (arith, is.place)
     in let P : List (List ℕ) → Type 0 = λ x. ArePieces x
-    in ap (content_of 1) is.all ∙ wrong_again is.before 1 is.wrong is.behind (subst P is.all are) is.right is.differs ∙ ap (λ k. Err (faults.Crc k)) same
+    in ap (content_of 1) is.all ∙ wrong_again is.before 1 is.wrong is.behind (subst P is.all are) is.right is.differs
+    ∙ ap (λ k. Err (faults.Crc k)) same
 
 -- blocks of 16 bytes, each with its CRC, are pieces
 cut_pieces : (k left : ℕ) (bytes : List ℕ) → IsBytes bytes → k ≡ (left + 15) / 16 → length bytes ≡ left + 2 * k → ArePieces (cut k 18 bytes)
@@ -125,5 +141,6 @@ cut_pieces (suc k) left bytes all is whole = (
 pub are_pieces_a : (bytes : List ℕ) (n : ℕ) → IsBytes bytes → length bytes ≡ 12 + n + 2 * ((n + 15) / 16) → ArePieces (pieces_a bytes)
 are_pieces_a bytes n all whole = (
   record { bytes = bytes-take 12 bytes all; room = omega (arith, length-take 12 bytes) },
-  cut_pieces ((length bytes - 12 + 17) / 18) n (drop 12 bytes) (bytes-drop 12 bytes all) (omega arith) (omega (arith, length-drop 12 bytes)),
+  cut_pieces ((length bytes - 12 + 17) / 18) n (drop 12 bytes) (bytes-drop 12 bytes all) (omega arith)
+      (omega (arith, length-drop 12 bytes)),
 )

@@ -16,7 +16,9 @@ doubled_sum a b = scaled a b 1
 
 -- the middle two are exchanged
 pub middle : (a b c d : ℕ) → bit_xor (bit_xor a b) (bit_xor c d) ≡ bit_xor (bit_xor a c) (bit_xor b d)
-middle a b c d = xor_assoc a b (bit_xor c d) ∙ ap (bit_xor a) (sym (xor_assoc b c d) ∙ ap (λ x. bit_xor x d) (xor_comm b c) ∙ xor_assoc c b d) ∙ sym (xor_assoc a c (bit_xor b d))
+middle a b c d =
+    xor_assoc a b (bit_xor c d) ∙ ap (bit_xor a) (sym (xor_assoc b c d) ∙ ap (λ x. bit_xor x d) (xor_comm b c) ∙ xor_assoc c b d)
+    ∙ sym (xor_assoc a c (bit_xor b d))
 
 -- a place with no coefficient in front
 product_zeros : (k : ℕ) (q : List Bool) (g : ℕ) → product (replicate k false ++ q) g ≡ product q g
@@ -67,12 +69,14 @@ product_added (x ∷ xs) [] g same = cc
 product_added (true ∷ xs) (true ∷ ys) g same =
     let lens : length xs ≡ length ys = cc
     in product_added xs ys g lens ∙ sym (xor_zero_l (bit_xor (product xs g) (product ys g)))
-    ∙ ap (λ x. bit_xor x (bit_xor (product xs g) (product ys g))) (sym (xor_self (g * 2 ^ length xs)) ∙ ap (λ n. bit_xor (g * 2 ^ length xs) (g * 2 ^ n)) lens)
+    ∙ ap (λ x. bit_xor x (bit_xor (product xs g) (product ys g))) (sym (xor_self (g * 2 ^ length xs))
+    ∙ ap (λ n. bit_xor (g * 2 ^ length xs) (g * 2 ^ n)) lens)
     ∙ middle (g * 2 ^ length xs) (g * 2 ^ length ys) (product xs g) (product ys g)
 product_added (true ∷ xs) (false ∷ ys) g same =
     let lens : length xs ≡ length ys = cc
     in ap (λ n. bit_xor (g * 2 ^ n) (product (added xs ys) g)) (length-added xs ys lens ∙ sym lens)
-    ∙ ap (λ x. bit_xor (g * 2 ^ length xs) x) (product_added xs ys g lens) ∙ sym (xor_assoc (g * 2 ^ length xs) (product xs g) (product ys g))
+    ∙ ap (λ x. bit_xor (g * 2 ^ length xs) x) (product_added xs ys g lens)
+    ∙ sym (xor_assoc (g * 2 ^ length xs) (product xs g) (product ys g))
     ∙ ap (λ x. bit_xor (bit_xor (g * 2 ^ length xs) (product xs g)) x) (sym (xor_zero_l (product ys g)))
 product_added (false ∷ xs) (y ∷ ys) g same =
     let lens : length xs ≡ length ys = cc
@@ -91,18 +95,31 @@ unfolding product
 itself = record { quotient = true ∷ []; whole = refl }
 
 pub twice : (p : ℕ) → IsMultiple p → IsMultiple (p * 2)
-twice p m = record { quotient = m.quotient ++ false ∷ []; whole = sym (product_more m.quotient false generator ∙ xor_zero_r (product m.quotient generator * 2) ∙ ap (λ x. x * 2) (sym m.whole)) }
+twice p m =
+    record {
+      quotient = m.quotient ++ false ∷ [];
+      whole = sym (product_more m.quotient false generator
+          ∙ xor_zero_r (product m.quotient generator * 2) ∙ ap (λ x. x * 2) (sym m.whole));
+    }
 
 -- the quotients, one of them with zeros in front
 pub sum : (p r : ℕ) → IsMultiple p → IsMultiple r → IsMultiple (bit_xor p r)
 sum p r m n =
     let q : List Bool = replicate (length n.quotient - length m.quotient) false ++ m.quotient
     in let s : List Bool = replicate (length m.quotient - length n.quotient) false ++ n.quotient
-    in let same : length q ≡ length s = omega (arith, length-append (replicate (length n.quotient - length m.quotient) false) m.quotient, length-append (replicate (length m.quotient - length n.quotient) false) n.quotient, length-replicate (length n.quotient - length m.quotient) false, length-replicate (length m.quotient - length n.quotient) false)
+    in let same : length q ≡ length s =
+    omega (
+      arith,
+      length-append (replicate (length n.quotient - length m.quotient) false) m.quotient,
+      length-append (replicate (length m.quotient - length n.quotient) false) n.quotient,
+      length-replicate (length n.quotient - length m.quotient) false,
+      length-replicate (length m.quotient - length n.quotient) false,
+    )
     in record {
       quotient = added q s;
       whole =
           ap (λ x. bit_xor x r) (m.whole ∙ sym (product_zeros (length n.quotient - length m.quotient) m.quotient generator))
-          ∙ ap (λ x. bit_xor (product q generator) x) (n.whole ∙ sym (product_zeros (length m.quotient - length n.quotient) n.quotient generator))
+          ∙ ap (λ x. bit_xor (product q generator) x) (n.whole
+          ∙ sym (product_zeros (length m.quotient - length n.quotient) n.quotient generator))
           ∙ sym (product_added q s generator same);
     }

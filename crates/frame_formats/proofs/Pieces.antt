@@ -19,12 +19,15 @@ with_front_is front (Ok x) = refl
 with_front_is front (Err e) = refl
 
 -- the first piece is read
-pub first_read : (n : ℕ) (piece block : List ℕ) (pieces : List (List ℕ)) → block_of n piece ≡ Ok block → content_of n (piece ∷ pieces) ≡ with_front block (content_of (n + 1) pieces)
+pub first_read : (n : ℕ) (piece block : List ℕ) (pieces : List (List ℕ)) → block_of n piece ≡ Ok block
+    → content_of n (piece ∷ pieces) ≡ with_front block (content_of (n + 1) pieces)
 unfolding content_of
-first_read n piece block pieces is = ap (λ r. r >>= λ b. (content_of (n + 1) pieces) >>= λ others. Ok (b ++ others)) is ∙ with_front_is block (content_of (n + 1) pieces)
+first_read n piece block pieces is =
+    ap (λ r. r >>= λ b. (content_of (n + 1) pieces) >>= λ others. Ok (b ++ others)) is ∙ with_front_is block (content_of (n + 1) pieces)
 
 -- the first piece is at fault
-pub first_fault : (n : ℕ) (piece : List ℕ) (pieces : List (List ℕ)) (e : FrameFault) → block_of n piece ≡ Err e → content_of n (piece ∷ pieces) ≡ Err e
+pub first_fault : (n : ℕ) (piece : List ℕ) (pieces : List (List ℕ)) (e : FrameFault) → block_of n piece ≡ Err e
+    → content_of n (piece ∷ pieces) ≡ Err e
 unfolding content_of
 first_fault n piece pieces e is = ap (λ r. r >>= λ b. (content_of (n + 1) pieces) >>= λ others. Ok (b ++ others)) is
 

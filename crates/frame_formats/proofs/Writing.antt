@@ -19,7 +19,8 @@ pub record Written (at : ℕ) (bytes old : List ℕ) (end : ℕ) (rest out : Lis
   pub front : take end out ++ others_with_crc rest ≡ take at old ++ others_with_crc bytes
   pub behind : drop end out ≡ drop end old
 
-pub one_more : (out out' rest block after : List ℕ) (end end' size : ℕ) → size ≡ min (length rest) 16 → 0 < length rest → block ≡ take size rest → after ≡ drop size rest → take end' out' ≡ take end out ++ with_crc block
+pub one_more : (out out' rest block after : List ℕ) (end end' size : ℕ) → size ≡ min (length rest) 16 → 0 < length rest
+    → block ≡ take size rest → after ≡ drop size rest → take end' out' ≡ take end out ++ with_crc block
     → take end' out' ++ others_with_crc after ≡ take end out ++ others_with_crc rest
 unfolding cut
 one_more out out' rest block after end end' size is some front back put =
@@ -36,12 +37,17 @@ all_written out [] want end none is = sym (append-nil (take end out)) ∙ is
 all_written out (b ∷ rest) want end none is = absurd (omega arith)
 
 -- the blocks that a list is cut into
-cut_blocks : (k : ℕ) (rest : List ℕ) → k ≡ (length rest + 15) / 16 → 0 < length rest → AreSixteens (cut k 16 rest) × (rest ≡ concat (cut k 16 rest))
+cut_blocks : (k : ℕ) (rest : List ℕ) → k ≡ (length rest + 15) / 16 → 0 < length rest → AreSixteens (cut k 16 rest)
+    × (rest ≡ concat (cut k 16 rest))
 unfolding cut
 cut_blocks zero rest is some = absurd (omega arith)
 cut_blocks (suc zero) rest is some =
     let short : length rest ≤ 16 = omega arith
-    in ((omega (arith, length-take 16 rest), omega (arith, length-take 16 rest)), sym (take_all 16 rest short) ∙ sym (append-nil (take 16 rest)))
+    in (
+      (omega (arith, length-take 16 rest), omega (arith, length-take 16 rest)),
+      sym (take_all 16 rest short)
+          ∙ sym (append-nil (take 16 rest)),
+    )
 cut_blocks (suc (suc k)) rest is some =
     let more = cut_blocks (suc k) (drop 16 rest) (omega (arith, length-drop 16 rest)) (omega (arith, length-drop 16 rest))
     in ((omega (arith, length-take 16 rest), more.0), sym (take-append-drop 16 rest) ∙ ap (λ x. take 16 rest ++ x) more.1)
@@ -53,7 +59,8 @@ is_frame t is all =
     let first : List ℕ = take 10 t
     in let rest : List ℕ = drop 10 t
     in let others : List (List ℕ) = cut ((length t - 10 + 15) / 16) 16 rest
-    in let blocks : AreSixteens others × (rest ≡ concat others) = cut_blocks ((length t - 10 + 15) / 16) rest (omega (arith, length-drop 10 t)) (omega (arith, length-drop 10 t, is.least))
+    in let blocks : AreSixteens others × (rest ≡ concat others) =
+    cut_blocks ((length t - 10 + 15) / 16) rest (omega (arith, length-drop 10 t)) (omega (arith, length-drop 10 t, is.least))
     in let content : t ≡ first ++ concat others = sym (take-append-drop 10 t) ∙ ap (λ x. first ++ x) blocks.1
     in record {
       telegram = is;
@@ -70,7 +77,8 @@ pub frame_is : (t first rest : List ℕ) → first ≡ take 10 t → rest ≡ dr
 unfolding frame_a
 frame_is t first rest front back =
     let count : (length rest + 15) / 16 ≡ (length t - 10 + 15) / 16 = omega (arith, ap length back, length-drop 10 t)
-    in ap (λ x. with_crc x ++ others_with_crc rest) front ∙ ap (λ k. with_crc (take 10 t) ++ flat_map with_crc (cut k 16 rest)) count ∙ ap (λ x. with_crc (take 10 t) ++ flat_map with_crc (cut ((length t - 10 + 15) / 16) 16 x)) back
+    in ap (λ x. with_crc x ++ others_with_crc rest) front ∙ ap (λ k. with_crc (take 10 t) ++ flat_map with_crc (cut k 16 rest)) count
+    ∙ ap (λ x. with_crc (take 10 t) ++ flat_map with_crc (cut ((length t - 10 + 15) / 16) 16 x)) back
 
 pub some_left : (n : ℕ) → eqb n 0 ≡ false → 0 < n
 some_left n is = elim (cases_lt 0 n) [

@@ -36,7 +36,8 @@ abbrev pub FaultA : List ℕ → FrameFault → Type 0
 FaultA bytes faults.Empty = bytes ≡ []
 FaultA bytes (faults.Short l) = BeginsWith bytes l × (l < 10)
 FaultA bytes (faults.Gap l) = ⊥
-FaultA bytes (faults.Length want have) = (l : ℕ) × BeginsWith bytes l × (10 ≤ l) × (want ≡ frame_len l) × (have ≡ length bytes) × (have ≢ want)
+FaultA bytes (faults.Length want have) =
+    (l : ℕ) × BeginsWith bytes l × (10 ≤ l) × (want ≡ frame_len l) × (have ≡ length bytes) × (have ≢ want)
 FaultA bytes (faults.Crc n) = (l : ℕ) × BeginsWith bytes l × (10 ≤ l) × (length bytes ≡ frame_len l) × IsFirstWrong n (pieces_a bytes)
 
 -- L of format B that a length can have: it leaves out 128 and 129

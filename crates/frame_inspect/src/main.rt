@@ -11,7 +11,7 @@ ghost use Rattle.program_words.specs.OwnTexts.{asks_for_text, IsTold};
 ghost use Rattle.frame_inspect.specs.Exit.{IsRunExit};
 
 use frame_inspect_main::{InspectStatus, inspect_run, workers};
-use line_reader::Lines;
+use line_reader::{LINE_MAX, TextReader};
 use outer_io::{Sink, Source, StdSink, StdSource};
 use program_words::{NoWords, Numbered, command_words, own_text, tell};
 use std::fs::{File, Files};
@@ -55,17 +55,18 @@ fn end(rt: &impl Eprint, status: u8) -> ExitCode
 fn show<R: Threads + Sync + Eprint + AllocGlobal, S: Source, K: Sink>(
     rt: &R,
     command: &[String],
-    frames: &mut Lines<S>,
+    frames: &mut TextReader<S>,
     out: &mut K,
 ) -> ExitCode
     requires words { IsSome (workers_of (map string_bytes command.now)) }
-    requires fresh { (frames.old.line ≡ 0) × (frames.old.done ≡ false) }
+    requires fresh { (frames.old.reader.line ≡ 0) × (frames.old.reader.done ≡ false) }
+    requires longest { frames.old.longest ≡ 1024 }
     requires empty { IsTrue K.tells → K.written out.old ≡ [] }
     ensures run { IsRunExit (exit_status result) }
 
     // After status 0 the output is the text of all lines.
     ensures done { exit_status result ≡ 0 → IsTrue S.tells → IsTrue K.tells →
-        K.written out.new ≡ inspected (all_lines (S.taken frames.old.source ++ S.left frames.old.source)) }
+        K.written out.new ≡ inspected (all_lines (S.taken frames.old.reader.source ++ S.left frames.old.reader.source)) }
 {
     let status = inspect_run(rt, rt.alloc(), command, frames, out);
     end(rt, status.code())
@@ -91,7 +92,7 @@ fn perform<R: Threads + Sync + Print + Eprint + Files<File = File> + AllocGlobal
     let Ok(file) = File::open(rt, name.as_str()) else {
         return end(rt, 11);
     };
-    let mut frames = Lines::new(StdSource::file(file));
+    let mut frames = TextReader::new(StdSource::file(file), LINE_MAX);
     show(rt, command, &mut frames, &mut out)
 }
 

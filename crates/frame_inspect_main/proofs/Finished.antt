@@ -1,6 +1,6 @@
 -- A run that shows the lines of a file.
-use Rattle.std.proofs.Common.{◌≡◌, ◌⊎◌, ◌↔◌, ◌++◌, ℕ, List, [], Bool, true, false, Option, Some, None, inl, inr, ⊎_elim, refl, sym, ap, subst, ◌∙◌, IsTrue}
-use Rattle.std.specs.Prelude.{map, IsSome}
+use Rattle.std.proofs.Common.{◌≡◌, ◌⊎◌, ◌↔◌, ◌++◌, ℕ, List, Bool, true, Option, Some, inl, ⊎_elim, refl, sym, ap, subst, ◌∙◌, IsTrue}
+use Rattle.std.specs.Prelude.{map}
 use Rattle.std.specs.List.{concat}
 use Rattle.std.proofs.lemmas.List.{append-nil}
 use Rattle.outer_io.specs.Shown.{Change, SourceShown, SinkShown, ReadFailed, WriteFailed, LosesNothing, HasText}
@@ -12,7 +12,7 @@ use Rattle.frame_inspect_main.specs.declared.status.InspectStatus.TheVariants as
 use Rattle.frame_inspect_main.specs.Items.{item_of}
 use Rattle.frame_inspect_main.specs.Layered.{layered_text}
 use Rattle.frame_inspect_main.specs.Looks.{shown_from}
-use Rattle.frame_inspect_main.specs.Run.{Run, Headline, IsRun, IsCausedBy, IsFaultless, IsDone, inspected}
+use Rattle.frame_inspect_main.specs.Run.{Run, IsRun, IsCausedBy, IsFaultless, IsDone, inspected}
 use Rattle.frame_inspect_main.specs.Statuses.{shows_lines, EndsBy, IsEnd, unwritten}
 
 -- what is shown of the items of these lines is their text

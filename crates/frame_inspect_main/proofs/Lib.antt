@@ -1,5 +1,7 @@
 pub mod EvenRuns
 pub mod Finished
 pub mod FramesShown
+pub mod ItemsSay
+pub mod Rooms
 pub mod Runs
 pub mod Takings

@@ -10,6 +10,9 @@ use Rattle.frame_formats.specs.declared.format.Format.{Format}
 use Rattle.frame_formats.specs.declared.format.Format.TheVariants as formats
 use Rattle.frame_formats.specs.declared.fault.FrameFault.{FrameFault}
 use Rattle.frame_formats.specs.declared.fault.FrameFault.TheVariants as frame
+use Rattle.line_reader.specs.declared.line.Line.{Line}
+use Rattle.line_reader.specs.declared.line.Line.TheVariants as lines
+use Rattle.line_reader.specs.declared.line.BadLine.{BadLine}
 use Rattle.ell_layer.specs.declared.access.Access.{Access}
 use Rattle.ell_layer.specs.declared.access.Access.TheVariants as access
 use Rattle.ell_layer.specs.declared.extension.Ell.{Ell}
@@ -24,7 +27,7 @@ use Rattle.paper.specs.Pieces.{optional_text, labelled, labelled_two, labelled_b
 use Rattle.layer_text.specs.Letters.{letters_text}
 use Rattle.layer_text.specs.Faults.{layer_fault_text}
 use Rattle.frame_inspect_main.specs.declared.item.Item.{Item}
-use Rattle.frame_inspect_main.specs.declared.item.Item.TheVariants as items
+use Rattle.frame_inspect_main.specs.Items.{said_by}
 
 -- ---- the layers of a telegram
 
@@ -97,13 +100,16 @@ abbrev pub frame_text : Format → Result (List ℕ) FrameFault → List ℕ
 frame_text format (Ok t) = telegram_text format t
 frame_text format (Err fault) = frame_fault_text fault
 
--- ---- items
+-- ---- lines
 
-abbrev pub item_text : Item → List ℕ
-item_text (items.Frame format bytes) = frame_text format (decoded format bytes)
-item_text items.Other = codes " other"
-item_text items.Bad = codes " bad"
+abbrev pub line_text : Line → List ℕ
+line_text (lines.Frame format at bytes) = frame_text format (decoded format bytes)
+line_text other = codes " other"
+
+abbrev pub said_text : Result Line BadLine → List ℕ
+said_text (Ok line) = line_text line
+said_text (Err bad) = codes " bad"
 
 -- the number of an item, what it says, and a newline
 unfoldable pub layered_text : ℕ → Item → List ℕ
-layered_text number next = decimal number ++ item_text next ++ codes "\n"
+layered_text number next = decimal number ++ said_text (said_by next) ++ codes "\n"

@@ -2,10 +2,11 @@
 ghost use Rattle.std.specs.Prelude.{◌≡◌, ◌+◌, ◌*◌, ◌^◌, ◌<◌, ◌≤◌, length, IfOk};
 ghost use Rattle.std.specs.Thread.{IsSync};
 ghost use Rattle.frame_inspect_main.specs.Looks.{shown_from};
-ghost use Rattle.frame_inspect_main.specs.Runs.{first_len};
+ghost use Rattle.frame_inspect_main.specs.Runs.{last_len};
 
 use crate::item::Item;
 use crate::look::Look;
+use crate::room::Room;
 use crate::shown::Shown;
 use outer_io::Memory;
 use std::alloc::Global;
@@ -28,24 +29,25 @@ fn look_at_each<L: Look>(
     ensures { IfOk result (λ all. all.items ≡ shown_from (L.meaning look.now) number items.now) }
 {
     let mut all = Vec::with_capacity(alloc, items.len())?;
+    let mut room = Room::new(alloc)?;
     let mut next = number;
     for item in items {
-        all.push(look.look(alloc, next, item)?)?;
+        all.push(look.look(&mut room, next, item)?)?;
         next += 1;
     }
     Ok(all)
 }
 
-// How many items the first of so many workers has.
-fn len_of_first(count: usize, workers: u32) -> usize
+// How many items the last of so many workers has.
+fn len_of_last(count: usize, workers: u32) -> usize
     requires { 1 ≤ workers }
-    ensures len { result ≡ first_len count workers }
+    ensures len { result ≡ last_len count workers }
     ensures within { result ≤ count }
 {
-    count.div_ceil(workers as usize)
+    count / workers as usize
 }
 
-// Looks at the items of one worker in a thread of its own, and at those of the others likewise.
+// Looks at the items of the last worker in a thread of its own, and at those of the others likewise.
 #[tactic(auto, using(crate::proofs::Runs::runs_joined))]
 fn look_in_threads<R: Threads + Sync, L: Look>(
     rt: &R,
@@ -62,22 +64,22 @@ fn look_in_threads<R: Threads + Sync, L: Look>(
     if workers == 1 {
         return look_at_each(alloc, look, number, items);
     }
-    let (run, rest) = items.split_at(len_of_first(items.len(), workers));
-    let next = number + run.len() as u32;
-    let (first, others) = join(
+    let (front, run) = items.split_at(items.len() - len_of_last(items.len(), workers));
+    let next = number + front.len() as u32;
+    let (last, others) = join(
         rt,
         || -> Result<Vec<Shown>, Memory>
-            requires { number + length run.now < 2 ^ 32 }
-            ensures { IfOk result (λ all. all.items ≡ shown_from (L.meaning look.entry.now) number run.entry.now) }
-        { look_at_each(alloc, look, number, run) },
+            requires { next + length run.now < 2 ^ 32 }
+            ensures { IfOk result (λ all. all.items ≡ shown_from (L.meaning look.entry.now) next run.entry.now) }
+        { look_at_each(alloc, look, next, run) },
         || -> Result<Vec<Shown>, Memory>
-            requires { IsSync R.row × (2 ≤ workers) × (next + length rest.now < 2 ^ 32) }
-            ensures { IfOk result (λ all. all.items ≡ shown_from (L.meaning look.entry.now) next rest.entry.now) }
-        { look_in_threads(rt, alloc, look, next, rest, workers - 1) },
+            requires { IsSync R.row × (2 ≤ workers) × (number + length front.now < 2 ^ 32) }
+            ensures { IfOk result (λ all. all.items ≡ shown_from (L.meaning look.entry.now) number front.entry.now) }
+        { look_in_threads(rt, alloc, look, number, front, workers - 1) },
     );
-    let mut all = first?;
-    let mut others = others?;
-    all.append(&mut others)?;
+    let mut all = others?;
+    let mut last = last?;
+    all.append(&mut last)?;
     Ok(all)
 }
 

@@ -1,33 +1,32 @@
 //! What is looked at.
-use frame_formats::Format;
-use line_reader::Line;
+use line_reader::{BadLine, Line, read_line};
 use outer_io::Memory;
 use std::alloc::{AllocError, Global};
 use std::marker::Model;
 
-/// The bytes that a line gives for a frame, kept by their length.
+/// The bytes of a line, without its end.
 #[derive(Drop)]
-pub struct HeardBytes {
+pub struct LineText {
     bytes: Vec<u8>,
 }
 
-impl Model for HeardBytes {
+impl Model for LineText {
     ghost use Rattle.std.specs.Prelude.{ℕ, List};
 
     ghost Value = { List ℕ };
 
-    ghost view = { λ h. h.bytes.items };
+    ghost view = { λ t. t.bytes.items };
 }
 
-impl HeardBytes {
+impl LineText {
     ghost use Rattle.std.specs.Prelude.{◌≡◌, IfOk};
 
     /// A copy of these bytes.
-    pub fn copied(alloc: Global, bytes: &[u8]) -> Result<HeardBytes, AllocError>
-        ensures { IfOk result (λ heard. heard ≡ bytes.now) }
+    pub fn copied(alloc: Global, bytes: &[u8]) -> Result<LineText, AllocError>
+        ensures { IfOk result (λ text. text ≡ bytes.now) }
     {
         let bytes = Vec::from_slice(alloc, bytes)?;
-        Ok(HeardBytes { bytes })
+        Ok(LineText { bytes })
     }
 
     /// The bytes.
@@ -38,36 +37,33 @@ impl HeardBytes {
     }
 }
 
-/// A line of a file of frames, as far as it is shown.
+/// A line of a file of frames, as it was read: what it says is found by whoever looks at it.
 #[derive(Drop)]
 pub enum Item {
-    /// A frame, heard in this format (EN 13757-4).
-    Frame {
-        /// The format.
-        format: Format,
-        /// Its bytes, which may be no frame at all.
-        bytes: HeardBytes,
-    },
-    /// A line of another word.
-    Other,
-    /// A line that says nothing.
-    Bad,
+    /// A line of at most 1,024 bytes.
+    Line(LineText),
+    /// A longer line.
+    TooLong,
 }
 
 impl Item {
     ghost use Rattle.std.specs.Prelude.{◌≡◌, IfOk};
-    ghost use Rattle.frame_inspect_main.specs.Items.{item_by_line};
+    ghost use Rattle.frame_inspect_main.specs.Items.{said_by};
 
-    /// What is shown of a line, if there is memory for a frame's bytes.
-    pub fn of_line(alloc: Global, line: &Line) -> Result<Item, Memory>
-        ensures { IfOk result (λ item. item ≡ item_by_line line.now) }
+    /// A line of these bytes, if there is memory for them.
+    pub fn of_text(alloc: Global, text: &[u8]) -> Result<Item, Memory>
+        ensures { IfOk result (λ item. item ≡ Item.Line text.now) }
     {
-        match line {
-            Line::Frame { format, bytes, .. } => Ok(Item::Frame {
-                format: *format,
-                bytes: HeardBytes::copied(alloc, bytes.bytes())?,
-            }),
-            _ => Ok(Item::Other),
+        Ok(Item::Line(LineText::copied(alloc, text)?))
+    }
+
+    /// What it says, or its first fault.
+    pub fn said(&self) -> Result<Line, BadLine>
+        ensures { result ≡ said_by self.now }
+    {
+        match self {
+            Item::Line(text) => read_line(text.bytes()),
+            Item::TooLong => Err(BadLine::TooLong),
         }
     }
 }

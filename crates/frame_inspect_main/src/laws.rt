@@ -1,8 +1,14 @@
 //! What holds of the definitions. These functions do nothing: each one's contract is a law.
-ghost use Rattle.frame_inspect_main.specs.Laws.{FramesAreShown};
+ghost use Rattle.frame_inspect_main.specs.Laws.{ItemsSayTheirLines, FramesAreShown};
 ghost use Rattle.frame_inspect_main.specs.Runs.{RunsAreEven};
 
-/// A frame of a telegram which has some layers is shown by the telegram's length, its link and these layers.
+/// An item says what its line says.
+#[tactic(auto, using(crate::proofs::ItemsSay::items_say_their_lines))]
+pub fn items_say_their_lines()
+    ensures { ItemsSayTheirLines }
+{}
+
+/// A line with a frame of a telegram which has some layers is shown by the telegram's length, its link and these layers.
 #[tactic(auto, using(crate::proofs::FramesShown::frames_are_shown))]
 pub fn frames_are_shown()
     ensures { FramesAreShown }

@@ -4,23 +4,25 @@ ghost use Rattle.paper.specs.Puts.{Puts};
 ghost use Rattle.paper.specs.Pieces.{text_if};
 ghost use Rattle.frame_formats.specs.Decoding.{decoded};
 ghost use Rattle.message_check.specs.Layers.{layers_of};
-ghost use Rattle.frame_inspect_main.specs.Layered.{access_word, extension_text, more_word, octet_text, fragmentation_text, long_text, transport_text, content_text, layers_text, format_word, link_text, telegram_text, frame_fault_text, frame_text, item_text, layered_text};
+ghost use Rattle.frame_inspect_main.specs.Layered.{access_word, extension_text, more_word, octet_text, fragmentation_text, long_text, transport_text, content_text, layers_text, format_word, link_text, telegram_text, frame_fault_text, frame_text, line_text, said_text, layered_text};
+ghost use Rattle.frame_inspect_main.specs.Items.{said_by};
 
 use crate::item::Item;
 use crate::look::Look;
+use crate::room::Room;
 use crate::shown::Shown;
 use afl_layer::Afl;
 use ell_layer::{Access, Ell};
 use frame_formats::{Format, FrameFault, Telegram, decode};
 use layer_text::{put_layer_fault, put_letters};
+use line_reader::Line;
 use message_check::{LayerFault, Layers, layers, link_address};
 use meter_address::Address;
 use outer_io::Memory;
 use paper::{
     Paper, Printed, put_hex, put_labelled, put_labelled_bytes, put_labelled_two, put_number,
-    put_optional, put_text, written,
+    put_optional, put_text,
 };
-use std::alloc::Global;
 use tpl_headers::Tpl;
 
 fn word_of_access(access: Access) -> &'static str
@@ -199,13 +201,21 @@ fn put_frame<P: Paper>(paper: &mut P, format: Format, bytes: &[u8])
     }
 }
 
-fn put_item<P: Paper>(paper: &mut P, next: &Item)
-    ensures { Puts P.takes paper.old (item_text next.now) paper.new }
+fn put_line<P: Paper>(paper: &mut P, line: &Line)
+    ensures { Puts P.takes paper.old (line_text line.now) paper.new }
 {
-    match next {
-        Item::Frame { format, bytes } => put_frame(paper, *format, bytes.bytes()),
-        Item::Other => put_text(paper, " other"),
-        Item::Bad => put_text(paper, " bad"),
+    match line {
+        Line::Frame { format, bytes, .. } => put_frame(paper, *format, bytes.bytes()),
+        _ => put_text(paper, " other"),
+    }
+}
+
+fn put_item<P: Paper>(paper: &mut P, next: &Item)
+    ensures { Puts P.takes paper.old (said_text (said_by next.now)) paper.new }
+{
+    match &next.said() {
+        Ok(line) => put_line(paper, line),
+        Err(_) => put_text(paper, " bad"),
     }
 }
 
@@ -238,8 +248,7 @@ impl Look for Layered {
 
     ghost meaning = { λ look number next. layered_text number next };
 
-    fn look(&self, alloc: Global, number: u32, next: &Item) -> Result<Shown, Memory> {
-        let bytes = written(alloc, &Numbered { number, item: next })?;
-        Ok(Shown::new(bytes))
+    fn look(&self, room: &mut Room, number: u32, next: &Item) -> Result<Shown, Memory> {
+        Ok(room.shown(&Numbered { number, item: next })?)
     }
 }

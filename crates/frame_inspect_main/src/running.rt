@@ -15,7 +15,7 @@ use crate::item::Item;
 use crate::layered::Layered;
 use crate::shown::Shown;
 use crate::status::InspectStatus;
-use line_reader::{LINES_MAX, Lines, Next};
+use line_reader::{LINES_MAX, NextText, TextReader};
 use outer_io::{Memory, Sink, Source};
 use paper::{Paper, Printed, write};
 use plain_text::read_number;
@@ -41,25 +41,27 @@ pub fn workers(words: &[String]) -> Option<u32>
 // The next line as it is shown, if there is memory for it, or the status by which the lines end.
 fn next_item<S: Source>(
     alloc: Global,
-    frames: &mut Lines<S>,
+    frames: &mut TextReader<S>,
 ) -> Result<Result<Item, Memory>, InspectStatus>
-    requires { frames.old.done ≡ false }
-    ensures item { IfOk result (λ answer. IfOk answer (λ item. IsTrue S.tells → GivesItem item (given S.taken frames.old) (given S.taken frames.new))) }
-    ensures goes_on { OnOk result ((frames.new.line ≡ frames.old.line + 1) × (frames.new.done ≡ false)) }
-    ensures few { frames.new.line ≤ LINES_MAX }
+    requires goes_on { frames.old.reader.done ≡ false }
+    requires longest { frames.old.longest ≡ 1024 }
+    ensures longest { frames.new.longest ≡ 1024 }
+    ensures item { IfOk result (λ answer. IfOk answer (λ item. IsTrue S.tells → GivesItem item (given S.taken frames.old.reader) (given S.taken frames.new.reader))) }
+    ensures goes_on { OnOk result ((frames.new.reader.line ≡ frames.old.reader.line + 1) × (frames.new.reader.done ≡ false)) }
+    ensures few { frames.new.reader.line ≤ LINES_MAX }
     ensures ended { IfErr result (λ status. IsTrue S.tells →
-        (given S.taken frames.new ≡ given S.taken frames.old) × EndsBy status (S.taken frames.new.source) (S.left frames.new.source) (given S.taken frames.new)) }
+        (given S.taken frames.new.reader ≡ given S.taken frames.old.reader) × EndsBy status (S.taken frames.new.reader.source) (S.left frames.new.reader.source) (given S.taken frames.new.reader)) }
     ensures end { IfErr result IsEnd }
-    ensures cause { IfErr result (λ status. status ≡ InspectStatus.Read → Rose (S.faults frames.old.source) (S.faults frames.new.source)) }
-    ensures later { S.faults frames.old.source ≤ S.faults frames.new.source }
+    ensures cause { IfErr result (λ status. status ≡ InspectStatus.Read → Rose (S.faults frames.old.reader.source) (S.faults frames.new.reader.source)) }
+    ensures later { S.faults frames.old.reader.source ≤ S.faults frames.new.reader.source }
     ensures bytes { IsTrue S.tells →
-        S.taken frames.new.source ++ S.left frames.new.source ≡ S.taken frames.old.source ++ S.left frames.old.source }
+        S.taken frames.new.reader.source ++ S.left frames.new.reader.source ≡ S.taken frames.old.reader.source ++ S.left frames.old.reader.source }
 {
     match frames.next() {
-        Ok(Next::Line(line)) => Ok(Item::of_line(alloc, &line)),
-        Ok(Next::Bad(_)) => Ok(Ok(Item::Bad)),
-        Ok(Next::End) => Err(InspectStatus::Done),
-        Ok(Next::Cut) => Err(InspectStatus::Cut),
+        Ok(NextText::Line) => Ok(Item::of_text(alloc, frames.text())),
+        Ok(NextText::TooLong) => Ok(Ok(Item::TooLong)),
+        Ok(NextText::End) => Err(InspectStatus::Done),
+        Ok(NextText::Cut) => Err(InspectStatus::Cut),
         Err(_) => Err(InspectStatus::Read),
     }
 }
@@ -72,16 +74,17 @@ struct Gathered {
 }
 
 // Takes all lines of a file.
-fn gather<S: Source>(alloc: Global, frames: &mut Lines<S>) -> Result<Gathered, Memory>
-    requires fresh { frames.old.line ≡ 0 }
-    requires goes_on { frames.old.done ≡ false }
-    ensures items { IfOk result (λ all. IsTrue S.tells → all.items.items ≡ map item_of (given S.taken frames.new)) }
+fn gather<S: Source>(alloc: Global, frames: &mut TextReader<S>) -> Result<Gathered, Memory>
+    requires fresh { frames.old.reader.line ≡ 0 }
+    requires goes_on { frames.old.reader.done ≡ false }
+    requires longest { frames.old.longest ≡ 1024 }
+    ensures items { IfOk result (λ all. IsTrue S.tells → all.items.items ≡ map item_of (given S.taken frames.new.reader)) }
     ensures few { IfOk result (λ all. vec_len all.items ≤ LINES_MAX) }
-    ensures ended { IfOk result (λ all. IsTrue S.tells → EndsBy all.status (S.taken frames.new.source) (S.left frames.new.source) (given S.taken frames.new)) }
+    ensures ended { IfOk result (λ all. IsTrue S.tells → EndsBy all.status (S.taken frames.new.reader.source) (S.left frames.new.reader.source) (given S.taken frames.new.reader)) }
     ensures end { IfOk result (λ all. IsEnd all.status) }
-    ensures cause { IfOk result (λ all. all.status ≡ InspectStatus.Read → Rose (S.faults frames.old.source) (S.faults frames.new.source)) }
+    ensures cause { IfOk result (λ all. all.status ≡ InspectStatus.Read → Rose (S.faults frames.old.reader.source) (S.faults frames.new.reader.source)) }
     ensures bytes { IsTrue S.tells →
-        S.taken frames.new.source ++ S.left frames.new.source ≡ S.taken frames.old.source ++ S.left frames.old.source }
+        S.taken frames.new.reader.source ++ S.left frames.new.reader.source ≡ S.taken frames.old.reader.source ++ S.left frames.old.reader.source }
 {
     let mut items = Vec::new(alloc);
     'lines: loop {
@@ -135,7 +138,7 @@ fn finish<K: Sink>(out: &mut K, shown: &[Shown], status: InspectStatus) -> Inspe
 }
 
 /// Shows every layer of the frames of a file, a line for each of its lines, with as many threads as the second of the words
-/// `FRAMES WORKERS` says. No line of the file may have been given before. It returns.
+/// `FRAMES WORKERS` says. The reader is one that was just made over the file, for lines of at most `LINE_MAX` bytes. It returns.
 ///
 /// Status 5 comes only where the source's count of faults rose, 7 only where the output's did, 8 exactly where the bytes taken
 /// pass the limits of `line_reader`. The lines taken are shown after 5 and 8 too.
@@ -143,10 +146,11 @@ pub fn inspect_run<R: Threads + Sync, S: Source, K: Sink>(
     rt: &R,
     alloc: Global,
     words: &[String],
-    frames: &mut Lines<S>,
+    frames: &mut TextReader<S>,
     out: &mut K,
 ) -> InspectStatus
-    requires fresh { (frames.old.line ≡ 0) × (frames.old.done ≡ false) }
+    requires fresh { (frames.old.reader.line ≡ 0) × (frames.old.reader.done ≡ false) }
+    requires longest { frames.old.longest ≡ 1024 }
     requires empty { IsTrue K.tells → K.written out.old ≡ [] }
 
     // What the output is, and each status with its cause.
@@ -154,8 +158,8 @@ pub fn inspect_run<R: Threads + Sync, S: Source, K: Sink>(
       workers = workers_of (map string_bytes words.now);
       source_tells = S.tells;
       sink_tells = K.tells;
-      frames = source_change S.Source frames.old.source frames.new.source;
-      lines = given S.taken frames.new;
+      frames = source_change S.Source frames.old.reader.source frames.new.reader.source;
+      lines = given S.taken frames.new.reader;
       output = sink_change K.Sink out.old out.new;
       status = result;
     }) }

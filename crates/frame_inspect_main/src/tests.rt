@@ -2,7 +2,8 @@
 ghost use Rattle.std.specs.Prelude.{◌≡◌, IfOk, vec_len};
 
 use super::*;
-use line_reader::Lines;
+use bytes::Bytes;
+use line_reader::{LINE_MAX, TextReader};
 use outer_io::{Memory, MemorySink, MemorySource};
 use std::alloc::{AllocError, Global};
 use std::sync::atomic::{AtomicU64, Ordering};
@@ -20,30 +21,30 @@ impl Look for Gate {
 
     ghost meaning = { λ look number item. [] };
 
-    fn look(&self, alloc: Global, number: u32, _next: &Item) -> Result<Shown, Memory> {
+    fn look(&self, _room: &mut Room, number: u32, _next: &Item) -> Result<Shown, Memory> {
         if number == 2 {
             self.second_begun.store(1, Ordering::SeqCst);
-            return Ok(Shown::new(Vec::new(alloc)));
+            return Ok(Shown::new(Bytes::new()));
         }
         for _ in 0..self.turns {
             if self.second_begun.load(Ordering::SeqCst) == 1 {
-                return Ok(Shown::new(Vec::new(alloc)));
+                return Ok(Shown::new(Bytes::new()));
             }
         }
         Err(Memory)
     }
 }
 
-// So many bad lines.
-fn bad_lines(alloc: Global, count: usize) -> Result<Vec<Item>, AllocError>
+// So many lines that are too long.
+fn long_lines(alloc: Global, count: usize) -> Result<Vec<Item>, AllocError>
     ensures { IfOk result (λ items. vec_len items ≡ count) }
 {
-    (0..count).map(|_| Item::Bad).collect(alloc)
+    (0..count).map(|_| Item::TooLong).collect(alloc)
 }
 
 #[test]
 fn two_workers_look_at_once(rt: HostRuntime) -> Result<(), Fail> {
-    let items = bad_lines(rt.alloc(), 2)?;
+    let items = long_lines(rt.alloc(), 2)?;
     let gate = Gate {
         turns: 1_000_000_000,
         second_begun: AtomicU64::new(0),
@@ -55,7 +56,7 @@ fn two_workers_look_at_once(rt: HostRuntime) -> Result<(), Fail> {
 
 #[test]
 fn one_worker_looks_at_one_after_another(rt: HostRuntime) -> Result<(), Fail> {
-    let items = bad_lines(rt.alloc(), 2)?;
+    let items = long_lines(rt.alloc(), 2)?;
     let gate = Gate {
         turns: 1_000,
         second_begun: AtomicU64::new(0),
@@ -87,7 +88,7 @@ fn a_run_shows_alike_with_any_number_of_workers(rt: HostRuntime) -> Result<(), F
     let alloc = rt.alloc();
     for workers in ["1", "2", "16"] {
         let bytes = FRAMES.as_bytes().to_vec(alloc)?;
-        let mut frames = Lines::new(MemorySource::steady(alloc, bytes));
+        let mut frames = TextReader::new(MemorySource::steady(alloc, bytes), LINE_MAX);
         let mut out = MemorySink::steady(alloc);
         let words = vec![in alloc;
             String::from_str(alloc, "frames")?,
@@ -112,7 +113,7 @@ fn a_run_ends_by_its_faults(rt: HostRuntime) -> Result<(), Fail> {
         ("2", 2, 1, 5, 0),
     ] {
         let bytes = FRAMES.as_bytes().to_vec(alloc)?;
-        let mut frames = Lines::new(MemorySource::new(bytes, vec![in alloc; read]?));
+        let mut frames = TextReader::new(MemorySource::new(bytes, vec![in alloc; read]?), LINE_MAX);
         let mut out = MemorySink::new(alloc, vec![in alloc; write]?);
         let words = vec![in alloc;
             String::from_str(alloc, "frames")?,

@@ -18,7 +18,8 @@ use Rattle.input_check_main.specs.Faulty.{numbered, looked_at, faulty_from, faul
 use Rattle.input_check_main.specs.Finding.{Holds, IsFound, AreAllFound}
 
 -- one more line
-faulty_more : (n : ℕ) (texts : List (List ℕ)) (text : List ℕ) (line : ℕ) → line ≡ n + length texts → faulty_from n (texts ++ text ∷ []) ≡ faulty_from n texts ++ numbered line (looked_at (line_of text))
+faulty_more : (n : ℕ) (texts : List (List ℕ)) (text : List ℕ) (line : ℕ) → line ≡ n + length texts
+    → faulty_from n (texts ++ text ∷ []) ≡ faulty_from n texts ++ numbered line (looked_at (line_of text))
 faulty_more n [] text line is = let same : n ≡ line = omega arith in rw same (append-nil (numbered line (looked_at (line_of text))))
 faulty_more n (other ∷ texts) text line is =
     ap (λ others. numbered n (looked_at (line_of other)) ++ others) (faulty_more (n + 1) texts text line (omega arith))
@@ -40,13 +41,15 @@ found_more before after text said n line old new more says next holds found = re
   numbered = ap length more ∙ length-append before (text ∷ []) ∙ ap (λ k. k + 1) found.numbered ∙ sym next;
   holds =
       let is : line ≡ 1 + length before = next ∙ ap (λ k. k + 1) (sym found.numbered) ∙ omega arith in
-      let faults = ap faulty_lines more ∙ faulty_more 1 before text line is ∙ ap (λ s. faulty_lines before ++ numbered line (looked_at s)) says in
+      let faults =
+      ap faulty_lines more ∙ faulty_more 1 before text line is ∙ ap (λ s. faulty_lines before ++ numbered line (looked_at s)) says in
       let addresses = ap heard_in more ∙ heard_more before text ∙ ap (λ s. heard_in before ++ heard_of (looked_at s)) says in
       rw (faults, addresses) (holds (faulty_lines before) (heard_in before) found.holds);
 }
 
 -- all lines were looked at
-pub all_found : (taken left : List ℕ) (lines last : List (List ℕ)) (n : ℕ) (found : FaultyLines) → lines ≡ last → IsAtEnd taken left lines → IsFound last n found → AreAllFound taken left found
+pub all_found : (taken left : List ℕ) (lines last : List (List ℕ)) (n : ℕ) (found : FaultyLines) → lines ≡ last → IsAtEnd taken left lines
+    → IsFound last n found → AreAllFound taken left found
 all_found taken left lines last n found same at_end is = record {
   nothing_left = at_end.nothing_left;
   within = at_end.within;
@@ -55,7 +58,8 @@ all_found taken left lines last n found same at_end is = record {
 
 -- ---- the lines that are held
 
-pub held_room : (faults : List FaultyLine) (addresses : List Address) (x : FaultyLine) (old new : FaultyLines) → length old.first.items < 100
+pub held_room : (faults : List FaultyLine) (addresses : List Address) (x : FaultyLine) (old new : FaultyLines)
+    → length old.first.items < 100
     → new.first.items ≡ old.first.items ++ x ∷ [] → new.count ≡ old.count + 1 → new.heard.items ≡ old.heard.items
     → Holds faults addresses old → Holds (faults ++ x ∷ []) (addresses ++ []) new
 held_room faults addresses x old new room more counted others holds =
@@ -68,7 +72,8 @@ held_room faults addresses x old new room more counted others holds =
       heard = others ∙ holds.heard ∙ sym (append-nil addresses);
     }
 
-pub held_full : (faults : List FaultyLine) (addresses : List Address) (x : FaultyLine) (old new : FaultyLines) → 100 ≤ length old.first.items
+pub held_full : (faults : List FaultyLine) (addresses : List Address) (x : FaultyLine) (old new : FaultyLines)
+    → 100 ≤ length old.first.items
     → new.first.items ≡ old.first.items → new.count ≡ old.count + 1 → new.heard.items ≡ old.heard.items
     → Holds faults addresses old → Holds (faults ++ x ∷ []) (addresses ++ []) new
 held_full faults addresses x old new full same counted others holds =
@@ -85,7 +90,8 @@ pub on_ok : {T E A B : Type 0} (r : Result T E) → OnOk r A → (A → B) → O
 on_ok (Ok x) a f = f a
 on_ok (Err e) a f = tt
 
-pub gives_said : (n : Next) (line : Line) (old new : List (List ℕ)) → n ≡ next.Line line → Gives (Ok n) old new → GivesLine (Ok line) old new
+pub gives_said : (n : Next) (line : Line) (old new : List (List ℕ)) → n ≡ next.Line line → Gives (Ok n) old new
+    → GivesLine (Ok line) old new
 gives_said n line old new is gives = subst (λ m. Gives (Ok m) old new) is gives
 
 pub gives_bad : (n : Next) (bad : BadLine) (old new : List (List ℕ)) → n ≡ next.Bad bad → Gives (Ok n) old new → GivesLine (Err bad) old new

@@ -12,14 +12,18 @@ has_byte byte bytes = list_any (λ b. b == byte) bytes
 
 abbrev pub mark_words : List ℕ → List ℕ
 mark_words bytes =
-    if has_mark bytes then codes "roster: a byte order mark (ef bb bf) stands in front, which is no part of a roster: save it without one\n" else []
+    if has_mark bytes
+    then codes "roster: a byte order mark (ef bb bf) stands in front, which is no part of a roster: save it without one\n"
+    else []
 
 abbrev pub tab_words : List ℕ → List ℕ
 tab_words bytes = if has_byte 9 bytes then codes "roster: there are tabs in it: write one space in the place of each\n" else []
 
 abbrev pub return_words : List ℕ → List ℕ
 return_words bytes =
-    if has_byte 13 bytes then codes "roster: there are carriage returns in it: one in front of a newline is right, any other is not\n" else []
+    if has_byte 13 bytes
+    then codes "roster: there are carriage returns in it: one in front of a newline is right, any other is not\n"
+    else []
 
 -- what may be behind the faults of a roster with these bytes
 unfoldable pub bytes_words : List ℕ → List ℕ

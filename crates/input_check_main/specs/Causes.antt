@@ -16,7 +16,8 @@ roster_words causes.TooLong = codes "the roster has more than 1,048,576 bytes: s
 roster_words causes.Head = codes "the first line is neither `wmbus-roster 2` nor `wmbus-roster 1`: write the former in its place"
 roster_words causes.Own = codes "this isn't `own` and an address: write the line `own ADDRESS` behind the first one"
 roster_words causes.Kind = codes "the line doesn't begin with `meter`: a comment begins with #"
-roster_words causes.Fields = codes "the line hasn't the fields of the head's version, eight in version 2, with just one space between two of them"
+roster_words causes.Fields =
+    codes "the line hasn't the fields of the head's version, eight in version 2, with just one space between two of them"
 roster_words causes.Address = codes "the address isn't sixteen hexadecimal digits: meter_name makes it of what the label says"
 roster_words causes.Mode = codes "the security mode is neither 5 nor 7"
 roster_words causes.Key = codes "the key isn't 32 hexadecimal digits"
@@ -31,7 +32,8 @@ roster_words causes.Missing = codes "the head or the line `own ADDRESS` is missi
 -- why a receiver's line says nothing
 abbrev pub bad_words : BadLine → List ℕ
 bad_words bads.TooLong = codes "the line has more than 1,024 bytes"
-bad_words bads.Word = codes "the line begins with none of A, B, T, Q, X and K and a space: a tab is no space, a byte order mark in front of the first line is none either, and a receiver's own output has to be turned into such lines first"
+bad_words bads.Word =
+    codes "the line begins with none of A, B, T, Q, X and K and a space: a tab is no space, a byte order mark in front of the first line is none either, and a receiver's own output has to be turned into such lines first"
 bad_words bads.Fields = codes "the line hasn't as many fields as its first one asks for, with just one space between two of them"
 bad_words bads.Number = codes "the moment or the id is no plain decimal number of its range"
 bad_words bads.Address = codes "the address isn't sixteen hexadecimal digits: meter_name makes it of what the label says"
@@ -42,10 +44,17 @@ bad_words bads.Key = codes "the key isn't 32 hexadecimal digits"
 -- why bytes are no frame
 abbrev pub frame_words : FrameFault → List ℕ
 frame_words frames.Empty = codes "the frame has no bytes"
-frame_words (frames.Short l) = between (codes "the first byte of the frame, L, is ") l (codes ", below the least of its format: the bytes are no frame, or their beginning is missing")
-frame_words (frames.Gap l) = between (codes "the first byte of the frame, L, is ") l (codes ", which format B leaves out: the bytes are no frame, or one of format A")
-frame_words (frames.Length want have) = between_two (codes "the frame has to have ") want (codes " bytes by its L, and has ") have (codes ": it is cut short, of the other format, or without its CRCs")
-frame_words (frames.Crc block) = between (codes "the CRC of block ") block (codes " differs: the frame was heard wrongly, or has no CRCs any more")
+frame_words (frames.Short l) =
+    between (codes "the first byte of the frame, L, is ") l
+    (codes ", below the least of its format: the bytes are no frame, or their beginning is missing")
+frame_words (frames.Gap l) =
+    between (codes "the first byte of the frame, L, is ") l
+    (codes ", which format B leaves out: the bytes are no frame, or one of format A")
+frame_words (frames.Length want have) =
+    between_two (codes "the frame has to have ") want (codes " bytes by its L, and has ") have
+    (codes ": it is cut short, of the other format, or without its CRCs")
+frame_words (frames.Crc block) =
+    between (codes "the CRC of block ") block (codes " differs: the frame was heard wrongly, or has no CRCs any more")
 
 -- what is wrong with a receiver's line
 abbrev pub line_words : LineFault → List ℕ

@@ -29,12 +29,15 @@ roster_text faults bytes = roster_lines faults ++ bytes_words_if faults bytes
 
 -- a faulty line of this receiver
 unfoldable pub receiver_line : ℕ → FaultyLine → List ℕ
-receiver_line receiver f = labelled (codes "receiver ") receiver ++ labelled (codes " line ") f.line ++ codes ": " ++ line_words f.fault ++ codes "\n"
+receiver_line receiver f =
+    labelled (codes "receiver ") receiver ++ labelled (codes " line ") f.line ++ codes ": " ++ line_words f.fault ++ codes "\n"
 
 -- where there are more than 100, how many there are
 abbrev pub count_line : ℕ → ℕ → List ℕ
 count_line receiver count =
-    if nat_lt 100 count then between_two (codes "receiver ") receiver (codes ": ") count (codes " lines are faulty, of which the first 100 are shown\n") else []
+    if nat_lt 100 count
+    then between_two (codes "receiver ") receiver (codes ": ") count (codes " lines are faulty, of which the first 100 are shown\n")
+    else []
 
 -- the first 100 of these faulty lines of a receiver, of which there are so many
 unfoldable pub shown_lines : ℕ → List FaultyLine → ℕ → List ℕ

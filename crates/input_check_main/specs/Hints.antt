@@ -35,7 +35,8 @@ name_text_if (Some label) = name_text label
 
 unfoldable pub note_text : Note → List ℕ
 note_text note =
-    codes "meter " ++ encode_lower (bytes_of note.address) ++ name_text_if (label_of note.address) ++ codes ": " ++ hint_text note.hint ++ codes "\n"
+    codes "meter " ++ encode_lower (bytes_of note.address) ++ name_text_if (label_of note.address) ++ codes ": " ++ hint_text note.hint
+    ++ codes "\n"
 
 abbrev pub notes_text : List Note → List ℕ
 notes_text notes = flat_map note_text notes

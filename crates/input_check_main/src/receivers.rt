@@ -57,7 +57,8 @@ fn check_next<S: Source>(lines: &mut Lines<S>, found: &mut FaultyLines) -> Resul
         IsFound (given S.taken lines.new) lines.new.line found.new) }
     ensures same { result ≡ Err End.Done → found.new ≡ found.old }
     ensures done { result ≡ Err End.Done → IsTrue S.tells →
-        (given S.taken lines.new ≡ given S.taken lines.old) × IsAtEnd (S.taken lines.new.source) (S.left lines.new.source) (given S.taken lines.new) }
+        (given S.taken lines.new ≡ given S.taken lines.old)
+        × IsAtEnd (S.taken lines.new.source) (S.left lines.new.source) (given S.taken lines.new) }
     ensures cut { result ≡ Err (End.Stopped Stop.Cut) → IsTrue S.tells →
         is_over (S.taken lines.new.source ++ S.left lines.new.source) ≡ true }
     ensures read { result ≡ Err (End.Stopped Stop.Read) → Rose (S.faults lines.old.source) (S.faults lines.new.source) }

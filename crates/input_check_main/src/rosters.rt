@@ -47,7 +47,8 @@ fn meters_in(alloc: Global, bytes: &[u8]) -> Result<Vec<Commission>, Stop>
     }
 }
 
-/// Prints every faulty line of a roster, and where there is one what in its bytes may be behind that; and answers how many there are, and its meters where there is none.
+/// Prints every faulty line of a roster, and where there is one what in its bytes may be behind that; and answers how many there
+/// are, and its meters where there is none.
 pub fn check_roster<S: Source, K: Sink>(
     alloc: Global,
     roster: &mut S,

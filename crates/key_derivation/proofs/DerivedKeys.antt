@@ -16,13 +16,17 @@ constant_of-lt MeterMac = omega arith
 constant_of-lt PartnerCipher = omega arith
 constant_of-lt PartnerMac = omega arith
 
-pub AreBytes-derivation_input : (purpose : KeyUse) (counter : ℕ) (id : List ℕ) → AreBytes id → AreBytes (derivation_input purpose counter id)
+pub AreBytes-derivation_input : (purpose : KeyUse) (counter : ℕ) (id : List ℕ) → AreBytes id
+    → AreBytes (derivation_input purpose counter id)
 AreBytes-derivation_input purpose counter id h =
     let P : ℕ → Type 0 = λ x. x < 256 in
     let counted : AreBytes (to_le_bytes w32 counter) = AreBytes-4 _ _ _ _ (omega arith) (omega arith) (omega arith) (omega arith) in
     All-cons P (constant_of purpose) (to_le_bytes w32 counter ++ id ++ replicate 7 7) (constant_of-lt purpose)
-    (All-append P (to_le_bytes w32 counter ++ id) (replicate 7 7) (All-append P (to_le_bytes w32 counter) id counted h) (All-replicate P 7 7 (omega arith)))
+    (All-append P (to_le_bytes w32 counter ++ id) (replicate 7 7) (All-append P (to_le_bytes w32 counter) id counted h)
+    (All-replicate P 7 7 (omega arith)))
 
-pub IsBlock-derived : (key : List ℕ) (purpose : KeyUse) (counter : ℕ) (id : List ℕ) → IsBlock key → AreBytes id → IsBlock (derived key purpose counter id)
+pub IsBlock-derived : (key : List ℕ) (purpose : KeyUse) (counter : ℕ) (id : List ℕ) → IsBlock key → AreBytes id
+    → IsBlock (derived key purpose counter id)
 unfolding derived
-IsBlock-derived key purpose counter id hk hi = IsBlock-cmac key (derivation_input purpose counter id) hk (AreBytes-derivation_input purpose counter id hi)
+IsBlock-derived key purpose counter id hk hi =
+    IsBlock-cmac key (derivation_input purpose counter id) hk (AreBytes-derivation_input purpose counter id hi)

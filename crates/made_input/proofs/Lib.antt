@@ -5,3 +5,5 @@ pub mod Orders
 pub mod Genuine
 pub mod OwnLines
 pub mod Counting
+pub mod MadeTexts
+pub mod MadeRosters

@@ -74,7 +74,7 @@ checked_bytes (suc k) bytes all =
     bytes_joined (with_crc (take 16 bytes)) _ (with_crc_bytes (take 16 bytes) (bytes-take 16 bytes all))
     (checked_bytes k (drop 16 bytes) (bytes-drop 16 bytes all))
 
-frame_bytes : (t : List ℕ) → IsBytes t → IsBytes (frame_a t)
+pub frame_bytes : (t : List ℕ) → IsBytes t → IsBytes (frame_a t)
 unfolding frame_a
 frame_bytes t all =
     bytes_joined (with_crc (take 10 t)) _ (with_crc_bytes (take 10 t) (bytes-take 10 t all))
@@ -93,7 +93,7 @@ checked_few (suc k) bytes =
       length-append (with_crc block) (flat_map with_crc (cut k 16 (drop 16 bytes))),
     )
 
-frame_few : (t : List ℕ) → length t ≤ 256 → length (frame_a t) ≤ 300
+pub frame_few : (t : List ℕ) → length t ≤ 256 → length (frame_a t) ≤ 300
 unfolding frame_a
 frame_few t most =
     let block : List ℕ = take 10 t in
@@ -121,7 +121,7 @@ fields_are k frame all =
 short : (n : ℕ) → n ≤ 1024 → nat_lt 1024 n ≡ false
 short n h = grind (arith, nat_tests)
 
-line_short : (k : ℕ) (frame : List ℕ) → length frame ≤ 300 → k < 2 ^ 64
+pub line_short : (k : ℕ) (frame : List ℕ) → length frame ≤ 300 → k < 2 ^ 64
     → length (labelled (codes "A ") k ++ labelled_bytes (codes " ") frame) ≤ 1024
 unfolding labelled labelled_bytes
 line_short k frame few small =
@@ -135,7 +135,7 @@ line_short k frame few small =
       few,
     )
 
-line_read : (k : ℕ) (frame : List ℕ) → IsBytes frame → length frame ≤ 300 → k < 2 ^ 64
+pub line_read : (k : ℕ) (frame : List ℕ) → IsBytes frame → length frame ≤ 300 → k < 2 ^ 64
     → line_of (labelled (codes "A ") k ++ labelled_bytes (codes " ") frame) ≡ Ok (Frame A k frame)
 unfolding line_of by_word frame_line
 line_read k frame all few small =
@@ -148,7 +148,7 @@ line_read k frame all few small =
 -- ---- the meter
 
 -- the bytes of a made meter's address
-abbrev made_bytes : ℕ → List ℕ
+abbrev pub made_bytes : ℕ → List ℕ
 made_bytes place = 0x93 ∷ 0x15 ∷ bcd (place + 1) ++ 0x01 ∷ 0x07 ∷ []
 
 made_are_bytes : (place : ℕ) → IsBytes (made_bytes place)
@@ -160,7 +160,7 @@ length-made : (place : ℕ) → length (made_bytes place) ≡ 8
 unfolding bcd
 length-made place = refl
 
-address_bytes : (place : ℕ) → bytes_of (address_at place) ≡ made_bytes place
+pub address_bytes : (place : ℕ) → bytes_of (address_at place) ≡ made_bytes place
 address_bytes place = bytes_of-made (made_bytes place) (address_at place) (length-made place)
     (λ i. byte_at (made_bytes place) i (made_are_bytes place)) refl
 

@@ -1,5 +1,5 @@
 -- What holds of made sessions.
-use Rattle.std.specs.Prelude.{ℕ, ◌≡◌, ◌<◌, ◌^◌, List, drop, Ok}
+use Rattle.std.specs.Prelude.{ℕ, ◌≡◌, ◌<◌, ◌≤◌, ◌^◌, false, List, drop, Ok}
 use Rattle.std.specs.List.Sorted.{IsPermutation}
 use Rattle.meter_address.specs.Commission.{Commissioned}
 use Rattle.ell_layer.specs.declared.access.Access.TheVariants as access
@@ -11,12 +11,16 @@ use Rattle.message_check.specs.Opening.{Genuine7}
 use Rattle.downlink_maker.specs.Downlink.{plain_content}
 use Rattle.line_reader.specs.declared.line.Line.TheVariants.{Frame}
 use Rattle.line_reader.specs.Grammar.{line_of}
+use Rattle.line_reader.specs.Lines.{is_over, all_lines}
 use Rattle.meter_slots.specs.declared.entry.Event.TheVariants.{Hear}
 use Rattle.meter_slots.specs.Hearing.{auth_in}
 use Rattle.meter_slots.specs.Telling.{event_of_line}
-use Rattle.made_input.specs.Meters.{meter_at, meters_of}
+use Rattle.roster_file.specs.Enrolled.{IsEnrolled}
+use Rattle.roster_file.specs.Roster.{roster_of as read_as}
+use Rattle.made_input.specs.Meters.{meter_at, meters_of, roster_of}
 use Rattle.made_input.specs.Uplinks.{volume, uplink, stranger}
-use Rattle.made_input.specs.Lines.{turn_of, round_of, telegram_of, frame_text, heard}
+use Rattle.made_input.specs.Lines.{turn_of, round_of, telegram_of, frame_text, texts_of, heard}
+use Rattle.made_input.specs.Made.{Session, made}
 
 -- ---- turns
 
@@ -58,3 +62,23 @@ LinesAreOwn = (number place n k : ℕ) → n < 2 ^ 32 → k < 2 ^ 64 →
 
 abbrev pub HeardInAnotherOrder : Type 0
 HeardInAnotherOrder = (by : ℕ) (lines : List (List ℕ)) → IsPermutation lines (heard by lines)
+
+-- ---- whole sessions
+
+-- the text is within a receiver's limits, and its lines are these
+pub record HasLines (text : List ℕ) (lines : List (List ℕ)) : Type 0 where
+  pub within : is_over text ≡ false
+  pub lines_are : all_lines text ≡ lines
+
+-- the first text is read as the roster of the meters, and each receiver's text has the lines of all telegrams, in its order
+pub record IsReadable (count telegrams number : ℕ) (session : Session) : Type 0 where
+  pub enrolled : IsEnrolled (roster_of count number)
+  pub roster : read_as session.roster ≡ Ok (roster_of count number)
+  pub first : HasLines session.first (heard 0 (texts_of (meters_of count number) telegrams))
+  pub second : HasLines session.second (heard 1 (texts_of (meters_of count number) telegrams))
+  pub third : HasLines session.third (heard 2 (texts_of (meters_of count number) telegrams))
+  pub fourth : HasLines session.fourth (heard 3 (texts_of (meters_of count number) telegrams))
+
+abbrev pub MadeSessionsAreReadable : Type 0
+MadeSessionsAreReadable = (count telegrams number : ℕ) → count ≤ 1024 → telegrams ≤ 16384
+    → IsReadable count telegrams number (made count telegrams number)

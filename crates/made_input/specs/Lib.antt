@@ -5,3 +5,4 @@ pub mod Lines
 pub mod Made
 pub mod Summary
 pub mod Laws
+pub mod Streams

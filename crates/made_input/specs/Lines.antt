@@ -38,6 +38,10 @@ line_at meters number = frame_line number (telegram_of meters number)
 abbrev pub lines_of : List Commissioned → ℕ → List (List ℕ)
 lines_of meters count = map (line_at meters) (range_with_len 1 count)
 
+-- the same lines without their ends
+abbrev pub texts_of : List Commissioned → ℕ → List (List ℕ)
+texts_of meters count = map (λ number. frame_text number (telegram_of meters number)) (range_with_len 1 count)
+
 -- ---- the receivers
 
 -- a group that begins at a later place, with those before it at the end

@@ -1,5 +1,5 @@
 //! What holds of the definitions themselves: each function's contract is a law.
-ghost use Rattle.made_input.specs.Laws.{TurnsAreTaken, UplinksAreGenuine, LinesAreOwn, HeardInAnotherOrder};
+ghost use Rattle.made_input.specs.Laws.{TurnsAreTaken, UplinksAreGenuine, LinesAreOwn, HeardInAnotherOrder, MadeSessionsAreReadable};
 
 /// The line with a number is that of the meter whose turn it is, with the round as counter, or the stranger's.
 pub fn turns_are_taken()
@@ -19,4 +19,10 @@ pub fn lines_are_own()
 /// What a receiver hears are the same lines, in another order.
 pub fn lines_are_heard_in_another_order()
     ensures { HeardInAnotherOrder }
+{}
+
+/// A made session of at most 1,024 meters and 16,384 telegrams is read as it was made: its roster is that of the meters, and each
+/// receiver's text is within the limits and has the lines of all telegrams, in its order.
+pub fn made_sessions_are_readable()
+    ensures { MadeSessionsAreReadable }
 {}

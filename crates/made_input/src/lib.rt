@@ -6,13 +6,16 @@ mod laws;
 mod lines;
 mod made;
 mod meters;
+mod streams;
 mod summary;
 mod uplinks;
 
 pub use laws::{
-    lines_are_heard_in_another_order, lines_are_own, turns_are_taken, uplinks_are_genuine,
+    lines_are_heard_in_another_order, lines_are_own, made_sessions_are_readable, turns_are_taken,
+    uplinks_are_genuine,
 };
 pub use made::{Made, make};
+pub use streams::{HeardText, NoDownlinks};
 pub use summary::Summary;
 
 #[cfg(test)]

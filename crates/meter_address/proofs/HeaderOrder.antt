@@ -34,7 +34,8 @@ eight_is (a ∷ b ∷ c ∷ d ∷ e ∷ f ∷ g ∷ h ∷ i ∷ xs) len = absurd
 
 -- eight bytes with the identification before M, one by one
 pub in_order_cells : (xs : List ℕ) → length xs ≡ 8
-    → in_order xs ≡ get_or xs 2 0 ∷ get_or xs 3 0 ∷ get_or xs 4 0 ∷ get_or xs 5 0 ∷ get_or xs 0 0 ∷ get_or xs 1 0 ∷ get_or xs 6 0 ∷ get_or xs 7 0 ∷ []
+    → in_order xs ≡ get_or xs 2 0 ∷ get_or xs 3 0 ∷ get_or xs 4 0 ∷ get_or xs 5 0 ∷ get_or xs 0 0 ∷ get_or xs 1 0 ∷ get_or xs 6 0
+    ∷ get_or xs 7 0 ∷ []
 in_order_cells xs len = let x = eight_is xs len in rw x.cells refl
 
 pub length-header_order : (a : Address) → length (header_order a) ≡ 8
@@ -42,5 +43,6 @@ length-header_order a = ap length (in_order_cells (bytes_of a) (length-bytes_of 
 
 -- the bytes of an address put in header order, one by one
 pub in_order_is : (a : Address) (xs : List ℕ) → xs ≡ bytes_of a
-    → get_or xs 2 0 ∷ get_or xs 3 0 ∷ get_or xs 4 0 ∷ get_or xs 5 0 ∷ get_or xs 0 0 ∷ get_or xs 1 0 ∷ get_or xs 6 0 ∷ get_or xs 7 0 ∷ [] ≡ header_order a
+    → get_or xs 2 0 ∷ get_or xs 3 0 ∷ get_or xs 4 0 ∷ get_or xs 5 0 ∷ get_or xs 0 0 ∷ get_or xs 1 0 ∷ get_or xs 6 0 ∷ get_or xs 7 0
+    ∷ [] ≡ header_order a
 in_order_is a xs same = sym (in_order_cells xs (ap length same ∙ length-bytes_of a)) ∙ ap in_order same

@@ -36,7 +36,9 @@ IsBytes-eight a b c d e f g h la lb lc ld le lf lg lh (suc (suc (suc (suc (suc (
 
 pub IsBytes-bytes_of : (a : Address) → IsBytes (bytes_of a)
 unfolding bytes_of
-IsBytes-bytes_of a = IsBytes-eight _ _ _ _ _ _ _ _ (omega arith) (omega arith) (omega arith) (omega arith) (omega arith) (omega arith) (omega arith) (omega arith)
+IsBytes-bytes_of a =
+    IsBytes-eight _ _ _ _ _ _ _ _ (omega arith) (omega arith) (omega arith) (omega arith) (omega arith) (omega arith) (omega arith)
+    (omega arith)
 
 -- the bytes of the address that is made of them
 pub bytes_of-made : (bytes : List ℕ) (a : Address) → length bytes ≡ 8 → IsBytes bytes → a.0 ≡ from_be_bytes w64 bytes → bytes_of a ≡ bytes
@@ -143,11 +145,13 @@ pub refused : (text out : List ℕ) (r : Result Unit FromHexError) (e : FromHexE
 refused text out r e len given err =
     elim (decode_of-err text e (not_decoded text out r e len given err)) [
       | inl odd ↦ absurd (omega (arith, odd.0))
-      | inr other ↦ let same : 0 + other.0 ≡ other.0 = omega arith in (other.0, rw same at other.1, record { within = other.2; other = other.3; before = other.4 })
+      | inr other ↦ let same : 0 + other.0 ≡ other.0 =
+          omega arith in (other.0, rw same at other.1, record { within = other.2; other = other.3; before = other.4 })
     ]
 
 -- the address of a text that decodes, or doesn't
-pub address_of_decoded : (text : List ℕ) (d : Result (List ℕ) FromHexError) → length text ≡ 16 → decode_of text ≡ d → address_of text ≡ from_decoded d
+pub address_of_decoded : (text : List ℕ) (d : Result (List ℕ) FromHexError) → length text ≡ 16 → decode_of text ≡ d
+    → address_of text ≡ from_decoded d
 unfolding address_of
 address_of_decoded text d len is = ap (λ b. cond b (from_decoded (decode_of text)) None) (sixteen (length text) len) ∙ ap from_decoded is
   where
@@ -203,7 +207,8 @@ below_sixteen : (c v : ℕ) → hex_digit_value c ≡ Some v → v < 16
 below_sixteen c v h = grind (arith, nat_tests)
 
 -- the value of a step that did not fail
-bind_ok : {A B : Type 0} (r : Result A FromHexError) (f : A → Result B FromHexError) (y : B) → (r >>= f) ≡ Ok y → (x : A) × (r ≡ Ok x) × (f x ≡ Ok y)
+bind_ok : {A B : Type 0} (r : Result A FromHexError) (f : A → Result B FromHexError) (y : B) → (r >>= f) ≡ Ok y → (x : A) × (r ≡ Ok x)
+    × (f x ≡ Ok y)
 bind_ok (Ok x) f y e = (x, refl, e)
 bind_ok (Err d) f y e = absurd cc
 
@@ -236,12 +241,14 @@ one_text text a h = lowered_pairs 0 text (bytes_of a) (sym (decode_of-even text 
 
 -- the number of eight bytes
 below_64 : (a b c d e f g h n : ℕ) → a < 256 → b < 256 → c < 256 → d < 256 → e < 256 → f < 256 → g < 256 → h < 256
-    → n ≡ a + b * 256 + c * 65536 + d * 16777216 + e * 4294967296 + f * 1099511627776 + g * 281474976710656 + h * 72057594037927936 → n < 2 ^ 64
+    → n ≡ a + b * 256 + c * 65536 + d * 16777216 + e * 4294967296 + f * 1099511627776 + g * 281474976710656 + h * 72057594037927936
+    → n < 2 ^ 64
 below_64 a b c d e f g h n la lb lc ld le lf lg lh is = omega arith
 
 made_fits : (bytes : List ℕ) → IsBytes bytes → from_be_bytes w64 bytes < 2 ^ 64
 made_fits bytes h =
-    below_64 (get_or bytes 7 0) (get_or bytes 6 0) (get_or bytes 5 0) (get_or bytes 4 0) (get_or bytes 3 0) (get_or bytes 2 0) (get_or bytes 1 0) (get_or bytes 0 0) _
+    below_64 (get_or bytes 7 0) (get_or bytes 6 0) (get_or bytes 5 0) (get_or bytes 4 0) (get_or bytes 3 0) (get_or bytes 2 0)
+    (get_or bytes 1 0) (get_or bytes 0 0) _
     (h 7) (h 6) (h 5) (h 4) (h 3) (h 2) (h 1) (h 0) (omega arith)
 
 -- an address that is read has eight bytes

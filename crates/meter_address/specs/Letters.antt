@@ -26,7 +26,9 @@ is_letter group = nat_le 1 group && nat_le group 26
 
 abbrev pub letters_of_number : ℕ → Option (List ℕ)
 letters_of_number m =
-    if is_letter (m / 1024) && is_letter (m / 32 % 32) && is_letter (m % 32) then Some ((m / 1024 + 64) ∷ (m / 32 % 32 + 64) ∷ (m % 32 + 64) ∷ []) else None
+    if is_letter (m / 1024) && is_letter (m / 32 % 32) && is_letter (m % 32)
+    then Some ((m / 1024 + 64) ∷ (m / 32 % 32 + 64) ∷ (m % 32 + 64) ∷ [])
+    else None
 
 -- the three letters of an address, if M stands for three
 unfoldable pub letters_of : Address → Option (List ℕ)

@@ -14,7 +14,8 @@ use Rattle.meter_label.specs.Label.{IsLabelOf, IsFit, is_capital, number_of, lab
 
 -- ---- three tests, and what they let through
 
-chosen : {A : Type 0} (a b c : Bool) (x y : A) → (if a && b && c then Some x else None) ≡ Some y → (a ≡ true) × (b ≡ true) × (c ≡ true) × (x ≡ y)
+chosen : {A : Type 0} (a b c : Bool) (x y : A) → (if a && b && c then Some x else None) ≡ Some y → (a ≡ true) × (b ≡ true) × (c ≡ true)
+    × (x ≡ y)
 chosen true true true x y e = (refl, refl, refl, cc)
 chosen true true false x y e = absurd cc
 chosen true false c x y e = absurd cc
@@ -57,7 +58,14 @@ letters_only m letters are =
     let first : m / 1024 + 64 ≡ are.first = omega arith in
     let second : m / 32 % 32 + 64 ≡ are.second = omega arith in
     let third : m % 32 + 64 ≡ are.third = omega arith in
-    rw (letter_is (m / 1024) (omega arith) (omega arith), letter_is (m / 32 % 32) (omega arith) (omega arith), letter_is (m % 32) (omega arith) (omega arith), first, second, third)
+    rw (
+      letter_is (m / 1024) (omega arith) (omega arith),
+      letter_is (m / 32 % 32) (omega arith) (omega arith),
+      letter_is (m % 32) (omega arith) (omega arith),
+      first,
+      second,
+      third,
+    )
     (ap Some (sym are.text))
 
 number_found : (letters : List ℕ) (n : ℕ) → number_of letters ≡ Some n → AreLetters letters n
@@ -80,7 +88,8 @@ number_only : (letters : List ℕ) (n : ℕ) → AreLetters letters n → number
 unfolding number_of
 number_only letters n are =
     rw are.text
-    (rw (capital_is are.first are.capitals.0, capital_is are.second are.capitals.1, capital_is are.third are.capitals.2) (ap Some (sym are.number)))
+    (rw (capital_is are.first are.capitals.0, capital_is are.second are.capitals.1, capital_is are.third are.capitals.2)
+    (ap Some (sym are.number)))
 
 -- ---- a label and an address that say the same
 
@@ -89,7 +98,8 @@ unfolding label_of letters_of bytes_of
 named_to address label is =
     let x = eight_is (bytes_of address) (length-bytes_of address) in
     let letters : letters_of address ≡ Some label.letters = letters_only (manufacturer_of address) label.letters is.maker in
-    let identification : label.identification ≡ x.f ∷ x.e ∷ x.d ∷ x.c ∷ [] = is.identification ∙ ap (λ b. reverse (take 4 (drop 2 b))) x.cells in
+    let identification : label.identification ≡ x.f ∷ x.e ∷ x.d ∷ x.c ∷ [] =
+    is.identification ∙ ap (λ b. reverse (take 4 (drop 2 b))) x.cells in
     let rest : x.g ∷ x.h ∷ [] ≡ label.version ∷ label.kind ∷ [] = sym (ap (drop 6) x.cells) ∙ is.rest in
     let version : x.g ≡ label.version = cc in
     let kind : x.h ≡ label.kind = cc in
@@ -122,13 +132,15 @@ low_first m low high fits_low fits_high is =
     let second : get_or (to_le_bytes w16 m) 1 0 ≡ high = omega arith in
     rw (first, second) refl
 
-pub addressed_to : (address : Address) (label : Label) → address.0 < 2 ^ 64 → label_of address ≡ Some label → address_of label ≡ Some address
+pub addressed_to : (address : Address) (label : Label) → address.0 < 2 ^ 64 → label_of address ≡ Some label
+    → address_of label ≡ Some address
 unfolding address_of
 addressed_to address label fits e =
     let is = named_from address label e in
     let x = eight_is (bytes_of address) (length-bytes_of address) in
     let number = number_only label.letters (manufacturer_of address) is.maker in
-    let identification : label.identification ≡ x.f ∷ x.e ∷ x.d ∷ x.c ∷ [] = is.identification ∙ ap (λ b. reverse (take 4 (drop 2 b))) x.cells in
+    let identification : label.identification ≡ x.f ∷ x.e ∷ x.d ∷ x.c ∷ [] =
+    is.identification ∙ ap (λ b. reverse (take 4 (drop 2 b))) x.cells in
     let rest : x.g ∷ x.h ∷ [] ≡ label.version ∷ label.kind ∷ [] = sym (ap (drop 6) x.cells) ∙ is.rest in
     let version : x.g ≡ label.version = cc in
     let kind : x.h ≡ label.kind = cc in
@@ -167,7 +179,8 @@ small letters n are =
     let three = are.capitals.2 in
     let number = are.number in omega arith
 
-addressed_by : (address : Address) (label : Label) (number : Option ℕ) → IsFit label → number_of label.letters ≡ number → address_from label number ≡ Some address → IsLabelOf address label
+addressed_by : (address : Address) (label : Label) (number : Option ℕ) → IsFit label → number_of label.letters ≡ number
+    → address_from label number ≡ Some address → IsLabelOf address label
 addressed_by address label (Some n) fit found made =
     let are = number_found label.letters n found in
     let below = small label.letters n are in
@@ -183,7 +196,9 @@ addressed_by address label (Some n) fit found made =
     let whole : Address = record { 0 = from_be_bytes w64 (bytes_from (to_le_bytes w16 n) label.identification label.version label.kind) } in
     let is : whole ≡ address = cc in
     let value : address.0 ≡ from_be_bytes w64 bytes = sym (ap (λ a. a.0) is) ∙ ap (from_be_bytes w64) same in
-    let cells = bytes_of-made bytes address refl (IsBytes-eight _ _ _ _ _ _ _ _ low high (byte 3) (byte 2) (byte 1) (byte 0) fit.version fit.kind) value in
+    let cells =
+    bytes_of-made bytes address refl (IsBytes-eight _ _ _ _ _ _ _ _ low high (byte 3) (byte 2) (byte 1) (byte 0) fit.version fit.kind)
+    value in
     let m : n ≡ manufacturer_of address = sym (ap (λ b. get_or b 0 0 + 256 * get_or b 1 0) cells ∙ omega arith) in record {
       maker = subst (AreLetters label.letters) m are;
       identification = y.cells ∙ sym (ap (λ b. reverse (take 4 (drop 2 b))) cells);

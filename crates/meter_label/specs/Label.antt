@@ -21,7 +21,9 @@ is_capital letter = nat_le 65 letter && nat_le letter 90
 -- M of a maker, where these are three capital letters
 unfoldable pub number_of : List ℕ → Option ℕ
 number_of (first ∷ second ∷ third ∷ []) =
-    if is_capital first && is_capital second && is_capital third then Some ((first - 64) * 1024 + (second - 64) * 32 + (third - 64)) else None
+    if is_capital first && is_capital second && is_capital third
+    then Some ((first - 64) * 1024 + (second - 64) * 32 + (third - 64))
+    else None
 number_of letters = None
 
 abbrev pub label_from : List ℕ → Option (List ℕ) → Option Label

@@ -2,16 +2,11 @@
 use Rattle.std.specs.Prelude.{ℕ, ◌&&◌, List, [], ◌∷◌, Option, Some, None, Result, Ok, Err, if◌then◌else◌}
 use Rattle.std.specs.Result.{result_ok}
 use Rattle.hex.specs.Hex.{decode_sized}
+use Rattle.steps.specs.Steps.{◌>>=◌}
 use Rattle.meter_label.specs.declared.label.Label.{Label}
 use Rattle.meter_label.specs.declared.reading.LabelFault.{LabelFault}
 use Rattle.meter_label.specs.declared.reading.LabelFault.TheVariants as faults
 use Rattle.meter_label.specs.Label.{is_capital}
-
--- the ? of the logic: the second step, if the first gave a value
-infixl 10 ◌>>=◌
-abbrev pub ◌>>=◌ : {A B : Type 0} → Result A LabelFault → (A → Result B LabelFault) → Result B LabelFault
-Ok x >>= f = f x
-Err e >>= f = Err e
 
 abbrev pub or_fault : {A : Type 0} → LabelFault → Option A → Result A LabelFault
 or_fault fault (Some x) = Ok x

@@ -29,9 +29,12 @@ unopened_exit status is = (7, omega arith, sym is)
 
 -- the words name a meter or don't
 named_or : (w : List (List ℕ)) (o : Option Address) → address_in w ≡ o → is_some (address_in w) ≡ true → address_in w ≡ None → ⊥
-named_or w o e named none = let no : is_some (address_in w) ≡ false = ap (λ (x : Option Address). is_some x) none in absurd (let both : true ≡ false = sym named ∙ no in cc)
+named_or w o e named none =
+    let no : is_some (address_in w) ≡ false =
+    ap (λ (x : Option Address). is_some x) none in absurd (let both : true ≡ false = sym named ∙ no in cc)
 
 -- a run of words that name a meter doesn't end by their fault
 pub exit_of : (run : Run) (code : ℕ) → code ≡ code_of run.status → IsRun run → is_some (address_in run.words) ≡ true → IsRunExit code
 exit_of run code is h named =
-    subst IsRunExit (sym is) (run_exit run.status (λ faulty. named_or run.words (address_in run.words) refl named (subst (IsCausedBy run) faulty h.status_caused)))
+    subst IsRunExit (sym is)
+    (run_exit run.status (λ faulty. named_or run.words (address_in run.words) refl named (subst (IsCausedBy run) faulty h.status_caused)))

@@ -11,7 +11,8 @@ ghost use Rattle.meter_side_main.specs.Statuses.{code_of};
 ghost use Rattle.program_words.specs.OwnTexts.{asks_for_text, IsTold};
 ghost use Rattle.meter_side.specs.Exit.{names_meter, IsRunExit};
 
-use meter_side_main::{SideStatus, meter_run, names_meter};
+use line_reader::TextReader;
+use meter_side_main::{LINE_MAX, SideStatus, meter_run, names_meter};
 use outer_io::{Sink, Source, StdSink, StdSource};
 use program_words::{NoWords, Numbered, OwnText, command_words, own_text, tell};
 use std::fs::{File, Files};
@@ -72,17 +73,20 @@ fn hear<R: Eprint + AllocGlobal, S: Source, K: Sink>(
     rt: &R,
     words: &[String],
     roster: &mut S,
-    tx: &mut S,
+    tx: &mut TextReader<S>,
     out: &mut K,
 ) -> ExitCode
-    requires untaken { IsTrue S.tells → (S.taken roster.old ≡ []) × (S.taken tx.old ≡ []) }
+    requires fresh { tx.old.reader.line ≡ 0 }
+    requires goes_on { tx.old.reader.done ≡ false }
+    requires longest { tx.old.longest ≡ 582 }
+    requires untaken { IsTrue S.tells → (S.taken roster.old ≡ []) × (S.taken tx.old.reader.source ≡ []) }
     requires empty { IsTrue K.tells → K.written out.old ≡ [] }
     ensures run { (status : SideStatus) × (exit_status result ≡ code_of status) × IsRun (record {
       words = map string_bytes words.now;
       sources_tell = S.tells;
       sinks_tell = K.tells;
       roster = source_change S.Source roster.old roster.new;
-      tx = source_change S.Source tx.old tx.new;
+      tx = source_change S.Source tx.old.reader.source tx.new.reader.source;
       out = sink_change K.Sink out.old out.new;
       status = status;
     }) }
@@ -115,8 +119,14 @@ fn perform<R: Print + Eprint + Files<File = File> + AllocGlobal>(
     let Ok(tx) = File::open(rt, words[2].as_str()) else {
         return cannot_open(rt);
     };
-    let (mut roster, mut tx) = (StdSource::file(roster), StdSource::file(tx));
-    hear(rt, words, &mut roster, &mut tx, &mut out)
+    let mut deliveries = TextReader::new(StdSource::file(tx), LINE_MAX);
+    hear(
+        rt,
+        words,
+        &mut StdSource::file(roster),
+        &mut deliveries,
+        &mut out,
+    )
 }
 
 // What it means that the words can't be had.

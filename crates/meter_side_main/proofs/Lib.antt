@@ -6,6 +6,5 @@ pub mod Hearing
 pub mod Others
 pub mod LinesHeard
 pub mod Answering
-pub mod Sessions
 pub mod Runs
 pub mod Places

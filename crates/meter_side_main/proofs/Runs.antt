@@ -1,5 +1,5 @@
 -- What is promised of a run.
-use Rattle.std.proofs.Common.{◌≡◌, ℕ, ◌⊎◌, Bool, true, false, List, [], ◌∷◌, ◌++◌, length, Option, Some, None, is_some, Result, Ok, Err, IsTrue, refl, sym, ap, ap₂, ◌∙◌, subst, inl, inr, append-nil}
+use Rattle.std.proofs.Common.{◌≡◌, ℕ, ◌⊎◌, Bool, true, false, List, [], ◌∷◌, ◌++◌, length, Option, Some, None, is_some, Result, Ok, Err, is_err, OnOk, OnErr, IsTrue, refl, sym, ap, ap₂, ◌∙◌, subst, inl, inr, append-nil}
 use Rattle.aes_block.specs.Block.{IsBlock}
 use Rattle.line_reader.specs.Lines.{is_over}
 use Rattle.meter_address.specs.declared.address.Address.{Address}
@@ -17,7 +17,7 @@ use Rattle.meter_side_main.specs.declared.status.SideStatus.TheVariants as statu
 use Rattle.meter_side_main.specs.declared.top.Meter.{Meter}
 use Rattle.meter_side_main.specs.Answers.{answers_to}
 use Rattle.meter_side_main.specs.Session.{EndsSo, text_of}
-use Rattle.meter_side_main.specs.Statuses.{was_heard, status_at, unwritten_at}
+use Rattle.meter_side_main.specs.Statuses.{was_heard, status_at}
 use Rattle.meter_side_main.specs.Run.{Run, address_in, meter_with, Names, IsStatusOf, Hears, Headline, IsUncommissioned, IsTooLong, IsCut, IsCausedBy, IsFaultless, IsUnlessUnread, IsRun}
 use Rattle.meter_side_main.specs.Refused.{IsNamed, IsRefused, IsHeardFor}
 use Rattle.meter_side_main.proofs.Answering.{are_answers, answers_execute}
@@ -36,38 +36,42 @@ three_words (a ∷ b ∷ c ∷ d ∷ more) h = absurd cc
 
 -- ---- statuses of an end
 
-pub written_status : (ended : Ended) → IsStatusOf ended (status_at ended)
-written_status End = inl refl
-written_status Cut = refl
-written_status Fault = refl
+status_is : (ended : Ended) (failed : Bool) → IsStatusOf ended (status_at ended failed)
+status_is End false = inl refl
+status_is End true = inr refl
+status_is Cut failed = refl
+status_is Fault failed = refl
 
-pub unwritten_status : (ended : Ended) → IsStatusOf ended (unwritten_at ended)
-unwritten_status End = inr refl
-unwritten_status Cut = refl
-unwritten_status Fault = refl
-
-pub unwritten_is_not_done : (ended : Ended) → unwritten_at ended ≡ statuses.Done → ⊥
+unwritten_is_not_done : (ended : Ended) → status_at ended true ≡ statuses.Done → ⊥
 unwritten_is_not_done End e = absurd cc
 unwritten_is_not_done Cut e = absurd cc
 unwritten_is_not_done Fault e = absurd cc
 
 -- ---- what hearing came to
 
-pub hears : (own : Address) (c : Commissioned) (tx : Change SourceShown) (tells : Bool) (out : Change SinkShown) (ended : Ended) (status : SideStatus) (lines : List (List ℕ)) → IsBlock c.key
-    → EndsSo ended tx lines → IsStatusOf ended status → (IsTrue tells → HasText (text_of own c lines) out)
-    → (IsTrue tells → status ≡ statuses.Done → out.now.written ≡ text_of own c lines) → Hears own c tx tells out status
-unfolding text_of
-hears own c tx tells out ended status lines key ends is told whole = record {
-  ended = ended;
-  lines = lines;
-  answers = answers_to own c c.down lines;
-  status_is = is;
-  ends = ends;
-  answered = are_answers own c key c.down lines;
-  executed = answers_execute own c key lines (answers_to own c c.down lines) c.down (c.down ∷ []) (first_last c.down) (are_answers own c key c.down lines);
-  told = told;
-  whole = whole;
-}
+module _ (own : Address) (c : Commissioned) (tx : Change SourceShown) (tells : Bool) (out : Change SinkShown) (ended : Ended) (lines : List (List ℕ)) (key : IsBlock c.key)
+    (ends : EndsSo ended tx.now.taken tx.now.left lines) where
+  hears : (status : SideStatus) → IsStatusOf ended status → (IsTrue tells → HasText (text_of own c lines) out)
+      → (IsTrue tells → status ≡ statuses.Done → out.now.written ≡ text_of own c lines) → Hears own c tx tells out status
+  unfolding text_of
+  hears status is told whole = record {
+    ended = ended;
+    lines = lines;
+    answers = answers_to own c c.down lines;
+    status_is = is;
+    ends = ends;
+    answered = are_answers own c key c.down lines;
+    executed = answers_execute own c key lines (answers_to own c c.down lines) c.down (c.down ∷ []) (first_last c.down) (are_answers own c key c.down lines);
+    told = told;
+    whole = whole;
+  }
+
+  -- the paper over the output was finished, and a write failed or none did
+  pub hears_by : (failed : Bool) → (failed ≡ false → IsTrue tells → out.now.written ≡ text_of own c lines) → (failed ≡ true → WriteFailed out)
+      → (failed ≡ true → IsTrue tells → AppendsFront (text_of own c lines) [] out.now.written) → Hears own c tx tells out (status_at ended failed)
+  hears_by false whole cause front = hears (status_at ended false) (status_is ended false) (λ t. inl (whole refl t)) (λ t is. whole refl t)
+  hears_by true whole cause front =
+      hears (status_at ended true) (status_is ended true) (λ t. inr (cause refl, front refl t)) (λ t is. absurd (unwritten_is_not_done ended is))
 
 -- the bytes that a fresh source had
 all_bytes : (tx : Change SourceShown) → tx.before.taken ≡ [] → LosesNothing tx → tx.now.taken ++ tx.now.left ≡ tx.before.left
@@ -77,18 +81,24 @@ read_out : (tx : Change SourceShown) → LosesNothing tx → tx.now.left ≡ [] 
 read_out tx kept none = record { took_all = sym (append-nil tx.now.taken) ∙ ap (λ (x : List ℕ). tx.now.taken ++ x) (sym none) ∙ kept; nothing_left = none }
 
 module _ (tells : Bool) (tx : Change SourceShown) (out : Change SinkShown) (lines : List (List ℕ)) (fresh : IsTrue tells → tx.before.taken ≡ []) (kept : IsTrue tells → LosesNothing tx) where
-  over_before : EndsSo Cut tx lines → IsTrue tells → is_over tx.before.left ≡ true
+  over_before : EndsSo Cut tx.now.taken tx.now.left lines → IsTrue tells → is_over tx.before.left ≡ true
   over_before ends t = ap is_over (sym (all_bytes tx (fresh t) (kept t))) ∙ ends.source_over
 
-  pub heard_for : (ended : Ended) → (IsTrue tells → EndsSo ended tx lines) → (ended ≡ Fault → ReadFailed tx) → IsHeardFor tells tx out (status_at ended)
-  heard_for End ends failed = λ t. read_out tx (kept t) (ends t).nothing_left
-  heard_for Cut ends failed = λ t. over_before (ends t) t
-  heard_for Fault ends failed = failed refl
+  pub heard_for : (ended : Ended) (failed : Bool) → (IsTrue tells → EndsSo ended tx.now.taken tx.now.left lines) → (ended ≡ Fault → ReadFailed tx) → (failed ≡ true → WriteFailed out)
+      → IsHeardFor tells tx out (status_at ended failed)
+  heard_for End false ends broken unwritten = λ t. read_out tx (kept t) (ends t).nothing_left
+  heard_for End true ends broken unwritten = unwritten refl
+  heard_for Cut failed ends broken unwritten = λ t. over_before (ends t) t
+  heard_for Fault failed ends broken unwritten = broken refl
 
-  pub unwritten_for : (ended : Ended) → (IsTrue tells → EndsSo ended tx lines) → (ended ≡ Fault → ReadFailed tx) → WriteFailed out → IsHeardFor tells tx out (unwritten_at ended)
-  unwritten_for End ends failed broken = broken
-  unwritten_for Cut ends failed broken = λ t. over_before (ends t) t
-  unwritten_for Fault ends failed broken = failed refl
+-- a call failed or didn't
+pub failed_is : {E : Type 0} (r : Result (Unit {0}) E) (failed unwritten : Bool) → OnOk r (failed ≡ false) → OnErr r (failed ≡ true) → unwritten ≡ is_err r → failed ≡ unwritten
+failed_is (Ok done) failed unwritten ok err is = ok ∙ sym is
+failed_is (Err e) failed unwritten ok err is = err ∙ sym is
+
+-- an output that was empty has this text
+pub whole_is : (text put old new : List ℕ) → new ≡ old ++ put → old ≡ [] → put ≡ text → new ≡ text
+whole_is text put old new written none is = written ∙ ap₂ (λ (o t : List ℕ). o ++ t) none is
 
 -- an output that was empty has a front of this text
 pub front_is : (text same old new : List ℕ) → text ≡ same → old ≡ [] → AppendsFront text old new → AppendsFront same [] new
@@ -128,7 +138,19 @@ hearing_cause run statuses.Uncommissioned h = absurd h
 hearing_cause run statuses.Read h = h
 hearing_cause run statuses.Cut h = h
 hearing_cause run statuses.Write h = h
-hearing_cause run statuses.Memory h = tt
+hearing_cause run statuses.Memory h = absurd h
+
+-- what was heard has a status that says so
+pub was_unheard : (tells : Bool) (tx : Change SourceShown) (out : Change SinkShown) (status : SideStatus) → IsHeardFor tells tx out status → was_heard status ≡ false → ⊥
+was_unheard tells tx out statuses.Done h unheard = absurd cc
+was_unheard tells tx out statuses.Words h unheard = absurd h
+was_unheard tells tx out statuses.ReadRoster h unheard = absurd h
+was_unheard tells tx out (statuses.Roster line cause) h unheard = absurd h
+was_unheard tells tx out statuses.Uncommissioned h unheard = absurd h
+was_unheard tells tx out statuses.Read h unheard = absurd cc
+was_unheard tells tx out statuses.Cut h unheard = absurd cc
+was_unheard tells tx out statuses.Write h unheard = absurd cc
+was_unheard tells tx out statuses.Memory h unheard = absurd h
 
 -- ---- all of it
 
@@ -209,7 +231,7 @@ module _ (run : Run) (headline : IsTrue (was_heard run.status) → IsTrue run.so
   complete_by f statuses.Memory c = inr refl
 
 -- what was heard to its end is within the limits
-ends_within : (tx : Change SourceShown) (lines : List (List ℕ)) → tx.before.taken ≡ [] → LosesNothing tx → EndsSo End tx lines → is_over tx.before.left ≡ false
+ends_within : (tx : Change SourceShown) (lines : List (List ℕ)) → tx.before.taken ≡ [] → LosesNothing tx → EndsSo End tx.now.taken tx.now.left lines → is_over tx.before.left ≡ false
 ends_within tx lines fresh kept ends =
     let all : tx.now.taken ≡ tx.before.left = sym (append-nil tx.now.taken) ∙ ap (λ (x : List ℕ). tx.now.taken ++ x) (sym ends.nothing_left) ∙ all_bytes tx fresh kept in
     ap is_over (sym all) ∙ ends.within
@@ -222,7 +244,7 @@ is_end Fault status cut read is = absurd (read is)
 heard_within : (run : Run) → run.tx.before.taken ≡ [] → LosesNothing run.tx → (run.status ≡ statuses.Cut → ⊥) → (run.status ≡ statuses.Read → ⊥) → Headline run → is_over run.tx.before.left ≡ false
 heard_within run fresh kept cut read h =
     let end : h.hears.ended ≡ End = is_end h.hears.ended run.status cut read h.hears.status_is in
-    ends_within run.tx h.hears.lines fresh kept (subst (λ (x : Ended). EndsSo x run.tx h.hears.lines) end h.hears.ends)
+    ends_within run.tx h.hears.lines fresh kept (subst (λ (x : Ended). EndsSo x run.tx.now.taken run.tx.now.left h.hears.lines) end h.hears.ends)
 
 over_within : (b : Bool) → b ≡ true → b ≡ false → ⊥
 over_within b over within = absurd cc
@@ -261,8 +283,8 @@ module _ (run : Run) (headline : IsTrue (was_heard run.status) → IsTrue run.so
   cut_by statuses.Memory is c = inr (inr (inr refl))
 
 pub run_is : (run : Run) → (IsTrue (was_heard run.status) → IsTrue run.sources_tell → Headline run) → IsCausedBy run run.status → (address_in run.words ≡ None → run.status ≡ statuses.Words)
-    → (IsTrue run.sources_tell → run.tx.before.taken ≡ []) → (IsTrue run.sources_tell → LosesNothing run.roster) → (IsTrue run.sources_tell → LosesNothing run.tx) → (was_heard run.status ≡ false → IsSilent run.out) → IsRun run
-run_is run headline caused words fresh roster tx silent = record {
+    → (IsTrue run.sources_tell → run.tx.before.taken ≡ []) → (IsTrue run.sources_tell → LosesNothing run.roster) → (IsTrue run.sources_tell → LosesNothing run.tx) → (was_heard run.status ≡ false → run.tx.now ≡ run.tx.before) → (was_heard run.status ≡ false → IsSilent run.out) → IsRun run
+run_is run headline caused words fresh roster tx unread silent = record {
   headline = headline;
   status_caused = caused;
   words_refused = words;
@@ -272,5 +294,6 @@ run_is run headline caused words fresh roster tx silent = record {
   complete = λ t f. complete_by run headline t f run.status caused;
   roster_kept = roster;
   tx_kept = tx;
+  unread = unread;
   silent = silent;
 }

@@ -43,5 +43,4 @@ IsHeardFor tells tx out statuses.Done = IsTrue tells → IsReadOut tx
 IsHeardFor tells tx out statuses.Read = ReadFailed tx
 IsHeardFor tells tx out statuses.Cut = IsTrue tells → is_over tx.before.left ≡ true
 IsHeardFor tells tx out statuses.Write = WriteFailed out
-IsHeardFor tells tx out statuses.Memory = Unit {0}
 IsHeardFor tells tx out _ = ⊥

@@ -58,7 +58,7 @@ pub record Hears (own : Address) (meter : Commissioned) (tx : Change SourceShown
   pub lines : List (List ℕ)
   pub answers : List Answer
   pub status_is : IsStatusOf ended status
-  pub ends : EndsSo ended tx lines
+  pub ends : EndsSo ended tx.now.taken tx.now.left lines
   pub answered : AreAnswers own meter meter.down lines answers
   -- so of all that the lines deliver those are executed that are genuine with a counter above the commissioned one and those of all
   -- earlier genuine ones, and no others
@@ -105,7 +105,7 @@ pub record IsTooLong (run : Run) : Type 0 where
   pub commissioned : meter_with address enrolled.meters ≡ Some meter
   pub over : is_over run.tx.before.left ≡ true
 
--- such deliveries are cut, unless a read failed before the limit or there is no memory
+-- such deliveries are cut, unless a read failed before the limit or there is no memory for the roster
 abbrev pub IsCut : SideStatus → Type 0
 IsCut status = (status ≡ statuses.Cut) ⊎ ((status ≡ statuses.Read) ⊎ ((status ≡ statuses.ReadRoster) ⊎ (status ≡ statuses.Memory)))
 
@@ -137,7 +137,9 @@ pub record IsRun (run : Run) : Type 0 where
   pub meter_refused : IsTrue run.sources_tell → IsUncommissioned run → IsUnlessUnread statuses.Uncommissioned run.status
   pub too_long_cut : IsTrue run.sources_tell → IsTooLong run → IsCut run.status
   pub complete : IsTrue run.sources_tell → IsFaultless run → (run.status ≡ statuses.Done) ⊎ (run.status ≡ statuses.Memory)
-  -- whatever happens, no byte is lost, and nothing is written after the other statuses
+  -- whatever happens, no byte is lost
   pub roster_kept : IsTrue run.sources_tell → LosesNothing run.roster
   pub tx_kept : IsTrue run.sources_tell → LosesNothing run.tx
+  -- after the other statuses, want of memory among them, no delivery was read and nothing is written
+  pub unread : was_heard run.status ≡ false → run.tx.now ≡ run.tx.before
   pub silent : was_heard run.status ≡ false → IsSilent run.out

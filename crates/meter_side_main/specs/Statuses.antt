@@ -27,17 +27,12 @@ was_heard statuses.Cut = true
 was_heard statuses.Write = true
 was_heard _ = false
 
--- the status where the source of deliveries ended so, and the output has its whole text
-abbrev pub status_at : Ended → SideStatus
-status_at ends.End = statuses.Done
-status_at ends.Cut = statuses.Cut
-status_at ends.Fault = statuses.Read
-
--- the status where a write failed: an end of the source that is no `End` comes first
-abbrev pub unwritten_at : Ended → SideStatus
-unwritten_at ends.End = statuses.Write
-unwritten_at ends.Cut = statuses.Cut
-unwritten_at ends.Fault = statuses.Read
+-- the status where the source of deliveries ended so, and a write failed or none did: an end that is no `End` comes before the write
+abbrev pub status_at : Ended → Bool → SideStatus
+status_at ends.Cut failed = statuses.Cut
+status_at ends.Fault failed = statuses.Read
+status_at ends.End true = statuses.Write
+status_at ends.End false = statuses.Done
 
 -- the status of a roster that can't be loaded
 abbrev pub refused_at : LoadFault → SideStatus

@@ -19,7 +19,7 @@ pub use laws::{
     contents_are_payloads, executed_exactly, executed_rise, genuine_are_told,
     others_change_nothing, places_are_judged, refused_exactly,
 };
-pub use lines::Answer;
+pub use lines::{Answer, LINE_MAX};
 pub use reason::{Did, SideReason};
 pub use session::Ended;
 pub use side::MeterSide;

@@ -1,16 +1,13 @@
 //! The lines of deliveries, and what is answered to each.
-ghost use Rattle.std.specs.Prelude.{◌≡◌, take, IfOk};
-ghost use Rattle.std.specs.Str.Lines.{lines};
+ghost use Rattle.std.specs.Prelude.{◌≡◌};
 ghost use Rattle.meter_side_main.specs.Lines.{bytes_in, delivery_in, answer_of, last_by};
-ghost use Rattle.meter_side_main.specs.Answers.{told_by, listener_after};
 
 use crate::delivery::{DELIVERY_MAX, Delivery};
 use crate::listener::Listener;
 use crate::reason::Did;
-use outer_io::Memory;
-use paper::written;
-use plain_text::TextLines;
-use std::alloc::Global;
+
+/// The most bytes of a line that delivers anything, without its end: a D, a space, and two digits for each of 290 bytes.
+pub const LINE_MAX: usize = 582;
 
 /// What is answered to a line.
 #[derive(Drop)]
@@ -48,8 +45,8 @@ fn read_delivery(line: &[u8]) -> Option<Delivery>
     }
 }
 
-// Hears what a line delivers.
-fn hear_line(listener: &mut Listener, line: &[u8]) -> Answer
+/// Hears what a line delivers.
+pub(crate) fn hear_line(listener: &mut Listener, line: &[u8]) -> Answer
     ensures answer { result ≡ answer_of listener.old.own listener.old.commission listener.old.last (delivery_in line.now) }
     ensures last { listener.new ≡ record listener.old { last = last_by listener.old.last result } }
 {
@@ -57,28 +54,4 @@ fn hear_line(listener: &mut Listener, line: &[u8]) -> Answer
         None => Answer::Bad,
         Some(delivery) => Answer::Heard(listener.hear(delivery.bytes())),
     }
-}
-
-// Hears what the first lines of a text deliver, so many at most: the text of what is answered.
-pub(crate) fn hear_lines(
-    alloc: Global,
-    listener: &mut Listener,
-    text: &[u8],
-    most: usize,
-) -> Result<Vec<u8>, Memory>
-    ensures told { IfOk result (λ told. told.items ≡ told_by listener.old (take most (lines text.now))) }
-    ensures after { IfOk result (λ _. listener.new ≡ listener_after listener.old (take most (lines text.now))) }
-{
-    let mut told = Vec::new(alloc);
-    let mut lines = TextLines::of_text(text);
-    let mut left = most;
-    'lines: while left > 0 {
-        let Some(line) = lines.next() else {
-            return Ok(told);
-        };
-        let answer = written(alloc, &hear_line(listener, line))?;
-        told.extend_from_slice(&answer)?;
-        left -= 1;
-    }
-    Ok(told)
 }

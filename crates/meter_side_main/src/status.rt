@@ -1,7 +1,8 @@
 //! How a run of the meter's side ended.
 use roster_file::LineCause;
 
-/// How a run of the meter's side ended: the first of these that applies, in this order, but for `Done` and `Memory`.
+/// How a run of the meter's side ended: the first of these that applies, in this order, but for `Done` and `Memory`, which comes in place of `ReadRoster`, `Roster` or what is behind
+/// them.
 #[derive(Clone, Copy, Debug, PartialEq, Eq)]
 pub enum SideStatus {
     /// Status 0: the deliveries were heard to their end, and the output has its whole text.
@@ -20,7 +21,7 @@ pub enum SideStatus {
     Cut,
     /// Status 7: the output can't be written.
     Write,
-    /// Status 10: there is no memory, in place of any but `Words`.
+    /// Status 10: there is no memory for the roster.
     Memory,
 }
 

@@ -1,6 +1,7 @@
 //! A downlink as another implementation made it, and runs over sources and sinks in memory.
 use super::*;
 use hex::FromHex;
+use line_reader::TextReader;
 use meter_address::{Address, Commission, Mode};
 use outer_io::{MemorySink, MemorySource};
 use roster_file::LineCause;
@@ -81,7 +82,8 @@ fn run(
         }
     }
     let mut roster = MemorySource::new(roster.to_vec(alloc)?, vec![in alloc; fail[0]]?);
-    let mut tx = MemorySource::pieces(lines, 100, vec![in alloc; fail[1]]?);
+    let tx = MemorySource::pieces(lines, 100, vec![in alloc; fail[1]]?);
+    let mut tx = TextReader::new(tx, LINE_MAX);
     let mut out = MemorySink::new(alloc, vec![in alloc; fail[2]]?);
     let status = meter_run(alloc, &words, &mut roster, &mut tx, &mut out);
     Ok((status, out))

@@ -2,14 +2,16 @@
 ghost use Rattle.std.specs.Prelude.{◌≡◌, [], map, true, false, length, None, Err, IsTrue, IfOk, IfErr, is_some};
 ghost use Rattle.std.specs.String.{string_bytes};
 ghost use Rattle.outer_io.specs.Shown.{LosesNothing, source_change, sink_change};
-ghost use Rattle.meter_side_main.specs.Statuses.{was_heard, status_at, unwritten_at, refused_at};
+ghost use Rattle.meter_side_main.specs.Statuses.{was_heard, status_at, refused_at};
 ghost use Rattle.meter_side_main.specs.Run.{address_in, meter_with, IsRun, Hears};
 ghost use Rattle.meter_side_main.specs.Refused.{IsNamed, IsRefused, IsHeardFor};
 
 use crate::session::{Ended, hear_source};
 use crate::status::SideStatus;
+use line_reader::TextReader;
 use meter_address::{Address, Commission};
-use outer_io::{Sink, Source, write_all};
+use outer_io::{Sink, Source};
+use paper::SinkPaper;
 use roster_file::{LoadFault, load_roster};
 use std::alloc::Global;
 
@@ -89,73 +91,94 @@ fn find_meter<S: Source>(
     Ok(Meter { own, commission })
 }
 
-// The status where the source of deliveries ended so, and the output has its whole text.
-fn status_of(ended: Ended) -> SideStatus
-    ensures { result ≡ status_at ended }
+// The status where the source of deliveries ended so, and a write failed or none did: an end that is no `End` comes before the write.
+fn status_at(ended: Ended, failed: bool) -> SideStatus
+    ensures { result ≡ status_at ended failed }
 {
-    match ended {
-        Ended::End => SideStatus::Done,
-        Ended::Cut => SideStatus::Cut,
-        Ended::Fault => SideStatus::Read,
+    match (ended, failed) {
+        (Ended::Cut, _) => SideStatus::Cut,
+        (Ended::Fault, _) => SideStatus::Read,
+        (Ended::End, true) => SideStatus::Write,
+        (Ended::End, false) => SideStatus::Done,
     }
 }
 
-// The status where a write failed: an end of the source that is no `End` comes first.
-fn unwritten(ended: Ended) -> SideStatus
-    ensures { result ≡ unwritten_at ended }
+// Hears the deliveries for a meter, and puts what is answered on a paper over the output, until all of it is there or a write failed.
+fn hear_on<S: Source, K: Sink>(
+    meter: &Meter,
+    tx: &mut TextReader<S>,
+    paper: &mut SinkPaper<'_, K>,
+) -> SideStatus
+    requires fresh { tx.old.reader.line ≡ 0 }
+    requires goes_on { tx.old.reader.done ≡ false }
+    requires longest { tx.old.longest ≡ 582 }
+    requires untaken { IsTrue S.tells → S.taken tx.old.reader.source ≡ [] }
+    requires blank { paper.old.page ≡ [] }
+    requires steady { paper.old.failed ≡ false }
+    requires empty { IsTrue K.tells → K.written paper.old.sink.now ≡ [] }
+    ensures same { paper.new.sink.ghost_name ≡ paper.old.sink.ghost_name }
+    ensures heard { IsTrue S.tells → Hears meter.now.own meter.now.commission
+        (source_change S.Source tx.old.reader.source tx.new.reader.source) K.tells
+        (sink_change K.Sink paper.old.sink.now paper.new.sink.now) result }
+    ensures cause { IsHeardFor S.tells (source_change S.Source tx.old.reader.source tx.new.reader.source)
+        (sink_change K.Sink paper.old.sink.now paper.new.sink.now) result }
+    ensures no_loss { IsTrue S.tells → LosesNothing (source_change S.Source tx.old.reader.source tx.new.reader.source) }
 {
-    match ended {
-        Ended::End => SideStatus::Write,
-        Ended::Cut => SideStatus::Cut,
-        Ended::Fault => SideStatus::Read,
-    }
+    let ended = hear_source(meter.own, meter.commission, tx, paper);
+    let unwritten = paper.finish().is_err();
+    status_at(ended, unwritten)
 }
 
 // Hears the deliveries for a meter, and writes what is answered.
-fn hear<S: Source, K: Sink>(alloc: Global, meter: Meter, tx: &mut S, out: &mut K) -> SideStatus
-    requires untaken { IsTrue S.tells → S.taken tx.old ≡ [] }
+fn hear<S: Source, K: Sink>(meter: &Meter, tx: &mut TextReader<S>, out: &mut K) -> SideStatus
+    requires fresh { tx.old.reader.line ≡ 0 }
+    requires goes_on { tx.old.reader.done ≡ false }
+    requires longest { tx.old.longest ≡ 582 }
+    requires untaken { IsTrue S.tells → S.taken tx.old.reader.source ≡ [] }
     requires empty { IsTrue K.tells → K.written out.old ≡ [] }
-    ensures heard { IsTrue (was_heard result) → IsTrue S.tells →
-        Hears meter.own meter.commission (source_change S.Source tx.old tx.new) K.tells (sink_change K.Sink out.old out.new) result }
-    ensures cause { IsHeardFor S.tells (source_change S.Source tx.old tx.new) (sink_change K.Sink out.old out.new) result }
-    ensures no_loss { IsTrue S.tells → LosesNothing (source_change S.Source tx.old tx.new) }
-    ensures silent { was_heard result ≡ false → out.new ≡ out.old }
+    ensures heard { IsTrue S.tells → Hears meter.now.own meter.now.commission
+        (source_change S.Source tx.old.reader.source tx.new.reader.source) K.tells (sink_change K.Sink out.old out.new) result }
+    ensures cause { IsHeardFor S.tells (source_change S.Source tx.old.reader.source tx.new.reader.source)
+        (sink_change K.Sink out.old out.new) result }
+    ensures no_loss { IsTrue S.tells → LosesNothing (source_change S.Source tx.old.reader.source tx.new.reader.source) }
 {
-    let Ok(heard) = hear_source(alloc, meter.own, meter.commission, tx) else {
-        return SideStatus::Memory;
-    };
-    match write_all(out, &heard.text) {
-        Ok(()) => status_of(heard.ended),
-        Err(_) => unwritten(heard.ended),
-    }
+    let mut paper = SinkPaper::new(out);
+    hear_on(meter, tx, &mut paper)
 }
 
-/// Hears the deliveries of `tx` for the meter of the roster that the words `ROSTER ADDRESS TX` name, and writes what is answered.
+/// Hears the deliveries of `tx` for the meter of the roster that the words `ROSTER ADDRESS TX` name, and writes what is answered to each
+/// as it is heard. Memory is taken for the roster alone, before the first delivery is read.
+///
+/// The reader is one that was just made over the deliveries, for lines of at most `LINE_MAX` bytes.
 pub fn meter_run<S: Source, K: Sink>(
     alloc: Global,
     words: &[String],
     roster: &mut S,
-    tx: &mut S,
+    tx: &mut TextReader<S>,
     out: &mut K,
 ) -> SideStatus
-    requires untaken { IsTrue S.tells → (S.taken roster.old ≡ []) × (S.taken tx.old ≡ []) }
+    requires fresh { tx.old.reader.line ≡ 0 }
+    requires goes_on { tx.old.reader.done ≡ false }
+    requires longest { tx.old.longest ≡ 582 }
+    requires untaken { IsTrue S.tells → (S.taken roster.old ≡ []) × (S.taken tx.old.reader.source ≡ []) }
     requires empty { IsTrue K.tells → K.written out.old ≡ [] }
     ensures run { IsRun (record {
       words = map string_bytes words.now;
       sources_tell = S.tells;
       sinks_tell = K.tells;
       roster = source_change S.Source roster.old roster.new;
-      tx = source_change S.Source tx.old tx.new;
+      tx = source_change S.Source tx.old.reader.source tx.new.reader.source;
       out = sink_change K.Sink out.old out.new;
       status = result;
     }) }
 
-    // What stays as it was: the output where no delivery was heard, and the roster after faulty words.
+    // What stays as it was: the deliveries and the output where none was heard, and the roster after faulty words.
+    ensures tx { was_heard result ≡ false → tx.new ≡ tx.old }
     ensures out { was_heard result ≡ false → out.new ≡ out.old }
     ensures roster { address_in (map string_bytes words.now) ≡ None → roster.new ≡ roster.old }
 {
     match find_meter(alloc, words, roster) {
-        Ok(meter) => hear(alloc, meter, tx, out),
+        Ok(meter) => hear(&meter, tx, out),
         Err(status) => status,
     }
 }

@@ -221,7 +221,8 @@ impl Sink for MemorySink {
         ensures later { self.old.faults ≤ self.new.faults }
         ensures cause { OnErr result (Rose self.old.faults self.new.faults) }
 
-        // It fails at its listed writes, else only for want of memory, and takes all bytes, as far as its size allows, where it does not fail.
+        // It fails at its listed writes, else only for want of memory, and takes all bytes, as far as its size allows, where it
+        // does not fail.
         ensures listed { IsNextListed self.old.listed self.old.calls → IsErr result }
         ensures all { IfOk result (λ n. n ≡ limited self.old.size (length bytes.now)) }
         ensures same_list { self.new.listed ≡ self.old.listed }

@@ -14,7 +14,8 @@ none = record { calls = record { parts = []; calls = refl; whole = refl } }
 pub once : {P : Type 0} {takes : P → List ℕ → P → Type 0} {p q : P} {text : List ℕ} → takes p text q → Puts takes p text q
 once {q} {text} took = record { calls = record { parts = text ∷ []; calls = (q, took, refl); whole = append-nil text } }
 
-folds_then : {P : Type 0} (takes : P → List ℕ → P → Type 0) (p q r : P) (xs ys : List (List ℕ)) → FoldsTo takes p xs q → FoldsTo takes q ys r → FoldsTo takes p (xs ++ ys) r
+folds_then : {P : Type 0} (takes : P → List ℕ → P → Type 0) (p q r : P) (xs ys : List (List ℕ)) → FoldsTo takes p xs q
+    → FoldsTo takes q ys r → FoldsTo takes p (xs ++ ys) r
 folds_then takes p q r [] ys first second = rw first second
 folds_then takes p q r (x ∷ xs) ys (j, took, first) second = (j, took, folds_then takes j q r xs ys first second)
 
@@ -22,7 +23,8 @@ joined : (xs ys : List (List ℕ)) (text more : List ℕ) → concat xs ≡ text
 joined xs ys text more first second = rw (sym first) (rw (sym second) (concat-append xs ys))
 
 -- calls, and then more of them
-pub then : {P : Type 0} {takes : P → List ℕ → P → Type 0} {p q r : P} {text more : List ℕ} → Puts takes p text q → Puts takes q more r → Puts takes p (text ++ more) r
+pub then : {P : Type 0} {takes : P → List ℕ → P → Type 0} {p q r : P} {text more : List ℕ} → Puts takes p text q → Puts takes q more r
+    → Puts takes p (text ++ more) r
 then {P} {takes} {p} {q} {r} {text} {more} first second = record {
   calls = record {
     parts = first.calls.parts ++ second.calls.parts;
@@ -32,20 +34,25 @@ then {P} {takes} {p} {q} {r} {text} {more} first second = record {
 }
 
 -- a text in two pieces, and in more
-pub two_make : {P : Type 0} {takes : P → List ℕ → P → Type 0} {p q r : P} {a b : List ℕ} (whole : List ℕ) → Puts takes p a q → Puts takes q b r → whole ≡ a ++ b → Puts takes p whole r
+pub two_make : {P : Type 0} {takes : P → List ℕ → P → Type 0} {p q r : P} {a b : List ℕ} (whole : List ℕ) → Puts takes p a q
+    → Puts takes q b r → whole ≡ a ++ b → Puts takes p whole r
 two_make whole one two e = rw e (then one two)
 
-pub three_make : {P : Type 0} {takes : P → List ℕ → P → Type 0} {p q r s : P} {a b c : List ℕ} (whole : List ℕ) → Puts takes p a q → Puts takes q b r → Puts takes r c s → whole ≡ a ++ b ++ c → Puts takes p whole s
+pub three_make : {P : Type 0} {takes : P → List ℕ → P → Type 0} {p q r s : P} {a b c : List ℕ} (whole : List ℕ) → Puts takes p a q
+    → Puts takes q b r → Puts takes r c s → whole ≡ a ++ b ++ c → Puts takes p whole s
 three_make whole one two three e = two_make whole (then one two) three e
 
-pub four_make : {P : Type 0} {takes : P → List ℕ → P → Type 0} {p q r s t : P} {a b c d : List ℕ} (whole : List ℕ) → Puts takes p a q → Puts takes q b r → Puts takes r c s → Puts takes s d t
+pub four_make : {P : Type 0} {takes : P → List ℕ → P → Type 0} {p q r s t : P} {a b c d : List ℕ} (whole : List ℕ) → Puts takes p a q
+    → Puts takes q b r → Puts takes r c s → Puts takes s d t
     → whole ≡ a ++ b ++ c ++ d → Puts takes p whole t
 four_make whole one two three four e = three_make whole (then one two) three four e
 
-pub five_make : {P : Type 0} {takes : P → List ℕ → P → Type 0} {p q r s t u : P} {a b c d e : List ℕ} (whole : List ℕ) → Puts takes p a q → Puts takes q b r → Puts takes r c s → Puts takes s d t → Puts takes t e u
+pub five_make : {P : Type 0} {takes : P → List ℕ → P → Type 0} {p q r s t u : P} {a b c d e : List ℕ} (whole : List ℕ) → Puts takes p a q
+    → Puts takes q b r → Puts takes r c s → Puts takes s d t → Puts takes t e u
     → whole ≡ a ++ b ++ c ++ d ++ e → Puts takes p whole u
 five_make whole one two three four five e = four_make whole (then one two) three four five e
 
-pub six_make : {P : Type 0} {takes : P → List ℕ → P → Type 0} {p q r s t u v : P} {a b c d e f : List ℕ} (whole : List ℕ) → Puts takes p a q → Puts takes q b r → Puts takes r c s → Puts takes s d t → Puts takes t e u → Puts takes u f v
+pub six_make : {P : Type 0} {takes : P → List ℕ → P → Type 0} {p q r s t u v : P} {a b c d e f : List ℕ} (whole : List ℕ)
+    → Puts takes p a q → Puts takes q b r → Puts takes r c s → Puts takes s d t → Puts takes t e u → Puts takes u f v
     → whole ≡ a ++ b ++ c ++ d ++ e ++ f → Puts takes p whole v
 six_make whole one two three four five six e = five_make whole (then one two) three four five six e

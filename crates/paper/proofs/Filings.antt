@@ -14,7 +14,8 @@ pub front_more : (front whole more : List ℕ) → IsFrontOf front whole → IsF
 front_more front whole more f = record { rest = f.rest ++ more; joined = ap (λ t. t ++ more) f.joined ∙ append_assoc front f.rest more }
 
 pub front_trans : (a b c : List ℕ) → IsFrontOf a b → IsFrontOf b c → IsFrontOf a c
-front_trans a b c f g = record { rest = f.rest ++ g.rest; joined = g.joined ∙ ap (λ t. t ++ g.rest) f.joined ∙ append_assoc a f.rest g.rest }
+front_trans a b c f g =
+    record { rest = f.rest ++ g.rest; joined = g.joined ∙ ap (λ t. t ++ g.rest) f.joined ∙ append_assoc a f.rest g.rest }
 
 front_same : (a b c : List ℕ) → a ≡ b → IsFrontOf c a → IsFrontOf c b
 front_same a b c e f = record { rest = f.rest; joined = sym e ∙ f.joined }
@@ -29,7 +30,8 @@ front_of_appended bytes old new a = record { rest = take a.count bytes; joined =
 pub appended_is_front : (bytes old new : List ℕ) → AppendsFront bytes old new → IsFrontOf new (old ++ bytes)
 appended_is_front bytes old new a = record {
   rest = drop a.count bytes;
-  joined = ap (λ t. old ++ t) (sym (take-append-drop a.count bytes)) ∙ sym (append_assoc old (take a.count bytes) (drop a.count bytes)) ∙ ap (λ t. t ++ drop a.count bytes) (sym a.appended);
+  joined = ap (λ t. old ++ t) (sym (take-append-drop a.count bytes)) ∙ sym (append_assoc old (take a.count bytes) (drop a.count bytes))
+      ∙ ap (λ t. t ++ drop a.count bytes) (sym a.appended);
 }
 
 pub whole_is_front : (bytes old new : List ℕ) → new ≡ old ++ bytes → IsFrontOf new (old ++ bytes)
@@ -58,7 +60,9 @@ then_front : (w p w' p' w'' x y : List ℕ) → w' ++ p' ≡ w ++ p ++ x → IsF
 then_front w p w' p' w'' x y one two = front_same (w' ++ p' ++ y) (w ++ p ++ (x ++ y)) w'' (ap (λ t. t ++ y) one ∙ three w p x y) two
 
 stays_front : (w p w' w'' x y : List ℕ) → IsFrontOf w' (w ++ p ++ x) → w'' ≡ w' → IsFrontOf w'' (w ++ p ++ (x ++ y))
-stays_front w p w' w'' x y one same = front_is w' w'' (w ++ p ++ (x ++ y)) (sym same) (front_same (w ++ p ++ x ++ y) (w ++ p ++ (x ++ y)) w' (three w p x y) (front_more w' (w ++ p ++ x) y one))
+stays_front w p w' w'' x y one same =
+    front_is w' w'' (w ++ p ++ (x ++ y)) (sym same) (front_same (w ++ p ++ x ++ y) (w ++ p ++ (x ++ y)) w' (three w p x y)
+    (front_more w' (w ++ p ++ x) y one))
 
 -- no text
 pub files_none : (tells : Bool) (a : Filed) → Files tells a [] a
@@ -76,8 +80,10 @@ files_none tells a = record {
 
 front_by : (tells : Bool) (a b c : Filed) (x y : List ℕ) (mid : Bool) → b.failed ≡ mid → Files tells a x b → Files tells b y c
     → a.failed ≡ false → c.failed ≡ true → IsTrue tells → IsFrontOf c.written (a.written ++ a.page ++ (x ++ y))
-front_by tells a b c x y false is one two off on t = then_front a.written a.page b.written b.page c.written x y ((one.whole is).1 t) (two.front is on t)
-front_by tells a b c x y true is one two off on t = stays_front a.written a.page b.written c.written x y (one.front off is t) ((two.stuck is).1 t)
+front_by tells a b c x y false is one two off on t =
+    then_front a.written a.page b.written b.page c.written x y ((one.whole is).1 t) (two.front is on t)
+front_by tells a b c x y true is one two off on t =
+    stays_front a.written a.page b.written c.written x y (one.front off is t) ((two.stuck is).1 t)
 
 cause_by : (tells : Bool) (a b c : Filed) (x y : List ℕ) (mid : Bool) → b.failed ≡ mid → Files tells a x b → Files tells b y c
     → a.failed ≡ false → c.failed ≡ true → Rose a.faults c.faults
@@ -89,17 +95,24 @@ pub files_then : (tells : Bool) (a b c : Filed) (x y : List ℕ) → Files tells
 files_then tells a b c x y one two = record {
   later = le_trans a.faults b.faults c.faults one.later two.later;
   grows = λ t. front_trans a.written b.written c.written (one.grows t) (two.grows t);
-  whole = λ off. let mid = (two.whole off).0 in ((one.whole mid).0, λ t. then_whole a.written a.page b.written b.page c.written c.page x y ((one.whole mid).1 t) ((two.whole off).1 t));
+  whole = λ off. let mid =
+      (two.whole off).0 in (
+        (one.whole mid).0,
+        λ t. then_whole a.written a.page b.written b.page c.written c.page x y ((one.whole mid).1 t)
+            ((two.whole off).1 t),
+      );
   front = front_by tells a b c x y b.failed refl one two;
   stuck = λ on. let mid = one.stuck on in let last = two.stuck mid.0 in (last.0, λ t. last.1 t ∙ mid.1 t);
   cause = cause_by tells a b c x y b.failed refl one two;
 }
 
 -- the page given to the sink
-pub files_turn : (tells : Bool) (w p b w' e : List ℕ) (failed failed' : Bool) (f f' : ℕ) → b ≡ p → e ≡ [] → f ≤ f' → (IsTrue tells → IsFrontOf w w')
+pub files_turn : (tells : Bool) (w p b w' e : List ℕ) (failed failed' : Bool) (f f' : ℕ) → b ≡ p → e ≡ [] → f ≤ f'
+    → (IsTrue tells → IsFrontOf w w')
     → (failed' ≡ false → (failed ≡ false) × (IsTrue tells → w' ≡ w ++ b)) → (failed ≡ false → IsTrue tells → IsFrontOf w' (w ++ b))
     → (failed ≡ true → (failed' ≡ true) × (IsTrue tells → w' ≡ w)) → (failed ≡ false → failed' ≡ true → Rose f f')
-    → Files tells (record { written = w; page = p; failed = failed; faults = f }) [] (record { written = w'; page = e; failed = failed'; faults = f' })
+    → Files tells (record { written = w; page = p; failed = failed; faults = f }) []
+    (record { written = w'; page = e; failed = failed'; faults = f' })
 files_turn tells w p b w' e failed failed' f f' same empty later grows whole front stuck cause = record {
   later = later;
   grows = grows;
@@ -133,7 +146,12 @@ puts_file tells takes name filed each p q text puts =
 between : (a c text m r : List ℕ) → c ≡ a ++ m → a ++ text ≡ c ++ r → AppendsFront text a c
 between a c text m r grown joined =
     let rest : text ≡ m ++ r = append_cancel_left a text (m ++ r) (joined ∙ ap (λ t. t ++ r) grown ∙ append_assoc a m r) in
-    record { count = length m; within = fits text m r rest; appended = grown ∙ ap (λ t. a ++ t) (sym (ap (λ t. take (length m) t) rest ∙ take-append_seam m r)) }
+    record {
+      count = length m;
+      within = fits text m r rest;
+      appended = grown
+          ∙ ap (λ t. a ++ t) (sym (ap (λ t. take (length m) t) rest ∙ take-append_seam m r));
+    }
   where
     fits : (text m r : List ℕ) → text ≡ m ++ r → length m ≤ length text
     fits text m r e = rw e (rw (length-append m r) (omega arith))
@@ -146,12 +164,15 @@ pub record Finished (tells : Bool) (a : Filed) (text : List ℕ) (c : Filed) : T
   pub cause : c.failed ≡ true → Rose a.faults c.faults
 
 no_more : (w text : List ℕ) (p : List ℕ) → p ≡ [] → w ++ p ++ (text ++ []) ≡ w ++ text
-no_more w text p e = ap (λ (t : List ℕ). w ++ t ++ (text ++ [])) e ∙ ap (λ (t : List ℕ). t ++ (text ++ [])) (append-nil w) ∙ ap (λ (t : List ℕ). w ++ t) (append-nil text)
+no_more w text p e =
+    ap (λ (t : List ℕ). w ++ t ++ (text ++ [])) e ∙ ap (λ (t : List ℕ). t ++ (text ++ [])) (append-nil w)
+    ∙ ap (λ (t : List ℕ). w ++ t) (append-nil text)
 
 at_end : (w c p q text : List ℕ) → q ≡ [] → p ≡ [] → c ++ q ≡ w ++ p ++ (text ++ []) → c ≡ w ++ text
 at_end w c p q text eq ep e = sym (append-nil c) ∙ ap (λ (t : List ℕ). c ++ t) (sym eq) ∙ e ∙ no_more w text p ep
 
-pub finished : (tells : Bool) (a b c : Filed) (text : List ℕ) → a.failed ≡ false → a.page ≡ [] → Files tells a text b → Files tells b [] c → c.page ≡ [] → Finished tells a text c
+pub finished : (tells : Bool) (a b c : Filed) (text : List ℕ) → a.failed ≡ false → a.page ≡ [] → Files tells a text b → Files tells b [] c
+    → c.page ≡ [] → Finished tells a text c
 finished tells a b c text fresh empty one two emptied =
     let all : Files tells a (text ++ []) c = files_then tells a b c text [] one two in record {
       ok = λ off t. at_end a.written c.written a.page c.page text emptied empty ((all.whole off).1 t);

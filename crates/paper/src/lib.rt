@@ -13,6 +13,7 @@ pub use labelled::{
     put_labelled, put_labelled_bytes, put_labelled_if, put_labelled_two, put_optional,
 };
 pub use pieces::{Paper, Printed, put_hex, put_number, put_signed, put_text};
+pub use sink_paper::SinkPaper;
 pub use whole::write;
 
 #[cfg(test)]

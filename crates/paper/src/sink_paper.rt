@@ -27,9 +27,10 @@ fn give<K: Sink>(sink: &mut K, bytes: &[u8], failed: bool) -> bool
     }
 }
 
-/// A paper over a sink, to which it gives a text in large pieces. After a write that failed it gives nothing more.
+/// A paper over a sink, to which it gives a text in large pieces. After a write that failed it gives nothing more. What is put on it
+/// has reached the sink once `finish` is called.
 #[derive(Drop)]
-pub(crate) struct SinkPaper<'s, K: Sink> {
+pub struct SinkPaper<'s, K: Sink> {
     sink: &'s mut K,
     page: Page,
     failed: bool,
@@ -37,7 +38,7 @@ pub(crate) struct SinkPaper<'s, K: Sink> {
 
 impl<'s, K: Sink> SinkPaper<'s, K> {
     /// A paper with no text yet.
-    pub(crate) fn new(sink: &'s mut K) -> SinkPaper<'s, K>
+    pub fn new(sink: &'s mut K) -> SinkPaper<'s, K>
         ensures same { result.sink.ghost_name ≡ sink.entry.ghost_name }
         ensures empty { result.page ≡ [] }
         ensures fresh { result.failed ≡ false }
@@ -73,8 +74,9 @@ impl<'s, K: Sink> SinkPaper<'s, K> {
         }
     }
 
-    /// Gives the rest of the text to the sink. It fails where a write has failed since the paper was made.
-    pub(crate) fn finish(&mut self) -> Result<(), Failed>
+    /// Gives the rest of the text to the sink. It fails where a write has failed since the paper was made: then the sink has some first
+    /// bytes of the text.
+    pub fn finish(&mut self) -> Result<(), Failed>
         ensures same { self.new.sink.ghost_name ≡ self.old.sink.ghost_name }
         ensures files { Files K.tells (filed K.written K.faults self.old) [] (filed K.written K.faults self.new) }
         ensures empty { self.new.page ≡ [] }

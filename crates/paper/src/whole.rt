@@ -13,7 +13,8 @@ fn print_whole<K: Sink, T: Printed>(paper: &mut SinkPaper<'_, K>, thing: &T) -> 
     requires empty { paper.old.page ≡ [] }
     ensures same { paper.new.sink.ghost_name ≡ paper.old.sink.ghost_name }
     ensures ok { OnOk result (IsTrue K.tells → K.written paper.new.sink.now ≡ K.written paper.old.sink.now ++ T.text thing.now) }
-    ensures err { OnErr result (IsTrue K.tells → AppendsFront (T.text thing.now) (K.written paper.old.sink.now) (K.written paper.new.sink.now)) }
+    ensures err { OnErr result (IsTrue K.tells →
+        AppendsFront (T.text thing.now) (K.written paper.old.sink.now) (K.written paper.new.sink.now)) }
     ensures later { K.faults paper.old.sink.now ≤ K.faults paper.new.sink.now }
     ensures cause { OnErr result (Rose (K.faults paper.old.sink.now) (K.faults paper.new.sink.now)) }
 {

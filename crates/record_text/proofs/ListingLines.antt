@@ -24,7 +24,8 @@ closing_suc : (n count : ℕ) (ending : Option RecordFault) → closing (suc n) 
 closing_suc n count None = ap (λ test. if test then codes "more\n" else []) (below_suc n count)
 closing_suc n count (Some fault) = ap (λ test. if test then fault_line fault else codes "more\n") (below_suc count n)
 
-at_end : (n : ℕ) (payload : List ℕ) (from : ℕ) (ending : Option RecordFault) → IsListing payload from [] ending → listed n payload from ≡ closing n 0 ending
+at_end : (n : ℕ) (payload : List ℕ) (from : ℕ) (ending : Option RecordFault) → IsListing payload from [] ending
+    → listed n payload from ≡ closing n 0 ending
 unfolding listed
 at_end zero payload from None l = ap more_text (ending_is payload from None l)
 at_end zero payload from (Some fault) l = ap more_text (ending_is payload from (Some fault) l)
@@ -39,7 +40,8 @@ more_records : (count : ℕ) (ending : Option RecordFault) → codes "more\n" �
 more_records count None = ap (λ test. if test then codes "more\n" else []) (sym (some_above count))
 more_records count (Some fault) = ap (λ test. if test then fault_line fault else codes "more\n") (sym (none_below (suc count)))
 
-pub listing_lines : (n : ℕ) (payload : List ℕ) (from : ℕ) (spans : List RecordSpan) (ending : Option RecordFault) → IsListing payload from spans ending
+pub listing_lines : (n : ℕ) (payload : List ℕ) (from : ℕ) (spans : List RecordSpan) (ending : Option RecordFault)
+    → IsListing payload from spans ending
     → listed n payload from ≡ flat_map (span_line payload) (take n spans) ++ closing n (length spans) ending
 unfolding listed
 listing_lines zero payload from [] ending l = at_end zero payload from ending l

@@ -22,20 +22,24 @@ unfolding listed
 last_is zero payload from none = refl
 last_is (suc n) payload from none = absurd (omega arith)
 
-text_is : {P : Type 0} {takes : P → List ℕ → P → Type 0} {p q : P} (text other : List ℕ) → other ≡ text → Puts takes p text q → Puts takes p other q
+text_is : {P : Type 0} {takes : P → List ℕ → P → Type 0} {p q : P} (text other : List ℕ) → other ≡ text → Puts takes p text q
+    → Puts takes p other q
 text_is text other e puts = rw e puts
 
 -- a line is written
-pub goes_on : {P : Type 0} {takes : P → List ℕ → P → Type 0} {p q r : P} (n : ℕ) (payload : List ℕ) (from : ℕ) (span : RecordSpan) → 0 < n → next_of payload from ≡ Ok (Some span)
+pub goes_on : {P : Type 0} {takes : P → List ℕ → P → Type 0} {p q r : P} (n : ℕ) (payload : List ℕ) (from : ℕ) (span : RecordSpan) → 0 < n
+    → next_of payload from ≡ Ok (Some span)
     → Puts takes p (span_line payload span) q → Puts takes q (listed (n - 1) payload span.end) r → Puts takes p (listed n payload from) r
 goes_on n payload from span some is line later = text_is _ _ (next_is n payload from (Ok (Some span)) some is) (then line later)
 
 -- nothing but fillers is left
-pub is_done : {P : Type 0} {takes : P → List ℕ → P → Type 0} {p : P} (n : ℕ) (payload : List ℕ) (from : ℕ) → 0 < n → next_of payload from ≡ Ok None → Puts takes p (listed n payload from) p
+pub is_done : {P : Type 0} {takes : P → List ℕ → P → Type 0} {p : P} (n : ℕ) (payload : List ℕ) (from : ℕ) → 0 < n
+    → next_of payload from ≡ Ok None → Puts takes p (listed n payload from) p
 is_done n payload from some is = text_is _ _ (next_is n payload from (Ok None) some is) none
 
 -- a fault ends the listing
-pub is_faulty : {P : Type 0} {takes : P → List ℕ → P → Type 0} {p q : P} (n : ℕ) (payload : List ℕ) (from : ℕ) (fault : RecordFault) → 0 < n → next_of payload from ≡ Err fault
+pub is_faulty : {P : Type 0} {takes : P → List ℕ → P → Type 0} {p q : P} (n : ℕ) (payload : List ℕ) (from : ℕ) (fault : RecordFault)
+    → 0 < n → next_of payload from ≡ Err fault
     → Puts takes p (fault_line fault) q → Puts takes p (listed n payload from) q
 is_faulty n payload from fault some is line = text_is _ _ (next_is n payload from (Err fault) some is) line
 

@@ -11,30 +11,42 @@ use Rattle.record_values.specs.Units.{unit}
 use Rattle.record_values.specs.Values.{digits_of, decimal_of, positive, negative, bcd_value, lvar_value, unread, reading_of, value_as, data_of, value}
 use Rattle.record_values.proofs.Decimal.{take-digits}
 
-pub lvar-positive : (lvar : ℕ) (bytes : List ℕ) (read : Option ℕ) (v : Value) → 0xc0 ≤ lvar → lvar < 0xd0 → read ≡ decimal_of (take (2 * length bytes) (digits_of bytes)) → v ≡ positive read → v ≡ lvar_value lvar bytes
+pub lvar-positive : (lvar : ℕ) (bytes : List ℕ) (read : Option ℕ) (v : Value) → 0xc0 ≤ lvar → lvar < 0xd0
+    → read ≡ decimal_of (take (2 * length bytes) (digits_of bytes)) → v ≡ positive read → v ≡ lvar_value lvar bytes
 lvar-positive lvar bytes read v low high is e =
     let all : read ≡ decimal_of (digits_of bytes) = is ∙ ap decimal_of (take-digits bytes) in
-    e ∙ ap positive all ∙ sym (cond-false (ltb lvar 0xc0) _ _ (le-ltb lvar 0xc0 low) ∙ cond-true (ltb lvar 0xd0) _ _ (lt-ltb lvar 0xd0 high))
+    e ∙ ap positive all ∙ sym (cond-false (ltb lvar 0xc0) _ _ (le-ltb lvar 0xc0 low)
+    ∙ cond-true (ltb lvar 0xd0) _ _ (lt-ltb lvar 0xd0 high))
 
-pub lvar-negative : (lvar : ℕ) (bytes : List ℕ) (read : Option ℕ) (v : Value) → 0xd0 ≤ lvar → lvar < 0xe0 → read ≡ decimal_of (take (2 * length bytes) (digits_of bytes)) → v ≡ negative read → v ≡ lvar_value lvar bytes
+pub lvar-negative : (lvar : ℕ) (bytes : List ℕ) (read : Option ℕ) (v : Value) → 0xd0 ≤ lvar → lvar < 0xe0
+    → read ≡ decimal_of (take (2 * length bytes) (digits_of bytes)) → v ≡ negative read → v ≡ lvar_value lvar bytes
 lvar-negative lvar bytes read v low high is e =
     let all : read ≡ decimal_of (digits_of bytes) = is ∙ ap decimal_of (take-digits bytes) in
-    e ∙ ap negative all ∙ sym (cond-false (ltb lvar 0xc0) _ _ (le-ltb lvar 0xc0 (omega arith)) ∙ cond-false (ltb lvar 0xd0) _ _ (le-ltb lvar 0xd0 low) ∙ cond-true (ltb lvar 0xe0) _ _ (lt-ltb lvar 0xe0 high))
+    e ∙ ap negative all ∙ sym (cond-false (ltb lvar 0xc0) _ _ (le-ltb lvar 0xc0 (omega arith))
+    ∙ cond-false (ltb lvar 0xd0) _ _ (le-ltb lvar 0xd0 low) ∙ cond-true (ltb lvar 0xe0) _ _ (lt-ltb lvar 0xe0 high))
 
-pub bcd-positive : (bytes : List ℕ) (top : ℕ) (read : Option ℕ) (v : Value) → top ≡ slice_index (digits_of bytes) (2 * length bytes - 1) → (top ≡ 15 → ⊥) → read ≡ decimal_of (take (2 * length bytes) (digits_of bytes)) → v ≡ positive read → v ≡ bcd_value bytes
+pub bcd-positive : (bytes : List ℕ) (top : ℕ) (read : Option ℕ) (v : Value) → top ≡ slice_index (digits_of bytes) (2 * length bytes - 1)
+    → (top ≡ 15 → ⊥) → read ≡ decimal_of (take (2 * length bytes) (digits_of bytes)) → v ≡ positive read → v ≡ bcd_value bytes
 bcd-positive bytes top read v top_is not_f is e =
     let all : read ≡ decimal_of (digits_of bytes) = is ∙ ap decimal_of (take-digits bytes) in
-    e ∙ ap positive all ∙ sym (cond-false (eqb (slice_index (digits_of bytes) (2 * length bytes - 1)) 15) _ _ (ne_eqb _ 15 (λ f. not_f (top_is ∙ f))))
+    e ∙ ap positive all
+    ∙ sym (cond-false (eqb (slice_index (digits_of bytes) (2 * length bytes - 1)) 15) _ _ (ne_eqb _ 15 (λ f. not_f (top_is ∙ f))))
 
 -- days and moments of another width are not read
-pub day-unread : (bytes sent : List ℕ) (span : RecordSpan) (quantity : Quantity) (v : Value) → quantity ≡ (unit bytes span).quantity → readings.Day ≡ reading_of quantity → (span.dif % 16 ≡ 2 → ⊥) → sent ≡ data_of bytes span → v ≡ unread sent → v ≡ value bytes span
+pub day-unread : (bytes sent : List ℕ) (span : RecordSpan) (quantity : Quantity) (v : Value) → quantity ≡ (unit bytes span).quantity
+    → readings.Day ≡ reading_of quantity → (span.dif % 16 ≡ 2 → ⊥) → sent ≡ data_of bytes span → v ≡ unread sent → v ≡ value bytes span
 day-unread bytes sent span quantity v q r other same e =
     let is : reading_of (unit bytes span).quantity ≡ readings.Day = ap reading_of (sym q) ∙ sym r in
-    let whole : value bytes span ≡ unread (data_of bytes span) = ap (λ (x : Reading). value_as x (span.dif % 16) span.lvar (data_of bytes span)) is ∙ cond-false (eqb (span.dif % 16) 2) _ _ (ne_eqb _ 2 other) in
+    let whole : value bytes span ≡ unread (data_of bytes span) =
+    ap (λ (x : Reading). value_as x (span.dif % 16) span.lvar (data_of bytes span)) is
+    ∙ cond-false (eqb (span.dif % 16) 2) _ _ (ne_eqb _ 2 other) in
     e ∙ ap unread same ∙ sym whole
 
-pub moment-unread : (bytes sent : List ℕ) (span : RecordSpan) (quantity : Quantity) (v : Value) → quantity ≡ (unit bytes span).quantity → readings.Moment ≡ reading_of quantity → (span.dif % 16 ≡ 4 → ⊥) → sent ≡ data_of bytes span → v ≡ unread sent → v ≡ value bytes span
+pub moment-unread : (bytes sent : List ℕ) (span : RecordSpan) (quantity : Quantity) (v : Value) → quantity ≡ (unit bytes span).quantity
+    → readings.Moment ≡ reading_of quantity → (span.dif % 16 ≡ 4 → ⊥) → sent ≡ data_of bytes span → v ≡ unread sent → v ≡ value bytes span
 moment-unread bytes sent span quantity v q r other same e =
     let is : reading_of (unit bytes span).quantity ≡ readings.Moment = ap reading_of (sym q) ∙ sym r in
-    let whole : value bytes span ≡ unread (data_of bytes span) = ap (λ (x : Reading). value_as x (span.dif % 16) span.lvar (data_of bytes span)) is ∙ cond-false (eqb (span.dif % 16) 4) _ _ (ne_eqb _ 4 other) in
+    let whole : value bytes span ≡ unread (data_of bytes span) =
+    ap (λ (x : Reading). value_as x (span.dif % 16) span.lvar (data_of bytes span)) is
+    ∙ cond-false (eqb (span.dif % 16) 4) _ _ (ne_eqb _ 4 other) in
     e ∙ ap unread same ∙ sym whole

@@ -79,11 +79,18 @@ after_fb =
 -- the unit of a code by its row
 abbrev pub unit_by : UnitRow → ℕ → ℕ → ℕ → Unit
 unit_by r code modifiers_at modifiers =
-    record { quantity = r.quantity; name = r.name; exponent = r.least +ℤ pos (code - r.first); modifiers_at = modifiers_at; modifiers = modifiers }
+    record {
+      quantity = r.quantity;
+      name = r.name;
+      exponent = r.least +ℤ pos (code - r.first);
+      modifiers_at = modifiers_at;
+      modifiers = modifiers;
+    }
 
 -- the unit of a code by a table: unknown where no row has it
 abbrev pub unit_in : List UnitRow → ℕ → ℕ → ℕ → Unit
-unit_in [] code modifiers_at modifiers = record { quantity = Unknown; name = NoUnit; exponent = pos 0; modifiers_at = modifiers_at; modifiers = modifiers }
+unit_in [] code modifiers_at modifiers =
+    record { quantity = Unknown; name = NoUnit; exponent = pos 0; modifiers_at = modifiers_at; modifiers = modifiers }
 unit_in (r ∷ rows) code modifiers_at modifiers =
     if nat_le r.first code && nat_le code r.last
     then unit_by r code modifiers_at modifiers
@@ -103,7 +110,9 @@ is_scaled r = nat_le r.last (r.first + 15) && (int_le (minus 12) r.least && int_
 -- Manufacturer data have no unit.
 abbrev pub unit : List ℕ → RecordSpan → Unit
 unit bytes span =
-    if span.maker then record { quantity = Manufacturer; name = NoUnit; exponent = pos 0; modifiers_at = span.vifes_at; modifiers = span.vifes } else
+    if span.maker
+    then record { quantity = Manufacturer; name = NoUnit; exponent = pos 0; modifiers_at = span.vifes_at; modifiers = span.vifes }
+    else
     (if span.vif == 0xfb then unit_in after_fb (slice_index bytes span.vifes_at % 128) (span.vifes_at + 1) (span.vifes - 1) else
     (if span.vif == 0xfd then unit_in after_fd (slice_index bytes span.vifes_at % 128) (span.vifes_at + 1) (span.vifes - 1) else
     unit_in primary (span.vif % 128) span.vifes_at span.vifes))

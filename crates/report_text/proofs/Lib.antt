@@ -10,3 +10,4 @@ pub mod FirstRecords
 pub mod Utf8Texts
 pub mod TreeLists
 pub mod SameListing
+pub mod PartedReports

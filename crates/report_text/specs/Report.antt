@@ -113,8 +113,11 @@ unfoldable pub strangers_text : List Heard → List ℕ
 strangers_text heard =
     labelled (codes "strangers ") (length heard) ++ codes "\n" ++ flat_map stranger_text heard ++ flat_map ring_text (ring_of heard)
 
--- the report of a session: its receivers, which are numbered from 1, its slots, and its strangers
+-- a report: its receivers, which are numbered from 1, the text of its meters, and its strangers
+abbrev pub report_around : List ReceiverEnd → List ℕ → List Heard → List ℕ
+report_around ends meters heard =
+    codes "wmbus-report 1\n" ++ flat_map receiver_text (enumerate_from 1 ends) ++ meters ++ strangers_text heard ++ codes "end\n"
+
+-- the report of a session, with its slots in the order of the roster
 unfoldable pub report_text : List ReceiverEnd → List SlotView → List Heard → List ℕ
-report_text ends slots heard =
-    codes "wmbus-report 1\n" ++ flat_map receiver_text (enumerate_from 1 ends) ++ flat_map meter_text slots
-    ++ strangers_text heard ++ codes "end\n"
+report_text ends slots heard = report_around ends (flat_map meter_text slots) heard

@@ -10,7 +10,7 @@ ghost use Rattle.paper.specs.Pieces.{text_if};
 ghost use Rattle.report_text.specs.Report.{ended_text, counts_text, receiver_text};
 ghost use Rattle.report_text.specs.Report.{mode_text, commission_text, numbers_text, meter_text};
 ghost use Rattle.report_text.specs.Report.{step_text, readings_after, steps_text, last_text, pending_text, journal_text};
-ghost use Rattle.report_text.specs.Report.{stranger_text, ring_text, strangers_text, report_text};
+ghost use Rattle.report_text.specs.Report.{stranger_text, ring_text, strangers_text, report_around, report_text};
 
 use crate::lent::{ReceiverEnd, Session};
 use crate::outcomes::put_outcome;
@@ -195,7 +195,7 @@ fn put_numbers<P: Paper>(paper: &mut P, last: Option<u32>, down: u32, steps: usi
 }
 
 #[tactic(auto, unfolding(crate::specs::Report::meter_text), using(paper::proofs::Calls::three_make))]
-fn put_meter<P: Paper>(paper: &mut P, slot: &SlotBook)
+pub(crate) fn put_meter<P: Paper>(paper: &mut P, slot: &SlotBook)
     ensures { Puts P.takes paper.old (meter_text slot.now) paper.new }
 {
     let now = slot.commission();
@@ -275,15 +275,38 @@ fn put_strangers<P: Paper>(paper: &mut P, strangers: &Strangers)
     put_ring(paper, strangers);
 }
 
-#[tactic(auto, unfolding(crate::specs::Report::report_text), using(paper::proofs::Calls::five_make))]
-fn put_report<P: Paper>(paper: &mut P, session: &Session<'_>)
-    ensures { Puts P.takes paper.old (report_text session.now.ends.now session.now.slots.now session.now.strangers.now) paper.new }
+// Puts a report around what has the text of its meters.
+#[tactic(auto, using(paper::proofs::Calls::five_make))]
+pub(crate) fn put_around<P: Paper, M: Printed>(
+    paper: &mut P,
+    ends: &[ReceiverEnd],
+    meters: &M,
+    strangers: &Strangers,
+)
+    ensures { Puts P.takes paper.old (report_around ends.now (M.text meters.now) strangers.now) paper.new }
 {
     put_text(paper, "wmbus-report 1\n");
-    put_receivers(paper, session.ends);
-    put_meters(paper, session.slots);
-    put_strangers(paper, session.strangers);
+    put_receivers(paper, ends);
+    meters.print(paper);
+    put_strangers(paper, strangers);
     put_text(paper, "end\n");
+}
+
+// The slots of a report.
+#[derive(Drop)]
+struct Slots<'a> {
+    slots: &'a [SlotBook],
+}
+
+impl Printed for Slots<'_> {
+    ghost use Rattle.std.specs.List.{flat_map};
+    ghost use Rattle.report_text.specs.Report.{meter_text};
+
+    ghost text = { λ s. flat_map meter_text s.slots.now };
+
+    fn print<P: Paper>(&self, paper: &mut P) {
+        put_meters(paper, self.slots);
+    }
 }
 
 impl Printed for Session<'_> {
@@ -291,8 +314,14 @@ impl Printed for Session<'_> {
 
     ghost text = { λ s. report_text s.ends.now s.slots.now s.strangers.now };
 
+    #[tactic(auto, unfolding(crate::specs::Report::report_text))]
     fn print<P: Paper>(&self, paper: &mut P) {
-        put_report(paper, self);
+        put_around(
+            paper,
+            self.ends,
+            &Slots { slots: self.slots },
+            self.strangers,
+        );
     }
 }
 

@@ -14,12 +14,14 @@ use Rattle.roster_file.specs.declared.roster.RosterFault.TheVariants.{Line}
 use Rattle.roster_file.specs.Roster.{Enrolled, at_line, enlisted_from, meters_of, with_own, owned, headed, own_of, head_of, entries_from, roster_of}
 use Rattle.roster_file.specs.Faults.{refused, before, going_on, faults_in, faults_owned, faults_headed, faults_of, first_of}
 
-first_in : (version : Version) (meters : List Commissioned) (entries : List (ℕ × List ℕ)) → first_of (faults_in version meters entries) ≡ refused (meters_of version meters entries)
+first_in : (version : Version) (meters : List Commissioned) (entries : List (ℕ × List ℕ))
+    → first_of (faults_in version meters entries) ≡ refused (meters_of version meters entries)
 unfolding faults_in meters_of
 first_in version meters [] = refl
 first_in version meters (e ∷ entries) = by_line (λ more. first_in version more entries) (enlisted_from version meters e)
   where
-    by_line : ((more : List Commissioned) → first_of (faults_in version more entries) ≡ refused (meters_of version more entries)) → (r : Result (List Commissioned) RosterFault)
+    by_line : ((more : List Commissioned) → first_of (faults_in version more entries) ≡ refused (meters_of version more entries))
+        → (r : Result (List Commissioned) RosterFault)
         → first_of (going_on r meters (λ next. faults_in version next entries)) ≡ refused (r >>= λ more. meters_of version more entries)
     by_line later (Ok more) = later more
     by_line later (Err fault) = refl
@@ -28,12 +30,14 @@ refused-with_own : (own : Address) (r : Result (List Commissioned) RosterFault) 
 refused-with_own own (Ok meters) = refl
 refused-with_own own (Err fault) = refl
 
-first_owned : (version : Version) (entries : List (ℕ × List ℕ)) (end : ℕ) → first_of (faults_owned version entries end) ≡ refused (owned version entries end)
+first_owned : (version : Version) (entries : List (ℕ × List ℕ)) (end : ℕ)
+    → first_of (faults_owned version entries end) ≡ refused (owned version entries end)
 unfolding faults_owned owned
 first_owned version [] end = refl
 first_owned version (e ∷ entries) end = by_own (at_line e.0 (own_of e.1))
   where
-    by_own : (r : Result Address RosterFault) → first_of (before (refused r) (faults_in version [] entries)) ≡ refused (r >>= λ own. with_own own (meters_of version [] entries))
+    by_own : (r : Result Address RosterFault)
+        → first_of (before (refused r) (faults_in version [] entries)) ≡ refused (r >>= λ own. with_own own (meters_of version [] entries))
     by_own (Ok own) = first_in version [] entries ∙ sym (refused-with_own own (meters_of version [] entries))
     by_own (Err fault) = refl
 
@@ -42,7 +46,8 @@ unfolding faults_headed headed
 first_headed [] end = refl
 first_headed (e ∷ entries) end = by_head (head_of e.1)
   where
-    by_head : (head : Option Version) → first_of (before (refused (at_line e.0 (ok_or head causes.Head))) (faults_owned (unwrap_or head Two) entries end))
+    by_head : (head : Option Version)
+        → first_of (before (refused (at_line e.0 (ok_or head causes.Head))) (faults_owned (unwrap_or head Two) entries end))
         ≡ refused (at_line e.0 (ok_or head causes.Head) >>= λ version. owned version entries end)
     by_head (Some version) = first_owned version entries end
     by_head None = refl
@@ -51,19 +56,22 @@ pub first_fault_refuses : (bytes : List ℕ) → first_of (faults_of bytes) ≡ 
 unfolding faults_of roster_of
 first_fault_refuses bytes = by_length (nat_lt 1048576 (length bytes))
   where
-    by_length : (b : Bool) → first_of (cond b (Line 0 causes.TooLong ∷ []) (faults_headed (entries_from 1 (lines bytes)) (length (lines bytes) + 1)))
+    by_length : (b : Bool)
+        → first_of (cond b (Line 0 causes.TooLong ∷ []) (faults_headed (entries_from 1 (lines bytes)) (length (lines bytes) + 1)))
         ≡ refused (cond b (Err (Line 0 causes.TooLong)) (headed (entries_from 1 (lines bytes)) (length (lines bytes) + 1)))
     by_length true = refl
     by_length false = first_headed (entries_from 1 (lines bytes)) (length (lines bytes) + 1)
 
 -- ---- line by line
 
-pub faults_next : (version : Version) (meters more : List Commissioned) (e : ℕ × List ℕ) (entries : List (ℕ × List ℕ)) → enlisted_from version meters e ≡ Ok more
+pub faults_next : (version : Version) (meters more : List Commissioned) (e : ℕ × List ℕ) (entries : List (ℕ × List ℕ))
+    → enlisted_from version meters e ≡ Ok more
     → faults_in version meters (e ∷ entries) ≡ faults_in version more entries
 unfolding faults_in
 faults_next version meters more e entries h = ap (λ r. going_on r meters (λ next. faults_in version next entries)) h
 
-pub faults_fault : (version : Version) (meters : List Commissioned) (fault : RosterFault) (e : ℕ × List ℕ) (entries : List (ℕ × List ℕ)) → enlisted_from version meters e ≡ Err fault
+pub faults_fault : (version : Version) (meters : List Commissioned) (fault : RosterFault) (e : ℕ × List ℕ) (entries : List (ℕ × List ℕ))
+    → enlisted_from version meters e ≡ Err fault
     → faults_in version meters (e ∷ entries) ≡ fault ∷ faults_in version meters entries
 unfolding faults_in
 faults_fault version meters fault e entries h = ap (λ r. going_on r meters (λ next. faults_in version next entries)) h

@@ -20,6 +20,9 @@ use std::marker::Brand;
 use std::snapshot::Snapshot;
 use std::sync::{Mutex, Wait};
 
+// How often a caller looks before it goes to the gate.
+const LOOKS: u32 = 2000;
+
 /// There was no memory for a cell. The book comes back.
 #[derive(Drop)]
 pub struct NotMade<B> {
@@ -93,6 +96,16 @@ impl<B: Book> BookCell<B> {
         unreachable!()
     }
 
+    // Looks for about as long as a turn takes whether the book is back: who comes to the gate then mostly needn't sleep there, which takes
+    // longer than a turn.
+    fn look_ahead(&self) {
+        for _ in 0..LOOKS {
+            if self.table.shared.peek(0) == self.table.shared.peek(1) {
+                return;
+            }
+        }
+    }
+
     /// Waits for its turn, and makes the call on the book. The pass has then seen a history that begins with what it had seen and ends
     /// with this call, and made just this act more. For want of memory there is no act. It may wait.
     pub fn step<R: Wait>(
@@ -109,6 +122,7 @@ impl<B: Book> BookCell<B> {
         ensures own { IfOk result (λ a. pass.new.own ≡ pass.old.own ++ act pass.old.number line call a ∷ []) }
         ensures memory { OnErr result (StartsWith pass.new.seen pass.old.seen × (pass.new.own ≡ pass.old.own)) }
     {
+        self.look_ahead();
         let gate = self.gate.lock(rt);
         let mut kept = self.take(rt, &mut pass.seat);
         let answer = turn(&mut kept, pass.source, line, call);

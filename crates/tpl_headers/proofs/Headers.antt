@@ -50,7 +50,8 @@ long_takes ci rest t long fits e =
         len = omega (arith, length-append (header_order x.0) tail_text, length-header_order x.0);
       };
       rest = tail.rest;
-      parts = ap (λ (y : List ℕ). ci ∷ y) (address.parts ∙ ap (λ (y : List ℕ). address.eight ++ y) tail.parts ∙ sym (append_assoc address.eight tail_text tail.rest) ∙ ap (λ (y : List ℕ). (y ++ tail_text) ++ tail.rest) address.order);
+      parts = ap (λ (y : List ℕ). ci ∷ y) (address.parts ∙ ap (λ (y : List ℕ). address.eight ++ y) tail.parts
+          ∙ sym (append_assoc address.eight tail_text tail.rest) ∙ ap (λ (y : List ℕ). (y ++ tail_text) ++ tail.rest) address.order);
     } in
     subst (BeginsWithTpl (ci ∷ rest)) read.2 made)
 
@@ -85,24 +86,30 @@ long_ok : (ci : ℕ) (rest : List ℕ) (t : Tpl) → IsLongCi ci → long_at ci 
 unfolding tpl_at
 long_ok ci rest t long read = rw (short_test ci long, either_true ci 0x72 0x8B long, read) refl
 
-short_again : (ci acc status cf len : ℕ) (cfe : Option ℕ) (rest : List ℕ) → cf < 2 ^ 16 → is_some cfe ≡ eqb (mode_of cf) 7 → len ≡ 1 + (4 + length (cfe_bytes cfe))
-    → short_at ci (tail_bytes acc status cf cfe ++ rest) ≡ Some (record { ci = ci; address = None; acc = acc; status = status; cf = cf; cfe = cfe; len = len })
+short_again : (ci acc status cf len : ℕ) (cfe : Option ℕ) (rest : List ℕ) → cf < 2 ^ 16 → is_some cfe ≡ eqb (mode_of cf) 7
+    → len ≡ 1 + (4 + length (cfe_bytes cfe))
+    → short_at ci (tail_bytes acc status cf cfe ++ rest) ≡ Some
+    (record { ci = ci; address = None; acc = acc; status = status; cf = cf; cfe = cfe; len = len })
 unfolding short_at
 short_again ci acc status cf len cfe rest fits mode same = rw (tail_again acc status cf cfe rest fits mode, same) refl
 
-long_again : (ci acc status cf len : ℕ) (a : Address) (cfe : Option ℕ) (rest : List ℕ) → a.0 < 2 ^ 64 → cf < 2 ^ 16 → is_some cfe ≡ eqb (mode_of cf) 7
+long_again : (ci acc status cf len : ℕ) (a : Address) (cfe : Option ℕ) (rest : List ℕ) → a.0 < 2 ^ 64 → cf < 2 ^ 16
+    → is_some cfe ≡ eqb (mode_of cf) 7
     → len ≡ 9 + (4 + length (cfe_bytes cfe))
-    → long_at ci (header_order a ++ (tail_bytes acc status cf cfe ++ rest)) ≡ Some (record { ci = ci; address = Some a; acc = acc; status = status; cf = cf; cfe = cfe; len = len })
+    → long_at ci (header_order a ++ (tail_bytes acc status cf cfe ++ rest)) ≡ Some
+    (record { ci = ci; address = Some a; acc = acc; status = status; cf = cf; cfe = cfe; len = len })
 unfolding long_at
 long_again ci acc status cf len a cfe rest number fits mode same =
     rw (address_again a (tail_bytes acc status cf cfe ++ rest) number, tail_again acc status cf cfe rest fits mode, same) refl
 
 again_at : (rest : List ℕ) (address : Option Address) (ci acc status cf len : ℕ) (cfe : Option ℕ)
-    → (let t : Tpl = record { ci = ci; address = address; acc = acc; status = status; cf = cf; cfe = cfe; len = len } in IsHeader t → tpl_at (tpl_bytes t ++ rest) ≡ Ok t)
+    → (let t : Tpl = record { ci = ci; address = address; acc = acc; status = status; cf = cf; cfe = cfe; len = len } in IsHeader t
+    → tpl_at (tpl_bytes t ++ rest) ≡ Ok t)
 again_at rest None ci acc status cf len cfe h =
     short_ok ci _ _ h.address (short_again ci acc status cf len cfe rest h.cf h.extension (h.len ∙ omega arith))
 again_at rest (Some a) ci acc status cf len cfe h =
-    let counted : len ≡ 9 + (4 + length (cfe_bytes cfe)) = h.len ∙ omega (arith, length-append (header_order a) (tail_bytes acc status cf cfe), length-header_order a) in
+    let counted : len ≡ 9 + (4 + length (cfe_bytes cfe)) =
+    h.len ∙ omega (arith, length-append (header_order a) (tail_bytes acc status cf cfe), length-header_order a) in
     ap (λ (x : List ℕ). tpl_at (ci ∷ x)) (append_assoc (header_order a) (tail_bytes acc status cf cfe) rest)
     ∙ long_ok ci _ _ h.address (long_again ci acc status cf len a cfe rest h.number h.cf h.extension counted)
 
@@ -118,7 +125,8 @@ is_found bytes (Ok t) fits h = takes bytes t fits (sym h)
 is_found bytes (Err f) fits h = tt
 
 -- a header that was written is read back
-pub written_again : (text rest : List ℕ) (t : Tpl) (n : ℕ) → text ≡ tpl_bytes t → n ≡ length (tpl_bytes t) → HasItsAddress t.ci t.address → HasItsExtension t.cf t.cfe
+pub written_again : (text rest : List ℕ) (t : Tpl) (n : ℕ) → text ≡ tpl_bytes t → n ≡ length (tpl_bytes t) → HasItsAddress t.ci t.address
+    → HasItsExtension t.cf t.cfe
     → IfSome t.address (λ a. a.0 < 2 ^ 64) → t.cf < 2 ^ 16
     → tpl_at (text ++ rest) ≡ Ok (record t { len = n })
 written_again text rest t n written len address extension number cf =

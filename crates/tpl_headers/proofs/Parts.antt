@@ -47,7 +47,8 @@ extension_takes cf (b ∷ bytes) cfe e =
       | inr other ↦ let nothing : None ≡ cfe = cc other.1 in (b ∷ bytes, rw (← nothing) refl, rw (← nothing) (sym other.0))
     ]
 
-pub extension_again : (cf : ℕ) (cfe : Option ℕ) (rest : List ℕ) → is_some cfe ≡ eqb (mode_of cf) 7 → cfe_at cf (cfe_bytes cfe ++ rest) ≡ Some cfe
+pub extension_again : (cf : ℕ) (cfe : Option ℕ) (rest : List ℕ) → is_some cfe ≡ eqb (mode_of cf) 7
+    → cfe_at cf (cfe_bytes cfe ++ rest) ≡ Some cfe
 unfolding cfe_at
 extension_again cf None [] mode = rw (← mode) refl
 extension_again cf None (b ∷ rest) mode = rw (← mode) refl
@@ -78,13 +79,15 @@ tail_takes (a ∷ s ∷ l ∷ h ∷ rest) t fits e =
     let two = le_bytes_2 (l ∷ h ∷ []) cf refl (IsBytes-two l h (fits 2) (fits 3)) refl in
     let made : TakesTail (a ∷ s ∷ l ∷ h ∷ rest) (tail_with a s cf read.0) = record {
       rest = extension.0;
-      parts = ap (λ (x : List ℕ). a ∷ s ∷ l ∷ h ∷ x) extension.1 ∙ ap (λ (x : List ℕ). a ∷ s ∷ (x ++ cfe_bytes read.0) ++ extension.0) (sym two);
+      parts = ap (λ (x : List ℕ). a ∷ s ∷ l ∷ h ∷ x) extension.1
+          ∙ ap (λ (x : List ℕ). a ∷ s ∷ (x ++ cfe_bytes read.0) ++ extension.0) (sym two);
       cf = omega (arith, fits 2, fits 3);
       extension = extension.2;
     } in
     subst (TakesTail (a ∷ s ∷ l ∷ h ∷ rest)) read.2 made
 
-tail_parts : (acc status low high cf : ℕ) (cfe : Option ℕ) (rest : List ℕ) → from_le_bytes w16 (low ∷ high ∷ []) ≡ cf → cfe_at cf rest ≡ Some cfe
+tail_parts : (acc status low high cf : ℕ) (cfe : Option ℕ) (rest : List ℕ) → from_le_bytes w16 (low ∷ high ∷ []) ≡ cf
+    → cfe_at cf rest ≡ Some cfe
     → tail_at (acc ∷ status ∷ low ∷ high ∷ rest) ≡ Some (tail_with acc status cf cfe)
 unfolding tail_at
 tail_parts acc status low high cf cfe rest number read =
@@ -107,7 +110,8 @@ pub record TakesAddress (bytes : List ℕ) (a : Address) (rest : List ℕ) : Typ
   pub rest_fits : IsBytes rest
 
 address_made : (i j k l m n v d : ℕ) (rest : List ℕ) → IsBytes (i ∷ j ∷ k ∷ l ∷ m ∷ n ∷ v ∷ d ∷ rest)
-    → TakesAddress (i ∷ j ∷ k ∷ l ∷ m ∷ n ∷ v ∷ d ∷ rest) (let a : Address = record { 0 = from_be_bytes w64 (m ∷ n ∷ i ∷ j ∷ k ∷ l ∷ v ∷ d ∷ []) } in a) rest
+    → TakesAddress (i ∷ j ∷ k ∷ l ∷ m ∷ n ∷ v ∷ d ∷ rest)
+    (let a : Address = record { 0 = from_be_bytes w64 (m ∷ n ∷ i ∷ j ∷ k ∷ l ∷ v ∷ d ∷ []) } in a) rest
 address_made i j k l m n v d rest fits =
     let eight = IsBytes-eight m n i j k l v d (fits 4) (fits 5) (fits 0) (fits 1) (fits 2) (fits 3) (fits 6) (fits 7) in
     record {
@@ -119,7 +123,8 @@ address_made i j k l m n v d rest fits =
       rest_fits = λ x. fits (suc (suc (suc (suc (suc (suc (suc (suc x))))))));
     }
 
-pub address_takes : (bytes : List ℕ) (a : Address) (rest : List ℕ) → IsBytes bytes → address_at bytes ≡ Some (a, rest) → TakesAddress bytes a rest
+pub address_takes : (bytes : List ℕ) (a : Address) (rest : List ℕ) → IsBytes bytes → address_at bytes ≡ Some (a, rest)
+    → TakesAddress bytes a rest
 unfolding address_at
 address_takes [] a rest fits e = absurd cc
 address_takes (i ∷ []) a rest fits e = absurd cc

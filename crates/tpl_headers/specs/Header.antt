@@ -92,7 +92,16 @@ address_at _ = None
 
 -- a header with this tail, where the CI and the address have that many bytes
 abbrev pub with_tail : ℕ → Option Address → ℕ → Tail → Tpl
-with_tail ci address len t = record { ci = ci; address = address; acc = t.acc; status = t.status; cf = t.cf; cfe = t.cfe; len = len + (4 + length (cfe_bytes t.cfe)) }
+with_tail ci address len t =
+    record {
+      ci = ci;
+      address = address;
+      acc = t.acc;
+      status = t.status;
+      cf = t.cf;
+      cfe = t.cfe;
+      len = len + (4 + length (cfe_bytes t.cfe));
+    }
 
 -- a header without an address, and one with an address, behind their CI
 unfoldable pub short_at : ℕ → List ℕ → Option Tpl

@@ -13,7 +13,7 @@ returns-clause-exit g c = λ named.
       sources_tell = g.S.Source.tells;
       sinks_tell = g.K.Sink.tells;
       roster = source_change g.S.Source c.args.roster.now c.meter_run-status.new.roster;
-      tx = source_change g.S.Source c.args.tx.now c.meter_run-status.new.tx;
+      tx = source_change g.S.Source c.args.tx.now.reader.source c.meter_run-status.new.tx.reader.source;
       out = sink_change g.K.Sink c.args.out.now c.meter_run-status.new.out;
       status = c.meter_run-status.result;
     } in

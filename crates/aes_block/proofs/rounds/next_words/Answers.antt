@@ -16,7 +16,8 @@ returns c b h =
     let s1 = c.substituted-2.ensures ∙ ap (λ x. substitute (get_or x 2 0)) bytes in
     let s2 = c.substituted-3.ensures ∙ ap (λ x. substitute (get_or x 3 0)) bytes in
     let s3 = c.substituted-4.ensures ∙ ap (λ x. substitute (get_or x 0 0)) bytes in
-    let t : c.from_be_bytes-turned.result ≡ word (bit_xor (substitute (get_or b 13 0)) (power_of_x c.args.n) ∷ substitute (get_or b 14 0) ∷ substitute (get_or b 15 0) ∷ substitute (get_or b 12 0) ∷ []) =
+    let t : c.from_be_bytes-turned.result ≡ word (bit_xor (substitute (get_or b 13 0)) (power_of_x c.args.n) ∷ substitute (get_or b 14 0)
+    ∷ substitute (get_or b 15 0) ∷ substitute (get_or b 12 0) ∷ []) =
     c.from_be_bytes-turned.ensures ∙ (λ i. from_be_bytes w32 (bit_xor (s0 i) (c.round_constant.ensures i) ∷ s1 i ∷ s2 i ∷ s3 i ∷ [])) in
     record {
       block = IsBlock-next_round_key c.args.n b h.block;

@@ -2,4 +2,6 @@ use Rattle.audit_check_main.proofs.OneVerdict.{only_verdict}
 use Rattle.audit_check_main.proofs.auditing.audit.Goals as goal
 
 pub returns-clause-only : goal.returns-clause-only
-returns-clause-only c = only_verdict (record { roster = c.args.roster.now; report = c.args.report.now; inputs = c.args.inputs.now }) c.verdict_on.result c.verdict_on.ensures.verdict
+returns-clause-only c =
+    only_verdict (record { roster = c.args.roster.now; report = c.args.report.now; inputs = c.args.inputs.now })
+    c.verdict_on.result c.verdict_on.ensures.verdict

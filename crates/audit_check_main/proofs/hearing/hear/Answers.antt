@@ -11,7 +11,9 @@ abbrev text_of : Bor (List ℕ) → List ℕ
 text_of t = t.now
 
 pub lines-init : goal.lines-init
-lines-init c = heard_none _ _ _ _ _ _ (ap (map text_of) c.new-lines.ensures.items) c.of_text-texts.ensures.lines c.in_ok-lists.ensures c.new-classes.ensures.items
+lines-init c =
+    heard_none _ _ _ _ _ _ (ap (map text_of) c.new-lines.ensures.items)
+    c.of_text-texts.ensures.lines c.in_ok-lists.ensures c.new-classes.ensures.items
 
 pub overflow_cast-number : goal.overflow_cast-number
 overflow_cast-number c =
@@ -30,10 +32,14 @@ lines-preserved c =
     let before = c.lines.lines.ok.0 in
     let number = c.len-number.ensures in
     let counted : c.len-number.result ≡ length (map text_of c.lines.lines.items) + 1 = omega arith in
-    heard_next c.args.meters.now c.args.input.now (map text_of c.lines.lines.items) (map text_of c.push.new.self.items) c.lines.texts c.next.new.self c.in-Some.text.now c.len-number.result c.lines.lists.items c.note.new.lists.items c.lines.classes.items c.push-in-Some.new.self.items c.in_ok-note.field-0
+    heard_next c.args.meters.now c.args.input.now (map text_of c.lines.lines.items) (map text_of c.push.new.self.items)
+    c.lines.texts c.next.new.self c.in-Some.text.now c.len-number.result c.lines.lists.items c.note.new.lists.items c.lines.classes.items
+    c.push-in-Some.new.self.items c.in_ok-note.field-0
     (subst AreApart c.requires.directory c.requires.apart) c.lines.invariant c.in-Some.ensures.steps counted
-    (c.in_ok-note.ensures.lists ∙ (ap (λ t. noted c.args.directory.now c.len-number.result t c.lines.lists.items) c.told_of.ensures ∙ ap (λ d. noted d c.len-number.result (told_of c.in-Some.text.now) c.lines.lists.items) c.requires.directory))
-    (c.in_ok-note.ensures.class ∙ (ap (class_by c.args.directory.now) c.told_of.ensures ∙ ap (λ d. class_by d (told_of c.in-Some.text.now)) c.requires.directory))
+    (c.in_ok-note.ensures.lists ∙ (ap (λ t. noted c.args.directory.now c.len-number.result t c.lines.lists.items) c.told_of.ensures
+    ∙ ap (λ d. noted d c.len-number.result (told_of c.in-Some.text.now) c.lines.lists.items) c.requires.directory))
+    (c.in_ok-note.ensures.class ∙ (ap (class_by c.args.directory.now) c.told_of.ensures
+    ∙ ap (λ d. class_by d (told_of c.in-Some.text.now)) c.requires.directory))
     given c.in_ok-push-2.ensures.items
 
 pub counts_of-requires : goal.counts_of-requires
@@ -43,4 +49,5 @@ counts_of-requires c =
     let value = ap length c.as_slice.ensures.value in omega arith
 
 pub returns : goal.returns
-returns c = heard_all _ _ _ _ _ _ _ c.lines.invariant c.in_default.ensures.steps.0 (c.counts_of.ensures ∙ ap counts_in c.as_slice.ensures.value)
+returns c =
+    heard_all _ _ _ _ _ _ _ c.lines.invariant c.in_default.ensures.steps.0 (c.counts_of.ensures ∙ ap counts_in c.as_slice.ensures.value)

@@ -6,4 +6,7 @@ pub into_all-requires : goal.into_all-requires
 into_all-requires c = lists_fit _ _ _ _ _ c.lines.invariant
 
 pub returns-in-Ok-into_all-clause-lists : goal.returns-in-Ok-into_all-clause-lists
-returns-in-Ok-into_all-clause-lists c = c.in-Ok-into_all.ensures ∙ sym (orders_read c.args.meters c.args.report.now c.lines.lines c.lines.number c.lines.lists c.lines.invariant c.in_default.ensures.steps.0)
+returns-in-Ok-into_all-clause-lists c =
+    c.in-Ok-into_all.ensures
+    ∙ sym (orders_read c.args.meters c.args.report.now c.lines.lines c.lines.number c.lines.lists c.lines.invariant
+    c.in_default.ensures.steps.0)

@@ -8,13 +8,17 @@ use Rattle.audit_check_main.proofs.orders.wrong_place.Goals as goal
 pub returns-then-not-take_next-clause-wrong : goal.returns-then-not-take_next-clause-wrong
 returns-then-not-take_next-clause-wrong c = λ place e.
     subst (IsWrongAt (numbers_in_list c.args.heard.now c.args.list) c.args.order.now) (same_place _ _ e)
-    (wrong_at (numbers_in_list c.args.heard.now c.args.list) c.args.order.now c.loop-place.taken.items c.loop-place.place _ c.loop-place-test.true refl c.loop-place.invariant.so (c.take_next.ensures.other c.if-not-take_next.true _ c.loop-place.invariant.so))
+    (wrong_at (numbers_in_list c.args.heard.now c.args.list)
+    c.args.order.now c.loop-place.taken.items c.loop-place.place _ c.loop-place-test.true refl c.loop-place.invariant.so
+    (c.take_next.ensures.other c.if-not-take_next.true _ c.loop-place.invariant.so))
 
 pub returns-clause-wrong : goal.returns-clause-wrong
 returns-clause-wrong c = λ place e.
     let past = c.loop-place-test.false in
     let inside = c.loop-place.auto.place-end in
-    let so = taken_all (numbers_in_list c.args.heard.now c.args.list) c.args.order.now c.loop-place.taken.items c.loop-place.place (omega arith) c.loop-place.invariant.so in
+    let so = taken_all (numbers_in_list c.args.heard.now c.args.list) c.args.order.now c.loop-place.taken.items c.loop-place.place
+    (omega arith) c.loop-place.invariant.so in
     subst (IsWrongAt (numbers_in_list c.args.heard.now c.args.list) c.args.order.now) (same_place _ _ e)
     (wrong_end (numbers_in_list c.args.heard.now c.args.list) c.args.order.now c.loop-place.taken.items so
-    (c.are_all_taken.ensures.missing c.if-are_all_taken.false c.args.order.now (subst (HaveTaken (numbers_in_list c.args.heard.now c.args.list) c.args.order.now) (sym c.as_slice.ensures.value) so)))
+    (c.are_all_taken.ensures.missing c.if-are_all_taken.false c.args.order.now
+    (subst (HaveTaken (numbers_in_list c.args.heard.now c.args.list) c.args.order.now) (sym c.as_slice.ensures.value) so)))

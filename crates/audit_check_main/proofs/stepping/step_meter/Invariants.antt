@@ -8,5 +8,6 @@ abbrev pub invariant-loop-pair : goal.invariant-loop-pair
 invariant-loop-pair l = record {
   own_is : l.slot.own ≡ l.fn.own;
   commission_is : l.slot.commission ≡ l.fn.commission;
-  so : (target : SlotView) → IsOrderedSlot l.fn.own (map tells l.heard) l.fn.commission l.order target → l.slot.journal ≡ take l.pair-index target.journal;
+  so : (target : SlotView) → IsOrderedSlot l.fn.own (map tells l.heard) l.fn.commission l.order target
+      → l.slot.journal ≡ take l.pair-index target.journal;
 }

@@ -21,6 +21,7 @@ returns-else-used-eq16 c key h =
     let last : List ℕ = c.args.last.now in
     let short : length last < 16 = omega arith in
     c.add_block-else-used-eq16.ensures
-    ∙ ap₂ add (ap (λ (x : List ℕ). set (x ++ drop (length last) zeros) (length last) 0x80) c.copy_from_slice.ensures.after ∙ padded_is last short)
+    ∙ ap₂ add (ap (λ (x : List ℕ). set (x ++ drop (length last) zeros) (length last) 0x80) c.copy_from_slice.ensures.after
+    ∙ padded_is last short)
     (c.doubled.ensures ∙ ap doubled h)
     ∙ sym (masked_short key last short)

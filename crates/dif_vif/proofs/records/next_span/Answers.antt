@@ -5,11 +5,14 @@ use Rattle.dif_vif.proofs.records.next_span.Goals as goal
 pub returns-in_err-span_at : goal.returns-in_err-span_at
 returns-in_err-span_at c =
     let p = err_from_is_err_and c.from_residual.result c.from_residual.ensures.1 in
-    rw (p.1, p.2) (fault_here c.args.bytes.now c.loop-start.start _ _ c.loop-start-test.true c.if-bytes-start-ne-FILLER.true c.in_err-span_at.ensures c.loop-start.invariant)
+    rw (p.1, p.2)
+    (fault_here c.args.bytes.now c.loop-start.start _ _ c.loop-start-test.true c.if-bytes-start-ne-FILLER.true c.in_err-span_at.ensures
+    c.loop-start.invariant)
 
 pub returns-then-bytes-start-ne-FILLER : goal.returns-then-bytes-start-ne-FILLER
 returns-then-bytes-start-ne-FILLER c =
-    answer_here c.args.bytes.now c.loop-start.start _ _ c.loop-start-test.true c.if-bytes-start-ne-FILLER.true c.in_ok-span_at.ensures c.loop-start.invariant
+    answer_here c.args.bytes.now c.loop-start.start _ _ c.loop-start-test.true c.if-bytes-start-ne-FILLER.true c.in_ok-span_at.ensures
+    c.loop-start.invariant
 
 pub loop-start-preserved : goal.loop-start-preserved
 loop-start-preserved c =

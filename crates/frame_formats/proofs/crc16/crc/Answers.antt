@@ -13,4 +13,5 @@ returns-clause-is c = all_through _ _ _ c.loop-byte-test.false c.loop-byte.invar
 
 pub returns-clause-computed : goal.returns-clause-computed
 returns-clause-computed c =
-    same_crc c.args.bytes.now _ _ (all_through _ _ _ c.loop-byte-test.false c.loop-byte.invariant) (is_crc _ (each_byte _ (λ k. omega (arith, c.type_inv.bytes k))))
+    same_crc c.args.bytes.now _ _ (all_through _ _ _ c.loop-byte-test.false c.loop-byte.invariant)
+    (is_crc _ (each_byte _ (λ k. omega (arith, c.type_inv.bytes k))))

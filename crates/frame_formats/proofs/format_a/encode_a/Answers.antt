@@ -9,7 +9,8 @@ pub returns-clause-written : goal.returns-clause-written
 returns-clause-written c =
     let front : c.split_at.result.0.now ≡ take 10 c.args.telegram.now = cc
     in let back : c.split_at.result.1.now ≡ drop 10 c.args.telegram.now = cc
-    in c.put_others.ensures.written ∙ ap (λ x. x ++ others_with_crc c.split_at.result.1.now) c.put_with_crc-end.ensures.written ∙ frame_is _ _ _ front back
+    in c.put_others.ensures.written ∙ ap (λ x. x ++ others_with_crc c.split_at.result.1.now) c.put_with_crc-end.ensures.written
+    ∙ frame_is _ _ _ front back
 
 pub returns-clause-frame : goal.returns-clause-frame
 returns-clause-frame c =
@@ -19,4 +20,5 @@ returns-clause-frame c =
 
 pub returns-clause-behind : goal.returns-clause-behind
 returns-clause-behind c =
-    behind_both c.put_with_crc-end.result c.put_others.result c.args.out.now c.put_with_crc-end.new.out c.put_others.new.out (omega arith) c.put_with_crc-end.ensures.behind c.put_others.ensures.behind
+    behind_both c.put_with_crc-end.result c.put_others.result c.args.out.now c.put_with_crc-end.new.out c.put_others.new.out (omega arith)
+    c.put_with_crc-end.ensures.behind c.put_others.ensures.behind

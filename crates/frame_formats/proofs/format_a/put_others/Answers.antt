@@ -9,8 +9,10 @@ cutting-preserved c =
     let some : 0 < length c.cutting.rest.now = some_left _ (sym c.cutting-test.ensures)
     in record {
       count = omega arith;
-      front = one_more _ _ _ _ _ _ _ _ c.min.ensures some c.split_at.ensures.front c.split_at.ensures.back c.put_with_crc-end.ensures.written ∙ c.cutting.invariant.front;
-      behind = behind_both c.cutting.end c.put_with_crc-end.result c.args.out.now c.cutting.out c.put_with_crc-end.new.out (omega arith) c.cutting.invariant.behind c.put_with_crc-end.ensures.behind;
+      front = one_more _ _ _ _ _ _ _ _ c.min.ensures some c.split_at.ensures.front c.split_at.ensures.back
+          c.put_with_crc-end.ensures.written ∙ c.cutting.invariant.front;
+      behind = behind_both c.cutting.end c.put_with_crc-end.result c.args.out.now c.cutting.out c.put_with_crc-end.new.out (omega arith)
+          c.cutting.invariant.behind c.put_with_crc-end.ensures.behind;
     }
 
 pub returns-clause-written : goal.returns-clause-written

@@ -11,11 +11,15 @@ returns-in_err-first c =
 pub returns-in_err-second : goal.returns-in_err-second
 returns-in_err-second c =
     let p = err_from_is_err_and c.from_residual-in_err-second.result c.from_residual-in_err-second.ensures.1
-    in rw (p.1, p.2) (back_fault _ _ _ _ _ (omega arith) c.split_at.ensures.front c.split_at.ensures.back c.in_ok-first.ensures.read c.in_err-second.ensures.read)
+    in rw (p.1, p.2)
+    (back_fault _ _ _ _ _ (omega arith)
+    c.split_at.ensures.front c.split_at.ensures.back c.in_ok-first.ensures.read c.in_err-second.ensures.read)
 
 pub returns : goal.returns
 returns c =
     let first : 0 + length c.in_ok-first.first.now ≡ c.put.result = sym c.put.ensures.end in
     let second : 126 + length c.in_ok-second.second.now ≡ c.put-2.result = sym c.put-2.ensures.end in
     two_read _ _ _ _ _ (omega arith) c.split_at.ensures.front c.split_at.ensures.back c.in_ok-first.ensures.read c.in_ok-second.ensures.read
-    ∙ ap Ok (sym (both_written c.put.new.out c.put-2.new.out c.in_ok-first.first.now c.in_ok-second.second.now (length c.args.into.now) (omega arith) (omega (arith, c.in_ok-second.ensures.len)) (omega (arith, c.in_ok-first.ensures.len)) (ap (λ n. take n c.put.new.out) first ∙ c.put.ensures.written) (ap (λ n. take n c.put-2.new.out) second ∙ c.put-2.ensures.written)))
+    ∙ ap Ok (sym (both_written c.put.new.out c.put-2.new.out c.in_ok-first.first.now c.in_ok-second.second.now (length c.args.into.now)
+    (omega arith) (omega (arith, c.in_ok-second.ensures.len)) (omega (arith, c.in_ok-first.ensures.len))
+    (ap (λ n. take n c.put.new.out) first ∙ c.put.ensures.written) (ap (λ n. take n c.put-2.new.out) second ∙ c.put-2.ensures.written)))

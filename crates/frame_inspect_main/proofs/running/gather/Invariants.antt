@@ -6,14 +6,15 @@ use Rattle.frame_inspect_main.proofs.running.gather.Given as goal
 
 abbrev pub invariant-lines : goal.invariant-lines
 invariant-lines g l = record {
-  goes_on : l.frames.done ≡ false;
-  few : l.frames.line ≤ LINES_MAX;
-  counted : vec_len l.items ≡ l.frames.line;
-  later : g.S.Source.faults l.fn.frames.source ≤ g.S.Source.faults l.frames.source;
+  goes_on : l.frames.reader.done ≡ false;
+  longest : l.frames.longest ≡ 1024;
+  few : l.frames.reader.line ≤ LINES_MAX;
+  counted : vec_len l.items ≡ l.frames.reader.line;
+  later : g.S.Source.faults l.fn.frames.reader.source ≤ g.S.Source.faults l.frames.reader.source;
   bytes : IsTrue g.S.Source.tells →
-      g.S.Source.taken l.frames.source ++ g.S.Source.left l.frames.source ≡ g.S.Source.taken l.fn.frames.source ++ g.S.Source.left l.fn.frames.source;
-  items : IsTrue g.S.Source.tells → l.items.items ≡ map item_of (given g.S.Source.taken l.frames);
+      g.S.Source.taken l.frames.reader.source ++ g.S.Source.left l.frames.reader.source ≡ g.S.Source.taken l.fn.frames.reader.source ++ g.S.Source.left l.fn.frames.reader.source;
+  items : IsTrue g.S.Source.tells → l.items.items ≡ map item_of (given g.S.Source.taken l.frames.reader);
 }
 
 abbrev pub decreases-lines : goal.decreases-lines
-decreases-lines g l = LINES_MAX + 1 - l.frames.line
+decreases-lines g l = LINES_MAX + 1 - l.frames.reader.line

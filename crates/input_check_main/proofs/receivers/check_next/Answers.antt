@@ -11,7 +11,8 @@ returns-in-Ok-Line-clause-found g c =
     let number = rw c.in-Ok-Line.field-0-is at c.in-Ok-Line.ensures.number in
     on_ok c.add_line.result c.add_line.ensures.holds (λ holds tells found.
     let gives = gives_said c.in-Ok-Line.field-0 c.in-Ok-Line.line before after c.in-Ok-Line.field-0-is (c.in-Ok-Line.ensures.lines tells) in
-    found_more before after gives.text (Ok c.in-Ok-Line.line) c.args.lines.now.line c.next.new.self.line c.args.found.now c.add_line.new.found gives.more gives.says number
+    found_more before after gives.text (Ok c.in-Ok-Line.line)
+    c.args.lines.now.line c.next.new.self.line c.args.found.now c.add_line.new.found gives.more gives.says number
     (λ faults addresses held. rw (← c.line.ensures.number, ← c.look_at_line.ensures) (holds faults addresses held)) found)
 
 pub returns-in-Ok-Bad-clause-found : goal.returns-in-Ok-Bad-clause-found
@@ -21,5 +22,6 @@ returns-in-Ok-Bad-clause-found g c =
     let number = rw c.in-Ok-Bad.field-0-is at c.in-Ok-Bad.ensures.number in
     on_ok c.add_line-in-Ok-Bad.result c.add_line-in-Ok-Bad.ensures.holds (λ holds tells found.
     let gives = gives_bad c.in-Ok-Bad.field-0 c.in-Ok-Bad.bad before after c.in-Ok-Bad.field-0-is (c.in-Ok-Bad.ensures.lines tells) in
-    found_more before after gives.text (Err c.in-Ok-Bad.bad) c.args.lines.now.line c.next.new.self.line c.args.found.now c.add_line-in-Ok-Bad.new.found gives.more gives.says number
+    found_more before after gives.text (Err c.in-Ok-Bad.bad)
+    c.args.lines.now.line c.next.new.self.line c.args.found.now c.add_line-in-Ok-Bad.new.found gives.more gives.says number
     (λ faults addresses held. rw (← c.line-in-Ok-Bad.ensures.number) (holds faults addresses held)) found)

@@ -4,8 +4,11 @@ use Rattle.paper.proofs.Filings.{Finished, print_finished, on_ok, on_err}
 use Rattle.paper.proofs.whole.print_whole.Goals as goal
 
 done : (g : _) (c : goal.After-finish g) → (c.finish.new.self.sink.ghost_name ≡ c.args.paper.now.sink.ghost_name)
-    × Finished g.K.Sink.tells (filed g.K.Sink.written g.K.Sink.faults c.args.paper.now) (g.T.Printed.text c.args.thing.now) (filed g.K.Sink.written g.K.Sink.faults c.finish.new.self)
-done g c = print_finished g.K.Sink.tells _ (λ p. p.sink.ghost_name) (filed g.K.Sink.written g.K.Sink.faults) (λ p text q took. took) c.args.paper.now c.print.new.paper c.finish.new.self _
+    × Finished g.K.Sink.tells (filed g.K.Sink.written g.K.Sink.faults c.args.paper.now) (g.T.Printed.text c.args.thing.now)
+    (filed g.K.Sink.written g.K.Sink.faults c.finish.new.self)
+done g c =
+    print_finished g.K.Sink.tells _ (λ p. p.sink.ghost_name) (filed g.K.Sink.written g.K.Sink.faults) (λ p text q took. took)
+    c.args.paper.now c.print.new.paper c.finish.new.self _
     c.print.ensures c.finish.ensures.same c.finish.ensures.files c.requires.fresh c.requires.empty c.finish.ensures.empty
 
 pub returns-clause-same : goal.returns-clause-same

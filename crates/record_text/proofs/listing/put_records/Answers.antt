@@ -19,9 +19,14 @@ returns-in-Ok-None g c =
 pub records-preserved : goal.records-preserved
 records-preserved g c =
     let some : 0 < c.records.left = omega (arith, c.records-test.true) in
-    let is : next_of c.args.payload.now c.records.from ≡ Ok (Some c.in-Ok-Some.span) = sym c.in-Ok-Some.ensures.exact ∙ ap Ok c.in-Ok-Some.field-0-is in
-    let within : LiesWithin c.args.payload.now c.in-Ok-Some.span = subst (λ next. IfSome next (LiesWithin c.args.payload.now)) c.in-Ok-Some.field-0-is c.in-Ok-Some.ensures.within in
-    (within.within, λ q later. c.records.invariant.1 q (goes_on c.records.left c.args.payload.now c.records.from c.in-Ok-Some.span some is c.put_span.ensures later))
+    let is : next_of c.args.payload.now c.records.from ≡ Ok (Some c.in-Ok-Some.span) =
+    sym c.in-Ok-Some.ensures.exact ∙ ap Ok c.in-Ok-Some.field-0-is in
+    let within : LiesWithin c.args.payload.now c.in-Ok-Some.span =
+    subst (λ next. IfSome next (LiesWithin c.args.payload.now)) c.in-Ok-Some.field-0-is c.in-Ok-Some.ensures.within in (
+      within.within,
+      λ q later. c.records.invariant.1 q
+          (goes_on c.records.left c.args.payload.now c.records.from c.in-Ok-Some.span some is c.put_span.ensures later),
+    )
 
 pub returns : goal.returns
 returns g c =

@@ -5,7 +5,8 @@ use Rattle.record_values.proofs.units.unit_of.Goals as goal
 use Rattle.record_values.proofs.units.unit_of.Goals.{else-span-2-via-then-span-2+else-span-3, else-span-2-via-else-span-2}
 
 pub returns-then-span-3 : goal.returns-then-span-3
-returns-then-span-3 c = c.unit_in.ensures ∙ sym (unit-primary c.args.bytes.now c.args.span.now c.if-span.false c.if-span-2.true c.if-span-3.true)
+returns-then-span-3 c =
+    c.unit_in.ensures ∙ sym (unit-primary c.args.bytes.now c.args.span.now c.if-span.false c.if-span-2.true c.if-span-3.true)
 
 pub bounds-bytes-span : goal.bounds-bytes-span
 bounds-bytes-span c =

@@ -12,8 +12,12 @@ split_at-requires-2 c = let places = LiesWithin-from_span c.args.bytes.now c.arg
 
 pub returns-in-Day-2 : goal.returns-in-Day-2
 returns-in-Day-2 c =
-    day-unread c.args.bytes.now c.split_at-2.result.0.now c.args.span.now _ _ (ap (λ (u : Unit). u.quantity) c.unit_of.ensures) c.in-Day-2.ensures c.if-span-eq2.false (c.split_at-2.ensures.front ∙ ap (take c.args.span.now.data_len) c.split_at.ensures.back) c.unread-in-Day-2.ensures
+    day-unread c.args.bytes.now c.split_at-2.result.0.now c.args.span.now _ _ (ap (λ (u : Unit). u.quantity) c.unit_of.ensures)
+    c.in-Day-2.ensures c.if-span-eq2.false (c.split_at-2.ensures.front
+    ∙ ap (take c.args.span.now.data_len) c.split_at.ensures.back) c.unread-in-Day-2.ensures
 
 pub returns-in-Moment-2 : goal.returns-in-Moment-2
 returns-in-Moment-2 c =
-    moment-unread c.args.bytes.now c.split_at-2.result.0.now c.args.span.now _ _ (ap (λ (u : Unit). u.quantity) c.unit_of.ensures) c.in-Moment-2.ensures c.if-span-eq4.false (c.split_at-2.ensures.front ∙ ap (take c.args.span.now.data_len) c.split_at.ensures.back) c.unread-in-Moment-2.ensures
+    moment-unread c.args.bytes.now c.split_at-2.result.0.now c.args.span.now _ _ (ap (λ (u : Unit). u.quantity) c.unit_of.ensures)
+    c.in-Moment-2.ensures c.if-span-eq4.false (c.split_at-2.ensures.front
+    ∙ ap (take c.args.span.now.data_len) c.split_at.ensures.back) c.unread-in-Moment-2.ensures

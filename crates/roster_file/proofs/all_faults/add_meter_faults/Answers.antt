@@ -23,7 +23,8 @@ lines-preserved c =
     let given = rw c.as_slice.ensures.value at c.in-Err.ensures in
     let others = faults_in version meters c.next.new.self.entries in
     c.lines.invariant ∙ ap (λ es. faults ++ faults_in version meters es) c.in-Ok.ensures.entry
-    ∙ ap (λ fs. faults ++ fs) (faults_fault version meters c.in-Err.fault (c.in-Ok.entry.line, c.in-Ok.entry.text.now) c.next.new.self.entries given)
+    ∙ ap (λ fs. faults ++ fs) (faults_fault version meters c.in-Err.fault (c.in-Ok.entry.line, c.in-Ok.entry.text.now)
+    c.next.new.self.entries given)
     ∙ sym (append_assoc faults (c.in-Err.fault ∷ []) others) ∙ ap (λ fs. fs ++ others) (sym c.in_ok-push-in-Err.ensures.items)
 
 pub returns : goal.returns
@@ -31,4 +32,5 @@ returns c =
     let version = c.args.version in
     let meters = c.lines.meters.items in
     let faults = c.lines.faults.items in
-    sym (c.lines.invariant ∙ ap (λ es. faults ++ faults_in version meters es) c.in_default.ensures.entry.0 ∙ ap (λ fs. faults ++ fs) (faults_end version meters) ∙ append-nil faults)
+    sym (c.lines.invariant ∙ ap (λ es. faults ++ faults_in version meters es) c.in_default.ensures.entry.0
+    ∙ ap (λ fs. faults ++ fs) (faults_end version meters) ∙ append-nil faults)

@@ -4,7 +4,8 @@ use Rattle.roster_file.proofs.all_faults.add_meter_faults.Given as goal
 
 abbrev pub invariant-lines : goal.invariant-lines
 invariant-lines l =
-    l.initial.faults.items ++ faults_in l.version [] l.initial.entries.entries ≡ l.faults.items ++ faults_in l.version l.meters.items l.entries.entries
+    l.initial.faults.items ++ faults_in l.version [] l.initial.entries.entries ≡ l.faults.items
+    ++ faults_in l.version l.meters.items l.entries.entries
 
 abbrev pub decreases-lines : goal.decreases-lines
 decreases-lines l = length l.entries.entries

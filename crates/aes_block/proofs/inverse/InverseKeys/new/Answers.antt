@@ -12,7 +12,8 @@ loop-n-preserved c =
     let old : List (List ℕ) = c.loop-n.mixed in
     let words : List ℕ = c.inverse_mixed_words.result in
     let new : List (List ℕ) = set old n words in
-    let here : IsMixedBack words (round_key key (n + 1)) = record { block = c.round_words.ensures.block; mixed = c.inverse_mixed_words.ensures _ c.round_words.ensures } in (
+    let here : IsMixedBack words (round_key key (n + 1)) =
+    record { block = c.round_words.ensures.block; mixed = c.inverse_mixed_words.ensures _ c.round_words.ensures } in (
       omega (arith, length-set old n words, c.loop-n.invariant.0),
       below_more (λ m. IsMixedBack (get_or new m []) (round_key key (m + 1))) n
           (λ m h. let same : get_or new m [] ≡ get_or old m [] = get_or-set_other old n m words [] (λ e. absurd (omega arith)) in

@@ -22,4 +22,5 @@ returns c =
     let few = c.lists.invariant.few in
     let past = c.lists-test.false in
     c.in_ok-push-2.ensures.items
-    ∙ ((λ i. (sym (as_many-all c.args.meters c.lists.all.items (omega arith)) ∙ c.lists.invariant.same) i ++ ap (λ (l : ListsRead). l.strangers) c.self.view_is i ∷ []))
+    ∙ ((λ i. (sym (as_many-all c.args.meters c.lists.all.items (omega arith))
+    ∙ c.lists.invariant.same) i ++ ap (λ (l : ListsRead). l.strangers) c.self.view_is i ∷ []))

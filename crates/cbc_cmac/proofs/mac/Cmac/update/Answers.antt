@@ -22,5 +22,6 @@ loop-rest-preserved c =
     ap₂ (λ (x y : List ℕ). x ++ y) c.split_at.ensures.front c.split_at.ensures.back ∙ take-append-drop c.min.result rest in (
       taken ++ front,
       append_assoc taken front c.split_at.result.1.now ∙ ap (λ x. taken ++ x) cut ∙ c.loop-rest.invariant.1,
-      λ key message h. rw (append_assoc message taken front) at (c.take_in.ensures key (message ++ taken) (c.loop-rest.invariant.2 key message h)),
+      λ key message h. rw (append_assoc message taken front) at
+          (c.take_in.ensures key (message ++ taken) (c.loop-rest.invariant.2 key message h)),
     )

@@ -25,11 +25,13 @@ returns-in-Ok-clause-found c =
 
 pub returns-in-Ok-clause-only : goal.returns-in-Ok-clause-only
 returns-in-Ok-clause-only c = λ a fits h.
-    read_is c.args.text.now c.from_bytes.result a (omega arith) fits (decoded c.args.text.now _ _ c.if-text-ne16.false c.in-Ok.ensures.value refl ∙ ap Ok (sym c.from_bytes.ensures.again)) h
+    read_is c.args.text.now c.from_bytes.result a (omega arith) fits
+    (decoded c.args.text.now _ _ c.if-text-ne16.false c.in-Ok.ensures.value refl ∙ ap Ok (sym c.from_bytes.ensures.again)) h
 
 pub returns-in-Ok-clause-fault : goal.returns-in-Ok-clause-fault
 returns-in-Ok-clause-fault c = λ f.
-    no_fault c.args.text.now c.from_bytes.result f (decoded c.args.text.now _ _ c.if-text-ne16.false c.in-Ok.ensures.value refl ∙ ap Ok (sym c.from_bytes.ensures.again))
+    no_fault c.args.text.now c.from_bytes.result f (decoded c.args.text.now _ _ c.if-text-ne16.false c.in-Ok.ensures.value refl
+    ∙ ap Ok (sym c.from_bytes.ensures.again))
 
 pub returns-then-text-ne16-clause-exact : goal.returns-then-text-ne16-clause-exact
 unfolding address_of
@@ -39,8 +41,11 @@ returns-then-text-ne16-clause-exact c =
 
 pub returns-in-Err-clause-exact : goal.returns-in-Err-clause-exact
 returns-in-Err-clause-exact c =
-    sym (address_of_decoded c.args.text.now _ c.if-text-ne16.false (not_decoded c.args.text.now _ _ c.in-Err.refusal c.if-text-ne16.false c.in-Err.ensures.value refl))
+    sym (address_of_decoded c.args.text.now _ c.if-text-ne16.false
+    (not_decoded c.args.text.now _ _ c.in-Err.refusal c.if-text-ne16.false c.in-Err.ensures.value refl))
 
 pub returns-in-Ok-clause-exact : goal.returns-in-Ok-clause-exact
 returns-in-Ok-clause-exact c =
-    ap (λ (n : ℕ). let made : Address = record { 0 = n } in Some made) c.from_bytes.ensures.value ∙ sym (address_of_decoded c.args.text.now _ c.if-text-ne16.false (decoded c.args.text.now _ _ c.if-text-ne16.false c.in-Ok.ensures.value refl))
+    ap (λ (n : ℕ). let made : Address = record { 0 = n } in Some made) c.from_bytes.ensures.value
+    ∙ sym (address_of_decoded c.args.text.now _ c.if-text-ne16.false
+    (decoded c.args.text.now _ _ c.if-text-ne16.false c.in-Ok.ensures.value refl))

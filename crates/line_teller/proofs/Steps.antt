@@ -1,0 +1,258 @@
+-- Steps of lines that are told, one after another.
+use Rattle.std.proofs.Common.{◌≡◌, ℕ, ◌+◌, ◌<◌, ◌≤◌, ◌⊎◌, Bool, true, false, List, [], ◌∷◌, ◌++◌, length, take, drop, Result, Ok, Err, refl, sym, ap, ◌∙◌, subst, append_assoc, inl, inr, arith}
+use Rattle.std.specs.Prelude.{IsTrue, IfErr, OnErr}
+use Rattle.std.proofs.lemmas.Bool.{cases_lt}
+use Rattle.std.proofs.lemmas.List.{append-nil, length-append, take-append-drop}
+use Rattle.std.proofs.Math.Seq.{take-append_seam, take-append-add}
+use Rattle.outer_io.specs.Bytes.{AppendsFront}
+use Rattle.outer_io.specs.Faults.{Rose}
+use Rattle.outer_io.specs.Shown.{Change, SourceShown, SinkShown, WriteFailed}
+use Rattle.line_reader.specs.declared.next.NextText.{NextText}
+use Rattle.line_reader.specs.declared.next.NextText.TheVariants as texts
+use Rattle.line_reader.specs.Lines.{all_lines}
+use Rattle.line_reader.specs.Reader.{GivesText, GivesLongLine}
+use Rattle.line_teller.specs.declared.ending.LinesEnd.{LinesEnd}
+use Rattle.line_teller.specs.declared.ending.LinesEnd.TheVariants as ends
+use Rattle.line_teller.specs.Telling.{TellsFirst, AreTold}
+use Rattle.line_teller.specs.Ending.{AreFirst, EndsLines, EndsText, IsNoted, IsEndOf, is_whole, Ended, HearsLine}
+use Rattle.line_teller.specs.Standing.{Pours, PoursMore, Steps, EndsStep, Stands}
+
+-- ---- what the reader gives
+
+-- one more line was given
+pub more_by_line : (next : NextText) (longest : ℕ) (text : List ℕ) (old new : List (List ℕ)) → next ≡ texts.Line → GivesText (Ok next) longest text old new
+    → new ≡ old ++ text ∷ []
+more_by_line next longest text old new is gives = subst (λ n. GivesText (Ok n) longest text old new) is gives
+
+pub long_by_line : (next : NextText) (longest : ℕ) (text : List ℕ) (old new : List (List ℕ)) → next ≡ texts.TooLong → GivesText (Ok next) longest text old new
+    → GivesLongLine longest old new
+long_by_line next longest text old new is gives = subst (λ n. GivesText (Ok n) longest text old new) is gives
+
+-- the lines before one of the first lines are first ones
+pub first_before : (lines all : List (List ℕ)) (line : List ℕ) (n : ℕ) → take n all ≡ lines ++ line ∷ [] → AreFirst lines all
+first_before lines all line n e =
+    let all_are : all ≡ (lines ++ line ∷ []) ++ drop n all = sym (take-append-drop n all) ∙ ap (λ t. t ++ drop n all) e in
+    record {
+      count = length lines;
+      first = sym (ap (take (length lines)) (all_are ∙ append_assoc lines (line ∷ []) (drop n all)) ∙ take-append_seam lines (line ∷ drop n all));
+    }
+
+-- ---- by how a step ended
+
+-- only want of memory ends it
+pub by_memory : (result : Result (Unit {0}) LinesEnd) (X : LinesEnd → Type 0) → IfErr result (λ end. end ≡ ends.Memory) → X ends.Memory → IfErr result X
+by_memory (Ok done) X err x = tt
+by_memory (Err end) X err x = subst X (sym err) x
+
+-- only a write that failed ends it
+pub by_write : (result : Result (Unit {0}) LinesEnd) (X : LinesEnd → Type 0) (P F : Type 0) → IfErr result (λ end. (end ≡ ends.Write) × P) → OnErr result F
+    → (F → X ends.Write) → IfErr result X
+by_write (Ok done) X P F err front x = tt
+by_write (Err end) X P F err front x = subst X (sym err.0) (x front)
+
+-- ---- notes
+
+rose_on : (a b c : ℕ) → a ≤ b → b ≤ c → Rose a b → Rose a c
+rose_on a b c first then (inl below) = inl (omega arith)
+rose_on a b c first then (inr last) = elim (cases_lt a c) [
+  | inl below ↦ inl below
+  | inr above ↦ inr (omega arith)
+]
+
+pub rose_then : (a b c : ℕ) → a ≤ b → b ≤ c → Rose b c → Rose a c
+rose_then a b c first then (inl below) = inl (omega arith)
+rose_then a b c first then (inr last) = inr last
+
+pub noted_then : (a b c : SinkShown) (note more : List ℕ) → a.faults ≤ b.faults → b.faults ≤ c.faults
+    → IsNoted note (record { before = a; now = b }) → IsNoted more (record { before = b; now = c }) → IsNoted (note ++ more) (record { before = a; now = c })
+noted_then a b c note more first then one two = λ off.
+    two (λ rose. off (rose_then a.faults b.faults c.faults first then rose))
+    ∙ ap (λ t. t ++ more) (one (λ rose. off (rose_on a.faults b.faults c.faults first then rose)))
+    ∙ append_assoc a.written note more
+
+pub none_noted : (a : SinkShown) → IsNoted [] (record { before = a; now = a })
+none_noted a = λ off. sym (append-nil a.written)
+
+-- ---- texts
+
+pub poured_then : (w0 w1 w2 text more sheet sheet' : List ℕ) → PoursMore text w0 [] w1 sheet → PoursMore more w1 sheet w2 sheet' → PoursMore (text ++ more) w0 [] w2 sheet'
+poured_then w0 w1 w2 text more sheet sheet' one two = record {
+  gone = one.gone ++ two.gone;
+  written_is = two.written_is ∙ ap (λ t. t ++ two.gone) one.written_is ∙ append_assoc w0 one.gone two.gone;
+  sheet_is = ap (λ t. t ++ more) one.sheet_is ∙ append_assoc one.gone sheet more ∙ ap (λ t. one.gone ++ t) two.sheet_is ∙ sym (append_assoc one.gone two.gone sheet');
+}
+
+whole_then : (w0 w1 w2 text more sheet : List ℕ) → PoursMore text w0 [] w1 sheet → w2 ≡ w1 ++ (sheet ++ more) → w2 ≡ w0 ++ (text ++ more)
+whole_then w0 w1 w2 text more sheet one e =
+    e ∙ ap (λ t. t ++ (sheet ++ more)) one.written_is ∙ append_assoc w0 one.gone (sheet ++ more)
+    ∙ ap (λ t. w0 ++ t) (sym (append_assoc one.gone sheet more) ∙ ap (λ t. t ++ more) (sym one.sheet_is))
+
+front_then : (w0 w1 w2 text more sheet : List ℕ) → PoursMore text w0 [] w1 sheet → AppendsFront (sheet ++ more) w1 w2 → AppendsFront (text ++ more) w0 w2
+front_then w0 w1 w2 text more sheet one front =
+    let whole : text ++ more ≡ one.gone ++ (sheet ++ more) = ap (λ t. t ++ more) one.sheet_is ∙ append_assoc one.gone sheet more in
+    record {
+      count = length one.gone + front.count;
+      within = omega (arith, front.within, ap length whole, length-append one.gone (sheet ++ more));
+      appended = front.appended ∙ ap (λ t. t ++ take front.count (sheet ++ more)) one.written_is ∙ append_assoc w0 one.gone (take front.count (sheet ++ more))
+          ∙ ap (λ t. w0 ++ t) (sym (take-append-add one.gone (sheet ++ more) front.count) ∙ ap (take (length one.gone + front.count)) (sym whole));
+    }
+
+pub text_then : (end : LinesEnd) (a b c : SinkShown) (text more sheet : List ℕ) → PoursMore text a.written [] b.written sheet
+    → EndsText end (sheet ++ more) (record { before = b; now = c }) → EndsText end (text ++ more) (record { before = a; now = c })
+text_then ends.Done a b c text more sheet one two = whole_then a.written b.written c.written text more sheet one two
+text_then ends.Cut a b c text more sheet one two = whole_then a.written b.written c.written text more sheet one two
+text_then ends.Read a b c text more sheet one two = whole_then a.written b.written c.written text more sheet one two
+text_then ends.Write a b c text more sheet one two = front_then a.written b.written c.written text more sheet one two
+text_then ends.Memory a b c text more sheet one two = front_then a.written b.written c.written text more sheet one two
+
+-- ---- lines
+
+module _ {T : Type 0} (tells : T → ℕ → List ℕ → List ℕ → List ℕ → T → Type 0) where
+  pub one_told : (n : ℕ) (old new : T) (line text note : List ℕ) → tells old n line text note new → AreTold tells n old (line ∷ []) text note new
+  one_told n old new line text note told = record {
+    next = new;
+    first_text = text;
+    first_note = note;
+    later_text = [];
+    later_note = [];
+    told = told;
+    later = (refl, refl, refl);
+    text_is = sym (append-nil text);
+    note_is = sym (append-nil note);
+  }
+
+  pub told_then : (n m : ℕ) (first mid last : T) (xs ys : List (List ℕ)) (text more note later : List ℕ) → m ≡ n + length xs
+      → AreTold tells n first xs text note mid → AreTold tells m mid ys more later last → AreTold tells n first (xs ++ ys) (text ++ more) (note ++ later) last
+  told_then n m first mid last [] ys text more note later e one two =
+      let start : m ≡ n = omega arith in
+      let at_n : AreTold tells n mid ys more later last = subst (λ k. AreTold tells k mid ys more later last) start two in
+      let at_first : AreTold tells n first ys more later last = subst (λ f. AreTold tells n f ys more later last) one.2 at_n in
+      subst (λ t. AreTold tells n first ys (t ++ more) (note ++ later) last) (sym one.0)
+      (subst (λ t. AreTold tells n first ys more (t ++ later) last) (sym one.1) at_first)
+  told_then n m first mid last (x ∷ xs) ys text more note later e one two = record {
+    next = one.next;
+    first_text = one.first_text;
+    first_note = one.first_note;
+    later_text = one.later_text ++ more;
+    later_note = one.later_note ++ later;
+    told = one.told;
+    later = told_then (n + 1) m one.next mid last xs ys one.later_text more one.later_note later (omega arith) one.later two;
+    text_is = ap (λ t. t ++ more) one.text_is ∙ append_assoc one.first_text one.later_text more;
+    note_is = ap (λ t. t ++ later) one.note_is ∙ append_assoc one.first_note one.later_note later;
+  }
+
+  -- ---- the last step
+
+  -- a line was told, and its text can't be written
+  pub stopped_by_write : (number heard n : ℕ) → heard ≡ number → (old new : T) (source : SourceShown) (old_lines : List (List ℕ)) (out_tells : Bool) (out : Change SinkShown)
+      (sheet sheet' note note' : List ℕ) (notes_tell : Bool) (notes : Change SinkShown)
+      → HearsLine tells heard old_lines (take n (all_lines source.taken)) old new sheet sheet' note note' → note ≡ []
+      → (IsTrue out_tells → AppendsFront sheet' out.before.written out.now.written) → (IsTrue notes_tell → IsNoted note' notes)
+      → EndsStep tells number old new ends.Write source old_lines out_tells out sheet notes_tell notes
+  stopped_by_write number heard n same old new source old_lines out_tells out sheet sheet' note note' notes_tell notes h empty front noted = record {
+    lines = h.line ∷ [];
+    text = h.told_text;
+    note = h.told_note;
+    last = new;
+    told = one_told number old new h.line h.told_text h.told_note (subst (λ k. tells old k h.line h.told_text h.told_note new) same h.told);
+    lines_are = record { count = n; first = sym h.more };
+    last_is = λ whole. refl;
+    written = λ on. subst (λ t. AppendsFront t out.before.written out.now.written) h.text_is (front on);
+    noted = λ on. subst (λ t. IsNoted t notes) (h.note_is ∙ ap (λ t. t ++ h.told_note) empty) (noted on);
+  }
+
+  nothing_front : (text before now : List ℕ) → now ≡ before → AppendsFront text before now
+  nothing_front text before now same = record { count = 0; within = omega arith; appended = same ∙ sym (append-nil before) }
+
+  -- what is written where no more lines are told
+  last_text : (end result : LinesEnd) (sheet sheet' : List ℕ) (out : Change SinkShown) → IsEndOf end result
+      → (IsTrue (is_whole end) → sheet' ≡ sheet) → (IsTrue (is_whole end) → EndsText result sheet' out)
+      → (is_whole end ≡ false → out.now.written ≡ out.before.written) → EndsText result (sheet ++ []) out
+  last_text end result sheet sheet' out ended same whole silent = by (is_whole end) refl
+    where
+      by : (b : Bool) → is_whole end ≡ b → EndsText result (sheet ++ []) out
+      by true is =
+          let on : IsTrue (is_whole end) = is in
+          subst (λ t. EndsText result t out) (same on ∙ sym (append-nil sheet)) (whole on)
+      by false is = elim ended [
+        | inl end_is ↦ quiet end end_is is
+        | inr wrote ↦ absurd (let clash : true ≡ false = sym wrote.1 ∙ is in cc)
+      ]
+        where
+          quiet : (e : LinesEnd) → result ≡ e → is_whole e ≡ false → EndsText result (sheet ++ []) out
+          quiet ends.Done e off = absurd cc
+          quiet ends.Cut e off = absurd cc
+          quiet ends.Read e off = absurd cc
+          quiet ends.Write e off = subst (λ r. EndsText r (sheet ++ []) out) (sym e) (nothing_front (sheet ++ []) out.before.written out.now.written (silent is))
+          quiet ends.Memory e off = subst (λ r. EndsText r (sheet ++ []) out) (sym e) (nothing_front (sheet ++ []) out.before.written out.now.written (silent is))
+
+  -- no more lines are told
+  pub stopped_quietly : (number : ℕ) (old new : T) (end result : LinesEnd) (source : SourceShown) (old_lines : List (List ℕ)) (out_tells : Bool) (out : Change SinkShown)
+      (sheet sheet' : List ℕ) (notes_tell : Bool) (notes : SinkShown) → IsEndOf end result → EndsLines end source.taken source.left old_lines → AreFirst old_lines (all_lines source.taken)
+      → (IsTrue (is_whole end) → (new ≡ old) × (sheet' ≡ sheet)) → (IsTrue (is_whole end) → IsTrue out_tells → EndsText result sheet' out)
+      → (is_whole end ≡ false → IsTrue out_tells → out.now.written ≡ out.before.written)
+      → EndsStep tells number old new result source old_lines out_tells out sheet notes_tell (record { before = notes; now = notes })
+  stopped_quietly number old new end result source old_lines out_tells out sheet sheet' notes_tell notes ended lines first same whole silent = record {
+    lines = [];
+    text = [];
+    note = [];
+    last = old;
+    told = (refl, refl, refl);
+    lines_are = subst (λ t. EndsLines result source.taken source.left t) (sym (append-nil old_lines)) (lines_of ended);
+    last_is = last_of ended;
+    written = λ on. last_text end result sheet sheet' out ended (λ w. (same w).1) (λ w. whole w on) (λ off. silent off on);
+    noted = λ on. none_noted notes;
+  }
+    where
+      lines_of : IsEndOf end result → EndsLines result source.taken source.left old_lines
+      lines_of (inl is) = subst (λ r. EndsLines r source.taken source.left old_lines) (sym is) lines
+      lines_of (inr wrote) = subst (λ r. EndsLines r source.taken source.left old_lines) (sym wrote.0) first
+
+      last_of : IsEndOf end result → IsTrue (is_whole result) → old ≡ new
+      last_of (inl is) on = sym (same (subst (λ r. IsTrue (is_whole r)) is on)).0
+      last_of (inr wrote) on = sym (same wrote.1).0
+
+  -- ---- between steps
+
+  pub stands_first : (first : T) (lines : List (List ℕ)) (count : ℕ) (out_tells : Bool) (out : SinkShown) (notes_tell : Bool) (notes : SinkShown) → lines ≡ [] → count ≡ 0
+      → Stands tells first first lines count out_tells (record { before = out; now = out }) [] notes_tell (record { before = notes; now = notes })
+  stands_first first lines count out_tells out notes_tell notes none zero_lines = record {
+    text = [];
+    note = [];
+    told = subst (λ ls. AreTold tells 1 first ls [] [] first) (sym none) (refl, refl, refl);
+    counted = ap length none ∙ sym zero_lines;
+    poured = λ on. record { gone = []; written_is = sym (append-nil out.written); sheet_is = refl };
+    noted = λ on. none_noted notes;
+  }
+
+  pub stands_on : (first now next : T) (lines lines' : List (List ℕ)) (count count' : ℕ) → count' ≡ count + 1 → (out_tells : Bool) (a b c : SinkShown) (sheet sheet' : List ℕ)
+      (notes_tell : Bool) (x y z : SinkShown) → x.faults ≤ y.faults → y.faults ≤ z.faults
+      → Stands tells first now lines count out_tells (record { before = a; now = b }) sheet notes_tell (record { before = x; now = y })
+      → Steps tells count' now next lines lines' out_tells (record { before = b; now = c }) sheet sheet' notes_tell (record { before = y; now = z })
+      → Stands tells first next lines' count' out_tells (record { before = a; now = c }) sheet' notes_tell (record { before = x; now = z })
+  stands_on first now next lines lines' count count' next_is out_tells a b c sheet sheet' notes_tell x y z one two s step = record {
+    text = s.text ++ step.text;
+    note = s.note ++ step.note;
+    told = subst (λ ls. AreTold tells 1 first ls (s.text ++ step.text) (s.note ++ step.note) next) (sym step.more)
+        (told_then 1 count' first now next lines step.lines s.text step.text s.note step.note (omega (arith, s.counted)) s.told step.told);
+    counted = ap length step.more ∙ omega (arith, length-append lines step.lines, s.counted, step.one);
+    poured = λ on. poured_then a.written b.written c.written s.text step.text sheet sheet' (s.poured on) (step.poured on);
+    noted = λ on. noted_then x y z s.note step.note one two (s.noted on) (step.noted on);
+  }
+
+  pub ended_then : (first now new : T) (end : LinesEnd) (source : SourceShown) (lines : List (List ℕ)) (count : ℕ) (out_tells : Bool) (a b c : SinkShown) (sheet : List ℕ)
+      (notes_tell : Bool) (x y z : SinkShown) → x.faults ≤ y.faults → y.faults ≤ z.faults
+      → Stands tells first now lines count out_tells (record { before = a; now = b }) sheet notes_tell (record { before = x; now = y })
+      → EndsStep tells (count + 1) now new end source lines out_tells (record { before = b; now = c }) sheet notes_tell (record { before = y; now = z })
+      → Ended tells first new end source out_tells (record { before = a; now = c }) notes_tell (record { before = x; now = z })
+  ended_then first now new end source lines count out_tells a b c sheet notes_tell x y z one two s step = record {
+    lines = lines ++ step.lines;
+    text = s.text ++ step.text;
+    note = s.note ++ step.note;
+    last = step.last;
+    told = told_then 1 (count + 1) first now step.last lines step.lines s.text step.text s.note step.note (omega (arith, s.counted)) s.told step.told;
+    lines_are = step.lines_are;
+    last_is = step.last_is;
+    written = λ on. text_then end a b c s.text step.text sheet (s.poured on) (step.written on);
+    noted = λ on. noted_then x y z s.note step.note one two (s.noted on) (step.noted on);
+  }

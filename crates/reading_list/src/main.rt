@@ -1,0 +1,143 @@
+//! The program `reading_list`: opens the report that its words name, and lists the readings of each stored step.
+#![tactic(auto)]
+
+ghost use Rattle.std.specs.Prelude.{◌≡◌, [], true, false, map, IsTrue};
+ghost use Rattle.std.specs.String.{string_bytes};
+ghost use Rattle.std.specs.Process.{exit_status};
+ghost use Rattle.outer_io.specs.Shown.{source_change, sink_change};
+ghost use Rattle.reading_list_main.specs.declared.status.ListStatus.{ListStatus};
+ghost use Rattle.reading_list_main.specs.Run.{IsRun, code_of};
+ghost use Rattle.program_words.specs.OwnTexts.{asks_for_text, IsTold};
+
+mod status_words;
+
+use error_sink::ErrorSink;
+use line_reader::TextReader;
+use outer_io::{Sink, Source, StdSink, StdSource};
+use program_words::{NoWords, cannot_open, command_words, own_text, tell};
+use reading_list_main::{Form, LINE_MAX, ListStatus, list_report};
+use status_words::{Said, Stopped};
+use std::fs::{File, Files};
+use std::process::ExitCode;
+
+const HELP: &str =
+    "reading_list: the readings of every stored step of a report, a line for each data record
+
+usage: reading_list [--csv] REPORT
+       reading_list --help
+       reading_list --version
+
+REPORT is a file that wmbus hear or wmbus collect printed. Each data record of each
+stored step is printed as a JSON object in a line of its own, or with --csv as comma
+separated values below a line of names: address, label, receiver, line, moment,
+counter, record, function, storage, tariff, subunit, quantity, unit, value, modifiers
+and raw. A value is an exact decimal text, its power of ten applied. What can't be
+listed is named on the standard error, with its line.
+
+exit status: 0 all is listed, 1 some lines couldn't be listed whole or the report is
+cut off, 2 faulty words, 5 the report can't be read, 7 output not written, 8 the report
+goes past 131,072 lines or 67,108,864 bytes, 10 no memory, 11 a file that can't be
+opened. docs/FORMATS.md says what each fault means, docs/reading_list.1 is the man page
+";
+
+const VERSION: &str = "reading_list 0.1.0\n";
+
+// Says what a status means, unless there is nothing to say, and ends with it.
+fn end(rt: &impl Eprint, status: ListStatus) -> ExitCode
+    ensures { exit_status result ≡ code_of status }
+{
+    let code = status.code();
+    program_words::end(rt, code, Said { status })
+}
+
+// Lists the readings of a report, and ends with the status of that.
+fn list<R: Eprint + AllocGlobal, S: Source, K: Sink, E: Sink>(
+    rt: &R,
+    form: Form,
+    report: &mut TextReader<S>,
+    out: &mut K,
+    notes: &mut E,
+) -> ExitCode
+    requires fresh { report.old.reader.line ≡ 0 }
+    requires goes_on { report.old.reader.done ≡ false }
+    requires longest { report.old.longest ≡ 8192 }
+    requires untaken { IsTrue S.tells → S.taken report.old.reader.source ≡ [] }
+    requires empty { IsTrue K.tells → K.written out.old ≡ [] }
+    requires unnoted { IsTrue E.tells → E.written notes.old ≡ [] }
+    ensures { (status : ListStatus) × (exit_status result ≡ code_of status) × IsRun (record {
+      form = form;
+      report_tells = S.tells;
+      list_tells = K.tells;
+      notes_tell = E.tells;
+      report = source_change S.Source report.old.reader.source report.new.reader.source;
+      out = sink_change K.Sink out.old out.new;
+      notes = sink_change E.Sink notes.old notes.new;
+      status = status;
+    }) }
+{
+    let status = list_report(rt.alloc(), form, report, out, notes);
+    end(rt, status)
+}
+
+// Lists the readings of the report of this name.
+fn list_file<R: Eprint + Files<File = File> + AllocGlobal>(
+    rt: &R,
+    form: Form,
+    name: &str,
+    mut out: StdSink,
+    mut notes: ErrorSink,
+) -> ExitCode {
+    let Ok(file) = File::open(rt, name) else {
+        return cannot_open(rt, "reading_list", name);
+    };
+    let mut report = TextReader::new(StdSource::file(file), LINE_MAX);
+    list(rt, form, &mut report, &mut out, &mut notes)
+}
+
+// Does what the words behind the program's name ask for.
+fn perform<R: Print + Eprint + Files<File = File> + AllocGlobal>(
+    rt: &R,
+    command: &[String],
+    out: StdSink,
+    notes: ErrorSink,
+) -> ExitCode
+    ensures text { asks_for_text (map string_bytes command.now) ≡ true → IsTold 7 (exit_status result) }
+    ensures faulty { command.now ≡ [] → exit_status result ≡ 2 }
+{
+    if let Some(own) = own_text(command) {
+        let unwritten = ListStatus::Write;
+        return tell(
+            rt,
+            own.text(HELP, VERSION),
+            unwritten.code(),
+            Said { status: unwritten },
+        );
+    }
+    match command {
+        [report] => list_file(rt, Form::Json, report.as_str(), out, notes),
+        [flag, report] if flag.as_str() == "--csv" => {
+            list_file(rt, Form::Csv, report.as_str(), out, notes)
+        }
+        _ => program_words::end(rt, 2, Stopped),
+    }
+}
+
+// Ends where the words can't be had.
+fn end_without_words(rt: &impl Eprint, reason: NoWords) -> ExitCode {
+    match reason {
+        NoWords::Memory => end(rt, ListStatus::Memory),
+        NoWords::NotText => program_words::end(rt, 2, Stopped),
+    }
+}
+
+fn main(rt: HostRuntime) -> ExitCode {
+    match command_words(&rt) {
+        Ok(command) => perform(
+            &rt,
+            &command,
+            StdSink::standard(rt.stdout()),
+            ErrorSink::new(rt.stderr()),
+        ),
+        Err(reason) => end_without_words(&rt, reason),
+    }
+}

@@ -1,0 +1,198 @@
+-- What a run comes to, by how its lines ended.
+use Rattle.std.proofs.Common.{◌≡◌, ℕ, ◌+◌, ◌≤◌, ◌⊎◌, ◌||◌, not, Bool, true, false, cond, List, [], ◌++◌, length, take, drop, refl, sym, ap, ◌∙◌, subst, append_assoc, inl, inr, arith}
+use Rattle.std.specs.Prelude.{IsTrue}
+use Rattle.std.proofs.lemmas.List.{append-nil, length-append, take-append-le, take-append-drop}
+use Rattle.std.proofs.Math.Seq.{take-append-add}
+use Rattle.outer_io.specs.Bytes.{AppendsFront}
+use Rattle.outer_io.specs.Shown.{Change, SinkShown, ReadFailed, WriteFailed, LosesNothing}
+use Rattle.line_reader.specs.Lines.{is_over, whole_lines, all_lines}
+use Rattle.line_teller.specs.declared.ending.LinesEnd.{LinesEnd}
+use Rattle.line_teller.specs.declared.ending.LinesEnd.TheVariants as ends
+use Rattle.line_teller.specs.Ending.{AreFirst, EndsLines, EndsText, IsNoted, Ended, is_whole}
+use Rattle.line_teller.proofs.Steps.{noted_then, none_noted, rose_then}
+use Rattle.reading_list_main.specs.declared.forms.Form.{Form}
+use Rattle.reading_list_main.specs.declared.lister.Lister.{Lister}
+use Rattle.reading_list_main.specs.declared.status.ListStatus.{ListStatus}
+use Rattle.reading_list_main.specs.declared.status.ListStatus.TheVariants as statuses
+use Rattle.reading_list_main.specs.RecordLines.{head_text}
+use Rattle.reading_list_main.specs.Notes.{ending_text}
+use Rattle.reading_list_main.specs.Listing.{fresh, listed, noted, lister_behind, ListsLine}
+use Rattle.reading_list_main.specs.Run.{Run, IsRun, IsListed, IsListedSoFar, IsCausedBy, IsUnhindered, lists_all, list_text, report_notes, is_faultless, status_of}
+use Rattle.reading_list_main.specs.Running.{is_read_out, end_notes, ToldLines, IsToldRun}
+use Rattle.reading_list_main.proofs.Lines.{are_listed, listed_more}
+
+-- ---- notes behind all lines
+
+pub quiet_end : (end : LinesEnd) (l : Lister) (notes : SinkShown) → is_whole end ≡ false → IsNoted (end_notes end l) (record { before = notes; now = notes })
+quiet_end end l notes off =
+    subst (λ t. IsNoted t (record { before = notes; now = notes })) (sym (ap (λ b. cond b (ending_text (not (is_read_out end) || l.whole) l.noted) []) off)) (none_noted notes)
+
+pub whole_end : (end : LinesEnd) (l : Lister) (sink : Change SinkShown) → is_whole end ≡ true → IsNoted (ending_text (not (is_read_out end) || l.whole) l.noted) sink → IsNoted (end_notes end l) sink
+whole_end end l sink on noted =
+    subst (λ t. IsNoted t sink) (sym (ap (λ b. cond b (ending_text (not (is_read_out end) || l.whole) l.noted) []) on)) noted
+
+-- ---- lines that were told
+
+pub told_lines : (run : Run) (end : LinesEnd) (first now : Lister) (middle : SinkShown) → first ≡ fresh run.form
+    → Ended ListsLine first now end run.report.now run.list_tells run.out run.notes_tell (record { before = run.notes.before; now = middle })
+    → run.notes.before.faults ≤ middle.faults → middle.faults ≤ run.notes.now.faults
+    → (IsTrue run.notes_tell → IsNoted (end_notes end now) (record { before = middle; now = run.notes.now }))
+    → run.status ≡ status_of end (is_faultless now) → ToldLines run end
+told_lines run end first now middle first_is e one two noted_end status =
+    let are = are_listed 1 first e.last e.lines e.text e.note e.told in
+    let text_is : e.text ≡ listed (fresh run.form) e.lines = are.text_is ∙ ap (λ l. listed l e.lines) first_is in
+    let note_is : e.note ≡ noted 1 (fresh run.form) e.lines = are.note_is ∙ ap (λ l. noted 1 l e.lines) first_is in
+    let behind : e.last ≡ lister_behind (fresh run.form) e.lines = are.last_is ∙ ap (λ l. lister_behind l e.lines) first_is in
+    record {
+      lines = e.lines;
+      lines_are = e.lines_are;
+      listed = λ on. subst (λ t. EndsText end t run.out) text_is (e.written on);
+      noted = λ whole on.
+          let now_is : now ≡ lister_behind (fresh run.form) e.lines = sym (e.last_is whole) ∙ behind in
+          let ending : end_notes end now ≡ ending_text (not (is_read_out end) || (lister_behind (fresh run.form) e.lines).whole) (lister_behind (fresh run.form) e.lines).noted =
+          ap (λ b. cond b (ending_text (not (is_read_out end) || now.whole) now.noted) []) whole
+          ∙ ap (λ (l : Lister). ending_text (not (is_read_out end) || l.whole) l.noted) now_is in
+          subst (λ t. IsNoted (t ++ ending_text (not (is_read_out end) || (lister_behind (fresh run.form) e.lines).whole) (lister_behind (fresh run.form) e.lines).noted) run.notes) note_is
+          (subst (λ t. IsNoted (e.note ++ t) run.notes) ending
+          (noted_then run.notes.before middle run.notes.now e.note (end_notes end now) one two (e.noted on) (noted_end on)));
+      status = λ whole. status ∙ ap (λ (l : Lister). status_of end (is_faultless l)) (sym (e.last_is whole) ∙ behind);
+    }
+
+-- ---- the whole run
+
+front_of_more : (a b written : List ℕ) → AppendsFront a [] written → AppendsFront (a ++ b) [] written
+front_of_more a b written front = record {
+  count = front.count;
+  within = omega (arith, front.within, length-append a b);
+  appended = front.appended ∙ sym (take-append-le front.count a b front.within);
+}
+
+-- some first lines and those behind them are all
+first_and_more : (lines all : List (List ℕ)) (f : AreFirst lines all) → all ≡ lines ++ drop f.count all
+first_and_more lines all f = sym (take-append-drop f.count all) ∙ ap (λ t. t ++ drop f.count all) (sym f.first)
+
+more_listed : (form : Form) (lines all : List (List ℕ)) (f : AreFirst lines all) → list_text form all ≡ list_text form lines ++ listed (lister_behind (fresh form) lines) (drop f.count all)
+more_listed form lines all f =
+    ap (λ ls. head_text form ++ listed (fresh form) ls) (first_and_more lines all f)
+    ∙ ap (λ t. head_text form ++ t) (listed_more (fresh form) lines (drop f.count all))
+    ∙ sym (append_assoc (head_text form) (listed (fresh form) lines) (listed (lister_behind (fresh form) lines) (drop f.count all)))
+
+-- a front of the lines' list behind the head is a front of the whole list
+front_behind : (form : Form) (lines all : List (List ℕ)) (before written : List ℕ) → AreFirst lines all → before ≡ head_text form → AppendsFront (listed (fresh form) lines) before written
+    → AppendsFront (list_text form all) [] written
+front_behind form lines all before written f head front =
+    subst (λ t. AppendsFront t [] written) (sym (more_listed form lines all f))
+    (front_of_more (list_text form lines) (listed (lister_behind (fresh form) lines) (drop f.count all)) written (record {
+      count = length (head_text form) + front.count;
+      within = omega (arith, front.within, length-append (head_text form) (listed (fresh form) lines));
+      appended = front.appended ∙ ap (λ t. t ++ take front.count (listed (fresh form) lines)) head
+          ∙ sym (take-append-add (head_text form) (listed (fresh form) lines) front.count);
+    }))
+
+pub not_head : (form : Form) (taken written : List ℕ) → AppendsFront (head_text form) [] written → AppendsFront (list_text form (all_lines taken)) [] written
+not_head form taken written front = front_of_more (head_text form) (listed (fresh form) (all_lines taken)) written front
+
+module _ (run : Run) (head : SinkShown) (later : run.out.before.faults ≤ head.faults) (head_is : IsTrue run.list_tells → head.written ≡ head_text run.form)
+    (t : IsToldRun (record {
+      form = run.form;
+      report_tells = run.report_tells;
+      list_tells = run.list_tells;
+      notes_tell = run.notes_tell;
+      report = run.report;
+      out = record { before = head; now = run.out.now };
+      notes = run.notes;
+      status = run.status;
+    }))
+    (later_out : head.faults ≤ run.out.now.faults)
+    (untaken : IsTrue run.report_tells → run.report.before.taken ≡ []) (unnoted : IsTrue run.notes_tell → run.notes.before.written ≡ []) where
+  all_bytes : IsTrue run.report_tells → run.report.now.taken ++ run.report.now.left ≡ run.report.before.left
+  all_bytes tells = t.bytes tells ∙ ap (λ b. b ++ run.report.before.left) (untaken tells)
+
+  wrote : t.end ≡ ends.Write → WriteFailed run.out
+  wrote is = rose_then run.out.before.faults head.faults run.out.now.faults later later_out (t.write is)
+
+  -- the ending of a run that lists all
+  is_done : (end : LinesEnd) (faultless : Bool) (status : ListStatus) → status ≡ status_of end faultless → IsTrue (lists_all status) → end ≡ ends.Done
+  is_done ends.Done faultless status is on = refl
+  is_done ends.Read faultless status is on = absurd (let off = subst (λ s. IsTrue (lists_all s)) is on in cc)
+  is_done ends.Cut faultless status is on = absurd (let off = subst (λ s. IsTrue (lists_all s)) is on in cc)
+  is_done ends.Write faultless status is on = absurd (let off = subst (λ s. IsTrue (lists_all s)) is on in cc)
+  is_done ends.Memory faultless status is on = absurd (let off = subst (λ s. IsTrue (lists_all s)) is on in cc)
+
+  is_listed : t.end ≡ ends.Done → IsTrue run.report_tells → IsListed run
+  is_listed done tells =
+      let told = t.told tells in
+      let lines = subst (λ e. EndsLines e run.report.now.taken run.report.now.left told.lines) done told.lines_are in
+      let taken : run.report.now.taken ≡ run.report.now.taken ++ run.report.now.left = sym (append-nil run.report.now.taken) ∙ ap (λ b. run.report.now.taken ++ b) (sym lines.0) in
+      let all : run.report.now.taken ≡ run.report.before.left = taken ∙ all_bytes tells in
+      let lines_all : told.lines ≡ all_lines run.report.before.left = lines.2 ∙ ap all_lines all in
+      let whole : IsTrue (is_whole t.end) = ap is_whole done in
+      record {
+        read = record { took_all = taken ∙ t.bytes tells; nothing_left = lines.0 };
+        within = ap is_over (sym all) ∙ lines.1;
+        listed = λ on.
+            subst (λ e. EndsText e (listed (fresh run.form) told.lines) (record { before = head; now = run.out.now })) done (told.listed on)
+            ∙ ap (λ h. h ++ listed (fresh run.form) told.lines) (head_is on) ∙ ap (list_text run.form) lines_all;
+        noted = λ on off.
+            told.noted whole on off ∙ ap (λ b. b ++ noted_text t.end told.lines) (unnoted on)
+            ∙ ap (λ e. noted_text e told.lines) done ∙ ap (λ ls. report_notes run.form true ls) lines_all;
+        status = told.status whole ∙ ap (λ e. status_of e (is_faultless (lister_behind (fresh run.form) told.lines))) done
+            ∙ ap (λ ls. status_of ends.Done (is_faultless (lister_behind (fresh run.form) ls))) lines_all;
+      }
+    where
+      noted_text : LinesEnd → List (List ℕ) → List ℕ
+      noted_text e ls =
+          noted 1 (fresh run.form) ls ++ ending_text (not (is_read_out e) || (lister_behind (fresh run.form) ls).whole) (lister_behind (fresh run.form) ls).noted
+
+  so_far_by : (end : LinesEnd) (faultless : Bool) (lines : List (List ℕ)) → EndsLines end run.report.now.taken run.report.now.left lines
+      → EndsText end (listed (fresh run.form) lines) (record { before = head; now = run.out.now }) → head.written ≡ head_text run.form
+      → IsListedSoFar (status_of end faultless) run.form run.report.now.taken run.out.now.written
+  so_far_by ends.Done true lines are text h = text ∙ ap (λ b. b ++ listed (fresh run.form) lines) h ∙ ap (list_text run.form) are.2
+  so_far_by ends.Done false lines are text h = text ∙ ap (λ b. b ++ listed (fresh run.form) lines) h ∙ ap (list_text run.form) are.2
+  so_far_by ends.Read faultless lines are text h = text ∙ ap (λ b. b ++ listed (fresh run.form) lines) h ∙ ap (list_text run.form) are
+  so_far_by ends.Cut faultless lines are text h = text ∙ ap (λ b. b ++ listed (fresh run.form) lines) h ∙ ap (list_text run.form) are.1
+  so_far_by ends.Write faultless lines are text h = front_behind run.form lines (all_lines run.report.now.taken) head.written run.out.now.written are h text
+  so_far_by ends.Memory faultless lines are text h = front_behind run.form lines (all_lines run.report.now.taken) head.written run.out.now.written are h text
+
+  caused_by : (end : LinesEnd) (faultless : Bool) → t.end ≡ end → IsCausedBy run (status_of end faultless)
+  caused_by ends.Done true is = tt
+  caused_by ends.Done false is = tt
+  caused_by ends.Read faultless is = t.read is
+  caused_by ends.Cut faultless is = λ tells.
+      ap is_over (sym (all_bytes tells)) ∙ (subst (λ e. EndsLines e run.report.now.taken run.report.now.left (t.told tells).lines) is (t.told tells).lines_are).0
+  caused_by ends.Write faultless is = wrote is
+  caused_by ends.Memory faultless is = tt
+
+  over_clash : {A : Type 0} (b : Bool) → b ≡ true → b ≡ false → A
+  over_clash b on off = let no_way : true ≡ false = sym on ∙ off in absurd cc
+
+  complete_by : (end : LinesEnd) (faultless : Bool) → t.end ≡ end → IsTrue run.report_tells → IsUnhindered run
+      → IsTrue (lists_all (status_of end faultless)) ⊎ (status_of end faultless ≡ statuses.Memory)
+  complete_by ends.Done true is tells u = inl refl
+  complete_by ends.Done false is tells u = inl refl
+  complete_by ends.Read faultless is tells u = absurd (u.read (t.read is))
+  complete_by ends.Cut faultless is tells u = over_clash (is_over run.report.before.left) (caused_by ends.Cut faultless is tells) u.within
+  complete_by ends.Write faultless is tells u = absurd (u.written (wrote is))
+  complete_by ends.Memory faultless is tells u = inr refl
+
+  pub ran : IsRun run
+  ran = record {
+    listed = λ on tells. is_listed (is_done t.end t.faultless run.status t.status on) tells;
+    so_far = λ tells on.
+        subst (λ s. IsListedSoFar s run.form run.report.now.taken run.out.now.written) (sym t.status)
+        (so_far_by t.end t.faultless (t.told tells).lines (t.told tells).lines_are ((t.told tells).listed on) (head_is on));
+    caused = subst (IsCausedBy run) (sym t.status) (caused_by t.end t.faultless refl);
+    complete = λ tells u. subst (λ s. IsTrue (lists_all s) ⊎ (s ≡ statuses.Memory)) (sym t.status) (complete_by t.end t.faultless refl tells u);
+    no_loss = t.bytes;
+  }
+
+-- where what stands in front can't be written, nothing is read
+pub unwritten : (run : Run) → run.status ≡ statuses.Write → run.report.now ≡ run.report.before → (IsTrue run.list_tells → AppendsFront (head_text run.form) [] run.out.now.written)
+    → WriteFailed run.out → IsRun run
+unwritten run is same front failed = record {
+  listed = λ on. absurd (let off = subst (λ s. IsTrue (lists_all s)) is on in cc);
+  so_far = λ tells on. subst (λ s. IsListedSoFar s run.form run.report.now.taken run.out.now.written) (sym is) (not_head run.form run.report.now.taken run.out.now.written (front on));
+  caused = subst (IsCausedBy run) (sym is) failed;
+  complete = λ tells u. absurd (u.written failed);
+  no_loss = λ tells. ap (λ s. s.taken ++ s.left) same;
+}

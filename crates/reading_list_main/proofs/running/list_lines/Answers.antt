@@ -1,0 +1,20 @@
+-- What was told of the lines is what is listed and noted of them.
+use Rattle.std.proofs.Common.{ap, ◌∙◌}
+use Rattle.reading_list_main.specs.Run.{status_of}
+use Rattle.reading_list_main.proofs.Runs.{told_lines}
+use Rattle.reading_list_main.proofs.running.list_lines.Goals as goal
+
+pub returns-clause-run : goal.returns-clause-run
+returns-clause-run g c =
+    let status = c.of_lines.ensures ∙ ap (status_of c.tell_lines-end.result) c.is_faultless.ensures in
+    record {
+      end = c.tell_lines-end.result;
+      faultless = c.is_faultless.result;
+      status = c.of_lines.ensures;
+      told = λ tells.
+          told_lines _ c.tell_lines-end.result c.new-lister.result c.tell_lines-end.new.teller _ c.new-lister.ensures (c.tell_lines-end.ensures.ended tells)
+          c.tell_lines-end.ensures.later_notes c.note_end.ensures.later c.note_end.ensures.noted status;
+      read = c.tell_lines-end.ensures.read;
+      write = c.tell_lines-end.ensures.write;
+      bytes = c.tell_lines-end.ensures.bytes;
+    }

@@ -1,0 +1,19 @@
+//! A list of the readings of a report: a line for each data record of each stored step.
+#![tactic(auto)]
+
+mod decimals;
+mod forms;
+mod lister;
+mod notes;
+mod record_lines;
+mod running;
+mod said;
+mod status;
+
+pub use decimals::put_decimal;
+pub use forms::{Form, Member};
+pub use lister::Lister;
+pub use notes::LineNote;
+pub use running::list_report;
+pub use said::{LINE_MAX, LineFault, SaidRead, StepRead, Unread, read_line};
+pub use status::ListStatus;

@@ -1,0 +1,146 @@
+"""The database of readings that tools/keep_readings fills and tools/report_page shows: a SQLite file.
+
+What a report says of stored steps is kept for ever, each step once. What it says beside that (refusals, commands that wait, strangers,
+how its receivers ended) is kept for each report, and goes with it when a later report takes its place."""
+import os
+import sqlite3
+
+APPLICATION = 0x6D627573
+VERSION = 1
+PAGE_WAIT = 60
+
+TABLES = """
+CREATE TABLE reading (
+    id INTEGER PRIMARY KEY,
+    address TEXT NOT NULL,     -- the meter's sixteen digits
+    counter INTEGER NOT NULL,  -- the counter (mode 7) or the access number (mode 5)
+    moment BLOB NOT NULL,      -- an INTEGER, as the receiver's line has it; from 2^63 on TEXT of twenty digits
+    payload BLOB NOT NULL,     -- the decrypted bytes
+    receiver INTEGER NOT NULL, -- the receiver and its line in the report from which it was kept
+    line INTEGER NOT NULL,
+    UNIQUE (address, counter, moment, payload)
+);
+CREATE TABLE register (
+    id INTEGER PRIMARY KEY,
+    function TEXT NOT NULL,
+    storage INTEGER NOT NULL,
+    tariff INTEGER NOT NULL,
+    subunit INTEGER NOT NULL,
+    quantity TEXT NOT NULL,
+    unit TEXT NOT NULL,
+    modifiers TEXT NOT NULL,
+    UNIQUE (function, storage, tariff, subunit, quantity, unit, modifiers)
+);
+CREATE TABLE record (
+    reading INTEGER NOT NULL REFERENCES reading (id) ON DELETE CASCADE,
+    place INTEGER NOT NULL,    -- its place in the payload, from 1
+    register INTEGER NOT NULL REFERENCES register (id),
+    value TEXT NOT NULL,       -- an exact decimal number, a date, a moment, or text, raw, -
+    raw TEXT NOT NULL,         -- the data as sent, in hexadecimal
+    PRIMARY KEY (reading, place)
+) WITHOUT ROWID;
+CREATE TABLE report (
+    id INTEGER PRIMARY KEY,
+    name TEXT NOT NULL UNIQUE, -- the path of its file
+    sha256 TEXT NOT NULL UNIQUE,
+    kept TEXT NOT NULL         -- when it was kept, in UTC
+);
+CREATE TABLE receiver (
+    report INTEGER NOT NULL REFERENCES report (id) ON DELETE CASCADE,
+    number INTEGER NOT NULL,
+    lines INTEGER NOT NULL,
+    own INTEGER NOT NULL,
+    strangers INTEGER NOT NULL,
+    unframed INTEGER NOT NULL,
+    bad INTEGER NOT NULL,
+    ended TEXT NOT NULL,
+    PRIMARY KEY (report, number)
+) WITHOUT ROWID;
+CREATE TABLE meter (
+    report INTEGER NOT NULL REFERENCES report (id) ON DELETE CASCADE,
+    address TEXT NOT NULL,
+    mode INTEGER NOT NULL,
+    last INTEGER,              -- its last stored counter or access number
+    down INTEGER NOT NULL,     -- the counter of its last downlink
+    steps INTEGER NOT NULL,
+    readings INTEGER NOT NULL,
+    fault TEXT,                -- the words of the fault that ends its last reading's records
+    PRIMARY KEY (report, address)
+) WITHOUT ROWID;
+CREATE TABLE refusal (
+    report INTEGER NOT NULL REFERENCES report (id) ON DELETE CASCADE,
+    address TEXT NOT NULL,
+    reason TEXT NOT NULL,      -- the words without what varies, as `stale`
+    count INTEGER NOT NULL,
+    last TEXT NOT NULL,        -- the words of the last one, as `stale 41 42`
+    PRIMARY KEY (report, address, reason)
+) WITHOUT ROWID;
+CREATE TABLE pending (
+    report INTEGER NOT NULL REFERENCES report (id) ON DELETE CASCADE,
+    address TEXT NOT NULL,
+    command INTEGER NOT NULL,
+    tries INTEGER NOT NULL,
+    PRIMARY KEY (report, address, command)
+) WITHOUT ROWID;
+CREATE TABLE stranger (
+    report INTEGER NOT NULL REFERENCES report (id) ON DELETE CASCADE,
+    address TEXT NOT NULL,
+    count INTEGER NOT NULL,    -- how often it stands in the ring of the last strangers
+    PRIMARY KEY (report, address)
+) WITHOUT ROWID;
+CREATE VIEW series AS
+    SELECT address, moment, counter, receiver, line, place AS record, function, storage, tariff, subunit, quantity, unit, value, modifiers, raw
+    FROM reading JOIN record ON record.reading = reading.id JOIN register ON register.id = record.register;
+"""
+
+
+class NoDatabase(Exception):
+    """Why a file isn't used as a database of readings."""
+
+
+def open_database(path, create):
+    """The database in this file; where there is none it is made, if `create` says so."""
+    if not create and not os.path.isfile(path):
+        raise NoDatabase(f"{path}: there is no such file; tools/keep_readings makes one")
+    database = None
+    try:
+        database = sqlite3.connect(path, timeout=PAGE_WAIT, isolation_level=None)
+        database.execute("PRAGMA foreign_keys = ON")
+        database.execute("PRAGMA synchronous = FULL")
+        if create:
+            make_tables(database)
+        check_tables(database, path)
+        return database
+    except (sqlite3.Error, NoDatabase) as error:
+        if database is not None:
+            database.close()
+        raise error if isinstance(error, NoDatabase) else NoDatabase(f"{path}: {error}")
+
+
+def marks(database):
+    return [database.execute(f"PRAGMA {name}").fetchone()[0] for name in ("application_id", "user_version")]
+
+
+def is_empty(database):
+    return marks(database) == [0, 0] and database.execute("SELECT count(*) FROM sqlite_master").fetchone()[0] == 0
+
+
+def make_tables(database):
+    """Makes the tables of an empty database, all of them or none."""
+    if not is_empty(database):
+        return
+    database.execute("BEGIN IMMEDIATE")
+    if is_empty(database):
+        for statement in TABLES.split(";\n"):
+            database.execute(statement)
+        database.execute(f"PRAGMA application_id = {APPLICATION}")
+        database.execute(f"PRAGMA user_version = {VERSION}")
+    database.execute("COMMIT")
+
+
+def check_tables(database, path):
+    application, version = marks(database)
+    if application != APPLICATION:
+        raise NoDatabase(f"{path}: this is no database of readings")
+    if version != VERSION:
+        raise NoDatabase(f"{path}: it was made by another version: its tables are of version {version}, these tools know {VERSION}")
