@@ -1,4 +1,4 @@
-"""Messages of security modes 5 and 7 (OMS Volume 2), for scripts that make sessions. The package cryptography is used where it is there; it takes a fifth of the time."""
+"""Messages of security modes 5 and 7 (OMS Volume 2), for scripts that make sessions. The package cryptography is used where it is there, since it is faster."""
 try:
     from cryptography.hazmat.primitives.ciphers import Cipher, algorithms, modes
     from cryptography.hazmat.primitives.cmac import CMAC
