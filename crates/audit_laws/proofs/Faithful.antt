@@ -121,9 +121,10 @@ all_of input h = ap (λ b. cond b (whole_lines input) (lines input)) h
 few_told : (inputs : List (List ℕ)) → Each (λ input. is_over input ≡ false) inputs
     → Each (λ (heard : List Told). length heard < 2 ^ 32) (map told_in inputs)
 few_told [] h = tt
-few_told (i ∷ inputs) h =
-    (let few = lines_within i h.0 in let long = length-map (all_lines i) told_of in let same = ap length (all_of i h.0) in omega arith,
-    few_told inputs h.1)
+few_told (i ∷ inputs) h = (
+  let few = lines_within i h.0 in let long = length-map (all_lines i) told_of in let same = ap length (all_of i h.0) in omega arith,
+  few_told inputs h.1,
+)
 
 is_roster_short : (text : List ℕ) (r : Enrolled) → roster_of text ≡ Ok r → length text ≤ 1048576
 is_roster_short text r h = at (nat_lt 1048576 (length text)) refl
@@ -186,7 +187,6 @@ read_whole : (most : ℕ) (source : Change SourceShown) (bytes : List ℕ) → I
     → bytes ≡ source.before.left
 read_whole most source bytes h short =
     sym (append-nil bytes) ∙ (ap (λ l. bytes ++ l) (sym (h.ended short)) ∙ sym h.moved.front)
-
 
 inputs_read : (sources : List (Change SourceShown)) (read : List (List ℕ)) → EachWith (IsReadPast 67108864) sources read
     → Each (λ input. is_over input ≡ false) (map (λ (s : Change SourceShown). s.before.left) sources)
