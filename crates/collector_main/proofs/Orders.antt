@@ -144,18 +144,22 @@ module _ (own : Address) (all : List (List Told)) (few : length all < 2 ^ 32) (s
       (λ w. few_lines (λ l. event_at c.address l.0 l.1) (keeps_event c.address) 1 (heard_by w all) (omega (arith, few_of 1 w all short)))
       (none_there (λ l. event_at c.address l.0 l.1)))
 
-  slots_counted : (cs : List Commissioned) (slots : List SlotView) → EachWith (IsMetersSlot own all) cs slots → All (λ order. All IsCounted order) (map order_of slots)
+  pub slots_counted : (cs : List Commissioned) (slots : List SlotView) → EachWith (IsMetersSlot own all) cs slots → All (λ order. All IsCounted order) (map order_of slots)
   slots_counted [] [] each = All-nil (λ order. All IsCounted order)
   slots_counted [] (b ∷ slots) each = absurd each
   slots_counted (c ∷ cs) [] each = absurd each
   slots_counted (c ∷ cs) (b ∷ slots) each = All-cons (λ order. All IsCounted order) (order_of b) (map order_of slots) (slot_counted c b each.0) (slots_counted cs slots each.1)
 
+  pub strangers_counted : (cs : List Commissioned) (world : WorldView) → IsSession own cs all world
+      → All IsCounted (map place_of_stranger world.strangers)
+  strangers_counted cs world session =
+      each_placed place_of_stranger world.strangers
+      (all_fit (λ (h : Heard). h.source) (λ (h : Heard). h.line) (λ (h : Heard). h.address) (λ w. lines_of_strangers cs (heard_by w all)) world.strangers session.strangers
+      (λ w. few_lines (λ l. stranger_at cs l.0 l.1) (keeps_stranger cs) 1 (heard_by w all) (omega (arith, few_of 1 w all short)))
+      (none_there (λ l. stranger_at cs l.0 l.1)))
+
   -- the text of a session's report tells the session's order
   pub order_is_told : (cs : List Commissioned) (world : WorldView) (ends : List ReceiverEnd) → IsSession own cs all world
       → orders (report_text ends world.slots world.strangers) ≡ orders_of world.slots world.strangers
   order_is_told cs world ends session =
-      report_orders ends world.slots world.strangers (slots_counted cs world.slots session.meters)
-      (each_placed place_of_stranger world.strangers
-      (all_fit (λ (h : Heard). h.source) (λ (h : Heard). h.line) (λ (h : Heard). h.address) (λ w. lines_of_strangers cs (heard_by w all)) world.strangers session.strangers
-      (λ w. few_lines (λ l. stranger_at cs l.0 l.1) (keeps_stranger cs) 1 (heard_by w all) (omega (arith, few_of 1 w all short)))
-      (none_there (λ l. stranger_at cs l.0 l.1))))
+      report_orders ends world.slots world.strangers (slots_counted cs world.slots session.meters) (strangers_counted cs world session)

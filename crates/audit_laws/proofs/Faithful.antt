@@ -1,0 +1,290 @@
+-- What the collector wrote is faithful.
+use Rattle.std.proofs.Common.{◌≡◌, ◌⊎◌, ℕ, zero, suc, ◌+◌, ◌<◌, ◌≤◌, ◌^◌, ◌||◌, nat_lt, nat_le, Bool, true, false, cond, IsTrue, List, [], ◌∷◌, ◌++◌, map, length, get_or, reverse, Option, Some, None, Result, Ok, Err, inl, inr, refl, sym, ap, ◌∙◌, subst, arith, append-nil, length-append}
+use Rattle.std.specs.List.{All, Contains}
+use Rattle.std.specs.Str.Lines.{lines}
+use Rattle.std.proofs.lemmas.Bool.Decides.{nat_tests}
+use Rattle.std.proofs.lemmas.List.{length-map}
+use Rattle.outer_io.specs.Bytes.{Moves}
+use Rattle.outer_io.specs.Each.{Each, EachWith}
+use Rattle.outer_io.specs.Shown.{Change, SourceShown, SinkShown}
+use Rattle.line_reader.specs.Lines.{is_over, whole_lines, all_lines}
+use Rattle.meter_address.specs.declared.address.Address.{Address}
+use Rattle.meter_address.specs.Commission.{Commissioned}
+use Rattle.meter_slots.specs.Journal.{SlotView}
+use Rattle.meter_slots.specs.World.{WorldView}
+use Rattle.meter_slots.specs.declared.counts.Ended.{Ended}
+use Rattle.meter_slots.specs.declared.counts.Ended.TheVariants as ends
+use Rattle.receivers.specs.declared.told.Told.{Told}
+use Rattle.receivers.specs.Classes.{counts_of}
+use Rattle.receivers.specs.Ending.{IsEnding}
+use Rattle.receivers.specs.HeardLines.{HeardLines, tellings}
+use Rattle.receivers.specs.Run.{ReceiverRun}
+use Rattle.receivers.specs.Session.{IsMetersSlot, IsSession}
+use Rattle.receivers.specs.Told.{told_of}
+use Rattle.report_text.specs.declared.lent.ReceiverEnd.{ReceiverEnd}
+use Rattle.report_text.specs.Orders.{Orders, orders, lines_in}
+use Rattle.report_text.specs.OrdersLaw.{orders_of}
+use Rattle.report_text.specs.Report.{report_text}
+use Rattle.roster_file.specs.Roster.{Enrolled, roster_of}
+use Rattle.roster_file.proofs.Enrolling.{too_long}
+use Rattle.collector_main.specs.Heard.{Heard, addresses, receiver_end, report_of}
+use Rattle.collector_main.specs.Run as collector
+use Rattle.collector_main.specs.Showing.{report_output}
+use Rattle.collector_main.specs.Statuses.{was_heard}
+use Rattle.collector_main.specs.declared.status.Status.{Status}
+use Rattle.collector_main.specs.declared.status.Status.TheVariants as statuses
+use Rattle.collector_main.proofs.Orders.{slots_counted, strangers_counted}
+use Rattle.audit_check_main.specs.Audit.{Audited, told_in, heard_of, heard_out, IsReadable, IsInForm, IsOrdered, IsFaithful, IsVerdict}
+use Rattle.audit_check_main.specs.Lists.{lists_printed}
+use Rattle.audit_check_main.specs.Run as audit
+use Rattle.audit_check_main.specs.Run.{IsReadPast, HasVerdict}
+use Rattle.audit_check_main.specs.declared.status.AuditStatus.{AuditStatus}
+use Rattle.audit_check_main.specs.declared.status.AuditStatus.TheVariants as answers
+use Rattle.audit_check_main.specs.declared.verdict.Cause.{Cause}
+use Rattle.audit_check_main.specs.declared.verdict.Verdict.{Verdict}
+use Rattle.audit_check_main.specs.declared.verdict.Verdict.TheVariants.{Yes, No}
+use Rattle.audit_check_main.proofs.InForm.{report_in_form}
+use Rattle.audit_check_main.proofs.OneVerdict.{one_verdict}
+use Rattle.audit_laws.specs.Laws.{IsAuditOf, IsAudited}
+
+-- ---- a receiver that heard an input to its end
+
+abbrev bytes_heard : ReceiverRun → List ℕ
+bytes_heard r = r.source.before.left
+
+record HeardOut (input : List ℕ) (heard : HeardLines) : Type 0 where
+  within : is_over input ≡ false
+  all : heard.lines ≡ all_lines input
+  ended : heard.ended ≡ ends.End
+
+same_end : (o : Option Ended) (e : Ended) → o ≡ Some ends.End → o ≡ Some e → e ≡ ends.End
+same_end o e h k = let same : Some e ≡ Some ends.End = sym k ∙ h in cc
+
+heard_one : (run : ReceiverRun) (heard : HeardLines) → run.ended ≡ Some ends.End → collector.EndsSo run heard
+    → HeardOut (bytes_heard run) heard
+heard_one run heard ended so =
+    let at_end : heard.ended ≡ ends.End = same_end run.ended heard.ended ended so.ended in
+    let lines = subst (λ e. IsEnding e run.source.now.taken run.source.now.left heard.lines) at_end so.lines in
+    let whole : run.source.now.taken ≡ bytes_heard run =
+    sym (append-nil run.source.now.taken) ∙ (ap (λ l. run.source.now.taken ++ l) (sym lines.nothing_left) ∙ so.first_bytes) in
+    record { within = ap is_over (sym whole) ∙ lines.within; all = lines.all ∙ ap all_lines whole; ended = at_end }
+
+heard_each : (runs : List ReceiverRun) (heard : List HeardLines) → Each (collector.HasEnded ends.End) runs
+    → EachWith collector.EndsSo runs heard → EachWith HeardOut (map bytes_heard runs) heard
+heard_each [] [] ended so = tt
+heard_each [] (h ∷ heard) ended so = absurd so
+heard_each (r ∷ runs) [] ended so = absurd so
+heard_each (r ∷ runs) (h ∷ heard) ended so = (heard_one r h ended.0 so.0, heard_each runs heard ended.1 so.1)
+
+all_within : (inputs : List (List ℕ)) (heard : List HeardLines) → EachWith HeardOut inputs heard
+    → Each (λ input. is_over input ≡ false) inputs
+all_within [] [] h = tt
+all_within [] (x ∷ heard) h = absurd h
+all_within (i ∷ inputs) [] h = absurd h
+all_within (i ∷ inputs) (x ∷ heard) h = (h.0.within, all_within inputs heard h.1)
+
+all_told : (inputs : List (List ℕ)) (heard : List HeardLines) → EachWith HeardOut inputs heard → map tellings heard ≡ map told_in inputs
+all_told [] [] h = refl
+all_told [] (x ∷ heard) h = absurd h
+all_told (i ∷ inputs) [] h = absurd h
+all_told (i ∷ inputs) (x ∷ heard) h = (λ k. map told_of (h.0.all k) ∷ all_told inputs heard h.1 k)
+
+abbrev end_with : List Address → HeardLines → ReceiverEnd
+end_with cs r = record { counts = counts_of cs (tellings r); ended = r.ended }
+
+all_ends : (cs : List Address) (inputs : List (List ℕ)) (heard : List HeardLines) → EachWith HeardOut inputs heard
+    → map (end_with cs) heard ≡ map (heard_out cs) inputs
+all_ends cs [] [] h = refl
+all_ends cs [] (x ∷ heard) h = absurd h
+all_ends cs (i ∷ inputs) [] h = absurd h
+all_ends cs (i ∷ inputs) (x ∷ heard) h =
+    (λ k. record { counts = counts_of cs (map told_of (h.0.all k)); ended = h.0.ended k } ∷ all_ends cs inputs heard h.1 k)
+
+-- ---- limits
+
+neither : (x y : Bool) → (x || y) ≡ false → (x ≡ false) × (y ≡ false)
+neither true y h = absurd cc
+neither false y h = (refl, h)
+
+bytes_within : (input : List ℕ) → is_over input ≡ false → length input ≤ 67108864
+unfolding is_over
+bytes_within input h = let test = (neither (nat_lt 67108864 (length input)) (nat_lt 131072 (length (lines input))) h).0 in grind (arith, nat_tests)
+
+lines_within : (input : List ℕ) → is_over input ≡ false → length (lines input) ≤ 131072
+unfolding is_over
+lines_within input h = let test = (neither (nat_lt 67108864 (length input)) (nat_lt 131072 (length (lines input))) h).1 in grind (arith, nat_tests)
+
+all_of : (input : List ℕ) → is_over input ≡ false → all_lines input ≡ lines input
+unfolding all_lines
+all_of input h = ap (λ b. cond b (whole_lines input) (lines input)) h
+
+few_told : (inputs : List (List ℕ)) → Each (λ input. is_over input ≡ false) inputs
+    → Each (λ (heard : List Told). length heard < 2 ^ 32) (map told_in inputs)
+few_told [] h = tt
+few_told (i ∷ inputs) h = (
+  let few = lines_within i h.0 in let long = length-map (all_lines i) told_of in let same = ap length (all_of i h.0) in omega arith,
+  few_told inputs h.1,
+)
+
+is_roster_short : (text : List ℕ) (r : Enrolled) → roster_of text ≡ Ok r → length text ≤ 1048576
+is_roster_short text r h = at (nat_lt 1048576 (length text)) refl
+  where
+    at : (b : Bool) → nat_lt 1048576 (length text) ≡ b → length text ≤ 1048576
+    at true test = absurd (let bad = too_long text (grind (arith, nat_tests)) in let good = h in cc)
+    at false test = grind (arith, nat_tests)
+
+-- ---- a session of what some inputs tell
+
+module _ (roster : List ℕ) (inputs : List (List ℕ)) (r : Enrolled) (world : WorldView) (roster_is : roster_of roster ≡ Ok r)
+    (within : Each (λ input. is_over input ≡ false) inputs) (few : length inputs ≤ 16)
+    (session : IsSession r.own r.meters (map told_in inputs) world) where
+  abbrev text : List ℕ
+  text = report_text (map (heard_out (map (λ c. c.address) r.meters)) inputs) world.slots world.strangers
+
+  abbrev audited : Audited
+  audited = record { roster = roster; report = text; inputs = inputs }
+
+  few_receivers : length (map told_in inputs) < 2 ^ 32
+  few_receivers = let same = length-map inputs told_in in omega arith
+
+  as_many : (cs : List Commissioned) (slots : List SlotView) → EachWith (IsMetersSlot r.own (map told_in inputs)) cs slots
+      → length slots ≤ length cs
+  as_many [] [] h = omega arith
+  as_many [] (b ∷ slots) h = absurd h
+  as_many (c ∷ cs) [] h = absurd h
+  as_many (c ∷ cs) (b ∷ slots) h = let rest = as_many cs slots h.1 in omega arith
+
+  readable : IsReadable audited r
+  readable = record { roster_is = roster_is; within = within }
+
+  in_form : IsInForm audited r
+  in_form = record {
+    readable = readable;
+    in_form = report_in_form (length r.meters) (map (heard_out (map (λ c. c.address) r.meters)) inputs) world.slots world.strangers
+        (as_many r.meters world.slots session.meters)
+        (slots_counted r.own (map told_in inputs) few_receivers (few_told inputs within) r.meters world.slots session.meters)
+        (strangers_counted r.own (map told_in inputs) few_receivers (few_told inputs within) r.meters world session);
+  }
+
+  faithful : orders text ≡ orders_of world.slots world.strangers → IsFaithful audited
+  faithful told = record {
+    enrolled = r;
+    world = world;
+    ordered = record { form = in_form; session = session; printed = ap (lists_printed (length r.meters)) told };
+    text = refl;
+  }
+
+-- ---- what is read
+
+all_read : (most : ℕ) (source : Change SourceShown) (bytes : List ℕ) → IsReadPast most source bytes → length source.before.left ≤ most
+    → bytes ≡ source.before.left
+all_read most source bytes h short =
+    let front = h.moved.front in
+    let long = ap length front ∙ length-append bytes source.now.left in
+    sym (append-nil bytes) ∙ (ap (λ l. bytes ++ l) (sym (h.ended (omega arith))) ∙ sym front)
+
+read_whole : (most : ℕ) (source : Change SourceShown) (bytes : List ℕ) → IsReadPast most source bytes → length bytes ≤ most
+    → bytes ≡ source.before.left
+read_whole most source bytes h short =
+    sym (append-nil bytes) ∙ (ap (λ l. bytes ++ l) (sym (h.ended short)) ∙ sym h.moved.front)
+
+inputs_read : (sources : List (Change SourceShown)) (read : List (List ℕ)) → EachWith (IsReadPast 67108864) sources read
+    → Each (λ input. is_over input ≡ false) (map (λ (s : Change SourceShown). s.before.left) sources)
+    → read ≡ map (λ (s : Change SourceShown). s.before.left) sources
+inputs_read [] [] h within = refl
+inputs_read [] (b ∷ read) h within = absurd h
+inputs_read (s ∷ sources) [] h within = absurd h
+inputs_read (s ∷ sources) (b ∷ read) h within =
+    (λ i. all_read 67108864 s b h.0 (bytes_within s.before.left within.0) i ∷ inputs_read sources read h.1 within.1 i)
+
+each_at : {A : Type 0} (P : A → Type 0) (xs : List A) (x : A) → Each P xs → Contains xs x → P x
+each_at P xs x h c = at xs c.0 h c.1 c.2
+  where
+    at : (ys : List _) (k : ℕ) → Each P ys → k < length ys → get_or ys k x ≡ x → P x
+    at [] k h inside is = absurd (omega arith)
+    at (y ∷ ys) zero h inside is = subst P is h.0
+    at (y ∷ ys) (suc k) h inside is = at ys k h.1 (omega arith) is
+
+-- ---- the law
+
+module _ (c : collector.Run) (a : audit.Run) (given : IsAudited c a) where
+  headline : collector.Headline c
+  headline = given.collected.headline (subst (λ s. IsTrue (was_heard s)) (sym given.done) refl) given.audit_of.sources_tell
+
+  abbrev inputs : List (List ℕ)
+  inputs = map bytes_heard c.receivers
+
+  heard_all : EachWith HeardOut inputs headline.heard.receivers
+  heard_all =
+      heard_each c.receivers headline.heard.receivers (subst (collector.IsCausedBy c) given.done given.collected.status_caused)
+      headline.receivers
+
+  abbrev r : Enrolled
+  r = headline.heard.enrolled
+
+  within : Each (λ input. is_over input ≡ false) inputs
+  within = all_within inputs headline.heard.receivers heard_all
+
+  session : IsSession r.own r.meters (map told_in inputs) headline.heard.world
+  session =
+      subst (λ all. IsSession r.own r.meters all headline.heard.world) (all_told inputs headline.heard.receivers heard_all) headline.session
+
+  few : length inputs ≤ 16
+  few = let same = length-map c.receivers bytes_heard in let most = given.audit_of.few in omega arith
+
+  abbrev faithful_text : List ℕ
+  faithful_text = text c.roster.before.left inputs r headline.heard.world headline.roster_is within few session
+
+  text_is : report_of headline.heard ≡ faithful_text
+  text_is =
+      ap (λ e. report_text e headline.heard.world.slots headline.heard.world.strangers)
+      (all_ends (addresses r) inputs headline.heard.receivers heard_all)
+
+  -- the report was written whole
+  written : given.audit_of.report.now.written ≡ report_of headline.heard
+  written =
+      each_at (collector.IsWhole headline.heard) c.outputs (report_output given.audit_of.report)
+      (headline.whole given.audit_of.sinks_tell given.done) given.audit_of.is_output
+
+  abbrev audited_bytes : Audited
+  audited_bytes = audited c.roster.before.left inputs r headline.heard.world headline.roster_is within few session
+
+  is_faithful : IsFaithful audited_bytes
+  is_faithful =
+      faithful c.roster.before.left inputs r headline.heard.world headline.roster_is within few session
+      (ap orders (sym text_is) ∙ headline.told)
+
+  -- what the audit read is this
+  read_is : (verdict : Verdict) (h : HasVerdict a verdict) → h.read ≡ audited_bytes
+  read_is verdict h =
+      let g = given.audit_of in
+      let roster =
+      all_read 1048576 a.roster h.read.roster h.roster
+      (is_roster_short a.roster.before.left r (ap roster_of g.same_roster ∙ headline.roster_is)) ∙ g.same_roster in
+      let report = read_whole 1073741824 a.report h.read.report h.report h.short ∙ (g.same_report ∙ (written ∙ text_is)) in
+      let lines =
+      inputs_read a.inputs h.read.inputs h.inputs (subst (Each (λ input. is_over input ≡ false)) (sym g.same_lines) within) ∙ g.same_lines in
+      λ i. record { roster = roster i; report = report i; inputs = lines i }
+
+  no_other : (cause : Cause) → HasVerdict a (No cause) → ⊥
+  no_other cause h =
+      absurd (let other : Yes ≡ No cause = one_verdict audited_bytes Yes (No cause) is_faithful
+      (subst (λ read. IsVerdict read (No cause)) (read_is (No cause) h) h.verdict_is) in cc)
+
+  pub never_no : (cause : Cause) → a.status ≡ answers.No cause → ⊥
+  never_no cause is =
+      no_other cause ((subst (audit.IsCausedBy a) is given.audited.caused).answer given.audit_of.audited_tell)
+
+  pub yes_or_memory : audit.IsFaultless a → (a.status ≡ answers.Yes) ⊎ (a.status ≡ answers.Memory)
+  yes_or_memory faultless = at a.status refl (given.audited.complete given.audit_of.audited_tell faultless)
+    where
+      at : (s : AuditStatus) → a.status ≡ s → audit.IsDone s → (a.status ≡ answers.Yes) ⊎ (a.status ≡ answers.Memory)
+      at answers.Yes is done = inl is
+      at (answers.No cause) is done = absurd (never_no cause is)
+      at answers.Memory is done = inr is
+      at answers.Words is done = absurd done
+      at answers.ReadRoster is done = absurd done
+      at answers.ReadReport is done = absurd done
+      at answers.LongReport is done = absurd done
+      at (answers.Read w) is done = absurd done
+      at answers.Write is done = absurd done
