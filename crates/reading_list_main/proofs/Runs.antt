@@ -89,9 +89,6 @@ front_behind form lines all before written f head front =
           ∙ sym (take-append-add (head_text form) (listed (fresh form) lines) front.count);
     }))
 
-pub not_head : (form : Form) (taken written : List ℕ) → AppendsFront (head_text form) [] written → AppendsFront (list_text form (all_lines taken)) [] written
-not_head form taken written front = front_of_more (head_text form) (listed (fresh form) (all_lines taken)) written front
-
 module _ (run : Run) (head : SinkShown) (later : run.out.before.faults ≤ head.faults) (head_is : IsTrue run.list_tells → head.written ≡ head_text run.form)
     (t : IsToldRun (record {
       form = run.form;
@@ -185,14 +182,3 @@ module _ (run : Run) (head : SinkShown) (later : run.out.before.faults ≤ head.
     complete = λ tells u. subst (λ s. IsTrue (lists_all s) ⊎ (s ≡ statuses.Memory)) (sym t.status) (complete_by t.end t.faultless refl tells u);
     no_loss = t.bytes;
   }
-
--- where what stands in front can't be written, nothing is read
-pub unwritten : (run : Run) → run.status ≡ statuses.Write → run.report.now ≡ run.report.before → (IsTrue run.list_tells → AppendsFront (head_text run.form) [] run.out.now.written)
-    → WriteFailed run.out → IsRun run
-unwritten run is same front failed = record {
-  listed = λ on. absurd (let off = subst (λ s. IsTrue (lists_all s)) is on in cc);
-  so_far = λ tells on. subst (λ s. IsListedSoFar s run.form run.report.now.taken run.out.now.written) (sym is) (not_head run.form run.report.now.taken run.out.now.written (front on));
-  caused = subst (IsCausedBy run) (sym is) failed;
-  complete = λ tells u. absurd (u.written failed);
-  no_loss = λ tells. ap (λ s. s.taken ++ s.left) same;
-}

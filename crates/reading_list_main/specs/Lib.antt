@@ -5,3 +5,4 @@ pub mod Notes
 pub mod Listing
 pub mod Run
 pub mod Running
+pub mod DecimalLaw

@@ -3,6 +3,7 @@
 
 mod decimals;
 mod forms;
+mod laws;
 mod lister;
 mod notes;
 mod record_lines;
@@ -12,6 +13,7 @@ mod status;
 
 pub use decimals::put_decimal;
 pub use forms::{Form, Member};
+pub use laws::decimals_are_exact;
 pub use lister::Lister;
 pub use notes::LineNote;
 pub use running::list_report;
