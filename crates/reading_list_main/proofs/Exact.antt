@@ -8,8 +8,8 @@ use Rattle.std.proofs.Math.Nat.{mul_assoc, pow-succ', zero-mul}
 use Rattle.std.proofs.lemmas.Bool.Decides.{nat_tests}
 use Rattle.std.proofs.lemmas.Fmt.{decimal_is_IsNumeral_wide}
 use Rattle.std.proofs.lemmas.List.{append-nil, length-append, length-take, length-drop, length-replicate, take-append-drop}
-use Rattle.reading_list_main.specs.Decimals.{zeros, pointed, lengthened, scaled, sign_of, decimal_text}
-use Rattle.reading_list_main.specs.DecimalLaw.{above, below, behind_point, Writes, DecimalsAreExact}
+use Rattle.reading_list_main.specs.Decimals.{zeros, pointed, lengthened, sign_of, decimal_text}
+use Rattle.reading_list_main.specs.DecimalLaw.{behind_point, Writes, DecimalsAreExact}
 
 -- ---- digits behind digits
 

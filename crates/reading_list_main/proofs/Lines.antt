@@ -1,10 +1,10 @@
 -- Lines of a report that are listed one after another.
-use Rattle.std.proofs.Common.{◌≡◌, ℕ, ◌+◌, ◌<◌, Bool, true, cond, List, [], ◌∷◌, ◌++◌, length, Option, Some, Result, Ok, Err, refl, sym, ap, ◌∙◌, append_assoc, arith}
+use Rattle.std.proofs.Common.{◌≡◌, ℕ, ◌+◌, ◌<◌, true, cond, List, [], ◌∷◌, ◌++◌, length, Option, Result, Err, refl, sym, ap, ◌∙◌, append_assoc, arith}
 use Rattle.std.specs.Prelude.{nat_lt}
 use Rattle.std.proofs.lemmas.Bool.Decides.{nat_tests}
 use Rattle.plain_text.specs.Parts.{fields_of}
 use Rattle.paper.specs.Pieces.{text_if}
-use Rattle.line_teller.specs.Telling.{TellsFirst, AreTold}
+use Rattle.line_teller.specs.Telling.{AreTold}
 use Rattle.reading_list_main.specs.declared.said.LineFault.{LineFault}
 use Rattle.reading_list_main.specs.declared.said.LineFault.TheVariants as faults
 use Rattle.reading_list_main.specs.declared.notes.LineNote.{LineNote}

@@ -1,5 +1,5 @@
 -- Records whose lines are put one after another, up to the first fault.
-use Rattle.std.proofs.Common.{◌≡◌, ℕ, zero, suc, ◌+◌, ◌-◌, ◌<◌, List, [], Option, Some, None, Result, Ok, Err, ap, ◌∙◌, refl, arith}
+use Rattle.std.proofs.Common.{◌≡◌, ℕ, zero, suc, ◌+◌, ◌-◌, ◌<◌, List, [], Option, Some, None, Result, Ok, ap, ◌∙◌, refl, arith}
 use Rattle.std.specs.List.{flat_map, enumerate_from}
 use Rattle.dif_vif.specs.declared.fault.RecordFault.{RecordFault}
 use Rattle.dif_vif.specs.declared.span.RecordSpan.{RecordSpan}

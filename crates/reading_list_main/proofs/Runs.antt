@@ -4,8 +4,8 @@ use Rattle.std.specs.Prelude.{IsTrue}
 use Rattle.std.proofs.lemmas.List.{append-nil, length-append, take-append-le, take-append-drop}
 use Rattle.std.proofs.Math.Seq.{take-append-add}
 use Rattle.outer_io.specs.Bytes.{AppendsFront}
-use Rattle.outer_io.specs.Shown.{Change, SinkShown, ReadFailed, WriteFailed, LosesNothing}
-use Rattle.line_reader.specs.Lines.{is_over, whole_lines, all_lines}
+use Rattle.outer_io.specs.Shown.{Change, SinkShown, WriteFailed}
+use Rattle.line_reader.specs.Lines.{is_over, all_lines}
 use Rattle.line_teller.specs.declared.ending.LinesEnd.{LinesEnd}
 use Rattle.line_teller.specs.declared.ending.LinesEnd.TheVariants as ends
 use Rattle.line_teller.specs.Ending.{AreFirst, EndsLines, EndsText, IsNoted, Ended, is_whole}

@@ -1,5 +1,5 @@
 -- The lines that are listed of a report, and what is noted of its lines.
-use Rattle.std.specs.Prelude.{ℕ, ◌≡◌, ◌+◌, Bool, true, false, List, [], ◌∷◌, ◌++◌, Option, Some, None, option_map, Result, Ok, Err, is_some, if◌then◌else◌}
+use Rattle.std.specs.Prelude.{ℕ, ◌≡◌, ◌+◌, Bool, true, false, List, [], ◌∷◌, ◌++◌, Option, Some, None, option_map, Result, Ok, Err, if◌then◌else◌}
 use Rattle.outer_io.specs.Faults.{next_count}
 use Rattle.paper.specs.Pieces.{text_if}
 use Rattle.meter_address.specs.declared.address.Address.{Address}

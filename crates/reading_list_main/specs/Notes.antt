@@ -1,7 +1,6 @@
 -- What is noted of lines that can't be listed, in words.
 use Rattle.std.specs.Prelude.{ℕ, ◌==◌, Bool, List, [], ◌++◌, codes, if◌then◌else◌}
 use Rattle.std.specs.Fmt.{decimal}
-use Rattle.dif_vif.specs.declared.fault.RecordFault.{RecordFault}
 use Rattle.record_text.specs.Lines.{fault_text}
 use Rattle.reading_list_main.specs.declared.said.LineFault.{LineFault}
 use Rattle.reading_list_main.specs.declared.said.LineFault.TheVariants as faults
