@@ -138,6 +138,10 @@ fn open_collect<R: Eprint + Files<File = File> + AllocGlobal>(
     ensures unopened { IfErr result (λ code. IsUnopened (exit_status code)) }
 {
     let roster = open_to_read(rt, roster)?;
+
+    // Where the program was started with standard streams closed, their numbers would be those of files. The roster and these take them, so that
+    // nothing that is printed goes into a file that is written; they can't be written, and so the report fails as over a closed stream.
+    let _streams = (File::open(rt, "/dev/null"), File::open(rt, "/dev/null"));
     let next = open_to_write(rt, next, PRIVATE)?;
     let readings = open_to_write(rt, readings, PLAIN)?;
     let mut receivers = Vec::new(rt.alloc());
