@@ -19,7 +19,7 @@ use Rattle.record_text.specs.RecordText.{more_text, next_text, listed, records_t
 use Rattle.record_text.specs.Values.{two_digits, four_digits, day_text, time_text, marked, value_text}
 use Rattle.unit_text.specs.Pieces.{register_text, unit_text}
 use Rattle.unit_text.specs.Words.{function_text, quantity_text, name_text}
-use Rattle.report_text.proofs.LineWalks.{IsWithout, ◌⌢◌, literal, IsOther, Others, no_others, ◌⨟◌, one_other}
+use Rattle.report_text.proofs.LineWalks.{IsWithout, ◌⌢◌, literal, Others, no_others, ◌⨟◌, one_other}
 use Rattle.paper.specs.Pieces.{labelled_bytes}
 use Rattle.report_text.proofs.LinePieces.{number, signed, hex_or_dash, worded_number, worded_bytes}
 
