@@ -1,5 +1,5 @@
 //! How the listing of a payload's records ends.
-ghost use Rattle.std.specs.Prelude.{◌≡◌, true};
+ghost use Rattle.std.specs.Prelude.{◌≡◌, true, false};
 ghost use Rattle.report_text.specs.Readings.{listed, next_listed, is_full, fault_behind, more_behind};
 
 use dif_vif::{RecordFault, RecordSpan, next_record};
@@ -14,6 +14,14 @@ pub(crate) struct Ending {
     pub fault: Option<RecordFault>,
     /// Whether a record or a fault follows 256 of them.
     pub more: bool,
+}
+
+// The records end with the payload, or with a fault.
+fn ended_by(fault: Option<RecordFault>) -> Ending
+    ensures fault { result.fault ≡ fault }
+    ensures more { result.more ≡ false }
+{
+    Ending { fault, more: false }
 }
 
 // Whether anything but fillers follows 256 records.
@@ -35,18 +43,8 @@ pub(crate) fn ending_of(payload: &[u8]) -> Ending
                 from = span.end;
                 left -= 1;
             }
-            Ok(None) => {
-                return Ending {
-                    fault: None,
-                    more: false,
-                };
-            }
-            Err(fault) => {
-                return Ending {
-                    fault: Some(fault),
-                    more: false,
-                };
-            }
+            Ok(None) => return ended_by(None),
+            Err(fault) => return ended_by(Some(fault)),
         }
     }
     Ending {
