@@ -1,6 +1,6 @@
 -- The lines of records, which belong to no list of steps.
-use Rattle.std.proofs.Common.{ℕ, ℤ, zero, suc, ◌/◌, ◌%◌, ◌==◌, Bool, true, false, cond, List, [], ◌∷◌, Option, Some, None, Result, Ok}
-use Rattle.std.proofs.Common.{Err, refl, arith}
+use Rattle.std.proofs.Common.{ℕ, ℤ, zero, suc, Bool, true, false, cond, List, [], ◌∷◌, Option, Some, None, Result, Ok}
+use Rattle.std.proofs.Common.{Err, refl}
 use Rattle.std.specs.Prelude.{codes}
 use Rattle.dif_vif.specs.declared.fault.RecordFault.{RecordFault}
 use Rattle.dif_vif.specs.declared.fault.RecordFault.TheVariants.{Truncated, TooManyExtensions, Lvar, Selection, Special}
@@ -34,12 +34,14 @@ place_is span = in_line (function_plain span.function) ⌢ register_is span.stor
 unit_is : (quantity : Quantity) (name : UnitName) (exponent : ℤ) → IsWithout 10 (unit_text quantity name exponent)
 unfolding unit_text
 unit_is quantity name exponent =
-    literal (codes " ") refl ⌢ in_line (quantity_plain quantity) ⌢ literal (codes " ") refl ⌢ in_line (name_plain name) ⌢ literal (codes " ") refl ⌢ signed exponent
+    literal (codes " ") refl ⌢ in_line (quantity_plain quantity) ⌢ literal (codes " ") refl ⌢ in_line (name_plain name)
+    ⌢ literal (codes " ") refl ⌢ signed exponent
 
 data_is : (modifiers : List ℕ) (v : Value) (sent : List ℕ) → IsWithout 10 (data_text modifiers v sent)
 unfolding data_text
 data_is modifiers v sent =
-    literal (codes " ") refl ⌢ hex_or_dash modifiers ⌢ literal (codes " ") refl ⌢ in_line (value_plain v) ⌢ literal (codes " ") refl ⌢ hex_or_dash sent
+    literal (codes " ") refl ⌢ hex_or_dash modifiers ⌢ literal (codes " ") refl ⌢ in_line (value_plain v)
+    ⌢ literal (codes " ") refl ⌢ hex_or_dash sent
 
 record_others : (bytes : List ℕ) (span : RecordSpan) → Others (record_line bytes span)
 unfolding record_line

@@ -1,5 +1,6 @@
 -- How the listing of a payload's records ends, found record by record.
-use Rattle.std.proofs.Common.{◌≡◌, ℕ, zero, suc, ◌-◌, ◌<◌, ◌≤◌, ◌==◌, length, List, [], ◌∷◌, Bool, true, false, Option, Some, None, Result, Ok}
+use Rattle.std.proofs.Common.{◌≡◌, ℕ, zero, suc, ◌-◌, ◌<◌, ◌≤◌, ◌==◌, length, List, [], ◌∷◌, Bool, true, false, Option, Some, None}
+use Rattle.std.proofs.Common.{Result, Ok}
 use Rattle.std.proofs.Common.{sym, ap, ◌∙◌, refl, arith}
 use Rattle.std.proofs.lemmas.Bool.Decides.{nat_tests}
 use Rattle.dif_vif.specs.declared.fault.RecordFault.{RecordFault}
@@ -43,15 +44,15 @@ none_is_all : (n : ℕ) → n ≡ 0 → (0 == n) ≡ true
 none_is_all n none = grind (arith, nat_tests)
 
 -- behind a record that is listed, the end is the same
-pub end_next : {X : Type 0} (f : Bool → Result (Option RecordSpan) RecordFault → X) (n : ℕ) (payload : List ℕ) (from : ℕ) (span : RecordSpan)
-    → next_of payload from ≡ Ok (Some span) → end_from f (suc n) payload from ≡ end_from f n payload span.end
+pub end_next : {X : Type 0} (f : Bool → Result (Option RecordSpan) RecordFault → X) (n : ℕ) (payload : List ℕ) (from : ℕ)
+    (span : RecordSpan) → next_of payload from ≡ Ok (Some span) → end_from f (suc n) payload from ≡ end_from f n payload span.end
 end_next f n payload from span is =
     let rest = spans_from n payload span.end in
     ap (λ found. f (length found == suc n) (next_of payload (place_behind from found))) (spans_next n payload from span is)
     ∙ ap (λ full. f full (next_of payload (place_behind span.end rest))) (one_less (length rest) n)
 
-end_behind : {X : Type 0} (f : Bool → Result (Option RecordSpan) RecordFault → X) (left : ℕ) (payload : List ℕ) (from : ℕ) (span : RecordSpan)
-    → 0 < left → next_of payload from ≡ Ok (Some span) → end_from f left payload from ≡ end_from f (left - 1) payload span.end
+end_behind : {X : Type 0} (f : Bool → Result (Option RecordSpan) RecordFault → X) (left : ℕ) (payload : List ℕ) (from : ℕ)
+    (span : RecordSpan) → 0 < left → next_of payload from ≡ Ok (Some span) → end_from f left payload from ≡ end_from f (left - 1) payload span.end
 end_behind f zero payload from span some is = absurd (omega arith)
 end_behind f (suc n) payload from span some is =
     let one : n ≡ suc n - 1 = omega arith in

@@ -40,7 +40,8 @@ and_member {d} {ms} front later name word value rest = record {
 -- a member whose value is a string, of which the closing quote is left to what comes next
 pub and_text : {P : Type 0} {takes : P → List ℕ → P → Type 0} {p q r s : P} {text : List ℕ} {ms : Members} (front : List ℕ)
     (later : Bool) (name : List ℕ) → Puts takes p (front ++ (comma_if later ++ (quoted name ++ 58 ∷ 34 ∷ []))) q
-    → Puts takes q (escape text) r → PutsMembers takes r (34 ∷ []) true ms s → PutsMembers takes p front later (member name (string text) ms) s
+    → Puts takes q (escape text) r → PutsMembers takes r (34 ∷ []) true ms s
+    → PutsMembers takes p front later (member name (string text) ms) s
 and_text {text} {ms} front later name word value rest = record {
   puts = is_put _ _
       (ap (λ t. front ++ (comma_if later ++ (quoted name ++ 58 ∷ 34 ∷ t))) (append_assoc (escape text) (34 ∷ []) (members_text true ms))

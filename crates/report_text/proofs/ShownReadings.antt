@@ -1,5 +1,6 @@
 -- The tree of the last readings is shown by its text, and read back.
-use Rattle.std.proofs.Common.{◌≡◌, ℕ, zero, suc, ◌+◌, ◌-◌, ◌%◌, ◌^◌, ◌<◌, ◌≤◌, ◌==◌, true, ◌&&◌, List, [], ◌∷◌, length, map, ℤ, pos, negsuc, neg_ℤ, ◌≤ℤ◌}
+use Rattle.std.proofs.Common.{◌≡◌, ℕ, zero, suc, ◌+◌, ◌-◌, ◌%◌, ◌^◌, ◌<◌, ◌≤◌, ◌==◌, true, ◌&&◌, List, [], ◌∷◌, length, map, ℤ, pos}
+use Rattle.std.proofs.Common.{negsuc, neg_ℤ, ◌≤ℤ◌}
 use Rattle.std.proofs.Common.{Option, Some, None, Result, Ok, Err, inl, inr, sym, ap, subst, refl, arith}
 use Rattle.std.specs.Prelude.{codes, nat_le, int_le, slice_index, IfSome}
 use Rattle.std.specs.List.{AllByRecursion, list_all}
@@ -33,10 +34,13 @@ use Rattle.meter_slots.specs.declared.reading.Reading.{Reading}
 use Rattle.meter_slots.specs.Journal.{SlotView, readings}
 use Rattle.record_text.specs.Lines.{bytes_at, fault_text}
 use Rattle.report_text.specs.Report.{last_reading}
-use Rattle.report_text.specs.Readings.{listed, next_listed, is_full, fault_behind, more_behind, members, record_members, maker_members, maker_tree, record_tree, span_tree}
+use Rattle.report_text.specs.Readings.{listed, next_listed, is_full, fault_behind, more_behind, members, record_members, maker_members}
+use Rattle.report_text.specs.Readings.{maker_tree, record_tree, span_tree}
 use Rattle.report_text.specs.Readings.{mode_number, payload_of, meter_members, meter_tree, readings_tree, IsNumbered, LastIsNumbered}
-use Rattle.report_text.proofs.PlainTexts.{literal, labelled_plain, function_plain, quantity_plain, name_plain, value_plain, plain_is_text, plain_is_ascii}
-use Rattle.report_text.proofs.ShownTrees.{IsShown, IsSmall, ◌⟫◌, none_left, object_shown, list_shown, string_shown, number_shown, integer_shown, boolean_shown, option_shown, choice_shown}
+use Rattle.report_text.proofs.PlainTexts.{literal, labelled_plain, function_plain, quantity_plain, name_plain, value_plain}
+use Rattle.report_text.proofs.PlainTexts.{plain_is_text, plain_is_ascii}
+use Rattle.report_text.proofs.ShownTrees.{IsShown, IsSmall, ◌⟫◌, none_left, object_shown, list_shown, string_shown, number_shown}
+use Rattle.report_text.proofs.ShownTrees.{integer_shown, boolean_shown, option_shown, choice_shown}
 
 -- ---- texts
 
@@ -63,7 +67,8 @@ register_of : (payload : List ℕ) (span : RecordSpan) → IsSpanOf payload span
 register_of payload span (inl s) =
     let difes = s.found.dib.difes in
     let few = s.is_record.few_difes in
-    let storage = number_bound 16 1 difes 0 (low_first 16 (map (λ dife. dife % 16) difes)) (omega arith) few (sym (low_first-by_one 16 difes)) in
+    let digits = map (λ dife. dife % 16) difes in
+    let storage = number_bound 16 1 difes 0 (low_first 16 digits) (omega arith) few (sym (low_first-by_one 16 difes)) in
     let tariff = number_bound 4 16 difes 0 (tariff_of difes) (omega arith) few refl in
     let subunit = number_bound 2 64 difes 0 (subunit_of difes) (omega arith) few refl in
     record {
@@ -93,7 +98,8 @@ row_exponent r code place count scaled inside =
     let high : r.least ≤ℤ pos 0 = grind (arith, ints, least.1) in
     by_bounds (unit_by r code place count).exponent (omega (arith, ints, low)) (omega (arith, ints, high, few, inside))
 
-exponent_in : (rows : List UnitRow) (code place count : ℕ) → list_all is_scaled rows ≡ true → IsSmall (unit_in rows code place count).exponent
+exponent_in : (rows : List UnitRow) (code place count : ℕ) → list_all is_scaled rows ≡ true
+    → IsSmall (unit_in rows code place count).exponent
 exponent_in [] code place count scaled = omega arith
 exponent_in (r ∷ rows) code place count scaled =
     let parts = and_parts (is_scaled r) (list_all is_scaled rows) scaled in

@@ -1,5 +1,6 @@
 -- Trees whose text is UTF-8, and is read back as the tree.
-use Rattle.std.proofs.Common.{◌≡◌, ℕ, ℤ, pos, negsuc, suc, ◌^◌, ◌<◌, ◌≤◌, Bool, true, false, cond, ◌&&◌, List, [], ◌∷◌, ◌++◌, map, Option, Some, None}
+use Rattle.std.proofs.Common.{◌≡◌, ℕ, ℤ, pos, negsuc, suc, ◌^◌, ◌<◌, ◌≤◌, Bool, true, false, cond, ◌&&◌, List, [], ◌∷◌, ◌++◌, map}
+use Rattle.std.proofs.Common.{Option, Some, None}
 use Rattle.std.proofs.Common.{option_map, option_and_then, sym, ap, ◌∙◌, refl, arith, append-nil}
 use Rattle.std.specs.List.{AllByRecursion}
 use Rattle.std.specs.Str.{IsUtf8}
@@ -12,7 +13,8 @@ use Rattle.json.proofs.Printed.Decimals.{IsNumber-decimal, IsNumber-signed_decim
 use Rattle.json.proofs.Printed.Tokens.{tokens-print}
 use Rattle.json.proofs.Printed.Trees.{value-json_tokens, ArePrintable-json_tokens}
 use Rattle.json.proofs.Printed.Utf8.{are_ascii, IsUtf8-are_ascii, IsUtf8-quoted, IsUtf8-boolean}
-use Rattle.serde_json.specs.Data.{Data, null, boolean, number, string, array, object, unsigned, Items, item, Members, no_members, member, put}
+use Rattle.serde_json.specs.Data.{Data, null, boolean, number, string, array, object, unsigned, Items, item, Members, no_members}
+use Rattle.serde_json.specs.Data.{member, put}
 use Rattle.serde_json.specs.Find.{of_integer}
 use Rattle.serde_json.specs.Read.{max_depth, of_json, of_items, of_members, read}
 use Rattle.serde_json.specs.View.{items_of}
@@ -116,7 +118,8 @@ pub ◌⟫◌ : {levels : ℕ} {found all : Members} {later : Bool} {name : List
 ◌⟫◌ {found} {later} {name} {d} {ms} one rest = record {
   text = λ ascii.
       let names = and_parts (are_ascii name) (names_are_ascii ms) ascii in
-      comma_is_text later ⊹ IsUtf8-quoted name (IsUtf8-are_ascii name names.0) ⊹ IsUtf8-are_ascii (58 ∷ []) refl ⊹ one.text ⊹ rest.text names.1;
+      comma_is_text later ⊹ IsUtf8-quoted name (IsUtf8-are_ascii name names.0) ⊹ IsUtf8-are_ascii (58 ∷ []) refl ⊹ one.text
+      ⊹ rest.text names.1;
   numbers = (one.numbers, rest.numbers);
   back = ap (option_and_then (λ x. of_members (members_outline ms) (put name x found))) one.back ∙ rest.back;
   nests = max-le one.nests rest.nests;

@@ -15,7 +15,8 @@ pub records-preserved : goal.records-preserved
 records-preserved g c =
     let payload = c.args.payload.now in
     let some : 0 < c.records.left = omega (arith, c.records-test.true) in
-    let is : next_of payload c.records.from ≡ Ok (Some c.in-Ok-Some.span) = sym c.in-Ok-Some.ensures.exact ∙ ap Ok c.in-Ok-Some.field-0-is in
+    let is : next_of payload c.records.from ≡ Ok (Some c.in-Ok-Some.span) = sym c.in-Ok-Some.ensures.exact
+    ∙ ap Ok c.in-Ok-Some.field-0-is in
     let within : LiesWithin payload c.in-Ok-Some.span =
     subst (λ next. IfSome next (LiesWithin payload)) c.in-Ok-Some.field-0-is c.in-Ok-Some.ensures.within in
     let rest_of = items_of (map (span_tree payload) (spans_from (c.records.left - 1) payload c.in-Ok-Some.span.end)) in (

@@ -12,10 +12,12 @@ records-init c = at_first c.args.payload.now
 pub records-preserved : goal.records-preserved
 records-preserved c =
     let payload = c.args.payload.now in
-    let is : next_of payload c.records.from ≡ Ok (Some c.in-Ok-Some.span) = sym c.in-Ok-Some.ensures.exact ∙ ap Ok c.in-Ok-Some.field-0-is in
+    let is : next_of payload c.records.from ≡ Ok (Some c.in-Ok-Some.span) = sym c.in-Ok-Some.ensures.exact
+    ∙ ap Ok c.in-Ok-Some.field-0-is in
     let within : LiesWithin payload c.in-Ok-Some.span =
     subst (λ next. IfSome next (LiesWithin payload)) c.in-Ok-Some.field-0-is c.in-Ok-Some.ensures.within in
-    one_passed payload c.records.from c.records.left c.in-Ok-Some.span c.records.invariant (omega (arith, c.records-test.true)) is within.within
+    one_passed payload c.records.from c.records.left c.in-Ok-Some.span c.records.invariant
+    (omega (arith, c.records-test.true)) is within.within
 
 pub returns-in-Ok-None : goal.returns-in-Ok-None
 returns-in-Ok-None c =

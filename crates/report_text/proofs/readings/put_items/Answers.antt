@@ -15,7 +15,8 @@ loop-slot-preserved g c =
     let cut : drop i slots ≡ slot ∷ drop (i + 1) slots = drop_more slots i slot c.loop-slot-test.true
     ∙ ap (λ b. b ∷ drop (i + 1) slots) (sym c.slot-item.is) in
     λ q rest. c.loop-slot.invariant q (is_put _ _ (ap (λ bs. items_text c.loop-slot.later (items_of (map meter_tree bs))) cut)
-    (item_put c.loop-slot.later (meter_tree slot) (items_of (map meter_tree (drop (i + 1) slots))) c.put_comma.ensures c.put_slot.ensures rest))
+    (item_put c.loop-slot.later (meter_tree slot) (items_of (map meter_tree (drop (i + 1) slots)))
+    c.put_comma.ensures c.put_slot.ensures rest))
 
 pub returns : goal.returns
 returns g c = c.loop-slot.invariant _ (is_put _ _ (ap (λ bs. items_text c.loop-slot.later (items_of (map meter_tree bs)))

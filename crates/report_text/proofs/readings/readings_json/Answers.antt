@@ -14,7 +14,8 @@ unfolding readings_text
 unwrap-requires c =
     let slots = c.args.session.now.slots.now in
     let tree = readings_shown slots (recursion_from_All LastIsNumbered slots c.show_slots.ensures) in
-    c.from_utf8.ensures.succeeds (subst IsUtf8 (sym c.in_ok-bytes.ensures) (IsUtf8-append _ (codes "\n") tree.text (IsUtf8-are_ascii (codes "\n") refl)))
+    let whole = IsUtf8-append _ (codes "\n") tree.text (IsUtf8-are_ascii (codes "\n") refl) in
+    c.from_utf8.ensures.succeeds (subst IsUtf8 (sym c.in_ok-bytes.ensures) whole)
 
 pub returns-clause-reads_back : goal.returns-clause-reads_back
 returns-clause-reads_back c =
