@@ -6,8 +6,10 @@ pub mod LineReport
 pub mod LineSteps
 pub mod LineWalks
 pub mod Texts
-pub mod FirstRecords
-pub mod Utf8Texts
-pub mod TreeLists
+pub mod PlainTexts
+pub mod MembersPut
+pub mod ListedEnds
+pub mod ShownTrees
+pub mod ShownReadings
 pub mod SameListing
 pub mod PartedReports

@@ -1,78 +1,23 @@
 -- The lines of records, which belong to no list of steps.
-use Rattle.std.proofs.Common.{ℕ, ℤ, zero, suc, ◌/◌, ◌%◌, ◌==◌, Bool, true, false, cond, List, [], ◌∷◌, Option, Some, None, Result, Ok}
-use Rattle.std.proofs.Common.{Err, refl, arith}
+use Rattle.std.proofs.Common.{ℕ, ℤ, zero, suc, Bool, true, false, cond, List, [], ◌∷◌, Option, Some, None, Result, Ok}
+use Rattle.std.proofs.Common.{Err, refl}
 use Rattle.std.specs.Prelude.{codes}
 use Rattle.dif_vif.specs.declared.fault.RecordFault.{RecordFault}
 use Rattle.dif_vif.specs.declared.fault.RecordFault.TheVariants.{Truncated, TooManyExtensions, Lvar, Selection, Special}
 use Rattle.dif_vif.specs.declared.span.RecordSpan.{RecordSpan}
 use Rattle.dif_vif.specs.Reading.{next_of}
 use Rattle.record_values.specs.declared.units.Quantity.{Quantity}
-use Rattle.record_values.specs.declared.units.Quantity.TheVariants as quantities
 use Rattle.record_values.specs.declared.units.UnitName.{UnitName}
-use Rattle.record_values.specs.declared.units.UnitName.TheVariants as units
 use Rattle.record_values.specs.declared.values.Value.{Value}
-use Rattle.record_values.specs.declared.values.Value.TheVariants as values
 use Rattle.record_values.specs.Units.{unit}
 use Rattle.record_values.specs.Values.{value}
 use Rattle.record_text.specs.Lines.{bytes_at, place_text, data_text, record_line, maker_line, span_line, fault_text, fault_line}
 use Rattle.record_text.specs.RecordText.{more_text, next_text, listed, records_text}
-use Rattle.record_text.specs.Values.{two_digits, four_digits, day_text, time_text, marked, value_text}
 use Rattle.unit_text.specs.Pieces.{register_text, unit_text}
-use Rattle.unit_text.specs.Words.{function_text, quantity_text, name_text}
-use Rattle.report_text.proofs.LineWalks.{IsWithout, ◌⌢◌, literal, IsOther, Others, no_others, ◌⨟◌, one_other}
+use Rattle.report_text.proofs.LineWalks.{IsWithout, ◌⌢◌, literal, Others, no_others, ◌⨟◌, one_other}
 use Rattle.paper.specs.Pieces.{labelled_bytes}
-use Rattle.report_text.proofs.LinePieces.{number, signed, hex_or_dash, worded_number, worded_bytes}
-
--- ---- words
-
-function_by : (first second third : Bool)
-    → IsWithout 10 (cond first (codes "instantaneous") (cond second (codes "maximum") (cond third (codes "minimum") (codes "error"))))
-function_by true _ _ = literal (codes "instantaneous") refl
-function_by false true _ = literal (codes "maximum") refl
-function_by false false true = literal (codes "minimum") refl
-function_by false false false = literal (codes "error") refl
-
-function_is : (function : ℕ) → IsWithout 10 (function_text function)
-function_is function = function_by (function == 0) (function == 1) (function == 2)
-
-quantity_is : (q : Quantity) → IsWithout 10 (quantity_text q)
-quantity_is quantities.Energy = record { passed = refl }
-quantity_is _ = record { passed = refl }
-
-name_is : (name : UnitName) → IsWithout 10 (name_text name)
-name_is units.WattHour = record { passed = refl }
-name_is _ = record { passed = refl }
-
--- ---- values
-
-two_is : (n : ℕ) → IsWithout 10 (two_digits n)
-unfolding two_digits
-two_is n = number (n / 10 % 10) (omega arith) ⌢ number (n % 10) (omega arith)
-
-four_is : (n : ℕ) → IsWithout 10 (four_digits n)
-unfolding four_digits
-four_is n = two_is (n / 100) ⌢ two_is n
-
-day_is : (year month day : ℕ) → IsWithout 10 (day_text year month day)
-unfolding day_text
-day_is year month day = four_is year ⌢ literal (codes "-") refl ⌢ two_is month ⌢ literal (codes "-") refl ⌢ two_is day
-
-time_is : (hour minute : ℕ) → IsWithout 10 (time_text hour minute)
-unfolding time_text
-time_is hour minute = literal (codes "T") refl ⌢ two_is hour ⌢ literal (codes ":") refl ⌢ two_is minute
-
-marked_is : {sign : List ℕ} → IsWithout 10 sign → (holds : Bool) → IsWithout 10 (marked sign holds)
-marked_is h true = h
-marked_is h false = literal [] refl
-
-value_is : (v : Value) → IsWithout 10 (value_text v)
-value_is values.None = literal (codes "-") refl
-value_is (values.Whole n) = signed n
-value_is values.Raw = literal (codes "raw") refl
-value_is values.Text = literal (codes "text") refl
-value_is (values.Day year month day) = day_is year month day
-value_is (values.Moment year month day hour minute invalid summer) =
-    day_is year month day ⌢ time_is hour minute ⌢ marked_is (literal (codes "!") refl) invalid ⌢ marked_is (literal (codes "+") refl) summer
+use Rattle.report_text.proofs.LinePieces.{signed, hex_or_dash, worded_number, worded_bytes}
+use Rattle.report_text.proofs.PlainTexts.{in_line, function_plain, quantity_plain, name_plain, value_plain}
 
 -- ---- lines
 
@@ -84,17 +29,19 @@ register_is storage tariff subunit =
 
 place_is : (span : RecordSpan) → IsWithout 10 (place_text span)
 unfolding place_text
-place_is span = function_is span.function ⌢ register_is span.storage span.tariff span.subunit
+place_is span = in_line (function_plain span.function) ⌢ register_is span.storage span.tariff span.subunit
 
 unit_is : (quantity : Quantity) (name : UnitName) (exponent : ℤ) → IsWithout 10 (unit_text quantity name exponent)
 unfolding unit_text
 unit_is quantity name exponent =
-    literal (codes " ") refl ⌢ quantity_is quantity ⌢ literal (codes " ") refl ⌢ name_is name ⌢ literal (codes " ") refl ⌢ signed exponent
+    literal (codes " ") refl ⌢ in_line (quantity_plain quantity) ⌢ literal (codes " ") refl ⌢ in_line (name_plain name)
+    ⌢ literal (codes " ") refl ⌢ signed exponent
 
 data_is : (modifiers : List ℕ) (v : Value) (sent : List ℕ) → IsWithout 10 (data_text modifiers v sent)
 unfolding data_text
 data_is modifiers v sent =
-    literal (codes " ") refl ⌢ hex_or_dash modifiers ⌢ literal (codes " ") refl ⌢ value_is v ⌢ literal (codes " ") refl ⌢ hex_or_dash sent
+    literal (codes " ") refl ⌢ hex_or_dash modifiers ⌢ literal (codes " ") refl ⌢ in_line (value_plain v)
+    ⌢ literal (codes " ") refl ⌢ hex_or_dash sent
 
 record_others : (bytes : List ℕ) (span : RecordSpan) → Others (record_line bytes span)
 unfolding record_line

@@ -1,6 +1,6 @@
 -- The last readings of the meters, as JSON (RFC 8259).
-use Rattle.std.specs.Prelude.{ℕ, ◌==◌, Bool, true, false, List, [], ◌∷◌, ◌++◌, length, map, codes, if◌then◌else◌}
-use Rattle.std.specs.Prelude.{Option, Some, None, option_map, Result, Ok, Err}
+use Rattle.std.specs.Prelude.{⊤, ℕ, ◌^◌, ◌<◌, ◌==◌, Bool, true, false, List, [], ◌∷◌, ◌++◌, length, map, codes, if◌then◌else◌}
+use Rattle.std.specs.Prelude.{Option, Some, None, IfSome, option_map, Result, Ok, Err}
 use Rattle.hex.specs.Hex.{encode_lower}
 use Rattle.serde_json.specs.Data.{Data, null, boolean, number, string, array, object, unsigned, Members, no_members, member}
 use Rattle.serde_json.specs.Find.{of_integer}
@@ -11,6 +11,7 @@ use Rattle.meter_address.specs.declared.commission.Mode.{Mode}
 use Rattle.meter_address.specs.declared.commission.Mode.TheVariants.{Five, Seven}
 use Rattle.meter_address.specs.Address.{text_of}
 use Rattle.dif_vif.specs.declared.fault.RecordFault.{RecordFault}
+use Rattle.dif_vif.specs.declared.fault.RecordFault.TheVariants as faults
 use Rattle.dif_vif.specs.declared.span.RecordSpan.{RecordSpan}
 use Rattle.dif_vif.specs.Listing.{spans_from}
 use Rattle.dif_vif.specs.Reading.{next_of}
@@ -74,9 +75,8 @@ hex_tree bytes = string (encode_lower bytes)
 -- ---- a record
 
 -- what a data record of this unit and value says, as the report has it, and its data as sent
-abbrev pub record_with : List ℕ → RecordSpan → Unit → Value → Data
-record_with payload span u v =
-    object (members (
+abbrev pub record_members : List ℕ → RecordSpan → Unit → Value → List (List ℕ × Data)
+record_members payload span u v =
     (codes "exponent", number (of_integer u.exponent))
     ∷ (codes "function", string (function_text span.function))
     ∷ (codes "modifiers", hex_tree (bytes_at payload u.modifiers_at u.modifiers))
@@ -87,18 +87,20 @@ record_with payload span u v =
     ∷ (codes "tariff", number (unsigned span.tariff))
     ∷ (codes "unit", string (name_text u.name))
     ∷ (codes "value", string (value_text v))
-    ∷ []))
+    ∷ []
 
 abbrev pub record_tree : List ℕ → RecordSpan → Data
-record_tree payload span = record_with payload span (unit payload span) (value payload span)
+record_tree payload span = object (members (record_members payload span (unit payload span) (value payload span)))
 
 -- manufacturer data: the DIF, and the data as sent
-abbrev pub maker_tree : List ℕ → RecordSpan → Data
-maker_tree payload span =
-    object (members (
+abbrev pub maker_members : List ℕ → RecordSpan → List (List ℕ × Data)
+maker_members payload span =
     (codes "maker", hex_tree (span.dif ∷ []))
     ∷ (codes "raw", hex_tree (bytes_at payload span.data_at span.data_len))
-    ∷ []))
+    ∷ []
+
+abbrev pub maker_tree : List ℕ → RecordSpan → Data
+maker_tree payload span = object (members (maker_members payload span))
 
 abbrev pub span_tree : List ℕ → RecordSpan → Data
 span_tree payload span = if span.maker then maker_tree payload span else record_tree payload span
@@ -115,11 +117,10 @@ payload_of None = []
 payload_of (Some reading) = reading.payload
 
 -- a meter with its last reading, and the records of the payload of that
-abbrev pub meter_with : Address → Mode → Option Reading → List ℕ → Data
-meter_with address mode last payload =
+abbrev pub meter_members : Address → Mode → Option Reading → List ℕ → List (List ℕ × Data)
+meter_members address mode last payload =
     let spans = listed payload in
     let next = next_listed payload in
-    object (members (
     (codes "address", string (text_of address))
     ∷ (codes "at", or_null (option_map (λ r. number (unsigned r.at)) last))
     ∷ (codes "counter", or_null (option_map (λ r. number (unsigned r.counter)) last))
@@ -127,12 +128,12 @@ meter_with address mode last payload =
     ∷ (codes "mode", number (unsigned (mode_number mode)))
     ∷ (codes "more", boolean (more_behind (is_full spans) next))
     ∷ (codes "records", list_tree (map (span_tree payload) spans))
-    ∷ []))
+    ∷ []
 
 abbrev pub meter_tree : SlotView → Data
 meter_tree b =
     let last = last_reading (readings b.commission b.journal) in
-    meter_with b.commission.address b.commission.mode last (payload_of last)
+    object (members (meter_members b.commission.address b.commission.mode last (payload_of last)))
 
 -- ---- all meters
 
@@ -143,3 +144,19 @@ readings_tree slots = object (members ((codes "meters", list_tree (map meter_tre
 -- the tree's compact text, and a newline
 unfoldable pub readings_text : List SlotView → List ℕ
 readings_text slots = compact_text (readings_tree slots) ++ codes "\n"
+
+-- ---- for private clauses
+
+-- the numbers of a reading are of 64 and of 32 bits
+abbrev pub IsNumbered : Reading → Type 0
+IsNumbered reading = (reading.at < 2 ^ 64) × (reading.counter < 2 ^ 32)
+
+-- those of the last reading are, if there is one
+abbrev pub LastIsNumbered : SlotView → Type 0
+LastIsNumbered b = IfSome (last_reading (readings b.commission b.journal)) IsNumbered
+
+-- the byte which a fault names is one
+abbrev pub NamesByte : RecordFault → Type 0
+NamesByte (faults.Lvar lvar) = lvar < 256
+NamesByte (faults.Special dif) = dif < 256
+NamesByte _ = ⊤

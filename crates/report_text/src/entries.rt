@@ -1,164 +1,166 @@
-//! Data records as JSON values.
-ghost use Rattle.std.specs.Prelude.{◌≡◌, map, string_bytes, IfOk};
-ghost use Rattle.std.specs.List.{All};
-ghost use Rattle.serde_json.specs.Data.{number, string};
+//! Data records as JSON.
+ghost use Rattle.std.specs.Prelude.{map, false, option_map};
+ghost use Rattle.hex.specs.Hex.{encode_lower};
+ghost use Rattle.json.specs.Print.{escape};
+ghost use Rattle.serde_json.specs.Data.{number, string, object, unsigned};
 ghost use Rattle.serde_json.specs.Find.{of_integer};
-ghost use Rattle.serde_json.specs.View.{view};
+ghost use Rattle.serde_json.specs.View.{items_of};
+ghost use Rattle.serde_json.specs.Written.{comma_if, compact_text, items_text};
+ghost use Rattle.paper.specs.Puts.{Puts};
 ghost use Rattle.dif_vif.specs.Spans.{IsSpanOf};
-ghost use Rattle.record_text.specs.Lines.{fault_text};
-ghost use Rattle.record_text.specs.Values.{value_text};
-ghost use Rattle.report_text.specs.Readings.{hex_tree, record_tree, maker_tree, span_tree};
+ghost use Rattle.record_text.specs.Lines.{bytes_at, fault_text};
+ghost use Rattle.report_text.specs.Readings.{listed, members, list_tree, or_null, record_members, maker_tree, span_tree, NamesByte};
 
-use dif_vif::{RecordFault, RecordSpan};
-use outer_io::Memory;
-use paper::{Paper, Printed, written};
+use crate::listing::MOST;
+use dif_vif::{RecordFault, RecordSpan, next_record};
+use paper::{Paper, put_hex, put_number, put_signed, put_text};
 use record_text::{bytes_at, put_fault_words, put_value};
 use record_values::{Unit, Value, unit_of, value_of};
-use serde_json::{Map, Value as Tree, put};
-use std::alloc::Global;
 use unit_text::{function_word, name_word, quantity_word};
 
-// The value of a record, as text.
-#[derive(Drop)]
-struct ValueText {
-    value: Value,
-}
-
-impl Printed for ValueText {
-    ghost text = { λ v. value_text v.value };
-
-    fn print<P: Paper>(&self, paper: &mut P) {
-        put_value(paper, self.value)
-    }
-}
-
-fn value_text(alloc: Global, value: Value) -> Result<String, Memory>
-    ensures { IfOk result (λ text. string_bytes text ≡ value_text value) }
+/// Bytes in hexadecimal, inside a string.
+pub(crate) fn put_digits<P: Paper>(paper: &mut P, bytes: &[u8])
+    ensures { Puts P.takes paper.old (escape (encode_lower bytes.now)) paper.new }
 {
-    let bytes = written(alloc, &ValueText { value })?;
-    Ok(String::from_utf8(bytes).unwrap())
+    put_hex(paper, bytes);
 }
 
-// The words of a fault.
-#[derive(Drop)]
-struct FaultWords {
-    fault: RecordFault,
-}
-
-impl Printed for FaultWords {
-    ghost text = { λ f. fault_text f.fault };
-
-    fn print<P: Paper>(&self, paper: &mut P) {
-        put_fault_words(paper, self.fault)
-    }
-}
-
-pub(crate) fn fault_words(alloc: Global, fault: RecordFault) -> Result<String, Memory>
-    ensures { IfOk result (λ text. string_bytes text ≡ fault_text fault) }
+// So many bytes of a payload, from a place on.
+fn put_part<P: Paper>(paper: &mut P, payload: &[u8], place: usize, count: usize)
+    ensures { Puts P.takes paper.old (escape (encode_lower (bytes_at payload.now place count))) paper.new }
 {
-    let bytes = written(alloc, &FaultWords { fault })?;
-    Ok(String::from_utf8(bytes).unwrap())
+    put_digits(paper, bytes_at(payload, place, count));
 }
 
-// Bytes, in hexadecimal.
-fn hex_tree(alloc: Global, bytes: &[u8]) -> Result<Tree, Memory>
-    ensures { IfOk result (λ tree. view tree ≡ hex_tree bytes.now) }
+// The power of ten of a unit.
+fn put_exponent<P: Paper>(paper: &mut P, unit: Unit)
+    ensures { Puts P.takes paper.old (compact_text (number (of_integer unit.exponent))) paper.new }
 {
-    Ok(Tree::from(hex::encode(alloc, bytes)?))
+    put_signed(paper, i128::from(unit.exponent));
 }
 
-fn text_tree(alloc: Global, text: &str) -> Result<Tree, Memory>
-    ensures { IfOk result (λ tree. view tree ≡ string text.now) }
+// A data record of this unit and value.
+fn put_record<P: Paper>(paper: &mut P, payload: &[u8], span: &RecordSpan, unit: Unit, value: Value)
+    ensures { Puts P.takes paper.old (compact_text (object (members (record_members payload.now span.now unit value)))) paper.new }
 {
-    Ok(Tree::try_from_str(alloc, text)?)
+    put_text(paper, "{\"exponent\":");
+    put_exponent(paper, unit);
+    put_text(paper, ",\"function\":\"");
+    put_text(paper, function_word(span.function));
+    put_text(paper, "\",\"modifiers\":\"");
+    put_part(paper, payload, unit.modifiers_at, unit.modifiers);
+    put_text(paper, "\",\"quantity\":\"");
+    put_text(paper, quantity_word(unit.quantity));
+    put_text(paper, "\",\"raw\":\"");
+    put_part(paper, payload, span.data_at, span.data_len);
+    put_text(paper, "\",\"storage\":");
+    put_number(paper, span.storage);
+    put_text(paper, ",\"subunit\":");
+    put_number(paper, span.subunit as u64);
+    put_text(paper, ",\"tariff\":");
+    put_number(paper, span.tariff as u64);
+    put_text(paper, ",\"unit\":\"");
+    put_text(paper, name_word(unit.name));
+    put_text(paper, "\",\"value\":\"");
+    put_value(paper, value);
+    put_text(paper, "\"}");
 }
 
-fn exponent_tree(unit: Unit) -> Tree
-    ensures { view result ≡ number (of_integer unit.exponent) }
+// Manufacturer data.
+fn put_maker<P: Paper>(paper: &mut P, payload: &[u8], span: &RecordSpan)
+    ensures { Puts P.takes paper.old (compact_text (maker_tree payload.now span.now)) paper.new }
 {
-    Tree::from(unit.exponent)
+    put_text(paper, "{\"maker\":\"");
+    put_digits(paper, &[span.dif]);
+    put_text(paper, "\",\"raw\":\"");
+    put_part(paper, payload, span.data_at, span.data_len);
+    put_text(paper, "\"}");
 }
 
-fn value_tree(alloc: Global, value: Value) -> Result<Tree, Memory>
-    ensures { IfOk result (λ tree. view tree ≡ string (value_text value)) }
-{
-    Ok(Tree::from(value_text(alloc, value)?))
-}
-
-fn record_tree(alloc: Global, payload: &[u8], span: &RecordSpan) -> Result<Tree, Memory>
+fn put_span<P: Paper>(paper: &mut P, payload: &[u8], span: &RecordSpan)
     requires { IsSpanOf payload.now span.now }
-    ensures { IfOk result (λ tree. view tree ≡ record_tree payload.now span.now) }
-{
-    let unit = unit_of(payload, span);
-    let modifiers = bytes_at(payload, unit.modifiers_at, unit.modifiers);
-    let sent = bytes_at(payload, span.data_at, span.data_len);
-    let mut tree = Map::new(alloc);
-    put(&mut tree, alloc, "exponent", exponent_tree(unit))?;
-    put(
-        &mut tree,
-        alloc,
-        "function",
-        text_tree(alloc, function_word(span.function))?,
-    )?;
-    put(&mut tree, alloc, "modifiers", hex_tree(alloc, modifiers)?)?;
-    put(
-        &mut tree,
-        alloc,
-        "quantity",
-        text_tree(alloc, quantity_word(unit.quantity))?,
-    )?;
-    put(&mut tree, alloc, "raw", hex_tree(alloc, sent)?)?;
-    put(&mut tree, alloc, "storage", Tree::from(span.storage))?;
-    put(&mut tree, alloc, "subunit", Tree::from(span.subunit))?;
-    put(&mut tree, alloc, "tariff", Tree::from(span.tariff))?;
-    put(
-        &mut tree,
-        alloc,
-        "unit",
-        text_tree(alloc, name_word(unit.name))?,
-    )?;
-    put(
-        &mut tree,
-        alloc,
-        "value",
-        value_tree(alloc, value_of(payload, span))?,
-    )?;
-    Ok(Tree::Object(tree))
-}
-
-fn maker_tree(alloc: Global, payload: &[u8], span: &RecordSpan) -> Result<Tree, Memory>
-    ensures { IfOk result (λ tree. view tree ≡ maker_tree payload.now span.now) }
-{
-    let sent = bytes_at(payload, span.data_at, span.data_len);
-    let mut tree = Map::new(alloc);
-    put(&mut tree, alloc, "maker", hex_tree(alloc, &[span.dif])?)?;
-    put(&mut tree, alloc, "raw", hex_tree(alloc, sent)?)?;
-    Ok(Tree::Object(tree))
-}
-
-fn span_tree(alloc: Global, payload: &[u8], span: &RecordSpan) -> Result<Tree, Memory>
-    requires { IsSpanOf payload.now span.now }
-    ensures { IfOk result (λ tree. view tree ≡ span_tree payload.now span.now) }
+    ensures { Puts P.takes paper.old (compact_text (span_tree payload.now span.now)) paper.new }
 {
     if span.maker {
-        maker_tree(alloc, payload, span)
+        put_maker(paper, payload, span)
     } else {
-        record_tree(alloc, payload, span)
+        put_record(
+            paper,
+            payload,
+            span,
+            unit_of(payload, span),
+            value_of(payload, span),
+        )
     }
 }
 
-/// The values of these records of a payload.
-pub(crate) fn entries(
-    alloc: Global,
-    payload: &[u8],
-    spans: &[RecordSpan],
-) -> Result<Vec<Tree>, Memory>
-    requires { All (IsSpanOf payload.now) spans.now }
-    ensures { IfOk result (λ trees. map view trees.items ≡ map (span_tree payload.now) spans.now) }
+/// A comma, where something stands before.
+#[tactic(auto, using(paper::proofs::Calls::none))]
+pub(crate) fn put_comma<P: Paper>(paper: &mut P, later: bool)
+    ensures { Puts P.takes paper.old (comma_if later) paper.new }
 {
-    let mut trees = Vec::new(alloc);
-    for span in spans {
-        trees.push(span_tree(alloc, payload, span)?)?;
+    if later {
+        put_text(paper, ",");
     }
-    Ok(trees)
+}
+
+// The records of a payload that are listed, and the closing bracket.
+fn put_items<P: Paper>(paper: &mut P, payload: &[u8])
+    ensures { Puts P.takes paper.old (items_text false (items_of (map (span_tree payload.now) (listed payload.now)))) paper.new }
+{
+    let mut from = 0usize;
+    let mut left = MOST;
+    let mut later = false;
+    'records: while left > 0 {
+        match next_record(payload, from) {
+            Ok(Some(span)) => {
+                put_comma(paper, later);
+                put_span(paper, payload, &span);
+                from = span.end;
+                left -= 1;
+                later = true;
+            }
+            Ok(None) => return put_text(paper, "]"),
+            Err(_) => return put_text(paper, "]"),
+        }
+    }
+    put_text(paper, "]");
+}
+
+/// The records of a payload that are listed.
+pub(crate) fn put_entries<P: Paper>(paper: &mut P, payload: &[u8])
+    ensures { Puts P.takes paper.old (compact_text (list_tree (map (span_tree payload.now) (listed payload.now)))) paper.new }
+{
+    put_text(paper, "[");
+    put_items(paper, payload);
+}
+
+// That the byte which a fault names is one.
+fn show_byte(fault: RecordFault)
+    ensures { NamesByte fault }
+{
+    match fault {
+        RecordFault::Lvar(_byte) | RecordFault::Special(_byte) => {}
+        _ => {}
+    }
+}
+
+// The words of a fault, as a string.
+fn put_words<P: Paper>(paper: &mut P, fault: RecordFault)
+    ensures { Puts P.takes paper.old (compact_text (string (fault_text fault))) paper.new }
+{
+    show_byte(fault);
+    put_text(paper, "\"");
+    put_fault_words(paper, fault);
+    put_text(paper, "\"");
+}
+
+/// A fault that there may be.
+pub(crate) fn put_fault<P: Paper>(paper: &mut P, fault: Option<RecordFault>)
+    ensures { Puts P.takes paper.old (compact_text (or_null (option_map (λ f. string (fault_text f)) fault))) paper.new }
+{
+    match fault {
+        None => put_text(paper, "null"),
+        Some(fault) => put_words(paper, fault),
+    }
 }

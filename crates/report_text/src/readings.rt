@@ -1,54 +1,49 @@
 //! The last readings of the meters, as JSON.
-ghost use Rattle.std.specs.Prelude.{◌≡◌, map, string_bytes, Some, IfOk, option_copied, option_map};
-ghost use Rattle.serde_json.specs.Data.{number, string, unsigned};
+ghost use Rattle.std.specs.Prelude.{◌≡◌, ◌^◌, ◌<◌, map, false, string_bytes, Some, IfOk, IfSome, option_copied, option_map};
+ghost use Rattle.std.specs.List.{All};
+ghost use Rattle.serde_json.specs.Data.{number, boolean, object, unsigned};
 ghost use Rattle.serde_json.specs.Read.{read};
-ghost use Rattle.serde_json.specs.View.{view};
-ghost use Rattle.serde_json.specs.Written.{compact_text};
-ghost use Rattle.meter_address.specs.Address.{text_of};
-ghost use Rattle.record_text.specs.Lines.{fault_text};
-ghost use Rattle.report_text.specs.Readings.{or_null, mode_number, payload_of, meter_tree, readings_tree, readings_text};
+ghost use Rattle.serde_json.specs.View.{items_of};
+ghost use Rattle.serde_json.specs.Written.{compact_text, items_text};
+ghost use Rattle.paper.specs.Puts.{Puts};
+ghost use Rattle.report_text.specs.Readings.{or_null, mode_number, payload_of, members, meter_members, meter_tree};
+ghost use Rattle.report_text.specs.Readings.{readings_tree, readings_text, IsNumbered, LastIsNumbered};
 
-use crate::entries::{entries, fault_words};
+use crate::entries::{put_comma, put_digits, put_entries, put_fault};
 use crate::lent::Session;
-use crate::listing::{Listing, listing_of};
-use dif_vif::RecordFault;
-use meter_address::Mode;
+use crate::listing::ending_of;
+use meter_address::{Address, Mode};
 use meter_slots::{Reading, SlotBook};
 use outer_io::Memory;
-use serde_json::{Map, Value, json, put};
+use paper::{Paper, Printed, put_number, put_text, written};
 use std::alloc::Global;
 
-fn mode_tree(slot: &SlotBook) -> Value
-    ensures { view result ≡ number (unsigned (mode_number slot.now.commission.mode)) }
+fn put_mode<P: Paper>(paper: &mut P, mode: Mode)
+    ensures { Puts P.takes paper.old (compact_text (number (unsigned (mode_number mode)))) paper.new }
 {
-    match slot.commission().mode {
-        Mode::Five => Value::from(5u8),
-        Mode::Seven => Value::from(7u8),
+    match mode {
+        Mode::Five => put_number(paper, 5),
+        Mode::Seven => put_number(paper, 7),
     }
 }
 
-fn address_tree(alloc: Global, slot: &SlotBook) -> Result<Value, Memory>
-    ensures { IfOk result (λ tree. view tree ≡ string (text_of slot.now.commission.address)) }
-{
-    let address = slot.commission().address;
-    Ok(Value::from(hex::encode(alloc, address.to_bytes())?))
-}
-
-fn at_tree(reading: Option<&Reading>) -> Value
-    ensures { view result ≡ or_null (option_map (λ r. number (unsigned r.at)) (option_copied reading.entry)) }
+fn put_at<P: Paper>(paper: &mut P, reading: Option<&Reading>)
+    ensures { Puts P.takes paper.old
+        (compact_text (or_null (option_map (λ r. number (unsigned r.at)) (option_copied reading.entry)))) paper.new }
 {
     match reading {
-        None => Value::Null,
-        Some(reading) => Value::from(reading.at),
+        None => put_text(paper, "null"),
+        Some(reading) => put_number(paper, reading.at),
     }
 }
 
-fn counter_tree(reading: Option<&Reading>) -> Value
-    ensures { view result ≡ or_null (option_map (λ r. number (unsigned r.counter)) (option_copied reading.entry)) }
+fn put_counter<P: Paper>(paper: &mut P, reading: Option<&Reading>)
+    ensures { Puts P.takes paper.old
+        (compact_text (or_null (option_map (λ r. number (unsigned r.counter)) (option_copied reading.entry)))) paper.new }
 {
     match reading {
-        None => Value::Null,
-        Some(reading) => Value::from(reading.counter),
+        None => put_text(paper, "null"),
+        Some(reading) => put_number(paper, reading.counter as u64),
     }
 }
 
@@ -61,48 +56,120 @@ fn payload_of(reading: Option<&Reading>) -> &[u8]
     }
 }
 
-fn fault_tree(alloc: Global, fault: Option<RecordFault>) -> Result<Value, Memory>
-    ensures { IfOk result (λ tree. view tree ≡ or_null (option_map (λ f. string (fault_text f)) fault)) }
+fn put_truth<P: Paper>(paper: &mut P, holds: bool)
+    ensures { Puts P.takes paper.old (compact_text (boolean holds)) paper.new }
 {
-    match fault {
-        None => Ok(Value::Null),
-        Some(fault) => Ok(Value::from(fault_words(alloc, fault)?)),
+    if holds {
+        put_text(paper, "true")
+    } else {
+        put_text(paper, "false")
     }
 }
 
-fn meter_tree(alloc: Global, slot: &SlotBook) -> Result<Value, Memory>
-    ensures { IfOk result (λ tree. view tree ≡ meter_tree slot.now) }
+fn put_meter<P: Paper>(
+    paper: &mut P,
+    address: Address,
+    mode: Mode,
+    last: Option<&Reading>,
+    payload: &[u8],
+)
+    ensures { Puts P.takes paper.old
+        (compact_text (object (members (meter_members address mode (option_copied last.entry) payload.now)))) paper.new }
 {
+    let ending = ending_of(payload);
+    put_text(paper, "{\"address\":\"");
+    put_digits(paper, &address.to_bytes());
+    put_text(paper, "\",\"at\":");
+    put_at(paper, last);
+    put_text(paper, ",\"counter\":");
+    put_counter(paper, last);
+    put_text(paper, ",\"fault\":");
+    put_fault(paper, ending.fault);
+    put_text(paper, ",\"mode\":");
+    put_mode(paper, mode);
+    put_text(paper, ",\"more\":");
+    put_truth(paper, ending.more);
+    put_text(paper, ",\"records\":");
+    put_entries(paper, payload);
+    put_text(paper, "}");
+}
+
+fn put_slot<P: Paper>(paper: &mut P, slot: &SlotBook)
+    ensures { Puts P.takes paper.old (compact_text (meter_tree slot.now)) paper.new }
+{
+    let now = slot.commission();
     let last = slot.readings().last();
-    let payload = payload_of(last);
-    let Listing { spans, fault, more } = listing_of(alloc, payload)?;
-    let records = entries(alloc, payload, &spans)?;
-    let mut tree = Map::new(alloc);
-    put(&mut tree, alloc, "address", address_tree(alloc, slot)?)?;
-    put(&mut tree, alloc, "at", at_tree(last))?;
-    put(&mut tree, alloc, "counter", counter_tree(last))?;
-    put(&mut tree, alloc, "fault", fault_tree(alloc, fault)?)?;
-    put(&mut tree, alloc, "mode", mode_tree(slot))?;
-    put(&mut tree, alloc, "more", Value::from(more))?;
-    put(&mut tree, alloc, "records", Value::Array(records))?;
-    Ok(Value::Object(tree))
+    put_meter(paper, now.address, now.mode, last, payload_of(last));
 }
 
-fn meter_trees(alloc: Global, slots: &[SlotBook]) -> Result<Vec<Value>, Memory>
-    ensures { IfOk result (λ trees. map view trees.items ≡ map meter_tree slots.now) }
+// The meters, and the closing bracket.
+fn put_items<P: Paper>(paper: &mut P, slots: &[SlotBook])
+    ensures { Puts P.takes paper.old (items_text false (items_of (map meter_tree slots.now))) paper.new }
 {
-    let mut trees = Vec::new(alloc);
+    let mut later = false;
     for slot in slots {
-        trees.push(meter_tree(alloc, slot)?)?;
+        put_comma(paper, later);
+        put_slot(paper, slot);
+        later = true;
     }
-    Ok(trees)
+    put_text(paper, "]");
 }
 
-fn readings_tree(alloc: Global, slots: &[SlotBook]) -> Result<Value, Memory>
-    ensures { IfOk result (λ tree. view tree ≡ readings_tree slots.now) }
+fn put_tree<P: Paper>(paper: &mut P, slots: &[SlotBook])
+    ensures { Puts P.takes paper.old (compact_text (readings_tree slots.now)) paper.new }
 {
-    let meters = meter_trees(alloc, slots)?;
-    Ok(json!(in alloc; {"meters": meters})?)
+    put_text(paper, "{\"meters\":[");
+    put_items(paper, slots);
+    put_text(paper, "}");
+}
+
+// The slots whose last readings are told.
+#[derive(Drop)]
+struct LastReadings<'a> {
+    slots: &'a [SlotBook],
+}
+
+impl Printed for LastReadings<'_> {
+    ghost use Rattle.report_text.specs.Readings.{readings_text};
+
+    ghost text = { λ r. readings_text r.slots.now };
+
+    #[tactic(auto, unfolding(crate::specs::Readings::readings_text), using(paper::proofs::Calls::two_make))]
+    fn print<P: Paper>(&self, paper: &mut P) {
+        put_tree(paper, self.slots);
+        put_text(paper, "\n");
+    }
+}
+
+// That these are numbers of 64 and of 32 bits.
+fn show_numbers(at: u64, counter: u32)
+    ensures at { at < 2 ^ 64 }
+    ensures counter { counter < 2 ^ 32 }
+{
+    let _numbers = (at, counter);
+}
+
+fn show_reading(reading: Option<&Reading>)
+    ensures { IfSome (option_copied reading.entry) IsNumbered }
+{
+    match reading {
+        None => {}
+        Some(reading) => show_numbers(reading.at, reading.counter),
+    }
+}
+
+fn show_last(slot: &SlotBook)
+    ensures { LastIsNumbered slot.now }
+{
+    show_reading(slot.readings().last());
+}
+
+fn show_slots(slots: &[SlotBook])
+    ensures { All LastIsNumbered slots.now }
+{
+    for slot in slots {
+        show_last(slot);
+    }
 }
 
 /// The last reading of each meter as JSON, in the order of the roster: a compact text and a newline. A reader of JSON gets the
@@ -112,7 +179,8 @@ pub fn readings_json(alloc: Global, session: &Session<'_>) -> Result<String, Mem
     ensures reads_back { let tree = readings_tree session.now.slots.now in
         IfOk result (λ _. read (compact_text tree) ≡ Some tree) }
 {
-    let mut text = readings_tree(alloc, session.slots)?.to_string(alloc)?;
-    text.push_str("\n")?;
-    Ok(text)
+    show_slots(session.slots);
+    let slots = session.slots;
+    let bytes = written(alloc, &LastReadings { slots })?;
+    Ok(String::from_utf8(bytes).unwrap())
 }

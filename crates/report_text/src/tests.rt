@@ -56,3 +56,30 @@ fn a_session_of_four_receivers_is_reported(rt: HostRuntime) -> Result<(), Fail> 
     assert_eq!(rt; failing.bytes(), b"".as_slice());
     Ok(())
 }
+
+#[test]
+fn a_meter_without_readings_has_no_records(rt: HostRuntime) -> Result<(), Fail> {
+    let address = Address::from_bytes([0x93, 0x15, 0x78, 0x56, 0x34, 0x12, 0x33, 0x03]);
+    let own = Address::from_bytes([0x93, 0x15, 1, 0, 0, 0, 1, 0x31]);
+    let commission = Commission {
+        address,
+        mode: Mode::Five,
+        key: [0; 16],
+        other: None,
+        last: None,
+        down: 0,
+        ids: 0,
+    };
+    let world = World::new(rt.alloc(), own, vec![in rt.alloc(); commission]?)?;
+    let session = Session {
+        ends: &[],
+        slots: world.slots(),
+        strangers: world.strangers(),
+    };
+    let text = readings_json(rt.alloc(), &session)?;
+    assert_eq!(rt;
+        text.as_str(),
+        "{\"meters\":[{\"address\":\"9315785634123303\",\"at\":null,\"counter\":null,\"fault\":null,\"mode\":5,\"more\":false,\"records\":[]}]}\n"
+    );
+    Ok(())
+}

@@ -1,4 +1,4 @@
-use Rattle.std.proofs.Common.{◌≡◌, ◌++◌, ap, ◌∙◌, subst}
+use Rattle.std.proofs.Common.{◌≡◌, ◌++◌, subst}
 use Rattle.std.specs.Prelude.{IsTrue, OnOk, OnErr}
 use Rattle.outer_io.specs.Bytes.{AppendsFront}
 use Rattle.report_text.proofs.PartedReports.{report_is}

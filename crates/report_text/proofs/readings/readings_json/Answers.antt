@@ -1,21 +1,24 @@
-use Rattle.std.proofs.Common.{◌++◌, sym, ap, ◌∙◌, Some}
+use Rattle.std.proofs.Common.{sym, subst, refl, arith}
 use Rattle.std.specs.Prelude.{codes}
-use Rattle.serde_json.specs.Read.{read}
-use Rattle.serde_json.specs.Written.{compact_text, has_float}
-use Rattle.report_text.specs.Readings.{readings_text}
-use Rattle.report_text.proofs.TreeLists.{of_readings, few_levels}
+use Rattle.std.specs.Str.{IsUtf8}
+use Rattle.std.proofs.lemmas.List.Elements.{recursion_from_All}
+use Rattle.std.proofs.lemmas.Str.{IsUtf8-append}
+use Rattle.json.proofs.Printed.Utf8.{IsUtf8-are_ascii}
+use Rattle.report_text.specs.Readings.{LastIsNumbered, readings_tree, readings_text}
+use Rattle.report_text.proofs.ShownTrees.{read_back, with_more}
+use Rattle.report_text.proofs.ShownReadings.{readings_shown}
 use Rattle.report_text.proofs.readings.readings_json.Goals as goal
 
-pub returns-clause-text : goal.returns-clause-text
+pub unwrap-requires : goal.unwrap-requires
 unfolding readings_text
-returns-clause-text c =
-    let tree = c.in_ok-readings_tree.ensures in
-    let text = c.in_ok-text.ensures.text (ap has_float tree ∙ of_readings c.args.session.now.slots.now) in
-    c.in_ok-push_str.ensures.bytes ∙ ap (λ t. t ++ codes "\n") (text ∙ ap compact_text tree)
+unwrap-requires c =
+    let slots = c.args.session.now.slots.now in
+    let tree = readings_shown slots (recursion_from_All LastIsNumbered slots c.show_slots.ensures) in
+    let whole = IsUtf8-append _ (codes "\n") tree.text (IsUtf8-are_ascii (codes "\n") refl) in
+    c.from_utf8.ensures.succeeds (subst IsUtf8 (sym c.in_ok-bytes.ensures) whole)
 
 pub returns-clause-reads_back : goal.returns-clause-reads_back
 returns-clause-reads_back c =
-    let tree = c.in_ok-readings_tree.ensures in
-    let text = c.in_ok-text.ensures.text (ap has_float tree ∙ of_readings c.args.session.now.slots.now) in
-    let few = few_levels c.args.session.now.slots.now _ tree in
-    ap read (sym (text ∙ ap compact_text tree)) ∙ c.in_ok-text.ensures.reads_back few ∙ ap Some tree
+    let slots = c.args.session.now.slots.now in
+    let tree = readings_shown slots (recursion_from_All LastIsNumbered slots c.show_slots.ensures) in
+    read_back (readings_tree slots) (with_more (omega arith) tree)
