@@ -1,9 +1,12 @@
 -- The lists of an input's numbers, and one line more.
-use Rattle.std.proofs.Common.{◌≡◌, ◌==◌, ◌||◌, ℕ, zero, suc, ◌+◌, ◌<◌, ◌≤◌, ◌^◌, not, nat_lt, Bool, true, false, cond, List, [], ◌∷◌, ◌++◌, map, length, get_or, set, Option, Some, None, refl, sym, ap, ◌∙◌, subst, arith, append_assoc, append-nil, length-append}
-use Rattle.std.specs.Prelude.{option_to_list, position, count_by}
-use Rattle.std.specs.List.{filter_map, cons_option, list_any, position_or_len, prefix_len, enumerate_from}
+use Rattle.std.proofs.Common.{◌≡◌, ◌==◌, ◌||◌, ℕ, suc, ◌+◌, ◌≤◌, not, nat_lt, Bool, true, false, cond, List, [], ◌∷◌, ◌++◌, map, length, get_or, Option, Some, None, inl, inr, ⊎_elim, refl, sym, ap, ◌∙◌, subst, arith, append_assoc, append-nil, length-append}
+use Rattle.std.specs.Prelude.{◌⊎◌, ◌-◌, option_to_list, position, count_by}
+use Rattle.std.specs.List.{slice_get, filter_map, cons_option, list_any, position_or_len, enumerate_from}
 use Rattle.std.proofs.lemmas.Bool.Decides.{nat_tests}
-use Rattle.std.proofs.lemmas.List.{map-append, length-map}
+use Rattle.std.proofs.lemmas.List.{map-append, length-map, length-set, get_or-set_same, get_or-set_other}
+use mathlib.Core.Logic.{dite}
+use native.Mathlib.Decide.{ℕ_discrete}
+use Rattle.outer_io.specs.Each.{Each}
 use Rattle.std.proofs.lemmas.List.Sums.{prefix_len-le-length, sum_by-cons}
 use Rattle.std.specs.Str.Lines.{lines}
 use Rattle.line_reader.specs.Lines.{is_over}
@@ -22,8 +25,11 @@ use Rattle.receivers.specs.Classes.{class_at, class_by, counts_of, is_own, is_st
 use Rattle.receivers.specs.Session.{event_at, lines_for, stranger_at, lines_of_strangers}
 use Rattle.receivers.specs.Told.{told_of}
 use Rattle.receivers.proofs.Numbers.{numbered}
-use Rattle.audit_check_main.specs.Hearing.{with_number, noted, counts_in, heard_input}
+use Rattle.audit_check_main.specs.declared.hearing.Sort.{Sort}
+use Rattle.audit_check_main.specs.declared.hearing.Sort.TheVariants as sorts
+use Rattle.audit_check_main.specs.Hearing.{HeardInput, with_number, noted, counts_in, heard_input, sort_of, is_listed, list_in, class_in, told_by_text, AreSorted, IsHeard}
 use Rattle.audit_check_main.specs.Order.{numbers_for}
+use Rattle.audit_check_main.proofs.Steps.{get_there, each_item}
 
 -- ---- the numbers of one list, and one line more
 
@@ -122,7 +128,7 @@ own_numbers heard c = map number_of (lines_for c.address heard)
 
 pub numbers_for-push : (cs : List Commissioned) (heard : List Told) (t : Told) (line : ℕ)
     → AreApart (map (λ (c : Commissioned). c.address) cs) → line ≡ 1 + length heard
-    → noted (map (λ c. c.address) cs) line t (numbers_for cs heard) ≡ numbers_for cs (heard ++ t ∷ [])
+    → noted (sort_of (map (λ c. c.address) cs) t) line (numbers_for cs heard) ≡ numbers_for cs (heard ++ t ∷ [])
 numbers_for-push cs heard (told.Event address event) line apart number =
     placed (own_numbers heard) (map number_of (lines_of_strangers cs heard)) address.0 line cs apart
     ∙ lists_with (λ c. own_numbers heard c ++ one_if (is_for address.0 c) line) (own_numbers (heard ++ told.Event address event ∷ []))
@@ -147,41 +153,47 @@ none_if : (b : Bool) (n : ℕ) → cond b (Some n) None ≡ None → b ≡ false
 none_if true n h = absurd cc
 none_if false n h = refl
 
-some_if : (b : Bool) (n k : ℕ) → cond b (Some n) None ≡ Some k → n ≡ k
-some_if true n k h = cc
-some_if false n k h = absurd cc
-
 pub place_none : (p : Address → Bool) (xs : List Address) → position p xs ≡ None → length xs ≡ position_or_len p xs
 place_none p xs h =
     let test : nat_lt (position_or_len p xs) (length xs) ≡ false = none_if _ _ h in
     let most = prefix_len-le-length (λ x. not (p x)) xs in grind (arith, nat_tests)
 
-pub place_some : (p : Address → Bool) (xs : List Address) (k : ℕ) → position p xs ≡ Some k → k ≡ position_or_len p xs
-place_some p xs k h = sym (some_if _ _ k h)
+-- what a line is gives its class
+class_sorted : (directory : List Address) (n : ℕ) (t : Told) → n ≡ length directory → class_in n (sort_of directory t) ≡ class_by directory t
+class_sorted directory n (told.Event address event) e =
+    ap (λ m. class_in m (sort_of directory (told.Event address event))) e
+    ∙ by (nat_lt (position_or_len (λ a. a.0 == address.0) directory) (length directory)) (position_or_len (λ a. a.0 == address.0) directory)
+  where
+    by : (b : Bool) (k : ℕ) → cond b classes.Own classes.Strange ≡ class_at (cond b (Some k) None)
+    by true k = refl
+    by false k = refl
+class_sorted directory n told.Unframed e = refl
+class_sorted directory n told.Bad e = refl
 
-pub class_own : (p : Address → Bool) (xs : List Address) (n : ℕ) → n ≡ length xs → position_or_len p xs < n
-    → classes.Own ≡ class_at (position p xs)
-class_own p xs n e within =
-    let test : true ≡ nat_lt (position_or_len p xs) (length xs) = grind (arith, nat_tests) in
-    ap (λ b. class_at (cond b (Some (position_or_len p xs)) None)) test
-
-pub class_strange : (p : Address → Bool) (xs : List Address) (n : ℕ) → n ≡ length xs → n ≤ position_or_len p xs
-    → classes.Strange ≡ class_at (position p xs)
-class_strange p xs n e past =
-    let test : false ≡ nat_lt (position_or_len p xs) (length xs) = grind (arith, nat_tests) in
-    ap (λ b. class_at (cond b (Some (position_or_len p xs)) None)) test
+-- a line of a list has one of the lists
+pub sorted_within : (directory : List Address) (n : ℕ) (t : Told) → length directory ≡ n → list_in (sort_of directory t) ≤ n
+sorted_within directory n (told.Event address event) e =
+    let most = prefix_len-le-length (λ (a : Address). not (a.0 == address.0)) directory in omega arith
+sorted_within directory n told.Unframed e = omega arith
+sorted_within directory n told.Bad e = omega arith
 
 -- ---- lines one after another
 
 abbrev addresses : List Commissioned → List Address
 addresses cs = map (λ c. c.address) cs
 
--- the lines so far, and what they came to
-pub record HasHeardSo (cs : List Commissioned) (input : List ℕ) (given left : List (List ℕ)) (lists : List (List ℕ)) (kinds : List Class)
-    : Type 0 where
-  pub cut : lines input ≡ given ++ left
+-- what some lines come to
+pub record HaveComeTo (cs : List Commissioned) (given : List (List ℕ)) (lists : List (List ℕ)) (kinds : List Class) : Type 0 where
   pub lists_are : lists ≡ numbers_for cs (map told_of given)
   pub classes_are : kinds ≡ map (class_by (map (λ c. c.address) cs)) (map told_of given)
+
+-- the lines so far, and what they came to: that is so where nothing is claimed, or where each line is one of the list that has its number
+pub record HasHeardSo (cs : List Commissioned) (input : List ℕ) (unclaimed : Type 0) (given left : List (List ℕ)) (lists : List (List ℕ))
+    (kinds : List Class) : Type 0 where
+  pub cut : lines input ≡ given ++ left
+  pub many : length kinds ≡ length given
+  pub long : length lists ≡ length cs + 1
+  pub so : unclaimed ⊎ AreSorted (map (λ c. c.address) cs) (lines input) lists → HaveComeTo cs given lists kinds
 
 empty_numbers : (cs : List Commissioned) → map (λ (c : Commissioned). []) cs ++ [] ∷ [] ≡ numbers_for cs []
 empty_numbers [] = refl
@@ -192,44 +204,114 @@ empty_numbers (c ∷ cs) = ap (λ l. [] ∷ l) (rest cs)
     rest [] = refl
     rest (c ∷ cs) = ap (λ l. [] ∷ l) (rest cs)
 
-pub heard_none : (cs : List Commissioned) (input : List ℕ) (given left : List (List ℕ)) (lists : List (List ℕ)) (kinds : List Class)
-    → given ≡ [] → left ≡ lines input → lists ≡ map (λ (c : Commissioned). []) cs ++ [] ∷ [] → kinds ≡ []
-    → HasHeardSo cs input given left lists kinds
-heard_none cs input given left lists kinds none all empty no_kinds = record {
+abbrev no_numbers : Commissioned → List ℕ
+no_numbers c = []
+
+empty_many : (cs : List Commissioned) → length (map no_numbers cs ++ [] ∷ []) ≡ length cs + 1
+empty_many cs = length-append (map no_numbers cs) ([] ∷ []) ∙ ap (λ n. n + 1) (length-map cs no_numbers)
+
+pub heard_none : (cs : List Commissioned) (input : List ℕ) (unclaimed : Type 0) (given left : List (List ℕ)) (lists : List (List ℕ))
+    (kinds : List Class) → given ≡ [] → left ≡ lines input → lists ≡ map (λ (c : Commissioned). []) cs ++ [] ∷ [] → kinds ≡ []
+    → HasHeardSo cs input unclaimed given left lists kinds
+heard_none cs input unclaimed given left lists kinds none all empty no_kinds = record {
   cut = sym all ∙ ap (λ l. l ++ left) (sym none);
-  lists_are = empty ∙ (empty_numbers cs ∙ ap (λ l. numbers_for cs (map told_of l)) (sym none));
-  classes_are = no_kinds ∙ ap (λ l. map (class_by (map (λ c. c.address) cs)) (map told_of l)) (sym none);
+  many = ap length no_kinds ∙ sym (ap length none);
+  long = ap length empty ∙ empty_many cs;
+  so = λ _. record {
+    lists_are = empty ∙ (empty_numbers cs ∙ ap (λ l. numbers_for cs (map told_of l)) (sym none));
+    classes_are = no_kinds ∙ ap (λ l. map (class_by (map (λ c. c.address) cs)) (map told_of l)) (sym none);
+  };
 }
 
-heard_more : (cs : List Commissioned) (input : List ℕ) (given left rest : List (List ℕ)) (text : List ℕ) (number : ℕ)
-    (lists lists' : List (List ℕ)) (kinds : List Class) (class : Class) → AreApart (map (λ (c : Commissioned). c.address) cs)
-    → HasHeardSo cs input given left lists kinds → left ≡ text ∷ rest → number ≡ length given + 1
-    → lists' ≡ noted (map (λ c. c.address) cs) number (told_of text) lists → class ≡ class_by (map (λ c. c.address) cs) (told_of text)
-    → HasHeardSo cs input (given ++ text ∷ []) rest lists' (kinds ++ class ∷ [])
-heard_more cs input given left rest text number lists lists' kinds class apart before next counted after is = record {
-  cut = before.cut ∙ (ap (λ l. given ++ l) next ∙ sym (append_assoc given (text ∷ []) rest));
-  lists_are = after ∙ (ap (noted (addresses cs) number (told_of text)) before.lists_are
-      ∙ (numbers_for-push cs (map told_of given) (told_of text) number apart (let l = length-map given told_of in omega arith)
-      ∙ ap (numbers_for cs) (sym (map-append told_of given (text ∷ [])))));
-  classes_are = (λ i. before.classes_are i ++ is i ∷ [])
-      ∙ (sym (map-append (class_by (addresses cs)) (map told_of given) (told_of text ∷ []))
-      ∙ ap (map (class_by (addresses cs))) (sym (map-append told_of given (text ∷ []))));
-}
+each_front : {X : Type 0} (P : X → Type 0) (xs ys : List X) → Each P (xs ++ ys) → Each P xs
+each_front P [] ys h = tt
+each_front P (x ∷ xs) ys h = (h.0, each_front P xs ys h.1)
 
-pub heard_next : (cs : List Commissioned) (input : List ℕ) (given given' left rest : List (List ℕ)) (text : List ℕ) (number : ℕ)
-    (lists lists' : List (List ℕ)) (kinds kinds' : List Class) (class : Class) → AreApart (map (λ (c : Commissioned). c.address) cs)
-    → HasHeardSo cs input given left lists kinds → left ≡ text ∷ rest → number ≡ length given + 1
-    → lists' ≡ noted (map (λ c. c.address) cs) number (told_of text) lists → class ≡ class_by (map (λ c. c.address) cs) (told_of text)
-    → given' ≡ given ++ text ∷ [] → kinds' ≡ kinds ++ class ∷ [] → HasHeardSo cs input given' rest lists' kinds'
-heard_next cs input given given' left rest text number lists lists' kinds kinds' class apart before next counted after is more more_kinds =
-    subst (λ g. HasHeardSo cs input g rest lists' kinds') (sym more)
-    (subst (λ k. HasHeardSo cs input (given ++ text ∷ []) rest lists' k) (sym more_kinds)
-    (heard_more cs input given left rest text number lists lists' kinds class apart before next counted after is))
+length-noted : (sort : Sort) (line : ℕ) (lists : List (List ℕ)) → length (noted sort line lists) ≡ length lists
+length-noted (sorts.Listed list) line lists = length-set lists list _
+length-noted sorts.Unframed line lists = refl
+length-noted sorts.Bad line lists = refl
 
-pub kinds_few : (cs : List Commissioned) (input : List ℕ) (given left : List (List ℕ)) (lists : List (List ℕ)) (kinds : List Class)
-    → HasHeardSo cs input given left lists kinds → length kinds ≡ length given
-kinds_few cs input given left lists kinds so =
-    ap length so.classes_are ∙ (length-map (map told_of given) (class_by (map (λ c. c.address) cs)) ∙ length-map given told_of)
+-- one line more, which is taken to be of a sort
+module _ (cs : List Commissioned) (input : List ℕ) (unclaimed : Type 0) (given left rest : List (List ℕ)) (text : List ℕ) (number : ℕ)
+    (lists lists' : List (List ℕ)) (kinds : List Class) (class : Class) (sort : Sort)
+    (apart : AreApart (map (λ (c : Commissioned). c.address) cs)) (before : HasHeardSo cs input unclaimed given left lists kinds)
+    (next : left ≡ text ∷ rest) (counted : number ≡ length given + 1) (after : lists' ≡ noted sort number lists)
+    (is : class ≡ class_in (length cs) sort) (within : list_in sort ≤ length cs)
+    (by_claim : unclaimed → sort ≡ sort_of (map (λ (c : Commissioned). c.address) cs) (told_of text))
+    (by_text : is_listed sort ≡ false → sort ≡ sort_of (map (λ (c : Commissioned). c.address) cs) (told_of text)) where
+  -- a number of a list is that of one of its lines
+  abbrev IsListed : ℕ → ℕ → Type 0
+  IsListed list n = sort_of (addresses cs) (told_by_text (slice_get (lines input) (n - 1))) ≡ sorts.Listed list
+
+  come_to : sort ≡ sort_of (addresses cs) (told_of text) → HaveComeTo cs given lists kinds
+      → HaveComeTo cs (given ++ text ∷ []) lists' (kinds ++ class ∷ [])
+  come_to same so = record {
+    lists_are = after ∙ (ap (λ s. noted s number lists) same ∙ (ap (noted (sort_of (addresses cs) (told_of text)) number) so.lists_are
+        ∙ (numbers_for-push cs (map told_of given) (told_of text) number apart (let l = length-map given told_of in omega arith)
+        ∙ ap (numbers_for cs) (sym (map-append told_of given (text ∷ []))))));
+    classes_are = (λ i. so.classes_are i ++ (is ∙ (ap (class_in (length cs)) same ∙ class_sorted (addresses cs) (length cs) (told_of text)
+        (sym (length-map cs (λ (c : Commissioned). c.address))))) i ∷ [])
+        ∙ (sym (map-append (class_by (addresses cs)) (map told_of given) (told_of text ∷ []))
+        ∙ ap (map (class_by (addresses cs))) (sym (map-append told_of given (text ∷ []))));
+  }
+
+  text_there : slice_get (lines input) (number - 1) ≡ Some text
+  text_there =
+      ap (λ ls. slice_get ls (number - 1)) (before.cut ∙ ap (λ l. given ++ l) next)
+      ∙ get_there given text rest (number - 1) (omega arith)
+
+  row : (list : ℕ) → sort ≡ sorts.Listed list → get_or lists' list [] ≡ get_or lists list [] ++ number ∷ []
+  row list e =
+      let inside : list ≤ length cs = subst (λ s. list_in s ≤ length cs) e within in
+      let long = before.long in
+      ap (λ ls. get_or ls list []) (after ∙ ap (λ s. noted s number lists) e)
+      ∙ get_or-set_same lists list (get_or lists list [] ++ number ∷ []) [] (omega arith)
+
+  sorted_there : (list : ℕ) → sort ≡ sorts.Listed list → AreSorted (addresses cs) (lines input) lists'
+      → sort_of (addresses cs) (told_of text) ≡ sorts.Listed list
+  sorted_there list e sorted =
+      let inside : list ≤ length cs = subst (λ s. list_in s ≤ length cs) e within in
+      let few = length-map cs (λ (c : Commissioned). c.address) in
+      ap (λ o. sort_of (addresses cs) (told_by_text o)) (sym text_there)
+      ∙ each_item (IsListed list) (get_or lists list []) number [] (subst (Each (IsListed list)) (row list e) (sorted list (omega arith)))
+
+  sorted_before : AreSorted (addresses cs) (lines input) lists' → AreSorted (addresses cs) (lines input) lists
+  sorted_before sorted = at sort refl
+    where
+      at : (s : Sort) → sort ≡ s → AreSorted (addresses cs) (lines input) lists
+      at (sorts.Listed k) e list inside = dite (ℕ_discrete list k)
+          (λ same. each_front (IsListed list) (get_or lists list []) (number ∷ [])
+          (subst (Each (IsListed list)) (row list (e ∙ ap sorts.Listed (sym same))) (sorted list inside)))
+          (λ other. subst (Each (IsListed list)) (ap (λ ls. get_or ls list []) (after ∙ ap (λ s. noted s number lists) e)
+          ∙ get_or-set_other lists k list (get_or lists k [] ++ number ∷ []) [] other) (sorted list inside))
+      at sorts.Unframed e list inside =
+          subst (λ ls. Each (IsListed list) (get_or ls list [])) (after ∙ ap (λ s. noted s number lists) e) (sorted list inside)
+      at sorts.Bad e list inside =
+          subst (λ ls. Each (IsListed list) (get_or ls list [])) (after ∙ ap (λ s. noted s number lists) e) (sorted list inside)
+
+  same_by : AreSorted (addresses cs) (lines input) lists' → sort ≡ sort_of (addresses cs) (told_of text)
+  same_by sorted = at sort refl
+    where
+      at : (s : Sort) → sort ≡ s → sort ≡ sort_of (addresses cs) (told_of text)
+      at (sorts.Listed list) e = e ∙ sym (sorted_there list e sorted)
+      at sorts.Unframed e = by_text (ap is_listed e)
+      at sorts.Bad e = by_text (ap is_listed e)
+
+  heard_more : HasHeardSo cs input unclaimed (given ++ text ∷ []) rest lists' (kinds ++ class ∷ [])
+  heard_more = record {
+    cut = before.cut ∙ (ap (λ l. given ++ l) next ∙ sym (append_assoc given (text ∷ []) rest));
+    many = let k = length-append kinds (class ∷ []) in let g = length-append given (text ∷ []) in let m = before.many in omega arith;
+    long = ap length after ∙ (length-noted sort number lists ∙ before.long);
+    so = ⊎_elim (λ u. come_to (by_claim u) (before.so (inl u)))
+        (λ sorted. come_to (same_by sorted) (before.so (inr (sorted_before sorted))));
+  }
+
+  pub heard_next : (given' : List (List ℕ)) (kinds' : List Class) → given' ≡ given ++ text ∷ [] → kinds' ≡ kinds ++ class ∷ []
+      → HasHeardSo cs input unclaimed given' rest lists' kinds'
+  heard_next given' kinds' more more_kinds =
+      subst (λ g. HasHeardSo cs input unclaimed g rest lists' kinds') (sym more)
+      (subst (λ k. HasHeardSo cs input unclaimed (given ++ text ∷ []) rest lists' k) (sym more_kinds) heard_more)
 
 -- an input within the limits has few lines
 pub few_lines : (input : List ℕ) → is_over input ≡ false → length (lines input) ≤ 131072
@@ -238,9 +320,10 @@ few_lines input h =
     let parts : (nat_lt 67108864 (length input) ≡ false) × (nat_lt 131072 (length (lines input)) ≡ false) =
     or_parts _ _ h in let few : nat_lt 131072 (length (lines input)) ≡ false = parts.1 in grind (arith, nat_tests)
 
-pub given_few : (cs : List Commissioned) (input : List ℕ) (given left : List (List ℕ)) (lists : List (List ℕ)) (kinds : List Class)
-    → is_over input ≡ false → HasHeardSo cs input given left lists kinds → length given + length left ≤ 131072
-given_few cs input given left lists kinds within so =
+pub given_few : (cs : List Commissioned) (input : List ℕ) (unclaimed : Type 0) (given left : List (List ℕ)) (lists : List (List ℕ))
+    (kinds : List Class) → is_over input ≡ false → HasHeardSo cs input unclaimed given left lists kinds
+    → length given + length left ≤ 131072
+given_few cs input unclaimed given left lists kinds within so =
     let few = few_lines input within in let l = ap length so.cut ∙ length-append given left in omega arith
 
 -- one list for each meter, and one
@@ -266,15 +349,28 @@ counted_classes directory heard = (λ i. record {
   bad = count-map is_bad (class_by directory) heard i;
 })
 
-pub heard_all : (cs : List Commissioned) (input : List ℕ) (given left : List (List ℕ)) (lists : List (List ℕ)) (kinds : List Class)
-    (counts : Counts) → HasHeardSo cs input given left lists kinds → left ≡ [] → counts ≡ counts_in kinds
-    → record { lines = given; lists = lists; counts = counts } ≡ heard_input cs input
-heard_all cs input given left lists kinds counts so none is =
-    let whole : given ≡ lines input = sym (so.cut ∙ (ap (λ l. given ++ l) none ∙ append-nil given)) in
-    (λ i. record {
-      lines = whole i;
-      lists = (so.lists_are ∙ ap (λ g. numbers_for cs (map told_of g)) whole) i;
-      counts = (is
-          ∙ (ap counts_in so.classes_are ∙ (counted_classes (addresses cs) (map told_of given)
-          ∙ ap (λ g. counts_of (addresses cs) (map told_of g)) whole))) i;
-    })
+module _ (cs : List Commissioned) (input : List ℕ) (unclaimed : Type 0) (given left : List (List ℕ)) (lists : List (List ℕ))
+    (kinds : List Class) (counts : Counts) (so : HasHeardSo cs input unclaimed given left lists kinds) (none : left ≡ [])
+    (is : counts ≡ counts_in kinds) where
+  abbrev heard : HeardInput
+  heard = record { lines = given; lists = lists; counts = counts }
+
+  whole : given ≡ lines input
+  whole = sym (so.cut ∙ (ap (λ l. given ++ l) none ∙ append-nil given))
+
+  heard_is : HaveComeTo cs given lists kinds → heard ≡ heard_input cs input
+  heard_is h = (λ i. record {
+    lines = whole i;
+    lists = (h.lists_are ∙ ap (λ g. numbers_for cs (map told_of g)) whole) i;
+    counts = (is ∙ (ap counts_in h.classes_are ∙ (counted_classes (addresses cs) (map told_of given)
+        ∙ ap (λ g. counts_of (addresses cs) (map told_of g)) whole))) i;
+  })
+
+  pub heard_all : IsHeard cs input heard
+  heard_all = record {
+    lines_are = whole;
+    sorted = λ sorted. heard_is (so.so (inr (subst (λ ls. AreSorted (addresses cs) ls lists) whole sorted)));
+  }
+
+  pub heard_unclaimed : unclaimed → heard ≡ heard_input cs input
+  heard_unclaimed u = heard_is (so.so (inl u))

@@ -1,15 +1,14 @@
 -- Each line of a report stands in its own list.
-use Rattle.std.proofs.Common.{◌≡◌, ℕ, zero, suc, ◌+◌, ◌<◌, ◌≤◌, ◌^◌, ◌-◌, nat_le, Bool, true, false, not, cond, ◌&&◌, List, [], ◌∷◌, ◌++◌, codes, map, filter, length, reverse, Option, Some, None, refl, sym, ap, ◌∙◌, subst, arith, append_assoc, append-nil}
+use Rattle.std.proofs.Common.{◌≡◌, ℕ, suc, ◌+◌, ◌<◌, ◌≤◌, ◌^◌, ◌-◌, nat_le, true, false, not, cond, ◌&&◌, List, [], ◌∷◌, ◌++◌, codes, map, filter, length, reverse, Option, Some, refl, sym, ap, ◌∙◌, subst, arith, append_assoc, append-nil}
 use Rattle.std.specs.Prelude.{slice_get, is_some}
 use Rattle.std.specs.Fmt.{decimal}
-use Rattle.std.specs.List.{All, AllByRecursion, flat_map, enumerate_from}
+use Rattle.std.specs.List.{All, AllByRecursion, flat_map}
 use Rattle.std.proofs.lemmas.Bool.Decides.{nat_tests}
 use Rattle.std.proofs.lemmas.List.Elements.{recursion_from_All}
 use Rattle.meter_address.specs.declared.commission.Mode.{Mode}
 use Rattle.meter_address.specs.declared.address.Address.{Address}
 use Rattle.command_queue.specs.declared.command.Command.{Command}
 use Rattle.stranger_ring.specs.declared.strangers.Heard.{Heard}
-use Rattle.stranger_ring.specs.Ring.{ring_of}
 use Rattle.meter_slots.specs.declared.entry.Entry.{Entry}
 use Rattle.meter_slots.specs.declared.reading.Reading.{Reading}
 use Rattle.meter_slots.specs.Journal.{SlotView, last_counter, readings}
@@ -20,8 +19,7 @@ use Rattle.plain_text.specs.Parts.{fields_of}
 use Rattle.report_text.specs.declared.lent.ReceiverEnd.{ReceiverEnd}
 use Rattle.report_text.specs.Orders.{lines_in}
 use Rattle.report_text.specs.OrdersLaw.{IsCounted, place_of_step, place_of_stranger, order_of}
-use Rattle.report_text.specs.Outcomes.{outcome_text}
-use Rattle.report_text.specs.Report.{receiver_text, commission_text, numbers_text, step_text, readings_after, steps_text, last_text, pending_text, journal_text, orders_now, meter_text, stranger_text, ring_text, strangers_text, report_text}
+use Rattle.report_text.specs.Report.{commission_text, numbers_text, step_text, readings_after, steps_text, last_text, pending_text, journal_text, orders_now, meter_text, stranger_text, strangers_text, report_text}
 use Rattle.report_text.proofs.LineWalks.{IsWithout, ◌⌢◌, literal, first_line, IsOther, Others}
 use Rattle.report_text.proofs.LinePieces.{worded_number, worded_two}
 use Rattle.report_text.proofs.LineOutcomes.{outcome_is}

@@ -5,7 +5,7 @@ use Rattle.std.proofs.lemmas.List.{take_more, take-append-drop}
 use Rattle.std.proofs.Math.Seq.{take-length}
 use Rattle.outer_io.specs.declared.sources.Source as sources
 use Rattle.outer_io.specs.Each.{Each, EachWith, PassUntil, IsFirst}
-use Rattle.outer_io.specs.Shown.{Change, SourceShown, source_change, ReadFailed, LosesNothing}
+use Rattle.outer_io.specs.Shown.{source_change, ReadFailed, LosesNothing}
 use Rattle.audit_check_main.specs.Run.{IsReadPast, source_changes}
 
 -- ---- lists
@@ -14,7 +14,7 @@ each_append : {A : Type 0} (P : A → Type 0) (xs ys : List A) → Each P xs →
 each_append P [] ys h k = k
 each_append P (x ∷ xs) ys h k = (h.0, each_append P xs ys h.1 k)
 
-each_with_push : {A B : Type 0} (P : A → B → Type 0) (xs : List A) (ys : List B) (x : A) (y : B) → EachWith P xs ys → P x y
+pub each_with_push : {A B : Type 0} (P : A → B → Type 0) (xs : List A) (ys : List B) (x : A) (y : B) → EachWith P xs ys → P x y
     → EachWith P (xs ++ x ∷ []) (ys ++ y ∷ [])
 each_with_push P [] [] x y h k = (k, tt)
 each_with_push P [] (b ∷ ys) x y h k = absurd h

@@ -1,3 +1,4 @@
+pub mod Claimed
 pub mod Compared
 pub mod HeardLists
 pub mod InForm

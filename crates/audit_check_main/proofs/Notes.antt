@@ -1,6 +1,5 @@
 -- The strangers' list, noted in the order of a printed list.
-use Rattle.std.proofs.Common.{◌≡◌, ◌==◌, ℕ, ◌+◌, ◌<◌, Bool, true, false, cond, List, [], ◌∷◌, ◌++◌, map, length, take, get_or, Option, Some, None, refl, sym, ap, ◌∙◌, subst, arith}
-use Rattle.std.specs.List.{filter_map}
+use Rattle.std.proofs.Common.{◌≡◌, ℕ, ◌+◌, ◌<◌, Bool, true, false, cond, List, [], ◌∷◌, ◌++◌, map, length, take, get_or, Some, None, refl, sym, ap, ◌∙◌, subst, arith}
 use Rattle.std.proofs.lemmas.List.{length-map}
 use Rattle.std.proofs.Math.Seq.{take-length}
 use Rattle.outer_io.specs.Each.{Each}
@@ -11,34 +10,39 @@ use Rattle.meter_slots.specs.World.{is_commissioned}
 use Rattle.stranger_ring.specs.declared.strangers.Heard.{Heard}
 use Rattle.receivers.specs.declared.told.Told.{Told}
 use Rattle.receivers.specs.declared.told.Told.TheVariants as told
-use Rattle.receivers.specs.Orders.{order_of_strangers, AreOrderedStrangers}
+use Rattle.receivers.specs.Orders.{AreOrderedStrangers}
 use Rattle.receivers.specs.Session.{stranger_at, lines_of_strangers}
 use Rattle.audit_check_main.specs.Hearing.{HeardInput, tells, input_of, told_at}
 use Rattle.audit_check_main.proofs.Steps.{tells_of, all_lines_told, of_all, IsCutAt, cut_at, each_item, item_there, get-map, take_cut, long_take}
 
-abbrev pub HasAddress : Told → Address → Type 0
-HasAddress t address = (event : Event) × (t ≡ told.Event address event)
+-- a line tells something for an address that no meter has
+abbrev pub HasAddress : List Commissioned → Told → Address → Type 0
+HasAddress cs t address = (event : Event) × ((t ≡ told.Event address event) × (is_commissioned cs address ≡ false))
 
-address_if : (b : Bool) (line : ℕ) (address : Address) (event : Event) (p : ℕ × Address) → cond b None (Some (line, address)) ≡ Some p
-    → (p.0 ≡ line) × HasAddress (told.Event address event) p.1
-address_if true line address event p e = absurd cc
-address_if false line address event p e =
-    let same : (line, address) ≡ p =
-    cc in (sym (ap (λ (q : ℕ × Address). q.0) same), (event, ap (λ a. told.Event a event) (ap (λ (q : ℕ × Address). q.1) same)))
+address_if : (cs : List Commissioned) (b : Bool) (line : ℕ) (address : Address) (event : Event) (p : ℕ × Address)
+    → is_commissioned cs address ≡ b → cond b None (Some (line, address)) ≡ Some p
+    → (p.0 ≡ line) × HasAddress cs (told.Event address event) p.1
+address_if cs true line address event p is e = absurd cc
+address_if cs false line address event p is e =
+    let same : (line, address) ≡ p = cc in
+    let address_is = ap (λ (q : ℕ × Address). q.1) same in (
+      sym (ap (λ (q : ℕ × Address). q.0) same),
+      (event, (ap (λ a. told.Event a event) address_is, sym (ap (is_commissioned cs) address_is) ∙ is)),
+    )
 
 address_fits : (cs : List Commissioned) (line : ℕ) (t : Told) (p : ℕ × Address) → stranger_at cs line t ≡ Some p → (p.0 ≡ line)
-    × HasAddress t p.1
-address_fits cs line (told.Event address event) p e = address_if (is_commissioned cs address) line address event p e
+    × HasAddress cs t p.1
+address_fits cs line (told.Event address event) p e = address_if cs (is_commissioned cs address) line address event p refl e
 address_fits cs line told.Unframed p e = absurd cc
 address_fits cs line told.Bad p e = absurd cc
 
 module _ (heard : List HeardInput) (cs : List Commissioned) (order : List (ℕ
     × ℕ)) (target : List Heard) (h : AreOrderedStrangers cs (map tells heard) order target) where
-  note_told : Each (λ (x : Heard). HasAddress (told_at heard x.source x.line) x.address) target
-  note_told = of_all (λ (x : Heard). x.source) (λ (x : Heard). (x.line, x.address)) (λ w p. HasAddress (told_at heard w p.0) p.1) target
-      (λ w. subst (Each (λ (p : ℕ × Address). HasAddress (told_at heard w p.0) p.1))
+  note_told : Each (λ (x : Heard). HasAddress cs (told_at heard x.source x.line) x.address) target
+  note_told = of_all (λ (x : Heard). x.source) (λ (x : Heard). (x.line, x.address)) (λ w p. HasAddress cs (told_at heard w p.0) p.1) target
+      (λ w. subst (Each (λ (p : ℕ × Address). HasAddress cs (told_at heard w p.0) p.1))
       (sym (h.lines w ∙ ap (lines_of_strangers cs) (tells_of heard w)))
-      (all_lines_told (λ l. stranger_at cs l.0 l.1) HasAddress (address_fits cs) (input_of heard w).lines))
+      (all_lines_told (λ l. stranger_at cs l.0 l.1) (HasAddress cs) (address_fits cs) (input_of heard w).lines))
 
   order_long : length order ≡ length target
   order_long = sym (ap length h.in_order) ∙ length-map target (λ (x : Heard). (x.source, x.line))
@@ -52,19 +56,19 @@ module _ (heard : List HeardInput) (cs : List Commissioned) (order : List (ℕ
       ∙ ap (λ (x : Heard). (x.source, x.line)) (item_there target (take i target) k.item k.item k.later i k.cut
       (sym (long_take i target m)))))
 
-  address_there : (i : ℕ) (k : IsCutAt i target) → HasAddress (told_at heard k.item.source k.item.line) k.item.address
+  address_there : (i : ℕ) (k : IsCutAt i target) → HasAddress cs (told_at heard k.item.source k.item.line) k.item.address
   address_there i k =
-      each_item (λ (x : Heard). HasAddress (told_at heard x.source x.line) x.address) (take i target) k.item k.later
-      (subst (Each (λ (x : Heard). HasAddress (told_at heard x.source x.line) x.address)) k.cut note_told)
+      each_item (λ (x : Heard). HasAddress cs (told_at heard x.source x.line) x.address) (take i target) k.item k.later
+      (subst (Each (λ (x : Heard). HasAddress cs (told_at heard x.source x.line) x.address)) k.cut note_told)
 
   pub noted_told : (i : ℕ) (pair : ℕ × ℕ) → i < length order → pair ≡ get_or order i (0, 0) → (address : Address)
-      × HasAddress (told_at heard pair.0 pair.1) address
+      × HasAddress cs (told_at heard pair.0 pair.1) address
   noted_told i pair inside is =
       let l = order_long in
       let k = cut_at i target (omega arith) in
       let e = address_there i k in
       let same = pair_is i pair k inside is in
-      (k.item.address, (e.0, (λ j. told_at heard (same j).0 (same j).1) ∙ e.1))
+      (k.item.address, (e.0, ((λ j. told_at heard (same j).0 (same j).1) ∙ e.1.0, e.1.1)))
 
   pub note_more : (i : ℕ) (pair : ℕ × ℕ) (address : Address) (event : Event) (heard_so : List Heard) → i < length order
       → pair ≡ get_or order i (0, 0) → heard_so ≡ take i target
@@ -77,7 +81,7 @@ module _ (heard : List HeardInput) (cs : List Commissioned) (order : List (ℕ
       let same = pair_is i pair k inside is in
       let e = address_there i k in
       let both : told.Event address event ≡ told.Event k.item.address e.0 =
-      sym tells_event ∙ ((λ j. told_at heard (same j).0 (same j).1) ∙ e.1) in
+      sym tells_event ∙ ((λ j. told_at heard (same j).0 (same j).1) ∙ e.1.0) in
       let address_is : address ≡ k.item.address = cc in
       (λ j. so j ++ record { source = (same j).0; line = (same j).1; address = address_is j } ∷ [])
       ∙ take_cut target i k.item k.later m k.cut

@@ -1,8 +1,8 @@
 -- At most one verdict holds of a report.
-use Rattle.std.proofs.Common.{◌≡◌, ◌==◌, ℕ, zero, suc, ◌+◌, ◌<◌, ◌≤◌, Bool, true, false, cond, List, [], ◌∷◌, ◌++◌, map, filter, length, take, get_or, reverse, Option, Some, None, Result, Ok, Err, IfOk, inl, inr, ⊎_elim, refl, sym, ap, ◌∙◌, subst, arith, append_assoc, append-nil, length-append}
+use Rattle.std.proofs.Common.{◌≡◌, ◌==◌, ℕ, zero, suc, ◌+◌, ◌<◌, ◌≤◌, Bool, true, false, cond, List, [], ◌∷◌, ◌++◌, map, filter, length, take, get_or, reverse, Result, Ok, Err, IfOk, ⊎_elim, refl, sym, ap, ◌∙◌, subst, arith, append_assoc, append-nil, length-append}
 use Rattle.std.specs.List.{slice_get, enumerate_from}
 use Rattle.std.proofs.lemmas.Bool.{cases_lt}
-use Rattle.std.proofs.lemmas.List.{length-map, map-append, take-append-drop}
+use Rattle.std.proofs.lemmas.List.{length-map, map-append}
 use Rattle.std.proofs.lemmas.List.Elements.{filter-append}
 use Rattle.std.proofs.Math.Seq.{take-length}
 use Rattle.outer_io.specs.Each.{Each, EachWith, PassUntil, IsFirst}
@@ -12,7 +12,6 @@ use Rattle.meter_address.specs.Commission.{Commissioned}
 use Rattle.meter_slots.specs.Journal.{SlotView}
 use Rattle.meter_slots.specs.World.{WorldView}
 use Rattle.meter_slots.proofs.JournalLaws.{front_back}
-use Rattle.paper.specs.Filing.{IsFrontOf}
 use Rattle.stranger_ring.specs.declared.strangers.Heard.{Heard}
 use Rattle.receivers.specs.declared.told.Told.{Told}
 use Rattle.receivers.specs.Orders.{order_of, numbers_by, order_of_strangers}
@@ -28,8 +27,8 @@ use Rattle.audit_check_main.specs.declared.verdict.Verdict.{Verdict}
 use Rattle.audit_check_main.specs.declared.verdict.Verdict.TheVariants.{Yes, No}
 use Rattle.audit_check_main.specs.Audit.{Audited, heard_of, report_of, IsReadable, IsInForm, IsOrdered, IsFaithful, IsUnfaithfulAt, IsCause, IsVerdict}
 use Rattle.audit_check_main.specs.Difference.{DiffersAt}
-use Rattle.audit_check_main.specs.Lists.{is_faulty, AreInForm, IsFirstFaulty, as_many, lists_printed}
-use Rattle.audit_check_main.specs.Order.{numbers_for, wanted, AreNext, IsRight, IsWrongAt, IsFirstWrong}
+use Rattle.audit_check_main.specs.Lists.{is_faulty, AreInForm, IsFirstFaulty, lists_printed}
+use Rattle.audit_check_main.specs.Order.{wanted, AreNext, IsRight, IsWrongAt, IsFirstWrong}
 use Rattle.audit_check_main.proofs.ReadLists.{as_many-all}
 use Rattle.audit_check_main.proofs.Slots.{as_many_slots}
 

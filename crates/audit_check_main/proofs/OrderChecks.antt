@@ -1,5 +1,5 @@
 -- A list that is checked pair by pair.
-use Rattle.std.proofs.Common.{◌≡◌, ◌==◌, ℕ, zero, suc, ◌+◌, ◌-◌, ◌<◌, ◌≤◌, not, Bool, true, false, cond, List, [], ◌∷◌, ◌++◌, map, filter, length, take, drop, get_or, set, Option, Some, None, Result, Ok, IfSome, ⊎_elim, refl, sym, ap, ◌∙◌, subst, arith, append_assoc, append-nil, length-append}
+use Rattle.std.proofs.Common.{◌≡◌, ◌==◌, ℕ, zero, suc, ◌+◌, ◌<◌, ◌≤◌, not, Bool, true, false, cond, List, [], ◌∷◌, ◌++◌, map, filter, length, take, drop, get_or, set, Option, Some, None, Result, Ok, IfSome, ⊎_elim, refl, sym, ap, ◌∙◌, subst, arith, append-nil, length-append}
 use Rattle.std.specs.List.{slice_get}
 use Rattle.std.specs.Option.{option_eq}
 use Rattle.std.proofs.Math.ListN.{replicate}
@@ -13,9 +13,9 @@ use mathlib.Core.Logic.{dite}
 use native.Mathlib.Decide.{ℕ_discrete}
 use Rattle.paper.specs.Filing.{IsFrontOf}
 use Rattle.receivers.specs.Orders.{numbers_by}
-use Rattle.audit_check_main.specs.Order.{AreNext, IsRight, IsWrongAt, IsFirstWrong}
+use Rattle.audit_check_main.specs.Order.{AreNext, IsRight, IsWrongAt}
 use Rattle.audit_check_main.specs.Cursors.{taken_of, HaveTaken}
-use Rattle.audit_check_main.specs.Hearing.{HeardInput, no_input, input_of, numbers_in_list}
+use Rattle.audit_check_main.specs.Hearing.{HeardInput, no_input, numbers_in_list}
 
 -- ---- one pair more
 

@@ -1,5 +1,5 @@
 -- The first input that goes past the limits.
-use Rattle.std.proofs.Common.{◌≡◌, ℕ, zero, suc, ◌+◌, ◌<◌, List, [], ◌∷◌, length, take, get_or, true, false, inl, inr, ap, ◌∙◌, sym, subst, arith}
+use Rattle.std.proofs.Common.{◌≡◌, ℕ, zero, suc, ◌+◌, ◌<◌, List, [], ◌∷◌, length, take, get_or, inl, inr, subst, arith}
 use Rattle.std.specs.List.{enumerate_from}
 use Rattle.outer_io.specs.Each.{Each, PassUntil, IsFirst}
 

@@ -1,5 +1,5 @@
 -- The lists of the lines read so far, and one line more.
-use Rattle.std.proofs.Common.{◌≡◌, ℕ, zero, suc, ◌+◌, ◌-◌, ◌^◌, ◌<◌, ◌≤◌, ◌&&◌, ◌||◌, not, nat_le, Bool, true, false, cond, List, [], ◌∷◌, ◌++◌, filter, length, take, get_or, set, reverse, Option, Some, None, Result, Ok, Err, OnOk, refl, sym, ap, ◌∙◌, subst, arith, append_assoc, append-nil, length-append}
+use Rattle.std.proofs.Common.{◌≡◌, ℕ, zero, suc, ◌+◌, ◌-◌, ◌^◌, ◌<◌, ◌≤◌, ◌&&◌, ◌||◌, not, nat_le, Bool, true, false, cond, List, [], ◌∷◌, ◌++◌, filter, length, get_or, set, reverse, Option, Some, None, Result, Ok, Err, OnOk, refl, sym, ap, ◌∙◌, subst, arith, append_assoc, append-nil, length-append}
 use Rattle.std.specs.Prelude.{is_some}
 use Rattle.std.specs.List.{list_all}
 use Rattle.std.specs.Char.{is_ascii_digit}
@@ -11,7 +11,7 @@ use Rattle.std.proofs.lemmas.List.{reverse-reverse}
 use Rattle.meter_slots.proofs.JournalLaws.{front_back}
 use Rattle.plain_text.specs.Numbers.{is_plain, number_of}
 use Rattle.plain_text.specs.Parts.{fields_of}
-use Rattle.report_text.specs.Orders.{Told, Orders, lines_in, pair_in, meter_heading, strangers_heading, with_steps, with_line, told, orders}
+use Rattle.report_text.specs.Orders.{Told, lines_in, pair_in, meter_heading, strangers_heading, with_steps, with_line, told, orders}
 use Rattle.audit_check_main.specs.declared.lists.Open.{Open}
 use Rattle.audit_check_main.specs.declared.lists.Open.TheVariants as opens
 use Rattle.audit_check_main.specs.Lists.{is_meter, is_strangers, is_step, is_stranger, small_number, both, numbers_in, pair_of, open_in, is_meters, is_of_strangers, is_faulty, AreInForm, IsFirstFaulty, as_many, lists_printed}

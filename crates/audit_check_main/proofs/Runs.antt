@@ -1,19 +1,18 @@
 -- A run by its status.
-use Rattle.std.proofs.Common.{◌≡◌, ◌⊎◌, ◌≢◌, ◌==◌, ◌^◌, ℕ, zero, suc, ◌+◌, ◌<◌, ◌≤◌, Bool, true, false, List, [], ◌∷◌, ◌++◌, length, IsTrue, ⊎_elim, refl, sym, ap, ◌∙◌, subst, arith, length-append}
+use Rattle.std.proofs.Common.{◌≡◌, ◌⊎◌, ◌==◌, ◌^◌, ℕ, ◌+◌, ◌<◌, ◌≤◌, Bool, true, false, List, [], ◌∷◌, length, IsTrue, ⊎_elim, refl, sym, ap, ◌∙◌, subst, arith, length-append}
 use Rattle.std.specs.List.{enumerate_from}
 use Rattle.std.proofs.lemmas.List.Sums.{count_by-le-length}
 use Rattle.std.proofs.lemmas.List.Splits.{length-slice_split}
 use Rattle.report_text.specs.Orders.{lines_in}
 use Rattle.outer_io.specs.Bytes.{AppendsFront}
-use Rattle.outer_io.specs.Each.{Each, EachWith, PassUntil, IsFirst}
+use Rattle.outer_io.specs.Each.{Each, PassUntil, IsFirst}
 use Rattle.outer_io.specs.Shown.{Change, SourceShown, SinkShown, ReadFailed, WriteFailed, LosesNothing, IsSilent}
 use Rattle.audit_check_main.specs.declared.status.AuditStatus.{AuditStatus}
 use Rattle.audit_check_main.specs.declared.status.AuditStatus.TheVariants as statuses
 use Rattle.audit_check_main.specs.declared.verdict.Cause.{Cause}
 use Rattle.audit_check_main.specs.declared.verdict.Verdict.{Verdict}
 use Rattle.audit_check_main.specs.declared.verdict.Verdict.TheVariants.{Yes, No}
-use Rattle.audit_check_main.specs.Audit.{Audited, IsVerdict}
-use Rattle.audit_check_main.specs.Run.{Run, are_files, IsReadPast, HasVerdict, IsAnswered, IsUnwritten, IsCausedBy, writes, IsDone, IsTooLong, IsFaultless, IsRun}
+use Rattle.audit_check_main.specs.Run.{Run, are_files, IsReadPast, HasVerdict, IsAnswered, IsUnwritten, IsRun}
 use Rattle.audit_check_main.specs.Statuses.{status_of}
 use Rattle.audit_check_main.specs.Texts.{verdict_text}
 

@@ -1,27 +1,23 @@
 -- A slot, and the strangers' list, stepped in the order of a printed list.
-use Rattle.std.proofs.Common.{◌≡◌, ◌==◌, ℕ, zero, suc, ◌+◌, ◌-◌, ◌<◌, ◌≤◌, Bool, true, false, cond, List, [], ◌∷◌, ◌++◌, map, filter, reverse, length, take, drop, get_or, Option, Some, None, inl, inr, ⊎_elim, refl, sym, ap, ◌∙◌, subst, arith, append_assoc, append-nil, length-append}
+use Rattle.std.proofs.Common.{◌≡◌, ◌==◌, ℕ, zero, suc, ◌+◌, ◌-◌, ◌<◌, Bool, true, false, cond, List, [], ◌∷◌, ◌++◌, map, filter, reverse, length, take, get_or, Option, Some, None, refl, sym, ap, ◌∙◌, subst, arith, append_assoc, length-append}
 use Rattle.std.specs.List.{slice_get, filter_map, cons_option, enumerate_from}
 use Rattle.std.proofs.lemmas.Bool.Decides.{nat_tests}
 use Rattle.std.proofs.lemmas.List.{take_more, length-map}
 use Rattle.std.proofs.Math.Seq.{take-length}
-use Rattle.outer_io.specs.Each.{Each, EachWith}
+use Rattle.outer_io.specs.Each.{Each}
 use Rattle.meter_address.specs.declared.address.Address.{Address}
 use Rattle.meter_address.specs.Commission.{Commissioned}
 use Rattle.meter_slots.specs.declared.entry.Entry.{Entry}
 use Rattle.meter_slots.specs.declared.entry.Event.{Event}
 use Rattle.meter_slots.specs.declared.entry.Outcome.{Outcome}
 use Rattle.meter_slots.specs.Journal.{SlotView, Legal, outcome}
-use Rattle.meter_slots.specs.World.{is_commissioned}
 use Rattle.meter_slots.proofs.JournalLaws.{judged_at}
-use Rattle.stranger_ring.specs.declared.strangers.Heard.{Heard}
 use Rattle.receivers.specs.declared.told.Told.{Told}
 use Rattle.receivers.specs.declared.told.Told.TheVariants as told
-use Rattle.receivers.specs.Orders.{order_of, numbers_by, IsOrderOf, IsOrderedSlot, order_of_strangers, IsOrderOfStrangers, AreOrderedStrangers}
-use Rattle.receivers.specs.Session.{heard_from, heard_by, event_at, lines_for, stranger_at, lines_of_strangers, entries_by, steps_by, notes_by, IsMetersSlot}
+use Rattle.receivers.specs.Orders.{IsOrderedSlot}
+use Rattle.receivers.specs.Session.{heard_from, heard_by, event_at, lines_for}
 use Rattle.receivers.specs.Told.{told_of}
-use Rattle.receivers.proofs.OrderLaws.{slot_exists, strangers_exist}
 use Rattle.audit_check_main.specs.Hearing.{HeardInput, tells, no_input, input_of, told_by_text, told_at}
-use Rattle.audit_check_main.specs.Stepping.{AreOrderedSlots, IsOrderOfEach}
 
 -- ---- receivers by their numbers
 
@@ -55,7 +51,7 @@ tells_of heard (suc v) = heard_suc v (map tells heard) ∙ tells_at heard v
 
 -- ---- what the lines of a list tell
 
-get_there : (front : List (List ℕ)) (x : List ℕ) (rest : List (List ℕ)) (n : ℕ) → n ≡ length front
+pub get_there : (front : List (List ℕ)) (x : List ℕ) (rest : List (List ℕ)) (n : ℕ) → n ≡ length front
     → slice_get (front ++ x ∷ rest) n ≡ Some x
 get_there front x rest n e = ap (slice_get (front ++ x ∷ rest)) e ∙ at front
   where
@@ -159,29 +155,35 @@ long_take (suc i) (x ∷ xs) h = ap suc (long_take i xs (omega arith))
 
 -- ---- a meter's slot
 
-abbrev pub HasEvent : Told → Event → Type 0
-HasEvent t event = (address : Address) × (t ≡ told.Event address event)
+-- a line tells this for an address
+abbrev pub HasEvent : Address → Told → Event → Type 0
+HasEvent a t event = (address : Address) × ((t ≡ told.Event address event) × (a.0 ≡ address.0))
 
-event_if : (b : Bool) (line : ℕ) (address : Address) (event : Event) (p : ℕ × Event) → cond b (Some (line, event)) None ≡ Some p
-    → (p.0 ≡ line) × HasEvent (told.Event address event) p.1
-event_if true line address event p e =
-    let same : (line, event) ≡ p =
-    cc in (sym (ap (λ (q : ℕ × Event). q.0) same), (address, ap (told.Event address) (ap (λ (q : ℕ × Event). q.1) same)))
-event_if false line address event p e = absurd cc
+same_address : (a b : ℕ) → (a == b) ≡ true → a ≡ b
+same_address a b h = grind (arith, nat_tests)
 
-event_fits : (a : Address) (line : ℕ) (t : Told) (p : ℕ × Event) → event_at a line t ≡ Some p → (p.0 ≡ line) × HasEvent t p.1
-event_fits a line (told.Event address event) p e = event_if (a.0 == address.0) line address event p e
+event_if : (a : Address) (b : Bool) (line : ℕ) (address : Address) (event : Event) (p : ℕ × Event) → (a.0 == address.0) ≡ b
+    → cond b (Some (line, event)) None ≡ Some p → (p.0 ≡ line) × HasEvent a (told.Event address event) p.1
+event_if a true line address event p is e =
+    let same : (line, event) ≡ p = cc in (
+      sym (ap (λ (q : ℕ × Event). q.0) same),
+      (address, (ap (told.Event address) (ap (λ (q : ℕ × Event). q.1) same), same_address a.0 address.0 is)),
+    )
+event_if a false line address event p is e = absurd cc
+
+event_fits : (a : Address) (line : ℕ) (t : Told) (p : ℕ × Event) → event_at a line t ≡ Some p → (p.0 ≡ line) × HasEvent a t p.1
+event_fits a line (told.Event address event) p e = event_if a (a.0 == address.0) line address event p refl e
 event_fits a line told.Unframed p e = absurd cc
 event_fits a line told.Bad p e = absurd cc
 
 module _ (own : Address) (heard : List HeardInput) (c : Commissioned) (order : List (ℕ
     × ℕ)) (target : SlotView) (h : IsOrderedSlot own (map tells heard) c order target) where
-  entry_told : Each (λ (x : Entry). HasEvent (told_at heard x.source x.line) x.event) target.journal
+  entry_told : Each (λ (x : Entry). HasEvent c.address (told_at heard x.source x.line) x.event) target.journal
   entry_told =
-      of_all (λ (x : Entry). x.source) (λ (x : Entry). (x.line, x.event)) (λ w p. HasEvent (told_at heard w p.0) p.1) target.journal
-      (λ w. subst (Each (λ (p : ℕ × Event). HasEvent (told_at heard w p.0) p.1))
+      of_all (λ (x : Entry). x.source) (λ (x : Entry). (x.line, x.event)) (λ w p. HasEvent c.address (told_at heard w p.0) p.1) target.journal
+      (λ w. subst (Each (λ (p : ℕ × Event). HasEvent c.address (told_at heard w p.0) p.1))
       (sym (h.meters.lines w ∙ ap (lines_for c.address) (tells_of heard w)))
-      (all_lines_told (λ l. event_at c.address l.0 l.1) HasEvent (event_fits c.address) (input_of heard w).lines))
+      (all_lines_told (λ l. event_at c.address l.0 l.1) (HasEvent c.address) (event_fits c.address) (input_of heard w).lines))
 
   order_long : length order ≡ length target.journal
   order_long = sym (ap length h.in_order) ∙ length-map target.journal (λ (x : Entry). (x.source, x.line))
@@ -196,19 +198,19 @@ module _ (own : Address) (heard : List HeardInput) (c : Commissioned) (order : L
       ∙ ap (λ (x : Entry). (x.source, x.line)) (item_there target.journal (take i target.journal) k.item k.item k.later i k.cut
       (sym (long_take i target.journal m)))))
 
-  event_there : (i : ℕ) (k : IsCutAt i target.journal) → HasEvent (told_at heard k.item.source k.item.line) k.item.event
+  event_there : (i : ℕ) (k : IsCutAt i target.journal) → HasEvent c.address (told_at heard k.item.source k.item.line) k.item.event
   event_there i k =
-      each_item (λ (x : Entry). HasEvent (told_at heard x.source x.line) x.event) (take i target.journal) k.item k.later
-      (subst (Each (λ (x : Entry). HasEvent (told_at heard x.source x.line) x.event)) k.cut entry_told)
+      each_item (λ (x : Entry). HasEvent c.address (told_at heard x.source x.line) x.event) (take i target.journal) k.item k.later
+      (subst (Each (λ (x : Entry). HasEvent c.address (told_at heard x.source x.line) x.event)) k.cut entry_told)
 
   pub step_told : (i : ℕ) (pair : ℕ × ℕ) → i < length order → pair ≡ get_or order i (0, 0) → (event : Event)
-      × HasEvent (told_at heard pair.0 pair.1) event
+      × HasEvent c.address (told_at heard pair.0 pair.1) event
   step_told i pair inside is =
       let l = order_long in
       let k = cut_at i target.journal (omega arith) in
       let e = event_there i k in
       let same = pair_is i pair k inside is in
-      (k.item.event, (e.0, (λ j. told_at heard (same j).0 (same j).1) ∙ e.1))
+      (k.item.event, (e.0, ((λ j. told_at heard (same j).0 (same j).1) ∙ e.1.0, e.1.1)))
 
   pub step_more : (i : ℕ) (pair : ℕ × ℕ) (address : Address) (event : Event) (answer : Outcome) (journal : List Entry) → i < length order
       → pair ≡ get_or order i (0, 0) → journal ≡ take i target.journal
@@ -221,7 +223,7 @@ module _ (own : Address) (heard : List HeardInput) (c : Commissioned) (order : L
       let same = pair_is i pair k inside is in
       let e = event_there i k in
       let both : told.Event address event ≡ told.Event e.0 k.item.event =
-      sym tells_event ∙ ((λ j. told_at heard (same j).0 (same j).1) ∙ e.1) in
+      sym tells_event ∙ ((λ j. told_at heard (same j).0 (same j).1) ∙ e.1.0) in
       let event_is : event ≡ k.item.event = cc in
       let legal = judged_at c own (take i target.journal) k.item k.later (subst (Legal c own) k.cut h.meters.legal) in
       let answer_is : answer ≡ k.item.outcome = answered ∙ ((λ j. outcome c own (reverse (so j)) (event_is j)) ∙ sym legal.0) in

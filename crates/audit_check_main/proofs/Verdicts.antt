@@ -1,5 +1,5 @@
 -- What the parts of an audit come to.
-use Rattle.std.proofs.Common.{◌≡◌, ℕ, zero, suc, ◌+◌, ◌<◌, ◌≤◌, ◌^◌, ◌&&◌, ◌||◌, Bool, true, false, cond, List, [], ◌∷◌, ◌++◌, map, length, drop, get_or, reverse, Result, Ok, Err, IfOk, refl, sym, ap, ◌∙◌, subst, arith, length-append}
+use Rattle.std.proofs.Common.{◌≡◌, ℕ, zero, suc, ◌+◌, ◌<◌, ◌≤◌, ◌&&◌, ◌||◌, Bool, true, false, cond, List, [], ◌∷◌, ◌++◌, map, length, drop, get_or, reverse, Result, Ok, Err, IfOk, refl, sym, ap, ◌∙◌, subst, arith, length-append}
 use Rattle.std.specs.Prelude.{codes}
 use Rattle.std.specs.Str.{all_ascii_digits}
 use Rattle.std.specs.Str.Parse.{digits_value}
@@ -14,8 +14,8 @@ use Rattle.meter_slots.specs.Journal.{SlotView}
 use Rattle.meter_slots.specs.World.{WorldView}
 use Rattle.stranger_ring.specs.declared.strangers.Heard.{Heard}
 use Rattle.receivers.specs.declared.told.Told.{Told}
-use Rattle.receivers.specs.Orders.{order_of, numbers_by, IsOrderOf, IsOrderOfStrangers, AreOrderedStrangers, order_of_strangers}
-use Rattle.receivers.specs.Session.{heard_by, lines_for, lines_of_strangers, IsMetersSlot, IsSession}
+use Rattle.receivers.specs.Orders.{order_of, numbers_by, IsOrderOfStrangers, AreOrderedStrangers}
+use Rattle.receivers.specs.Session.{heard_by, lines_for, lines_of_strangers, IsSession}
 use Rattle.receivers.specs.Classes.{counts_of}
 use Rattle.receivers.specs.Told.{told_of}
 use Rattle.plain_text.specs.Parts.{fields_of}
@@ -24,18 +24,18 @@ use Rattle.report_text.specs.Orders as text
 use Rattle.report_text.specs.OrdersLaw.{orders_of}
 use Rattle.report_text.specs.Report.{report_text}
 use Rattle.roster_file.specs.Roster.{Enrolled, roster_of}
-use Rattle.audit_check_main.specs.declared.verdict.Cause.{Cause}
 use Rattle.audit_check_main.specs.declared.verdict.Cause.TheVariants as causes
 use Rattle.audit_check_main.specs.declared.verdict.Verdict.{Verdict}
 use Rattle.audit_check_main.specs.declared.verdict.Verdict.TheVariants.{Yes, No}
-use Rattle.audit_check_main.specs.Audit.{Audited, told_in, heard_of, heard_out, report_of, IsReadable, IsInForm, IsOrdered, IsFaithful, IsUnfaithfulAt, IsCause, IsVerdict}
+use Rattle.audit_check_main.specs.Audit.{Audited, told_in, heard_out, report_of, IsReadable, IsInForm, IsOrdered, IsVerdict}
 use Rattle.audit_check_main.specs.Auditing.{IsCompared, IsStepped}
 use Rattle.audit_check_main.specs.Printing.{end_of}
 use Rattle.audit_check_main.specs.Difference.{DiffersAt}
-use Rattle.audit_check_main.specs.Hearing.{HeardInput, heard_input, tells, no_input, input_of, numbers_in_list}
+use Rattle.audit_check_main.specs.Hearing.{HeardInput, IsHeard, AreListed, heard_input, tells, no_input, numbers_in_list}
 use Rattle.audit_check_main.specs.Lists.{AreInForm, as_many, lists_printed}
 use Rattle.audit_check_main.specs.Order.{numbers_for, wanted, IsRight, IsFirstWrong}
-use Rattle.audit_check_main.specs.Stepping.{AreOrderedSlots, IsOrderOfEach}
+use Rattle.audit_check_main.specs.Stepping.{AreOrderedSlots, AreOrders, IsOrderOfEach}
+use Rattle.audit_check_main.proofs.Claimed.{all_told}
 use Rattle.audit_check_main.proofs.ReadLists.{as_many-all}
 use Rattle.audit_check_main.proofs.Slots.{meters_slots, slots_orders, as_many_slots}
 use Rattle.audit_check_main.proofs.Steps.{heard_none, heard_suc}
@@ -125,6 +125,41 @@ module _ (cs : List Commissioned) (inputs : List (List ℕ)) (within : Each (λ 
       ∙ (ap (λ n. get_or (map (own_numbers all w) cs ++ map (λ l. l.0) (lines_of_strangers cs (heard_by w all)) ∷ []) n [])
       (sym (length-map cs (own_numbers all w)))
       ∙ last_there (map (own_numbers all w) cs) (map (λ l. l.0) (lines_of_strangers cs (heard_by w all))) [])
+
+-- where all lists are right by what all inputs told, each is an order of its lines
+pub orders_are : (cs : List Commissioned) (inputs : List (List ℕ)) (before heard : List HeardInput) (lists : List (List (ℕ × ℕ)))
+    → Each (λ input. is_over input ≡ false) inputs → before ≡ heard → heard ≡ map (heard_input cs) inputs → length lists ≡ length cs + 1
+    → ((k : ℕ) → k < length lists → IsRight (numbers_in_list before k) (get_or lists k [])) → AreOrders cs heard lists
+orders_are cs inputs before heard lists within same heard_is long right =
+    let right_there =
+    subst (λ (h : List HeardInput). (k : ℕ) → k < length lists → IsRight (numbers_in_list h k) (get_or lists k [])) (same ∙ heard_is) right in
+    subst (λ (h : List HeardInput). AreOrders cs h lists) (sym heard_is) (record {
+      meters_lists = orders_right cs inputs within lists long right_there;
+      strangers_list = strangers_right cs inputs within lists long right_there;
+    })
+
+-- the same by claims, where each line is one of the list that names it
+pub claimed_are : {E : Type 0} (result : Result Verdict E) (cs : List Commissioned) (directory : List Address) (inputs : List (List ℕ))
+    (heard : List HeardInput) (lists : List (List (ℕ × ℕ))) (P : Verdict → Type 0) → directory ≡ map (λ c. c.address) cs
+    → Each (λ input. is_over input ≡ false) inputs → EachWith (IsHeard cs) inputs heard → length lists ≡ length cs + 1
+    → ((k : ℕ) → k < length lists → IsRight (numbers_in_list heard k) (get_or lists k []))
+    → IfOk result (λ v. AreListed directory heard lists) → IfOk result (λ v. AreOrders cs heard lists → P v)
+    → IfOk result (λ v. (heard ≡ map (heard_input cs) inputs) × P v)
+claimed_are (Err e) cs directory inputs heard lists P same within h long right listed stepped = tt
+claimed_are (Ok v) cs directory inputs heard lists P same within h long right listed stepped =
+    let heard_is = all_told cs inputs heard lists h long right (subst (λ d. AreListed d heard lists) same listed) in
+    (heard_is, stepped (orders_are cs inputs heard heard lists within refl heard_is long right))
+
+-- the same where all was heard as it is
+pub told_are : {E F : Type 0} (found : Result Verdict E) (result : Result Verdict F) (P : Verdict → Type 0)
+    → ((v : Verdict) → result ≡ Ok v → found ≡ Ok v) → IfOk found P → IfOk result P
+told_are found (Err e) P same h = tt
+told_are found (Ok v) P same h = subst (λ r. IfOk r P) (same v refl) h
+
+pub if_orders : {E : Type 0} (result : Result Verdict E) (Q R : Type 0) (P : Verdict → Type 0) → R → Q → IfOk result (λ v. Q → P v)
+    → IfOk result (λ v. R × P v)
+if_orders (Err e) Q R P r q h = tt
+if_orders (Ok v) Q R P r q h = (r, h q)
 
 -- ---- as many lists as there are meters, and one
 
@@ -259,13 +294,15 @@ module _ (r : Enrolled) (text report : List ℕ) (inputs : List (List ℕ)) (ros
       compared_is (No (causes.Order list place)) h = absurd h
 
     pub stepped_is : {E : Type 0} (result : Result Verdict E) (own : Address) (meters : List Commissioned) (heard : List HeardInput)
-        → own ≡ r.own → meters ≡ r.meters → heard ≡ map (heard_input r.meters) inputs
-        → IfOk result (IsStepped own meters heard lists report) → IfOk result (IsVerdict audited)
-    stepped_is (Err e) own meters heard own_is meters_are heard_is h = tt
-    stepped_is (Ok verdict) own meters heard own_is meters_are heard_is h =
+        → own ≡ r.own → meters ≡ r.meters
+        → IfOk result (λ v. (heard ≡ map (heard_input meters) inputs) × IsStepped own meters heard lists report v)
+        → IfOk result (IsVerdict audited)
+    stepped_is (Err e) own meters heard own_is meters_are h = tt
+    stepped_is (Ok verdict) own meters heard own_is meters_are h =
+        let heard_is = subst (λ m. heard ≡ map (heard_input m) inputs) meters_are h.0 in
         let there = subst (λ o. IsStepped o r.meters (map (heard_input r.meters) inputs) lists report verdict) own_is
         (subst (λ m. IsStepped own m (map (heard_input r.meters) inputs) lists report verdict) meters_are
-        (subst (λ k. IsStepped own meters k lists report verdict) heard_is h)) in
+        (subst (λ k. IsStepped own meters k lists report verdict) heard_is h.1)) in
         compared_is there.slots there.strangers there.so there.noted verdict there.compared
 
 -- the verdict of each roster's text

@@ -1,5 +1,5 @@
 -- What the audit of a printed session answers.
-use Rattle.std.specs.Prelude.{ℕ, ◌≡◌, false, true, List, length, map, reverse, Result, Ok, Err}
+use Rattle.std.specs.Prelude.{ℕ, ◌≡◌, false, true, List, length, map, reverse, Ok, Err}
 use Rattle.outer_io.specs.Each.{Each, IsFirst}
 use Rattle.line_reader.specs.Lines.{is_over, all_lines}
 use Rattle.meter_address.specs.declared.address.Address.{Address}

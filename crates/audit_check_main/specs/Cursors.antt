@@ -1,5 +1,5 @@
 -- Words of private contracts: a list that is checked pair by pair.
-use Rattle.std.specs.Prelude.{ℕ, zero, suc, ◌≡◌, ◌≤◌, List, ◌∷◌, length, take, slice_index_or}
+use Rattle.std.specs.Prelude.{ℕ, zero, suc, ◌≡◌, ◌≤◌, List, length, take, slice_index_or}
 use Rattle.receivers.specs.Orders.{numbers_by}
 
 -- how many lines of the receiver with this number were taken

@@ -1,5 +1,5 @@
 -- Words of private contracts: what inputs told.
-use Rattle.std.specs.Prelude.{ℕ, zero, suc, ◌≡◌, ◌-◌, List, [], ◌∷◌, ◌++◌, length, count_by, map, ◌==◌, slice_get, slice_index_or, slice_set, Option, Some, None}
+use Rattle.std.specs.Prelude.{ℕ, zero, suc, ◌≡◌, ◌≤◌, ◌<◌, ◌+◌, ◌-◌, nat_lt, if◌then◌else◌, Bool, true, false, List, [], ◌∷◌, ◌++◌, length, count_by, map, ◌==◌, slice_get, slice_index_or, slice_set, Option, Some, None}
 use Rattle.std.specs.List.{position_or_len}
 use Rattle.std.specs.Str.Lines.{lines}
 use Rattle.meter_address.specs.declared.address.Address.{Address}
@@ -8,9 +8,13 @@ use Rattle.meter_slots.specs.declared.counts.Counts.{Counts}
 use Rattle.receivers.specs.declared.told.Told.{Told}
 use Rattle.receivers.specs.declared.told.Told.TheVariants as told
 use Rattle.receivers.specs.declared.class.Class.{Class}
+use Rattle.receivers.specs.declared.class.Class.TheVariants as classes
 use Rattle.receivers.specs.Classes.{counts_of, is_own, is_strange, is_unframed, is_bad}
 use Rattle.receivers.specs.Receiver.{no_counts}
 use Rattle.receivers.specs.Told.{told_of}
+use Rattle.outer_io.specs.Each.{Each}
+use Rattle.audit_check_main.specs.declared.hearing.Sort.{Sort}
+use Rattle.audit_check_main.specs.declared.hearing.Sort.TheVariants as sorts
 use Rattle.audit_check_main.specs.Order.{numbers_for}
 
 -- the lines of an input, the numbers of its lines for each list, and its counts
@@ -48,15 +52,40 @@ told_by_text (Some text) = told_of text
 abbrev pub told_at : List HeardInput → (w line : ℕ) → Told
 told_at heard w line = told_by_text (slice_get (input_of heard w).lines (line - 1))
 
+-- ---- lines that are noted
+
 -- the lists with a number more at the end of the one at this place
 abbrev pub with_number : ℕ → ℕ → List (List ℕ) → List (List ℕ)
 with_number list line lists = slice_set lists list (slice_index_or lists list [] ++ line ∷ [])
 
--- the lists after one more line: that of the meter that the line is for has its number, or the strangers', which is the last one
-abbrev pub noted : List Address → ℕ → Told → List (List ℕ) → List (List ℕ)
-noted directory line (told.Event address event) lists = with_number (position_or_len (λ a. a.0 == address.0) directory) line lists
-noted directory line told.Unframed lists = lists
-noted directory line told.Bad lists = lists
+-- what a line is by what it tells: one of its meter's list, or of the strangers', which is the last one
+abbrev pub sort_of : List Address → Told → Sort
+sort_of directory (told.Event address event) = sorts.Listed (position_or_len (λ a. a.0 == address.0) directory)
+sort_of directory told.Unframed = sorts.Unframed
+sort_of directory told.Bad = sorts.Bad
+
+abbrev pub is_listed : Sort → Bool
+is_listed (sorts.Listed list) = true
+is_listed sorts.Unframed = false
+is_listed sorts.Bad = false
+
+-- the number of the list that a line is one of, 0 where there is none
+abbrev pub list_in : Sort → ℕ
+list_in (sorts.Listed list) = list
+list_in sorts.Unframed = 0
+list_in sorts.Bad = 0
+
+-- the class of a line, by the number of the meters
+abbrev pub class_in : ℕ → Sort → Class
+class_in meters (sorts.Listed list) = if nat_lt list meters then classes.Own else classes.Strange
+class_in meters sorts.Unframed = classes.Unframed
+class_in meters sorts.Bad = classes.Bad
+
+-- the lists after one more line: the one that it is one of has its number
+abbrev pub noted : Sort → ℕ → List (List ℕ) → List (List ℕ)
+noted (sorts.Listed list) line lists = with_number list line lists
+noted sorts.Unframed line lists = lists
+noted sorts.Bad line lists = lists
 
 -- how many of some lines are in each class
 abbrev pub counts_in : List Class → Counts
@@ -67,3 +96,28 @@ counts_in classes = record {
   unframed = count_by is_unframed classes;
   bad = count_by is_bad classes;
 }
+
+-- ---- claims
+
+-- the list that claims a line of a receiver, if one does; receivers are counted from 0
+abbrev pub claim_at : List (List (Option ℕ)) → (receiver line : ℕ) → Option ℕ
+claim_at claims receiver line = slice_index_or (slice_index_or claims receiver []) line None
+
+-- each line whose number a list has is one of this list
+abbrev pub AreSorted : List Address → (lines lists : List (List ℕ)) → Type 0
+AreSorted directory lines lists = (list : ℕ) → list ≤ length directory →
+    Each (λ n. sort_of directory (told_by_text (slice_get lines (n - 1))) ≡ sorts.Listed list) (slice_index_or lists list [])
+
+-- what an input is heard to be where lines were claimed: its lines, and what it comes to if they are what was claimed
+pub record IsHeard (commissions : List Commissioned) (input : List ℕ) (h : HeardInput) : Type 0 where
+  pub lines_are : h.lines ≡ lines input
+  pub sorted : AreSorted (map (λ c. c.address) commissions) h.lines h.lists → h ≡ heard_input commissions input
+
+-- each line that one of the first lists names is one of this list
+abbrev pub AreListedBelow : ℕ → List Address → List HeardInput → List (List (ℕ × ℕ)) → Type 0
+AreListedBelow end directory heard lists = (list : ℕ) → list < end →
+    Each (λ p. sort_of directory (told_at heard p.0 p.1) ≡ sorts.Listed list) (slice_index_or lists list [])
+
+-- each line that a meter's list or the strangers' names is one of this list
+abbrev pub AreListed : List Address → List HeardInput → List (List (ℕ × ℕ)) → Type 0
+AreListed directory heard lists = AreListedBelow (length directory + 1) directory heard lists

@@ -1,5 +1,5 @@
 -- Whether a printed list is an order of the lines that it has to have.
-use Rattle.std.specs.Prelude.{ℕ, zero, suc, ◌≡◌, ◌+◌, ◌<◌, ◌≤◌, List, [], ◌∷◌, ◌++◌, length, map, take, slice_index_or}
+use Rattle.std.specs.Prelude.{ℕ, ◌≡◌, ◌+◌, ◌<◌, ◌≤◌, List, [], ◌∷◌, ◌++◌, length, map, take, slice_index_or}
 use Rattle.paper.specs.Filing.{IsFrontOf}
 use Rattle.meter_address.specs.Commission.{Commissioned}
 use Rattle.receivers.specs.declared.told.Told.{Told}

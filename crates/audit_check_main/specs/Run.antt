@@ -1,5 +1,5 @@
 -- A run of the audit: what its sources and its sink showed before and after it, its status, and what is promised of it.
-use Rattle.std.specs.Prelude.{ℕ, ◌≡◌, ◌⊎◌, ◌&&◌, ◌<◌, ◌≤◌, nat_le, Bool, true, false, List, [], ◌∷◌, length, IsTrue}
+use Rattle.std.specs.Prelude.{ℕ, ◌≡◌, ◌&&◌, ◌<◌, ◌≤◌, nat_le, Bool, true, false, List, [], ◌∷◌, length, IsTrue}
 use Rattle.outer_io.specs.Bytes.{Moves, AppendsFront}
 use Rattle.outer_io.specs.Each.{Each, EachWith, IsFirst}
 use Rattle.outer_io.specs.Shown.{Change, SourceShown, SinkShown, source_change, ReadFailed, WriteFailed, LosesNothing, IsSilent}

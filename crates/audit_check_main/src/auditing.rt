@@ -1,19 +1,19 @@
 //! The audit.
-ghost use Rattle.std.specs.Prelude.{◌≡◌, ◌<◌, ◌+◌, ◌^◌, List, [], ℕ, false, true, length, map, reverse, slice_index_or, Ok, IfOk, MatchOption};
-ghost use Rattle.outer_io.specs.Each.{Each, IsFirst};
+ghost use Rattle.std.specs.Prelude.{◌≡◌, ◌<◌, ◌+◌, ◌^◌, List, ℕ, false, true, length, map, reverse, Ok, Err, IfOk, MatchOption};
+ghost use Rattle.outer_io.specs.Each.{Each, EachWith, IsFirst};
 ghost use Rattle.line_reader.specs.Lines.{is_over};
 ghost use Rattle.report_text.specs.Orders.{lines_in, orders};
 ghost use Rattle.roster_file.specs.Enrolled.{IsEnrolled};
 ghost use Rattle.roster_file.specs.Roster.{roster_of};
 ghost use Rattle.audit_check_main.specs.Audit.{IsVerdict};
 ghost use Rattle.meter_address.specs.Address.{AreApart};
-ghost use Rattle.receivers.specs.Orders.{IsOrderOfStrangers};
 ghost use Rattle.audit_check_main.specs.Auditing.{IsStepped};
-ghost use Rattle.audit_check_main.specs.Hearing.{heard_input, tells};
-ghost use Rattle.audit_check_main.specs.Stepping.{IsOrderOfEach};
+ghost use Rattle.audit_check_main.specs.Hearing.{AreListed, IsHeard};
+ghost use Rattle.audit_check_main.specs.Stepping.{AreOrders};
 ghost use Rattle.audit_check_main.specs.Lists.{AreInForm, lists_printed};
 ghost use Rattle.audit_check_main.specs.declared.verdict.Verdict.{Verdict};
 
+use crate::claims::{Claims, claims_of};
 use crate::comparing::Comparing;
 use crate::hearing::{Hearing, hear_all, is_over};
 use crate::input::Input;
@@ -21,6 +21,7 @@ use crate::lists::{ListsFault, read_lists};
 use crate::orders::first_wrong;
 use crate::printed::Order;
 use crate::printing::put_session;
+use crate::stepping::Unmade;
 use crate::verdict::{Cause, Verdict};
 use meter_address::{Address, Commission};
 use meter_slots::Directory;
@@ -50,20 +51,14 @@ fn addresses_of(alloc: Global, meters: &[Commission]) -> Result<Vec<Address>, Me
     Ok(addresses)
 }
 
-// What all inputs tell.
-fn hear_inputs<'a>(
-    alloc: Global,
-    meters: &[Commission],
-    inputs: &'a [Input],
-) -> Result<Vec<Hearing<'a>>, Memory>
+// The directory of the meters.
+fn directory_of(alloc: Global, meters: &[Commission]) -> Result<Directory, Memory>
     requires apart { AreApart (map (λ c. c.address) meters.now) }
     requires few { length meters.now < 2 ^ 32 }
-    requires within { Each (λ input. is_over input ≡ false) inputs.now }
-    ensures { IfOk result (λ heard. heard.items ≡ map (heard_input meters.now) inputs.now) }
+    ensures { IfOk result (λ directory. directory ≡ map (λ c. c.address) meters.now) }
 {
     let addresses = addresses_of(alloc, meters)?;
-    let directory = Directory::new(alloc, addresses.as_slice())?;
-    hear_all(alloc, meters, &directory, inputs)
+    Directory::new(alloc, addresses.as_slice())
 }
 
 // Compares a report with the text of the session of the printed orders.
@@ -71,21 +66,126 @@ fn audit_orders(
     alloc: Global,
     own: Address,
     meters: &[Commission],
+    directory: &Directory,
     report: &[u8],
     heard: &[Hearing<'_>],
     lists: &[Order],
-) -> Result<Verdict, Memory>
+) -> Result<Verdict, Unmade>
+    requires directory { directory.now ≡ map (λ c. c.address) meters.now }
+    requires apart { AreApart directory.now }
     requires long { length lists.now ≡ length meters.now + 1 }
-    requires orders { IsOrderOfEach (map tells heard.now) meters.now lists.now }
-    requires strangers { IsOrderOfStrangers meters.now (map tells heard.now) (slice_index_or lists.now (length meters.now) []) }
-    ensures { IfOk result (IsStepped own meters.now heard.now lists.now report.now) }
+    ensures stepped { IfOk result (λ verdict. AreOrders meters.now heard.now lists.now
+        → IsStepped own meters.now heard.now lists.now report.now verdict) }
+    ensures own_lines { IfOk result (λ verdict. AreListed directory.now heard.now lists.now) }
+    ensures stray { result ≡ Err Unmade.Stray → AreOrders meters.now heard.now lists.now → ⊥ }
 {
     let mut paper = Comparing::new(report);
-    put_session(alloc, own, meters, heard, lists, &mut paper)?;
+    put_session(alloc, own, meters, directory, heard, lists, &mut paper)?;
     Ok(paper.verdict())
 }
 
-// Audits a report whose lists were read.
+// What all inputs are heard to be, where each line is taken to be one of the list that claims it.
+fn hear_claimed<'a>(
+    alloc: Global,
+    meters: &[Commission],
+    directory: &Directory,
+    inputs: &'a [Input],
+    lists: &[Order],
+) -> Result<Vec<Hearing<'a>>, Memory>
+    requires directory { directory.now ≡ map (λ c. c.address) meters.now }
+    requires apart { AreApart directory.now }
+    requires within { Each (λ input. is_over input ≡ false) inputs.now }
+    requires few { length lists.now < 2 ^ 32 }
+    ensures { IfOk result (λ heard. EachWith (IsHeard meters.now) inputs.now heard.items) }
+{
+    let claims = claims_of(alloc, inputs.len(), lists)?;
+    hear_all(alloc, meters, directory, &claims, inputs)
+}
+
+// Audits a report whose lists were read, and looks only at the lines that no list claims and at those that a slot or the strangers take.
+// Where a list isn't right there is no verdict, but a stray line.
+fn audit_claimed(
+    alloc: Global,
+    roster: &Roster,
+    directory: &Directory,
+    report: &[u8],
+    inputs: &[Input],
+    lists: &[Order],
+) -> Result<Verdict, Unmade>
+    requires enrolled { IsEnrolled roster.now }
+    requires directory { directory.now ≡ map (λ c. c.address) roster.now.meters }
+    requires within { Each (λ input. is_over input ≡ false) inputs.now }
+    requires in_form { AreInForm (length roster.now.meters) (reverse (lines_in report.now)) }
+    requires lists { lists.now ≡ lists_printed (length roster.now.meters) (orders report.now) }
+    ensures { IfOk result (λ verdict. (text : List ℕ) → roster_of text ≡ Ok roster.now
+        → IsVerdict (record { roster = text; report = report.now; inputs = inputs.now }) verdict) }
+{
+    let meters = roster.meters();
+    let claimed = hear_claimed(alloc, meters, directory, inputs, lists)?;
+    match first_wrong(alloc, claimed.as_slice(), lists)? {
+        Some(_) => Err(Unmade::Stray),
+        None => audit_orders(
+            alloc,
+            roster.own(),
+            meters,
+            directory,
+            report,
+            claimed.as_slice(),
+            lists,
+        ),
+    }
+}
+
+// The verdict where no line is a stray.
+fn told_verdict(found: Result<Verdict, Unmade>) -> Result<Verdict, Memory>
+    requires { found ≡ Err Unmade.Stray → ⊥ }
+    ensures { (verdict : Verdict) → result ≡ Ok verdict → found ≡ Ok verdict }
+{
+    match found {
+        Ok(verdict) => Ok(verdict),
+        Err(Unmade::Memory) => Err(Memory),
+        Err(Unmade::Stray) => unreachable!(),
+    }
+}
+
+// Audits a report whose lists were read, by what each line tells.
+fn audit_told(
+    alloc: Global,
+    roster: &Roster,
+    directory: &Directory,
+    report: &[u8],
+    inputs: &[Input],
+    lists: &[Order],
+) -> Result<Verdict, Memory>
+    requires enrolled { IsEnrolled roster.now }
+    requires directory { directory.now ≡ map (λ c. c.address) roster.now.meters }
+    requires within { Each (λ input. is_over input ≡ false) inputs.now }
+    requires lines { length (lines_in report.now) < 2 ^ 32 }
+    requires in_form { AreInForm (length roster.now.meters) (reverse (lines_in report.now)) }
+    requires lists { lists.now ≡ lists_printed (length roster.now.meters) (orders report.now) }
+    ensures { IfOk result (λ verdict. (text : List ℕ) → roster_of text ≡ Ok roster.now
+        → IsVerdict (record { roster = text; report = report.now; inputs = inputs.now }) verdict) }
+{
+    let meters = roster.meters();
+    let heard = hear_all(alloc, meters, directory, &Claims::none(alloc), inputs)?;
+    match first_wrong(alloc, heard.as_slice(), lists)? {
+        Some((list, place)) => Ok(Verdict::No(Cause::Order {
+            list: list as u32,
+            place: place as u32,
+        })),
+        None => told_verdict(audit_orders(
+            alloc,
+            roster.own(),
+            meters,
+            directory,
+            report,
+            heard.as_slice(),
+            lists,
+        )),
+    }
+}
+
+// Audits a report whose lists were read: by their claims, or by what each line tells where they claim a line that isn't theirs.
 fn audit_lists(
     alloc: Global,
     roster: &Roster,
@@ -101,20 +201,11 @@ fn audit_lists(
     ensures { IfOk result (λ verdict. (text : List ℕ) → roster_of text ≡ Ok roster.now
         → IsVerdict (record { roster = text; report = report.now; inputs = inputs.now }) verdict) }
 {
-    let heard = hear_inputs(alloc, roster.meters(), inputs)?;
-    match first_wrong(alloc, heard.as_slice(), lists)? {
-        Some((list, place)) => Ok(Verdict::No(Cause::Order {
-            list: list as u32,
-            place: place as u32,
-        })),
-        None => audit_orders(
-            alloc,
-            roster.own(),
-            roster.meters(),
-            report,
-            heard.as_slice(),
-            lists,
-        ),
+    let directory = directory_of(alloc, roster.meters())?;
+    match audit_claimed(alloc, roster, &directory, report, inputs, lists) {
+        Ok(verdict) => Ok(verdict),
+        Err(Unmade::Memory) => Err(Memory),
+        Err(Unmade::Stray) => audit_told(alloc, roster, &directory, report, inputs, lists),
     }
 }
 

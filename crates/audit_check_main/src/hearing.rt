@@ -1,13 +1,14 @@
 //! What an input tells.
-ghost use Rattle.std.specs.Prelude.{◌≡◌, ◌≤◌, ◌<◌, ◌^◌, ◌+◌, ◌==◌, [], ◌∷◌, ◌++◌, false, count_by, length, map, vec_len, slice_set, slice_index_or, IfOk, OnOk};
+ghost use Rattle.std.specs.Prelude.{◌≡◌, ◌≤◌, ◌<◌, ◌^◌, ◌+◌, ◌==◌, [], ◌∷◌, ◌++◌, None, false, count_by, length, map, vec_len, slice_set, slice_index_or, IfOk, OnOk};
 ghost use Rattle.std.specs.List.{position_or_len};
 ghost use Rattle.line_reader.specs.Lines.{is_over};
 ghost use Rattle.meter_address.specs.Address.{AreApart};
 ghost use Rattle.receivers.specs.Told.{told_of};
-ghost use Rattle.outer_io.specs.Each.{Each};
-ghost use Rattle.receivers.specs.Classes.{class_by, is_own, is_strange, is_unframed, is_bad};
-ghost use Rattle.audit_check_main.specs.Hearing.{heard_input, noted, counts_in};
+ghost use Rattle.outer_io.specs.Each.{Each, EachWith};
+ghost use Rattle.receivers.specs.Classes.{is_own, is_strange, is_unframed, is_bad};
+ghost use Rattle.audit_check_main.specs.Hearing.{IsHeard, class_in, counts_in, heard_input, is_listed, list_in, noted, sort_of};
 
+use crate::claims::Claims;
 use crate::input::Input;
 use line_reader::{BYTES_MAX, LINES_MAX, read_line};
 use meter_address::{Address, Commission};
@@ -66,6 +67,17 @@ impl LineNumbers {
     {
         self.numbers.as_slice()
     }
+}
+
+/// What a line of an input is.
+#[derive(Clone, Copy, Debug, PartialEq, Eq)]
+pub enum Sort {
+    /// One of the list with this number: that of a meter, or the strangers' behind those of all meters.
+    Listed(usize),
+    /// Bytes that are no frame.
+    Unframed,
+    /// One outside the grammar.
+    Bad,
 }
 
 /// The lines of an input, the numbers of its lines for each list, and its counts.
@@ -158,8 +170,8 @@ fn empty_lists(alloc: Global, meters: &[Commission]) -> Result<Vec<LineNumbers>,
     Ok(lists)
 }
 
-// The list of an address: that of the meter with this address, or the strangers' behind those of all meters.
-fn list_of(meters: &[Commission], directory: &Directory, address: Address) -> usize
+/// The list of an address: that of the meter with this address, or the strangers' behind those of all meters.
+pub(crate) fn list_of(meters: &[Commission], directory: &Directory, address: Address) -> usize
     requires { directory.now ≡ map (λ c. c.address) meters.now }
     ensures { result ≡ position_or_len (λ a. a.0 == address.0) directory.now }
 {
@@ -169,30 +181,63 @@ fn list_of(meters: &[Commission], directory: &Directory, address: Address) -> us
     }
 }
 
-// Notes what a line tells in the lists, and answers its class.
+// What a line is by what it tells.
+fn sort_of(meters: &[Commission], directory: &Directory, told: Told) -> Sort
+    requires { directory.now ≡ map (λ c. c.address) meters.now }
+    ensures { result ≡ sort_of directory.now told }
+{
+    match told {
+        Told::Event(address, _) => Sort::Listed(list_of(meters, directory, address)),
+        Told::Unframed => Sort::Unframed,
+        Told::Bad => Sort::Bad,
+    }
+}
+
+// What a line is: one of the list that claims it, whatever it tells, or else what it tells.
+fn sort_by(meters: &[Commission], directory: &Directory, claim: Option<u32>, text: &[u8]) -> Sort
+    requires { directory.now ≡ map (λ c. c.address) meters.now }
+    ensures unclaimed { claim ≡ None → result ≡ sort_of directory.now (told_of text.now) }
+    ensures unlisted { is_listed result ≡ false → result ≡ sort_of directory.now (told_of text.now) }
+    ensures within { list_in result ≤ length meters.now }
+{
+    if let Some(list) = claim {
+        if list as usize <= meters.len() {
+            return Sort::Listed(list as usize);
+        }
+    }
+    sort_of(meters, directory, told_of(text))
+}
+
+// The class of the lines of a list.
+fn class_of_list(meters: &[Commission], list: usize) -> Class
+    ensures { result ≡ class_in (length meters.now) (Sort.Listed list) }
+{
+    if list < meters.len() {
+        Class::Own
+    } else {
+        Class::Strange
+    }
+}
+
+// Notes a line of a sort in the lists, and answers its class.
 fn note(
     meters: &[Commission],
-    directory: &Directory,
     lists: &mut Vec<LineNumbers>,
     line: u32,
-    told: Told,
+    sort: Sort,
 ) -> Result<Class, Memory>
-    requires directory { directory.now ≡ map (λ c. c.address) meters.now }
+    requires within { list_in sort ≤ length meters.now }
     requires lists { vec_len lists.old ≡ length meters.now + 1 }
-    ensures class { IfOk result (λ class. class ≡ class_by directory.now told) }
-    ensures lists { OnOk result (lists.new.items ≡ noted directory.now line told lists.old.items) }
+    ensures class { IfOk result (λ class. class ≡ class_in (length meters.now) sort) }
+    ensures lists { OnOk result (lists.new.items ≡ noted sort line lists.old.items) }
 {
-    let address = match told {
-        Told::Event(address, _) => address,
-        Told::Unframed => return Ok(Class::Unframed),
-        Told::Bad => return Ok(Class::Bad),
-    };
-    let list = list_of(meters, directory, address);
-    add_at(lists, list, line)?;
-    if list < meters.len() {
-        Ok(Class::Own)
-    } else {
-        Ok(Class::Strange)
+    match sort {
+        Sort::Listed(list) => {
+            add_at(lists, list, line)?;
+            Ok(class_of_list(meters, list))
+        }
+        Sort::Unframed => Ok(Class::Unframed),
+        Sort::Bad => Ok(Class::Bad),
     }
 }
 
@@ -244,17 +289,21 @@ fn counts_of(classes: &[Class]) -> Counts
     }
 }
 
-/// What an input within the limits tells.
-pub(crate) fn hear<'a>(
+// What an input within the limits is heard to be, where lines are taken to be what claims say of them. The input is that of the receiver
+// at this place.
+fn hear<'a>(
     alloc: Global,
     meters: &[Commission],
     directory: &Directory,
+    claims: &Claims,
+    receiver: usize,
     input: &'a [u8],
 ) -> Result<Hearing<'a>, Memory>
     requires directory { directory.now ≡ map (λ c. c.address) meters.now }
     requires apart { AreApart directory.now }
     requires within { is_over input.now ≡ false }
-    ensures { IfOk result (λ h. h ≡ heard_input meters.now input.now) }
+    ensures heard { IfOk result (IsHeard meters.now input.now) }
+    ensures unclaimed { claims.now ≡ [] → IfOk result (λ h. h ≡ heard_input meters.now input.now) }
 {
     let mut lists = empty_lists(alloc, meters)?;
     let mut lines = Vec::new(alloc);
@@ -263,7 +312,8 @@ pub(crate) fn hear<'a>(
     'lines: while let Some(text) = texts.next() {
         lines.push(text)?;
         let number = lines.len() as u32;
-        classes.push(note(meters, directory, &mut lists, number, told_of(text))?)?;
+        let sort = sort_by(meters, directory, claims.list_of(receiver, number), text);
+        classes.push(note(meters, &mut lists, number, sort)?)?;
     }
     Ok(Hearing {
         lines,
@@ -272,21 +322,24 @@ pub(crate) fn hear<'a>(
     })
 }
 
-/// What all inputs tell.
+/// What all inputs are heard to be, where lines are taken to be what claims say of them: this is what they are if each line is one of the
+/// list that has its number, or if nothing is claimed.
 pub(crate) fn hear_all<'a>(
     alloc: Global,
     meters: &[Commission],
     directory: &Directory,
+    claims: &Claims,
     inputs: &'a [Input],
 ) -> Result<Vec<Hearing<'a>>, Memory>
     requires directory { directory.now ≡ map (λ c. c.address) meters.now }
     requires apart { AreApart directory.now }
     requires within { Each (λ input. is_over input ≡ false) inputs.now }
-    ensures { IfOk result (λ heard. heard.items ≡ map (heard_input meters.now) inputs.now) }
+    ensures heard { IfOk result (λ heard. EachWith (IsHeard meters.now) inputs.now heard.items) }
+    ensures unclaimed { claims.now ≡ [] → IfOk result (λ heard. heard.items ≡ map (heard_input meters.now) inputs.now) }
 {
     let mut heard = Vec::new(alloc);
-    for input in inputs {
-        heard.push(hear(alloc, meters, directory, input.bytes())?)?;
+    for (receiver, input) in inputs.iter().enumerate() {
+        heard.push(hear(alloc, meters, directory, claims, receiver, input.bytes())?)?;
     }
     Ok(heard)
 }

@@ -2,6 +2,7 @@
 #![tactic(auto)]
 
 mod auditing;
+mod claims;
 mod comparing;
 mod hearing;
 mod input;

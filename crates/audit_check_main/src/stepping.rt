@@ -1,13 +1,15 @@
 //! The session of the printed orders: each slot makes its steps in the order that is printed.
-ghost use Rattle.std.specs.Prelude.{◌≡◌, ◌<◌, ◌+◌, List, ℕ, length, map, IfOk, slice_index_or};
+ghost use Rattle.std.specs.Prelude.{◌≡◌, ◌<◌, ◌+◌, List, ℕ, Err, length, map, IfOk, slice_index_or};
+ghost use Rattle.outer_io.specs.Each.{Each};
 ghost use Rattle.receivers.specs.Orders.{IsOrderOf, IsOrderedSlot, IsOrderOfStrangers, AreOrderedStrangers};
 ghost use Rattle.meter_address.specs.Commission.{Commissioned};
-ghost use Rattle.audit_check_main.specs.Hearing.{tells, told_at};
+ghost use Rattle.audit_check_main.specs.Hearing.{sort_of, tells, told_at};
+ghost use Rattle.audit_check_main.specs.Stepping.{IsEventFor};
 
-use crate::hearing::Hearing;
+use crate::hearing::{Hearing, Sort, list_of};
 use crate::printed::Order;
 use meter_address::{Address, Commission};
-use meter_slots::SlotBook;
+use meter_slots::{Directory, SlotBook};
 use outer_io::Memory;
 use receivers::Told;
 use std::alloc::Global;
@@ -26,6 +28,26 @@ fn told_at(heard: &[Hearing<'_>], source: u32, line: u32) -> Told
     }
 }
 
+/// Why no slot, or no session, is made.
+#[derive(Clone, Copy, Debug, PartialEq, Eq)]
+pub enum Unmade {
+    /// A list names a line that isn't one of its own.
+    Stray,
+    /// There is no memory.
+    Memory,
+}
+
+impl From<Memory> for Unmade {
+    ghost use Rattle.std.specs.Prelude.{◌≡◌};
+    ghost use Rattle.audit_check_main.specs.declared.stepping.Unmade.TheVariants.{Memory};
+
+    ghost from_gives = { λ _ e. e ≡ Memory };
+
+    fn from(_: Memory) -> Unmade {
+        Unmade::Memory
+    }
+}
+
 /// The slot of a meter after its own lines, in this order of them.
 pub(crate) fn step_meter(
     alloc: Global,
@@ -33,15 +55,20 @@ pub(crate) fn step_meter(
     commission: Commission,
     heard: &[Hearing<'_>],
     order: &[(u32, u32)],
-) -> Result<SlotBook, Memory>
-    requires { IsOrderOf commission.address (map tells heard.now) order.now }
-    ensures { IfOk result (λ slot. IsOrderedSlot own (map tells heard.now) commission order.now slot) }
+) -> Result<SlotBook, Unmade>
+    ensures slot { IfOk result (λ slot. IsOrderOf commission.address (map tells heard.now) order.now
+        → IsOrderedSlot own (map tells heard.now) commission order.now slot) }
+    ensures own_lines { IfOk result (λ slot. Each (λ p. IsEventFor commission.address (told_at heard.now p.0 p.1)) order.now) }
+    ensures stray { result ≡ Err Unmade.Stray → IsOrderOf commission.address (map tells heard.now) order.now → ⊥ }
 {
     let mut slot = SlotBook::new(alloc, own, commission);
     for pair in order {
-        let Told::Event(_, event) = told_at(heard, pair.0, pair.1) else {
-            unreachable!()
+        let Told::Event(address, event) = told_at(heard, pair.0, pair.1) else {
+            return Err(Unmade::Stray);
         };
+        if address.0 != commission.address.0 {
+            return Err(Unmade::Stray);
+        }
         slot.step(pair.0, pair.1, event)?;
     }
     Ok(slot)
@@ -51,17 +78,25 @@ pub(crate) fn step_meter(
 pub(crate) fn note_strangers(
     alloc: Global,
     meters: &[Commission],
+    directory: &Directory,
     heard: &[Hearing<'_>],
     order: &[(u32, u32)],
-) -> Result<Strangers, Memory>
-    requires { IsOrderOfStrangers meters.now (map tells heard.now) order.now }
-    ensures { IfOk result (λ strangers. AreOrderedStrangers meters.now (map tells heard.now) order.now strangers) }
+) -> Result<Strangers, Unmade>
+    requires { directory.now ≡ map (λ c. c.address) meters.now }
+    ensures strangers { IfOk result (λ strangers. IsOrderOfStrangers meters.now (map tells heard.now) order.now
+        → AreOrderedStrangers meters.now (map tells heard.now) order.now strangers) }
+    ensures own_lines { IfOk result (λ strangers. Each (λ p. sort_of directory.now (told_at heard.now p.0 p.1) ≡ Sort.Listed (length meters.now))
+        order.now) }
+    ensures stray { result ≡ Err Unmade.Stray → IsOrderOfStrangers meters.now (map tells heard.now) order.now → ⊥ }
 {
     let mut strangers = Strangers::new(alloc)?;
     for pair in order {
         let Told::Event(address, _) = told_at(heard, pair.0, pair.1) else {
-            unreachable!()
+            return Err(Unmade::Stray);
         };
+        if list_of(meters, directory, address) < meters.len() {
+            return Err(Unmade::Stray);
+        }
         strangers.note(pair.0, pair.1, address)?;
     }
     Ok(strangers)

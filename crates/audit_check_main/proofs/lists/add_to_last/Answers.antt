@@ -1,4 +1,4 @@
-use Rattle.std.proofs.Common.{◌≡◌, ◌+◌, ◌++◌, ◌∷◌, [], ◌∙◌, ℕ, List, ap, sym, length, set, get_or, arith}
+use Rattle.std.proofs.Common.{◌++◌, ◌∷◌, [], ◌∙◌, ap, set, arith}
 use Rattle.audit_check_main.proofs.ReadLists.{on_ok, set-last}
 use Rattle.audit_check_main.proofs.lists.add_to_last.Goals as goal
 

@@ -1,4 +1,4 @@
-use Rattle.std.proofs.Common.{◌≡◌, ◌+◌, ◌-◌, ◌<◌, ◌∙◌, ◌++◌, ◌∷◌, [], ℕ, Some, ap, sym, length, get_or, set, refl, subst, arith}
+use Rattle.std.proofs.Common.{◌≡◌, ◌+◌, ◌-◌, ◌∙◌, ◌++◌, ◌∷◌, [], ap, sym, set, subst, arith}
 use Rattle.std.specs.List.{slice_get}
 use Rattle.audit_check_main.specs.Cursors.{HaveTaken}
 use Rattle.audit_check_main.specs.Hearing.{numbers_in_list}

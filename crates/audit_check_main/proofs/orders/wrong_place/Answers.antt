@@ -1,4 +1,4 @@
-use Rattle.std.proofs.Common.{◌≡◌, ap, ◌∙◌, sym, refl, length, subst, arith}
+use Rattle.std.proofs.Common.{sym, refl, subst, arith}
 use Rattle.audit_check_main.proofs.OrderChecks.{wrong_at, wrong_end, taken_all, same_place}
 use Rattle.audit_check_main.specs.Cursors.{HaveTaken}
 use Rattle.audit_check_main.specs.Hearing.{numbers_in_list}

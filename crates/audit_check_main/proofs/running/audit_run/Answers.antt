@@ -1,10 +1,10 @@
-use Rattle.std.proofs.Common.{◌≡◌, ◌∙◌, Err, refl, sym, ap, subst, length, map, arith}
+use Rattle.std.proofs.Common.{Err, refl, sym, ap, subst, length, map, arith}
 use Rattle.std.specs.String.{string_bytes}
 use Rattle.outer_io.specs.Shown.{source_change, sink_change}
 use Rattle.audit_check_main.specs.declared.status.AuditStatus.TheVariants as statuses
 use Rattle.audit_check_main.specs.Run.{IsRun, source_changes}
 use Rattle.audit_check_main.proofs.InputReads.{untouched}
-use Rattle.audit_check_main.proofs.Runs.{run_words, run_roster, run_report, run_long, run_read, run_memory, run_found, run_with, read_all_of, read_long_of, lines_few}
+use Rattle.audit_check_main.proofs.Runs.{run_words, run_roster, run_report, run_long, run_read, run_memory, run_with, read_all_of, read_long_of, lines_few}
 use Rattle.audit_check_main.proofs.running.audit_run.Goals as goal
 
 pub returns-in-None-clause-run : goal.returns-in-None-clause-run

@@ -1,17 +1,33 @@
-use Rattle.std.proofs.Common.{◌≡◌, ◌∙◌, ◌++◌, ◌∷◌, [], ℕ, List, map, reverse, refl, sym, ap, subst, arith}
+use Rattle.std.proofs.Common.{◌≡◌, ◌∙◌, ℕ, map, reverse, refl, sym, ap, subst, arith}
 use Rattle.meter_slots.specs.Journal.{SlotView, outcome}
-use Rattle.receivers.specs.Orders.{IsOrderedSlot}
+use Rattle.meter_address.specs.declared.address.Address.{Address}
+use Rattle.meter_address.specs.Commission.{Commissioned}
+use Rattle.receivers.specs.declared.told.Told.TheVariants as told
 use Rattle.receivers.proofs.OrderLaws.{slot_exists}
-use Rattle.audit_check_main.specs.Hearing.{tells}
+use Rattle.audit_check_main.specs.Hearing.{tells, told_at}
+use Rattle.audit_check_main.specs.Stepping.{IsEventFor}
+use Rattle.audit_check_main.proofs.Claimed.{each_more, each_whole}
 use Rattle.audit_check_main.proofs.Steps.{step_told, step_more, all_stepped}
 use Rattle.audit_check_main.proofs.stepping.step_meter.Goals as goal
 
-pub unreachable-requires : goal.unreachable-requires
-unreachable-requires c =
-    let target = slot_exists c.args.own c.args.commission (map tells c.args.heard.now) c.args.order.now c.requires in
+pub returns-in_default-clause-stray : goal.returns-in_default-clause-stray
+returns-in_default-clause-stray c = λ _ right.
+    let target = slot_exists c.args.own c.args.commission (map tells c.args.heard.now) c.args.order.now right in
     let t = step_told c.args.own c.args.heard.now c.args.commission c.args.order.now target.0 target.1 c.loop-pair.pair-index _
     c.loop-pair-test.true refl in
-    c.in_default.not-Event t.1.0 t.0 (c.told_at.ensures ∙ t.1.1)
+    c.in_default.not-Event t.1.0 t.0 (c.told_at.ensures ∙ t.1.1.0)
+
+pub returns-then-address-commission-clause-stray : goal.returns-then-address-commission-clause-stray
+returns-then-address-commission-clause-stray c = λ _ right.
+    let target = slot_exists c.args.own c.args.commission (map tells c.args.heard.now) c.args.order.now right in
+    let t = step_told c.args.own c.args.heard.now c.args.commission c.args.order.now target.0 target.1 c.loop-pair.pair-index _
+    c.loop-pair-test.true refl in
+    let both : told.Event c.in-Event.address c.in-Event.event ≡ told.Event t.1.0 t.0 =
+    sym (sym c.told_at.ensures ∙ c.in-Event.is) ∙ t.1.1.0 in
+    let same : c.in-Event.address ≡ t.1.0 = cc in
+    let opened = ap (λ (m : Commissioned). m.address.0) c.commission.view_is in
+    let there = ap (λ (a : Address). a.0) same in
+    let mine = t.1.1.1 in c.if-address-commission.true (omega arith)
 
 pub loop-pair-preserved : goal.loop-pair-preserved
 loop-pair-preserved c =
@@ -21,17 +37,28 @@ loop-pair-preserved c =
       commission_is = ap (λ (s : SlotView). s.commission) stepped ∙ so.commission_is;
       so = λ target h.
           ap (λ (s : SlotView). s.journal) stepped
-          ∙ step_more c.args.own c.args.heard.now c.args.commission c.args.order.now target h c.loop-pair.pair-index _ c.in-Event.field-0
+          ∙ step_more c.args.own c.args.heard.now c.args.commission c.args.order.now target h c.loop-pair.pair-index _ c.in-Event.address
           c.in-Event.event c.in_ok-step.field-0 c.loop-pair.slot.journal c.loop-pair-test.true refl (so.so target h)
           (sym c.told_at.ensures ∙ c.in-Event.is)
           (c.in_ok-step.ensures.outcome
           ∙ (λ i. outcome (so.commission_is i) (so.own_is i) (reverse c.loop-pair.slot.journal) c.in-Event.event));
+      own_lines =
+          each_more (λ (p : ℕ × ℕ). IsEventFor c.args.commission.address (told_at c.args.heard.now p.0 p.1)) c.args.order.now
+          c.loop-pair.pair-index _ (0, 0) so.own_lines c.loop-pair-test.true refl
+          (subst (IsEventFor c.args.commission.address) (sym c.in-Event.is ∙ c.told_at.ensures)
+          (let opened = ap (λ (m : Commissioned). m.address.0) c.commission.view_is in let same = c.if-address-commission.false in omega arith));
     }
 
-pub returns : goal.returns
-returns c =
-    let target = slot_exists c.args.own c.args.commission (map tells c.args.heard.now) c.args.order.now c.requires in
+pub returns-clause-slot : goal.returns-clause-slot
+returns-clause-slot c = λ right.
+    let target = slot_exists c.args.own c.args.commission (map tells c.args.heard.now) c.args.order.now right in
     let past = c.loop-pair-test.false in let inside = c.loop-pair.auto.pair-index-end in
     let so = c.loop-pair.invariant in
     all_stepped c.args.own c.args.heard.now c.args.commission c.args.order.now target.0 target.1 c.loop-pair.slot c.loop-pair.pair-index
     so.own_is so.commission_is (omega arith) (so.so target.0 target.1)
+
+pub returns-clause-own_lines : goal.returns-clause-own_lines
+returns-clause-own_lines c =
+    let past = c.loop-pair-test.false in let inside = c.loop-pair.auto.pair-index-end in
+    each_whole (λ (p : ℕ × ℕ). IsEventFor c.args.commission.address (told_at c.args.heard.now p.0 p.1)) c.args.order.now
+    c.loop-pair.pair-index (omega arith) c.loop-pair.invariant.own_lines

@@ -1,4 +1,4 @@
-use Rattle.std.proofs.Common.{◌≡◌, ◌++◌, ◌∷◌, [], ◌∙◌, ap, sym, length, arith}
+use Rattle.std.proofs.Common.{◌++◌, ◌∷◌, [], ◌∙◌, ap, sym, length, arith}
 use Rattle.std.proofs.lemmas.List.{length_push}
 use Rattle.audit_check_main.specs.Lists.{as_many}
 use Rattle.audit_check_main.specs.Reading.{ListsRead}

@@ -1,4 +1,4 @@
-use Rattle.std.proofs.Common.{◌≡◌, ◌≤◌, ◌<◌, ◌∙◌, ◌∷◌, ℕ, nat_le, true, false, length, subst, sym, arith}
+use Rattle.std.proofs.Common.{◌≡◌, ◌≤◌, ◌<◌, ◌∙◌, ◌∷◌, ℕ, nat_le, true, false, subst, sym, arith}
 use Rattle.std.proofs.lemmas.Bool.Decides.{nat_tests}
 use Rattle.audit_check_main.specs.Reading.{StandsFor}
 use Rattle.audit_check_main.proofs.ReadLists.{on_ok, after_meter, after_strangers, after_step, after_stranger, after_other, faulty_meter, faulty_strangers, faulty_step, faulty_stranger, faulty_other, step_placed, stranger_placed}

@@ -1,0 +1,190 @@
+-- Lines that lists claim: where each line is one of the list that names it, the inputs are what they were heard to be.
+use Rattle.std.proofs.Common.{◌≡◌, ◌==◌, ◌||◌, ℕ, zero, suc, ◌+◌, ◌<◌, ◌≤◌, not, Bool, true, false, cond, List, [], ◌∷◌, ◌++◌, map, filter, length, take, get_or, Result, Ok, Err, ⊎_elim, refl, sym, ap, ◌∙◌, subst, arith}
+use Rattle.std.specs.List.{list_any, position_or_len}
+use Rattle.std.proofs.lemmas.Bool.{cases_lt}
+use Rattle.std.proofs.lemmas.Bool.Decides.{nat_tests}
+use Rattle.std.proofs.lemmas.List.{take_more, length-map}
+use Rattle.std.proofs.lemmas.List.Sums.{prefix_len-le-length}
+use Rattle.std.proofs.Math.Seq.{take-length}
+use Rattle.outer_io.specs.Each.{Each, EachWith}
+use Rattle.meter_address.specs.declared.address.Address.{Address}
+use Rattle.meter_address.specs.Address.{AreApart}
+use Rattle.meter_address.specs.Commission.{Commissioned}
+use Rattle.meter_slots.specs.declared.entry.Event.{Event}
+use Rattle.receivers.specs.declared.told.Told.{Told}
+use Rattle.receivers.specs.declared.told.Told.TheVariants as told
+use Rattle.receivers.specs.Orders.{numbers_by}
+use Rattle.audit_check_main.specs.declared.hearing.Sort.TheVariants as sorts
+use Rattle.audit_check_main.specs.declared.stepping.Unmade.{Unmade}
+use Rattle.audit_check_main.specs.declared.stepping.Unmade.TheVariants as unmade
+use Rattle.audit_check_main.specs.Hearing.{HeardInput, heard_input, no_input, numbers_in_list, told_at, sort_of, AreSorted, AreListed, AreListedBelow, IsHeard}
+use Rattle.audit_check_main.specs.Order.{IsRight}
+use Rattle.audit_check_main.specs.Stepping.{IsEventFor}
+use Rattle.audit_check_main.proofs.Steps.{get-map}
+
+-- ---- facts on each item of a list
+
+each_push : {X : Type 0} (P : X → Type 0) (xs : List X) (x : X) → Each P xs → P x → Each P (xs ++ x ∷ [])
+each_push P [] x h p = (p, tt)
+each_push P (y ∷ xs) x h p = (h.0, each_push P xs x h.1 p)
+
+pub each_more : {X : Type 0} (P : X → Type 0) (xs : List X) (i : ℕ) (x d : X) → Each P (take i xs) → i < length xs → x ≡ get_or xs i d → P x
+    → Each P (take (i + 1) xs)
+each_more P xs i x d h inside is p =
+    subst (Each P) (ap (λ y. take i xs ++ y ∷ []) is ∙ sym (take_more xs i d inside)) (each_push P (take i xs) x h p)
+
+pub each_whole : {X : Type 0} (P : X → Type 0) (xs : List X) (n : ℕ) → n ≡ length xs → Each P (take n xs) → Each P xs
+each_whole P xs n e h = subst (Each P) (ap (λ m. take m xs) e ∙ take-length xs) h
+
+each_map : {X : Type 0} (P Q : X → Type 0) → ((x : X) → P x → Q x) → (xs : List X) → Each P xs → Each Q xs
+each_map P Q f [] h = tt
+each_map P Q f (x ∷ xs) h = (f x h.0, each_map P Q f xs h.1)
+
+-- ---- a stray line that is handed on
+
+abbrev error_of : {T : Type 0} → Result T Unmade → Unmade
+error_of (Err e) = e
+error_of (Ok x) = unmade.Stray
+
+pub stray_from : {T : Type 0} (r : Result T Unmade) (y e : Unmade) → r ≡ Err y → y ≡ e → r ≡ Err unmade.Stray → e ≡ unmade.Stray
+stray_from r y e is same stray = sym same ∙ ap error_of (sym is ∙ stray)
+
+-- ---- the lists of addresses
+
+or_parts : (x y : Bool) → (x || y) ≡ false → (x ≡ false) × (y ≡ false)
+or_parts true y h = absurd cc
+or_parts false y h = (refl, h)
+
+same_test : (a b : ℕ) → a ≡ b → (a == b) ≡ true
+same_test a b h = grind (arith, nat_tests)
+
+other_test : (a b c : ℕ) → (b == a) ≡ false → b ≡ c → (a == c) ≡ false
+other_test a b c h e = grind (arith, nat_tests)
+
+none_at : (p : Address → Bool) (xs : List Address) (i : ℕ) (d : Address) → list_any p xs ≡ false → i < length xs → p (get_or xs i d) ≡ false
+none_at p [] i d h within = absurd (omega arith)
+none_at p (x ∷ xs) zero d h within = (or_parts (p x) (list_any p xs) h).0
+none_at p (x ∷ xs) (suc i) d h within = none_at p xs i d (or_parts (p x) (list_any p xs) h).1 (omega arith)
+
+-- a meter's address has its place alone
+own_place : (xs : List Address) (k : ℕ) (d : Address) (n : ℕ) → AreApart xs → k < length xs → (get_or xs k d).0 ≡ n
+    → position_or_len (λ a. a.0 == n) xs ≡ k
+own_place [] k d n apart inside is = absurd (omega arith)
+own_place (x ∷ xs) zero d n apart inside is =
+    ap (λ b. cond (not b) (1 + position_or_len (λ (a : Address). a.0 == n) xs) 0) (same_test x.0 n is)
+own_place (x ∷ xs) (suc k) d n apart inside is =
+    let other = other_test x.0 (get_or xs k d).0 n (none_at (λ (b : Address). b.0 == x.0) xs k d apart.0 (omega arith)) is in
+    let rest = own_place xs k d n apart.1 (omega arith) is in
+    ap (λ b. cond (not b) (1 + position_or_len (λ (a : Address). a.0 == n) xs) 0) other
+    ∙ (let e : 1 + position_or_len (λ (a : Address). a.0 == n) xs ≡ suc k = omega arith in e)
+
+-- an address that no meter has stands behind all
+pub strange_place : (a : ℕ) (cs : List Commissioned) → list_any (λ c. c.address.0 == a) cs ≡ false
+    → position_or_len (λ x. x.0 == a) (map (λ (c : Commissioned). c.address) cs) ≡ length cs
+strange_place a [] h = refl
+strange_place a (c ∷ cs) h =
+    let parts = or_parts (c.address.0 == a) (list_any (λ (d : Commissioned). d.address.0 == a) cs) h in
+    let rest = strange_place a cs parts.1 in
+    ap (λ b. cond (not b) (1 + position_or_len (λ (x : Address). x.0 == a) (map (λ (d : Commissioned). d.address) cs)) 0) parts.0
+    ∙ (let e : 1 + position_or_len (λ (x : Address). x.0 == a) (map (λ (d : Commissioned). d.address) cs) ≡ suc (length cs) =
+    omega arith in e)
+
+-- ---- what a line that is stepped or noted is
+
+own_listed : (directory : List Address) (k : ℕ) (a : Address) (t : Told) → AreApart directory → k < length directory
+    → get_or directory k a ≡ a → IsEventFor a t → sort_of directory t ≡ sorts.Listed k
+own_listed directory k a (told.Event address event) apart inside is same =
+    ap sorts.Listed (own_place directory k a address.0 apart inside (ap (λ (x : Address). x.0) is ∙ same))
+own_listed directory k a told.Unframed apart inside is same = absurd same
+own_listed directory k a told.Bad apart inside is same = absurd same
+
+pub strange_listed : (directory : List Address) (n place : ℕ) (t : Told) (address : Address) (event : Event) → t ≡ told.Event address event
+    → place ≡ position_or_len (λ a. a.0 == address.0) directory → n ≡ length directory → n ≤ place → sort_of directory t ≡ sorts.Listed n
+strange_listed directory n place t address event is place_is long past =
+    let most = prefix_len-le-length (λ (x : Address). not (x.0 == address.0)) directory in
+    ap (sort_of directory) is
+    ∙ ap sorts.Listed (let e : position_or_len (λ (a : Address). a.0 == address.0) directory ≡ n = omega arith in e)
+
+-- ---- all lists
+
+module _ (heard : List HeardInput) (lists : List (List (ℕ × ℕ))) where
+  -- one meter more
+  pub listed_more : (cs : List Commissioned) (i : ℕ) (c : Commissioned) (order : List (ℕ × ℕ))
+      → AreApart (map (λ (d : Commissioned). d.address) cs) → i < length cs → c ≡ get_or cs i c → order ≡ get_or lists i []
+      → AreListedBelow i (map (λ d. d.address) cs) heard lists
+      → Each (λ p. IsEventFor c.address (told_at heard p.0 p.1)) order
+      → AreListedBelow (i + 1) (map (λ d. d.address) cs) heard lists
+  listed_more cs i c order apart inside is order_is before own list below = ⊎_elim
+      (λ earlier. before list earlier)
+      (λ past. subst (λ k. Each (IsListed k) (get_or lists k [])) (let e : i ≡ list = omega arith in e) here)
+      (cases_lt list i)
+    where
+      directory : List Address
+      directory = map (λ (d : Commissioned). d.address) cs
+
+      IsListed : ℕ → ℕ × ℕ → Type 0
+      IsListed k p = sort_of (map (λ (d : Commissioned). d.address) cs) (told_at heard p.0 p.1) ≡ sorts.Listed k
+
+      there : get_or (map (λ (d : Commissioned). d.address) cs) i c.address ≡ c.address
+      there = get-map (λ (d : Commissioned). d.address) cs i c.address c inside ∙ ap (λ (d : Commissioned). d.address) (sym is)
+
+      here : Each (IsListed i) (get_or lists i [])
+      here =
+          let few = length-map cs (λ (d : Commissioned). d.address) in
+          subst (Each (IsListed i)) order_is
+          (each_map (λ (p : ℕ × ℕ). IsEventFor c.address (told_at heard p.0 p.1)) (IsListed i)
+          (λ p h. own_listed (map (λ (d : Commissioned). d.address) cs) i c.address (told_at heard p.0 p.1) apart (omega arith) there h)
+          order own)
+
+  -- all meters, and the strangers
+  pub listed_all : (cs : List Commissioned) (directory : List Address) (order : List (ℕ × ℕ)) → directory ≡ map (λ c. c.address) cs
+      → order ≡ get_or lists (length cs) [] → AreListedBelow (length cs) (map (λ c. c.address) cs) heard lists
+      → Each (λ p. sort_of directory (told_at heard p.0 p.1) ≡ sorts.Listed (length cs)) order → AreListed directory heard lists
+  listed_all cs directory order same order_is meters strangers list below = ⊎_elim
+      (λ inside. subst (λ d. Each (IsListed d list) (get_or lists list [])) (sym same) (meters list inside))
+      (λ past. let long : length directory ≡ length cs = ap length same ∙ length-map cs (λ (c : Commissioned). c.address) in
+      subst (λ k. Each (IsListed directory k) (get_or lists k [])) (let e : length cs ≡ list = omega arith in e)
+      (subst (Each (IsListed directory (length cs))) order_is strangers))
+      (cases_lt list (length cs))
+    where
+      IsListed : List Address → ℕ → ℕ × ℕ → Type 0
+      IsListed d k p = sort_of d (told_at heard p.0 p.1) ≡ sorts.Listed k
+
+-- ---- what the inputs are heard to be
+
+is_number : (a b : ℕ) → (a == b) ≡ true → a ≡ b
+is_number a b h = grind (arith, nat_tests)
+
+-- a fact on each pair of a list, told of the numbers of one receiver
+by_receiver : (P : ℕ → ℕ → Type 0) (w : ℕ) (order : List (ℕ × ℕ)) → Each (λ p. P p.0 p.1) order → Each (P w) (numbers_by w order)
+by_receiver P w [] h = tt
+by_receiver P w (p ∷ order) h = at (p.0 == w) refl (by_receiver P w order h.1)
+  where
+    at : (b : Bool) → (p.0 == w) ≡ b → Each (P w) (numbers_by w order)
+        → Each (P w) (map (λ (q : ℕ × ℕ). q.1) (cond b (p ∷ filter (λ (q : ℕ × ℕ). q.0 == w) order) (filter (λ (q : ℕ × ℕ). q.0 == w) order)))
+    at true e rest = (subst (λ v. P v p.1) (is_number p.0 w e) h.0, rest)
+    at false e rest = rest
+
+each_told : (cs : List Commissioned) (inputs : List (List ℕ)) (heard : List HeardInput) → EachWith (IsHeard cs) inputs heard
+    → ((v : ℕ) → AreSorted (map (λ c. c.address) cs) (get_or heard v no_input).lines (get_or heard v no_input).lists)
+    → heard ≡ map (heard_input cs) inputs
+each_told cs [] [] h sorted = refl
+each_told cs [] (x ∷ heard) h sorted = absurd h
+each_told cs (x ∷ inputs) [] h sorted = absurd h
+each_told cs (x ∷ inputs) (y ∷ heard) h sorted =
+    (λ i. h.0.sorted (sorted 0) i ∷ each_told cs inputs heard h.1 (λ v. sorted (suc v)) i)
+
+-- where all lists are right by what was heard, and each line is one of the list that names it, all was heard as it is
+pub all_told : (cs : List Commissioned) (inputs : List (List ℕ)) (heard : List HeardInput) (lists : List (List (ℕ × ℕ)))
+    → EachWith (IsHeard cs) inputs heard → length lists ≡ length cs + 1
+    → ((k : ℕ) → k < length lists → IsRight (numbers_in_list heard k) (get_or lists k []))
+    → AreListed (map (λ c. c.address) cs) heard lists → heard ≡ map (heard_input cs) inputs
+all_told cs inputs heard lists h long right listed = each_told cs inputs heard h sorted
+  where
+    sorted : (v : ℕ) → AreSorted (map (λ (c : Commissioned). c.address) cs) (get_or heard v no_input).lines (get_or heard v no_input).lists
+    sorted v list inside =
+        let few = length-map cs (λ (c : Commissioned). c.address) in
+        subst (Each (λ n. sort_of (map (λ (c : Commissioned). c.address) cs) (told_at heard (suc v) n) ≡ sorts.Listed list))
+        (right list (omega arith) (suc v))
+        (by_receiver (λ w n. sort_of (map (λ (c : Commissioned). c.address) cs) (told_at heard w n) ≡ sorts.Listed list) (suc v)
+        (get_or lists list []) (listed list (omega arith)))
