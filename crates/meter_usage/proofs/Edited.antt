@@ -1,5 +1,5 @@
 -- What is kept stays kept when a row is added or removed.
-use Rattle.std.proofs.Common.{◌≡◌, ℕ, zero, suc, ◌+◌, ◌^◌, ◌<◌, ◌≤◌, Bool, true, false, cond, List, [], ◌∷◌, ◌++◌, length, get_or, remove, Option, Some, None, Result, Ok, Err, OnOk, is_some, ℤ, refl, sym, ap, ◌∙◌, subst, arith}
+use Rattle.std.proofs.Common.{◌≡◌, ℕ, zero, suc, ◌+◌, ◌^◌, ◌<◌, ◌≤◌, Bool, true, false, cond, List, [], ◌∷◌, ◌++◌, length, get_or, remove, Option, Some, None, Result, Ok, Err, OnOk, OnErr, is_some, ℤ, refl, sym, ap, ◌∙◌, subst, arith}
 use Rattle.std.specs.Prelude.{slice_set}
 use Rattle.std.specs.Option.{unwrap_or, option_or}
 use Rattle.std.specs.Map.{lookup, remove_entry}
@@ -256,6 +256,15 @@ removed_stands new old a place e table is =
     e ∙ ap (λ t. removed t a place) is
     ∙ kept_edit a table [] (remove (rows_at a (kept table)) place) (remove (rows_at a table) place)
     (ap (λ rs. remove rs place) (kept_rows a table) ∙ sym (map-remove row_of (rows_at a table) place))
+
+-- an edit that was made, or wasn't
+pub by_result : {T E A B C : Type 0} (r : Result T E) → OnOk r A → OnErr r B → (A → C) → (B → C) → C
+by_result (Ok x) a b f g = f a
+by_result (Err e) a b f g = g b
+
+pub err_of : {T E P : Type 0} (r : Result T E) → P → OnErr r P
+err_of (Ok x) p = tt
+err_of (Err e) p = p
 
 pub ok_at : {T E : Type 0} {P : Type 0} (r : Result T E) → P → OnOk r P
 ok_at (Ok x) p = p

@@ -4,7 +4,7 @@ use Rattle.std.specs.Option.{option_or}
 use Rattle.std.proofs.lemmas.List.{take_more}
 use Rattle.meter_usage.specs.Usage.{first, last, less, usage_by}
 
-or_none : {T : Type 0} (o : Option T) → option_or o None ≡ o
+pub or_none : {T : Type 0} (o : Option T) → option_or o None ≡ o
 or_none None = refl
 or_none (Some x) = refl
 

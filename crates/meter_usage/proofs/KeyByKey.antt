@@ -44,7 +44,7 @@ has_amount q (e ∷ es) = found_by (is_at (key_cmp q) e.0) (has_key q (keys_of e
 both : true ≡ false → ⊥
 both e = cc
 
-none_by : (o : Option ℤ) → is_some o ≡ false → o ≡ None
+pub none_by : (o : Option ℤ) → is_some o ≡ false → o ≡ None
 none_by None e = refl
 none_by (Some v) e = absurd cc
 
@@ -61,15 +61,15 @@ mending_starts before after old row ordered there same = record {
 
 -- ---- one key
 
-or_right : (a b : Bool) → b ≡ true → a || b ≡ true
+pub or_right : (a b : Bool) → b ≡ true → a || b ≡ true
 or_right true b e = refl
 or_right false b e = e
 
-or_both : (a b : Bool) → a ≡ false → b ≡ false → a || b ≡ false
+pub or_both : (a b : Bool) → a ≡ false → b ≡ false → a || b ≡ false
 or_both true b e f = e
 or_both false b e f = f
 
-has_first : (k : UsageKey) (left : List UsageKey) → has_key k (k ∷ left) ≡ true
+pub has_first : (k : UsageKey) (left : List UsageKey) → has_key k (k ∷ left) ≡ true
 has_first k left = ap (λ o. is_eq o || has_key k left) (tied_itself key_cmp_total k)
 
 apart_by : (k q y : UsageKey) (others : List UsageKey) (test : Bool) → is_at (key_cmp q) y ≡ test → key_cmp k y ≡ Less → (has_key q others ≡ true → is_eq (key_cmp k q) ≡ false) → test || has_key q others ≡ true → is_eq (key_cmp k q) ≡ false

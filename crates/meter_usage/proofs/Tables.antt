@@ -1,7 +1,7 @@
 -- Tables of rows, and their totals, under an edit of one address's rows.
 use Rattle.std.proofs.Common.{◌≡◌, ℕ, zero, suc, ◌+◌, ◌*◌, ◌^◌, ◌<◌, ◌≤◌, Bool, true, false, cond, List, [], ◌∷◌, ◌++◌, map, length, remove, Option, Some, None, Result, Ok, Err, OnOk, OnErr, IfSome, ℤ, pos, neg_ℤ, ◌+ℤ◌, ◌≤ℤ◌, refl, sym, ap, ◌∙◌, arith}
 use Rattle.std.specs.Prelude.{slice_set}
-use Rattle.std.specs.Option.{unwrap_or, option_map, option_or}
+use Rattle.std.specs.Option.{unwrap_or, option_map}
 use Rattle.std.specs.Map.{lookup, remove_entry, set_value}
 use Rattle.std.specs.BTreeMap.{is_at}
 use Rattle.std.proofs.lemmas.Bool.Decides.{nat_tests}
@@ -16,7 +16,7 @@ use Rattle.meter_usage.specs.Amounts.{Row, row_of, amount_at, IsWithin}
 use Rattle.meter_usage.specs.Usage.{first, last, less, usage_at}
 use Rattle.meter_usage.specs.Sums.{with_usage, total_at, IsFitting}
 use Rattle.meter_usage.specs.Table.{Table, same, rows_at, with_rows, kept}
-use Rattle.meter_usage.proofs.Small.{lookup_small, row_small}
+use Rattle.meter_usage.proofs.Small.{either_small, lookup_small, row_small}
 
 -- ---- one address's rows are written
 
@@ -175,21 +175,17 @@ record IsBounded (n : ℕ) (sum : Sum) : Type 0 where
   low : neg_ℤ (pos (2417851639229258349412351 * n)) ≤ℤ sum.amount
   high : sum.amount ≤ℤ pos (2417851639229258349412351 * n)
 
-or_fits : (a b : Option ℤ) → IfSome a (IsWithin (2 ^ 80)) → IfSome b (IsWithin (2 ^ 80)) → IfSome (option_or a b) (IsWithin (2 ^ 80))
-or_fits None b x y = y
-or_fits (Some v) b x y = x
-
 module _ (q : UsageKey) where
   amount_fits : (p : List ℕ) → IfSome (amount_at q (row_of p)) (IsWithin (2 ^ 80))
   amount_fits p = lookup_small (is_at (key_cmp q)) (row_of p) (row_small p)
 
   first_fits : (ps : List (List ℕ)) → IfSome (first (amount_at q) (map row_of ps)) (IsWithin (2 ^ 80))
   first_fits [] = tt
-  first_fits (p ∷ ps) = or_fits _ _ (amount_fits p) (first_fits ps)
+  first_fits (p ∷ ps) = either_small _ _ (amount_fits p) (first_fits ps)
 
   last_fits : (ps : List (List ℕ)) → IfSome (last (amount_at q) (map row_of ps)) (IsWithin (2 ^ 80))
   last_fits [] = tt
-  last_fits (p ∷ ps) = or_fits _ _ (last_fits ps) (amount_fits p)
+  last_fits (p ∷ ps) = either_small _ _ (last_fits ps) (amount_fits p)
 
   less_fits : (a b : Option ℤ) → IfSome a (IsWithin (2 ^ 80)) → IfSome b (IsWithin (2 ^ 80)) → IfSome (less a b) (IsWithin (2 ^ 81))
   less_fits None b x y = tt

@@ -65,8 +65,8 @@ pub record IsWithin (limit : ℕ) (number : ℤ) : Type 0 where
   pub low : neg_ℤ (pos limit) <ℤ number
   pub high : number <ℤ pos limit
 
--- The amounts of a row are small.
-abbrev pub AreSmall : Row → Type 0
+-- Amounts are small, whatever they are kept by.
+abbrev pub AreSmall : {K : Type 0} → List (K × ℤ) → Type 0
 AreSmall [] = Unit {0}
 AreSmall (entry ∷ entries) = IsWithin (2 ^ 80) entry.1 × AreSmall entries
 
