@@ -5,14 +5,13 @@ use Rattle.std.specs.declared.cmp.Ordering.{Ordering}
 use Rattle.std.specs.declared.cmp.Ordering.TheVariants.{Less, Equal, Greater}
 use Rattle.std.specs.Ordering.{match_ordering, is_eq, ordering_reverse}
 use Rattle.std.specs.Option.{option_or}
-use Rattle.std.specs.List.{AllByRecursion, list_any, flat_map}
+use Rattle.std.specs.List.{AllByRecursion, flat_map}
 use Rattle.std.specs.List.Sorted.{IsStrictlySortedBy}
 use Rattle.std.specs.Map.{keys_of}
 use Rattle.std.specs.BTreeMap.{is_at, insert_entry}
 use Rattle.std.proofs.lemmas.Bool.Decides.{nat_tests}
-use Rattle.std.proofs.lemmas.Map.Keys.{sorted_head, sorted_tail}
+use Rattle.std.proofs.lemmas.Map.Keys.{sorted_tail}
 use Rattle.std.proofs.lemmas.Cmp.{tied_itself}
-use Rattle.meter_address.specs.declared.address.Address.{Address}
 use Rattle.meter_usage.specs.declared.key.UsageKey.{UsageKey}
 use Rattle.meter_usage.specs.declared.sums.Sum.{Sum}
 use Rattle.meter_usage.specs.Keys.{key_cmp, key_cmp_total}
@@ -21,7 +20,7 @@ use Rattle.meter_usage.specs.Usage.{first, last, less, usage}
 use Rattle.meter_usage.specs.Sums.{with_usage, total, is_among, is_used, amounts_in, keys_in}
 use Rattle.meter_usage.specs.Table.{Table}
 use Rattle.meter_usage.proofs.SameKey.{same_key, same_by_test}
-use Rattle.meter_usage.proofs.KeyByKey.{has_amount, apart_in}
+use Rattle.meter_usage.proofs.KeyByKey.{has_amount}
 use Rattle.meter_usage.proofs.Payloads.{amount_all}
 
 -- ---- two lists in order of the same keys are the same

@@ -15,7 +15,7 @@ use Rattle.meter_usage.specs.declared.key.UsageKey.{UsageKey}
 use Rattle.meter_usage.specs.declared.rows.NumberedRow.{NumberedRow}
 use Rattle.meter_usage.specs.Amounts.{Row, amount_at}
 use Rattle.meter_usage.specs.Usage.{first, last, less, usage_at}
-use Rattle.meter_usage.specs.Indexed.{Numbered, without, with_amount, parted, StandsAt, used, series, indexed, numbers, IsIndexed}
+use Rattle.meter_usage.specs.Indexed.{Numbered, without, with_amount, StandsAt, used, series, indexed, numbers, IsIndexed}
 use Rattle.meter_usage.proofs.Ends.{or_none}
 use Rattle.meter_usage.proofs.Parts.{AreBelow, without_parted, amount_parted}
 

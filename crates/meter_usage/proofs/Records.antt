@@ -1,5 +1,5 @@
 -- The records of a payload, one after another.
-use Rattle.std.proofs.Common.{◌≡◌, ℕ, zero, suc, ◌-◌, ◌<◌, ◌≤◌, List, [], ◌∷◌, length, fold, Option, Some, None, Result, Ok, Err, ℤ, refl, sym, ap, ◌∙◌, false, ◌==◌, if◌then◌else◌, arith}
+use Rattle.std.proofs.Common.{◌≡◌, ℕ, ◌≤◌, List, length, fold, Option, Some, None, Ok, Err, ℤ, refl, ap, ◌∙◌, false, ◌==◌, if◌then◌else◌, arith}
 use Rattle.std.specs.List.{filter_map, cons_option}
 use Rattle.std.proofs.lemmas.Bool.Decides.{nat_tests}
 use Rattle.dif_vif.specs.declared.fault.RecordFault.{RecordFault}

@@ -1,20 +1,15 @@
 -- Tables that edits leave, and edits that change nothing.
-use Rattle.std.proofs.Common.{◌≡◌, ℕ, zero, suc, ◌+◌, ◌<◌, Bool, true, false, cond, List, [], ◌∷◌, ◌++◌, length, map, remove, slice_get, Option, Some, None, ℤ, pos, ◌+ℤ◌, refl, sym, ap, ◌∙◌, subst, arith}
+use Rattle.std.proofs.Common.{◌≡◌, ℕ, zero, suc, Bool, true, false, cond, List, [], ◌∷◌, ◌++◌, length, map, remove, slice_get, Option, Some, None, refl, sym, ap, ◌∙◌, subst, arith}
 use Rattle.std.specs.Prelude.{slice_set, fold}
 use Rattle.std.specs.Option.{unwrap_or, option_map}
-use Rattle.std.specs.List.{filter_map, cons_option}
 use Rattle.std.specs.Map.{lookup, remove_entry}
 use Rattle.std.proofs.lemmas.Bool.Decides.{nat_tests}
 use Rattle.std.proofs.lemmas.List.Sums.{fold-append}
 use Rattle.std.proofs.lemmas.Map.Made.{lookup-map_values}
 use Rattle.indexmap.specs.IndexMap.{insert_entry}
 use Rattle.meter_address.specs.declared.address.Address.{Address}
-use Rattle.meter_usage.specs.declared.key.UsageKey.{UsageKey}
-use Rattle.meter_usage.specs.declared.sums.Sum.{Sum}
 use Rattle.meter_usage.specs.Amounts.{Row, row_of}
-use Rattle.meter_usage.specs.Usage.{usage}
-use Rattle.meter_usage.specs.Sums.{with_usage, total, no_sum, sum_of, usages_in}
-use Rattle.meter_usage.specs.Table.{Table, same, rows_at, with_rows, added, replaced, removed, kept, AreFilled}
+use Rattle.meter_usage.specs.Table.{Table, same, rows_at, with_rows, kept, AreFilled}
 use Rattle.meter_usage.specs.Edits.{Edit, addition, replacement, removal, edited, rows_after}
 use Rattle.meter_usage.proofs.Tables.{kept_with, rows_with, removed_with, append_some}
 use Rattle.meter_usage.proofs.Edited.{filled_with}

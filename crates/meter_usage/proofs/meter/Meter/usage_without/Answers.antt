@@ -1,5 +1,4 @@
-use Rattle.std.proofs.Common.{◌<◌, length, remove, sym, ap, ◌∙◌, subst}
-use Rattle.std.proofs.lemmas.List.{length-map}
+use Rattle.std.proofs.Common.{remove, ap, ◌∙◌}
 use Rattle.meter_usage.specs.Usage.{usage_at}
 use Rattle.meter_usage.proofs.Numbering.{used_without, place_within}
 use Rattle.meter_usage.proofs.meter.Meter.usage_without.Goals as goal

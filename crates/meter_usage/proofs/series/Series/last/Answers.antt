@@ -1,4 +1,4 @@
-use Rattle.std.proofs.Common.{◌≡◌, ◌^◌, Some, IfSome, sym, ap, ◌∙◌, subst}
+use Rattle.std.proofs.Common.{◌^◌, Some, IfSome, sym, ap, ◌∙◌, subst}
 use Rattle.std.specs.Map.Iter.{deref_pair}
 use Rattle.meter_usage.specs.Amounts.{IsWithin}
 use Rattle.meter_usage.specs.Usage.{last}

@@ -1,4 +1,4 @@
-use Rattle.std.proofs.Common.{◌≡◌, ◌^◌, Some, IfSome, sym, ap, ◌∙◌, subst}
+use Rattle.std.proofs.Common.{◌^◌, Some, IfSome, sym, ap, ◌∙◌, subst}
 use Rattle.std.specs.Ordering.{nat_cmp}
 use Rattle.std.specs.List.Sorted.{IsStrictlySortedBy}
 use Rattle.std.specs.Map.{keys_of}
@@ -6,7 +6,7 @@ use Rattle.std.specs.Map.Iter.{deref_pair}
 use Rattle.std.specs.BTreeMap.{is_at}
 use Rattle.meter_usage.specs.Amounts.{IsWithin}
 use Rattle.meter_usage.specs.Usage.{last}
-use Rattle.meter_usage.specs.Indexed.{Numbered, without}
+use Rattle.meter_usage.specs.Indexed.{without}
 use Rattle.meter_usage.proofs.Small.{last_small, remove_small}
 use Rattle.meter_usage.proofs.Taken.{took_last, last_there, last_other}
 use Rattle.meter_usage.proofs.series.Series.last_without.Goals as goal
