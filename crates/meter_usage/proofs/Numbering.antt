@@ -70,15 +70,18 @@ all_by P n None es p a = a
 all_by P n (Some v) es p a = (p, a)
 
 -- what holds of the rows' numbers holds of those of the amounts
-all_series : (P : ℕ → Type 0) (q : UsageKey) (rows : List NumberedRow) → AllByRecursion P (numbers rows) → AllByRecursion (λ e. P e.0) (series q rows)
+all_series : (P : ℕ → Type 0) (q : UsageKey) (rows : List NumberedRow) → AllByRecursion P (numbers rows)
+    → AllByRecursion (λ e. P e.0) (series q rows)
 all_series P q [] a = tt
 all_series P q (row ∷ rows) a = all_by P row.number (amount_at q row.amounts) (series q rows) a.0 (all_series P q rows a.1)
 
-first_by : (n : ℕ) (o : Option ℤ) (es : Numbered) → first (λ e. Some e.1) (cons_option (option_map (λ v. (n, v)) o) es) ≡ option_or o (first (λ e. Some e.1) es)
+first_by : (n : ℕ) (o : Option ℤ) (es : Numbered)
+    → first (λ e. Some e.1) (cons_option (option_map (λ v. (n, v)) o) es) ≡ option_or o (first (λ e. Some e.1) es)
 first_by n None es = refl
 first_by n (Some v) es = refl
 
-last_by : (n : ℕ) (o : Option ℤ) (es : Numbered) → last (λ e. Some e.1) (cons_option (option_map (λ v. (n, v)) o) es) ≡ option_or (last (λ e. Some e.1) es) o
+last_by : (n : ℕ) (o : Option ℤ) (es : Numbered)
+    → last (λ e. Some e.1) (cons_option (option_map (λ v. (n, v)) o) es) ≡ option_or (last (λ e. Some e.1) es) o
 last_by n None es = sym (or_none (last (λ e. Some e.1) es))
 last_by n (Some v) es = refl
 
@@ -88,23 +91,29 @@ amounts_of rows = map (λ row. row.amounts) rows
 
 first_series : (q : UsageKey) (rows : List NumberedRow) → first (λ e. Some e.1) (series q rows) ≡ first (amount_at q) (amounts_of rows)
 first_series q [] = refl
-first_series q (row ∷ rows) = first_by row.number (amount_at q row.amounts) (series q rows) ∙ ap (option_or (amount_at q row.amounts)) (first_series q rows)
+first_series q (row ∷ rows) =
+    first_by row.number (amount_at q row.amounts) (series q rows) ∙ ap (option_or (amount_at q row.amounts)) (first_series q rows)
 
 last_series : (q : UsageKey) (rows : List NumberedRow) → last (λ e. Some e.1) (series q rows) ≡ last (amount_at q) (amounts_of rows)
 last_series q [] = refl
-last_series q (row ∷ rows) = last_by row.number (amount_at q row.amounts) (series q rows) ∙ ap (λ o. option_or o (amount_at q row.amounts)) (last_series q rows)
+last_series q (row ∷ rows) =
+    last_by row.number (amount_at q row.amounts) (series q rows) ∙ ap (λ o. option_or o (amount_at q row.amounts)) (last_series q rows)
 
 -- what was used by the amounts of a key was used by the rows
 pub used_series : (q : UsageKey) (rows : List NumberedRow) → used (series q rows) ≡ usage_at q (amounts_of rows)
-used_series q rows = ap (λ o. less o (first (λ e. Some e.1) (series q rows))) (last_series q rows) ∙ ap (less (last (amount_at q) (amounts_of rows))) (first_series q rows)
+used_series q rows =
+    ap (λ o. less o (first (λ e. Some e.1) (series q rows))) (last_series q rows)
+    ∙ ap (less (last (amount_at q) (amounts_of rows))) (first_series q rows)
 
 -- ---- one row among the others
 
 -- a place among the amounts is one among the rows
 pub place_within : (rows : List NumberedRow) (all : List Row) (i : ℕ) → amounts_of rows ≡ all → i < length all → i < length rows
-place_within rows all i e lt = subst (λ n. i < n) (length-map rows (λ (r : NumberedRow). r.amounts)) (subst (λ rs. i < length rs) (sym e) lt)
+place_within rows all i e lt =
+    subst (λ n. i < n) (length-map rows (λ (r : NumberedRow). r.amounts)) (subst (λ rs. i < length rs) (sym e) lt)
 
-pub split_row : (rows : List NumberedRow) (i : ℕ) (row : NumberedRow) → i < length rows → row ≡ get_or rows i row → rows ≡ take i rows ++ row ∷ drop (suc i) rows
+pub split_row : (rows : List NumberedRow) (i : ℕ) (row : NumberedRow) → i < length rows → row ≡ get_or rows i row
+    → rows ≡ take i rows ++ row ∷ drop (suc i) rows
 split_row [] i row lt e = absurd (omega arith)
 split_row (x ∷ xs) zero row lt e = ap (λ z. z ∷ xs) (sym e)
 split_row (x ∷ xs) (suc i) row lt e = ap (λ z. x ∷ z) (split_row xs i row (omega arith) e)
@@ -112,9 +121,11 @@ split_row (x ∷ xs) (suc i) row lt e = ap (λ z. x ∷ z) (split_row xs i row (
 numbers_parted : (front back : List NumberedRow) (row : NumberedRow) (next : ℕ)
     → numbers (front ++ row ∷ back) ++ next ∷ [] ≡ numbers front ++ row.number ∷ (numbers back ++ next ∷ [])
 numbers_parted front back row next =
-    ap (λ z. z ++ next ∷ []) (map-append (λ (r : NumberedRow). r.number) front (row ∷ back)) ∙ append_assoc (numbers front) (row.number ∷ numbers back) (next ∷ [])
+    ap (λ z. z ++ next ∷ []) (map-append (λ (r : NumberedRow). r.number) front (row ∷ back))
+    ∙ append_assoc (numbers front) (row.number ∷ numbers back) (next ∷ [])
 
-module _ (front back : List NumberedRow) (row : NumberedRow) (next : ℕ) (s : IsStrictlySortedBy nat_cmp (numbers (front ++ row ∷ back) ++ next ∷ [])) where
+module _ (front back : List NumberedRow) (row : NumberedRow) (next : ℕ)
+    (s : IsStrictlySortedBy nat_cmp (numbers (front ++ row ∷ back) ++ next ∷ [])) where
   rises : IsStrictlySortedBy nat_cmp (numbers front ++ row.number ∷ (numbers back ++ next ∷ []))
   rises = subst (IsStrictlySortedBy nat_cmp) (numbers_parted front back row next) s
 
@@ -124,7 +135,9 @@ module _ (front back : List NumberedRow) (row : NumberedRow) (next : ℕ) (s : I
     front = series q front;
     back = series q back;
     parts = filter_map-append _ front (row ∷ back);
-    below = all_series (λ m. nat_cmp row.number m ≡ Greater) q front (rising_below (numbers front) (numbers back ++ next ∷ []) row.number rises);
+    below =
+        all_series (λ m. nat_cmp row.number m ≡ Greater) q front
+        (rising_below (numbers front) (numbers back ++ next ∷ []) row.number rises);
     above = all_series (λ m. nat_cmp row.number m ≡ Less) q back
         (all_front _ (numbers back) (next ∷ []) (rising_above (numbers front) (numbers back ++ next ∷ []) row.number rises));
   }
@@ -137,7 +150,8 @@ module _ (front back : List NumberedRow) (row : NumberedRow) (next : ℕ) (s : I
       ∙ sym (filter_map-append _ front back)
 
   row_changed : (q : UsageKey) (new : Row)
-      → with_amount row.number (amount_at q new) (series q (front ++ row ∷ back)) ≡ series q (front ++ record { number = row.number; amounts = new } ∷ back)
+      → with_amount row.number (amount_at q new) (series q (front ++ row ∷ back))
+      ≡ series q (front ++ record { number = row.number; amounts = new } ∷ back)
   unfolding row_stands
   row_changed q new =
       let at = row_stands q in
@@ -148,7 +162,8 @@ module _ (front back : List NumberedRow) (row : NumberedRow) (next : ℕ) (s : I
   gone_rises : IsStrictlySortedBy nat_cmp (numbers (front ++ back) ++ next ∷ [])
   gone_rises =
       subst (IsStrictlySortedBy nat_cmp)
-      (sym (ap (λ z. z ++ next ∷ []) (map-append (λ (r : NumberedRow). r.number) front back) ∙ append_assoc (numbers front) (numbers back) (next ∷ [])))
+      (sym (ap (λ z. z ++ next ∷ []) (map-append (λ (r : NumberedRow). r.number) front back)
+      ∙ append_assoc (numbers front) (numbers back) (next ∷ [])))
       (rising_without (numbers front) (numbers back ++ next ∷ []) row.number rises)
 
 -- ---- a meter's rows and index under an edit
@@ -178,12 +193,14 @@ module _ (rows : List NumberedRow) (next : ℕ) (old : List (UsageKey × Numbere
     above = tt;
   })
 
-  pub push_indexed : (row : Row) (now : List (UsageKey × Numbered)) → ((q : UsageKey) → indexed q now ≡ with_amount next (amount_at q row) (indexed q old))
+  pub push_indexed : (row : Row) (now : List (UsageKey × Numbered))
+      → ((q : UsageKey) → indexed q now ≡ with_amount next (amount_at q row) (indexed q old))
       → IsIndexed (rows ++ record { number = next; amounts = row } ∷ []) (next + 1) now
   push_indexed row now change =
       let new : NumberedRow = record { number = next; amounts = row } in
       record {
-        rising = subst (IsStrictlySortedBy nat_cmp) (sym (numbers_parted rows [] new (next + 1))) (rising_more (numbers rows) next k.rising);
+        rising =
+            subst (IsStrictlySortedBy nat_cmp) (sym (numbers_parted rows [] new (next + 1))) (rising_more (numbers rows) next k.rising);
         all = λ q.
             change q ∙ ap (with_amount next (amount_at q row)) (k.all q ∙ sym (append-nil (series q rows)))
             ∙ amount_parted next (series q rows) None (amount_at q row) [] (series_below q) tt
@@ -210,7 +227,8 @@ module _ (rows : List NumberedRow) (next : ℕ) (old : List (UsageKey × Numbere
         let there : slice_set rows i put ≡ take i rows ++ put ∷ drop (suc i) rows = set_split rows i put lt in
         subst (λ rs. IsIndexed rs next now) (sym there) (record {
           rising = subst (IsStrictlySortedBy nat_cmp)
-              (numbers_parted (take i rows) (drop (suc i) rows) row next ∙ sym (numbers_parted (take i rows) (drop (suc i) rows) put next)) rises_there;
+              (numbers_parted (take i rows) (drop (suc i) rows) row next ∙ sym (numbers_parted (take i rows) (drop (suc i) rows) put next))
+              rises_there;
           all = λ q.
               change q ∙ ap (with_amount row.number (amount_at q new)) (k.all q ∙ ap (series q) split)
               ∙ row_changed (take i rows) (drop (suc i) rows) row next rises_there q new;
@@ -221,7 +239,8 @@ module _ (rows : List NumberedRow) (next : ℕ) (old : List (UsageKey × Numbere
     removed_indexed now change = record {
       rising = gone_rises (take i rows) (drop (suc i) rows) row next rises_there;
       all = λ q.
-          change q ∙ ap (without row.number) (k.all q ∙ ap (series q) split) ∙ row_gone (take i rows) (drop (suc i) rows) row next rises_there q;
+          change q ∙ ap (without row.number) (k.all q ∙ ap (series q) split)
+          ∙ row_gone (take i rows) (drop (suc i) rows) row next rises_there q;
     }
 
     -- what was used by the other rows

@@ -18,7 +18,8 @@ set_absent_by false e es new v o misses further = ap (λ z. e ∷ z) (further mi
 pub set_absent : (n : ℕ) (es : Numbered) (v : ℤ) → lookup (is_at (nat_cmp n)) es ≡ None → set_value (is_at (nat_cmp n)) es v ≡ es
 set_absent n [] v misses = refl
 set_absent n (e ∷ es) v misses =
-    set_absent_by (is_at (nat_cmp n) e.0) e es (set_value (is_at (nat_cmp n)) es v) v (lookup (is_at (nat_cmp n)) es) misses (set_absent n es v)
+    set_absent_by (is_at (nat_cmp n) e.0) e es (set_value (is_at (nat_cmp n)) es v) v (lookup (is_at (nat_cmp n)) es) misses
+    (set_absent n es v)
 
 module _ (n : ℕ) where
   abbrev pub AreBelow : Numbered → Type 0
@@ -101,7 +102,8 @@ module _ (n : ℕ) where
     put_then_back (Some u) (Some v) =
         ap (λ z. set_value (is_at (nat_cmp n)) z u) (insert_parted front (Some u) back v b a) ∙ set_parted front v u back b
 
-    set_away : (x : Option ℤ) → cond (is_some x) (without n (parted front n x back)) (parted front n x back) ≡ without n (parted front n x back)
+    set_away : (x : Option ℤ)
+        → cond (is_some x) (without n (parted front n x back)) (parted front n x back) ≡ without n (parted front n x back)
     set_away None = sym (without_parted front None back b a)
     set_away (Some u) = refl
 

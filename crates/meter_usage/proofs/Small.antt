@@ -46,15 +46,18 @@ test_small false o small = tt
 
 pub given_small : (payload : List ℕ) (span : RecordSpan) → IsSmallEntry (given payload span)
 unfolding given
-given_small payload span = test_small (span.function == 0) _ (map_small (key_of payload span) (whole (value payload span)) (whole_small (value payload span)))
+given_small payload span =
+    test_small (span.function == 0) _ (map_small (key_of payload span) (whole (value payload span)) (whole_small (value payload span)))
 
 -- ---- amounts by any keys
 
-lookup_by : (test : Bool) (v : ℤ) (o : Option ℤ) → IsWithin (2 ^ 80) v → IfSome o (IsWithin (2 ^ 80)) → IfSome (cond test (Some v) o) (IsWithin (2 ^ 80))
+lookup_by : (test : Bool) (v : ℤ) (o : Option ℤ) → IsWithin (2 ^ 80) v → IfSome o (IsWithin (2 ^ 80))
+    → IfSome (cond test (Some v) o) (IsWithin (2 ^ 80))
 lookup_by true v o here others = here
 lookup_by false v o here others = others
 
-pub either_small : (a b : Option ℤ) → IfSome a (IsWithin (2 ^ 80)) → IfSome b (IsWithin (2 ^ 80)) → IfSome (option_or a b) (IsWithin (2 ^ 80))
+pub either_small : (a b : Option ℤ) → IfSome a (IsWithin (2 ^ 80)) → IfSome b (IsWithin (2 ^ 80))
+    → IfSome (option_or a b) (IsWithin (2 ^ 80))
 either_small None b x y = y
 either_small (Some v) b x y = x
 
@@ -112,15 +115,20 @@ if_small true a b x y = x
 if_small false a b x y = y
 
 noted_small : (row : Row) (entry : UsageKey × ℤ) → IsWithin (2 ^ 80) entry.1 → AreSmall row → AreSmall (noted row entry)
-noted_small row entry small others = if_small (is_some (amount_at entry.0 row)) row _ others (insert_small key_cmp row entry.0 entry.1 small others)
+noted_small row entry small others =
+    if_small (is_some (amount_at entry.0 row)) row _ others (insert_small key_cmp row entry.0 entry.1 small others)
 
-fold_small : (row : Row) (found : Option (UsageKey × ℤ)) (rest : Row) → ((r : Row) → AreSmall r → AreSmall (fold noted r rest)) → IsSmallEntry found → AreSmall row → AreSmall (fold noted row (cons_option found rest))
+fold_small : (row : Row) (found : Option (UsageKey × ℤ)) (rest : Row) → ((r : Row) → AreSmall r → AreSmall (fold noted r rest))
+    → IsSmallEntry found → AreSmall row → AreSmall (fold noted row (cons_option found rest))
 fold_small row None rest further small others = further row others
 fold_small row (Some entry) rest further small others = further (noted row entry) (noted_small row entry small others)
 
-all_small : (payload : List ℕ) (spans : List RecordSpan) (row : Row) → AreSmall row → AreSmall (fold noted row (filter_map (given payload) spans))
+all_small : (payload : List ℕ) (spans : List RecordSpan) (row : Row) → AreSmall row
+    → AreSmall (fold noted row (filter_map (given payload) spans))
 all_small payload [] row small = small
-all_small payload (span ∷ spans) row small = fold_small row (given payload span) (filter_map (given payload) spans) (λ r s. all_small payload spans r s) (given_small payload span) small
+all_small payload (span ∷ spans) row small =
+    fold_small row (given payload span) (filter_map (given payload) spans) (λ r s. all_small payload spans r s) (given_small payload span)
+    small
 
 -- the amounts of a payload are small
 pub row_small : (payload : List ℕ) → AreSmall (row_of payload)

@@ -26,7 +26,8 @@ all_keys : (P : ℕ → Type 0) (es : Numbered) → AllByRecursion P (keys_of es
 all_keys P [] a = tt
 all_keys P (e ∷ es) a = (a.0, all_keys P es a.1)
 
-keeps_by : (b : Bool) (f e : ℕ × ℤ) (fs gone more : Numbered) → more ≡ gone ++ e ∷ [] → cond b (fs ++ e ∷ []) (f ∷ more) ≡ cond b fs (f ∷ gone) ++ e ∷ []
+keeps_by : (b : Bool) (f e : ℕ × ℤ) (fs gone more : Numbered) → more ≡ gone ++ e ∷ []
+    → cond b (fs ++ e ∷ []) (f ∷ more) ≡ cond b fs (f ∷ gone) ++ e ∷ []
 keeps_by true f e fs gone more is = refl
 keeps_by false f e fs gone more is = ap (λ z. f ∷ z) is
 
@@ -81,7 +82,8 @@ module _ {A : Type 0} (shows : A → ℕ × ℤ) where
       → is_there n r ≡ true → last (λ e. Some e.1) rest ≡ last (λ e. Some e.1) (without n es)
   last_there n es rest None rising t there = absurd cc
   last_there n es rest (Some a) rising t there =
-      let gone = last_gone n rest (shows a) (subst (λ x. IsStrictlySortedBy nat_cmp (keys_of x)) t rising) (same_by n (shows a).0 (nat_cmp n (shows a).0) refl there) in
+      let gone = last_gone n rest (shows a) (subst (λ x. IsStrictlySortedBy nat_cmp (keys_of x)) t rising)
+      (same_by n (shows a).0 (nat_cmp n (shows a).0) refl there) in
       sym (ap (λ x. last (λ e. Some e.1) (without n x)) t ∙ ap (last (λ e. Some e.1)) gone ∙ last-append (λ e. Some e.1) rest [])
 
   -- it doesn't, and stays the last

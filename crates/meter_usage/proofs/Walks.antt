@@ -15,7 +15,8 @@ use Rattle.meter_usage.proofs.KeyByKey.{has_key, has_amount, has_first, none_by,
 use Rattle.meter_usage.proofs.SameKey.{same_by_test}
 
 -- While keys of a row are left, the amounts of these are the old ones, and those of all others are changed.
-pub record IsChanging (row : Row) (change : UsageKey → Numbered → Numbered) (old now : List (UsageKey × Numbered)) (left : List UsageKey) : Type 0 where
+pub record IsChanging (row : Row) (change : UsageKey → Numbered → Numbered) (old now : List (UsageKey × Numbered))
+    (left : List UsageKey) : Type 0 where
   pub ordered : IsStrictlySortedBy key_cmp left
   pub there : (q : UsageKey) → has_key q left ≡ true → is_some (amount_at q row) ≡ true
   pub waiting : (q : UsageKey) → has_key q left ≡ true → indexed q now ≡ indexed q old
@@ -31,7 +32,8 @@ changing_starts row change old left e ordered same = subst (IsChanging row chang
   changed = λ q misses. sym (same q (indexed q old) (none_by (amount_at q row) (has_amount q row ∙ misses)));
 })
 
-module _ (row : Row) (change : UsageKey → Numbered → Numbered) (old now : List (UsageKey × Numbered)) (k : UsageKey) (left keys : List UsageKey)
+module _ (row : Row) (change : UsageKey → Numbered → Numbered) (old now : List (UsageKey × Numbered)) (k : UsageKey)
+    (left keys : List UsageKey)
     (c : IsChanging row change old now keys) (e : keys ≡ k ∷ left) where
   stands : IsChanging row change old now (k ∷ left)
   stands = subst (IsChanging row change old now) e c
@@ -43,7 +45,8 @@ module _ (row : Row) (change : UsageKey → Numbered → Numbered) (old now : Li
   module _ (new : List (UsageKey × Numbered)) (others : (q : UsageKey) → is_eq (key_cmp k q) ≡ false → indexed q new ≡ indexed q now) where
     -- it is changed
     module _ (here : indexed k new ≡ change k (indexed k now)) where
-      changed_by : (q : UsageKey) (test : Bool) → is_eq (key_cmp k q) ≡ test → has_key q left ≡ false → indexed q new ≡ change q (indexed q old)
+      changed_by : (q : UsageKey) (test : Bool) → is_eq (key_cmp k q) ≡ test → has_key q left ≡ false
+          → indexed q new ≡ change q (indexed q old)
       changed_by q true is misses =
           subst (λ p. indexed p new ≡ change p (indexed p old)) (same_by_test k q is)
           (here ∙ ap (change k) (stands.waiting k (has_first k left)))
@@ -78,7 +81,8 @@ pub changing_ends : (row : Row) (change : UsageKey → Numbered → Numbered) (o
 changing_ends row change old now left c e q = c.changed q (ap (has_key q) e)
 
 -- a key without amounts is forgotten
-tidied_by : (k q : UsageKey) (old new : List (UsageKey × Numbered)) (test : Bool) → is_at (key_cmp k) q ≡ test → lookup (is_at (key_cmp k)) old ≡ Some []
+tidied_by : (k q : UsageKey) (old new : List (UsageKey × Numbered)) (test : Bool) → is_at (key_cmp k) q ≡ test
+    → lookup (is_at (key_cmp k)) old ≡ Some []
     → lookup (is_at (key_cmp q)) new ≡ cond test None (lookup (is_at (key_cmp q)) old) → indexed q new ≡ indexed q old
 tidied_by k q old new true same bare now =
     ap (λ o. unwrap_or o []) now ∙ ap (λ o. unwrap_or o []) (sym bare ∙ ap (λ p. lookup (is_at (key_cmp p)) old) (same_by_test k q same))

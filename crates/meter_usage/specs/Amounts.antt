@@ -29,7 +29,14 @@ is_small amount = int_lt (neg_ℤ (pos (2 ^ 80))) amount && int_lt amount (pos (
 unfoldable pub key_of : List ℕ → RecordSpan → UsageKey
 key_of payload span =
     let u = unit payload span in
-    record { storage = span.storage; tariff = span.tariff; subunit = span.subunit; quantity = u.quantity; name = u.name; exponent = u.exponent }
+    record {
+      storage = span.storage;
+      tariff = span.tariff;
+      subunit = span.subunit;
+      quantity = u.quantity;
+      name = u.name;
+      exponent = u.exponent;
+    }
 
 -- the amount that a value is: a whole number that is small
 abbrev pub whole : Value → Option ℤ

@@ -9,7 +9,8 @@ use Rattle.meter_usage.proofs.edits.replace_row.Goals as goal
 pub mend_at-requires-clause-there : goal.mend_at-requires-clause-there
 mend_at-requires-clause-there c =
     kept_there c.args.address c.args.meters.now.entries c.make_room.new.sums.entries c.args.place
-    (kept_sums c.args.meters.now.entries c.args.sums.now.entries c.make_room.new.sums.entries c.requires.kept c.make_room.ensures.same) c.requires.place
+    (kept_sums c.args.meters.now.entries c.args.sums.now.entries c.make_room.new.sums.entries c.requires.kept c.make_room.ensures.same)
+    c.requires.place
 
 pub mend_at-requires-clause-fitting : goal.mend_at-requires-clause-fitting
 mend_at-requires-clause-fitting c =
@@ -30,7 +31,8 @@ pub mend_at-requires-2-clause-there : goal.mend_at-requires-2-clause-there
 mend_at-requires-2-clause-there c = λ q d has.
     c.mend_at.ensures.stays q (by_result c.swap-swapped.result c.swap-swapped.ensures.ok c.swap-swapped.ensures.err
     (λ is. c.in_ok-make_room.ensures.there q (ap (λ row. is_some (amount_at q row))
-    (sym (set_row c.args.address c.args.meters.now.entries c.swap-swapped.new.meters.entries c.in_ok-row.row c.args.place c.requires.place is d)) ∙ has))
+    (sym (set_row c.args.address c.args.meters.now.entries c.swap-swapped.new.meters.entries c.in_ok-row.row c.args.place c.requires.place
+    is d)) ∙ has))
     (λ is. kept_there c.args.address c.args.meters.now.entries c.make_room.new.sums.entries c.args.place
     (kept_sums c.args.meters.now.entries c.args.sums.now.entries c.make_room.new.sums.entries c.requires.kept c.make_room.ensures.same)
     c.requires.place q d (subst (λ t. is_some (amount_at q (get_or (rows_at c.args.address t) c.args.place d)) ≡ true) is has)))
@@ -43,7 +45,8 @@ mend_at-requires-2-clause-fitting c =
 pub mend_at-requires-2-clause-totals : goal.mend_at-requires-2-clause-totals
 mend_at-requires-2-clause-totals c = λ q.
     c.mend_at.ensures.totals q ∙ by_result c.swap-swapped.result c.swap-swapped.ensures.ok c.swap-swapped.ensures.err
-    (λ is. sym (set_totals c.args.address c.args.meters.now.entries c.swap-swapped.new.meters.entries c.in_ok-row.row c.args.place c.requires.place is q))
+    (λ is. sym (set_totals c.args.address c.args.meters.now.entries c.swap-swapped.new.meters.entries c.in_ok-row.row c.args.place
+    c.requires.place is q))
     (λ is. ap (λ t. total_at q (with_rows t c.args.address (remove (rows_at c.args.address t) c.args.place))) (sym is))
 
 pub returns-clause-ok : goal.returns-clause-ok

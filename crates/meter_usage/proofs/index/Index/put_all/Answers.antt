@@ -9,7 +9,8 @@ pub loop-key-init : goal.loop-key-init
 loop-key-init c = (
   tt,
   tt,
-  changing_starts c.args.row.now (λ q es. with_put c.args.number (amount_at q c.args.row.now) es) c.args.self.now c.into_iter-key-iterator.result
+  changing_starts c.args.row.now (λ q es. with_put c.args.number (amount_at q c.args.row.now) es) c.args.self.now
+      c.into_iter-key-iterator.result
       (c.into_iter-key-iterator.ensures.into_iter_gives ∙ c.keys-key-items.ensures.rest) c.keys-key-items.ensures.ordered
       (λ q es e. ap (λ o. with_put c.args.number o es) e),
 )

@@ -12,4 +12,5 @@ invariant_of-self-2 c =
     let new : NumberedRow = record { number = c.self.inside.next; amounts = c.args.row } in
     subst (λ rows. IsIndexed rows (c.self.inside.next + 1) c.add.new.self)
     (sym (c.push_reserved.ensures.items ∙ ap (λ rows. rows ++ new ∷ []) c.reserve.ensures.items))
-    (push_indexed c.self.inside.rows.items c.self.inside.next c.self.inside.index c.self.invariant c.args.row c.add.new.self c.in_ok-add.ensures.ok)
+    (push_indexed c.self.inside.rows.items c.self.inside.next c.self.inside.index c.self.invariant c.args.row c.add.new.self
+    c.in_ok-add.ensures.ok)

@@ -22,12 +22,14 @@ returns-then-is_of-clause-is c =
 pub returns-then-is_of-clause-small : goal.returns-then-is_of-clause-small
 returns-then-is_of-clause-small c =
     subst (λ o. IfSome o (IsWithin (2 ^ 80)))
-    (sym (c.amount_of.ensures ∙ took_last deref_pair c.next_back-last.new.self c.next_back.new.self c.next_back.result c.next_back.ensures.steps
+    (sym (c.amount_of.ensures ∙ took_last deref_pair c.next_back-last.new.self c.next_back.new.self c.next_back.result
+    c.next_back.ensures.steps
     ∙ last_there deref_pair c.args.number c.iter-entries.result c.next_back-last.new.self c.next_back-last.result
     (subst (λ es. IsStrictlySortedBy nat_cmp (keys_of es)) (sym c.iter-entries.ensures.rest) c.iter-entries.ensures.ordered)
     c.next_back-last.ensures.steps (sym c.is_of.ensures ∙ c.if-is_of.true)
     ∙ ap (λ es. last (λ e. Some e.1) (without c.args.number es)) c.iter-entries.ensures.rest))
-    (last_small (without c.args.number c.self.inside.amounts.entries) (remove_small (is_at (nat_cmp c.args.number)) c.self.inside.amounts.entries c.self.invariant))
+    (last_small (without c.args.number c.self.inside.amounts.entries)
+    (remove_small (is_at (nat_cmp c.args.number)) c.self.inside.amounts.entries c.self.invariant))
 
 pub returns-clause-is : goal.returns-clause-is
 returns-clause-is c =
@@ -38,7 +40,9 @@ returns-clause-is c =
 pub returns-clause-small : goal.returns-clause-small
 returns-clause-small c =
     subst (λ o. IfSome o (IsWithin (2 ^ 80)))
-    (sym (c.amount_of-2.ensures ∙ last_other deref_pair c.args.number c.iter-entries.result c.next_back-last.new.self c.next_back-last.result
+    (sym (c.amount_of-2.ensures ∙ last_other deref_pair c.args.number c.iter-entries.result c.next_back-last.new.self
+    c.next_back-last.result
     c.next_back-last.ensures.steps (sym c.is_of.ensures ∙ c.if-is_of.false)
     ∙ ap (λ es. last (λ e. Some e.1) (without c.args.number es)) c.iter-entries.ensures.rest))
-    (last_small (without c.args.number c.self.inside.amounts.entries) (remove_small (is_at (nat_cmp c.args.number)) c.self.inside.amounts.entries c.self.invariant))
+    (last_small (without c.args.number c.self.inside.amounts.entries)
+    (remove_small (is_at (nat_cmp c.args.number)) c.self.inside.amounts.entries c.self.invariant))

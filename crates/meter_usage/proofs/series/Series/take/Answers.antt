@@ -7,4 +7,5 @@ use Rattle.meter_usage.proofs.series.Series.take.Goals as goal
 
 pub invariant_of-self : goal.invariant_of-self
 invariant_of-self c =
-    subst AreSmall (sym c.remove.ensures.entries) (remove_small (is_at (nat_cmp c.args.number)) c.self.inside.amounts.entries c.self.invariant)
+    subst AreSmall (sym c.remove.ensures.entries)
+    (remove_small (is_at (nat_cmp c.args.number)) c.self.inside.amounts.entries c.self.invariant)
