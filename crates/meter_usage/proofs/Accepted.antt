@@ -26,7 +26,10 @@ addition_accepted new old a payload e edits s =
 pub replacement_accepted : (new old : Table Row) (a : Address) (place : ℕ) (payload : List ℕ) → new ≡ replaced old a place (row_of payload)
     → (edits : List Edit) → StandsFor edits old → StandsFor (edits ++ replacement a place payload ∷ []) new
 replacement_accepted new old a place payload e edits s =
-    record { rows = replaced_stands new old a place payload e (rows_after edits) s.rows ∙ ap kept (sym (after_more edits (replacement a place payload))) }
+    record {
+      rows = replaced_stands new old a place payload e (rows_after edits) s.rows
+          ∙ ap kept (sym (after_more edits (replacement a place payload)));
+    }
 
 pub removal_accepted : (new old : Table Row) (a : Address) (place : ℕ) → new ≡ removed old a place
     → (edits : List Edit) → StandsFor edits old → StandsFor (edits ++ removal a place ∷ []) new
@@ -49,7 +52,8 @@ meters_kept (meter ∷ meters) = ap suc (meters_kept meters)
 fault_by : ℕ → ℕ → Option TotalsFault
 fault_by rows meters = if rows == 0 && meters == 4096 then Some Meters else (if rows == 65536 then Some Rows else None)
 
-pub add_fault_stands : (a : Address) (value : Table Row) (edits : List Edit) → StandsFor edits value → add_fault a value ≡ add_fault a (rows_after edits)
+pub add_fault_stands : (a : Address) (value : Table Row) (edits : List Edit) → StandsFor edits value
+    → add_fault a value ≡ add_fault a (rows_after edits)
 unfolding fault_by
 add_fault_stands a value edits s =
     ap (add_fault a) s.rows ∙ ap (λ n. fault_by n (length (kept (rows_after edits)))) (kept_length a (rows_after edits))
@@ -61,18 +65,21 @@ place_fault_stands a place value edits s =
     ap (place_fault a place) s.rows ∙ ap (λ n. if nat_lt place n then None else Some (NoSuch place)) (kept_length a (rows_after edits))
 
 -- a fault that is found is that of the rows, and where none is found there is none
-pub found_there : (found kept_one there : Option TotalsFault) (fault : TotalsFault) → found ≡ kept_one → kept_one ≡ there → found ≡ Some fault → there ≡ Some fault
+pub found_there : (found kept_one there : Option TotalsFault) (fault : TotalsFault) → found ≡ kept_one → kept_one ≡ there
+    → found ≡ Some fault → there ≡ Some fault
 found_there found kept_one there fault e s is = sym (e ∙ s) ∙ is
 
 pub same_fault : (there : Option TotalsFault) (a b : TotalsFault) → there ≡ Some a → there ≡ Some b → a ≡ b
 same_fault None a b e f = absurd cc
 same_fault (Some x) a b e f = cc
 
-pub none_there : {A : Type 0} (found kept_one there : Option TotalsFault) (fault : TotalsFault) → found ≡ kept_one → kept_one ≡ there → found ≡ None → there ≡ Some fault → A
+pub none_there : {A : Type 0} (found kept_one there : Option TotalsFault) (fault : TotalsFault) → found ≡ kept_one → kept_one ≡ there
+    → found ≡ None → there ≡ Some fault → A
 none_there found kept_one there fault e s is other = let clash : None ≡ Some fault = sym is ∙ e ∙ s ∙ other in absurd cc
 
 -- the sums that are kept are below 2^93
-pub kept_below : (table : Table Row) (sums : List (UsageKey × Sum)) → IsKept table sums → (q : UsageKey) → IsWithin (2 ^ 93) (sum_at q sums).amount
+pub kept_below : (table : Table Row) (sums : List (UsageKey × Sum)) → IsKept table sums → (q : UsageKey)
+    → IsWithin (2 ^ 93) (sum_at q sums).amount
 kept_below table sums k q =
     let few : length k.payloads ≤ 4096 = omega (arith, k.few, ap length k.rows, meters_kept k.payloads) in
     subst (λ (sum : Sum). IsWithin (2 ^ 93) sum.amount) (sym (k.totals q ∙ ap (total_at q) k.rows)) (total_below q k.payloads few)

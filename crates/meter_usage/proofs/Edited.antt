@@ -1,5 +1,5 @@
 -- What is kept stays kept when a row is added or removed.
-use Rattle.std.proofs.Common.{◌≡◌, ℕ, zero, suc, ◌+◌, ◌^◌, ◌<◌, ◌≤◌, Bool, true, false, cond, List, [], ◌∷◌, ◌++◌, length, get_or, remove, Option, Some, None, Result, Ok, Err, OnOk, is_some, ℤ, refl, sym, ap, ◌∙◌, subst, arith}
+use Rattle.std.proofs.Common.{◌≡◌, ℕ, zero, suc, ◌+◌, ◌^◌, ◌<◌, ◌≤◌, Bool, true, false, cond, List, [], ◌∷◌, ◌++◌, length, get_or, remove, Option, Some, None, Result, Ok, Err, OnOk, OnErr, is_some, ℤ, refl, sym, ap, ◌∙◌, subst, arith}
 use Rattle.std.specs.Prelude.{slice_set}
 use Rattle.std.specs.Option.{unwrap_or, option_or}
 use Rattle.std.specs.Map.{lookup, remove_entry}
@@ -18,7 +18,8 @@ use Rattle.meter_usage.proofs.Tables.{kept_rows, kept_edit, rows_with, append_so
 
 -- ---- addresses that have rows
 
-filled_by : (b : Bool) (e : Address × List Row) (es gone : Table Row) → (e.1 ≡ [] → ⊥) → AreFilled es → AreFilled gone → AreFilled (cond b es (e ∷ gone))
+filled_by : (b : Bool) (e : Address × List Row) (es gone : Table Row) → (e.1 ≡ [] → ⊥) → AreFilled es → AreFilled gone
+    → AreFilled (cond b es (e ∷ gone))
 filled_by true e es gone some f g = f
 filled_by false e es gone some f g = (some, g)
 
@@ -26,13 +27,16 @@ filled_removed : (a : Address) (table : Table Row) → AreFilled table → AreFi
 filled_removed a [] f = tt
 filled_removed a (e ∷ es) f = filled_by (same a e.0) e es (remove_entry (same a) es) f.0 f.1 (filled_removed a es f.1)
 
-filled_put_by : (b : Bool) (e : Address × List Row) (es put : Table Row) (new : List Row) → (new ≡ [] → ⊥) → (e.1 ≡ [] → ⊥) → AreFilled es → AreFilled put → AreFilled (cond b ((e.0, new) ∷ es) (e ∷ put))
+filled_put_by : (b : Bool) (e : Address × List Row) (es put : Table Row) (new : List Row) → (new ≡ [] → ⊥) → (e.1 ≡ [] → ⊥) → AreFilled es
+    → AreFilled put → AreFilled (cond b ((e.0, new) ∷ es) (e ∷ put))
 filled_put_by true e es put new some other f g = (some, f)
 filled_put_by false e es put new some other f g = (other, g)
 
-filled_put : (a : Address) (table : Table Row) (new : List Row) → (new ≡ [] → ⊥) → AreFilled table → AreFilled (insert_entry same table a new)
+filled_put : (a : Address) (table : Table Row) (new : List Row) → (new ≡ [] → ⊥) → AreFilled table
+    → AreFilled (insert_entry same table a new)
 filled_put a [] new some f = (some, tt)
-filled_put a (e ∷ es) new some f = filled_put_by (same a e.0) e es (insert_entry same es a new) new some f.0 f.1 (filled_put a es new some f.1)
+filled_put a (e ∷ es) new some f =
+    filled_put_by (same a e.0) e es (insert_entry same es a new) new some f.0 f.1 (filled_put a es new some f.1)
 
 pub filled_with : (a : Address) (table : Table Row) (new : List Row) → AreFilled table → AreFilled (with_rows table a new)
 filled_with a table [] f = filled_removed a table f
@@ -40,7 +44,8 @@ filled_with a table (x ∷ xs) f = filled_put a table (x ∷ xs) (λ e. cc) f
 
 -- ---- how many there are
 
-less_by : (b : Bool) (e : Address × List Row) (es gone : Table Row) → length gone ≤ length es → length (cond b es (e ∷ gone)) ≤ length (e ∷ es)
+less_by : (b : Bool) (e : Address × List Row) (es gone : Table Row) → length gone ≤ length es
+    → length (cond b es (e ∷ gone)) ≤ length (e ∷ es)
 less_by true e es gone le = omega arith
 less_by false e es gone le = omega arith
 
@@ -49,16 +54,21 @@ few_removed a [] = omega arith
 few_removed a (e ∷ es) = less_by (same a e.0) e es (remove_entry (same a) es) (few_removed a es)
 
 -- one more at most, and none where the address has rows already
-few_by : (b : Bool) (e : Address × List Row) (es put : Table Row) (new : List Row) (o : Option (List Row)) → (length put ≤ length es + 1) × ((unwrap_or o [] ≡ [] → ⊥) → length put ≡ length es)
-    → (length (cond b ((e.0, new) ∷ es) (e ∷ put)) ≤ length (e ∷ es) + 1) × ((unwrap_or (cond b (Some e.1) o) [] ≡ [] → ⊥) → length (cond b ((e.0, new) ∷ es) (e ∷ put)) ≡ length (e ∷ es))
+few_by : (b : Bool) (e : Address × List Row) (es put : Table Row) (new : List Row) (o : Option (List Row))
+    → (length put ≤ length es + 1) × ((unwrap_or o [] ≡ [] → ⊥) → length put ≡ length es)
+    → (length (cond b ((e.0, new) ∷ es) (e ∷ put)) ≤ length (e ∷ es) + 1)
+    × ((unwrap_or (cond b (Some e.1) o) [] ≡ [] → ⊥) → length (cond b ((e.0, new) ∷ es) (e ∷ put)) ≡ length (e ∷ es))
 few_by true e es put new o few = (omega arith, λ some. refl)
 few_by false e es put new o few = (omega (arith, few.0), λ some. ap suc (few.1 some))
 
-few_put : (a : Address) (table : Table Row) (new : List Row) → (length (insert_entry same table a new) ≤ length table + 1) × ((rows_at a table ≡ [] → ⊥) → length (insert_entry same table a new) ≡ length table)
+few_put : (a : Address) (table : Table Row) (new : List Row)
+    → (length (insert_entry same table a new) ≤ length table + 1)
+    × ((rows_at a table ≡ [] → ⊥) → length (insert_entry same table a new) ≡ length table)
 few_put a [] new = (omega arith, λ some. absurd (some refl))
 few_put a (e ∷ es) new = few_by (same a e.0) e es (insert_entry same es a new) new (lookup (same a) es) (few_put a es new)
 
-few_with : (a : Address) (table : Table Row) (new rows : List Row) → rows_at a table ≡ rows → length table ≤ 4096 → (rows_at a table ≡ [] → length table < 4096) → length (with_rows table a new) ≤ 4096
+few_with : (a : Address) (table : Table Row) (new rows : List Row) → rows_at a table ≡ rows → length table ≤ 4096
+    → (rows_at a table ≡ [] → length table < 4096) → length (with_rows table a new) ≤ 4096
 few_with a table [] rows e few room = omega (arith, few_removed a table)
 few_with a table (x ∷ xs) [] e few room = omega (arith, (few_put a table (x ∷ xs)).0, room e)
 few_with a table (x ∷ xs) (r ∷ rs) e few room = omega (arith, few, (few_put a table (x ∷ xs)).1 (λ none. clash (sym e ∙ none))) where
@@ -67,13 +77,16 @@ few_with a table (x ∷ xs) (r ∷ rs) e few room = omega (arith, few, (few_put 
 
 -- ---- what is kept
 
-pub kept_sums : (table : Table Row) (old new : List (UsageKey × Sum)) → IsKept table old → ((q : UsageKey) → sum_at q new ≡ sum_at q old) → IsKept table new
-kept_sums table old new k e = record { payloads = k.payloads; rows = k.rows; filled = k.filled; few = k.few; totals = λ q. e q ∙ k.totals q }
+pub kept_sums : (table : Table Row) (old new : List (UsageKey × Sum)) → IsKept table old → ((q : UsageKey) → sum_at q new ≡ sum_at q old)
+    → IsKept table new
+kept_sums table old new k e =
+    record { payloads = k.payloads; rows = k.rows; filled = k.filled; few = k.few; totals = λ q. e q ∙ k.totals q }
 
 pub kept_table : (table other : Table Row) (sums : List (UsageKey × Sum)) → other ≡ table → IsKept table sums → IsKept other sums
 kept_table table other sums e k = subst (λ t. IsKept t sums) (sym e) k
 
-pub kept_added : (a : Address) (table other : Table Row) (payload : List ℕ) (old new : List (UsageKey × Sum)) → IsKept table old → (rows_at a table ≡ [] → length table < 4096)
+pub kept_added : (a : Address) (table other : Table Row) (payload : List ℕ) (old new : List (UsageKey × Sum)) → IsKept table old
+    → (rows_at a table ≡ [] → length table < 4096)
     → other ≡ added table a (row_of payload) → ((q : UsageKey) → sum_at q new ≡ total_at q other) → IsKept other new
 kept_added a table other payload old new k room e totals = record {
   payloads = added k.payloads a payload;
@@ -85,7 +98,8 @@ kept_added a table other payload old new k room e totals = record {
   totals = totals;
 }
 
-pub kept_removed : (a : Address) (table other : Table Row) (place : ℕ) (old new : List (UsageKey × Sum)) → IsKept table old → place < length (rows_at a table)
+pub kept_removed : (a : Address) (table other : Table Row) (place : ℕ) (old new : List (UsageKey × Sum)) → IsKept table old
+    → place < length (rows_at a table)
     → other ≡ removed table a place → ((q : UsageKey) → sum_at q new ≡ total_at q (removed table a place)) → IsKept other new
 kept_removed a table other place old new k lt e totals = record {
   payloads = removed k.payloads a place;
@@ -101,7 +115,8 @@ kept_removed a table other place old new k lt e totals = record {
 
 -- ---- the sums fit, and those of a row that stands there are kept
 
-pub kept_fits : (table : Table Row) (old new : List (UsageKey × Sum)) → IsKept table old → ((q : UsageKey) → sum_at q new ≡ sum_at q old) → (q : UsageKey) → IsFitting (2 ^ 100) (sum_at q new)
+pub kept_fits : (table : Table Row) (old new : List (UsageKey × Sum)) → IsKept table old → ((q : UsageKey) → sum_at q new ≡ sum_at q old)
+    → (q : UsageKey) → IsFitting (2 ^ 100) (sum_at q new)
 kept_fits table old new k e q =
     let few : length k.payloads ≤ 8192 = omega (arith, k.few, ap length k.rows, length_kept k.payloads) in
     subst (IsFitting (2 ^ 100)) (sym (e q ∙ k.totals q ∙ ap (total_at q) k.rows)) (total_fits q k.payloads few) where
@@ -133,7 +148,8 @@ module _ (f : Row → Option ℤ) where
   last_some (x ∷ xs) zero d lt e = or_some_right (last f xs) (f x) e
   last_some (x ∷ xs) (suc i) d lt e = or_some_left (last f xs) (f x) (last_some xs i d (omega arith) e)
 
-  usage_some : (rows : List Row) (i : ℕ) (d : Row) → i < length rows → is_some (f (get_or rows i d)) ≡ true → is_some (usage_by f rows) ≡ true
+  usage_some : (rows : List Row) (i : ℕ) (d : Row) → i < length rows → is_some (f (get_or rows i d)) ≡ true
+      → is_some (usage_by f rows) ≡ true
   usage_some rows i d lt e = less_some _ _ (last_some rows i d lt e) (first_some rows i d lt e)
 
 counted_some : (u : Option ℤ) (rest : Sum) → is_some u ≡ true → with_usage u rest ≡ no_sum → ⊥
@@ -144,14 +160,16 @@ has_by : (q : UsageKey) (sums : List (UsageKey × Sum)) (b : Bool) → has_sum q
 has_by q sums true e other = refl
 has_by q sums false e other = absurd (other (sum_none q sums e))
 
-pub kept_there : (a : Address) (table : Table Row) (sums : List (UsageKey × Sum)) (place : ℕ) → IsKept table sums → place < length (rows_at a table)
+pub kept_there : (a : Address) (table : Table Row) (sums : List (UsageKey × Sum)) (place : ℕ) → IsKept table sums
+    → place < length (rows_at a table)
     → (q : UsageKey) (d : Row) → is_some (amount_at q (get_or (rows_at a table) place d)) ≡ true → has_sum q sums ≡ true
 kept_there a table sums place k lt q d e =
     has_by q sums (has_sum q sums) refl (λ none. counted_some (usage_at q (rows_at a table)) (total_at q (remove_entry (same a) table))
     (usage_some (amount_at q) (rows_at a table) place d lt e) (sym (k.totals q ∙ total_split q a table) ∙ none))
 
 -- the sums before the row of an address goes
-pub kept_before : (a : Address) (table : Table Row) (sums : List (UsageKey × Sum)) → IsKept table sums → (q : UsageKey) → sum_at q sums ≡ total_at q (with_rows table a (rows_at a table))
+pub kept_before : (a : Address) (table : Table Row) (sums : List (UsageKey × Sum)) → IsKept table sums → (q : UsageKey)
+    → sum_at q sums ≡ total_at q (with_rows table a (rows_at a table))
 kept_before a table sums k q = k.totals q ∙ sym (total_same q a table)
 
 -- ---- a row that was put behind the others
@@ -168,20 +186,26 @@ length_end : (rows : List Row) (row : Row) → length rows < length (rows ++ row
 length_end [] row = omega arith
 length_end (x ∷ xs) row = omega (arith, length_end xs row)
 
-module _ (a : Address) (table other : Table Row) (row : Row) (place : ℕ) (e : other ≡ added table a row) (at : place ≡ length (rows_at a table)) where
+module _ (a : Address) (table other : Table Row) (row : Row) (place : ℕ) (e : other ≡ added table a row)
+    (at : place ≡ length (rows_at a table)) where
   put_rows : rows_at a other ≡ rows_at a table ++ row ∷ []
   put_rows = ap (rows_at a) e ∙ rows_with a table (rows_at a table ++ row ∷ []) (append_some (rows_at a table) row)
 
   pub put_place : place < length (rows_at a other)
-  put_place = subst (λ n. n < length (rows_at a other)) (sym at) (subst (λ rs. length (rows_at a table) < length rs) (sym put_rows) (length_end (rows_at a table) row))
+  put_place =
+      subst (λ n. n < length (rows_at a other)) (sym at)
+      (subst (λ rs. length (rows_at a table) < length rs) (sym put_rows) (length_end (rows_at a table) row))
 
   pub put_row : (d : Row) → get_or (rows_at a other) place d ≡ row
-  put_row d = ap (λ rs. get_or rs place d) put_rows ∙ ap (λ n. get_or (rows_at a table ++ row ∷ []) n d) at ∙ get_end (rows_at a table) row d
+  put_row d =
+      ap (λ rs. get_or rs place d) put_rows ∙ ap (λ n. get_or (rows_at a table ++ row ∷ []) n d) at ∙ get_end (rows_at a table) row d
 
   pub put_totals : (q : UsageKey) → total_at q (with_rows other a (remove (rows_at a other) place)) ≡ total_at q table
   put_totals q =
-      ap (λ rs. total_at q (with_rows other a (remove rs place))) put_rows ∙ ap (λ n. total_at q (with_rows other a (remove (rows_at a table ++ row ∷ []) n))) at
-      ∙ ap (λ rs. total_at q (with_rows other a rs)) (remove_end (rows_at a table) row) ∙ ap (λ t. total_at q (with_rows t a (rows_at a table))) e
+      ap (λ rs. total_at q (with_rows other a (remove rs place))) put_rows
+      ∙ ap (λ n. total_at q (with_rows other a (remove (rows_at a table ++ row ∷ []) n))) at
+      ∙ ap (λ rs. total_at q (with_rows other a rs)) (remove_end (rows_at a table) row)
+      ∙ ap (λ t. total_at q (with_rows t a (rows_at a table))) e
       ∙ total_again q a table (rows_at a table ++ row ∷ []) (rows_at a table) (append_some (rows_at a table) row) ∙ total_same q a table
 
 -- ---- a row that was put in the place of another
@@ -201,7 +225,8 @@ length_set [] i row lt = absurd (omega arith)
 length_set (x ∷ xs) zero row lt = omega arith
 length_set (x ∷ xs) (suc i) row lt = omega (arith, length_set xs i row (omega arith))
 
-module _ (a : Address) (table other : Table Row) (row : Row) (place : ℕ) (lt : place < length (rows_at a table)) (e : other ≡ replaced table a place row) where
+module _ (a : Address) (table other : Table Row) (row : Row) (place : ℕ) (lt : place < length (rows_at a table))
+    (e : other ≡ replaced table a place row) where
   set_rows : rows_at a other ≡ slice_set (rows_at a table) place row
   set_rows = ap (rows_at a) e ∙ rows_with a table (slice_set (rows_at a table) place row) (set_some (rows_at a table) place row lt)
 
@@ -211,24 +236,30 @@ module _ (a : Address) (table other : Table Row) (row : Row) (place : ℕ) (lt :
   pub set_row : (d : Row) → get_or (rows_at a other) place d ≡ row
   set_row d = ap (λ rs. get_or rs place d) set_rows ∙ get_set (rows_at a table) place row d lt
 
-  pub set_totals : (q : UsageKey) → total_at q (with_rows other a (remove (rows_at a other) place)) ≡ total_at q (with_rows table a (remove (rows_at a table) place))
+  pub set_totals : (q : UsageKey)
+      → total_at q (with_rows other a (remove (rows_at a other) place)) ≡ total_at q (with_rows table a (remove (rows_at a table) place))
   set_totals q =
-      ap (λ rs. total_at q (with_rows other a (remove rs place))) set_rows ∙ ap (λ rs. total_at q (with_rows other a rs)) (remove_set (rows_at a table) place row lt)
+      ap (λ rs. total_at q (with_rows other a (remove rs place))) set_rows
+      ∙ ap (λ rs. total_at q (with_rows other a rs)) (remove_set (rows_at a table) place row lt)
       ∙ ap (λ t. total_at q (with_rows t a (remove (rows_at a table) place))) e
-      ∙ total_again q a table (slice_set (rows_at a table) place row) (remove (rows_at a table) place) (set_some (rows_at a table) place row lt)
+      ∙ total_again q a table (slice_set (rows_at a table) place row) (remove (rows_at a table) place)
+      (set_some (rows_at a table) place row lt)
 
 -- the sums fit while a row is gone
-pub gone_fits : (a : Address) (table : Table Row) (place : ℕ) (old now : List (UsageKey × Sum)) → IsKept table old → place < length (rows_at a table)
+pub gone_fits : (a : Address) (table : Table Row) (place : ℕ) (old now : List (UsageKey × Sum)) → IsKept table old
+    → place < length (rows_at a table)
     → ((q : UsageKey) → sum_at q now ≡ total_at q (removed table a place)) → (q : UsageKey) → IsFitting (2 ^ 100) (sum_at q now)
 gone_fits a table place old now k lt totals =
     kept_fits (removed table a place) now now (kept_removed a table (removed table a place) place old now k lt refl totals) (λ q. refl)
 
-pub kept_replaced : (a : Address) (table other : Table Row) (place : ℕ) (payload : List ℕ) (old new : List (UsageKey × Sum)) → IsKept table old → place < length (rows_at a table)
+pub kept_replaced : (a : Address) (table other : Table Row) (place : ℕ) (payload : List ℕ) (old new : List (UsageKey × Sum))
+    → IsKept table old → place < length (rows_at a table)
     → other ≡ replaced table a place (row_of payload) → ((q : UsageKey) → sum_at q new ≡ total_at q other) → IsKept other new
 kept_replaced a table other place payload old new k lt e totals = record {
   payloads = replaced k.payloads a place payload;
   rows = e ∙ ap (λ t. with_rows t a (slice_set (rows_at a t) place (row_of payload))) k.rows
-      ∙ kept_edit a k.payloads [] (slice_set (rows_at a (kept k.payloads)) place (row_of payload)) (slice_set (rows_at a k.payloads) place payload)
+      ∙ kept_edit a k.payloads [] (slice_set (rows_at a (kept k.payloads)) place (row_of payload))
+      (slice_set (rows_at a k.payloads) place payload)
       (ap (λ rs. slice_set rs place (row_of payload)) (kept_rows a k.payloads) ∙ sym (map-set row_of (rows_at a k.payloads) place payload));
   filled = subst AreFilled (sym e) (filled_with a table _ k.filled);
   few = subst (λ t. length t ≤ 4096) (sym e) (few_with a table _ (rows_at a table) refl k.few (λ none. absurd (none_lt none)));
@@ -239,23 +270,35 @@ kept_replaced a table other place payload old new k lt e totals = record {
 
 -- ---- an edit of payloads and of what is kept of them
 
-pub added_stands : (new old : Table Row) (a : Address) (payload : List ℕ) → new ≡ added old a (row_of payload) → (table : Table (List ℕ)) → old ≡ kept table → new ≡ kept (added table a payload)
+pub added_stands : (new old : Table Row) (a : Address) (payload : List ℕ) → new ≡ added old a (row_of payload) → (table : Table (List ℕ))
+    → old ≡ kept table → new ≡ kept (added table a payload)
 added_stands new old a payload e table is =
     e ∙ ap (λ t. added t a (row_of payload)) is
     ∙ kept_edit a table [] (rows_at a (kept table) ++ row_of payload ∷ []) (rows_at a table ++ payload ∷ [])
     (ap (λ rs. rs ++ row_of payload ∷ []) (kept_rows a table) ∙ sym (map-append row_of (rows_at a table) (payload ∷ [])))
 
-pub replaced_stands : (new old : Table Row) (a : Address) (place : ℕ) (payload : List ℕ) → new ≡ replaced old a place (row_of payload) → (table : Table (List ℕ)) → old ≡ kept table → new ≡ kept (replaced table a place payload)
+pub replaced_stands : (new old : Table Row) (a : Address) (place : ℕ) (payload : List ℕ) → new ≡ replaced old a place (row_of payload)
+    → (table : Table (List ℕ)) → old ≡ kept table → new ≡ kept (replaced table a place payload)
 replaced_stands new old a place payload e table is =
     e ∙ ap (λ t. replaced t a place (row_of payload)) is
     ∙ kept_edit a table [] (slice_set (rows_at a (kept table)) place (row_of payload)) (slice_set (rows_at a table) place payload)
     (ap (λ rs. slice_set rs place (row_of payload)) (kept_rows a table) ∙ sym (map-set row_of (rows_at a table) place payload))
 
-pub removed_stands : (new old : Table Row) (a : Address) (place : ℕ) → new ≡ removed old a place → (table : Table (List ℕ)) → old ≡ kept table → new ≡ kept (removed table a place)
+pub removed_stands : (new old : Table Row) (a : Address) (place : ℕ) → new ≡ removed old a place → (table : Table (List ℕ))
+    → old ≡ kept table → new ≡ kept (removed table a place)
 removed_stands new old a place e table is =
     e ∙ ap (λ t. removed t a place) is
     ∙ kept_edit a table [] (remove (rows_at a (kept table)) place) (remove (rows_at a table) place)
     (ap (λ rs. remove rs place) (kept_rows a table) ∙ sym (map-remove row_of (rows_at a table) place))
+
+-- an edit that was made, or wasn't
+pub by_result : {T E A B C : Type 0} (r : Result T E) → OnOk r A → OnErr r B → (A → C) → (B → C) → C
+by_result (Ok x) a b f g = f a
+by_result (Err e) a b f g = g b
+
+pub err_of : {T E P : Type 0} (r : Result T E) → P → OnErr r P
+err_of (Ok x) p = tt
+err_of (Err e) p = p
 
 pub ok_at : {T E : Type 0} {P : Type 0} (r : Result T E) → P → OnOk r P
 ok_at (Ok x) p = p

@@ -27,7 +27,8 @@ pub record IsMending (before after : UsageKey → Option ℤ) (old now : List (U
   pub ordered : IsStrictlySortedBy key_cmp left
   pub there : (q : UsageKey) → has_key q left ≡ true → has_sum q old ≡ true
   pub waiting : (q : UsageKey) → has_key q left ≡ true → find_sum q now ≡ find_sum q old
-  pub mended : (q : UsageKey) (rest : Sum) → has_key q left ≡ false → sum_at q old ≡ with_usage (before q) rest → sum_at q now ≡ with_usage (after q) rest
+  pub mended : (q : UsageKey) (rest : Sum) → has_key q left ≡ false → sum_at q old ≡ with_usage (before q) rest
+      → sum_at q now ≡ with_usage (after q) rest
   pub stays : (q : UsageKey) → has_sum q old ≡ true → has_sum q now ≡ true
 
 -- ---- a row's keys
@@ -44,12 +45,14 @@ has_amount q (e ∷ es) = found_by (is_at (key_cmp q) e.0) (has_key q (keys_of e
 both : true ≡ false → ⊥
 both e = cc
 
-none_by : (o : Option ℤ) → is_some o ≡ false → o ≡ None
+pub none_by : (o : Option ℤ) → is_some o ≡ false → o ≡ None
 none_by None e = refl
 none_by (Some v) e = absurd cc
 
-pub mending_starts : (before after : UsageKey → Option ℤ) (old : List (UsageKey × Sum)) (row : Row) → IsStrictlySortedBy key_cmp (keys_of row)
-    → ((q : UsageKey) → is_some (amount_at q row) ≡ true → has_sum q old ≡ true) → ((q : UsageKey) → amount_at q row ≡ None → before q ≡ after q)
+pub mending_starts : (before after : UsageKey → Option ℤ) (old : List (UsageKey × Sum)) (row : Row)
+    → IsStrictlySortedBy key_cmp (keys_of row)
+    → ((q : UsageKey) → is_some (amount_at q row) ≡ true → has_sum q old ≡ true)
+    → ((q : UsageKey) → amount_at q row ≡ None → before q ≡ after q)
     → IsMending before after old old (keys_of row)
 mending_starts before after old row ordered there same = record {
   ordered = ordered;
@@ -61,37 +64,41 @@ mending_starts before after old row ordered there same = record {
 
 -- ---- one key
 
-or_right : (a b : Bool) → b ≡ true → a || b ≡ true
+pub or_right : (a b : Bool) → b ≡ true → a || b ≡ true
 or_right true b e = refl
 or_right false b e = e
 
-or_both : (a b : Bool) → a ≡ false → b ≡ false → a || b ≡ false
+pub or_both : (a b : Bool) → a ≡ false → b ≡ false → a || b ≡ false
 or_both true b e f = e
 or_both false b e f = f
 
-has_first : (k : UsageKey) (left : List UsageKey) → has_key k (k ∷ left) ≡ true
+pub has_first : (k : UsageKey) (left : List UsageKey) → has_key k (k ∷ left) ≡ true
 has_first k left = ap (λ o. is_eq o || has_key k left) (tied_itself key_cmp_total k)
 
-apart_by : (k q y : UsageKey) (others : List UsageKey) (test : Bool) → is_at (key_cmp q) y ≡ test → key_cmp k y ≡ Less → (has_key q others ≡ true → is_eq (key_cmp k q) ≡ false) → test || has_key q others ≡ true → is_eq (key_cmp k q) ≡ false
+apart_by : (k q y : UsageKey) (others : List UsageKey) (test : Bool) → is_at (key_cmp q) y ≡ test → key_cmp k y ≡ Less
+    → (has_key q others ≡ true → is_eq (key_cmp k q) ≡ false) → test || has_key q others ≡ true → is_eq (key_cmp k q) ≡ false
 apart_by k q y others true e below further has = ap is_eq (ap (key_cmp k) (same_by_test q y e) ∙ below)
 apart_by k q y others false e below further has = further has
 
 -- the first key is none of the later ones
-pub apart_in : (k q : UsageKey) (left : List UsageKey) → AllByRecursion (λ y. key_cmp k y ≡ Less) left → has_key q left ≡ true → is_eq (key_cmp k q) ≡ false
+pub apart_in : (k q : UsageKey) (left : List UsageKey) → AllByRecursion (λ y. key_cmp k y ≡ Less) left → has_key q left ≡ true
+    → is_eq (key_cmp k q) ≡ false
 apart_in k q [] below has = absurd cc
 apart_in k q (y ∷ ys) below has = apart_by k q y ys (is_at (key_cmp q) y) refl below.0 (apart_in k q ys below.1) has
 
 sum_same : (q : UsageKey) (a b : List (UsageKey × Sum)) → find_sum q a ≡ find_sum q b → sum_at q a ≡ sum_at q b
 sum_same q a b e = ap (λ o. unwrap_or o no_sum) e
 
-module _ (before after : UsageKey → Option ℤ) (old now new : List (UsageKey × Sum)) (k : UsageKey) (left : List UsageKey) (m : IsMending before after old now (k ∷ left))
+module _ (before after : UsageKey → Option ℤ) (old now new : List (UsageKey × Sum)) (k : UsageKey) (left : List UsageKey)
+    (m : IsMending before after old now (k ∷ left))
     (here : (rest : Sum) → sum_at k now ≡ with_usage (before k) rest → sum_at k new ≡ with_usage (after k) rest)
     (others : (q : UsageKey) → is_eq (key_cmp k q) ≡ false → find_sum q new ≡ find_sum q now) (put : has_sum k new ≡ true) where
   stays_by : (q : UsageKey) (test : Bool) → is_eq (key_cmp k q) ≡ test → has_sum q old ≡ true → has_sum q new ≡ true
   stays_by q true e has = subst (λ p. has_sum p new ≡ true) (same_by_test k q e) put
   stays_by q false e has = ap is_some (others q e) ∙ m.stays q has
 
-  mended_by : (q : UsageKey) (rest : Sum) (test : Bool) → is_eq (key_cmp k q) ≡ test → has_key q left ≡ false → sum_at q old ≡ with_usage (before q) rest → sum_at q new ≡ with_usage (after q) rest
+  mended_by : (q : UsageKey) (rest : Sum) (test : Bool) → is_eq (key_cmp k q) ≡ test → has_key q left ≡ false
+      → sum_at q old ≡ with_usage (before q) rest → sum_at q new ≡ with_usage (after q) rest
   mended_by q rest true e misses =
       subst (λ (p : UsageKey). sum_at p old ≡ with_usage (before p) rest → sum_at p new ≡ with_usage (after p) rest) (same_by_test k q e)
       (λ is. here rest (sum_same k now old (m.waiting k (has_first k left)) ∙ is))
@@ -110,7 +117,8 @@ module _ (before after : UsageKey → Option ℤ) (old now new : List (UsageKey 
 
 -- ---- the row that comes or goes
 
-pub sides_same : (q : UsageKey) (rows : List Row) (place : ℕ) (row : Row) (comes : Bool) → place < length rows → row ≡ get_or rows place row → amount_at q row ≡ None
+pub sides_same : (q : UsageKey) (rows : List Row) (place : ℕ) (row : Row) (comes : Bool) → place < length rows → row ≡ get_or rows place row
+    → amount_at q row ≡ None
     → usage_at q (side comes (remove rows place) rows) ≡ usage_at q (side comes rows (remove rows place))
 sides_same q rows place row true lt at misses = usage_removed (amount_at q) rows place row lt (ap (amount_at q) (sym at) ∙ misses)
 sides_same q rows place row false lt at misses = sym (usage_removed (amount_at q) rows place row lt (ap (amount_at q) (sym at) ∙ misses))
@@ -122,14 +130,16 @@ used_before rows place comes q = usage_at q (side comes (remove rows place) rows
 abbrev pub used_after : List Row → ℕ → Bool → UsageKey → Option ℤ
 used_after rows place comes q = usage_at q (side comes rows (remove rows place))
 
-pub mending_step : (rows : List Row) (place : ℕ) (comes : Bool) (old now new : List (UsageKey × Sum)) (k : UsageKey) (left keys : List UsageKey) (u v : Option ℤ)
+pub mending_step : (rows : List Row) (place : ℕ) (comes : Bool) (old now new : List (UsageKey × Sum)) (k : UsageKey)
+    (left keys : List UsageKey) (u v : Option ℤ)
     → IsMending (used_before rows place comes) (used_after rows place comes) old now keys → keys ≡ k ∷ left
     → u ≡ used_before rows place comes k → v ≡ used_after rows place comes k
     → ((rest : Sum) → sum_at k now ≡ with_usage u rest → sum_at k new ≡ with_usage v rest)
     → ((q : UsageKey) → is_eq (key_cmp k q) ≡ false → find_sum q new ≡ find_sum q now) → has_sum k new ≡ true
     → IsMending (used_before rows place comes) (used_after rows place comes) old new left
 mending_step rows place comes old now new k left keys u v m e is_u is_v here others put =
-    mending_goes_on _ _ old now new k left (subst (λ ks. IsMending (used_before rows place comes) (used_after rows place comes) old now ks) e m)
+    mending_goes_on _ _ old now new k left (subst (λ ks. IsMending (used_before rows place comes) (used_after rows place comes) old now ks)
+    e m)
     (λ rest is. here rest (is ∙ ap (λ o. with_usage o rest) (sym is_u)) ∙ ap (λ o. with_usage o rest) is_v) others put
 
 pub next_waits : (before after : UsageKey → Option ℤ) (old now : List (UsageKey × Sum)) (k : UsageKey) (left keys : List UsageKey)
@@ -144,20 +154,27 @@ pub record IsMakingRoom (row : Row) (old now : List (UsageKey × Sum)) (left : L
   pub there : (q : UsageKey) → is_some (amount_at q row) ≡ true → has_key q left ≡ false → has_sum q now ≡ true
 
 pub room_starts : (row : Row) (old : List (UsageKey × Sum)) (left : List UsageKey) → left ≡ keys_of row → IsMakingRoom row old old left
-room_starts row old left e = record { same = λ q. refl; there = λ q has misses. absurd (both (sym has ∙ has_amount q row ∙ ap (has_key q) (sym e) ∙ misses)) }
+room_starts row old left e =
+    record { same = λ q. refl; there = λ q has misses. absurd (both (sym has ∙ has_amount q row ∙ ap (has_key q) (sym e) ∙ misses)) }
 
 room_by : (row : Row) (k : UsageKey) (left : List UsageKey) (old now new : List (UsageKey × Sum)) → IsMakingRoom row old now (k ∷ left)
     → ((q : UsageKey) → has_sum q now ≡ true → has_sum q new ≡ true) → has_sum k new ≡ true
-    → (q : UsageKey) (test : Bool) → is_at (key_cmp q) k ≡ test → is_some (amount_at q row) ≡ true → has_key q left ≡ false → has_sum q new ≡ true
+    → (q : UsageKey) (test : Bool) → is_at (key_cmp q) k ≡ test → is_some (amount_at q row) ≡ true → has_key q left ≡ false
+    → has_sum q new ≡ true
 room_by row k left old now new m stays here q true e has misses = subst (λ p. has_sum p new ≡ true) (sym (same_by_test q k e)) here
 room_by row k left old now new m stays here q false e has misses = stays q (m.there q has (or_both _ _ e misses))
 
-pub room_step : (row : Row) (k : UsageKey) (left keys : List UsageKey) (old now new : List (UsageKey × Sum)) → IsMakingRoom row old now keys → keys ≡ k ∷ left
+pub room_step : (row : Row) (k : UsageKey) (left keys : List UsageKey) (old now new : List (UsageKey × Sum)) → IsMakingRoom row old now keys
+    → keys ≡ k ∷ left
     → ((q : UsageKey) → sum_at q new ≡ sum_at q now) → ((q : UsageKey) → has_sum q now ≡ true → has_sum q new ≡ true) → has_sum k new ≡ true
     → IsMakingRoom row old new left
 room_step row k left keys old now new m e same stays here =
     let m' = subst (IsMakingRoom row old now) e m in
-    record { same = λ q. same q ∙ m.same q; there = λ q has misses. room_by row k left old now new m' stays here q (is_at (key_cmp q) k) refl has misses }
+    record {
+      same = λ q. same q ∙ m.same q;
+      there = λ q has misses. room_by row k left old now new m' stays here q (is_at (key_cmp q) k)
+          refl has misses;
+    }
 
 none_of : (o : Option Sum) → is_some o ≡ false → unwrap_or o no_sum ≡ no_sum
 none_of None e = refl
@@ -167,7 +184,8 @@ pub sum_none : (q : UsageKey) (sums : List (UsageKey × Sum)) → has_sum q sums
 sum_none q sums e = none_of (find_sum q sums) e
 
 -- a sum of nothing is put where there is none
-pub room_put : (k q : UsageKey) (old new : List (UsageKey × Sum)) (test : Bool) → is_eq (key_cmp k q) ≡ test → find_sum q new ≡ cond test (Some no_sum) (find_sum q old) → has_sum k old ≡ false
+pub room_put : (k q : UsageKey) (old new : List (UsageKey × Sum)) (test : Bool) → is_eq (key_cmp k q) ≡ test
+    → find_sum q new ≡ cond test (Some no_sum) (find_sum q old) → has_sum k old ≡ false
     → (sum_at q new ≡ sum_at q old) × (has_sum q old ≡ true → has_sum q new ≡ true)
 room_put k q old new true e put absent =
     let same : k ≡ q = same_by_test k q e in

@@ -5,14 +5,13 @@ use Rattle.std.specs.declared.cmp.Ordering.{Ordering}
 use Rattle.std.specs.declared.cmp.Ordering.TheVariants.{Less, Equal, Greater}
 use Rattle.std.specs.Ordering.{match_ordering, is_eq, ordering_reverse}
 use Rattle.std.specs.Option.{option_or}
-use Rattle.std.specs.List.{AllByRecursion, list_any, flat_map}
+use Rattle.std.specs.List.{AllByRecursion, flat_map}
 use Rattle.std.specs.List.Sorted.{IsStrictlySortedBy}
 use Rattle.std.specs.Map.{keys_of}
 use Rattle.std.specs.BTreeMap.{is_at, insert_entry}
 use Rattle.std.proofs.lemmas.Bool.Decides.{nat_tests}
-use Rattle.std.proofs.lemmas.Map.Keys.{sorted_head, sorted_tail}
+use Rattle.std.proofs.lemmas.Map.Keys.{sorted_tail}
 use Rattle.std.proofs.lemmas.Cmp.{tied_itself}
-use Rattle.meter_address.specs.declared.address.Address.{Address}
 use Rattle.meter_usage.specs.declared.key.UsageKey.{UsageKey}
 use Rattle.meter_usage.specs.declared.sums.Sum.{Sum}
 use Rattle.meter_usage.specs.Keys.{key_cmp, key_cmp_total}
@@ -21,7 +20,7 @@ use Rattle.meter_usage.specs.Usage.{first, last, less, usage}
 use Rattle.meter_usage.specs.Sums.{with_usage, total, is_among, is_used, amounts_in, keys_in}
 use Rattle.meter_usage.specs.Table.{Table}
 use Rattle.meter_usage.proofs.SameKey.{same_key, same_by_test}
-use Rattle.meter_usage.proofs.KeyByKey.{has_amount, apart_in}
+use Rattle.meter_usage.proofs.KeyByKey.{has_amount}
 use Rattle.meter_usage.proofs.Payloads.{amount_all}
 
 -- ---- two lists in order of the same keys are the same
@@ -44,7 +43,8 @@ not_at_by Less e = refl
 not_at_by Equal e = absurd cc
 not_at_by Greater e = absurd cc
 
-below_all : (k x : UsageKey) (xs : List UsageKey) → key_cmp k x ≡ Less → AllByRecursion (λ y. key_cmp x y ≡ Less) xs → AllByRecursion (λ y. key_cmp k y ≡ Less) xs
+below_all : (k x : UsageKey) (xs : List UsageKey) → key_cmp k x ≡ Less → AllByRecursion (λ y. key_cmp x y ≡ Less) xs
+    → AllByRecursion (λ y. key_cmp k y ≡ Less) xs
 below_all k x [] e all = tt
 below_all k x (y ∷ ys) e all = (key_cmp_total.trans k x y e all.0, below_all k x ys e all.1)
 
@@ -56,31 +56,37 @@ among_first : (k : UsageKey) (xs : List UsageKey) → is_among k (k ∷ xs) ≡ 
 among_first k xs = ap (λ o. is_eq o || is_among k xs) (tied_itself key_cmp_total k)
 
 -- a key below the first of a list in order isn't among them
-missed : (k x : UsageKey) (xs : List UsageKey) → key_cmp k x ≡ Less → AllByRecursion (λ y. key_cmp x y ≡ Less) xs → is_among k (x ∷ xs) ≡ false
+missed : (k x : UsageKey) (xs : List UsageKey) → key_cmp k x ≡ Less → AllByRecursion (λ y. key_cmp x y ≡ Less) xs
+    → is_among k (x ∷ xs) ≡ false
 missed k x xs e all = below_none k (x ∷ xs) (e, below_all k x xs e all)
 
 clash : {A : Type 0} (b : Bool) → b ≡ true → b ≡ false → A
 clash b t f = let no_way : true ≡ false = sym t ∙ f in absurd cc
 
-tail_by : (q x : UsageKey) (xs ys : List UsageKey) (here : Bool) → is_at (key_cmp q) x ≡ here → AllByRecursion (λ y. key_cmp x y ≡ Less) xs → AllByRecursion (λ y. key_cmp x y ≡ Less) ys
+tail_by : (q x : UsageKey) (xs ys : List UsageKey) (here : Bool) → is_at (key_cmp q) x ≡ here → AllByRecursion (λ y. key_cmp x y ≡ Less) xs
+    → AllByRecursion (λ y. key_cmp x y ≡ Less) ys
     → here || is_among q xs ≡ here || is_among q ys → is_among q xs ≡ is_among q ys
 tail_by q x xs ys true e a b same =
     let is : q ≡ x = same_by_test q x e in
     ap (λ k. is_among k xs) is ∙ below_none x xs a ∙ sym (ap (λ k. is_among k ys) is ∙ below_none x ys b)
 tail_by q x xs ys false e a b same = same
 
-firsts : (o : Ordering) (x y : UsageKey) (xs ys : List UsageKey) → key_cmp x y ≡ o → IsStrictlySortedBy key_cmp (x ∷ xs) → IsStrictlySortedBy key_cmp (y ∷ ys)
+firsts : (o : Ordering) (x y : UsageKey) (xs ys : List UsageKey) → key_cmp x y ≡ o → IsStrictlySortedBy key_cmp (x ∷ xs)
+    → IsStrictlySortedBy key_cmp (y ∷ ys)
     → ((q : UsageKey) → is_among q (x ∷ xs) ≡ is_among q (y ∷ ys))
     → (x ≡ y → ((q : UsageKey) → is_among q xs ≡ is_among q ys) → xs ≡ ys) → x ∷ xs ≡ y ∷ ys
 unfolding IsStrictlySortedBy
 firsts Less x y xs ys e a b same rest = clash (is_among x (y ∷ ys)) (sym (same x) ∙ among_first x xs) (missed x y ys e b.0)
-firsts Greater x y xs ys e a b same rest = clash (is_among y (x ∷ xs)) (same y ∙ among_first y ys) (missed y x xs (less_of_greater x y e) a.0)
+firsts Greater x y xs ys e a b same rest =
+    clash (is_among y (x ∷ xs)) (same y ∙ among_first y ys) (missed y x xs (less_of_greater x y e) a.0)
 firsts Equal x y xs ys e a b same rest =
     let is : x ≡ y = same_key x y e in
     let below : AllByRecursion (λ z. key_cmp x z ≡ Less) ys = subst (λ k. AllByRecursion (λ z. key_cmp k z ≡ Less) ys) (sym is) b.0 in
-    ap (λ k. k ∷ xs) is ∙ ap (λ zs. y ∷ zs) (rest is (λ q. tail_by q x xs ys (is_at (key_cmp q) x) refl a.0 below (same q ∙ ap (λ k. is_at (key_cmp q) k || is_among q ys) (sym is))))
+    ap (λ k. k ∷ xs) is ∙ ap (λ zs. y ∷ zs) (rest is (λ q. tail_by q x xs ys (is_at (key_cmp q) x) refl a.0 below
+    (same q ∙ ap (λ k. is_at (key_cmp q) k || is_among q ys) (sym is))))
 
-pub same_members : (xs ys : List UsageKey) → IsStrictlySortedBy key_cmp xs → IsStrictlySortedBy key_cmp ys → ((q : UsageKey) → is_among q xs ≡ is_among q ys) → xs ≡ ys
+pub same_members : (xs ys : List UsageKey) → IsStrictlySortedBy key_cmp xs → IsStrictlySortedBy key_cmp ys
+    → ((q : UsageKey) → is_among q xs ≡ is_among q ys) → xs ≡ ys
 same_members [] [] a b same = refl
 same_members [] (y ∷ ys) a b same = clash (is_among y (y ∷ ys)) (among_first y ys) (sym (same y))
 same_members (x ∷ xs) [] a b same = clash (is_among x (x ∷ xs)) (among_first x xs) (same x)
@@ -89,8 +95,10 @@ same_members (x ∷ xs) (y ∷ ys) a b same = firsts (key_cmp x y) x y xs ys ref
 
 -- ---- noted amounts are in order
 
-above_put : (o : Ordering) (b k : UsageKey) (v : ℤ) (e : UsageKey × ℤ) (es put : Row) → key_cmp b k ≡ Less → key_cmp b e.0 ≡ Less → AllByRecursion (λ y. key_cmp b y ≡ Less) (keys_of es)
-    → AllByRecursion (λ y. key_cmp b y ≡ Less) (keys_of put) → AllByRecursion (λ y. key_cmp b y ≡ Less) (keys_of (match_ordering o ((k, v) ∷ e ∷ es) ((e.0, v) ∷ es) (e ∷ put)))
+above_put : (o : Ordering) (b k : UsageKey) (v : ℤ) (e : UsageKey × ℤ) (es put : Row) → key_cmp b k ≡ Less → key_cmp b e.0 ≡ Less
+    → AllByRecursion (λ y. key_cmp b y ≡ Less) (keys_of es)
+    → AllByRecursion (λ y. key_cmp b y ≡ Less) (keys_of put)
+    → AllByRecursion (λ y. key_cmp b y ≡ Less) (keys_of (match_ordering o ((k, v) ∷ e ∷ es) ((e.0, v) ∷ es) (e ∷ put)))
 above_put Less b k v e es put x y all later = (x, (y, all))
 above_put Equal b k v e es put x y all later = (y, all)
 above_put Greater b k v e es put x y all later = (y, later)
@@ -98,23 +106,29 @@ above_put Greater b k v e es put x y all later = (y, later)
 above_inserted : (b k : UsageKey) (v : ℤ) (es : Row) → key_cmp b k ≡ Less → AllByRecursion (λ y. key_cmp b y ≡ Less) (keys_of es)
     → AllByRecursion (λ y. key_cmp b y ≡ Less) (keys_of (insert_entry key_cmp es k v))
 above_inserted b k v [] x all = (x, tt)
-above_inserted b k v (e ∷ es) x all = above_put (key_cmp k e.0) b k v e es (insert_entry key_cmp es k v) x all.0 all.1 (above_inserted b k v es x all.1)
+above_inserted b k v (e ∷ es) x all =
+    above_put (key_cmp k e.0) b k v e es (insert_entry key_cmp es k v) x all.0 all.1 (above_inserted b k v es x all.1)
 
-ordered_put : (o : Ordering) (k : UsageKey) (v : ℤ) (e : UsageKey × ℤ) (es put : Row) → key_cmp k e.0 ≡ o → AllByRecursion (λ y. key_cmp e.0 y ≡ Less) (keys_of es)
-    → IsStrictlySortedBy key_cmp (keys_of es) → IsStrictlySortedBy key_cmp (keys_of put) → (key_cmp e.0 k ≡ Less → AllByRecursion (λ y. key_cmp e.0 y ≡ Less) (keys_of put))
+ordered_put : (o : Ordering) (k : UsageKey) (v : ℤ) (e : UsageKey × ℤ) (es put : Row) → key_cmp k e.0 ≡ o
+    → AllByRecursion (λ y. key_cmp e.0 y ≡ Less) (keys_of es)
+    → IsStrictlySortedBy key_cmp (keys_of es) → IsStrictlySortedBy key_cmp (keys_of put)
+    → (key_cmp e.0 k ≡ Less → AllByRecursion (λ y. key_cmp e.0 y ≡ Less) (keys_of put))
     → IsStrictlySortedBy key_cmp (keys_of (match_ordering o ((k, v) ∷ e ∷ es) ((e.0, v) ∷ es) (e ∷ put)))
 unfolding IsStrictlySortedBy
 ordered_put Less k v e es put is above sorted put_sorted put_above = ((is, below_all k e.0 (keys_of es) is above), (above, sorted))
 ordered_put Equal k v e es put is above sorted put_sorted put_above = (above, sorted)
 ordered_put Greater k v e es put is above sorted put_sorted put_above = (put_above (less_of_greater k e.0 is), put_sorted)
 
-ordered_inserted : (k : UsageKey) (v : ℤ) (es : Row) → IsStrictlySortedBy key_cmp (keys_of es) → IsStrictlySortedBy key_cmp (keys_of (insert_entry key_cmp es k v))
+ordered_inserted : (k : UsageKey) (v : ℤ) (es : Row) → IsStrictlySortedBy key_cmp (keys_of es)
+    → IsStrictlySortedBy key_cmp (keys_of (insert_entry key_cmp es k v))
 unfolding IsStrictlySortedBy
 ordered_inserted k v [] sorted = (tt, tt)
 ordered_inserted k v (e ∷ es) sorted =
-    ordered_put (key_cmp k e.0) k v e es (insert_entry key_cmp es k v) refl sorted.0 sorted.1 (ordered_inserted k v es sorted.1) (λ x. above_inserted e.0 k v es x sorted.0)
+    ordered_put (key_cmp k e.0) k v e es (insert_entry key_cmp es k v) refl sorted.0 sorted.1 (ordered_inserted k v es sorted.1)
+    (λ x. above_inserted e.0 k v es x sorted.0)
 
-ordered_if : (there : Bool) (a b : Row) → IsStrictlySortedBy key_cmp (keys_of a) → IsStrictlySortedBy key_cmp (keys_of b) → IsStrictlySortedBy key_cmp (keys_of (cond there a b))
+ordered_if : (there : Bool) (a b : Row) → IsStrictlySortedBy key_cmp (keys_of a) → IsStrictlySortedBy key_cmp (keys_of b)
+    → IsStrictlySortedBy key_cmp (keys_of (cond there a b))
 ordered_if true a b x y = x
 ordered_if false a b x y = y
 
@@ -149,7 +163,9 @@ module _ (q : UsageKey) where
 
   amount_append : (xs ys : Row) → amount_at q (xs ++ ys) ≡ option_or (amount_at q xs) (amount_at q ys)
   amount_append [] ys = refl
-  amount_append (x ∷ xs) ys = ap (λ o. cond (is_at (key_cmp q) x.0) (Some x.1) o) (amount_append xs ys) ∙ found_or (is_at (key_cmp q) x.0) x.1 (amount_at q xs) (amount_at q ys)
+  amount_append (x ∷ xs) ys =
+      ap (λ o. cond (is_at (key_cmp q) x.0) (Some x.1) o) (amount_append xs ys)
+      ∙ found_or (is_at (key_cmp q) x.0) x.1 (amount_at q xs) (amount_at q ys)
 
   first_some : (ps : List (List ℕ)) → is_some (amount_at q (flat_map all_amounts ps)) ≡ is_some (first (λ p. amount p q) ps)
   first_some [] = refl
@@ -175,7 +191,8 @@ module _ (q : UsageKey) where
   amounts_some : (table : Table (List ℕ)) → is_some (amount_at q (amounts_in table)) ≡ is_used table q
   amounts_some [] = refl
   amounts_some (m ∷ ms) =
-      ap is_some (amount_append (flat_map all_amounts m.1) (amounts_in ms)) ∙ some_or (amount_at q (flat_map all_amounts m.1)) (amount_at q (amounts_in ms))
+      ap is_some (amount_append (flat_map all_amounts m.1) (amounts_in ms))
+      ∙ some_or (amount_at q (flat_map all_amounts m.1)) (amount_at q (amounts_in ms))
       ∙ ap (λ b. b || is_some (amount_at q (amounts_in ms))) (usage_some m.1) ∙ ap (λ b. is_some (usage m.1 q) || b) (amounts_some ms)
 
   pub among_keys_in : (table : Table (List ℕ)) → is_among q (keys_in table) ≡ is_used table q

@@ -1,8 +1,12 @@
 pub mod Records
 pub mod Small
 pub mod Ends
+pub mod Parts
+pub mod Numbering
+pub mod Taken
 pub mod SameKey
 pub mod KeyByKey
+pub mod Walks
 pub mod Tables
 pub mod Payloads
 pub mod Edited

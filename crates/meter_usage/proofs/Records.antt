@@ -1,5 +1,5 @@
 -- The records of a payload, one after another.
-use Rattle.std.proofs.Common.{◌≡◌, ℕ, zero, suc, ◌-◌, ◌<◌, ◌≤◌, List, [], ◌∷◌, length, fold, Option, Some, None, Result, Ok, Err, ℤ, refl, sym, ap, ◌∙◌, false, ◌==◌, if◌then◌else◌, arith}
+use Rattle.std.proofs.Common.{◌≡◌, ℕ, ◌≤◌, List, length, fold, Option, Some, None, Ok, Err, ℤ, refl, ap, ◌∙◌, false, ◌==◌, if◌then◌else◌, arith}
 use Rattle.std.specs.List.{filter_map, cons_option}
 use Rattle.std.proofs.lemmas.Bool.Decides.{nat_tests}
 use Rattle.dif_vif.specs.declared.fault.RecordFault.{RecordFault}
@@ -13,7 +13,8 @@ use Rattle.meter_usage.specs.Amounts.{Row, noted, noted_if, given}
 pub not_instantaneous : {A : Type 0} (n : ℕ) (x : Option A) → (n ≡ 0 → ⊥) → None ≡ (if n == 0 then x else None)
 not_instantaneous n x other = let test : (n == 0) ≡ false = grind (arith, nat_tests) in rw test refl
 
-noted_next : (row : Row) (found : Option (UsageKey × ℤ)) (others : Row) → fold noted row (cons_option found others) ≡ fold noted (noted_if row found) others
+noted_next : (row : Row) (found : Option (UsageKey × ℤ)) (others : Row)
+    → fold noted row (cons_option found others) ≡ fold noted (noted_if row found) others
 noted_next row None others = refl
 noted_next row (Some entry) others = refl
 
@@ -21,7 +22,8 @@ noted_next row (Some entry) others = refl
 unfoldable pub noted_from : List ℕ → ℕ → Row → Row
 noted_from payload from row = fold noted row (filter_map (given payload) (spans_from (length payload) payload from))
 
-pub noted_here : (payload : List ℕ) (from : ℕ) (span : RecordSpan) (row : Row) → from ≤ length payload → next_of payload from ≡ Ok (Some span)
+pub noted_here : (payload : List ℕ) (from : ℕ) (span : RecordSpan) (row : Row) → from ≤ length payload
+    → next_of payload from ≡ Ok (Some span)
     → noted_from payload from row ≡ noted_from payload span.end (noted_if row (given payload span))
 unfolding noted_from
 noted_here payload from span row le e =
@@ -32,6 +34,8 @@ pub noted_done : (payload : List ℕ) (from : ℕ) (row : Row) → next_of paylo
 unfolding noted_from
 noted_done payload from row e = ap (λ spans. fold noted row (filter_map (given payload) spans)) (spans_done (length payload) payload from e)
 
-pub noted_stopped : (payload : List ℕ) (from : ℕ) (row : Row) (fault : RecordFault) → next_of payload from ≡ Err fault → noted_from payload from row ≡ row
+pub noted_stopped : (payload : List ℕ) (from : ℕ) (row : Row) (fault : RecordFault) → next_of payload from ≡ Err fault
+    → noted_from payload from row ≡ row
 unfolding noted_from
-noted_stopped payload from row fault e = ap (λ spans. fold noted row (filter_map (given payload) spans)) (spans_stopped (length payload) payload from fault e)
+noted_stopped payload from row fault e =
+    ap (λ spans. fold noted row (filter_map (given payload) spans)) (spans_stopped (length payload) payload from fault e)

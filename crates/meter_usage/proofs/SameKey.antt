@@ -155,7 +155,8 @@ then_equal Greater b e = absurd cc
 abbrev key_with : ℕ → ℕ → ℕ → Quantity → UnitName → ℤ → UsageKey
 key_with s t u q n e = record { storage = s; tariff = t; subunit = u; quantity = q; name = n; exponent = e }
 
-fields_same : (a b : UsageKey) → a.storage ≡ b.storage → a.tariff ≡ b.tariff → a.subunit ≡ b.subunit → a.quantity ≡ b.quantity → a.name ≡ b.name → a.exponent ≡ b.exponent → a ≡ b
+fields_same : (a b : UsageKey) → a.storage ≡ b.storage → a.tariff ≡ b.tariff → a.subunit ≡ b.subunit → a.quantity ≡ b.quantity
+    → a.name ≡ b.name → a.exponent ≡ b.exponent → a ≡ b
 fields_same a b s t u q n e =
     ap (λ x. key_with x a.tariff a.subunit a.quantity a.name a.exponent) s
     ∙ ap (λ x. key_with b.storage x a.subunit a.quantity a.name a.exponent) t

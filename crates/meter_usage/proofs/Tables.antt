@@ -1,7 +1,7 @@
 -- Tables of rows, and their totals, under an edit of one address's rows.
 use Rattle.std.proofs.Common.{◌≡◌, ℕ, zero, suc, ◌+◌, ◌*◌, ◌^◌, ◌<◌, ◌≤◌, Bool, true, false, cond, List, [], ◌∷◌, ◌++◌, map, length, remove, Option, Some, None, Result, Ok, Err, OnOk, OnErr, IfSome, ℤ, pos, neg_ℤ, ◌+ℤ◌, ◌≤ℤ◌, refl, sym, ap, ◌∙◌, arith}
 use Rattle.std.specs.Prelude.{slice_set}
-use Rattle.std.specs.Option.{unwrap_or, option_map, option_or}
+use Rattle.std.specs.Option.{unwrap_or, option_map}
 use Rattle.std.specs.Map.{lookup, remove_entry, set_value}
 use Rattle.std.specs.BTreeMap.{is_at}
 use Rattle.std.proofs.lemmas.Bool.Decides.{nat_tests}
@@ -16,22 +16,26 @@ use Rattle.meter_usage.specs.Amounts.{Row, row_of, amount_at, IsWithin}
 use Rattle.meter_usage.specs.Usage.{first, last, less, usage_at}
 use Rattle.meter_usage.specs.Sums.{with_usage, total_at, IsFitting}
 use Rattle.meter_usage.specs.Table.{Table, same, rows_at, with_rows, kept}
-use Rattle.meter_usage.proofs.Small.{lookup_small, row_small}
+use Rattle.meter_usage.proofs.Small.{either_small, lookup_small, row_small}
 
 -- ---- one address's rows are written
 
 module _ {X : Type 0} (a : Address) where
-  set_by : (b : Bool) (e : Address × List X) (es : Table X) (rows new : List X) → (lookup (same a) es ≡ Some rows → set_value (same a) es new ≡ insert_entry same es a new)
-      → cond b (Some e.1) (lookup (same a) es) ≡ Some rows → cond b ((e.0, new) ∷ es) (e ∷ set_value (same a) es new) ≡ cond b ((e.0, new) ∷ es) (e ∷ insert_entry same es a new)
+  set_by : (b : Bool) (e : Address × List X) (es : Table X) (rows new : List X)
+      → (lookup (same a) es ≡ Some rows → set_value (same a) es new ≡ insert_entry same es a new)
+      → cond b (Some e.1) (lookup (same a) es) ≡ Some rows
+      → cond b ((e.0, new) ∷ es) (e ∷ set_value (same a) es new) ≡ cond b ((e.0, new) ∷ es) (e ∷ insert_entry same es a new)
   set_by true e es rows new further is = refl
   set_by false e es rows new further is = ap (λ z. e ∷ z) (further is)
 
-  set_is_insert : (table : Table X) (rows new : List X) → lookup (same a) table ≡ Some rows → set_value (same a) table new ≡ insert_entry same table a new
+  set_is_insert : (table : Table X) (rows new : List X) → lookup (same a) table ≡ Some rows
+      → set_value (same a) table new ≡ insert_entry same table a new
   set_is_insert [] rows new is = absurd cc
   set_is_insert (e ∷ es) rows new is = set_by (same a e.0) e es rows new (set_is_insert es rows new) is
 
   -- writing rows that are some is having them
-  pub set_is_with : (table : Table X) (rows new : List X) → lookup (same a) table ≡ Some rows → (new ≡ [] → ⊥) → set_value (same a) table new ≡ with_rows table a new
+  pub set_is_with : (table : Table X) (rows new : List X) → lookup (same a) table ≡ Some rows → (new ≡ [] → ⊥)
+      → set_value (same a) table new ≡ with_rows table a new
   set_is_with table rows [] is some = absurd (some refl)
   set_is_with table rows (x ∷ xs) is some = set_is_insert table rows (x ∷ xs) is
 
@@ -67,7 +71,8 @@ kept_by (Some rows) = refl
 pub kept_rows : (a : Address) (table : Table (List ℕ)) → rows_at a (kept table) ≡ map row_of (rows_at a table)
 kept_rows a table = ap (λ o. unwrap_or o []) (lookup-map_values (map row_of) (same a) table) ∙ kept_by (lookup (same a) table)
 
-kept_removed_by : (b : Bool) (e : Address × List (List ℕ)) (es gone : Table (List ℕ)) (x : Table Row) → x ≡ kept gone → cond b (kept es) ((e.0, map row_of e.1) ∷ x) ≡ kept (cond b es (e ∷ gone))
+kept_removed_by : (b : Bool) (e : Address × List (List ℕ)) (es gone : Table (List ℕ)) (x : Table Row) → x ≡ kept gone
+    → cond b (kept es) ((e.0, map row_of e.1) ∷ x) ≡ kept (cond b es (e ∷ gone))
 kept_removed_by true e es gone x is = refl
 kept_removed_by false e es gone x is = ap (λ z. (e.0, map row_of e.1) ∷ z) is
 
@@ -80,15 +85,18 @@ kept_inserted_by : (b : Bool) (e : Address × List (List ℕ)) (es put : Table (
 kept_inserted_by true e es put new x is = refl
 kept_inserted_by false e es put new x is = ap (λ z. (e.0, map row_of e.1) ∷ z) is
 
-kept_inserted : (a : Address) (table : Table (List ℕ)) (new : List (List ℕ)) → insert_entry same (kept table) a (map row_of new) ≡ kept (insert_entry same table a new)
+kept_inserted : (a : Address) (table : Table (List ℕ)) (new : List (List ℕ))
+    → insert_entry same (kept table) a (map row_of new) ≡ kept (insert_entry same table a new)
 kept_inserted a [] new = refl
 kept_inserted a (e ∷ es) new = kept_inserted_by (same a e.0) e es (insert_entry same es a new) new _ (kept_inserted a es new)
 
-pub kept_with : (a : Address) (table : Table (List ℕ)) (new : List (List ℕ)) → with_rows (kept table) a (map row_of new) ≡ kept (with_rows table a new)
+pub kept_with : (a : Address) (table : Table (List ℕ)) (new : List (List ℕ))
+    → with_rows (kept table) a (map row_of new) ≡ kept (with_rows table a new)
 kept_with a table [] = kept_removed a table
 kept_with a table (x ∷ xs) = kept_inserted a table (x ∷ xs)
 
-pub kept_edit : (a : Address) (table : Table (List ℕ)) (old rows : List Row) (new : List (List ℕ)) → rows ≡ map row_of new → with_rows (kept table) a rows ≡ kept (with_rows table a new)
+pub kept_edit : (a : Address) (table : Table (List ℕ)) (old rows : List Row) (new : List (List ℕ)) → rows ≡ map row_of new
+    → with_rows (kept table) a rows ≡ kept (with_rows table a new)
 kept_edit a table old rows new e = ap (with_rows (kept table) a) e ∙ kept_with a table new
 
 -- ---- totals
@@ -104,32 +112,42 @@ swap_usage (Some u) (Some v) s =
     ap (λ (z : ℤ). sum_of (s.meters + 1 + 1) z) e
 
 module _ (q : UsageKey) (a : Address) where
-  total_by_test : (b : Bool) (e : Address × List Row) (es gone : Table Row) (o : Option (List Row)) → total_at q es ≡ with_usage (usage_at q (unwrap_or o [])) (total_at q gone)
-      → with_usage (usage_at q e.1) (total_at q es) ≡ with_usage (usage_at q (unwrap_or (cond b (Some e.1) o) [])) (total_at q (cond b es (e ∷ gone)))
+  total_by_test : (b : Bool) (e : Address × List Row) (es gone : Table Row) (o : Option (List Row))
+      → total_at q es ≡ with_usage (usage_at q (unwrap_or o [])) (total_at q gone)
+      → with_usage (usage_at q e.1) (total_at q es)
+      ≡ with_usage (usage_at q (unwrap_or (cond b (Some e.1) o) [])) (total_at q (cond b es (e ∷ gone)))
   total_by_test true e es gone o is = refl
-  total_by_test false e es gone o is = ap (with_usage (usage_at q e.1)) is ∙ swap_usage (usage_at q e.1) (usage_at q (unwrap_or o [])) (total_at q gone)
+  total_by_test false e es gone o is =
+      ap (with_usage (usage_at q e.1)) is ∙ swap_usage (usage_at q e.1) (usage_at q (unwrap_or o [])) (total_at q gone)
 
   -- the usage of one address, and that of the others
-  pub total_split : (table : Table Row) → total_at q table ≡ with_usage (usage_at q (rows_at a table)) (total_at q (remove_entry (same a) table))
+  pub total_split : (table : Table Row)
+      → total_at q table ≡ with_usage (usage_at q (rows_at a table)) (total_at q (remove_entry (same a) table))
   total_split [] = refl
   total_split (e ∷ es) = total_by_test (same a e.0) e es (remove_entry (same a) es) (lookup (same a) es) (total_split es)
 
-  insert_by_test : (b : Bool) (e : Address × List Row) (es put gone : Table Row) (rows : List Row) → total_at q put ≡ with_usage (usage_at q rows) (total_at q gone)
+  insert_by_test : (b : Bool) (e : Address × List Row) (es put gone : Table Row) (rows : List Row)
+      → total_at q put ≡ with_usage (usage_at q rows) (total_at q gone)
       → total_at q (cond b ((e.0, rows) ∷ es) (e ∷ put)) ≡ with_usage (usage_at q rows) (total_at q (cond b es (e ∷ gone)))
   insert_by_test true e es put gone rows is = refl
-  insert_by_test false e es put gone rows is = ap (with_usage (usage_at q e.1)) is ∙ swap_usage (usage_at q e.1) (usage_at q rows) (total_at q gone)
+  insert_by_test false e es put gone rows is =
+      ap (with_usage (usage_at q e.1)) is ∙ swap_usage (usage_at q e.1) (usage_at q rows) (total_at q gone)
 
-  total_inserted : (table : Table Row) (rows : List Row) → total_at q (insert_entry same table a rows) ≡ with_usage (usage_at q rows) (total_at q (remove_entry (same a) table))
+  total_inserted : (table : Table Row) (rows : List Row)
+      → total_at q (insert_entry same table a rows) ≡ with_usage (usage_at q rows) (total_at q (remove_entry (same a) table))
   total_inserted [] rows = refl
-  total_inserted (e ∷ es) rows = insert_by_test (same a e.0) e es (insert_entry same es a rows) (remove_entry (same a) es) rows (total_inserted es rows)
+  total_inserted (e ∷ es) rows =
+      insert_by_test (same a e.0) e es (insert_entry same es a rows) (remove_entry (same a) es) rows (total_inserted es rows)
 
-  pub total_with : (table : Table Row) (rows : List Row) → total_at q (with_rows table a rows) ≡ with_usage (usage_at q rows) (total_at q (remove_entry (same a) table))
+  pub total_with : (table : Table Row) (rows : List Row)
+      → total_at q (with_rows table a rows) ≡ with_usage (usage_at q rows) (total_at q (remove_entry (same a) table))
   total_with table [] = refl
   total_with table (x ∷ xs) = total_inserted table (x ∷ xs)
 
 -- ---- an address's rows once they are written
 
-removed_inserted_by : {X : Type 0} (b : Bool) (e : Address × List X) (es put gone : Table X) (new : List X) (a : Address) → same a e.0 ≡ b → remove_entry (same a) put ≡ gone
+removed_inserted_by : {X : Type 0} (b : Bool) (e : Address × List X) (es put gone : Table X) (new : List X) (a : Address) → same a e.0 ≡ b
+    → remove_entry (same a) put ≡ gone
     → remove_entry (same a) (cond b ((e.0, new) ∷ es) (e ∷ put)) ≡ cond b es (e ∷ gone)
 removed_inserted_by true e es put gone new a is further = ap (λ t. cond t es ((e.0, new) ∷ remove_entry (same a) es)) is
 removed_inserted_by false e es put gone new a is further = ap (λ t. cond t put (e ∷ remove_entry (same a) put)) is ∙ ap (λ z. e ∷ z) further
@@ -137,15 +155,19 @@ removed_inserted_by false e es put gone new a is further = ap (λ t. cond t put 
 same_itself : (a : Address) → same a a ≡ true
 same_itself a = grind (arith, nat_tests)
 
-removed_inserted : {X : Type 0} (a : Address) (table : Table X) (new : List X) → remove_entry (same a) (insert_entry same table a new) ≡ remove_entry (same a) table
+removed_inserted : {X : Type 0} (a : Address) (table : Table X) (new : List X)
+    → remove_entry (same a) (insert_entry same table a new) ≡ remove_entry (same a) table
 removed_inserted a [] new = ap (λ t. cond t [] ((a, new) ∷ [])) (same_itself a)
-removed_inserted a (e ∷ es) new = removed_inserted_by (same a e.0) e es (insert_entry same es a new) (remove_entry (same a) es) new a refl (removed_inserted a es new)
+removed_inserted a (e ∷ es) new =
+    removed_inserted_by (same a e.0) e es (insert_entry same es a new) (remove_entry (same a) es) new a refl (removed_inserted a es new)
 
-pub removed_with : {X : Type 0} (a : Address) (table : Table X) (new : List X) → (new ≡ [] → ⊥) → remove_entry (same a) (with_rows table a new) ≡ remove_entry (same a) table
+pub removed_with : {X : Type 0} (a : Address) (table : Table X) (new : List X) → (new ≡ [] → ⊥)
+    → remove_entry (same a) (with_rows table a new) ≡ remove_entry (same a) table
 removed_with a table [] some = absurd (some refl)
 removed_with a table (x ∷ xs) some = removed_inserted a table (x ∷ xs)
 
-found_inserted_by : {X : Type 0} (b : Bool) (e : Address × List X) (es put : Table X) (new : List X) (a : Address) → same a e.0 ≡ b → lookup (same a) put ≡ Some new
+found_inserted_by : {X : Type 0} (b : Bool) (e : Address × List X) (es put : Table X) (new : List X) (a : Address) → same a e.0 ≡ b
+    → lookup (same a) put ≡ Some new
     → lookup (same a) (cond b ((e.0, new) ∷ es) (e ∷ put)) ≡ Some new
 found_inserted_by true e es put new a is further = ap (λ t. cond t (Some new) (lookup (same a) es)) is
 found_inserted_by false e es put new a is further = ap (λ t. cond t (Some e.1) (lookup (same a) put)) is ∙ further
@@ -163,9 +185,11 @@ pub total_same : (q : UsageKey) (a : Address) (table : Table Row) → total_at q
 total_same q a table = total_with q a table (rows_at a table) ∙ sym (total_split q a table)
 
 -- nor does what was written before
-pub total_again : (q : UsageKey) (a : Address) (table : Table Row) (before rows : List Row) → (before ≡ [] → ⊥) → total_at q (with_rows (with_rows table a before) a rows) ≡ total_at q (with_rows table a rows)
+pub total_again : (q : UsageKey) (a : Address) (table : Table Row) (before rows : List Row) → (before ≡ [] → ⊥)
+    → total_at q (with_rows (with_rows table a before) a rows) ≡ total_at q (with_rows table a rows)
 total_again q a table before rows some =
-    total_with q a (with_rows table a before) rows ∙ ap (λ z. with_usage (usage_at q rows) (total_at q z)) (removed_with a table before some) ∙ sym (total_with q a table rows)
+    total_with q a (with_rows table a before) rows
+    ∙ ap (λ z. with_usage (usage_at q rows) (total_at q z)) (removed_with a table before some) ∙ sym (total_with q a table rows)
 
 -- ---- totals fit
 
@@ -175,33 +199,36 @@ record IsBounded (n : ℕ) (sum : Sum) : Type 0 where
   low : neg_ℤ (pos (2417851639229258349412351 * n)) ≤ℤ sum.amount
   high : sum.amount ≤ℤ pos (2417851639229258349412351 * n)
 
-or_fits : (a b : Option ℤ) → IfSome a (IsWithin (2 ^ 80)) → IfSome b (IsWithin (2 ^ 80)) → IfSome (option_or a b) (IsWithin (2 ^ 80))
-or_fits None b x y = y
-or_fits (Some v) b x y = x
-
 module _ (q : UsageKey) where
   amount_fits : (p : List ℕ) → IfSome (amount_at q (row_of p)) (IsWithin (2 ^ 80))
   amount_fits p = lookup_small (is_at (key_cmp q)) (row_of p) (row_small p)
 
   first_fits : (ps : List (List ℕ)) → IfSome (first (amount_at q) (map row_of ps)) (IsWithin (2 ^ 80))
   first_fits [] = tt
-  first_fits (p ∷ ps) = or_fits _ _ (amount_fits p) (first_fits ps)
+  first_fits (p ∷ ps) = either_small _ _ (amount_fits p) (first_fits ps)
 
   last_fits : (ps : List (List ℕ)) → IfSome (last (amount_at q) (map row_of ps)) (IsWithin (2 ^ 80))
   last_fits [] = tt
-  last_fits (p ∷ ps) = or_fits _ _ (last_fits ps) (amount_fits p)
+  last_fits (p ∷ ps) = either_small _ _ (last_fits ps) (amount_fits p)
 
   less_fits : (a b : Option ℤ) → IfSome a (IsWithin (2 ^ 80)) → IfSome b (IsWithin (2 ^ 80)) → IfSome (less a b) (IsWithin (2 ^ 81))
   less_fits None b x y = tt
   less_fits (Some v) None x y = tt
-  less_fits (Some v) (Some w) x y = record { low = omega (arith, ints, x.low, x.high, y.low, y.high); high = omega (arith, ints, x.low, x.high, y.low, y.high) }
+  less_fits (Some v) (Some w) x y =
+      record { low = omega (arith, ints, x.low, x.high, y.low, y.high); high = omega (arith, ints, x.low, x.high, y.low, y.high) }
 
   usage_fits : (ps : List (List ℕ)) → IfSome (usage_at q (map row_of ps)) (IsWithin (2 ^ 81))
   usage_fits ps = less_fits _ _ (last_fits ps) (first_fits ps)
 
   with_bounded : (n : ℕ) (u : Option ℤ) (s : Sum) → IfSome u (IsWithin (2 ^ 81)) → IsBounded n s → IsBounded (suc n) (with_usage u s)
-  with_bounded n None s small b = record { meters = omega (arith, b.meters); low = omega (arith, ints, b.low); high = omega (arith, ints, b.high) }
-  with_bounded n (Some v) s small b = record { meters = omega (arith, b.meters); low = omega (arith, ints, b.low, small.low); high = omega (arith, ints, b.high, small.high) }
+  with_bounded n None s small b =
+      record { meters = omega (arith, b.meters); low = omega (arith, ints, b.low); high = omega (arith, ints, b.high) }
+  with_bounded n (Some v) s small b =
+      record {
+        meters = omega (arith, b.meters);
+        low = omega (arith, ints, b.low, small.low);
+        high = omega (arith, ints, b.high, small.high);
+      }
 
   total_bounded : (table : Table (List ℕ)) → IsBounded (length table) (total_at q (kept table))
   total_bounded [] = record { meters = omega arith; low = omega (arith, ints); high = omega (arith, ints) }

@@ -29,7 +29,14 @@ is_small amount = int_lt (neg_ℤ (pos (2 ^ 80))) amount && int_lt amount (pos (
 unfoldable pub key_of : List ℕ → RecordSpan → UsageKey
 key_of payload span =
     let u = unit payload span in
-    record { storage = span.storage; tariff = span.tariff; subunit = span.subunit; quantity = u.quantity; name = u.name; exponent = u.exponent }
+    record {
+      storage = span.storage;
+      tariff = span.tariff;
+      subunit = span.subunit;
+      quantity = u.quantity;
+      name = u.name;
+      exponent = u.exponent;
+    }
 
 -- the amount that a value is: a whole number that is small
 abbrev pub whole : Value → Option ℤ
@@ -65,8 +72,8 @@ pub record IsWithin (limit : ℕ) (number : ℤ) : Type 0 where
   pub low : neg_ℤ (pos limit) <ℤ number
   pub high : number <ℤ pos limit
 
--- The amounts of a row are small.
-abbrev pub AreSmall : Row → Type 0
+-- Amounts are small, whatever they are kept by.
+abbrev pub AreSmall : {K : Type 0} → List (K × ℤ) → Type 0
 AreSmall [] = Unit {0}
 AreSmall (entry ∷ entries) = IsWithin (2 ^ 80) entry.1 × AreSmall entries
 

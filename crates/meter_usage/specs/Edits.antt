@@ -37,5 +37,7 @@ pub record StandsFor (edits : List Edit) (value : Table Row) : Type 0 where
 pub record IsAnswered (edit : Edit) (old : Table Row) (answer : Result (Unit {0}) TotalsFault) (new : Table Row) : Type 0 where
   pub accepted : OnOk answer ((edits : List Edit) → StandsFor edits old → StandsFor (edits ++ edit ∷ []) new)
   pub unchanged : OnErr answer (new ≡ old)
-  pub refused : (edits : List Edit) (fault : TotalsFault) → StandsFor edits old → fault_of (rows_after edits) edit ≡ Some fault → answer ≡ Err fault
-  pub caused : (edits : List Edit) → StandsFor edits old → IfErr answer (λ fault. (fault ≡ Memory) ⊎ (fault_of (rows_after edits) edit ≡ Some fault))
+  pub refused : (edits : List Edit) (fault : TotalsFault) → StandsFor edits old → fault_of (rows_after edits) edit ≡ Some fault
+      → answer ≡ Err fault
+  pub caused : (edits : List Edit) → StandsFor edits old
+      → IfErr answer (λ fault. (fault ≡ Memory) ⊎ (fault_of (rows_after edits) edit ≡ Some fault))

@@ -92,11 +92,20 @@ fn note(
 }
 
 impl Amounts {
-    ghost use Rattle.std.specs.Prelude.{◌≡◌, ◌^◌, IfOk, IfSome};
+    ghost use Rattle.std.specs.Prelude.{◌≡◌, ◌^◌, [], IfOk, IfSome};
     ghost use Rattle.std.specs.List.Sorted.{IsStrictlySortedBy};
     ghost use Rattle.std.specs.Map.{keys_of};
     ghost use Rattle.meter_usage.specs.Keys.{key_cmp};
     ghost use Rattle.meter_usage.specs.Amounts.{row_of, amount_at, IsWithin};
+
+    /// No amount.
+    pub fn nothing(alloc: Global) -> Amounts
+        ensures { result ≡ [] }
+    {
+        Amounts {
+            entries: BTreeMap::new(alloc),
+        }
+    }
 
     /// The amounts of a payload. Only want of memory is answered otherwise.
     pub fn of_payload(alloc: Global, payload: &[u8]) -> Result<Amounts, Memory>

@@ -7,7 +7,8 @@ ghost use Rattle.meter_usage.specs.Table.{rows_at, added, replaced, removed, IsK
 use crate::amounts::Amounts;
 use crate::key::UsageKey;
 use crate::mending::{make_room, mend_at};
-use crate::meters::{Meter, put, rows_of, swap, take};
+use crate::meter::Meter;
+use crate::meters::{count, put, swap, take};
 use crate::sums::Sum;
 use indexmap::IndexMap;
 use meter_address::Address;
@@ -31,7 +32,7 @@ pub fn add_row(
 {
     let row = Amounts::of_payload(alloc, payload)?;
     make_room(sums, &row)?;
-    let place = rows_of(meters, address).len();
+    let place = count(meters, address);
     put(alloc, meters, address, row)?;
     mend_at(sums, meters, address, place, true);
     Ok(())
@@ -71,7 +72,7 @@ pub fn replace_row(
     let row = Amounts::of_payload(alloc, payload)?;
     make_room(sums, &row)?;
     mend_at(sums, meters, address, place, false);
-    swap(meters, address, place, row);
+    let swapped = swap(meters, address, place, row);
     mend_at(sums, meters, address, place, true);
-    Ok(())
+    swapped
 }

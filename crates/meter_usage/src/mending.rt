@@ -12,8 +12,7 @@ ghost use Rattle.meter_usage.specs.Table.{rows_at, with_rows};
 
 use crate::amounts::Amounts;
 use crate::key::UsageKey;
-use crate::meters::{Meter, rows_of};
-use crate::rows::{usage_of, usage_without};
+use crate::meter::Meter;
 use crate::sums::Sum;
 use indexmap::IndexMap;
 use meter_address::Address;
@@ -75,8 +74,10 @@ fn change_at(
     requires before { IfSome before (IsWithin (2 ^ 81)) }
     requires after { IfSome after (IsWithin (2 ^ 81)) }
     requires counted { (rest : Sum) × (sum_at key.now sums.old.entries ≡ with_usage before rest) }
-    ensures here { (rest : Sum) → sum_at key.now sums.old.entries ≡ with_usage before rest → sum_at key.now sums.new.entries ≡ with_usage after rest }
-    ensures others { (q : UsageKey) → is_eq (key_cmp key.now q) ≡ false → find_sum q sums.new.entries ≡ find_sum q sums.old.entries }
+    ensures here { (rest : Sum) → sum_at key.now sums.old.entries ≡ with_usage before rest
+        → sum_at key.now sums.new.entries ≡ with_usage after rest }
+    ensures others { (q : UsageKey) → is_eq (key_cmp key.now q) ≡ false
+        → find_sum q sums.new.entries ≡ find_sum q sums.old.entries }
     ensures stays { has_sum key.now sums.new.entries ≡ true }
 {
     if let Some(sum) = sums.get_mut(key) {
@@ -85,20 +86,15 @@ fn change_at(
 }
 
 // What was used before the row at a place comes and after it, or before it goes and after it.
-fn usages(
-    rows: &[Amounts],
-    place: usize,
-    key: &UsageKey,
-    comes: bool,
-) -> (Option<i128>, Option<i128>)
-    requires { place < length rows.now }
-    ensures before { result.0 ≡ usage_at key.now (side comes (remove rows.now place) rows.now) }
-    ensures after { result.1 ≡ usage_at key.now (side comes rows.now (remove rows.now place)) }
+fn usages(meter: &Meter, place: usize, key: &UsageKey, comes: bool) -> (Option<i128>, Option<i128>)
+    requires { place < length meter.now }
+    ensures before { result.0 ≡ usage_at key.now (side comes (remove meter.now place) meter.now) }
+    ensures after { result.1 ≡ usage_at key.now (side comes meter.now (remove meter.now place)) }
     ensures small_before { IfSome result.0 (IsWithin (2 ^ 81)) }
     ensures small_after { IfSome result.1 (IsWithin (2 ^ 81)) }
 {
-    let with = usage_of(rows, key);
-    let without = usage_without(rows, place, key);
+    let with = meter.usage(key);
+    let without = meter.usage_without(place, key);
     if comes {
         (without, with)
     } else {
@@ -106,19 +102,22 @@ fn usages(
     }
 }
 
-/// Mends the sums where the row at a place comes to a meter's rows, or is to go from them.
-pub fn mend(sums: &mut BTreeMap<UsageKey, Sum>, rows: &[Amounts], place: usize, comes: bool)
-    requires place { place < length rows.now }
-    requires there { (q : UsageKey) (d : Row) → is_some (amount_at q (slice_index_or rows.now place d)) ≡ true → has_sum q sums.old.entries ≡ true }
+/// Mends the sums where the row at a place comes to a meter, or is to go from it.
+pub fn mend(sums: &mut BTreeMap<UsageKey, Sum>, meter: &Meter, place: usize, comes: bool)
+    requires place { place < length meter.now }
+    requires there { (q : UsageKey) (d : Row)
+        → is_some (amount_at q (slice_index_or meter.now place d)) ≡ true → has_sum q sums.old.entries ≡ true }
     requires fitting { (q : UsageKey) → IsFitting (2 ^ 100) (sum_at q sums.old.entries) }
-    requires counted { (q : UsageKey) → (rest : Sum) × (sum_at q sums.old.entries ≡ with_usage (usage_at q (side comes (remove rows.now place) rows.now)) rest) }
+    requires counted { (q : UsageKey) → (rest : Sum)
+        × (sum_at q sums.old.entries ≡ with_usage (usage_at q (side comes (remove meter.now place) meter.now)) rest) }
     ensures stays { (q : UsageKey) → has_sum q sums.old.entries ≡ true → has_sum q sums.new.entries ≡ true }
-    ensures mended { (q : UsageKey) (rest : Sum) → sum_at q sums.old.entries ≡ with_usage (usage_at q (side comes (remove rows.now place) rows.now)) rest
-        → sum_at q sums.new.entries ≡ with_usage (usage_at q (side comes rows.now (remove rows.now place))) rest }
+    ensures mended { (q : UsageKey) (rest : Sum)
+        → sum_at q sums.old.entries ≡ with_usage (usage_at q (side comes (remove meter.now place) meter.now)) rest
+        → sum_at q sums.new.entries ≡ with_usage (usage_at q (side comes meter.now (remove meter.now place))) rest }
 {
-    let row = &rows[place];
+    let row = meter.row(place);
     for key in row.keys() {
-        let (before, after) = usages(rows, place, key, comes);
+        let (before, after) = usages(meter, place, key, comes);
         change_at(sums, key, before, after);
     }
 }
@@ -161,12 +160,18 @@ pub fn mend_at(
     comes: bool,
 )
     requires place { place < length (rows_at address meters.now.entries) }
-    requires there { (q : UsageKey) (d : Row) → is_some (amount_at q (slice_index_or (rows_at address meters.now.entries) place d)) ≡ true → has_sum q sums.old.entries ≡ true }
+    requires there { (q : UsageKey) (d : Row)
+        → is_some (amount_at q (slice_index_or (rows_at address meters.now.entries) place d)) ≡ true
+        → has_sum q sums.old.entries ≡ true }
     requires fitting { (q : UsageKey) → IsFitting (2 ^ 100) (sum_at q sums.old.entries) }
-    requires totals { (q : UsageKey) → sum_at q sums.old.entries ≡ total_at q (with_rows meters.now.entries address (side comes (remove (rows_at address meters.now.entries) place) (rows_at address meters.now.entries))) }
+    requires totals { (q : UsageKey) → sum_at q sums.old.entries ≡ total_at q (with_rows meters.now.entries address
+        (side comes (remove (rows_at address meters.now.entries) place) (rows_at address meters.now.entries))) }
     ensures stays { (q : UsageKey) → has_sum q sums.old.entries ≡ true → has_sum q sums.new.entries ≡ true }
-    ensures totals { (q : UsageKey) → sum_at q sums.new.entries ≡ total_at q (with_rows meters.now.entries address (side comes (rows_at address meters.now.entries) (remove (rows_at address meters.now.entries) place))) }
+    ensures totals { (q : UsageKey) → sum_at q sums.new.entries ≡ total_at q (with_rows meters.now.entries address
+        (side comes (rows_at address meters.now.entries) (remove (rows_at address meters.now.entries) place))) }
 {
-    let rows = rows_of(meters, address);
-    mend(sums, rows, place, comes);
+    let Some(meter) = meters.get(&address) else {
+        return;
+    };
+    mend(sums, meter, place, comes);
 }

@@ -1,69 +1,17 @@
 //! The rows of all meters.
 
-ghost use Rattle.std.specs.Prelude.{◌≡◌, ◌<◌, ◌++◌, ◌∷◌, [], length, OnOk, OnErr, IfOk, option_copied, slice_set, remove};
-ghost use Rattle.std.specs.Map.{lookup};
-ghost use Rattle.meter_usage.specs.Table.{same, rows_at, with_rows, added, replaced, removed};
+ghost use Rattle.std.specs.Prelude.{◌≡◌, ◌<◌, ◌^◌, length, IfSome, OnOk, OnErr};
+ghost use Rattle.meter_usage.specs.Amounts.{IsWithin};
+ghost use Rattle.meter_usage.specs.Usage.{usage_at};
+ghost use Rattle.meter_usage.specs.Table.{rows_at, added, replaced, removed};
 
 use crate::amounts::Amounts;
+use crate::key::UsageKey;
+use crate::meter::Meter;
 use indexmap::IndexMap;
 use meter_address::Address;
 use outer_io::Memory;
 use std::alloc::Global;
-use std::marker::Model;
-
-/// The rows of one meter, in order.
-#[derive(Drop)]
-pub struct Meter {
-    rows: Vec<Amounts>,
-}
-
-impl Model for Meter {
-    ghost use Rattle.std.specs.Prelude.{List};
-    ghost use Rattle.meter_usage.specs.Amounts.{Row};
-
-    ghost Value = { List Row };
-
-    ghost view = { λ m. m.rows.items };
-}
-
-impl Meter {
-    fn of_row(alloc: Global, row: Amounts) -> Result<Meter, Memory>
-        ensures { IfOk result (λ meter. meter ≡ row ∷ []) }
-    {
-        let mut rows = Vec::new(alloc);
-        rows.push(row)?;
-        Ok(Meter { rows })
-    }
-
-    fn push(&mut self, row: Amounts) -> Result<(), Memory>
-        ensures ok { OnOk result (self.new ≡ self.old ++ row ∷ []) }
-        ensures err { OnErr result (self.new ≡ self.old) }
-    {
-        self.rows.push(row)?;
-        Ok(())
-    }
-
-    fn replace(&mut self, place: usize, row: Amounts)
-        requires { place < length self.old }
-        ensures { self.new ≡ slice_set self.old place row }
-    {
-        self.rows[place] = row;
-    }
-
-    fn remove(&mut self, place: usize)
-        requires { place < length self.old }
-        ensures { self.new ≡ remove self.old place }
-    {
-        self.rows.remove(place);
-    }
-
-    /// The rows.
-    pub fn rows(&self) -> &[Amounts]
-        ensures { result.now ≡ self.now }
-    {
-        self.rows.as_slice()
-    }
-}
 
 /// Adds a row as the last one of an address.
 pub fn put(
@@ -78,35 +26,48 @@ pub fn put(
     if let Some(meter) = meters.get_mut(&address) {
         return meter.push(row);
     }
-    meters.insert(address, Meter::of_row(alloc, row)?)?;
+    let mut meter = Meter::new(alloc);
+    meter.push(row)?;
+    meters.insert(address, meter)?;
     Ok(())
 }
 
-/// Replaces the row of an address at a place.
-pub fn swap(meters: &mut IndexMap<Address, Meter>, address: Address, place: usize, row: Amounts)
+/// Replaces the row of an address at a place. For want of memory no row changes.
+pub fn swap(
+    meters: &mut IndexMap<Address, Meter>,
+    address: Address,
+    place: usize,
+    row: Amounts,
+) -> Result<(), Memory>
     requires { place < length (rows_at address meters.old.entries) }
-    ensures { meters.new.entries ≡ replaced meters.old.entries address place row }
+    ensures ok { OnOk result (meters.new.entries ≡ replaced meters.old.entries address place row) }
+    ensures err { OnErr result (meters.new.entries ≡ meters.old.entries) }
 {
     if let Some(meter) = meters.get_mut(&address) {
-        meter.replace(place, row);
+        return meter.replace(place, row);
     }
+    Ok(())
 }
 
-/// The rows of an address.
-pub fn rows_of(meters: &IndexMap<Address, Meter>, address: Address) -> &[Amounts]
-    ensures { result.now ≡ rows_at address meters.now.entries }
-{
-    match meters.get(&address) {
-        Some(meter) => meter.rows(),
-        None => &[],
-    }
-}
-
-// How many rows an address has.
-fn count(meters: &IndexMap<Address, Meter>, address: Address) -> usize
+/// How many rows an address has.
+pub fn count(meters: &IndexMap<Address, Meter>, address: Address) -> usize
     ensures { result ≡ length (rows_at address meters.now.entries) }
 {
-    rows_of(meters, address).len()
+    match meters.get(&address) {
+        Some(meter) => meter.count(),
+        None => 0,
+    }
+}
+
+/// What an address used by its rows.
+pub fn usage_of(meters: &IndexMap<Address, Meter>, address: Address, key: &UsageKey) -> Option<i128>
+    ensures is { result ≡ usage_at key.now (rows_at address meters.now.entries) }
+    ensures small { IfSome result (IsWithin (2 ^ 81)) }
+{
+    match meters.get(&address) {
+        Some(meter) => meter.usage(key),
+        None => None,
+    }
 }
 
 /// Removes the row of an address at a place.

@@ -10,8 +10,8 @@ ghost use Rattle.meter_usage.specs.Faults.{add_fault, place_fault};
 use crate::edits::{add_row, remove_row, replace_row};
 use crate::fault::TotalsFault;
 use crate::key::UsageKey;
-use crate::meters::{Meter, rows_of};
-use crate::rows::usage_of;
+use crate::meter::Meter;
+use crate::meters::{count, usage_of};
 use crate::sums::Sum;
 use indexmap::IndexMap;
 use meter_address::Address;
@@ -49,10 +49,10 @@ const MOST_ROWS: usize = 65536;
 fn add_fault(meters: &IndexMap<Address, Meter>, address: Address) -> Option<TotalsFault>
     ensures { result ≡ add_fault address meters.now.entries }
 {
-    let count = rows_of(meters, address).len();
-    if count == 0 && meters.len() == MOST_METERS {
+    let rows = count(meters, address);
+    if rows == 0 && meters.len() == MOST_METERS {
         Some(TotalsFault::Meters)
-    } else if count == MOST_ROWS {
+    } else if rows == MOST_ROWS {
         Some(TotalsFault::Rows)
     } else {
         None
@@ -67,7 +67,7 @@ fn place_fault(
 ) -> Option<TotalsFault>
     ensures { result ≡ place_fault address place meters.now.entries }
 {
-    if (place as usize) < rows_of(meters, address).len() {
+    if (place as usize) < count(meters, address) {
         None
     } else {
         Some(TotalsFault::NoSuch(place))
@@ -129,7 +129,7 @@ impl Totals {
         ensures kept { result ≡ usage_at key.now (rows_at address self.now) }
         ensures below { IfSome result (IsWithin (2 ^ 81)) }
     {
-        usage_of(rows_of(&self.meters, address), key)
+        usage_of(&self.meters, address, key)
     }
 
     /// Adds a payload's row as the last one of an address. After a fault nothing has changed.

@@ -12,7 +12,8 @@ use Rattle.usage_totals_main.specs.Texts.{unless}
 use Rattle.usage_totals_main.specs.Answering.{Keeps, DoesEdit, Settles}
 
 -- what is accepted is refused by no fault of the rows
-no_fault : (edit : Edit) (old new : Table Row) (found : Option TotalsFault) (edits : List Edit) → IsAnswered edit old (Ok tt) new → StandsFor edits old
+no_fault : (edit : Edit) (old new : Table Row) (found : Option TotalsFault) (edits : List Edit) → IsAnswered edit old (Ok tt) new
+    → StandsFor edits old
     → fault_of (rows_after edits) edit ≡ found → found ≡ None
 no_fault edit old new None edits a s is = refl
 no_fault edit old new (Some fault) edits a s is =
@@ -20,7 +21,8 @@ no_fault edit old new (Some fault) edits a s is =
     let clash : fine ≡ Err fault = a.refused edits fault s is in
     absurd cc
 
-kept_more : (edit : Edit) (old new : Table Row) (edits : List Edit) (table : Table (List ℕ)) (found : Option TotalsFault) → IsAnswered edit old (Ok tt) new → StandsFor edits old
+kept_more : (edit : Edit) (old new : Table Row) (edits : List Edit) (table : Table (List ℕ)) (found : Option TotalsFault)
+    → IsAnswered edit old (Ok tt) new → StandsFor edits old
     → rows_after edits ≡ table → found ≡ None → Keeps (unless found table (edited table edit)) new
 kept_more edit old new edits table found a s is none = record {
   edits = edits ++ edit ∷ [];
@@ -29,14 +31,16 @@ kept_more edit old new edits table found a s is none = record {
 }
 
 -- a refusal that isn't want of memory is for the rows' fault
-its_fault : (edit : Edit) (old new : Table Row) (fault : TotalsFault) (edits : List Edit) → IsAnswered edit old (Err fault) new → (fault ≡ faults.Memory → ⊥) → StandsFor edits old
+its_fault : (edit : Edit) (old new : Table Row) (fault : TotalsFault) (edits : List Edit) → IsAnswered edit old (Err fault) new
+    → (fault ≡ faults.Memory → ⊥) → StandsFor edits old
     → fault_of (rows_after edits) edit ≡ Some fault
 its_fault edit old new fault edits a other s = elim (a.caused edits s) [
   | inl memory ↦ absurd (other memory)
   | inr is ↦ is
 ]
 
-refused_for : (edit : Edit) (old new : Table Row) (fault : TotalsFault) (result : Result (Option TotalsFault) Memory) → IsAnswered edit old (Err fault) new → (fault ≡ faults.Memory → ⊥)
+refused_for : (edit : Edit) (old new : Table Row) (fault : TotalsFault) (result : Result (Option TotalsFault) Memory)
+    → IsAnswered edit old (Err fault) new → (fault ≡ faults.Memory → ⊥)
     → result ≡ Ok (Some fault) → DoesEdit edit old result new
 refused_for edit old new fault result a other is =
     subst (λ r. DoesEdit edit old r new) (sym is) (record {
@@ -44,18 +48,21 @@ refused_for edit old new fault result a other is =
       kept = λ table k. kept_one table k (ap (λ t. fault_of t edit) (sym k.rows) ∙ its_fault edit old new fault k.edits a other k.stands);
       unchanged = tt;
     }) where
-      kept_one : (table : Table (List ℕ)) → Keeps table old → fault_of table edit ≡ Some fault → Keeps (unless (fault_of table edit) table (edited table edit)) new
+      kept_one : (table : Table (List ℕ)) → Keeps table old → fault_of table edit ≡ Some fault
+          → Keeps (unless (fault_of table edit) table (edited table edit)) new
       kept_one table k is = record {
         edits = k.edits;
         stands = subst (StandsFor k.edits) (sym a.unchanged) k.stands;
         rows = k.rows ∙ ap (λ o. unless o table (edited table edit)) (sym is);
       }
 
-no_memory : (edit : Edit) (old new : Table Row) (result : Result (Option TotalsFault) Memory) → new ≡ old → IsErr result → DoesEdit edit old result new
+no_memory : (edit : Edit) (old new : Table Row) (result : Result (Option TotalsFault) Memory) → new ≡ old → IsErr result
+    → DoesEdit edit old result new
 no_memory edit old new (Ok o) same is = absurd cc
 no_memory edit old new (Err e) same is = record { told = tt; kept = tt; unchanged = same }
 
-pub edit_settled : (edit : Edit) (old new : Table Row) (answer : Result (Unit {0}) TotalsFault) (result : Result (Option TotalsFault) Memory)
+pub edit_settled : (edit : Edit) (old new : Table Row) (answer : Result (Unit {0}) TotalsFault)
+    (result : Result (Option TotalsFault) Memory)
     → IsAnswered edit old answer new → Settles answer result → DoesEdit edit old result new
 edit_settled edit old new (Ok done) result a is =
     subst (λ r. DoesEdit edit old r new) (sym is) (record {

@@ -28,13 +28,16 @@ use Rattle.usage_totals_main.specs.Running.{AreAnswered, ended_by}
 told_more : (lines : List (List ℕ)) (line : List ℕ) → rows_told (lines ++ line ∷ []) ≡ rows_after_line (rows_told lines) line
 told_more lines line = fold-append rows_after_line [] lines (line ∷ [])
 
-answers-append : (table : Table (List ℕ)) (xs ys : List (List ℕ)) → answers table (xs ++ ys) ≡ answers table xs ++ answers (fold rows_after_line table xs) ys
+answers-append : (table : Table (List ℕ)) (xs ys : List (List ℕ))
+    → answers table (xs ++ ys) ≡ answers table xs ++ answers (fold rows_after_line table xs) ys
 answers-append table [] ys = refl
 answers-append table (x ∷ xs) ys =
     ap (λ t. answer_text table (request_of x) ++ t) (answers-append (rows_after_line table x) xs ys)
-    ∙ sym (append_assoc (answer_text table (request_of x)) (answers (rows_after_line table x) xs) (answers (fold rows_after_line (rows_after_line table x) xs) ys))
+    ∙ sym (append_assoc (answer_text table (request_of x)) (answers (rows_after_line table x) xs)
+    (answers (fold rows_after_line (rows_after_line table x) xs) ys))
 
-printed_more : (lines : List (List ℕ)) (line : List ℕ) → printed (lines ++ line ∷ []) ≡ printed lines ++ answer_text (rows_told lines) (request_of line)
+printed_more : (lines : List (List ℕ)) (line : List ℕ)
+    → printed (lines ++ line ∷ []) ≡ printed lines ++ answer_text (rows_told lines) (request_of line)
 printed_more lines line =
     answers-append [] lines (line ∷ []) ∙ ap (λ t. printed lines ++ t) (append-nil (answer_text (rows_told lines) (request_of line)))
 
@@ -54,7 +57,8 @@ ok_case (Ok done) X then = then refl
 ok_case (Err stops.Write) X then = tt
 ok_case (Err stops.Memory) X then = tt
 
-pub err_case : (stop : Result (Unit {0}) Stop) (X : TotalsStatus → Type 0) → (stop ≡ Err stops.Write → X statuses.Write) → (stop ≡ Err stops.Memory → X statuses.Memory)
+pub err_case : (stop : Result (Unit {0}) Stop) (X : TotalsStatus → Type 0) → (stop ≡ Err stops.Write → X statuses.Write)
+    → (stop ≡ Err stops.Memory → X statuses.Memory)
     → IfErr (ended_by stop) X
 err_case (Ok done) X write memory = tt
 err_case (Err stops.Write) X write memory = write refl
@@ -63,7 +67,8 @@ err_case (Err stops.Memory) X write memory = memory refl
 abbrev fine : Result (Unit {0}) Stop
 fine = Ok tt
 
-module _ (stop : Result (Unit {0}) Stop) (lines : List (List ℕ)) (line : List ℕ) (old new : Table Row) (sink : Change SinkShown) (old_answered : AreAnswered lines old sink.before.written)
+module _ (stop : Result (Unit {0}) Stop) (lines : List (List ℕ)) (line : List ℕ) (old new : Table Row) (sink : Change SinkShown)
+    (old_answered : AreAnswered lines old sink.before.written)
     (rows : OnOk stop ((table : Table (List ℕ)) → Keeps table old → Keeps (rows_after_line table line) new))
     (writes : (table : Table (List ℕ)) → Keeps table old → Writes (answer_text table (request_of line)) sink stop) where
   answer : List ℕ
@@ -71,7 +76,10 @@ module _ (stop : Result (Unit {0}) Stop) (lines : List (List ℕ)) (line : List 
 
   pub next_answered : stop ≡ fine → AreAnswered (lines ++ line ∷ []) new sink.now.written
   next_answered is = record {
-    rows = subst (λ t. Keeps t new) (sym (told_more lines line)) (subst (λ r. OnOk r ((table : Table (List ℕ)) → Keeps table old → Keeps (rows_after_line table line) new)) is rows (rows_told lines) old_answered.rows);
+    rows =
+        subst (λ t. Keeps t new) (sym (told_more lines line))
+        (subst (λ r. OnOk r ((table : Table (List ℕ)) → Keeps table old → Keeps (rows_after_line table line) new)) is rows (rows_told lines)
+        old_answered.rows);
     text = subst (λ r. Writes (answer_text (rows_told lines) (request_of line)) sink r) is (writes (rows_told lines) old_answered.rows)
         ∙ ap (λ t. t ++ answer_text (rows_told lines) (request_of line)) old_answered.text ∙ sym (printed_more lines line);
   }
@@ -82,39 +90,48 @@ all_are all lines line n e = sym (take-append-drop n all) ∙ ap (λ t. t ++ dro
 
 first_lines : (all lines : List (List ℕ)) (line : List ℕ) (n : ℕ) → lines ++ line ∷ [] ≡ take n all → lines ≡ take (length lines) all
 first_lines all lines line n e =
-    sym (ap (take (length lines)) (all_are all lines line n e ∙ append_assoc lines (line ∷ []) (drop n all)) ∙ take-append_seam lines (line ∷ drop n all))
+    sym (ap (take (length lines)) (all_are all lines line n e ∙ append_assoc lines (line ∷ []) (drop n all))
+    ∙ take-append_seam lines (line ∷ drop n all))
 
 -- without memory the answers to the lines before are there
-pub stopped_memory : (lines all : List (List ℕ)) (line : List ℕ) (n : ℕ) (before now : List ℕ) → lines ++ line ∷ [] ≡ take n all → before ≡ printed lines → now ≡ before
+pub stopped_memory : (lines all : List (List ℕ)) (line : List ℕ) (n : ℕ) (before now : List ℕ) → lines ++ line ∷ [] ≡ take n all
+    → before ≡ printed lines → now ≡ before
     → (count : ℕ) × (now ≡ printed (take count all))
 stopped_memory lines all line n before now e text same = (length lines, same ∙ text ∙ ap printed (first_lines all lines line n e))
 
 -- where a write failed, a front of all answers is there
-front_of : (p answer more : List ℕ) (count : ℕ) → count ≤ length answer → p ++ take count answer ≡ take (length p + count) ((p ++ answer) ++ more)
+front_of : (p answer more : List ℕ) (count : ℕ) → count ≤ length answer
+    → p ++ take count answer ≡ take (length p + count) ((p ++ answer) ++ more)
 front_of p answer more count within =
-    sym (ap (take (length p + count)) (append_assoc p answer more) ∙ take-append-add p (answer ++ more) count ∙ ap (λ t. p ++ t) (take-append-le count answer more within))
+    sym (ap (take (length p + count)) (append_assoc p answer more) ∙ take-append-add p (answer ++ more) count
+    ∙ ap (λ t. p ++ t) (take-append-le count answer more within))
 
-pub stopped_write : (lines all : List (List ℕ)) (line : List ℕ) (n : ℕ) (before now : List ℕ) → lines ++ line ∷ [] ≡ take n all → before ≡ printed lines
+pub stopped_write : (lines all : List (List ℕ)) (line : List ℕ) (n : ℕ) (before now : List ℕ) → lines ++ line ∷ [] ≡ take n all
+    → before ≡ printed lines
     → AppendsFront (answer_text (rows_told lines) (request_of line)) before now → AppendsFront (printed all) [] now
 stopped_write lines all line n before now e text front =
     let answer = answer_text (rows_told lines) (request_of line) in
     let more = answers (rows_told (lines ++ line ∷ [])) (drop n all) in
     let whole : printed all ≡ (printed lines ++ answer) ++ more =
-    ap printed (all_are all lines line n e) ∙ answers-append [] (lines ++ line ∷ []) (drop n all) ∙ ap (λ t. t ++ more) (printed_more lines line) in
+    ap printed (all_are all lines line n e) ∙ answers-append [] (lines ++ line ∷ []) (drop n all)
+    ∙ ap (λ t. t ++ more) (printed_more lines line) in
     record {
       count = length (printed lines) + front.count;
       within = subst (λ t. length (printed lines) + front.count ≤ length t) (sym whole)
           (omega (arith, front.within, length-append (printed lines ++ answer) more, length-append (printed lines) answer));
-      appended = front.appended ∙ ap (λ t. t ++ take front.count answer) text ∙ front_of (printed lines) answer more front.count front.within
+      appended =
+          front.appended ∙ ap (λ t. t ++ take front.count answer) text ∙ front_of (printed lines) answer more front.count front.within
           ∙ ap (take (length (printed lines) + front.count)) (sym whole);
     }
 
 -- ---- a step
 
-pub step_answered : (stop : Result (Unit {0}) Stop) (status : Result (Unit {0}) TotalsStatus) (X : Type 0) → status ≡ ended_by stop → (stop ≡ fine → X) → OnOk status X
+pub step_answered : (stop : Result (Unit {0}) Stop) (status : Result (Unit {0}) TotalsStatus) (X : Type 0) → status ≡ ended_by stop
+    → (stop ≡ fine → X) → OnOk status X
 step_answered stop status X e then = subst (λ s. OnOk s X) (sym e) (ok_case stop X then)
 
-pub step_ended : (stop : Result (Unit {0}) Stop) (status : Result (Unit {0}) TotalsStatus) (X : TotalsStatus → Type 0) → status ≡ ended_by stop
+pub step_ended : (stop : Result (Unit {0}) Stop) (status : Result (Unit {0}) TotalsStatus) (X : TotalsStatus → Type 0)
+    → status ≡ ended_by stop
     → (stop ≡ Err stops.Write → X statuses.Write) → (stop ≡ Err stops.Memory → X statuses.Memory) → IfErr status X
 step_ended stop status X e write memory = subst (λ s. IfErr s X) (sym e) (err_case stop X write memory)
 
@@ -128,14 +145,17 @@ pub bad_rows : (line : List ℕ) (old : Table Row) (stop : Result (Unit {0}) Sto
     → OnOk stop ((table : Table (List ℕ)) → Keeps table old → Keeps (rows_after_line table line) old)
 bad_rows line old stop none = on_any stop _ (λ table k. subst (λ o. Keeps (rows_by table o) old) (sym none) k)
 
-pub bad_writes : (line : List ℕ) (sink : Change SinkShown) (stop : Result (Unit {0}) Stop) → request_of line ≡ None → Writes (codes "bad\n") sink stop
+pub bad_writes : (line : List ℕ) (sink : Change SinkShown) (stop : Result (Unit {0}) Stop) → request_of line ≡ None
+    → Writes (codes "bad\n") sink stop
     → (table : Table (List ℕ)) → Writes (answer_text table (request_of line)) sink stop
 bad_writes line sink stop none writes table = subst (λ o. Writes (answer_text table o) sink stop) (sym none) writes
 
 -- ---- what the reader gives
 
-pub lent : (next : NextText) (longest : ℕ) (text : List ℕ) (old new : List (List ℕ)) → next ≡ texts.Line → GivesText (Ok next) longest text old new → new ≡ old ++ text ∷ []
+pub lent : (next : NextText) (longest : ℕ) (text : List ℕ) (old new : List (List ℕ)) → next ≡ texts.Line
+    → GivesText (Ok next) longest text old new → new ≡ old ++ text ∷ []
 lent next longest text old new is gives = subst (λ n. GivesText (Ok n) longest text old new) is gives
 
-pub too_long : (next : NextText) (longest : ℕ) (text : List ℕ) (old new : List (List ℕ)) → next ≡ texts.TooLong → GivesText (Ok next) longest text old new → GivesLongLine longest old new
+pub too_long : (next : NextText) (longest : ℕ) (text : List ℕ) (old new : List (List ℕ)) → next ≡ texts.TooLong
+    → GivesText (Ok next) longest text old new → GivesLongLine longest old new
 too_long next longest text old new is gives = subst (λ n. GivesText (Ok n) longest text old new) is gives

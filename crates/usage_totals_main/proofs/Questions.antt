@@ -23,21 +23,25 @@ module _ (table : Table (List ℕ)) (value : Table Row) (k : Keeps table value) 
   value_is : value ≡ kept table
   value_is = k.stands.rows ∙ ap kept k.rows
 
-  keys_are : (keys : List UsageKey) → ((edits : List Edit) → StandsFor edits value → keys ≡ keys_in (rows_after edits)) → keys ≡ keys_in table
+  keys_are : (keys : List UsageKey) → ((edits : List Edit) → StandsFor edits value → keys ≡ keys_in (rows_after edits))
+      → keys ≡ keys_in table
   keys_are keys given = given k.edits k.stands ∙ ap keys_in k.rows
 
   usage_is : (address : Address) (key : UsageKey) → usage_at key (rows_at address value) ≡ usage (rows_at address table) key
   usage_is address key =
-      ap (λ v. usage_at key (rows_at address v)) value_is ∙ ap (usage_at key) (kept_rows address table) ∙ usage_kept key (rows_at address table)
+      ap (λ v. usage_at key (rows_at address v)) value_is ∙ ap (usage_at key) (kept_rows address table)
+      ∙ usage_kept key (rows_at address table)
 
   total_is : (key : UsageKey) → total_at key value ≡ total table key
   total_is key = ap (total_at key) value_is ∙ total_kept key table
 
-  pub usages_are : (address : Address) (keys : List UsageKey) → ((edits : List Edit) → StandsFor edits value → keys ≡ keys_in (rows_after edits))
+  pub usages_are : (address : Address) (keys : List UsageKey)
+      → ((edits : List Edit) → StandsFor edits value → keys ≡ keys_in (rows_after edits))
       → usages_kept value address keys ≡ usages_text table address
   unfolding usages_kept usages_text
   usages_are address keys given =
-      ap (λ t. t ++ codes "end\n") (flat_map_same (λ key. text_if (usage_line key) (usage_at key (rows_at address value))) (λ key. text_if (usage_line key) (usage (rows_at address table) key)) keys
+      ap (λ t. t ++ codes "end\n") (flat_map_same (λ key. text_if (usage_line key) (usage_at key (rows_at address value)))
+      (λ key. text_if (usage_line key) (usage (rows_at address table) key)) keys
       (λ key. ap (text_if (usage_line key)) (usage_is address key))
       ∙ ap (flat_map (λ key. text_if (usage_line key) (usage (rows_at address table) key))) (keys_are keys given))
 
@@ -45,6 +49,7 @@ module _ (table : Table (List ℕ)) (value : Table Row) (k : Keeps table value) 
       → totals_kept value keys ≡ totals_text table
   unfolding totals_kept totals_text
   totals_are keys given =
-      ap (λ t. t ++ codes "end\n") (flat_map_same (λ key. total_line key (total_at key value)) (λ key. total_line key (total table key)) keys
+      ap (λ t. t ++ codes "end\n")
+      (flat_map_same (λ key. total_line key (total_at key value)) (λ key. total_line key (total table key)) keys
       (λ key. ap (total_line key) (total_is key))
       ∙ ap (flat_map (λ key. total_line key (total table key))) (keys_are keys given))

@@ -30,23 +30,28 @@ module _ (run : Run) (e : Ended run) where
   is_done : run.status ≡ statuses.Done → IsTrue run.sources_tell → IsDone run
   is_done is tells =
       let ended = subst (λ s. SourceEnds s run.edits.now.taken run.edits.now.left) is (e.source tells) in
-      let taken : run.edits.now.taken ≡ run.edits.now.taken ++ run.edits.now.left = sym (append-nil run.edits.now.taken) ∙ ap (λ t. run.edits.now.taken ++ t) (sym ended.0) in
+      let taken : run.edits.now.taken ≡ run.edits.now.taken ++ run.edits.now.left = sym (append-nil run.edits.now.taken)
+      ∙ ap (λ t. run.edits.now.taken ++ t) (sym ended.0) in
       let all : run.edits.now.taken ≡ run.edits.before.left = taken ∙ all_bytes tells in
       record {
         read = record { took_all = taken ∙ e.bytes tells; nothing_left = ended.0 };
         within = ap is_over (sym all) ∙ ended.1;
-        answered = λ sinks_tell. subst (λ s. IsAnswered s run.edits.now.taken run.out.now.written) is (e.ends tells sinks_tell) ∙ ap (λ t. printed (all_lines t)) all;
+        answered =
+            λ sinks_tell. subst (λ s. IsAnswered s run.edits.now.taken run.out.now.written) is (e.ends tells sinks_tell)
+            ∙ ap (λ t. printed (all_lines t)) all;
       }
 
   caused_by : (status : TotalsStatus) → run.status ≡ status → IsCausedBy run status
   caused_by statuses.Done is = tt
   caused_by statuses.Words is = absurd (e.others is)
   caused_by statuses.Read is = e.read is
-  caused_by statuses.Cut is = λ tells. ap is_over (sym (all_bytes tells)) ∙ subst (λ s. SourceEnds s run.edits.now.taken run.edits.now.left) is (e.source tells)
+  caused_by statuses.Cut is =
+      λ tells. ap is_over (sym (all_bytes tells)) ∙ subst (λ s. SourceEnds s run.edits.now.taken run.edits.now.left) is (e.source tells)
   caused_by statuses.Write is = e.write is
   caused_by statuses.Memory is = tt
 
-  complete_by : (status : TotalsStatus) → run.status ≡ status → IsTrue run.sources_tell → IsFaultless run → (run.status ≡ statuses.Done) ⊎ (run.status ≡ statuses.Memory)
+  complete_by : (status : TotalsStatus) → run.status ≡ status → IsTrue run.sources_tell → IsFaultless run
+      → (run.status ≡ statuses.Done) ⊎ (run.status ≡ statuses.Memory)
   complete_by statuses.Done is tells f = inl is
   complete_by statuses.Words is tells f = absurd (e.others is)
   complete_by statuses.Read is tells f = absurd (f.read (e.read is))

@@ -7,5 +7,6 @@ abbrev pub invariant-loop-key : goal.invariant-loop-key
 invariant-loop-key l =
     (goal.iterator-loop-key).can_next l.key-iterator ×
     (goal.iterator-loop-key).is_finite l.key-iterator ×
-    IsMending (λ q. usage_at q (side l.comes (remove l.rows l.place) l.rows)) (λ q. usage_at q (side l.comes l.rows (remove l.rows l.place)))
+    IsMending (λ q. usage_at q (side l.comes (remove l.meter l.place) l.meter))
+    (λ q. usage_at q (side l.comes l.meter (remove l.meter l.place)))
     l.initial.sums.entries l.sums.entries l.key-iterator

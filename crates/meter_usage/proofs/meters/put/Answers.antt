@@ -13,7 +13,8 @@ returns-in-Some-clause-ok c =
     on_ok c.push.result c.push.ensures.ok (λ is.
     (c.get_mut.follows.holds c.push.new.self).0
     ∙ ap (set_value (same c.args.address) c.args.meters.now.entries) is
-    ∙ set_is_with c.args.address c.args.meters.now.entries c.in-Some.meter.now (c.in-Some.meter.now ++ c.args.row ∷ []) found (append_some c.in-Some.meter.now c.args.row)
+    ∙ set_is_with c.args.address c.args.meters.now.entries c.in-Some.meter.now (c.in-Some.meter.now ++ c.args.row ∷ []) found
+    (append_some c.in-Some.meter.now c.args.row)
     ∙ ap (λ rs. with_rows c.args.meters.now.entries c.args.address (rs ++ c.args.row ∷ [])) (sym rows))
 
 pub returns-in-Some-clause-err : goal.returns-in-Some-clause-err

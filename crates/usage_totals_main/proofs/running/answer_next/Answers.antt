@@ -16,8 +16,10 @@ returns-in-Ok-Line-clause-answered g c =
     let before = given g.S.Source.taken c.args.edits.now.reader in
     step_answered c.answer_line.result c.ended_by.result _ c.ended_by.ensures (λ is tells sink_tells told.
     subst (λ lines. AreAnswered lines c.answer_line.new.totals (g.K.Sink.written c.answer_line.new.out))
-    (sym (lent _ _ _ _ _ c.in-Ok-Line.field-0-is (c.in-Ok-Line.ensures.lines tells) ∙ ap (λ text. before ++ text ∷ []) (sym c.text.ensures)))
-    (next_answered c.answer_line.result before c.text.result.now c.args.totals.now c.answer_line.new.totals sink told c.answer_line.ensures.rows (c.answer_line.ensures.writes sink_tells) is))
+    (sym (lent _ _ _ _ _ c.in-Ok-Line.field-0-is (c.in-Ok-Line.ensures.lines tells)
+    ∙ ap (λ text. before ++ text ∷ []) (sym c.text.ensures)))
+    (next_answered c.answer_line.result before c.text.result.now c.args.totals.now c.answer_line.new.totals sink told
+    c.answer_line.ensures.rows (c.answer_line.ensures.writes sink_tells) is))
 
 pub returns-in-Ok-Line-clause-ends : goal.returns-in-Ok-Line-clause-ends
 returns-in-Ok-Line-clause-ends g c =
@@ -28,12 +30,16 @@ returns-in-Ok-Line-clause-ends g c =
     step_ended c.answer_line.result c.ended_by.result _ c.ended_by.ensures
     (λ is tells sink_tells told.
     stopped_write before all text c.next.new.self.reader.line (g.K.Sink.written c.args.out.now) (g.K.Sink.written c.answer_line.new.out)
-    (sym (lent _ _ _ _ _ c.in-Ok-Line.field-0-is (c.in-Ok-Line.ensures.lines tells) ∙ ap (λ t. before ++ t ∷ []) (sym c.text.ensures))) told.text
-    (subst (λ r. Writes (answer_text (rows_told before) (request_of text)) sink r) is (c.answer_line.ensures.writes sink_tells (rows_told before) told.rows)))
+    (sym (lent _ _ _ _ _ c.in-Ok-Line.field-0-is (c.in-Ok-Line.ensures.lines tells) ∙ ap (λ t. before ++ t ∷ []) (sym c.text.ensures)))
+    told.text
+    (subst (λ r. Writes (answer_text (rows_told before) (request_of text)) sink r) is
+    (c.answer_line.ensures.writes sink_tells (rows_told before) told.rows)))
     (λ is tells sink_tells told.
     stopped_memory before all text c.next.new.self.reader.line (g.K.Sink.written c.args.out.now) (g.K.Sink.written c.answer_line.new.out)
-    (sym (lent _ _ _ _ _ c.in-Ok-Line.field-0-is (c.in-Ok-Line.ensures.lines tells) ∙ ap (λ t. before ++ t ∷ []) (sym c.text.ensures))) told.text
-    (subst (λ r. Writes (answer_text (rows_told before) (request_of text)) sink r) is (c.answer_line.ensures.writes sink_tells (rows_told before) told.rows)))
+    (sym (lent _ _ _ _ _ c.in-Ok-Line.field-0-is (c.in-Ok-Line.ensures.lines tells) ∙ ap (λ t. before ++ t ∷ []) (sym c.text.ensures)))
+    told.text
+    (subst (λ r. Writes (answer_text (rows_told before) (request_of text)) sink r) is
+    (c.answer_line.ensures.writes sink_tells (rows_told before) told.rows)))
 
 pub returns-in-Ok-TooLong-clause-answered : goal.returns-in-Ok-TooLong-clause-answered
 returns-in-Ok-TooLong-clause-answered g c =
@@ -57,10 +63,14 @@ returns-in-Ok-TooLong-clause-ends g c =
     (λ is tells sink_tells told.
     let long = too_long _ _ _ _ _ c.in-Ok-TooLong.field-0-is (c.in-Ok-TooLong.ensures.lines tells) in
     let none = long_line long.line (subst (λ n. n < length long.line) c.requires.longest long.long) in
-    stopped_write before all long.line c.next.new.self.reader.line (g.K.Sink.written c.args.out.now) (g.K.Sink.written c.write_bad.new.out) (sym long.more) told.text
-    (subst (λ r. Writes (answer_text (rows_told before) (request_of long.line)) sink r) is (bad_writes long.line sink stop none (c.write_bad.ensures.writes sink_tells) (rows_told before))))
+    stopped_write before all long.line c.next.new.self.reader.line (g.K.Sink.written c.args.out.now) (g.K.Sink.written c.write_bad.new.out)
+    (sym long.more) told.text
+    (subst (λ r. Writes (answer_text (rows_told before) (request_of long.line)) sink r) is
+    (bad_writes long.line sink stop none (c.write_bad.ensures.writes sink_tells) (rows_told before))))
     (λ is tells sink_tells told.
     let long = too_long _ _ _ _ _ c.in-Ok-TooLong.field-0-is (c.in-Ok-TooLong.ensures.lines tells) in
     let none = long_line long.line (subst (λ n. n < length long.line) c.requires.longest long.long) in
-    stopped_memory before all long.line c.next.new.self.reader.line (g.K.Sink.written c.args.out.now) (g.K.Sink.written c.write_bad.new.out) (sym long.more) told.text
-    (subst (λ r. Writes (answer_text (rows_told before) (request_of long.line)) sink r) is (bad_writes long.line sink stop none (c.write_bad.ensures.writes sink_tells) (rows_told before))))
+    stopped_memory before all long.line c.next.new.self.reader.line (g.K.Sink.written c.args.out.now) (g.K.Sink.written c.write_bad.new.out)
+    (sym long.more) told.text
+    (subst (λ r. Writes (answer_text (rows_told before) (request_of long.line)) sink r) is
+    (bad_writes long.line sink stop none (c.write_bad.ensures.writes sink_tells) (rows_told before))))

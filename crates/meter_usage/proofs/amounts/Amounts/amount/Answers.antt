@@ -7,4 +7,5 @@ use Rattle.meter_usage.proofs.amounts.Amounts.amount.Goals as goal
 
 pub returns-clause-small : goal.returns-clause-small
 returns-clause-small c =
-    subst (λ o. IfSome o (IsWithin (2 ^ 80))) (sym (c.copied.ensures ∙ c.get.ensures.value)) (lookup_small (is_at (key_cmp c.args.key.now)) c.self.inside.entries.entries c.self.invariant)
+    subst (λ o. IfSome o (IsWithin (2 ^ 80))) (sym (c.copied.ensures ∙ c.get.ensures.value))
+    (lookup_small (is_at (key_cmp c.args.key.now)) c.self.inside.entries.entries c.self.invariant)

@@ -13,24 +13,35 @@ records-init c = record { within = search rules; noted = ap (noted_from c.args.p
 
 pub records-preserved : goal.records-preserved
 records-preserved c =
-    let is : next_of c.args.payload.now c.records.from ≡ Ok (Some c.in-Ok-Some.span) = sym c.in-Ok-Some.ensures.exact ∙ ap Ok c.in-Ok-Some.field-0-is in
-    let within : LiesWithin c.args.payload.now c.in-Ok-Some.span = subst (λ next. IfSome next (LiesWithin c.args.payload.now)) c.in-Ok-Some.field-0-is c.in-Ok-Some.ensures.within in
+    let is : next_of c.args.payload.now c.records.from ≡ Ok (Some c.in-Ok-Some.span) = sym c.in-Ok-Some.ensures.exact
+    ∙ ap Ok c.in-Ok-Some.field-0-is in
+    let within : LiesWithin c.args.payload.now c.in-Ok-Some.span = subst (λ next. IfSome next (LiesWithin c.args.payload.now))
+    c.in-Ok-Some.field-0-is c.in-Ok-Some.ensures.within in
     record {
       within = within.within;
-      noted = ap (noted_from c.args.payload.now c.in-Ok-Some.span.end) (c.in_ok-note-in-Ok-Some.ensures ∙ ap (noted_if c.records.entries.entries) c.given.ensures)
-          ∙ sym (noted_here c.args.payload.now c.records.from c.in-Ok-Some.span c.records.entries.entries c.records.invariant.within is) ∙ c.records.invariant.noted;
+      noted =
+          ap (noted_from c.args.payload.now c.in-Ok-Some.span.end)
+          (c.in_ok-note-in-Ok-Some.ensures ∙ ap (noted_if c.records.entries.entries) c.given.ensures)
+          ∙ sym (noted_here c.args.payload.now c.records.from c.in-Ok-Some.span c.records.entries.entries c.records.invariant.within is)
+          ∙ c.records.invariant.noted;
     }
 
 pub returns : goal.returns
 returns c =
     elim c.match-next_record.branch [
-      | in-Err w ↦ sym (noted_stopped c.args.payload.now c.records.from c.records.entries.entries w.in-Err._fault (sym w.in-Err.ensures.exact)) ∙ c.records.invariant.noted
-      | in-Ok-None w ↦ sym (noted_done c.args.payload.now c.records.from c.records.entries.entries (sym w.in-Ok-None.ensures.exact ∙ ap Ok w.in-Ok-None.field-0-is)) ∙ c.records.invariant.noted
+      | in-Err w ↦ sym (noted_stopped c.args.payload.now c.records.from c.records.entries.entries w.in-Err._fault
+          (sym w.in-Err.ensures.exact)) ∙ c.records.invariant.noted
+      | in-Ok-None w ↦ sym (noted_done c.args.payload.now c.records.from c.records.entries.entries
+          (sym w.in-Ok-None.ensures.exact ∙ ap Ok w.in-Ok-None.field-0-is)) ∙ c.records.invariant.noted
     ]
 
 pub invariant_of-result : goal.invariant_of-result
 invariant_of-result c =
     elim c.match-next_record.branch [
-      | in-Err w ↦ subst AreSmall (sym (sym (noted_stopped c.args.payload.now c.records.from c.records.entries.entries w.in-Err._fault (sym w.in-Err.ensures.exact)) ∙ c.records.invariant.noted)) (row_small c.args.payload.now)
-      | in-Ok-None w ↦ subst AreSmall (sym (sym (noted_done c.args.payload.now c.records.from c.records.entries.entries (sym w.in-Ok-None.ensures.exact ∙ ap Ok w.in-Ok-None.field-0-is)) ∙ c.records.invariant.noted)) (row_small c.args.payload.now)
+      | in-Err w ↦ subst AreSmall
+          (sym (sym (noted_stopped c.args.payload.now c.records.from c.records.entries.entries w.in-Err._fault (sym w.in-Err.ensures.exact))
+          ∙ c.records.invariant.noted)) (row_small c.args.payload.now)
+      | in-Ok-None w ↦ subst AreSmall
+          (sym (sym (noted_done c.args.payload.now c.records.from c.records.entries.entries
+          (sym w.in-Ok-None.ensures.exact ∙ ap Ok w.in-Ok-None.field-0-is)) ∙ c.records.invariant.noted)) (row_small c.args.payload.now)
     ]

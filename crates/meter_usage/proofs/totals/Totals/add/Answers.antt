@@ -13,19 +13,25 @@ returns-in-Some c = record {
   accepted = search rules;
   unchanged = search rules;
   refused = λ edits fault s there.
-      ap Err (same_fault _ c.in-Some.fault fault (found_there _ _ _ c.in-Some.fault c.add_fault.ensures (ap (add_fault c.args.address) c.self.view_is ∙ add_fault_stands c.args.address c.args.self.now edits s) c.in-Some.is) there);
+      ap Err (same_fault _ c.in-Some.fault fault
+      (found_there _ _ _ c.in-Some.fault c.add_fault.ensures
+      (ap (add_fault c.args.address) c.self.view_is ∙ add_fault_stands c.args.address c.args.self.now edits s) c.in-Some.is) there);
   caused = λ edits s.
-      inr (found_there _ _ _ c.in-Some.fault c.add_fault.ensures (ap (add_fault c.args.address) c.self.view_is ∙ add_fault_stands c.args.address c.args.self.now edits s) c.in-Some.is);
+      inr (found_there _ _ _ c.in-Some.fault c.add_fault.ensures
+      (ap (add_fault c.args.address) c.self.view_is ∙ add_fault_stands c.args.address c.args.self.now edits s) c.in-Some.is);
 }
 
 pub returns : goal.returns
 returns c = record {
   accepted = elim c.match-add_row.branch [
     | in-Ok w ↦ ok_at c.match-add_row.result (λ edits s.
-        addition_accepted c.add_row.new.meters.entries c.args.self.now c.args.address c.args.payload.now (w.in-Ok.ensures.ok ∙ ap (λ t. added t c.args.address (row_of c.args.payload.now)) c.self.view_is) edits s)
+        addition_accepted c.add_row.new.meters.entries c.args.self.now c.args.address c.args.payload.now
+        (w.in-Ok.ensures.ok ∙ ap (λ t. added t c.args.address (row_of c.args.payload.now)) c.self.view_is) edits s)
     | in-Err w ↦ err_at _ c.match-add_row.result _ w.result-is
   ];
   unchanged = search rules;
-  refused = λ edits fault s there. none_there _ _ _ fault c.add_fault.ensures (ap (add_fault c.args.address) c.self.view_is ∙ add_fault_stands c.args.address c.args.self.now edits s) c.in_default.is there;
+  refused =
+      λ edits fault s there. none_there _ _ _ fault c.add_fault.ensures
+      (ap (add_fault c.args.address) c.self.view_is ∙ add_fault_stands c.args.address c.args.self.now edits s) c.in_default.is there;
   caused = λ edits s. search rules;
 }

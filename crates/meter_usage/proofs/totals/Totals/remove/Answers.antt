@@ -10,16 +10,25 @@ returns-in-Some-clause-answered c = record {
   accepted = search rules;
   unchanged = search rules;
   refused = λ edits fault s there.
-      ap Err (same_fault _ c.in-Some.fault fault (found_there _ _ _ c.in-Some.fault c.place_fault.ensures (ap (place_fault c.args.address c.args.place) c.self.view_is ∙ place_fault_stands c.args.address c.args.place c.args.self.now edits s) c.in-Some.is) there);
+      ap Err (same_fault _ c.in-Some.fault fault
+      (found_there _ _ _ c.in-Some.fault c.place_fault.ensures
+      (ap (place_fault c.args.address c.args.place) c.self.view_is ∙ place_fault_stands c.args.address c.args.place c.args.self.now edits s)
+      c.in-Some.is) there);
   caused = λ edits s.
-      inr (found_there _ _ _ c.in-Some.fault c.place_fault.ensures (ap (place_fault c.args.address c.args.place) c.self.view_is ∙ place_fault_stands c.args.address c.args.place c.args.self.now edits s) c.in-Some.is);
+      inr (found_there _ _ _ c.in-Some.fault c.place_fault.ensures
+      (ap (place_fault c.args.address c.args.place) c.self.view_is ∙ place_fault_stands c.args.address c.args.place c.args.self.now edits s)
+      c.in-Some.is);
 }
 
 pub returns-clause-answered : goal.returns-clause-answered
 returns-clause-answered c = record {
   accepted = λ edits s.
-      removal_accepted c.remove_row.new.meters.entries c.args.self.now c.args.address c.args.place (c.remove_row.ensures.removed ∙ ap (λ t. removed t c.args.address c.args.place) c.self.view_is) edits s;
+      removal_accepted c.remove_row.new.meters.entries c.args.self.now c.args.address c.args.place
+      (c.remove_row.ensures.removed ∙ ap (λ t. removed t c.args.address c.args.place) c.self.view_is) edits s;
   unchanged = search rules;
-  refused = λ edits fault s there. none_there _ _ _ fault c.place_fault.ensures (ap (place_fault c.args.address c.args.place) c.self.view_is ∙ place_fault_stands c.args.address c.args.place c.args.self.now edits s) c.in_default.is there;
+  refused =
+      λ edits fault s there. none_there _ _ _ fault c.place_fault.ensures
+      (ap (place_fault c.args.address c.args.place) c.self.view_is ∙ place_fault_stands c.args.address c.args.place c.args.self.now edits s)
+      c.in_default.is there;
   caused = λ edits s. search rules;
 }

@@ -13,19 +13,28 @@ returns-in-Some c = record {
   accepted = search rules;
   unchanged = search rules;
   refused = λ edits fault s there.
-      ap Err (same_fault _ c.in-Some.fault fault (found_there _ _ _ c.in-Some.fault c.place_fault.ensures (ap (place_fault c.args.address c.args.place) c.self.view_is ∙ place_fault_stands c.args.address c.args.place c.args.self.now edits s) c.in-Some.is) there);
+      ap Err (same_fault _ c.in-Some.fault fault
+      (found_there _ _ _ c.in-Some.fault c.place_fault.ensures
+      (ap (place_fault c.args.address c.args.place) c.self.view_is ∙ place_fault_stands c.args.address c.args.place c.args.self.now edits s)
+      c.in-Some.is) there);
   caused = λ edits s.
-      inr (found_there _ _ _ c.in-Some.fault c.place_fault.ensures (ap (place_fault c.args.address c.args.place) c.self.view_is ∙ place_fault_stands c.args.address c.args.place c.args.self.now edits s) c.in-Some.is);
+      inr (found_there _ _ _ c.in-Some.fault c.place_fault.ensures
+      (ap (place_fault c.args.address c.args.place) c.self.view_is ∙ place_fault_stands c.args.address c.args.place c.args.self.now edits s)
+      c.in-Some.is);
 }
 
 pub returns : goal.returns
 returns c = record {
   accepted = elim c.match-replace_row.branch [
     | in-Ok w ↦ ok_at c.match-replace_row.result (λ edits s.
-        replacement_accepted c.replace_row.new.meters.entries c.args.self.now c.args.address c.args.place c.args.payload.now (w.in-Ok.ensures.ok ∙ ap (λ t. replaced t c.args.address c.args.place (row_of c.args.payload.now)) c.self.view_is) edits s)
+        replacement_accepted c.replace_row.new.meters.entries c.args.self.now c.args.address c.args.place c.args.payload.now
+        (w.in-Ok.ensures.ok ∙ ap (λ t. replaced t c.args.address c.args.place (row_of c.args.payload.now)) c.self.view_is) edits s)
     | in-Err w ↦ err_at _ c.match-replace_row.result _ w.result-is
   ];
   unchanged = search rules;
-  refused = λ edits fault s there. none_there _ _ _ fault c.place_fault.ensures (ap (place_fault c.args.address c.args.place) c.self.view_is ∙ place_fault_stands c.args.address c.args.place c.args.self.now edits s) c.in_default.is there;
+  refused =
+      λ edits fault s there. none_there _ _ _ fault c.place_fault.ensures
+      (ap (place_fault c.args.address c.args.place) c.self.view_is ∙ place_fault_stands c.args.address c.args.place c.args.self.now edits s)
+      c.in_default.is there;
   caused = λ edits s. search rules;
 }

@@ -9,6 +9,6 @@ use Rattle.meter_usage.proofs.totals.Totals.usage.Goals as goal
 pub returns-clause-usage : goal.returns-clause-usage
 returns-clause-usage c = λ edits s.
     let table = rows_after edits in
-    c.usage_of.ensures.is ∙ ap (usage_at c.args.key.now) c.rows_of.ensures
+    c.usage_of.ensures.is
     ∙ ap (λ t. usage_at c.args.key.now (rows_at c.args.address t)) (c.self.view_is ∙ s.rows)
     ∙ ap (usage_at c.args.key.now) (kept_rows c.args.address table) ∙ usage_kept c.args.key.now (rows_at c.args.address table)

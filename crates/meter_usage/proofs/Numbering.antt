@@ -1,0 +1,255 @@
+-- Rows whose numbers rise, and the amounts of a key that they have.
+use Rattle.std.proofs.Common.{◌≡◌, ℕ, zero, suc, ◌+◌, ◌<◌, List, [], ◌∷◌, ◌++◌, append_assoc, append-nil, map, length, get_or, take, drop, remove, Option, Some, None, ℤ, refl, sym, ap, ◌∙◌, subst, arith}
+use Rattle.std.specs.Prelude.{slice_set}
+use Rattle.std.specs.declared.cmp.Ordering.TheVariants.{Less, Greater}
+use Rattle.std.specs.Ordering.{nat_cmp, ordering_reverse}
+use Rattle.std.specs.Option.{option_map, option_or}
+use Rattle.std.specs.List.{AllByRecursion, cons_option}
+use Rattle.std.specs.List.Sorted.{IsStrictlySortedBy}
+use Rattle.std.proofs.lemmas.Bool.Decides.{nat_tests}
+use Rattle.std.proofs.lemmas.Cmp.{nat_cmp_total}
+use Rattle.std.proofs.lemmas.List.{length-map, map-append, set_split}
+use Rattle.std.proofs.lemmas.List.Elements.{filter_map-append}
+use Rattle.indexmap.proofs.SetLemmas.{map-remove}
+use Rattle.meter_usage.specs.declared.key.UsageKey.{UsageKey}
+use Rattle.meter_usage.specs.declared.rows.NumberedRow.{NumberedRow}
+use Rattle.meter_usage.specs.Amounts.{Row, amount_at}
+use Rattle.meter_usage.specs.Usage.{first, last, less, usage_at}
+use Rattle.meter_usage.specs.Indexed.{Numbered, without, with_amount, StandsAt, used, series, indexed, numbers, IsIndexed}
+use Rattle.meter_usage.proofs.Ends.{or_none}
+use Rattle.meter_usage.proofs.Parts.{AreBelow, without_parted, amount_parted}
+
+-- ---- numbers that rise
+
+less_more : (n : ℕ) → nat_cmp n (n + 1) ≡ Less
+less_more n = grind (arith, nat_tests)
+
+all_middle : (P : ℕ → Type 0) (xs ys : List ℕ) (n : ℕ) → AllByRecursion P (xs ++ n ∷ ys) → P n
+all_middle P [] ys n a = a.0
+all_middle P (x ∷ xs) ys n a = all_middle P xs ys n a.1
+
+all_without : (P : ℕ → Type 0) (xs ys : List ℕ) (n : ℕ) → AllByRecursion P (xs ++ n ∷ ys) → AllByRecursion P (xs ++ ys)
+all_without P [] ys n a = a.1
+all_without P (x ∷ xs) ys n a = (a.0, all_without P xs ys n a.1)
+
+all_front : (P : ℕ → Type 0) (xs ys : List ℕ) → AllByRecursion P (xs ++ ys) → AllByRecursion P xs
+all_front P [] ys a = tt
+all_front P (x ∷ xs) ys a = (a.0, all_front P xs ys a.1)
+
+all_more : (x : ℕ) (xs : List ℕ) (n : ℕ) → AllByRecursion (λ y. nat_cmp x y ≡ Less) (xs ++ n ∷ [])
+    → AllByRecursion (λ y. nat_cmp x y ≡ Less) (xs ++ n ∷ (n + 1) ∷ [])
+all_more x [] n a = (a.0, (nat_cmp_total.trans x n (n + 1) a.0 (less_more n), tt))
+all_more x (y ∷ ys) n a = (a.0, all_more x ys n a.1)
+
+pub rising_below : (xs ys : List ℕ) (n : ℕ) → IsStrictlySortedBy nat_cmp (xs ++ n ∷ ys) → AllByRecursion (λ x. nat_cmp n x ≡ Greater) xs
+unfolding IsStrictlySortedBy
+rising_below [] ys n s = tt
+rising_below (x ∷ xs) ys n s =
+    (nat_cmp_total.antisymm n x ∙ ap ordering_reverse (all_middle _ xs ys n s.0), rising_below xs ys n s.1)
+
+rising_above : (xs ys : List ℕ) (n : ℕ) → IsStrictlySortedBy nat_cmp (xs ++ n ∷ ys) → AllByRecursion (λ y. nat_cmp n y ≡ Less) ys
+unfolding IsStrictlySortedBy
+rising_above [] ys n s = s.0
+rising_above (x ∷ xs) ys n s = rising_above xs ys n s.1
+
+rising_without : (xs ys : List ℕ) (n : ℕ) → IsStrictlySortedBy nat_cmp (xs ++ n ∷ ys) → IsStrictlySortedBy nat_cmp (xs ++ ys)
+unfolding IsStrictlySortedBy
+rising_without [] ys n s = s.1
+rising_without (x ∷ xs) ys n s = (all_without _ xs ys n s.0, rising_without xs ys n s.1)
+
+rising_more : (xs : List ℕ) (n : ℕ) → IsStrictlySortedBy nat_cmp (xs ++ n ∷ []) → IsStrictlySortedBy nat_cmp (xs ++ n ∷ (n + 1) ∷ [])
+unfolding IsStrictlySortedBy
+rising_more [] n s = ((less_more n, tt), (tt, tt))
+rising_more (x ∷ xs) n s = (all_more x xs n s.0, rising_more xs n s.1)
+
+-- ---- the amounts of a key
+
+all_by : (P : ℕ → Type 0) (n : ℕ) (o : Option ℤ) (es : Numbered) → P n → AllByRecursion (λ e. P e.0) es
+    → AllByRecursion (λ e. P e.0) (cons_option (option_map (λ v. (n, v)) o) es)
+all_by P n None es p a = a
+all_by P n (Some v) es p a = (p, a)
+
+-- what holds of the rows' numbers holds of those of the amounts
+all_series : (P : ℕ → Type 0) (q : UsageKey) (rows : List NumberedRow) → AllByRecursion P (numbers rows)
+    → AllByRecursion (λ e. P e.0) (series q rows)
+all_series P q [] a = tt
+all_series P q (row ∷ rows) a = all_by P row.number (amount_at q row.amounts) (series q rows) a.0 (all_series P q rows a.1)
+
+first_by : (n : ℕ) (o : Option ℤ) (es : Numbered)
+    → first (λ e. Some e.1) (cons_option (option_map (λ v. (n, v)) o) es) ≡ option_or o (first (λ e. Some e.1) es)
+first_by n None es = refl
+first_by n (Some v) es = refl
+
+last_by : (n : ℕ) (o : Option ℤ) (es : Numbered)
+    → last (λ e. Some e.1) (cons_option (option_map (λ v. (n, v)) o) es) ≡ option_or (last (λ e. Some e.1) es) o
+last_by n None es = sym (or_none (last (λ e. Some e.1) es))
+last_by n (Some v) es = refl
+
+-- the amounts of rows, without their numbers
+abbrev pub amounts_of : List NumberedRow → List Row
+amounts_of rows = map (λ row. row.amounts) rows
+
+first_series : (q : UsageKey) (rows : List NumberedRow) → first (λ e. Some e.1) (series q rows) ≡ first (amount_at q) (amounts_of rows)
+first_series q [] = refl
+first_series q (row ∷ rows) =
+    first_by row.number (amount_at q row.amounts) (series q rows) ∙ ap (option_or (amount_at q row.amounts)) (first_series q rows)
+
+last_series : (q : UsageKey) (rows : List NumberedRow) → last (λ e. Some e.1) (series q rows) ≡ last (amount_at q) (amounts_of rows)
+last_series q [] = refl
+last_series q (row ∷ rows) =
+    last_by row.number (amount_at q row.amounts) (series q rows) ∙ ap (λ o. option_or o (amount_at q row.amounts)) (last_series q rows)
+
+-- what was used by the amounts of a key was used by the rows
+pub used_series : (q : UsageKey) (rows : List NumberedRow) → used (series q rows) ≡ usage_at q (amounts_of rows)
+used_series q rows =
+    ap (λ o. less o (first (λ e. Some e.1) (series q rows))) (last_series q rows)
+    ∙ ap (less (last (amount_at q) (amounts_of rows))) (first_series q rows)
+
+-- ---- one row among the others
+
+-- a place among the amounts is one among the rows
+pub place_within : (rows : List NumberedRow) (all : List Row) (i : ℕ) → amounts_of rows ≡ all → i < length all → i < length rows
+place_within rows all i e lt =
+    subst (λ n. i < n) (length-map rows (λ (r : NumberedRow). r.amounts)) (subst (λ rs. i < length rs) (sym e) lt)
+
+pub split_row : (rows : List NumberedRow) (i : ℕ) (row : NumberedRow) → i < length rows → row ≡ get_or rows i row
+    → rows ≡ take i rows ++ row ∷ drop (suc i) rows
+split_row [] i row lt e = absurd (omega arith)
+split_row (x ∷ xs) zero row lt e = ap (λ z. z ∷ xs) (sym e)
+split_row (x ∷ xs) (suc i) row lt e = ap (λ z. x ∷ z) (split_row xs i row (omega arith) e)
+
+numbers_parted : (front back : List NumberedRow) (row : NumberedRow) (next : ℕ)
+    → numbers (front ++ row ∷ back) ++ next ∷ [] ≡ numbers front ++ row.number ∷ (numbers back ++ next ∷ [])
+numbers_parted front back row next =
+    ap (λ z. z ++ next ∷ []) (map-append (λ (r : NumberedRow). r.number) front (row ∷ back))
+    ∙ append_assoc (numbers front) (row.number ∷ numbers back) (next ∷ [])
+
+module _ (front back : List NumberedRow) (row : NumberedRow) (next : ℕ)
+    (s : IsStrictlySortedBy nat_cmp (numbers (front ++ row ∷ back) ++ next ∷ [])) where
+  rises : IsStrictlySortedBy nat_cmp (numbers front ++ row.number ∷ (numbers back ++ next ∷ []))
+  rises = subst (IsStrictlySortedBy nat_cmp) (numbers_parted front back row next) s
+
+  -- its amount stands at its number
+  row_stands : (q : UsageKey) → StandsAt row.number (amount_at q row.amounts) (series q (front ++ row ∷ back))
+  row_stands q = record {
+    front = series q front;
+    back = series q back;
+    parts = filter_map-append _ front (row ∷ back);
+    below =
+        all_series (λ m. nat_cmp row.number m ≡ Greater) q front
+        (rising_below (numbers front) (numbers back ++ next ∷ []) row.number rises);
+    above = all_series (λ m. nat_cmp row.number m ≡ Less) q back
+        (all_front _ (numbers back) (next ∷ []) (rising_above (numbers front) (numbers back ++ next ∷ []) row.number rises));
+  }
+
+  row_gone : (q : UsageKey) → without row.number (series q (front ++ row ∷ back)) ≡ series q (front ++ back)
+  unfolding row_stands
+  row_gone q =
+      let at = row_stands q in
+      ap (without row.number) at.parts ∙ without_parted row.number at.front (amount_at q row.amounts) at.back at.below at.above
+      ∙ sym (filter_map-append _ front back)
+
+  row_changed : (q : UsageKey) (new : Row)
+      → with_amount row.number (amount_at q new) (series q (front ++ row ∷ back))
+      ≡ series q (front ++ record { number = row.number; amounts = new } ∷ back)
+  unfolding row_stands
+  row_changed q new =
+      let at = row_stands q in
+      ap (with_amount row.number (amount_at q new)) at.parts
+      ∙ amount_parted row.number at.front (amount_at q row.amounts) (amount_at q new) at.back at.below at.above
+      ∙ sym (filter_map-append _ front (record { number = row.number; amounts = new } ∷ back))
+
+  gone_rises : IsStrictlySortedBy nat_cmp (numbers (front ++ back) ++ next ∷ [])
+  gone_rises =
+      subst (IsStrictlySortedBy nat_cmp)
+      (sym (ap (λ z. z ++ next ∷ []) (map-append (λ (r : NumberedRow). r.number) front back)
+      ∙ append_assoc (numbers front) (numbers back) (next ∷ [])))
+      (rising_without (numbers front) (numbers back ++ next ∷ []) row.number rises)
+
+-- ---- a meter's rows and index under an edit
+
+pub empty_indexed : (rows : List NumberedRow) (index : List (UsageKey × Numbered)) → rows ≡ [] → index ≡ [] → IsIndexed rows 0 index
+unfolding IsStrictlySortedBy
+empty_indexed rows index e f = record {
+  rising = subst (λ rs. IsStrictlySortedBy nat_cmp (numbers rs ++ 0 ∷ [])) (sym e) (tt, tt);
+  all = λ q. ap (indexed q) f ∙ ap (series q) (sym e);
+}
+
+pub same_indexed : (rows : List NumberedRow) (next : ℕ) (old now : List (UsageKey × Numbered)) → IsIndexed rows next old
+    → ((q : UsageKey) → indexed q now ≡ indexed q old) → IsIndexed rows next now
+same_indexed rows next old now k same = record { rising = k.rising; all = λ q. same q ∙ k.all q }
+
+module _ (rows : List NumberedRow) (next : ℕ) (old : List (UsageKey × Numbered)) (k : IsIndexed rows next old) where
+  series_below : (q : UsageKey) → AreBelow next (series q rows)
+  series_below q = all_series (λ m. nat_cmp next m ≡ Greater) q rows (rising_below (numbers rows) [] next k.rising)
+
+  -- none stands at the next number
+  pub next_stands : (q : UsageKey) → StandsAt next None (indexed q old)
+  next_stands q = subst (StandsAt next None) (sym (k.all q)) (record {
+    front = series q rows;
+    back = [];
+    parts = sym (append-nil (series q rows));
+    below = series_below q;
+    above = tt;
+  })
+
+  pub push_indexed : (row : Row) (now : List (UsageKey × Numbered))
+      → ((q : UsageKey) → indexed q now ≡ with_amount next (amount_at q row) (indexed q old))
+      → IsIndexed (rows ++ record { number = next; amounts = row } ∷ []) (next + 1) now
+  push_indexed row now change =
+      let new : NumberedRow = record { number = next; amounts = row } in
+      record {
+        rising =
+            subst (IsStrictlySortedBy nat_cmp) (sym (numbers_parted rows [] new (next + 1))) (rising_more (numbers rows) next k.rising);
+        all = λ q.
+            change q ∙ ap (with_amount next (amount_at q row)) (k.all q ∙ sym (append-nil (series q rows)))
+            ∙ amount_parted next (series q rows) None (amount_at q row) [] (series_below q) tt
+            ∙ sym (filter_map-append _ rows (new ∷ []));
+      }
+
+  module _ (i : ℕ) (row : NumberedRow) (lt : i < length rows) (e : row ≡ get_or rows i row) where
+    split : rows ≡ take i rows ++ row ∷ drop (suc i) rows
+    split = split_row rows i row lt e
+
+    rises_there : IsStrictlySortedBy nat_cmp (numbers (take i rows ++ row ∷ drop (suc i) rows) ++ next ∷ [])
+    rises_there = subst (λ rs. IsStrictlySortedBy nat_cmp (numbers rs ++ next ∷ [])) split k.rising
+
+    pub place_stands : (q : UsageKey) → StandsAt row.number (amount_at q row.amounts) (indexed q old)
+    place_stands q =
+        subst (StandsAt row.number (amount_at q row.amounts)) (sym (k.all q ∙ ap (series q) split))
+        (row_stands (take i rows) (drop (suc i) rows) row next rises_there q)
+
+    pub set_indexed : (new : Row) (now : List (UsageKey × Numbered))
+        → ((q : UsageKey) → indexed q now ≡ with_amount row.number (amount_at q new) (indexed q old))
+        → IsIndexed (slice_set rows i (record { number = row.number; amounts = new })) next now
+    set_indexed new now change =
+        let put : NumberedRow = record { number = row.number; amounts = new } in
+        let there : slice_set rows i put ≡ take i rows ++ put ∷ drop (suc i) rows = set_split rows i put lt in
+        subst (λ rs. IsIndexed rs next now) (sym there) (record {
+          rising = subst (IsStrictlySortedBy nat_cmp)
+              (numbers_parted (take i rows) (drop (suc i) rows) row next ∙ sym (numbers_parted (take i rows) (drop (suc i) rows) put next))
+              rises_there;
+          all = λ q.
+              change q ∙ ap (with_amount row.number (amount_at q new)) (k.all q ∙ ap (series q) split)
+              ∙ row_changed (take i rows) (drop (suc i) rows) row next rises_there q new;
+        })
+
+    pub removed_indexed : (now : List (UsageKey × Numbered)) → ((q : UsageKey) → indexed q now ≡ without row.number (indexed q old))
+        → IsIndexed (remove rows i) next now
+    removed_indexed now change = record {
+      rising = gone_rises (take i rows) (drop (suc i) rows) row next rises_there;
+      all = λ q.
+          change q ∙ ap (without row.number) (k.all q ∙ ap (series q) split)
+          ∙ row_gone (take i rows) (drop (suc i) rows) row next rises_there q;
+    }
+
+    -- what was used by the other rows
+    pub used_without : (q : UsageKey) → used (without row.number (indexed q old)) ≡ usage_at q (remove (amounts_of rows) i)
+    used_without q =
+        ap (λ es. used (without row.number es)) (k.all q ∙ ap (series q) split)
+        ∙ ap used (row_gone (take i rows) (drop (suc i) rows) row next rises_there q)
+        ∙ used_series q (remove rows i) ∙ ap (usage_at q) (map-remove (λ (r : NumberedRow). r.amounts) rows i)
+
+  -- what was used by all
+  pub used_all : (q : UsageKey) → used (indexed q old) ≡ usage_at q (amounts_of rows)
+  used_all q = ap used (k.all q) ∙ used_series q rows

@@ -1,0 +1,95 @@
+-- The first and the last of amounts, as an iterator takes them.
+use Rattle.std.proofs.Common.{◌≡◌, ℕ, Bool, true, false, cond, [], ◌∷◌, ◌++◌, Option, Some, None, ℤ, refl, sym, ap, ◌∙◌, subst}
+use Rattle.std.specs.declared.cmp.Ordering.{Ordering}
+use Rattle.std.specs.declared.cmp.Ordering.TheVariants.{Less, Equal, Greater}
+use Rattle.std.specs.Ordering.{is_eq, nat_cmp}
+use Rattle.std.specs.Option.{option_map, unwrap_or}
+use Rattle.std.specs.List.{AllByRecursion}
+use Rattle.std.specs.List.Sorted.{IsStrictlySortedBy}
+use Rattle.std.specs.Map.{keys_of}
+use Rattle.std.specs.Map.Iter.{TakesFirst, TakesLast}
+use Rattle.std.specs.BTreeMap.{is_at}
+use Rattle.std.proofs.lemmas.Cmp.{ranked}
+use Rattle.std.proofs.lemmas.List.{map-append}
+use Rattle.meter_usage.specs.Usage.{first, last}
+use Rattle.meter_usage.specs.Indexed.{Numbered, without}
+use Rattle.meter_usage.proofs.Ends.{last-append}
+use Rattle.meter_usage.proofs.Parts.{without_parted}
+use Rattle.meter_usage.proofs.Numbering.{rising_below}
+
+same_by : (n k : ℕ) (o : Ordering) → o ≡ nat_cmp n k → is_eq o ≡ true → n ≡ k
+same_by n k Less e same = absurd cc
+same_by n k Equal e same = ranked n k Equal e
+same_by n k Greater e same = absurd cc
+
+all_keys : (P : ℕ → Type 0) (es : Numbered) → AllByRecursion P (keys_of es) → AllByRecursion (λ e. P e.0) es
+all_keys P [] a = tt
+all_keys P (e ∷ es) a = (a.0, all_keys P es a.1)
+
+keeps_by : (b : Bool) (f e : ℕ × ℤ) (fs gone more : Numbered) → more ≡ gone ++ e ∷ []
+    → cond b (fs ++ e ∷ []) (f ∷ more) ≡ cond b fs (f ∷ gone) ++ e ∷ []
+keeps_by true f e fs gone more is = refl
+keeps_by false f e fs gone more is = ap (λ z. f ∷ z) is
+
+keeps_last : (n : ℕ) (rest : Numbered) (e : ℕ × ℤ) → is_at (nat_cmp n) e.0 ≡ false → without n (rest ++ e ∷ []) ≡ without n rest ++ e ∷ []
+keeps_last n [] e other = ap (λ b. cond b [] (e ∷ [])) other
+keeps_last n (f ∷ fs) e other = keeps_by (is_at (nat_cmp n) f.0) f e fs (without n fs) (without n (fs ++ e ∷ [])) (keeps_last n fs e other)
+
+last_one : (rest : Numbered) (e : ℕ × ℤ) → last (λ e. Some e.1) (rest ++ e ∷ []) ≡ Some e.1
+last_one rest e = last-append (λ e. Some e.1) rest (e ∷ [])
+
+module _ (n : ℕ) (rest : Numbered) (e : ℕ × ℤ) (rising : IsStrictlySortedBy nat_cmp (keys_of (rest ++ e ∷ []))) (same : n ≡ e.0) where
+  below : AllByRecursion (λ f. nat_cmp n f.0 ≡ Greater) rest
+  below =
+      subst (λ m. AllByRecursion (λ (f : ℕ × ℤ). nat_cmp m f.0 ≡ Greater) rest) (sym same)
+      (all_keys (λ m. nat_cmp e.0 m ≡ Greater) rest
+      (rising_below (keys_of rest) [] e.0 (subst (IsStrictlySortedBy nat_cmp) (map-append (λ (f : ℕ × ℤ). f.0) rest (e ∷ [])) rising)))
+
+  last_gone : without n (rest ++ e ∷ []) ≡ rest ++ []
+  last_gone = ap (λ m. without n (rest ++ (m, e.1) ∷ [])) (sym same) ∙ without_parted n rest (Some e.1) [] below tt
+
+module _ {A : Type 0} (shows : A → ℕ × ℤ) where
+  -- whether what was taken stands at a number
+  abbrev pub is_there : ℕ → Option A → Bool
+  is_there n r = unwrap_or (option_map (λ a. is_at (nat_cmp n) (shows a).0) r) false
+
+  abbrev pub amount_taken : Option A → Option ℤ
+  amount_taken r = option_map (λ a. (shows a).1) r
+
+  pub took_first : (es rest : Numbered) (r : Option A) → TakesFirst shows es r rest → amount_taken r ≡ first (λ e. Some e.1) es
+  took_first es rest None t = sym (ap (first (λ e. Some e.1)) t.0)
+  took_first es rest (Some a) t = sym (ap (first (λ e. Some e.1)) t)
+
+  pub took_last : (es rest : Numbered) (r : Option A) → TakesLast shows es r rest → amount_taken r ≡ last (λ e. Some e.1) es
+  took_last es rest None t = sym (ap (last (λ e. Some e.1)) t.0)
+  took_last es rest (Some a) t = sym (ap (last (λ e. Some e.1)) t ∙ last_one rest (shows a))
+
+  -- the first one stands at the number, and is left out
+  pub first_there : (n : ℕ) (es rest : Numbered) (r : Option A) → TakesFirst shows es r rest → is_there n r ≡ true → rest ≡ without n es
+  first_there n es rest None t there = absurd cc
+  first_there n es rest (Some a) t there = sym (ap (without n) t ∙ ap (λ b. cond b rest (shows a ∷ without n rest)) there)
+
+  -- it doesn't, and stays the first
+  pub first_other : (n : ℕ) (es rest : Numbered) (r : Option A) → TakesFirst shows es r rest → is_there n r ≡ false
+      → amount_taken r ≡ first (λ e. Some e.1) (without n es)
+  first_other n es rest None t other = sym (ap (λ x. first (λ e. Some e.1) (without n x)) t.0)
+  first_other n es rest (Some a) t other =
+      sym (ap (λ x. first (λ e. Some e.1) (without n x)) t
+      ∙ ap (λ b. first (λ e. Some e.1) (cond b rest (shows a ∷ without n rest))) other)
+
+  -- the last one stands at the number, and is left out
+  pub last_there : (n : ℕ) (es rest : Numbered) (r : Option A) → IsStrictlySortedBy nat_cmp (keys_of es) → TakesLast shows es r rest
+      → is_there n r ≡ true → last (λ e. Some e.1) rest ≡ last (λ e. Some e.1) (without n es)
+  last_there n es rest None rising t there = absurd cc
+  last_there n es rest (Some a) rising t there =
+      let gone = last_gone n rest (shows a) (subst (λ x. IsStrictlySortedBy nat_cmp (keys_of x)) t rising)
+      (same_by n (shows a).0 (nat_cmp n (shows a).0) refl there) in
+      sym (ap (λ x. last (λ e. Some e.1) (without n x)) t ∙ ap (last (λ e. Some e.1)) gone ∙ last-append (λ e. Some e.1) rest [])
+
+  -- it doesn't, and stays the last
+  pub last_other : (n : ℕ) (es rest : Numbered) (r : Option A) → TakesLast shows es r rest → is_there n r ≡ false
+      → amount_taken r ≡ last (λ e. Some e.1) (without n es)
+  last_other n es rest None t other = sym (ap (λ x. last (λ e. Some e.1) (without n x)) t.0)
+  last_other n es rest (Some a) t other =
+      sym (ap (λ x. last (λ e. Some e.1) (without n x)) t
+      ∙ ap (last (λ e. Some e.1)) (keeps_last n rest (shows a) other) ∙ last_one (without n rest) (shows a))

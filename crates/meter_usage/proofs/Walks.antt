@@ -1,0 +1,93 @@
+-- An index whose amounts change key by key.
+use Rattle.std.proofs.Common.{◌≡◌, ◌⊎◌, inl, inr, Bool, true, false, cond, List, [], ◌∷◌, Some, None, is_some, refl, sym, ap, ◌∙◌, subst}
+use Rattle.std.specs.Ordering.{is_eq}
+use Rattle.std.specs.Option.{unwrap_or}
+use Rattle.std.specs.List.Sorted.{IsStrictlySortedBy}
+use Rattle.std.specs.Map.{keys_of, lookup}
+use Rattle.std.specs.BTreeMap.{is_at}
+use Rattle.std.proofs.lemmas.Map.Keys.{sorted_head, sorted_tail}
+use Rattle.std.proofs.lemmas.Cmp.{eq_by_cmp_equiv}
+use Rattle.meter_usage.specs.declared.key.UsageKey.{UsageKey}
+use Rattle.meter_usage.specs.Keys.{key_cmp, key_cmp_total}
+use Rattle.meter_usage.specs.Amounts.{Row, amount_at}
+use Rattle.meter_usage.specs.Indexed.{Numbered, indexed}
+use Rattle.meter_usage.proofs.KeyByKey.{has_key, has_amount, has_first, none_by, or_right, or_both, apart_in}
+use Rattle.meter_usage.proofs.SameKey.{same_by_test}
+
+-- While keys of a row are left, the amounts of these are the old ones, and those of all others are changed.
+pub record IsChanging (row : Row) (change : UsageKey → Numbered → Numbered) (old now : List (UsageKey × Numbered))
+    (left : List UsageKey) : Type 0 where
+  pub ordered : IsStrictlySortedBy key_cmp left
+  pub there : (q : UsageKey) → has_key q left ≡ true → is_some (amount_at q row) ≡ true
+  pub waiting : (q : UsageKey) → has_key q left ≡ true → indexed q now ≡ indexed q old
+  pub changed : (q : UsageKey) → has_key q left ≡ false → indexed q now ≡ change q (indexed q old)
+
+pub changing_starts : (row : Row) (change : UsageKey → Numbered → Numbered) (old : List (UsageKey × Numbered)) (left : List UsageKey)
+    → left ≡ keys_of row → IsStrictlySortedBy key_cmp (keys_of row)
+    → ((q : UsageKey) (es : Numbered) → amount_at q row ≡ None → change q es ≡ es) → IsChanging row change old old left
+changing_starts row change old left e ordered same = subst (IsChanging row change old old) (sym e) (record {
+  ordered = ordered;
+  there = λ q has. has_amount q row ∙ has;
+  waiting = λ q has. refl;
+  changed = λ q misses. sym (same q (indexed q old) (none_by (amount_at q row) (has_amount q row ∙ misses)));
+})
+
+module _ (row : Row) (change : UsageKey → Numbered → Numbered) (old now : List (UsageKey × Numbered)) (k : UsageKey)
+    (left keys : List UsageKey)
+    (c : IsChanging row change old now keys) (e : keys ≡ k ∷ left) where
+  stands : IsChanging row change old now (k ∷ left)
+  stands = subst (IsChanging row change old now) e c
+
+  -- the next key is one of the row's
+  pub next_there : is_some (amount_at k row) ≡ true
+  next_there = stands.there k (has_first k left)
+
+  module _ (new : List (UsageKey × Numbered)) (others : (q : UsageKey) → is_eq (key_cmp k q) ≡ false → indexed q new ≡ indexed q now) where
+    -- it is changed
+    module _ (here : indexed k new ≡ change k (indexed k now)) where
+      changed_by : (q : UsageKey) (test : Bool) → is_eq (key_cmp k q) ≡ test → has_key q left ≡ false
+          → indexed q new ≡ change q (indexed q old)
+      changed_by q true is misses =
+          subst (λ p. indexed p new ≡ change p (indexed p old)) (same_by_test k q is)
+          (here ∙ ap (change k) (stands.waiting k (has_first k left)))
+      changed_by q false is misses =
+          others q is ∙ stands.changed q (or_both _ _ ((eq_by_cmp_equiv key_cmp_total).symm q k ∙ is) misses)
+
+      pub changing_goes_on : IsChanging row change old new left
+      changing_goes_on = record {
+        ordered = sorted_tail key_cmp k left stands.ordered;
+        there = λ q has. stands.there q (or_right _ _ has);
+        waiting = λ q has.
+            others q (apart_in k q left (sorted_head key_cmp k left stands.ordered) has) ∙ stands.waiting q (or_right _ _ has);
+        changed = λ q misses. changed_by q (is_eq (key_cmp k q)) refl misses;
+      }
+
+    -- it is not
+    module _ (here : indexed k new ≡ indexed k now) where
+      unchanged_by : (q : UsageKey) (test : Bool) → is_eq (key_cmp k q) ≡ test → indexed q new ≡ indexed q now
+      unchanged_by q true is = subst (λ p. indexed p new ≡ indexed p now) (same_by_test k q is) here
+      unchanged_by q false is = others q is
+
+      stopped_by : (q : UsageKey) (test : Bool) → has_key q (k ∷ left) ≡ test → indexed q new ≡ indexed q now
+          → (indexed q new ≡ indexed q old) ⊎ (indexed q new ≡ change q (indexed q old))
+      stopped_by q true has same = inl (same ∙ stands.waiting q has)
+      stopped_by q false misses same = inr (same ∙ stands.changed q misses)
+
+      pub changing_stopped : (q : UsageKey) → (indexed q new ≡ indexed q old) ⊎ (indexed q new ≡ change q (indexed q old))
+      changing_stopped q = stopped_by q (has_key q (k ∷ left)) refl (unchanged_by q (is_eq (key_cmp k q)) refl)
+
+pub changing_ends : (row : Row) (change : UsageKey → Numbered → Numbered) (old now : List (UsageKey × Numbered)) (left : List UsageKey)
+    → IsChanging row change old now left → left ≡ [] → (q : UsageKey) → indexed q now ≡ change q (indexed q old)
+changing_ends row change old now left c e q = c.changed q (ap (has_key q) e)
+
+-- a key without amounts is forgotten
+tidied_by : (k q : UsageKey) (old new : List (UsageKey × Numbered)) (test : Bool) → is_at (key_cmp k) q ≡ test
+    → lookup (is_at (key_cmp k)) old ≡ Some []
+    → lookup (is_at (key_cmp q)) new ≡ cond test None (lookup (is_at (key_cmp q)) old) → indexed q new ≡ indexed q old
+tidied_by k q old new true same bare now =
+    ap (λ o. unwrap_or o []) now ∙ ap (λ o. unwrap_or o []) (sym bare ∙ ap (λ p. lookup (is_at (key_cmp p)) old) (same_by_test k q same))
+tidied_by k q old new false other bare now = ap (λ o. unwrap_or o []) now
+
+pub tidied : (k q : UsageKey) (old new : List (UsageKey × Numbered)) → lookup (is_at (key_cmp k)) old ≡ Some []
+    → lookup (is_at (key_cmp q)) new ≡ cond (is_at (key_cmp k) q) None (lookup (is_at (key_cmp q)) old) → indexed q new ≡ indexed q old
+tidied k q old new bare now = tidied_by k q old new (is_at (key_cmp k) q) refl bare now

@@ -1,0 +1,33 @@
+use Rattle.std.proofs.Common.{◌∙◌, ap}
+use Rattle.meter_usage.specs.Amounts.{amount_at}
+use Rattle.meter_usage.specs.Indexed.{with_put, indexed}
+use Rattle.meter_usage.proofs.Edited.{err_of}
+use Rattle.meter_usage.proofs.Walks.{changing_starts, changing_goes_on, changing_stopped}
+use Rattle.meter_usage.proofs.index.Index.put_all.Goals as goal
+
+pub loop-key-init : goal.loop-key-init
+loop-key-init c = (
+  tt,
+  tt,
+  changing_starts c.args.row.now (λ q es. with_put c.args.number (amount_at q c.args.row.now) es) c.args.self.now
+      c.into_iter-key-iterator.result
+      (c.into_iter-key-iterator.ensures.into_iter_gives ∙ c.keys-key-items.ensures.rest) c.keys-key-items.ensures.ordered
+      (λ q es e. ap (λ o. with_put c.args.number o es) e),
+)
+
+pub loop-key-preserved : goal.loop-key-preserved
+loop-key-preserved c = (
+  tt,
+  tt,
+  changing_goes_on c.args.row.now (λ q es. with_put c.args.number (amount_at q c.args.row.now) es) c.args.self.now c.loop-key.self
+      c.in-Some.key.now c.next.new.self c.loop-key.key-iterator c.loop-key.invariant.2 c.in-Some.ensures.steps
+      c.put.new.self c.put.ensures.others
+      (c.in_ok-put.ensures.ok ∙ ap (λ o. with_put c.args.number o (indexed c.in-Some.key.now c.loop-key.self)) c.amount.ensures.is),
+)
+
+pub returns-in_err-put-clause-err : goal.returns-in_err-put-clause-err
+returns-in_err-put-clause-err c =
+    err_of c.from_residual.result
+    (changing_stopped c.args.row.now (λ q es. with_put c.args.number (amount_at q c.args.row.now) es) c.args.self.now c.loop-key.self
+    c.in-Some.key.now c.next.new.self c.loop-key.key-iterator c.loop-key.invariant.2 c.in-Some.ensures.steps
+    c.put.new.self c.put.ensures.others c.in_err-put.ensures.err)

@@ -1,0 +1,11 @@
+use Rattle.std.proofs.Common.{sym, subst}
+use Rattle.std.specs.Ordering.{nat_cmp}
+use Rattle.std.specs.BTreeMap.{is_at}
+use Rattle.meter_usage.specs.Amounts.{AreSmall}
+use Rattle.meter_usage.proofs.Small.{remove_small}
+use Rattle.meter_usage.proofs.series.Series.take.Goals as goal
+
+pub invariant_of-self : goal.invariant_of-self
+invariant_of-self c =
+    subst AreSmall (sym c.remove.ensures.entries)
+    (remove_small (is_at (nat_cmp c.args.number)) c.self.inside.amounts.entries c.self.invariant)
