@@ -1,46 +1,91 @@
--- Runs of items differ by at most one in length, and the longer ones come first.
-use Rattle.std.proofs.Common.{ℕ, zero, suc, ◌≡◌, ◌+◌, ◌-◌, ◌*◌, ◌/◌, ◌%◌, refl, sym, ap, ◌∙◌, append_assoc, arith}
-use Rattle.std.specs.Prelude.{[], ◌∷◌, ◌++◌, replicate}
-use Rattle.std.proofs.Math.Nat.{add-mul, div-add-mod, mod-lt}
-use Rattle.std.proofs.lemmas.List.{append-nil}
-use Rattle.std.proofs.lemmas.Nat.{div-mul-add}
-use Rattle.frame_inspect_main.specs.Runs.{last_len, run_lens, RunsAreEven}
+-- Runs of items differ by at most one in length, the longer ones come first, and none is left out at the end.
+use Rattle.std.proofs.Common.{ℕ, ◌≡◌, ◌≤◌, ◌<◌, ◌+◌, ◌-◌, ◌*◌, ◌/◌, ◌%◌, ⊎_elim, get_or, length, sym, ap, ◌∙◌, arith}
+use Rattle.std.specs.Prelude.{min, List, ◌++◌, replicate}
+use Rattle.std.proofs.Math.Nat.{min-le_right, min-eq_left, min-eq_right, mod-lt}
+use Rattle.std.proofs.lemmas.Bool.{cases_lt}
+use Rattle.std.proofs.lemmas.List.{length-append, length-replicate, get_or-replicate, get_or_append_left, get_or-append_right}
+use Rattle.std.proofs.lemmas.List.FromFn.{fill_by_all}
+use Rattle.std.proofs.lemmas.Nat.{mul-le, div-add-mod'}
+use Rattle.frame_inspect_main.specs.Runs.{run_start, RunsAreEven, RunsAreWhole}
 
-one_more : (n x : ℕ) → replicate n x ++ x ∷ [] ≡ replicate (suc n) x
-one_more zero x = refl
-one_more (suc n) x = ap (λ t. x ∷ t) (one_more n x)
+-- no run begins behind the last item
+pub starts_within : (count workers worker : ℕ) → worker ≤ workers → run_start count workers worker ≤ count
+starts_within count workers worker within =
+    let means : count / workers * worker ≤ count / workers * workers =
+    mul-le (count / workers) worker (count / workers) workers (omega arith) within in
+    let more : min worker (count % workers) ≤ count % workers = min-le_right worker (count % workers) in
+    let whole : count / workers * workers + count % workers ≡ count = div-add-mod' count workers in
+    omega (arith, means, more, whole)
 
--- the last of some workers has the mean, and the others have the rest
-last_is : (count others mean rest : ℕ) → last_len count (suc others) ≡ mean → count - mean ≡ rest → run_lens count (suc others) ≡ run_lens rest others ++ mean ∷ []
-last_is count others mean rest last left = ap (λ n. run_lens (count - n) others ++ n ∷ []) last ∙ ap (λ n. run_lens n others ++ mean ∷ []) left
+-- the length of a run, where as many runs before its start and its end are longer
+step : (mean worker before behind : ℕ) → before ≤ behind
+    → mean * (worker + 1) + behind - (mean * worker + before) ≡ mean + (behind - before)
+step mean worker before behind grows = omega (arith, grows)
 
-all_alike : (mean workers : ℕ) → run_lens (mean * workers) workers ≡ replicate workers mean
-all_alike mean zero = refl
-all_alike mean (suc others) =
-    let rest : mean * suc others - mean ≡ mean * others = omega arith in
-    let zeros : mean * suc others ≡ mean * suc others + 0 = omega arith in
-    let last : last_len (mean * suc others) (suc others) ≡ mean = ap (λ n. last_len n (suc others)) zeros ∙ div-mul-add mean (suc others) 0 (omega arith) in
-    last_is (mean * suc others) others mean (mean * others) last rest ∙ ap (λ t. t ++ mean ∷ []) (all_alike mean others) ∙ one_more others mean
+longer : (count workers worker : ℕ) → worker < count % workers
+    → run_start count workers (worker + 1) - run_start count workers worker ≡ count / workers + 1
+longer count workers worker first =
+    let before : min worker (count % workers) ≡ worker = min-eq_left (omega (arith, first)) in
+    let behind : min (worker + 1) (count % workers) ≡ worker + 1 = min-eq_left (omega (arith, first)) in
+    let more : min worker (count % workers) ≤ min (worker + 1) (count % workers) = omega (arith, before, behind) in
+    let one : min (worker + 1) (count % workers) - min worker (count % workers) ≡ 1 = omega (arith, before, behind) in
+    step (count / workers) worker (min worker (count % workers)) (min (worker + 1) (count % workers)) more
+    ∙ ap (λ n. count / workers + n) one
 
--- a mean and so many more, of so many workers with one more and so many without
-even : (mean longer shorter : ℕ) → run_lens (mean * (longer + shorter) + longer) (longer + shorter) ≡ replicate longer (mean + 1) ++ replicate shorter mean
-even mean longer zero =
-    let same : longer + 0 ≡ longer = omega arith in
-    let count : mean * longer + longer ≡ (mean + 1) * longer = omega (arith, add-mul mean 1 longer) in
-    ap (λ w. run_lens (mean * w + longer) w) same ∙ ap (λ n. run_lens n longer) count ∙ all_alike (mean + 1) longer ∙ sym (append-nil (replicate longer (mean + 1)))
-even mean longer (suc shorter) =
-    let same : longer + suc shorter ≡ suc (longer + shorter) = omega arith in
-    let last : last_len (mean * suc (longer + shorter) + longer) (suc (longer + shorter)) ≡ mean = div-mul-add mean (suc (longer + shorter)) longer (omega arith) in
-    let rest : mean * suc (longer + shorter) + longer - mean ≡ mean * (longer + shorter) + longer = omega arith in
-    ap (λ w. run_lens (mean * w + longer) w) same
-    ∙ last_is (mean * suc (longer + shorter) + longer) (longer + shorter) mean (mean * (longer + shorter) + longer) last rest
-    ∙ ap (λ t. t ++ mean ∷ []) (even mean longer shorter)
-    ∙ append_assoc (replicate longer (mean + 1)) (replicate shorter mean) (mean ∷ [])
-    ∙ ap (λ t. replicate longer (mean + 1) ++ t) (one_more shorter mean)
+shorter : (count workers worker : ℕ) → count % workers ≤ worker
+    → run_start count workers (worker + 1) - run_start count workers worker ≡ count / workers
+shorter count workers worker last =
+    let before : min worker (count % workers) ≡ count % workers = min-eq_right last in
+    let behind : min (worker + 1) (count % workers) ≡ count % workers = min-eq_right (omega (arith, last)) in
+    let more : min worker (count % workers) ≤ min (worker + 1) (count % workers) = omega (arith, before, behind) in
+    let none : count / workers + (min (worker + 1) (count % workers) - min worker (count % workers)) ≡ count / workers =
+    omega (arith, before, behind) in
+    step (count / workers) worker (min worker (count % workers)) (min (worker + 1) (count % workers)) more ∙ none
+
+pub starts_grow : (count workers worker : ℕ) → run_start count workers worker ≤ run_start count workers (worker + 1)
+starts_grow count workers worker =
+    let means : count / workers * worker ≤ count / workers * (worker + 1) = omega arith in
+    let more : min worker (count % workers) ≤ min (worker + 1) (count % workers) =
+    ⊎_elim (λ first. let a : min worker (count % workers) ≡ worker = min-eq_left (omega (arith, first)) in
+    let b : min (worker + 1) (count % workers) ≡ worker + 1 = min-eq_left (omega (arith, first)) in omega (arith, a, b))
+    (λ last. let a : min worker (count % workers) ≡ count % workers = min-eq_right last in
+    let b : min (worker + 1) (count % workers) ≡ count % workers = min-eq_right (omega (arith, last)) in omega (arith, a, b))
+    (cases_lt worker (count % workers)) in
+    omega (arith, means, more)
+
+abbrev lens : (mean rest workers : ℕ) → List ℕ
+lens mean rest workers = replicate rest (mean + 1) ++ replicate (workers - rest) mean
+
+first_len : (mean rest workers k : ℕ) → k < rest → get_or (lens mean rest workers) k 0 ≡ mean + 1
+first_len mean rest workers k first =
+    let many : length (replicate rest (mean + 1)) ≡ rest = length-replicate rest (mean + 1) in
+    get_or_append_left (replicate rest (mean + 1)) (replicate (workers - rest) mean) 0 k (omega (arith, many, first))
+    ∙ get_or-replicate rest k (mean + 1) 0 first
+
+last_len : (mean rest workers k : ℕ) → rest ≤ k → k < workers → get_or (lens mean rest workers) k 0 ≡ mean
+last_len mean rest workers k last within =
+    get_or-append_right (replicate rest (mean + 1)) (replicate (workers - rest) mean) rest k 0 (length-replicate rest (mean + 1)) last
+    ∙ get_or-replicate (workers - rest) (k - rest) mean 0 (omega (arith, last, within))
+
+as_many : (mean rest workers : ℕ) → rest ≤ workers → length (lens mean rest workers) ≡ workers
+as_many mean rest workers within =
+    let a : length (replicate rest (mean + 1)) ≡ rest = length-replicate rest (mean + 1) in
+    let b : length (replicate (workers - rest) mean) ≡ workers - rest = length-replicate (workers - rest) mean in
+    length-append (replicate rest (mean + 1)) (replicate (workers - rest) mean) ∙ omega (arith, a, b, within)
 
 pub runs_are_even : RunsAreEven
 runs_are_even count workers some =
-    let within = mod-lt count some in
-    let all : workers ≡ count % workers + (workers - count % workers) = omega (arith, within) in
-    let whole : count ≡ count / workers * workers + count % workers = omega (arith, div-add-mod count workers) in
-    ap (λ n. run_lens n workers) whole ∙ ap (λ w. run_lens (count / workers * w + count % workers) w) all ∙ even (count / workers) (count % workers) (workers - count % workers)
+    let rest : count % workers < workers = mod-lt count some in
+    sym (fill_by_all (λ worker. run_start count workers (worker + 1) - run_start count workers worker)
+    (lens (count / workers) (count % workers) workers) workers 0 (as_many (count / workers) (count % workers) workers (omega (arith, rest)))
+    (λ k within. ⊎_elim
+    (λ first. first_len (count / workers) (count % workers) workers k first ∙ sym (longer count workers k first))
+    (λ last. last_len (count / workers) (count % workers) workers k last within ∙ sym (shorter count workers k last))
+    (cases_lt k (count % workers))))
+
+pub runs_are_whole : RunsAreWhole
+runs_are_whole count workers some =
+    let rest : count % workers < workers = mod-lt count some in
+    let more : min workers (count % workers) ≡ count % workers = min-eq_right (omega (arith, rest)) in
+    let whole : count / workers * workers + count % workers ≡ count = div-add-mod' count workers in
+    omega (arith, more, whole)

@@ -18,6 +18,8 @@ pub frames_are_shown : FramesAreShown
 unfolding layered_text telegram_text
 frames_are_shown number next format at bytes t l says are frame layers =
     ap (λ (r : Result Line BadLine). decimal number ++ said_text r ++ codes "\n") says
-    ∙ ap (λ (r : Result (List ℕ) FrameFault). decimal number ++ frame_text format r ++ codes "\n") ((frames_are_decoded format bytes t are).1 frame)
-    ∙ ap (λ (r : Result Layers LayerFault). decimal number ++ (labelled (format_word format) (length t) ++ link_text (slice_index t 1) (link_address t) ++ layers_text (length t) r) ++ codes "\n")
+    ∙ ap (λ (r : Result (List ℕ) FrameFault). decimal number ++ frame_text format r ++ codes "\n")
+    ((frames_are_decoded format bytes t are).1 frame)
+    ∙ ap (λ (r : Result Layers LayerFault). decimal number
+    ++ (labelled (format_word format) (length t) ++ link_text (slice_index t 1) (link_address t) ++ layers_text (length t) r) ++ codes "\n")
     (layers_again t l layers)

@@ -11,9 +11,11 @@ use Rattle.frame_inspect_main.specs.Items.{said_by}
 use Rattle.frame_inspect_main.specs.Laws.{ItemsSayTheirLines}
 
 -- by whether the line is too long
-by_length : (long : Bool) (text : List ℕ) → nat_lt 1024 (length text) ≡ long → said_by (cond long items.TooLong (items.Line text)) ≡ line_of text
+by_length : (long : Bool) (text : List ℕ) → nat_lt 1024 (length text) ≡ long
+    → said_by (cond long items.TooLong (items.Line text)) ≡ line_of text
 unfolding line_of
-by_length true text is = let answers : Bool → Result Line BadLine = λ b. cond b (Err bads.TooLong) (by_word (fields_of text)) in ap answers (sym is)
+by_length true text is =
+    let answers : Bool → Result Line BadLine = λ b. cond b (Err bads.TooLong) (by_word (fields_of text)) in ap answers (sym is)
 by_length false text is = refl
 
 pub items_say_their_lines : ItemsSayTheirLines

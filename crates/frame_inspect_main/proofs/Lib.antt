@@ -4,4 +4,5 @@ pub mod FramesShown
 pub mod ItemsSay
 pub mod Rooms
 pub mod Runs
+pub mod Sheets
 pub mod Takings

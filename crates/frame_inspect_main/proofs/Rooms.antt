@@ -13,9 +13,14 @@ abbrev Has : List (List ℕ) → Kept → Type 0
 Has parts q = q.failed ≡ false → q.text ≡ concat parts
 
 one_more : (parts : List (List ℕ)) (q : Kept) (part : List ℕ) (v : Kept) → Has parts q → Keeps q part v → Has (parts ++ part ∷ []) v
-one_more parts q part v has keeps off = let kept = keeps off in kept.1 ∙ ap (λ t. t ++ part) (has kept.0) ∙ ap (λ t. concat parts ++ t) (sym (append-nil part)) ∙ sym (concat-append parts (part ∷ []))
+one_more parts q part v has keeps off =
+    let kept = keeps off in
+    kept.1 ∙ ap (λ t. t ++ part) (has kept.0) ∙ ap (λ t. concat parts ++ t) (sym (append-nil part))
+    ∙ sym (concat-append parts (part ∷ []))
 
 -- a text put in an empty room is what stands there
-pub room_has : (p q : Kept) (text shown : List ℕ) → p ≡ record { text = []; failed = false } → Puts Keeps p text q → q.failed ≡ false → shown ≡ q.text → shown ≡ text
+pub room_has : (p q : Kept) (text shown : List ℕ) → p ≡ record { text = []; failed = false } → Puts Keeps p text q
+    → q.failed ≡ false → shown ≡ q.text → shown ≡ text
 room_has p q text shown empty puts off is =
-    is ∙ chained_keeps Keeps Has one_more puts.calls.parts p q (λ on. ap (λ (k : Kept). k.text) empty) puts.calls.calls off ∙ puts.calls.whole
+    is ∙ chained_keeps Keeps Has one_more puts.calls.parts p q (λ on. ap (λ (k : Kept). k.text) empty) puts.calls.calls off
+    ∙ puts.calls.whole

@@ -11,14 +11,18 @@ use Rattle.frame_inspect_main.specs.declared.item.Item.TheVariants as items
 use Rattle.frame_inspect_main.specs.Items.{item_of, GivesItem}
 
 short : (text : List ℕ) → length text ≤ 1024 → item_of text ≡ items.Line text
-short text within = let test : nat_lt 1024 (length text) ≡ false = grind (arith, nat_tests) in ap (λ b. cond b items.TooLong (items.Line text)) test
+short text within =
+    let test : nat_lt 1024 (length text) ≡ false = grind (arith, nat_tests) in ap (λ b. cond b items.TooLong (items.Line text)) test
 
 long : (text : List ℕ) → 1024 < length text → item_of text ≡ items.TooLong
-long text over = let test : nat_lt 1024 (length text) ≡ true = grind (arith, nat_tests) in ap (λ b. cond b items.TooLong (items.Line text)) test
+long text over =
+    let test : nat_lt 1024 (length text) ≡ true = grind (arith, nat_tests) in ap (λ b. cond b items.TooLong (items.Line text)) test
 
 -- where there was memory for the line that is lent, its item is given
-pub line_given : (answer : Result Item Memory) (next : NextText) (longest : ℕ) (lent text : List ℕ) (tells : Type 0) (old new : List (List ℕ)) → next ≡ texts.Line → longest ≡ 1024
-    → length text ≤ longest → lent ≡ text → IfOk answer (λ i. i ≡ items.Line lent) → (tells → GivesText (Ok next) longest text old new) → IfOk answer (λ i. tells → GivesItem i old new)
+pub line_given : (answer : Result Item Memory) (next : NextText) (longest : ℕ) (lent text : List ℕ) (tells : Type 0)
+    (old new : List (List ℕ)) → next ≡ texts.Line → longest ≡ 1024 → length text ≤ longest → lent ≡ text
+    → IfOk answer (λ i. i ≡ items.Line lent) → (tells → GivesText (Ok next) longest text old new)
+    → IfOk answer (λ i. tells → GivesItem i old new)
 line_given (Ok item) next longest lent text tells old new line most within same is gives = λ told. record {
   text = text;
   more = subst (λ n. GivesText (Ok n) longest text old new) line (gives told);
@@ -27,7 +31,8 @@ line_given (Ok item) next longest lent text tells old new line most within same 
 line_given (Err none) next longest lent text tells old new line most within same is gives = tt
 
 -- a line that is too long is given
-pub long_given : (next : NextText) (longest : ℕ) (text : List ℕ) (old new : List (List ℕ)) → next ≡ texts.TooLong → longest ≡ 1024 → GivesText (Ok next) longest text old new
+pub long_given : (next : NextText) (longest : ℕ) (text : List ℕ) (old new : List (List ℕ)) → next ≡ texts.TooLong
+    → longest ≡ 1024 → GivesText (Ok next) longest text old new
     → GivesItem items.TooLong old new
 long_given next longest text old new line most gives =
     let given : GivesLongLine longest old new = subst (λ n. GivesText (Ok n) longest text old new) line gives in

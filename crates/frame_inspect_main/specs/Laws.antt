@@ -20,7 +20,9 @@ ItemsSayTheirLines = (text : List ℕ) → said_by (item_of text) ≡ line_of te
 
 -- a line with a frame of a telegram which has these layers is shown by the telegram's length, its link and these layers
 abbrev pub FramesAreShown : Type 0
-FramesAreShown = (number : ℕ) (next : Item) (format : Format) (at : ℕ) (bytes t : List ℕ) (l : Layers) → said_by next ≡ Ok (lines.Frame format at bytes) → IsBytes bytes →
-    Frame format bytes t → IsLayers t l →
-    layered_text number next
-    ≡ decimal number ++ (labelled (format_word format) (length t) ++ link_text (slice_index t 1) (link_address t) ++ layers_text (length t) (Ok l)) ++ codes "\n"
+FramesAreShown = (number : ℕ) (next : Item) (format : Format) (at : ℕ) (bytes t : List ℕ) (l : Layers)
+    → said_by next ≡ Ok (lines.Frame format at bytes) → IsBytes bytes → Frame format bytes t → IsLayers t l
+    → layered_text number next
+    ≡ decimal number
+    ++ (labelled (format_word format) (length t) ++ link_text (slice_index t 1) (link_address t) ++ layers_text (length t) (Ok l))
+    ++ codes "\n"

@@ -1,5 +1,6 @@
 -- What is shown of an item: the link, the extension, the authentication and fragmentation layer and the transport header of its telegram.
-use Rattle.std.specs.Prelude.{ℕ, ◌-◌, Bool, true, false, List, [], ◌∷◌, ◌++◌, length, slice_index, codes, Option, Some, None, Result, Ok, Err}
+use Rattle.std.specs.Prelude.{ℕ, ◌-◌, Bool, true, false, List, [], ◌∷◌, ◌++◌, length, slice_index, codes}
+use Rattle.std.specs.Prelude.{Option, Some, None, Result, Ok, Err}
 use Rattle.std.specs.Fmt.{decimal}
 use Rattle.hex.specs.Hex.{encode_lower}
 use Rattle.meter_address.specs.declared.address.Address.{Address}
@@ -83,10 +84,13 @@ format_word formats.B = codes " B "
 
 -- the C field, the link address, and the letters of its manufacturer
 unfoldable pub link_text : ℕ → Address → List ℕ
-link_text control address = labelled_bytes (codes " ") (control ∷ []) ++ labelled_bytes (codes " ") (bytes_of address) ++ codes " " ++ letters_text (letters_of address)
+link_text control address =
+    labelled_bytes (codes " ") (control ∷ []) ++ labelled_bytes (codes " ") (bytes_of address)
+    ++ codes " " ++ letters_text (letters_of address)
 
 unfoldable pub telegram_text : Format → List ℕ → List ℕ
-telegram_text format t = labelled (format_word format) (length t) ++ link_text (slice_index t 1) (link_address t) ++ layers_text (length t) (layers_of t)
+telegram_text format t =
+    labelled (format_word format) (length t) ++ link_text (slice_index t 1) (link_address t) ++ layers_text (length t) (layers_of t)
 
 abbrev pub frame_fault_text : FrameFault → List ℕ
 frame_fault_text frame.Empty = codes " unframed empty"

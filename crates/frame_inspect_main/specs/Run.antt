@@ -1,4 +1,5 @@
--- A run over the lines of a file: what the words ask for, what its source and its sink showed before and after it, its status, and what is promised of it.
+-- A run over the lines of a file: what the words ask for, what its source and its sink showed before and after it, its status,
+-- and what is promised of it.
 use Rattle.std.specs.Prelude.{ℕ, ◌≡◌, ◌⊎◌, ◌↔◌, ◌++◌, Bool, true, false, List, [], map, Option, None, IsTrue, IsSome}
 use Rattle.std.specs.List.{concat}
 use Rattle.outer_io.specs.Shown.{Change, SourceShown, SinkShown, ReadFailed, WriteFailed, LosesNothing, IsSilent, HasText}

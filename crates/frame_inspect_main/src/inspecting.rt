@@ -1,8 +1,8 @@
 //! Many items, looked at in threads.
 ghost use Rattle.std.specs.Prelude.{◌≡◌, ◌+◌, ◌*◌, ◌^◌, ◌<◌, ◌≤◌, length, IfOk};
-ghost use Rattle.std.specs.Thread.{IsSync};
-ghost use Rattle.frame_inspect_main.specs.Looks.{shown_from};
-ghost use Rattle.frame_inspect_main.specs.Runs.{last_len};
+ghost use Rattle.std.specs.List.{flat_map};
+ghost use Rattle.frame_inspect_main.specs.Looks.{shown_from, shown_of_run};
+ghost use Rattle.frame_inspect_main.specs.Runs.{run_start};
 
 use crate::item::Item;
 use crate::look::Look;
@@ -10,7 +10,8 @@ use crate::room::Room;
 use crate::shown::Shown;
 use outer_io::Memory;
 use std::alloc::Global;
-use std::thread::{Threads, join};
+use std::thread;
+use std::thread::Threads;
 
 /// The most items that are looked at in one call.
 pub const ITEMS_MAX: usize = 131_072;
@@ -38,49 +39,60 @@ fn look_at_each<L: Look>(
     Ok(all)
 }
 
-// How many items the last of so many workers has.
-fn len_of_last(count: usize, workers: u32) -> usize
-    requires { 1 ≤ workers }
-    ensures len { result ≡ last_len count workers }
+// How many items stand before the run of a worker, the workers being numbered from 0.
+#[tactic(auto, using(crate::proofs::EvenRuns::starts_within))]
+fn start_of_run(count: usize, workers: usize, worker: usize) -> usize
+    requires workers { (1 ≤ workers) × (worker ≤ workers) }
+    ensures start { result ≡ run_start count workers worker }
     ensures within { result ≤ count }
 {
-    count / workers as usize
+    count / workers * worker + worker.min(count % workers)
 }
 
-// Looks at the items of the last worker in a thread of its own, and at those of the others likewise.
-#[tactic(auto, using(crate::proofs::Runs::runs_joined))]
-fn look_in_threads<R: Threads + Sync, L: Look>(
+// Looks at the run of a worker.
+fn look_at_run<L: Look>(
+    alloc: Global,
+    look: &L,
+    items: &[Item],
+    workers: usize,
+    worker: usize,
+) -> Result<Vec<Shown>, Memory>
+    requires worker { worker < workers }
+    requires items { length items.now ≤ ITEMS_MAX }
+    ensures { IfOk result (λ run. run.items ≡ shown_of_run (L.meaning look.now) items.now workers worker) }
+{
+    let start = start_of_run(items.len(), workers, worker);
+    let end = start_of_run(items.len(), workers, worker + 1);
+    look_at_each(alloc, look, start as u32 + 1, &items[start..end])
+}
+
+/// Looks at each item as `inspect` does, and leaves what each worker shows where it was written.
+pub(crate) fn inspect_runs<R: Threads + Sync, L: Look>(
     rt: &R,
     alloc: Global,
     look: &L,
-    number: u32,
     items: &[Item],
     workers: u32,
-) -> Result<Vec<Shown>, Memory>
+) -> Result<Vec<Vec<Shown>>, Memory>
     requires workers { 1 ≤ workers }
-    requires numbers { number + length items.now < 2 ^ 32 }
-    ensures { IfOk result (λ all. all.items ≡ shown_from (L.meaning look.now) number items.now) }
+    requires items { length items.now ≤ ITEMS_MAX }
+    ensures { IfOk result (λ runs. flat_map (λ run. run.items) runs.items ≡ shown_from (L.meaning look.now) 1 items.now) }
 {
-    if workers == 1 {
-        return look_at_each(alloc, look, number, items);
-    }
-    let (front, run) = items.split_at(items.len() - len_of_last(items.len(), workers));
-    let next = number + front.len() as u32;
-    let (last, others) = join(
+    let count = workers as usize;
+    let looked = thread::map_indices(
         rt,
-        || -> Result<Vec<Shown>, Memory>
-            requires { next + length run.now < 2 ^ 32 }
-            ensures { IfOk result (λ all. all.items ≡ shown_from (L.meaning look.entry.now) next run.entry.now) }
-        { look_at_each(alloc, look, next, run) },
-        || -> Result<Vec<Shown>, Memory>
-            requires { IsSync R.row × (2 ≤ workers) × (number + length front.now < 2 ^ 32) }
-            ensures { IfOk result (λ all. all.items ≡ shown_from (L.meaning look.entry.now) number front.entry.now) }
-        { look_in_threads(rt, alloc, look, number, front, workers - 1) },
-    );
-    let mut all = others?;
-    let mut last = last?;
-    all.append(&mut last)?;
-    Ok(all)
+        alloc,
+        count,
+        &|worker| -> Result<Vec<Shown>, Memory>
+            requires { (worker < count) × (length items.now ≤ ITEMS_MAX) }
+            ensures { IfOk result (λ run. run.items ≡ shown_of_run (L.meaning look.entry.now) items.entry.now count worker) }
+        { look_at_run(alloc, look, items, count, worker) },
+    )?;
+    let mut runs = Vec::with_capacity(alloc, count)?;
+    for run in looked {
+        runs.push(run?)?;
+    }
+    Ok(runs)
 }
 
 /// Looks at each item, numbered from 1. The items are cut into as many runs as there are workers, whose lengths differ by at most
@@ -96,5 +108,9 @@ pub fn inspect<R: Threads + Sync, L: Look>(
     requires items { length items.now ≤ ITEMS_MAX }
     ensures { IfOk result (λ all. all.items ≡ shown_from (L.meaning look.now) 1 items.now) }
 {
-    look_in_threads(rt, alloc, look, 1, items, workers)
+    let mut all = Vec::with_capacity(alloc, items.len())?;
+    for mut run in inspect_runs(rt, alloc, look, items, workers)? {
+        all.append(&mut run)?;
+    }
+    Ok(all)
 }

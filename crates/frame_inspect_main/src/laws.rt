@@ -1,6 +1,6 @@
 //! What holds of the definitions. These functions do nothing: each one's contract is a law.
 ghost use Rattle.frame_inspect_main.specs.Laws.{ItemsSayTheirLines, FramesAreShown};
-ghost use Rattle.frame_inspect_main.specs.Runs.{RunsAreEven};
+ghost use Rattle.frame_inspect_main.specs.Runs.{RunsAreEven, RunsAreWhole};
 
 /// An item says what its line says.
 #[tactic(auto, using(crate::proofs::ItemsSay::items_say_their_lines))]
@@ -18,4 +18,10 @@ pub fn frames_are_shown()
 #[tactic(auto, using(crate::proofs::EvenRuns::runs_are_even))]
 pub fn runs_are_even()
     ensures { RunsAreEven }
+{}
+
+/// The last run ends with the last item.
+#[tactic(auto, using(crate::proofs::EvenRuns::runs_are_whole))]
+pub fn runs_are_whole()
+    ensures { RunsAreWhole }
 {}

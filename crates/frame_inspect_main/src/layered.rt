@@ -4,7 +4,9 @@ ghost use Rattle.paper.specs.Puts.{Puts};
 ghost use Rattle.paper.specs.Pieces.{text_if};
 ghost use Rattle.frame_formats.specs.Decoding.{decoded};
 ghost use Rattle.message_check.specs.Layers.{layers_of};
-ghost use Rattle.frame_inspect_main.specs.Layered.{access_word, extension_text, more_word, octet_text, fragmentation_text, long_text, transport_text, content_text, layers_text, format_word, link_text, telegram_text, frame_fault_text, frame_text, line_text, said_text, layered_text};
+ghost use Rattle.frame_inspect_main.specs.Layered.{access_word, extension_text, more_word, octet_text, fragmentation_text, long_text};
+ghost use Rattle.frame_inspect_main.specs.Layered.{transport_text, content_text, layers_text, format_word, link_text, telegram_text};
+ghost use Rattle.frame_inspect_main.specs.Layered.{frame_fault_text, frame_text, line_text, said_text, layered_text};
 ghost use Rattle.frame_inspect_main.specs.Items.{said_by};
 
 use crate::item::Item;

@@ -13,7 +13,7 @@ mod status;
 
 pub use inspecting::{ITEMS_MAX, WORKERS_MAX, inspect};
 pub use item::{Item, LineText};
-pub use laws::{frames_are_shown, items_say_their_lines, runs_are_even};
+pub use laws::{frames_are_shown, items_say_their_lines, runs_are_even, runs_are_whole};
 pub use layered::Layered;
 pub use look::Look;
 pub use room::Room;

@@ -1,16 +1,17 @@
 //! The top call.
 ghost use Rattle.std.specs.Prelude.{◌≡◌, ◌⊎◌, ◌+◌, ◌≤◌, ◌++◌, ◌∷◌, [], false, map, vec_len, IsTrue, IfOk, IfErr, IfSome, OnOk};
-ghost use Rattle.std.specs.List.{concat};
+ghost use Rattle.std.specs.List.{concat, flat_map};
 ghost use Rattle.std.specs.String.{string_bytes};
 ghost use Rattle.outer_io.specs.Faults.{Rose};
 ghost use Rattle.outer_io.specs.Shown.{HasText, WriteFailed, source_change, sink_change};
 ghost use Rattle.line_reader.specs.Reader.{given};
+ghost use Rattle.paper.specs.Puts.{Puts};
 ghost use Rattle.frame_inspect_main.specs.Items.{item_of, GivesItem};
 ghost use Rattle.frame_inspect_main.specs.Run.{IsRun};
 ghost use Rattle.frame_inspect_main.specs.Statuses.{EndsBy, IsEnd, unwritten};
 ghost use Rattle.frame_inspect_main.specs.Words.{workers_of};
 
-use crate::inspecting::inspect;
+use crate::inspecting::inspect_runs;
 use crate::item::Item;
 use crate::layered::Layered;
 use crate::shown::Shown;
@@ -46,16 +47,20 @@ fn next_item<S: Source>(
     requires goes_on { frames.old.reader.done ≡ false }
     requires longest { frames.old.longest ≡ 1024 }
     ensures longest { frames.new.longest ≡ 1024 }
-    ensures item { IfOk result (λ answer. IfOk answer (λ item. IsTrue S.tells → GivesItem item (given S.taken frames.old.reader) (given S.taken frames.new.reader))) }
+    ensures item { IfOk result (λ answer. IfOk answer (λ item. IsTrue S.tells →
+        GivesItem item (given S.taken frames.old.reader) (given S.taken frames.new.reader))) }
     ensures goes_on { OnOk result ((frames.new.reader.line ≡ frames.old.reader.line + 1) × (frames.new.reader.done ≡ false)) }
     ensures few { frames.new.reader.line ≤ LINES_MAX }
     ensures ended { IfErr result (λ status. IsTrue S.tells →
-        (given S.taken frames.new.reader ≡ given S.taken frames.old.reader) × EndsBy status (S.taken frames.new.reader.source) (S.left frames.new.reader.source) (given S.taken frames.new.reader)) }
+        (given S.taken frames.new.reader ≡ given S.taken frames.old.reader)
+        × EndsBy status (S.taken frames.new.reader.source) (S.left frames.new.reader.source) (given S.taken frames.new.reader)) }
     ensures end { IfErr result IsEnd }
-    ensures cause { IfErr result (λ status. status ≡ InspectStatus.Read → Rose (S.faults frames.old.reader.source) (S.faults frames.new.reader.source)) }
+    ensures cause { IfErr result (λ status. status ≡ InspectStatus.Read →
+        Rose (S.faults frames.old.reader.source) (S.faults frames.new.reader.source)) }
     ensures later { S.faults frames.old.reader.source ≤ S.faults frames.new.reader.source }
     ensures bytes { IsTrue S.tells →
-        S.taken frames.new.reader.source ++ S.left frames.new.reader.source ≡ S.taken frames.old.reader.source ++ S.left frames.old.reader.source }
+        S.taken frames.new.reader.source ++ S.left frames.new.reader.source
+        ≡ S.taken frames.old.reader.source ++ S.left frames.old.reader.source }
 {
     match frames.next() {
         Ok(NextText::Line) => Ok(Item::of_text(alloc, frames.text())),
@@ -80,11 +85,14 @@ fn gather<S: Source>(alloc: Global, frames: &mut TextReader<S>) -> Result<Gather
     requires longest { frames.old.longest ≡ 1024 }
     ensures items { IfOk result (λ all. IsTrue S.tells → all.items.items ≡ map item_of (given S.taken frames.new.reader)) }
     ensures few { IfOk result (λ all. vec_len all.items ≤ LINES_MAX) }
-    ensures ended { IfOk result (λ all. IsTrue S.tells → EndsBy all.status (S.taken frames.new.reader.source) (S.left frames.new.reader.source) (given S.taken frames.new.reader)) }
+    ensures ended { IfOk result (λ all. IsTrue S.tells →
+        EndsBy all.status (S.taken frames.new.reader.source) (S.left frames.new.reader.source) (given S.taken frames.new.reader)) }
     ensures end { IfOk result (λ all. IsEnd all.status) }
-    ensures cause { IfOk result (λ all. all.status ≡ InspectStatus.Read → Rose (S.faults frames.old.reader.source) (S.faults frames.new.reader.source)) }
+    ensures cause { IfOk result (λ all. all.status ≡ InspectStatus.Read →
+        Rose (S.faults frames.old.reader.source) (S.faults frames.new.reader.source)) }
     ensures bytes { IsTrue S.tells →
-        S.taken frames.new.reader.source ++ S.left frames.new.reader.source ≡ S.taken frames.old.reader.source ++ S.left frames.old.reader.source }
+        S.taken frames.new.reader.source ++ S.left frames.new.reader.source
+        ≡ S.taken frames.old.reader.source ++ S.left frames.old.reader.source }
 {
     let mut items = Vec::new(alloc);
     'lines: loop {
@@ -95,21 +103,31 @@ fn gather<S: Source>(alloc: Global, frames: &mut TextReader<S>) -> Result<Gather
     }
 }
 
-// What is shown of items, one after another.
+// Puts what is shown of a run of items, one after another.
+#[tactic(auto, using(paper::proofs::Calls::none))]
+fn put_run<P: Paper>(paper: &mut P, run: &[Shown])
+    ensures { Puts P.takes paper.old (concat run.now) paper.new }
+{
+    for shown in run {
+        paper.put(shown.bytes());
+    }
+}
+
+// What is shown of runs of items, one after another.
 #[derive(Drop)]
 struct Sheet<'a> {
-    shown: &'a [Shown],
+    runs: &'a [Vec<Shown>],
 }
 
 impl Printed for Sheet<'_> {
-    ghost use Rattle.std.specs.List.{concat};
+    ghost use Rattle.std.specs.List.{concat, flat_map};
 
-    ghost text = { λ s. concat s.shown.now };
+    ghost text = { λ s. concat (flat_map (λ run. run.items) s.runs.now) };
 
     #[tactic(auto, using(paper::proofs::Calls::none))]
     fn print<P: Paper>(&self, paper: &mut P) {
-        for shown in self.shown {
-            paper.put(shown.bytes());
+        for run in self.runs {
+            put_run(paper, run);
         }
     }
 }
@@ -125,13 +143,13 @@ fn status_unwritten(status: InspectStatus) -> InspectStatus
 }
 
 // Writes what is shown, and answers the status or that of a failed write.
-fn finish<K: Sink>(out: &mut K, shown: &[Shown], status: InspectStatus) -> InspectStatus
+fn finish<K: Sink>(out: &mut K, runs: &[Vec<Shown>], status: InspectStatus) -> InspectStatus
     requires { IsTrue K.tells → K.written out.old ≡ [] }
     ensures status { (result ≡ status) ⊎ ((result ≡ unwritten status) × WriteFailed (sink_change K.Sink out.old out.new)) }
-    ensures written { IsTrue K.tells → HasText (concat shown.now) (sink_change K.Sink out.old out.new) }
-    ensures done { result ≡ InspectStatus.Done → IsTrue K.tells → K.written out.new ≡ concat shown.now }
+    ensures written { IsTrue K.tells → HasText (concat (flat_map (λ run. run.items) runs.now)) (sink_change K.Sink out.old out.new) }
+    ensures done { result ≡ InspectStatus.Done → IsTrue K.tells → K.written out.new ≡ concat (flat_map (λ run. run.items) runs.now) }
 {
-    match write(out, &Sheet { shown }) {
+    match write(out, &Sheet { runs }) {
         Ok(()) => status,
         Err(_) => status_unwritten(status),
     }
@@ -174,8 +192,8 @@ pub fn inspect_run<R: Threads + Sync, S: Source, K: Sink>(
     let Ok(gathered) = gather(alloc, frames) else {
         return InspectStatus::Memory;
     };
-    let Ok(shown) = inspect(rt, alloc, &Layered, &gathered.items, workers) else {
+    let Ok(runs) = inspect_runs(rt, alloc, &Layered, &gathered.items, workers) else {
         return InspectStatus::Memory;
     };
-    finish(out, &shown, gathered.status)
+    finish(out, &runs, gathered.status)
 }

@@ -12,7 +12,8 @@ invariant-lines g l = record {
   counted : vec_len l.items ≡ l.frames.reader.line;
   later : g.S.Source.faults l.fn.frames.reader.source ≤ g.S.Source.faults l.frames.reader.source;
   bytes : IsTrue g.S.Source.tells →
-      g.S.Source.taken l.frames.reader.source ++ g.S.Source.left l.frames.reader.source ≡ g.S.Source.taken l.fn.frames.reader.source ++ g.S.Source.left l.fn.frames.reader.source;
+      g.S.Source.taken l.frames.reader.source ++ g.S.Source.left l.frames.reader.source
+      ≡ g.S.Source.taken l.fn.frames.reader.source ++ g.S.Source.left l.fn.frames.reader.source;
   items : IsTrue g.S.Source.tells → l.items.items ≡ map item_of (given g.S.Source.taken l.frames.reader);
 }
 

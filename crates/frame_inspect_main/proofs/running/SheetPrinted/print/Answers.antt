@@ -1,5 +1,7 @@
-use Rattle.paper.proofs.Items.{put_next}
+use Rattle.frame_inspect_main.proofs.Sheets.{put_next_run}
 use Rattle.frame_inspect_main.proofs.running.SheetPrinted.print.Goals as goal
 
-pub loop-shown-preserved : goal.loop-shown-preserved
-loop-shown-preserved g c = λ q later. c.loop-shown.invariant q (put_next c.args.self.now.shown.now c.loop-shown.shown-index _ _ c.loop-shown-test.true c.shown-item.is c.bytes.ensures c.put.ensures later)
+pub loop-run-preserved : goal.loop-run-preserved
+loop-run-preserved g c = λ q later. c.loop-run.invariant q
+    (put_next_run (λ run. run.items) c.args.self.now.runs.now c.loop-run.run-index _ _ c.loop-run-test.true c.run-item.is
+    c.deref.ensures.value c.put_run.ensures later)
