@@ -1,4 +1,7 @@
+//! Receivers of one meter, and workers over books of the tests' own.
 ghost use Rattle.std.specs.Prelude.{◌≡◌, None, IfOk};
+
+mod two_cells;
 
 use crate::{Collected, Receiver, collect};
 use meter_address::{Address, Commission, Mode};
