@@ -1,0 +1,36 @@
+-- What a feed comes to, by how its lines ended.
+use Rattle.std.proofs.Common.{◌≡◌, ℕ, ◌≤◌, true, false, cond, List, [], ◌++◌, refl, sym, ap, ◌∙◌, subst}
+use Rattle.std.specs.Prelude.{IsTrue}
+use Rattle.outer_io.specs.Shown.{SinkShown}
+use Rattle.line_teller.specs.declared.ending.LinesEnd.{LinesEnd}
+use Rattle.line_teller.specs.Ending.{IsNoted, Ended, is_whole}
+use Rattle.line_teller.proofs.Steps.{noted_then}
+use Rattle.line_feed_main.specs.Feeding.{Fed, fresh, AreFed, noted, fed_behind, FeedsLine}
+use Rattle.line_feed_main.specs.Run.{Run, IsFed, status_of, ending_of, end_notes}
+use Rattle.line_feed_main.proofs.FedLines.{are_fed}
+
+pub fed_run : (run : Run) (end : LinesEnd) (first now : Fed) (middle : SinkShown) → first ≡ fresh run.printing
+    → Ended FeedsLine first now end run.input.now run.out_tells run.out run.notes_tell (record { before = run.notes.before; now = middle })
+    → run.notes.before.faults ≤ middle.faults → middle.faults ≤ run.notes.now.faults
+    → (IsTrue run.notes_tell → IsNoted (end_notes end now) (record { before = middle; now = run.notes.now }))
+    → run.status ≡ status_of end now.left_out → IsFed run end
+fed_run run end first now middle first_is e one two noted_end status =
+    let are = are_fed 1 first e.last e.lines e.text e.note e.told in
+    let printing_is : first.printing ≡ run.printing = ap (λ (f : Fed). f.printing) first_is in
+    let note_is : e.note ≡ noted run.printing 1 e.lines = are.note_is ∙ ap (λ printing. noted printing 1 e.lines) printing_is in
+    let last : Fed = fed_behind (fresh run.printing) e.lines in
+    let behind : e.last ≡ last = are.last_is ∙ ap (λ f. fed_behind f e.lines) first_is in
+    record {
+      lines = e.lines;
+      text = e.text;
+      lines_are = e.lines_are;
+      fed = subst (λ printing. AreFed printing e.lines e.text) printing_is are.fed;
+      written = e.written;
+      noted = λ whole on.
+          let now_is : now ≡ last = sym (e.last_is whole) ∙ behind in
+          let ending : end_notes end now ≡ ending_of last = ap (λ b. cond b (ending_of now) []) whole ∙ ap ending_of now_is in
+          subst (λ t. IsNoted (t ++ ending_of last) run.notes) note_is
+          (subst (λ t. IsNoted (e.note ++ t) run.notes) ending
+          (noted_then run.notes.before middle run.notes.now e.note (end_notes end now) one two (e.noted on) (noted_end on)));
+      status = λ whole. status ∙ ap (λ (f : Fed). status_of end f.left_out) (sym (e.last_is whole) ∙ behind);
+    }

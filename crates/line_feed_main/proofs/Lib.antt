@@ -1,0 +1,4 @@
+pub mod Telegrams
+pub mod FedLines
+pub mod Feeds
+pub mod ReadBack

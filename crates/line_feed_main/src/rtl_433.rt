@@ -1,0 +1,81 @@
+//! Lines of rtl_433.
+ghost use Rattle.std.specs.Prelude.{◌≡◌, Ok, Err, IfOk, MatchResult, option_map};
+ghost use Rattle.serde_json.specs.View.{view};
+ghost use Rattle.line_feed_main.specs.Heard.{Means};
+ghost use Rattle.line_feed_main.specs.Rtl433.{member_text, has_text, time_in, data_in, json_heard, rtl_433_heard};
+
+use crate::digits::read_telegram;
+use crate::heard::{Heard, Unheard, said};
+use crate::moments::read_moment;
+use crate::reasons::NotTaken;
+use serde_json::Value;
+use std::alloc::Global;
+
+// The text of the member with this name, if it is one.
+fn member_text<'v>(value: &'v Value, name: &str) -> Option<&'v str>
+    ensures { option_map (λ text. text.now) result ≡ member_text name.now (view value.now) }
+{
+    let member = value.get(name)?;
+    member.as_str()
+}
+
+// Whether the member with this name is this text.
+fn has_text(value: &Value, name: &str, text: &str) -> bool
+    ensures { result ≡ has_text name.now text.now (view value.now) }
+{
+    match member_text(value, name) {
+        Some(found) => found == text,
+        None => false,
+    }
+}
+
+// The moment that an object names.
+fn time_in(value: &Value) -> Result<Option<u64>, NotTaken>
+    ensures { result ≡ time_in (view value.now) }
+{
+    let Some(member) = value.get("time") else {
+        return Ok(None);
+    };
+    let Some(text) = member.as_str() else {
+        return Err(NotTaken::Time);
+    };
+    let moment = read_moment(text.as_bytes())?;
+    Ok(Some(moment))
+}
+
+#[tactic(auto, unfolding(crate::specs::Rtl433::json_heard))]
+fn read_json(value: &Value) -> Result<Heard, NotTaken>
+    ensures { result ≡ json_heard (view value.now) }
+{
+    if !has_text(value, "model", "Wireless-MBus") {
+        return Err(NotTaken::Model);
+    }
+    if !has_text(value, "mic", "CRC") {
+        return Err(NotTaken::Unchecked);
+    }
+    let moment = time_in(value)?;
+    let Some(digits) = member_text(value, "data") else {
+        return Err(NotTaken::Data);
+    };
+    let telegram = read_telegram(digits.as_bytes())?;
+    Ok(Heard { telegram, moment })
+}
+
+/// What a line of rtl_433 gives.
+pub(crate) fn read_rtl_433(alloc: Global, line: &[u8]) -> Result<Heard, Unheard>
+    ensures { Means result (rtl_433_heard line.now) }
+{
+    let Ok(text) = std::str::from_utf8(line) else {
+        return Err(Unheard::Refused(NotTaken::Json));
+    };
+    match Value::from_str(alloc, text) {
+        Ok(value) => said(read_json(&value)),
+        Err(error) => {
+            if error.is_memory() {
+                Err(Unheard::Memory)
+            } else {
+                Err(Unheard::Refused(NotTaken::Json))
+            }
+        }
+    }
+}
