@@ -1,9 +1,9 @@
 -- What a feed comes to, by how its lines ended.
-use Rattle.std.proofs.Common.{◌≡◌, ℕ, ◌≤◌, true, false, cond, List, [], ◌++◌, refl, sym, ap, ◌∙◌, subst}
+use Rattle.std.proofs.Common.{◌≡◌, ◌≤◌, cond, [], ◌++◌, sym, ap, ◌∙◌, subst}
 use Rattle.std.specs.Prelude.{IsTrue}
 use Rattle.outer_io.specs.Shown.{SinkShown}
 use Rattle.line_teller.specs.declared.ending.LinesEnd.{LinesEnd}
-use Rattle.line_teller.specs.Ending.{IsNoted, Ended, is_whole}
+use Rattle.line_teller.specs.Ending.{IsNoted, Ended}
 use Rattle.line_teller.proofs.Steps.{noted_then}
 use Rattle.line_feed_main.specs.Feeding.{Fed, fresh, AreFed, noted, fed_behind, FeedsLine}
 use Rattle.line_feed_main.specs.Run.{Run, IsFed, status_of, ending_of, end_notes}

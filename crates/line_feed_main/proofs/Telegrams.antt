@@ -1,9 +1,8 @@
 -- Bytes that are a telegram, and bytes that are none.
-use Rattle.std.proofs.Common.{◌≡◌, ℕ, ◌+◌, ◌&&◌, Bool, true, false, cond, List, length, slice_index, Result, Ok, Err, refl, sym, ap, ◌∙◌, arith}
+use Rattle.std.proofs.Common.{◌≡◌, ℕ, ◌+◌, ◌≤◌, ◌&&◌, Bool, true, false, cond, List, length, slice_index, Ok, Err, refl, ap, arith}
 use Rattle.std.specs.Prelude.{nat_le, nat_eq}
 use Rattle.std.proofs.lemmas.Bool.Decides.{nat_tests}
 use Rattle.frame_formats.specs.Frames.{IsTelegram}
-use Rattle.line_feed_main.specs.declared.reasons.NotTaken.{NotTaken}
 use Rattle.line_feed_main.specs.declared.reasons.NotTaken.TheVariants as reasons
 use Rattle.line_feed_main.specs.Digits.{is_telegram, telegram_of}
 
@@ -15,7 +14,7 @@ telegram_found bytes t =
     ap (λ (b : Bool). cond b (Ok bytes) (Err reasons.Length)) (tests_hold (length bytes) (slice_index bytes 0) t.least t.most t.counted)
 
 tests_say : (n first : ℕ) → (nat_le 11 n && nat_le n 256 && nat_eq (first + 1) n) ≡ true → (11 ≤ n) × (n ≤ 256) × (first + 1 ≡ n)
-tests_say n first all = (grind (arith, nat_tests), (grind (arith, nat_tests), grind (arith, nat_tests)))
+tests_say n first all = (grind (arith, nat_tests), grind (arith, nat_tests), grind (arith, nat_tests))
 
 pub is_found : (bytes : List ℕ) → is_telegram bytes ≡ true → IsTelegram bytes
 is_found bytes all =

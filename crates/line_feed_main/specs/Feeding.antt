@@ -1,6 +1,7 @@
 -- Lines of a receiver that are fed one after another.
 use Rattle.std.specs.Prelude.{ℕ, ◌≡◌, ◌+◌, ◌^◌, ◌<◌, List, [], ◌∷◌, ◌++◌, Option, Some, None, Result, Ok, Err, is_ok, if◌then◌else◌}
 use Rattle.outer_io.specs.Faults.{next_count}
+use Rattle.paper.specs.Puts.{Puts}
 use Rattle.made_input.specs.Lines.{frame_line}
 use Rattle.line_feed_main.specs.declared.heard.Heard.{Heard}
 use Rattle.line_feed_main.specs.declared.printings.Printing.{Printing}
@@ -76,6 +77,13 @@ fed_behind f [] = f
 fed_behind f (line ∷ lines) = fed_behind (fed_after f (heard_of f.printing line)) lines
 
 -- ---- words of private contracts
+
+-- the line of what was heard was put on a paper
+pub record PutsLine {P : Type 0} (takes : P → List ℕ → P → Type 0) (heard : Heard) (old new : P) : Type 0 where
+  pub at : ℕ
+  pub below : at < 2 ^ 64
+  pub moment : IsMoment heard.moment at
+  pub put : Puts takes old (frame_line at heard.telegram) new
 
 -- a line is fed: its text, its note, and the feed behind it
 pub record FeedsLine (old : Fed) (number : ℕ) (line text note : List ℕ) (new : Fed) : Type 0 where

@@ -1,5 +1,5 @@
 -- What holds of what is fed.
-use Rattle.std.specs.Prelude.{ℕ, ◌≡◌, ◌^◌, ◌<◌, List, Result, Ok}
+use Rattle.std.specs.Prelude.{ℕ, ◌≡◌, ◌^◌, ◌<◌, List, Ok}
 use Rattle.frame_formats.specs.Crc.{IsBytes}
 use Rattle.frame_formats.specs.declared.format.Format.TheVariants.{A}
 use Rattle.frame_formats.specs.Frames.{IsTelegram}

@@ -1,5 +1,5 @@
 -- The moment that a receiver's own time names: a date and a time of day, without a zone, taken as those of Greenwich.
-use Rattle.std.specs.Prelude.{ℕ, ◌+◌, ◌-◌, ◌*◌, ◌==◌, ◌&&◌, ◌||◌, nat_le, nat_lt, Bool, true, ℤ, pos, negsuc, ◌+ℤ◌, ◌*ℤ◌, List, [], ◌∷◌, length, take, drop, slice_index}
+use Rattle.std.specs.Prelude.{ℕ, ◌+◌, ◌-◌, ◌*◌, ◌==◌, ◌&&◌, ◌||◌, nat_le, nat_lt, Bool, true, false, ℤ, pos, negsuc, ◌+ℤ◌, ◌*ℤ◌, List, [], ◌∷◌, length, take, drop, slice_index}
 use Rattle.std.specs.Prelude.{Option, Some, None, Result, Ok, Err, if◌then◌else◌}
 use Rattle.std.specs.Char.{is_ascii_digit}
 use Rattle.std.specs.List.{list_all}
@@ -30,7 +30,7 @@ has_marks text =
 -- nothing, or a point and digits
 abbrev pub is_fraction : List ℕ → Bool
 is_fraction [] = true
-is_fraction (mark ∷ digits) = mark == 46 && list_all is_ascii_digit digits
+is_fraction (mark ∷ digits) = if mark == 46 then list_all is_ascii_digit digits else false
 
 -- the numbers in `YYYY-MM-DD HH:MM:SS`
 unfoldable pub civil_in : List ℕ → Result Civil NotTaken
@@ -44,12 +44,20 @@ civil_in text = do
   second ← two_in text 17
   Ok (record { year = century * 100 + year; month = month; day = day; hour = hour; minute = minute; second = second })
 
--- the calendar has the day, and a clock shows the time
-abbrev pub is_shown : Civil → Bool
-is_shown c =
-    if nat_lt c.month 1 || nat_lt 12 c.month || nat_lt c.day 1 then false
-    else if nat_lt (days_in_month (pos c.year) c.month) c.day then false
-    else nat_lt c.hour 24 && nat_lt c.minute 60 && nat_lt c.second 60
+-- the calendar has the day
+abbrev pub is_day : Civil → Bool
+is_day c =
+    if nat_lt c.month 1 then false
+    else if nat_lt 12 c.month then false
+    else if nat_lt c.day 1 then false
+    else nat_le c.day (days_in_month (pos c.year) c.month)
+
+-- a clock shows the time
+abbrev pub is_time : Civil → Bool
+is_time c =
+    if nat_lt 23 c.hour then false
+    else if nat_lt 59 c.minute then false
+    else nat_le c.second 59
 
 -- the seconds since 1970, in days of 86,400 seconds
 abbrev pub seconds_of : Civil → ℤ
@@ -61,7 +69,7 @@ not_before (pos n) = Ok n
 not_before (negsuc n) = Err reasons.Time
 
 abbrev pub moment_of : Civil → Result ℕ NotTaken
-moment_of c = if is_shown c then not_before (seconds_of c) else Err reasons.Time
+moment_of c = if is_day c && is_time c then not_before (seconds_of c) else Err reasons.Time
 
 -- the moment of a date and a time, behind which a fraction of a second may stand
 unfoldable pub moment_in : List ℕ → Result ℕ NotTaken

@@ -1,5 +1,5 @@
 -- Lines of rtl_433: JSON (RFC 8259).
-use Rattle.std.specs.Prelude.{ℕ, ◌&&◌, nat_eq, Bool, false, List, codes, Option, Some, None, option_and_then, Result, Ok, Err, if◌then◌else◌}
+use Rattle.std.specs.Prelude.{ℕ, Bool, false, List, codes, Option, Some, None, option_and_then, Result, Ok, Err, if◌then◌else◌}
 use Rattle.std.specs.Option.{ok_or}
 use Rattle.std.specs.Str.{is_utf8}
 use Rattle.steps.specs.Steps.{◌>>=◌}

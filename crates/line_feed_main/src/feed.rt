@@ -1,11 +1,11 @@
 //! Lines that are fed one after another.
-ghost use Rattle.std.specs.Prelude.{◌≡◌};
+ghost use Rattle.std.specs.Prelude.{◌<◌, ◌^◌};
 ghost use Rattle.paper.specs.Puts.{Puts};
 ghost use Rattle.made_input.specs.Lines.{frame_line};
 ghost use Rattle.line_feed_main.specs.Feeding.{IsMoment};
 
 use crate::clock::Clock;
-use crate::heard::Unheard;
+use crate::heard::{Heard, Unheard};
 use crate::lines::read_line;
 use crate::notes::put_note;
 use crate::printings::Printing;
@@ -48,7 +48,8 @@ fn put_line<P: Paper>(paper: &mut P, at: u64, telegram: &Telegram)
 
 // The moment that a line names, or else the clock's.
 fn moment_or_now<C: Clock>(moment: Option<u64>, clock: &C) -> u64
-    ensures { IsMoment moment result }
+    ensures moment { IsMoment moment result }
+    ensures below { result < 2 ^ 64 }
 {
     match moment {
         Some(moment) => moment,
@@ -60,7 +61,9 @@ impl<C: Clock + Drop> Feed<C> {
     ghost use Rattle.std.specs.Prelude.{◌≡◌, Ok, Err};
     ghost use Rattle.paper.specs.Puts.{Puts};
     ghost use Rattle.line_feed_main.specs.Notes.{note_text};
-    ghost use Rattle.line_feed_main.specs.Feeding.{fresh, fed_after};
+    ghost use Rattle.line_feed_main.specs.Heard.{Means};
+    ghost use Rattle.line_feed_main.specs.Lines.{heard_of};
+    ghost use Rattle.line_feed_main.specs.Feeding.{fresh, fed_after, PutsLine};
 
     /// Before the first line.
     pub fn new(printing: Printing, clock: C) -> Feed<C>
@@ -88,7 +91,24 @@ impl<C: Clock + Drop> Feed<C> {
         self.left_out
     }
 
-    // Notes a line that isn't taken.
+    // What a line gives.
+    fn read(&self, alloc: Global, line: &[u8]) -> Result<Heard, Unheard>
+        ensures { Means result (heard_of self.now.printing line.now) }
+    {
+        read_line(alloc, self.printing, line)
+    }
+
+    // Puts the line of a telegram, and counts it.
+    fn take<P: Paper>(&mut self, text: &mut P, heard: &Heard)
+        ensures text { PutsLine P.takes heard.now text.old text.new }
+        ensures fed { self.new ≡ fed_after self.old (Ok heard.now) }
+    {
+        let at = moment_or_now(heard.moment, &self.clock);
+        put_line(text, at, &heard.telegram);
+        self.taken = self.taken.saturating_add(1);
+    }
+
+    // Notes a line that isn't taken, and counts it.
     fn leave_out<P: Paper>(&mut self, note: &mut P, number: u32, reason: NotTaken)
         ensures note { Puts P.takes note.old (note_text number reason) note.new }
         ensures fed { self.new ≡ fed_after self.old (Err reason) }
@@ -113,11 +133,9 @@ impl<C: Clock + Drop> Teller for Feed<C> {
         text: &mut Sheet,
         note: &mut Sheet,
     ) -> Result<(), Memory> {
-        match read_line(alloc, self.printing, line) {
+        match self.read(alloc, line) {
             Ok(heard) => {
-                let at = moment_or_now(heard.moment, &self.clock);
-                put_line(text, at, &heard.telegram);
-                self.taken = self.taken.saturating_add(1);
+                self.take(text, &heard);
                 Ok(())
             }
             Err(Unheard::Refused(reason)) => {

@@ -1,6 +1,9 @@
 //! The moment that a receiver's own time names.
-ghost use Rattle.std.specs.Prelude.{◌≡◌, ◌+◌, ◌≤◌, length, IfSome, IfOk};
-ghost use Rattle.line_feed_main.specs.Moments.{two_at, has_marks, is_fraction, is_shown, civil_in, moment_of, moment_in};
+ghost use Rattle.std.specs.Prelude.{◌≡◌, ◌+◌, ◌<◌, ◌≤◌, pos, length, IfSome, IfOk, IsTrue};
+ghost use Rattle.std.specs.Char.{is_ascii_digit};
+ghost use Rattle.std.specs.List.{list_all};
+ghost use Rattle.jiff_core.specs.Calendar.{IsCivilDate};
+ghost use Rattle.line_feed_main.specs.Moments.{two_at, has_marks, is_fraction, is_day, is_time, civil_in, seconds_of, not_before, moment_of, moment_in};
 
 use crate::reasons::NotTaken;
 use jiff_core::civil::{Date, DateTime, Time, days_in_month};
@@ -42,13 +45,20 @@ fn has_marks(text: &[u8]) -> bool
         && text[16] == b':'
 }
 
+fn are_digits(text: &[u8]) -> bool
+    ensures { result ≡ list_all is_ascii_digit text.now }
+{
+    text.iter().all(|byte| byte.is_ascii_digit())
+}
+
 // Whether a text is nothing, or a point and digits.
 fn is_fraction(text: &[u8]) -> bool
     ensures { result ≡ is_fraction text.now }
 {
     match text {
         [] => true,
-        [mark, digits @ ..] => *mark == b'.' && digits.iter().all(|byte| byte.is_ascii_digit()),
+        [b'.', digits @ ..] => are_digits(digits),
+        _ => false,
     }
 }
 
@@ -76,28 +86,45 @@ fn read_civil(text: &[u8]) -> Result<Civil, NotTaken>
     })
 }
 
-// Whether the calendar has the day, and a clock shows the time.
-fn is_shown(civil: Civil) -> bool
+// Whether the calendar has the day.
+fn is_day(civil: Civil) -> bool
     requires { civil.year ≤ 9999 }
-    ensures { result ≡ is_shown civil }
+    ensures is { result ≡ is_day civil }
+    ensures day { IsTrue result → IsCivilDate (pos civil.year) civil.month civil.day }
 {
-    if civil.month < 1 || civil.month > 12 || civil.day < 1 {
+    if civil.month < 1 {
         return false;
     }
-    if civil.day > days_in_month(civil.year as i16, civil.month) {
+    if civil.month > 12 {
         return false;
     }
-    civil.hour < 24 && civil.minute < 60 && civil.second < 60
+    if civil.day < 1 {
+        return false;
+    }
+    civil.day <= days_in_month(civil.year as i16, civil.month)
 }
 
-// The seconds since 1970 of a date and a time that are not before it.
-fn moment_of(civil: Civil) -> Result<u64, NotTaken>
-    requires { civil.year ≤ 9999 }
-    ensures { result ≡ moment_of civil }
+// Whether a clock shows the time.
+fn is_time(civil: Civil) -> bool
+    ensures is { result ≡ is_time civil }
+    ensures time { IsTrue result → (civil.hour < 24) × (civil.minute < 60) × (civil.second < 60) }
 {
-    if !is_shown(civil) {
-        return Err(NotTaken::Time);
+    if civil.hour > 23 {
+        return false;
     }
+    if civil.minute > 59 {
+        return false;
+    }
+    civil.second <= 59
+}
+
+// The seconds since 1970 of a day that the calendar has and a time that a clock shows.
+#[tactic(auto, unfolding(jiff_core::specs::DateTime::civil_seconds))]
+fn seconds_of(civil: Civil) -> i64
+    requires day { IsCivilDate (pos civil.year) civil.month civil.day }
+    requires time { (civil.hour < 24) × (civil.minute < 60) × (civil.second < 60) }
+    ensures { result ≡ seconds_of civil }
+{
     let date = Date {
         year: civil.year as i16,
         month: civil.month,
@@ -109,11 +136,31 @@ fn moment_of(civil: Civil) -> Result<u64, NotTaken>
         second: civil.second,
         subsec_nanosecond: 0,
     };
-    let seconds = DateTime { date, time }.to_second();
+    DateTime { date, time }.to_second()
+}
+
+// A number that isn't below zero.
+fn not_before(seconds: i64) -> Result<u64, NotTaken>
+    ensures { result ≡ not_before seconds }
+{
     if seconds < 0 {
         return Err(NotTaken::Time);
     }
     Ok(seconds as u64)
+}
+
+// The seconds since 1970 of a date and a time that are not before it.
+fn moment_of(civil: Civil) -> Result<u64, NotTaken>
+    requires { civil.year ≤ 9999 }
+    ensures { result ≡ moment_of civil }
+{
+    if !is_day(civil) {
+        return Err(NotTaken::Time);
+    }
+    if !is_time(civil) {
+        return Err(NotTaken::Time);
+    }
+    not_before(seconds_of(civil))
 }
 
 /// The seconds since 1970 of a date and a time, whose fraction of a second is left out.

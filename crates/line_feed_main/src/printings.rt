@@ -1,4 +1,6 @@
 //! How a radio receiver prints what it hears.
+ghost use Rattle.std.specs.Prelude.{◌≡◌};
+ghost use Rattle.plain_text.specs.Parts.{is_word};
 
 /// The format of a radio receiver's lines.
 #[derive(Clone, Copy, Debug, PartialEq, Eq)]
@@ -13,6 +15,13 @@ pub enum Printing {
     Hex,
 }
 
+// Whether a text is this word.
+fn is_word(text: &[u8], word: &str) -> bool
+    ensures { result ≡ is_word text.now word.now }
+{
+    text == word.as_bytes()
+}
+
 impl Printing {
     ghost use Rattle.std.specs.Prelude.{◌≡◌};
     ghost use Rattle.line_feed_main.specs.Printings.{printing_of};
@@ -21,12 +30,18 @@ impl Printing {
     pub fn of_word(word: &[u8]) -> Option<Printing>
         ensures { result ≡ printing_of word.now }
     {
-        match word {
-            b"cul" => Some(Printing::Cul),
-            b"rtl_wmbus" => Some(Printing::RtlWmbus),
-            b"rtl_433" => Some(Printing::Rtl433),
-            b"hex" => Some(Printing::Hex),
-            _ => None,
+        if is_word(word, "cul") {
+            return Some(Printing::Cul);
         }
+        if is_word(word, "rtl_wmbus") {
+            return Some(Printing::RtlWmbus);
+        }
+        if is_word(word, "rtl_433") {
+            return Some(Printing::Rtl433);
+        }
+        if is_word(word, "hex") {
+            return Some(Printing::Hex);
+        }
+        None
     }
 }

@@ -1,8 +1,9 @@
 //! Lines of rtl_433.
 ghost use Rattle.std.specs.Prelude.{◌≡◌, Ok, Err, IfOk, MatchResult, option_map};
+ghost use Rattle.serde_json.specs.Read.{read};
 ghost use Rattle.serde_json.specs.View.{view};
 ghost use Rattle.line_feed_main.specs.Heard.{Means};
-ghost use Rattle.line_feed_main.specs.Rtl433.{member_text, has_text, time_in, data_in, json_heard, rtl_433_heard};
+ghost use Rattle.line_feed_main.specs.Rtl433.{member_text, has_text, time_in, json_heard, read_heard, rtl_433_heard};
 
 use crate::digits::read_telegram;
 use crate::heard::{Heard, Unheard, said};
@@ -61,21 +62,28 @@ fn read_json(value: &Value) -> Result<Heard, NotTaken>
     Ok(Heard { telegram, moment })
 }
 
-/// What a line of rtl_433 gives.
-pub(crate) fn read_rtl_433(alloc: Global, line: &[u8]) -> Result<Heard, Unheard>
-    ensures { Means result (rtl_433_heard line.now) }
+// What a text gives.
+fn read_text(alloc: Global, text: &str) -> Result<Heard, Unheard>
+    ensures { Means result (read_heard (read text.now)) }
 {
-    let Ok(text) = std::str::from_utf8(line) else {
-        return Err(Unheard::Refused(NotTaken::Json));
-    };
     match Value::from_str(alloc, text) {
         Ok(value) => said(read_json(&value)),
         Err(error) => {
             if error.is_memory() {
-                Err(Unheard::Memory)
-            } else {
-                Err(Unheard::Refused(NotTaken::Json))
+                return Err(Unheard::Memory);
             }
+            Err(Unheard::Refused(NotTaken::Json))
         }
+    }
+}
+
+/// What a line of rtl_433 gives.
+#[tactic(auto, using(crate::proofs::Json::of_text, crate::proofs::Json::of_no_text))]
+pub(crate) fn read_rtl_433(alloc: Global, line: &[u8]) -> Result<Heard, Unheard>
+    ensures { Means result (rtl_433_heard line.now) }
+{
+    match std::str::from_utf8(line) {
+        Ok(text) => read_text(alloc, text),
+        Err(_) => Err(Unheard::Refused(NotTaken::Json)),
     }
 }
