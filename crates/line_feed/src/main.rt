@@ -110,7 +110,14 @@ fn perform<R: Print + Eprint + std::time::Clock + AllocGlobal>(
         return program_words::end(rt, 2, Stopped);
     };
     let mut lines = TextReader::new(input, LINE_MAX);
-    feed(rt, printing, HostClock::new(rt), &mut lines, &mut out, &mut notes)
+    feed(
+        rt,
+        printing,
+        HostClock::new(rt),
+        &mut lines,
+        &mut out,
+        &mut notes,
+    )
 }
 
 // Ends where the words can't be had.

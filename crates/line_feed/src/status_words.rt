@@ -14,8 +14,7 @@ impl fmt::Display for Said {
         f.write_str(match self.status {
             FeedStatus::Done => "line_feed: every line was taken",
             FeedStatus::LeftOut => "line_feed: some lines weren't taken",
-            FeedStatus::Read =>
-                "line_feed: the input can't be read; what was read of it is fed",
+            FeedStatus::Read => "line_feed: the input can't be read; what was read of it is fed",
             FeedStatus::Write => "line_feed: cannot write a line",
             FeedStatus::Cut => {
                 "line_feed: the input has more than 131,072 lines or 67,108,864 bytes; those before are fed: start it again"
@@ -31,6 +30,8 @@ pub(crate) struct Stopped;
 
 impl fmt::Display for Stopped {
     fn fmt<W: fmt::Write>(&self, f: &mut fmt::Formatter<W>) -> fmt::Result {
-        f.write_str("line_feed: give one format, cul, rtl_wmbus, rtl_433 or hex, and the receiver's lines on the standard input")
+        f.write_str(
+            "line_feed: give one format, cul, rtl_wmbus, rtl_433 or hex, and the receiver's lines on the standard input",
+        )
     }
 }

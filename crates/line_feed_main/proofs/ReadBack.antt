@@ -1,5 +1,5 @@
 -- What is heard is a telegram, and its line is read back.
-use Rattle.std.proofs.Common.{◌≡◌, ◌==◌, ◌-◌, ℕ, Bool, true, false, cond, List, [], ◌∷◌, length, Option, Some, None, Result, Ok, Err, refl, sym, ap, ◌∙◌, subst}
+use Rattle.std.proofs.Common.{◌≡◌, ◌==◌, ◌-◌, ℕ, Bool, true, false, cond, List, [], ◌∷◌, length, drop, slice_index, ◌+◌, ◌≤◌, ◌<◌, arith, Option, Some, None, Result, Ok, Err, refl, sym, ap, ◌∙◌, subst}
 use Rattle.std.specs.Prelude.{nat_lt, codes}
 use Rattle.std.specs.Option.{ok_or}
 use Rattle.std.specs.Result.{result_ok}
@@ -11,6 +11,7 @@ use Rattle.serde_json.specs.Data.{Data}
 use Rattle.serde_json.specs.Read.{read}
 use Rattle.steps.specs.Steps.{◌>>=◌}
 use Rattle.steps.proofs.StepLaws.{bind_ok}
+use Rattle.plain_text.specs.Parts.{is_word}
 use Rattle.line_reader.specs.Grammar.{bytes_of}
 use Rattle.frame_formats.specs.Crc.{IsBytes}
 use Rattle.frame_formats.specs.declared.fault.FrameFault.{FrameFault}
@@ -18,7 +19,7 @@ use Rattle.frame_formats.specs.declared.format.Format.{Format}
 use Rattle.frame_formats.specs.declared.format.Format.TheVariants as formats
 use Rattle.frame_formats.specs.Frames.{IsTelegram, Frame}
 use Rattle.frame_formats.specs.Decoding.{frame_a, decoded}
-use Rattle.frame_formats.proofs.Checked.{bytes-take}
+use Rattle.frame_formats.proofs.Checked.{bytes-take, bytes-drop}
 use Rattle.frame_formats.proofs.Division.{each_byte}
 use Rattle.frame_formats.proofs.FrameLaws.{one_frame_a}
 use Rattle.frame_formats.proofs.EitherFormat.{frames_are_decoded, telegrams_are_bytes}
@@ -33,7 +34,7 @@ use Rattle.line_feed_main.specs.Heard.{heard_some_time, heard_at}
 use Rattle.line_feed_main.specs.Cul.{without_quality, is_length, or_shorter, decoded_heard, heard_framed, framed, behind_letter, cul_heard}
 use Rattle.line_feed_main.specs.Columns.{columns_of}
 use Rattle.line_feed_main.specs.RtlWmbus.{known_mode, checked, prefixed, columns_heard}
-use Rattle.line_feed_main.specs.Rtl433.{passes, has_text, time_in, data_in, json_heard, read_heard}
+use Rattle.line_feed_main.specs.Rtl433.{restored, last_crc, with_last_crc, telegram_in_data, data_telegram, passes, has_text, time_in, data_in, json_heard, read_heard}
 use Rattle.line_feed_main.specs.Moments.{moment_in}
 use Rattle.line_feed_main.specs.Hex.{unmarked}
 use Rattle.line_feed_main.specs.Lines.{heard_in}
@@ -88,21 +89,26 @@ telegram_read digits t is =
     let bytes = bind_ok (bytes_in digits) telegram_of t is in
     telegram_is bytes.0 t (bytes_read digits bytes.0 bytes.1) bytes.2
 
--- the telegram of digits is the last that is read
-last_read : (f : List ℕ → Heard) → ((t : List ℕ) → (f t).telegram ≡ t) → (digits : List ℕ) (heard : Heard) → (telegram_in digits >>= λ t. Ok (f t)) ≡ Ok heard → IsWhole heard.telegram
-last_read f keeps digits heard is =
-    let t = bind_ok (telegram_in digits) (λ t. Ok (f t)) heard is in
-    subst IsWhole (sym (keeps t.0) ∙ ap (λ (h : Heard). h.telegram) (taken (f t.0) heard (Ok (f t.0)) refl t.2)) (telegram_read digits t.0 t.1)
+-- a reader of digits that reads telegrams
+abbrev ReadsWhole : (List ℕ → Result (List ℕ) NotTaken) → Type 0
+ReadsWhole reader = (digits t : List ℕ) → reader digits ≡ Ok t → IsWhole t
+
+-- the telegram is the last that is read
+last_read : (reader : List ℕ → Result (List ℕ) NotTaken) → ReadsWhole reader → (f : List ℕ → Heard) → ((t : List ℕ) → (f t).telegram ≡ t)
+    → (digits : List ℕ) (heard : Heard) → (reader digits >>= λ t. Ok (f t)) ≡ Ok heard → IsWhole heard.telegram
+last_read reader whole f keeps digits heard is =
+    let t = bind_ok (reader digits) (λ t. Ok (f t)) heard is in
+    subst IsWhole (sym (keeps t.0) ∙ ap (λ (h : Heard). h.telegram) (taken (f t.0) heard (Ok (f t.0)) refl t.2)) (whole digits t.0 t.1)
 
 -- where all that is read in front of it was read
-steps_read : {M : Type 0} (f : M → List ℕ → Heard) → ((m : M) (t : List ℕ) → (f m t).telegram ≡ t) → (known passed : Result (Unit {0}) NotTaken) (moment : Result M NotTaken)
-    (digits : Result (List ℕ) NotTaken) (heard : Heard)
-    → (known >>= λ k. passed >>= λ p. moment >>= λ m. digits >>= λ d. telegram_in d >>= λ t. Ok (f m t)) ≡ Ok heard → IsWhole heard.telegram
-steps_read f keeps (Ok known) (Ok passed) (Ok moment) (Ok digits) heard is = last_read (f moment) (keeps moment) digits heard is
-steps_read f keeps (Ok known) (Ok passed) (Ok moment) (Err e) heard is = refused (IsWhole heard.telegram) e heard is
-steps_read f keeps (Ok known) (Ok passed) (Err e) digits heard is = refused (IsWhole heard.telegram) e heard is
-steps_read f keeps (Ok known) (Err e) moment digits heard is = refused (IsWhole heard.telegram) e heard is
-steps_read f keeps (Err e) passed moment digits heard is = refused (IsWhole heard.telegram) e heard is
+steps_read : {M : Type 0} (reader : List ℕ → Result (List ℕ) NotTaken) → ReadsWhole reader → (f : M → List ℕ → Heard) → ((m : M) (t : List ℕ) → (f m t).telegram ≡ t)
+    → (known passed : Result (Unit {0}) NotTaken) (moment : Result M NotTaken) (digits : Result (List ℕ) NotTaken) (heard : Heard)
+    → (known >>= λ k. passed >>= λ p. moment >>= λ m. digits >>= λ d. reader d >>= λ t. Ok (f m t)) ≡ Ok heard → IsWhole heard.telegram
+steps_read reader whole f keeps (Ok known) (Ok passed) (Ok moment) (Ok digits) heard is = last_read reader whole (f moment) (keeps moment) digits heard is
+steps_read reader whole f keeps (Ok known) (Ok passed) (Ok moment) (Err e) heard is = refused (IsWhole heard.telegram) e heard is
+steps_read reader whole f keeps (Ok known) (Ok passed) (Err e) digits heard is = refused (IsWhole heard.telegram) e heard is
+steps_read reader whole f keeps (Ok known) (Err e) moment digits heard is = refused (IsWhole heard.telegram) e heard is
+steps_read reader whole f keeps (Err e) passed moment digits heard is = refused (IsWhole heard.telegram) e heard is
 
 -- ---- culfw
 
@@ -164,14 +170,49 @@ columns_read (a ∷ b ∷ c ∷ d ∷ e ∷ f ∷ []) heard is = no_columns hear
 columns_read (a ∷ b ∷ c ∷ d ∷ e ∷ f ∷ g ∷ []) heard is = no_columns heard is
 columns_read (a ∷ b ∷ c ∷ d ∷ e ∷ f ∷ g ∷ h ∷ i ∷ more) heard is = no_columns heard is
 columns_read (a ∷ b ∷ c ∷ d ∷ e ∷ f ∷ g ∷ h ∷ []) heard is =
-    steps_read heard_at (λ m t. refl) (known_mode a) (checked b) (moment_in d) (prefixed h) heard is
+    steps_read telegram_in telegram_read heard_at (λ m t. refl) (known_mode a) (checked b) (moment_in d) (prefixed h) heard is
 
 -- ---- rtl_433
+
+restored_is : (bytes t : List ℕ) → IsBytes bytes → telegram_of (restored bytes) ≡ Ok t → IsWhole t
+restored_is bytes t all is = by_test (is_telegram (restored bytes)) refl is
+  where
+    few : (first n : ℕ) → first + 2 + 1 ≡ n → n ≤ 256 → first + 2 < 256
+    few first n counted most = omega arith
+
+    by_test : (b : Bool) → is_telegram (restored bytes) ≡ b → cond b (Ok (restored bytes)) (Err reasons.Length) ≡ Ok t → IsWhole t
+    by_test true found ok =
+        let telegram = is_found (restored bytes) found in
+        subst IsWhole (taken (restored bytes) t (cond true (Ok (restored bytes)) (Err reasons.Length)) refl ok) (record {
+          telegram = telegram;
+          bytes = (few (slice_index bytes 0) (length (restored bytes)) telegram.counted telegram.most, bytes-take (length bytes - 3) (drop 1 bytes) (bytes-drop 1 bytes all));
+        })
+    by_test false found ok = refused (IsWhole t) reasons.Length t ok
+
+data_is : (bytes t : List ℕ) → IsBytes bytes → telegram_in_data bytes ≡ Ok t → IsWhole t
+data_is bytes t all is = by_test (is_telegram bytes) refl is
+  where
+    checked_is : (found : List ℕ) → telegram_of (restored bytes) ≡ Ok found → with_last_crc bytes found ≡ Ok t → IsWhole t
+    checked_is found known ok =
+        by_cond (IsWhole t) (is_word (drop (length bytes - 2) bytes) (last_crc found)) (Ok found) (Err reasons.Length) t
+        (λ same. subst IsWhole (taken found t (Ok found) refl same) (restored_is bytes found all known)) (refused (IsWhole t) reasons.Length t) ok
+
+    by_test : (b : Bool) → is_telegram bytes ≡ b → cond b (Ok bytes) (telegram_of (restored bytes) >>= with_last_crc bytes) ≡ Ok t → IsWhole t
+    by_test true found ok =
+        subst IsWhole (taken bytes t (cond true (Ok bytes) (telegram_of (restored bytes) >>= with_last_crc bytes)) refl ok) (record { telegram = is_found bytes found; bytes = all })
+    by_test false found ok =
+        let known = bind_ok (telegram_of (restored bytes)) (with_last_crc bytes) t ok in
+        checked_is known.0 known.1 known.2
+
+data_read : (digits t : List ℕ) → data_telegram digits ≡ Ok t → IsWhole t
+data_read digits t is =
+    let bytes = bind_ok (bytes_in digits) telegram_in_data t is in
+    data_is bytes.0 t (bytes_read digits bytes.0 bytes.1) bytes.2
 
 json_read : (d : Data) (heard : Heard) → json_heard d ≡ Ok heard → IsWhole heard.telegram
 unfolding json_heard
 json_read d heard is =
-    steps_read (λ m t. record { telegram = t; moment = m }) (λ m t. refl) (passes (has_text (codes "model") (codes "Wireless-MBus") d) reasons.Model)
+    steps_read data_telegram data_read (λ m t. record { telegram = t; moment = m }) (λ m t. refl) (passes (has_text (codes "model") (codes "Wireless-MBus") d) reasons.Model)
     (passes (has_text (codes "mic") (codes "CRC") d) reasons.Unchecked) (time_in d) (data_in d) heard is
 
 text_read : (found : Option Data) (heard : Heard) → read_heard found ≡ Ok heard → IsWhole heard.telegram
@@ -186,7 +227,7 @@ read_in printings.RtlWmbus line heard is = columns_read (columns_of line) heard 
 read_in printings.Rtl433 line heard is =
     by_cond (IsWhole heard.telegram) (is_utf8 line) (read_heard (read line)) (Err reasons.Json) heard
     (text_read (read line) heard) (refused (IsWhole heard.telegram) reasons.Json heard) is
-read_in printings.Hex line heard is = last_read heard_some_time (λ t. refl) (unmarked line) heard is
+read_in printings.Hex line heard is = last_read telegram_in telegram_read heard_some_time (λ t. refl) (unmarked line) heard is
 
 pub telegrams_are_whole : TelegramsAreWhole
 telegrams_are_whole printing line heard is =

@@ -1,16 +1,17 @@
 -- Lines of rtl_433: JSON (RFC 8259).
-use Rattle.std.specs.Prelude.{ℕ, Bool, false, List, codes, Option, Some, None, option_and_then, Result, Ok, Err, if◌then◌else◌}
+use Rattle.std.specs.Prelude.{ℕ, ◌+◌, ◌-◌, Bool, false, List, ◌∷◌, length, take, drop, slice_index, codes, Option, Some, None, option_and_then, Result, Ok, Err, if◌then◌else◌}
 use Rattle.std.specs.Option.{ok_or}
 use Rattle.std.specs.Str.{is_utf8}
 use Rattle.steps.specs.Steps.{◌>>=◌}
 use Rattle.plain_text.specs.Parts.{is_word}
+use Rattle.frame_formats.specs.Decoding.{frame_a}
 use Rattle.serde_json.specs.Data.{Data}
 use Rattle.serde_json.specs.Find.{get, as_str}
 use Rattle.serde_json.specs.Read.{read}
 use Rattle.line_feed_main.specs.declared.heard.Heard.{Heard}
 use Rattle.line_feed_main.specs.declared.reasons.NotTaken.{NotTaken}
 use Rattle.line_feed_main.specs.declared.reasons.NotTaken.TheVariants as reasons
-use Rattle.line_feed_main.specs.Digits.{telegram_in}
+use Rattle.line_feed_main.specs.Digits.{bytes_in, is_telegram, telegram_of}
 use Rattle.line_feed_main.specs.Moments.{moment_in}
 
 -- the text of the member with this name, if it is one
@@ -39,6 +40,23 @@ data_in d = ok_or (member_text (codes "data") d) reasons.Data
 abbrev pub passes : Bool → NotTaken → Result (Unit {0}) NotTaken
 passes passed reason = if passed then Ok tt else Err reason
 
+-- of a telegram of format A rtl_433 prints an L that is two too low, and the CRC of the last block behind the telegram
+abbrev pub restored : List ℕ → List ℕ
+restored bytes = (slice_index bytes 0 + 2) ∷ take (length bytes - 3) (drop 1 bytes)
+
+abbrev pub last_crc : List ℕ → List ℕ
+last_crc t = drop (length (frame_a t) - 2) (frame_a t)
+
+abbrev pub with_last_crc : List ℕ → List ℕ → Result (List ℕ) NotTaken
+with_last_crc bytes t = if is_word (drop (length bytes - 2) bytes) (last_crc t) then Ok t else Err reasons.Length
+
+-- the telegram of bytes as they are, or else as rtl_433 prints one of format A
+abbrev pub telegram_in_data : List ℕ → Result (List ℕ) NotTaken
+telegram_in_data bytes = if is_telegram bytes then Ok bytes else telegram_of (restored bytes) >>= with_last_crc bytes
+
+abbrev pub data_telegram : List ℕ → Result (List ℕ) NotTaken
+data_telegram digits = bytes_in digits >>= telegram_in_data
+
 -- a telegram of wireless M-Bus whose CRCs were right
 unfoldable pub json_heard : Data → Result Heard NotTaken
 json_heard d = do
@@ -46,7 +64,7 @@ json_heard d = do
   passed ← passes (has_text (codes "mic") (codes "CRC") d) reasons.Unchecked
   moment ← time_in d
   digits ← data_in d
-  telegram ← telegram_in digits
+  telegram ← data_telegram digits
   Ok (record { telegram = telegram; moment = moment })
 
 abbrev pub read_heard : Option Data → Result Heard NotTaken

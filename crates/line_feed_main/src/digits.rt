@@ -16,8 +16,8 @@ pub(crate) fn read_bytes(digits: &[u8]) -> Result<FrameBytes, NotTaken>
     FrameBytes::from_hex(digits).ok_or(NotTaken::Hex)
 }
 
-// The telegram that these bytes are.
-fn telegram_of(bytes: &[u8]) -> Result<Telegram, NotTaken>
+/// The telegram that these bytes are.
+pub(crate) fn telegram_of(bytes: &[u8]) -> Result<Telegram, NotTaken>
     ensures { result ≡ telegram_of bytes.now }
 {
     match Telegram::from_bytes(bytes) {
