@@ -1,6 +1,7 @@
 -- A feed: what its source and its sinks showed before and after it, and what is promised of it.
-use Rattle.std.specs.Prelude.{ℕ, ◌≡◌, ◌==◌, Bool, List, [], ◌++◌, IsTrue, if◌then◌else◌}
+use Rattle.std.specs.Prelude.{ℕ, ◌≡◌, ◌⊎◌, ◌==◌, Bool, true, false, List, [], ◌++◌, IsTrue, if◌then◌else◌}
 use Rattle.outer_io.specs.Shown.{Change, SourceShown, SinkShown, ReadFailed, WriteFailed, LosesNothing}
+use Rattle.line_reader.specs.Lines.{is_over}
 use Rattle.line_teller.specs.declared.ending.LinesEnd.{LinesEnd}
 use Rattle.line_teller.specs.declared.ending.LinesEnd.TheVariants as ends
 use Rattle.line_teller.specs.Ending.{EndsLines, EndsText, IsNoted, is_whole}
@@ -51,6 +52,18 @@ pub record Run : Type 0 where
 
 -- ---- what is promised
 
+-- whether all lines of the input were fed
+abbrev pub feeds_all : FeedStatus → Bool
+feeds_all statuses.Done = true
+feeds_all statuses.LeftOut = true
+feeds_all _ = false
+
+-- nothing stands in the way
+pub record IsUnhindered (run : Run) : Type 0 where
+  pub within : is_over (run.input.before.taken ++ run.input.before.left) ≡ false
+  pub read : ReadFailed run.input → ⊥
+  pub written : WriteFailed run.out → ⊥
+
 -- Lines of the input were fed: all of them, or those that `EndsLines` says of this end. What is printed for them stands behind what was
 -- written before, or a front of it where not all could be written; and what is noted of them stands on the other sink.
 pub record IsFed (run : Run) (end : LinesEnd) : Type 0 where
@@ -71,6 +84,8 @@ pub record IsRun (run : Run) : Type 0 where
   -- a failed read and a failed write are the causes of their ends; want of memory is free
   pub read : end ≡ ends.Read → ReadFailed run.input
   pub write : end ≡ ends.Write → WriteFailed run.out
+  -- where nothing stands in the way all lines are fed, unless there is no memory
+  pub complete : IsTrue run.input_tells → IsUnhindered run → IsTrue (feeds_all run.status) ⊎ (run.status ≡ statuses.Memory)
   -- whatever happens, no byte of the input is lost
   pub no_loss : IsTrue run.input_tells → LosesNothing run.input
 
