@@ -1,0 +1,14 @@
+pub mod Printings
+pub mod Heard
+pub mod Digits
+pub mod Cul
+pub mod Columns
+pub mod Moments
+pub mod RtlWmbus
+pub mod Rtl433
+pub mod Hex
+pub mod Lines
+pub mod Notes
+pub mod Feeding
+pub mod Run
+pub mod Laws

@@ -1,0 +1,152 @@
+//! Lines that are fed one after another.
+ghost use Rattle.std.specs.Prelude.{◌<◌, ◌^◌};
+ghost use Rattle.paper.specs.Puts.{Puts};
+ghost use Rattle.made_input.specs.Lines.{frame_line};
+ghost use Rattle.line_feed_main.specs.Feeding.{IsMoment};
+
+use crate::clock::Clock;
+use crate::heard::{Heard, Unheard};
+use crate::lines::read_line;
+use crate::notes::put_note;
+use crate::printings::Printing;
+use crate::reasons::NotTaken;
+use frame_formats::{Telegram, encode_a};
+use line_teller::{Sheet, Teller};
+use outer_io::Memory;
+use paper::{Paper, put_labelled, put_labelled_bytes, put_text};
+use std::alloc::Global;
+use std::marker::Model;
+
+/// What a feed knows between two lines.
+#[derive(Drop)]
+pub struct Feed<C: Clock + Drop> {
+    printing: Printing,
+    clock: C,
+    taken: u64,
+    left_out: u64,
+}
+
+impl<C: Clock + Drop> Model for Feed<C> {
+    ghost use Rattle.line_feed_main.specs.Feeding.{Fed};
+
+    ghost Value = { Fed };
+
+    ghost view = { λ f. record { printing = f.printing; taken = f.taken; left_out = f.left_out } };
+}
+
+// Puts the line of a telegram.
+#[tactic(auto, unfolding(made_input::specs::Lines::frame_line), using(paper::proofs::Calls::three_make))]
+fn put_line<P: Paper>(paper: &mut P, at: u64, telegram: &Telegram)
+    ensures { Puts P.takes paper.old (frame_line at telegram.now) paper.new }
+{
+    let mut frame = [0; 290];
+    let len = encode_a(telegram, &mut frame);
+    put_labelled(paper, "A ", at);
+    put_labelled_bytes(paper, " ", &frame[..len]);
+    put_text(paper, "\n");
+}
+
+// The moment that a line names, or else the clock's.
+fn moment_or_now<C: Clock>(moment: Option<u64>, clock: &C) -> u64
+    ensures moment { IsMoment moment result }
+    ensures below { result < 2 ^ 64 }
+{
+    match moment {
+        Some(moment) => moment,
+        None => clock.seconds(),
+    }
+}
+
+impl<C: Clock + Drop> Feed<C> {
+    ghost use Rattle.std.specs.Prelude.{◌≡◌, Ok, Err};
+    ghost use Rattle.paper.specs.Puts.{Puts};
+    ghost use Rattle.line_feed_main.specs.Notes.{note_text};
+    ghost use Rattle.line_feed_main.specs.Heard.{Means};
+    ghost use Rattle.line_feed_main.specs.Lines.{heard_of};
+    ghost use Rattle.line_feed_main.specs.Feeding.{fresh, fed_after, PutsLine};
+
+    /// Before the first line.
+    pub fn new(printing: Printing, clock: C) -> Feed<C>
+        ensures { result ≡ fresh printing }
+    {
+        Feed {
+            printing,
+            clock,
+            taken: 0,
+            left_out: 0,
+        }
+    }
+
+    /// How many lines were taken.
+    pub fn taken(&self) -> u64
+        ensures { result ≡ self.now.taken }
+    {
+        self.taken
+    }
+
+    /// How many lines weren't taken.
+    pub fn left_out(&self) -> u64
+        ensures { result ≡ self.now.left_out }
+    {
+        self.left_out
+    }
+
+    // What a line gives.
+    fn read(&self, alloc: Global, line: &[u8]) -> Result<Heard, Unheard>
+        ensures { Means result (heard_of self.now.printing line.now) }
+    {
+        read_line(alloc, self.printing, line)
+    }
+
+    // Puts the line of a telegram, and counts it.
+    fn take<P: Paper>(&mut self, text: &mut P, heard: &Heard)
+        ensures text { PutsLine P.takes heard.now text.old text.new }
+        ensures fed { self.new ≡ fed_after self.old (Ok heard.now) }
+    {
+        let at = moment_or_now(heard.moment, &self.clock);
+        put_line(text, at, &heard.telegram);
+        self.taken = self.taken.saturating_add(1);
+    }
+
+    // Notes a line that isn't taken, and counts it.
+    fn leave_out<P: Paper>(&mut self, note: &mut P, number: u32, reason: NotTaken)
+        ensures note { Puts P.takes note.old (note_text number reason) note.new }
+        ensures fed { self.new ≡ fed_after self.old (Err reason) }
+    {
+        put_note(note, number, reason);
+        self.left_out = self.left_out.saturating_add(1);
+    }
+}
+
+impl<C: Clock + Drop> Teller for Feed<C> {
+    ghost use Rattle.line_feed_main.specs.Feeding.{FeedsLine};
+
+    ghost longest = { 4096 };
+
+    ghost tells = { FeedsLine };
+
+    fn tell(
+        &mut self,
+        alloc: Global,
+        number: u32,
+        line: &[u8],
+        text: &mut Sheet,
+        note: &mut Sheet,
+    ) -> Result<(), Memory> {
+        match self.read(alloc, line) {
+            Ok(heard) => {
+                self.take(text, &heard);
+                Ok(())
+            }
+            Err(Unheard::Refused(reason)) => {
+                self.leave_out(note, number, reason);
+                Ok(())
+            }
+            Err(Unheard::Memory) => Err(Memory),
+        }
+    }
+
+    fn tell_long(&mut self, number: u32, text: &mut Sheet, note: &mut Sheet) {
+        self.leave_out(note, number, NotTaken::TooLong);
+    }
+}

@@ -1,0 +1,33 @@
+//! What a line gives, or why it gives nothing.
+ghost use Rattle.line_feed_main.specs.Heard.{Means};
+
+use crate::reasons::NotTaken;
+use frame_formats::Telegram;
+
+/// What a line gives.
+#[derive(Drop)]
+pub struct Heard {
+    /// The telegram.
+    pub telegram: Telegram,
+    /// The moment that the line names, in seconds since 1970.
+    pub moment: Option<u64>,
+}
+
+/// Why nothing was heard.
+#[derive(Clone, Copy, Debug, PartialEq, Eq)]
+pub enum Unheard {
+    /// The line isn't taken.
+    Refused(NotTaken),
+    /// Memory ran out.
+    Memory,
+}
+
+/// The same answer where it took no memory.
+pub(crate) fn said(answer: Result<Heard, NotTaken>) -> Result<Heard, Unheard>
+    ensures { Means result answer }
+{
+    match answer {
+        Ok(heard) => Ok(heard),
+        Err(reason) => Err(Unheard::Refused(reason)),
+    }
+}

@@ -1,0 +1,33 @@
+//! What radio receivers print, line by line, as lines of a receiver: a frame of format A for each telegram, with the moment at which it was heard.
+#![tactic(auto)]
+
+mod clock;
+mod columns;
+mod cul;
+mod digits;
+mod feed;
+mod heard;
+mod hex_lines;
+mod laws;
+mod lines;
+mod moments;
+mod notes;
+mod printings;
+mod reasons;
+mod rtl_433;
+mod rtl_wmbus;
+mod running;
+mod status;
+
+pub use clock::Clock;
+pub use feed::Feed;
+pub use heard::{Heard, Unheard};
+pub use laws::{lines_are_read_back, telegrams_are_whole};
+pub use lines::{LINE_MAX, read_line};
+pub use printings::Printing;
+pub use reasons::NotTaken;
+pub use running::feed_lines;
+pub use status::FeedStatus;
+
+#[cfg(test)]
+mod tests;

@@ -1,0 +1,37 @@
+"""What radio receivers print for telegrams, made of the telegrams alone, for scripts that make and read such lines."""
+import json
+from datetime import datetime, timezone
+
+from frames import format_a, format_b
+
+MAKERS = {0x1593: "ELS", 0x0443: "ABC"}
+
+
+def shown(moment, mark=" "):
+    return datetime.fromtimestamp(moment, timezone.utc).strftime(f"%Y-%m-%d{mark}%H:%M:%S")
+
+
+def cul(telegram, moment=0, quality=b"\x80\xf4", b=False):
+    """culfw: the frame as it was received, and two bytes of link quality."""
+    frame = format_b(telegram) if b else format_a(telegram)
+    return ("bY" if b else "b") + (frame + quality).hex().upper()
+
+
+def rtl_wmbus(telegram, moment, mode="T1", right="1", code="1"):
+    return f"{mode};{right};{code};{shown(moment)}.000;97;148;{telegram[7:3:-1].hex()};0x{telegram.hex()}"
+
+
+def rtl_433(telegram, moment, data=None, **members):
+    """rtl_433 22.11 of a frame of format A: an L that is two too low, and the CRC of the last block behind the telegram."""
+    if data is None:
+        data = bytes([telegram[0] - 2]) + telegram[1:] + format_a(telegram)[-2:]
+    told = {"time": shown(moment), "model": "Wireless-MBus", "mode": "T", "M": "ELS", "id": int(telegram[7:3:-1].hex(), 16), "version": telegram[8], "type": telegram[9],
+            "type_string": "Gas", "C": telegram[1], "data_length": len(telegram), "data": data.hex(), "mic": "CRC"}
+    told.update(members)
+    return json.dumps({name: value for name, value in told.items() if value is not None}, separators=(", ", " : "))
+
+
+def hexadecimal(telegram, moment=0):
+    """A telegram in hexadecimal, its layers set apart."""
+    text = telegram.hex()
+    return f"|{text[:22]}|{text[22:]}|" if len(text) % 4 else f"{text[:20]}_{text[20:]}"
