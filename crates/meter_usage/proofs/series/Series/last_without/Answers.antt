@@ -11,38 +11,36 @@ use Rattle.meter_usage.proofs.Small.{last_small, remove_small}
 use Rattle.meter_usage.proofs.Taken.{took_last, last_there, last_other}
 use Rattle.meter_usage.proofs.series.Series.last_without.Goals as goal
 
-pub returns-then-is_of-clause-is : goal.returns-then-is_of-clause-is
-returns-then-is_of-clause-is c =
-    c.amount_of.ensures ∙ took_last deref_pair c.next_back-last.new.self c.next_back.new.self c.next_back.result c.next_back.ensures.steps
-    ∙ last_there deref_pair c.args.number c.iter-entries.result c.next_back-last.new.self c.next_back-last.result
+pub returns-then-is_of : goal.returns-then-is_of
+returns-then-is_of c =
+    let number = c.args.number in
+    let inside = c.self.inside.amounts.entries in
+    let others = c.next_back-last.new.self in
+    let taken =
+    c.amount_of.ensures ∙ took_last deref_pair others c.next_back.new.self c.next_back.result c.next_back.ensures.steps
+    ∙ last_there deref_pair number c.iter-entries.result others c.next_back-last.result
     (subst (λ es. IsStrictlySortedBy nat_cmp (keys_of es)) (sym c.iter-entries.ensures.rest) c.iter-entries.ensures.ordered)
     c.next_back-last.ensures.steps (sym c.is_of.ensures ∙ c.if-is_of.true)
-    ∙ ap (λ es. last (λ e. Some e.1) (without c.args.number es)) (c.iter-entries.ensures.rest ∙ c.self.view_is)
+    ∙ ap (λ es. last (λ e. Some e.1) (without number es)) c.iter-entries.ensures.rest in
+    record {
+      is = taken ∙ ap (λ es. last (λ e. Some e.1) (without number es)) c.self.view_is;
+      small =
+          subst (λ o. IfSome o (IsWithin (2 ^ 80))) (sym taken)
+          (last_small (without number inside) (remove_small (is_at (nat_cmp number)) inside c.self.invariant));
+    }
 
-pub returns-then-is_of-clause-small : goal.returns-then-is_of-clause-small
-returns-then-is_of-clause-small c =
-    subst (λ o. IfSome o (IsWithin (2 ^ 80)))
-    (sym (c.amount_of.ensures ∙ took_last deref_pair c.next_back-last.new.self c.next_back.new.self c.next_back.result
-    c.next_back.ensures.steps
-    ∙ last_there deref_pair c.args.number c.iter-entries.result c.next_back-last.new.self c.next_back-last.result
-    (subst (λ es. IsStrictlySortedBy nat_cmp (keys_of es)) (sym c.iter-entries.ensures.rest) c.iter-entries.ensures.ordered)
-    c.next_back-last.ensures.steps (sym c.is_of.ensures ∙ c.if-is_of.true)
-    ∙ ap (λ es. last (λ e. Some e.1) (without c.args.number es)) c.iter-entries.ensures.rest))
-    (last_small (without c.args.number c.self.inside.amounts.entries)
-    (remove_small (is_at (nat_cmp c.args.number)) c.self.inside.amounts.entries c.self.invariant))
-
-pub returns-clause-is : goal.returns-clause-is
-returns-clause-is c =
-    c.amount_of-2.ensures ∙ last_other deref_pair c.args.number c.iter-entries.result c.next_back-last.new.self c.next_back-last.result
+pub returns : goal.returns
+returns c =
+    let number = c.args.number in
+    let inside = c.self.inside.amounts.entries in
+    let taken =
+    c.amount_of-2.ensures
+    ∙ last_other deref_pair number c.iter-entries.result c.next_back-last.new.self c.next_back-last.result
     c.next_back-last.ensures.steps (sym c.is_of.ensures ∙ c.if-is_of.false)
-    ∙ ap (λ es. last (λ e. Some e.1) (without c.args.number es)) (c.iter-entries.ensures.rest ∙ c.self.view_is)
-
-pub returns-clause-small : goal.returns-clause-small
-returns-clause-small c =
-    subst (λ o. IfSome o (IsWithin (2 ^ 80)))
-    (sym (c.amount_of-2.ensures ∙ last_other deref_pair c.args.number c.iter-entries.result c.next_back-last.new.self
-    c.next_back-last.result
-    c.next_back-last.ensures.steps (sym c.is_of.ensures ∙ c.if-is_of.false)
-    ∙ ap (λ es. last (λ e. Some e.1) (without c.args.number es)) c.iter-entries.ensures.rest))
-    (last_small (without c.args.number c.self.inside.amounts.entries)
-    (remove_small (is_at (nat_cmp c.args.number)) c.self.inside.amounts.entries c.self.invariant))
+    ∙ ap (λ es. last (λ e. Some e.1) (without number es)) c.iter-entries.ensures.rest in
+    record {
+      is = taken ∙ ap (λ es. last (λ e. Some e.1) (without number es)) c.self.view_is;
+      small =
+          subst (λ o. IfSome o (IsWithin (2 ^ 80))) (sym taken)
+          (last_small (without number inside) (remove_small (is_at (nat_cmp number)) inside c.self.invariant));
+    }
