@@ -14,8 +14,8 @@ use Rattle.line_feed_main.specs.Feeding.{Fed, IsText, IsReceiverLine, AreFed, no
 -- ---- one line
 
 -- a line that is taken
-pub feeds_taken : (old new : Fed) (number : ℕ) (line text : List ℕ) (heard : Heard) → heard_of old.printing line ≡ Ok heard → IsReceiverLine heard text
-    → new ≡ fed_after old (Ok heard) → FeedsLine old number line text [] new
+pub feeds_taken : (old new : Fed) (number : ℕ) (line text : List ℕ) (heard : Heard) → heard_of old.printing line ≡ Ok heard
+    → IsReceiverLine heard text → new ≡ fed_after old (Ok heard) → FeedsLine old number line text [] new
 feeds_taken old new number line text heard is text_is new_is = record {
   text_is = subst (λ said. IsText said text) (sym is) text_is;
   note_is = ap (note_of number) (sym is);
@@ -49,8 +49,8 @@ pub record AreFedSo (number : ℕ) (first last : Fed) (lines : List (List ℕ)) 
   pub note_is : note ≡ noted first.printing number lines
   pub last_is : last ≡ fed_behind first lines
 
-pub are_fed : (number : ℕ) (first last : Fed) (lines : List (List ℕ)) (text note : List ℕ) → AreTold FeedsLine number first lines text note last
-    → AreFedSo number first last lines text note
+pub are_fed : (number : ℕ) (first last : Fed) (lines : List (List ℕ)) (text note : List ℕ)
+    → AreTold FeedsLine number first lines text note last → AreFedSo number first last lines text note
 are_fed number first last [] text note told = record { fed = told.0; note_is = told.1; last_is = told.2 }
 are_fed number first last (line ∷ lines) text note told =
     let later = are_fed (number + 1) told.next last lines told.later_text told.later_note told.later in

@@ -47,7 +47,8 @@ by_count false = refl
 over_clash : {A : Type 0} (b : Bool) → b ≡ true → b ≡ false → A
 over_clash b on off = let no_way : true ≡ false = sym on ∙ off in absurd cc
 
-complete_by : (run : Run) (end : LinesEnd) (left_out : ℕ) → IsFed run end → (end ≡ ends.Read → ReadFailed run.input) → (end ≡ ends.Write → WriteFailed run.out)
+complete_by : (run : Run) (end : LinesEnd) (left_out : ℕ) → IsFed run end
+    → (end ≡ ends.Read → ReadFailed run.input) → (end ≡ ends.Write → WriteFailed run.out)
     → LosesNothing run.input → IsUnhindered run → IsTrue (feeds_all (status_of end left_out)) ⊎ (status_of end left_out ≡ statuses.Memory)
 complete_by run ends.Done left_out fed read write kept u = inl (by_count (left_out == 0))
 complete_by run ends.Read left_out fed read write kept u = absurd (u.read (read refl))
@@ -57,7 +58,8 @@ complete_by run ends.Write left_out fed read write kept u = absurd (u.written (w
 complete_by run ends.Memory left_out fed read write kept u = inr refl
 
 pub ran : (run : Run) (end : LinesEnd) (left_out : ℕ) → run.status ≡ status_of end left_out → (IsTrue run.input_tells → IsFed run end)
-    → (end ≡ ends.Read → ReadFailed run.input) → (end ≡ ends.Write → WriteFailed run.out) → (IsTrue run.input_tells → LosesNothing run.input) → IsRun run
+    → (end ≡ ends.Read → ReadFailed run.input) → (end ≡ ends.Write → WriteFailed run.out)
+    → (IsTrue run.input_tells → LosesNothing run.input) → IsRun run
 ran run end left_out is fed read write kept = record {
   end = end;
   left_out = left_out;
@@ -66,6 +68,7 @@ ran run end left_out is fed read write kept = record {
   read = read;
   write = write;
   complete = λ tells u.
-      subst (λ s. IsTrue (feeds_all s) ⊎ (s ≡ statuses.Memory)) (sym is) (complete_by run end left_out (fed tells) read write (kept tells) u);
+      subst (λ s. IsTrue (feeds_all s) ⊎ (s ≡ statuses.Memory)) (sym is)
+      (complete_by run end left_out (fed tells) read write (kept tells) u);
   no_loss = kept;
 }

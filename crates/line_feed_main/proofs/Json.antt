@@ -9,9 +9,11 @@ use Rattle.line_feed_main.specs.declared.reasons.NotTaken.TheVariants as reasons
 use Rattle.line_feed_main.specs.Heard.{Means}
 use Rattle.line_feed_main.specs.Rtl433.{read_heard, rtl_433_heard}
 
-pub of_text : (line text : List ℕ) (result : Result Heard Unheard) → text ≡ line → IsUtf8 line → Means result (read_heard (read text)) → Means result (rtl_433_heard line)
+pub of_text : (line text : List ℕ) (result : Result Heard Unheard) → text ≡ line → IsUtf8 line
+    → Means result (read_heard (read text)) → Means result (rtl_433_heard line)
 of_text line text result same is means =
-    subst (Means result) (ap (λ t. read_heard (read t)) same ∙ sym (ap (λ b. cond b (read_heard (read line)) (Err reasons.Json)) (is_utf8-from_IsUtf8 line is))) means
+    let passed = ap (λ b. cond b (read_heard (read line)) (Err reasons.Json)) (is_utf8-from_IsUtf8 line is) in
+    subst (Means result) (ap (λ t. read_heard (read t)) same ∙ sym passed) means
 
 pub of_no_text : (line : List ℕ) → ¬ IsUtf8 line → rtl_433_heard line ≡ Err reasons.Json
 of_no_text line none = by_test (is_utf8 line) refl

@@ -1,5 +1,6 @@
 -- What is heard is a telegram, and its line is read back.
-use Rattle.std.proofs.Common.{◌≡◌, ◌==◌, ◌-◌, ℕ, Bool, true, false, cond, List, [], ◌∷◌, length, drop, slice_index, ◌+◌, ◌≤◌, ◌<◌, arith, Option, Some, None, Result, Ok, Err, refl, sym, ap, ◌∙◌, subst}
+use Rattle.std.proofs.Common.{◌≡◌, ◌==◌, ◌-◌, ℕ, Bool, true, false, cond, List, [], ◌∷◌, length, drop, slice_index}
+use Rattle.std.proofs.Common.{◌+◌, ◌≤◌, ◌<◌, arith, Option, Some, None, Result, Ok, Err, refl, sym, ap, ◌∙◌, subst}
 use Rattle.std.specs.Prelude.{nat_lt, codes}
 use Rattle.std.specs.Option.{ok_or}
 use Rattle.std.specs.Result.{result_ok}
@@ -34,7 +35,8 @@ use Rattle.line_feed_main.specs.Heard.{heard_some_time, heard_at}
 use Rattle.line_feed_main.specs.Cul.{without_quality, is_length, or_shorter, decoded_heard, heard_framed, framed, behind_letter, cul_heard}
 use Rattle.line_feed_main.specs.Columns.{columns_of}
 use Rattle.line_feed_main.specs.RtlWmbus.{known_mode, checked, prefixed, columns_heard}
-use Rattle.line_feed_main.specs.Rtl433.{restored, last_crc, with_last_crc, telegram_in_data, data_telegram, passes, has_text, time_in, data_in, json_heard, read_heard}
+use Rattle.line_feed_main.specs.Rtl433.{restored, last_crc, with_last_crc, telegram_in_data, data_telegram}
+use Rattle.line_feed_main.specs.Rtl433.{passes, has_text, time_in, data_in, json_heard, read_heard}
 use Rattle.line_feed_main.specs.Moments.{moment_in}
 use Rattle.line_feed_main.specs.Hex.{unmarked}
 use Rattle.line_feed_main.specs.Lines.{heard_in}
@@ -66,7 +68,8 @@ taken x z r one other = cc
 
 -- ---- digits
 
-bytes_found : (digits : List ℕ) (r : Result (List ℕ) FromHexError) (bytes : List ℕ) → decode_of digits ≡ r → ok_or (result_ok r) reasons.Hex ≡ Ok bytes → IsBytes bytes
+bytes_found : (digits : List ℕ) (r : Result (List ℕ) FromHexError) (bytes : List ℕ) → decode_of digits ≡ r
+    → ok_or (result_ok r) reasons.Hex ≡ Ok bytes → IsBytes bytes
 bytes_found digits (Ok found) bytes is ok =
     subst IsBytes (taken found bytes (ok_or (Some found) reasons.Hex) refl ok) (each_byte found ((decode_of-ok digits found is).3))
 bytes_found digits (Err e) bytes is ok = refused (IsBytes bytes) reasons.Hex bytes ok
@@ -81,7 +84,8 @@ telegram_is bytes t all is = by_test (is_telegram bytes) refl is
   where
     by_test : (b : Bool) → is_telegram bytes ≡ b → cond b (Ok bytes) (Err reasons.Length) ≡ Ok t → IsWhole t
     by_test true found ok =
-        subst IsWhole (taken bytes t (cond true (Ok bytes) (Err reasons.Length)) refl ok) (record { telegram = is_found bytes found; bytes = all })
+        subst IsWhole (taken bytes t (cond true (Ok bytes) (Err reasons.Length)) refl ok)
+        (record { telegram = is_found bytes found; bytes = all })
     by_test false found ok = refused (IsWhole t) reasons.Length t ok
 
 telegram_read : (digits t : List ℕ) → telegram_in digits ≡ Ok t → IsWhole t
@@ -101,10 +105,12 @@ last_read reader whole f keeps digits heard is =
     subst IsWhole (sym (keeps t.0) ∙ ap (λ (h : Heard). h.telegram) (taken (f t.0) heard (Ok (f t.0)) refl t.2)) (whole digits t.0 t.1)
 
 -- where all that is read in front of it was read
-steps_read : {M : Type 0} (reader : List ℕ → Result (List ℕ) NotTaken) → ReadsWhole reader → (f : M → List ℕ → Heard) → ((m : M) (t : List ℕ) → (f m t).telegram ≡ t)
+steps_read : {M : Type 0} (reader : List ℕ → Result (List ℕ) NotTaken) → ReadsWhole reader → (f : M → List ℕ → Heard)
+    → ((m : M) (t : List ℕ) → (f m t).telegram ≡ t)
     → (known passed : Result (Unit {0}) NotTaken) (moment : Result M NotTaken) (digits : Result (List ℕ) NotTaken) (heard : Heard)
     → (known >>= λ k. passed >>= λ p. moment >>= λ m. digits >>= λ d. reader d >>= λ t. Ok (f m t)) ≡ Ok heard → IsWhole heard.telegram
-steps_read reader whole f keeps (Ok known) (Ok passed) (Ok moment) (Ok digits) heard is = last_read reader whole (f moment) (keeps moment) digits heard is
+steps_read reader whole f keeps (Ok known) (Ok passed) (Ok moment) (Ok digits) heard is =
+    last_read reader whole (f moment) (keeps moment) digits heard is
 steps_read reader whole f keeps (Ok known) (Ok passed) (Ok moment) (Err e) heard is = refused (IsWhole heard.telegram) e heard is
 steps_read reader whole f keeps (Ok known) (Ok passed) (Err e) digits heard is = refused (IsWhole heard.telegram) e heard is
 steps_read reader whole f keeps (Ok known) (Err e) moment digits heard is = refused (IsWhole heard.telegram) e heard is
@@ -128,8 +134,8 @@ shorter_whole format bytes t all (Err fault) is ok =
     by_cond (IsWhole t) (is_length fault) (decoded format (without_quality bytes)) (Err fault) t
     (frame_whole format (without_quality bytes) t (bytes-take (length bytes - 2) bytes all)) (refused (IsWhole t) fault t) ok
 
-framed_whole : (format : Format) (bytes : List ℕ) (heard : Heard) → IsBytes bytes → (r : Result (List ℕ) FrameFault) → decoded_heard format bytes ≡ r → heard_framed r ≡ Ok heard
-    → IsWhole heard.telegram
+framed_whole : (format : Format) (bytes : List ℕ) (heard : Heard) → IsBytes bytes → (r : Result (List ℕ) FrameFault)
+    → decoded_heard format bytes ≡ r → heard_framed r ≡ Ok heard → IsWhole heard.telegram
 framed_whole format bytes heard all (Ok t) is ok =
     subst IsWhole (ap (λ (h : Heard). h.telegram) (taken (heard_some_time t) heard (heard_framed (Ok t)) refl ok))
     (shorter_whole format bytes t all (decoded format bytes) refl is)
@@ -185,7 +191,10 @@ restored_is bytes t all is = by_test (is_telegram (restored bytes)) refl is
         let telegram = is_found (restored bytes) found in
         subst IsWhole (taken (restored bytes) t (cond true (Ok (restored bytes)) (Err reasons.Length)) refl ok) (record {
           telegram = telegram;
-          bytes = (few (slice_index bytes 0) (length (restored bytes)) telegram.counted telegram.most, bytes-take (length bytes - 3) (drop 1 bytes) (bytes-drop 1 bytes all));
+          bytes = (
+            few (slice_index bytes 0) (length (restored bytes)) telegram.counted telegram.most,
+            bytes-take (length bytes - 3) (drop 1 bytes) (bytes-drop 1 bytes all),
+          );
         })
     by_test false found ok = refused (IsWhole t) reasons.Length t ok
 
@@ -195,11 +204,14 @@ data_is bytes t all is = by_test (is_telegram bytes) refl is
     checked_is : (found : List ℕ) → telegram_of (restored bytes) ≡ Ok found → with_last_crc bytes found ≡ Ok t → IsWhole t
     checked_is found known ok =
         by_cond (IsWhole t) (is_word (drop (length bytes - 2) bytes) (last_crc found)) (Ok found) (Err reasons.Length) t
-        (λ same. subst IsWhole (taken found t (Ok found) refl same) (restored_is bytes found all known)) (refused (IsWhole t) reasons.Length t) ok
+        (λ same. subst IsWhole (taken found t (Ok found) refl same) (restored_is bytes found all known))
+        (refused (IsWhole t) reasons.Length t) ok
 
-    by_test : (b : Bool) → is_telegram bytes ≡ b → cond b (Ok bytes) (telegram_of (restored bytes) >>= with_last_crc bytes) ≡ Ok t → IsWhole t
+    by_test : (b : Bool) → is_telegram bytes ≡ b
+        → cond b (Ok bytes) (telegram_of (restored bytes) >>= with_last_crc bytes) ≡ Ok t → IsWhole t
     by_test true found ok =
-        subst IsWhole (taken bytes t (cond true (Ok bytes) (telegram_of (restored bytes) >>= with_last_crc bytes)) refl ok) (record { telegram = is_found bytes found; bytes = all })
+        subst IsWhole (taken bytes t (cond true (Ok bytes) (telegram_of (restored bytes) >>= with_last_crc bytes)) refl ok)
+        (record { telegram = is_found bytes found; bytes = all })
     by_test false found ok =
         let known = bind_ok (telegram_of (restored bytes)) (with_last_crc bytes) t ok in
         checked_is known.0 known.1 known.2
@@ -212,7 +224,8 @@ data_read digits t is =
 json_read : (d : Data) (heard : Heard) → json_heard d ≡ Ok heard → IsWhole heard.telegram
 unfolding json_heard
 json_read d heard is =
-    steps_read data_telegram data_read (λ m t. record { telegram = t; moment = m }) (λ m t. refl) (passes (has_text (codes "model") (codes "Wireless-MBus") d) reasons.Model)
+    steps_read data_telegram data_read (λ m t. record { telegram = t; moment = m }) (λ m t. refl)
+    (passes (has_text (codes "model") (codes "Wireless-MBus") d) reasons.Model)
     (passes (has_text (codes "mic") (codes "CRC") d) reasons.Unchecked) (time_in d) (data_in d) heard is
 
 text_read : (found : Option Data) (heard : Heard) → read_heard found ≡ Ok heard → IsWhole heard.telegram

@@ -20,7 +20,7 @@ reason_words reasons.TooLong = codes "it has more than 4,096 bytes, which no tel
 reason_words reasons.Letter = codes "it doesn't begin with `b`, as a telegram of culfw does"
 reason_words reasons.Columns = codes "it hasn't eight columns with a semicolon between two of them"
 reason_words reasons.Mode = codes "its mode is none of T1, C1 and S1"
-reason_words reasons.Json = codes "it isn't JSON"
+reason_words reasons.Json = codes "it is no JSON text"
 reason_words reasons.Model = codes "its model isn't Wireless-MBus"
 reason_words reasons.Unchecked = codes "the receiver doesn't say that the CRCs were right"
 reason_words reasons.Time = codes "its time isn't a date and a time from 1970 on, as 2026-11-28 03:18:19"
@@ -36,4 +36,5 @@ note_text number reason = codes "line_feed: line " ++ decimal number ++ codes ":
 
 -- what is noted behind all lines
 unfoldable pub ending_text : ℕ → ℕ → List ℕ
-ending_text taken left_out = codes "line_feed: telegrams taken: " ++ decimal taken ++ codes ", lines not taken: " ++ decimal left_out ++ codes "\n"
+ending_text taken left_out =
+    codes "line_feed: telegrams taken: " ++ decimal taken ++ codes ", lines not taken: " ++ decimal left_out ++ codes "\n"

@@ -1,5 +1,6 @@
 -- Lines of rtl_433: JSON (RFC 8259).
-use Rattle.std.specs.Prelude.{ℕ, ◌+◌, ◌-◌, Bool, false, List, ◌∷◌, length, take, drop, slice_index, codes, Option, Some, None, option_and_then, Result, Ok, Err, if◌then◌else◌}
+use Rattle.std.specs.Prelude.{ℕ, ◌+◌, ◌-◌, Bool, false, List, ◌∷◌, length, take, drop, slice_index}
+use Rattle.std.specs.Prelude.{codes, Option, Some, None, option_and_then, Result, Ok, Err, if◌then◌else◌}
 use Rattle.std.specs.Option.{ok_or}
 use Rattle.std.specs.Str.{is_utf8}
 use Rattle.steps.specs.Steps.{◌>>=◌}

@@ -1,4 +1,4 @@
-//! What radio receivers print, line by line, as lines of a receiver: a frame of format A for each telegram, with the moment at which it was heard.
+//! What radio receivers print as lines of a receiver: for each telegram its frame of format A, and the moment at which it was heard.
 #![tactic(auto)]
 
 mod clock;

@@ -3,7 +3,8 @@ ghost use Rattle.std.specs.Prelude.{◌≡◌, ◌+◌, ◌<◌, ◌≤◌, pos,
 ghost use Rattle.std.specs.Char.{is_ascii_digit};
 ghost use Rattle.std.specs.List.{list_all};
 ghost use Rattle.jiff_core.specs.Calendar.{IsCivilDate};
-ghost use Rattle.line_feed_main.specs.Moments.{two_at, has_marks, is_fraction, is_day, is_time, civil_in, seconds_of, not_before, moment_of, moment_in};
+ghost use Rattle.line_feed_main.specs.Moments.{two_at, has_marks, is_fraction, is_day, is_time};
+ghost use Rattle.line_feed_main.specs.Moments.{civil_in, seconds_of, not_before, moment_of, moment_in};
 
 use crate::reasons::NotTaken;
 use jiff_core::civil::{Date, DateTime, Time, days_in_month};

@@ -30,7 +30,7 @@ fn reason_words(reason: NotTaken) -> &'static str
         NotTaken::Letter => "it doesn't begin with `b`, as a telegram of culfw does",
         NotTaken::Columns => "it hasn't eight columns with a semicolon between two of them",
         NotTaken::Mode => "its mode is none of T1, C1 and S1",
-        NotTaken::Json => "it isn't JSON",
+        NotTaken::Json => "it is no JSON text",
         NotTaken::Model => "its model isn't Wireless-MBus",
         NotTaken::Unchecked => "the receiver doesn't say that the CRCs were right",
         NotTaken::Time => "its time isn't a date and a time from 1970 on, as 2026-11-28 03:18:19",

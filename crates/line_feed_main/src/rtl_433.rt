@@ -5,7 +5,8 @@ ghost use Rattle.serde_json.specs.Read.{read};
 ghost use Rattle.serde_json.specs.View.{view};
 ghost use Rattle.line_feed_main.specs.Digits.{telegram_of};
 ghost use Rattle.line_feed_main.specs.Heard.{Means};
-ghost use Rattle.line_feed_main.specs.Rtl433.{member_text, has_text, time_in, restored, last_crc, telegram_in_data, data_telegram, json_heard, read_heard, rtl_433_heard};
+ghost use Rattle.line_feed_main.specs.Rtl433.{member_text, has_text, time_in, restored, last_crc};
+ghost use Rattle.line_feed_main.specs.Rtl433.{telegram_in_data, data_telegram, json_heard, read_heard, rtl_433_heard};
 
 use crate::digits::{read_bytes, telegram_of};
 use crate::heard::{Heard, Unheard, said};

@@ -1,5 +1,5 @@
-//! The gas meter's telegram as four receivers print it, and a feed whose second line can't be written. The lines and the frame were made by hand and
-//! by other programs.
+//! The gas meter's telegram as four receivers print it, and a feed whose second line can't be written.
+//! The lines and the frame were made by other programs.
 ghost use Rattle.std.specs.Prelude.{◌≡◌, [], false};
 
 use crate::{Clock, FeedStatus, LINE_MAX, Printing, feed_lines};
@@ -10,11 +10,12 @@ use std::test::Fail;
 const CUL: &str =
     "b2E44931578563412330333637A2A0020055923C95AAA26D1B2E7493B2A8B013EC4A6F6D3529B520EDFF0EA6DEFC955B29D6D69EBF3EC8A80F4\n";
 
-const RTL_WMBUS: &str =
-    "T1;1;1;2026-11-01 06:01:40.000;97;148;12345678;0x2e4493157856341233037a2a0020055923c95aaa26d1b2e7493b013ec4a6f6d3529b520edff0ea6defc99d6d69ebf3\n";
+const RTL_WMBUS: &str = "T1;1;1;2026-11-01 06:01:40.000;97;148;12345678;\
+     0x2e4493157856341233037a2a0020055923c95aaa26d1b2e7493b013ec4a6f6d3529b520edff0ea6defc99d6d69ebf3\n";
 
 const RTL_433: &str =
-    "{\"time\" : \"2026-11-01 06:01:40\", \"model\" : \"Wireless-MBus\", \"data\" : \"2c4493157856341233037a2a0020055923c95aaa26d1b2e7493b013ec4a6f6d3529b520edff0ea6defc99d6d69ebf3ec8a\", \"mic\" : \"CRC\"}\n";
+    "{\"time\" : \"2026-11-01 06:01:40\", \"model\" : \"Wireless-MBus\", \"mic\" : \"CRC\", \
+     \"data\" : \"2c4493157856341233037a2a0020055923c95aaa26d1b2e7493b013ec4a6f6d3529b520edff0ea6defc99d6d69ebf3ec8a\"}\n";
 
 const HEX: &str =
     "|2e4493157856341233037a|2a0020055923c95aaa26d1b2e7493b013ec4a6f6d3529b520edff0ea6defc99d6d69ebf3|\n";

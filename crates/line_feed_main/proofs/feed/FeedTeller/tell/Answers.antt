@@ -18,5 +18,6 @@ pub returns-in-Err-Refused : goal.returns-in-Err-Refused
 returns-in-Err-Refused g c =
     told_by _ _ _ _ _ _ _ _ none c.leave_out.ensures.note
     (feeds_left_out c.args.self.now _ c.args.number c.args.line.now _
-    (subst (λ unheard. Means (Err unheard) (heard_of c.args.self.now.printing c.args.line.now)) c.in-Err-Refused.field-0-is c.in-Err-Refused.ensures)
+    (subst (λ unheard. Means (Err unheard) (heard_of c.args.self.now.printing c.args.line.now)) c.in-Err-Refused.field-0-is
+    c.in-Err-Refused.ensures)
     c.leave_out.ensures.fed)

@@ -6,4 +6,5 @@ use Rattle.line_feed_main.proofs.feed.FeedTeller.tell_long.Goals as goal
 
 pub returns : goal.returns
 returns g c = λ line long.
-    told_by _ _ _ _ _ _ _ _ none c.leave_out.ensures.note (feeds_left_out c.args.self.now _ c.args.number line _ (long_heard _ line long) c.leave_out.ensures.fed)
+    told_by _ _ _ _ _ _ _ _ none c.leave_out.ensures.note
+    (feeds_left_out c.args.self.now _ c.args.number line _ (long_heard _ line long) c.leave_out.ensures.fed)
