@@ -1,7 +1,7 @@
 //! The program `usage_totals`: opens the file of edits that its word names, and answers its lines.
 #![tactic(auto)]
 
-ghost use Rattle.std.specs.Prelude.{◌≡◌, ◌≢◌, [], true, false, length, map, IsTrue};
+ghost use Rattle.std.specs.Prelude.{◌≡◌, ◌≢◌, [], true, false, length, map, IfErr, IsTrue};
 ghost use Rattle.std.specs.String.{string_bytes};
 ghost use Rattle.std.specs.Process.{exit_status};
 ghost use Rattle.outer_io.specs.Shown.{source_change, sink_change};
@@ -81,6 +81,16 @@ fn answer<R: Eprint + AllocGlobal, S: Source, K: Sink>(
     end(rt, status)
 }
 
+// Opens the file of edits, or ends with status 11.
+fn open_edits<R: Eprint + Files<File = File>>(rt: &R, name: &str) -> Result<File, ExitCode>
+    ensures { IfErr result (λ ended. exit_status ended ≡ 11) }
+{
+    match File::open(rt, name) {
+        Ok(file) => Ok(file),
+        Err(_unopened) => Err(program_words::end(rt, 11, said(11))),
+    }
+}
+
 // Does what the words behind the program's name ask for.
 fn perform<R: Print + Eprint + Files<File = File> + AllocGlobal>(
     rt: &R,
@@ -97,8 +107,9 @@ fn perform<R: Print + Eprint + Files<File = File> + AllocGlobal>(
     let [edits] = command else {
         return end(rt, TotalsStatus::Words);
     };
-    let Ok(file) = File::open(rt, edits.as_str()) else {
-        return program_words::end(rt, 11, said(11));
+    let file = match open_edits(rt, edits.as_str()) {
+        Ok(file) => file,
+        Err(ended) => return ended,
     };
     let mut lines = TextReader::new(StdSource::file(file), LINE_MAX);
     answer(rt, command, &mut lines, &mut out)
