@@ -2,7 +2,6 @@
 use Rattle.std.proofs.Common.{get_or, IfOk, suc, ◌≡◌, ◌≢◌, ◌⊎◌, ◌++◌, ◌+◌, ◌<◌, ◌^◌, ℕ, List, [], ◌∷◌, Bool, true, false, Option, Some, None, Result, Ok, Err, inl, inr, ⊎_elim, refl, sym, ap, subst, ◌∙◌, IsTrue, map, length, take, arith}
 use Rattle.std.specs.List.{enumerate_from}
 use Rattle.std.specs.List.{All}
-use Rattle.std.specs.String.{string_bytes}
 use Rattle.std.proofs.lemmas.List.{length-map, map-append, take_more}
 use Rattle.std.proofs.lemmas.List.Elements.{All-nil, All-cons}
 use Rattle.outer_io.specs.Each.{Each, EachWith, PassUntil}
@@ -535,10 +534,9 @@ module _ {S K : Type 0} (s : sources.Ghosts S) (k : sinks.Ghosts K) where
       → HaveHeard s k e olds news h → IfOk result (λ r. r.collected.slots.items ≡ h.collected.slots.items)
       → IfOk result (λ r. r.collected.strangers ≡ h.collected.strangers) → IfOk result (λ r. r.ends.items ≡ h.ends.items)
       → IfOk result (λ r. r.next ≡ next_roster own h.collected.slots.items)
-      → IfOk result (λ r. string_bytes r.readings ≡ readings_text h.collected.slots.items)
       → IfOk result (IsReady s k e olds news)
-  ready_is e own olds news h (Err _) same have a b c d f = tt
-  ready_is e own olds news h (Ok r) same have a b c d f =
+  ready_is e own olds news h (Err _) same have a b c d = tt
+  ready_is e own olds news h (Ok r) same have a b c d =
       let W : List SlotView → List Stranger → WorldView = λ x y. record { slots = x; strangers = y } in
       let P : WorldView → Type 0 = λ w. IsCollected e.own e.meters (receiver_runs s k olds news) w in
       record {
@@ -550,13 +548,13 @@ module _ {S K : Type 0} (s : sources.Ghosts S) (k : sinks.Ghosts K) where
           receiver_ends = subst (λ l. EachWith IsEndOf news l) (sym c) have.receiver_ends;
         };
         next = d ∙ (ap (λ x. next_roster x h.collected.slots.items) same ∙ ap (next_roster e.own) (sym a));
-        readings = f ∙ ap readings_text (sym a);
       }
 
   module _ (roster : Change SourceShown) (next readings report : Change SinkShown) (e : Enrolled) (olds news : List (Receiving S K))
       (ready : Ready)
       (is : IsReady s k e olds news ready) (few : length olds < 2 ^ 32) (a b c : Result Unit Failed)
-      (wrote_next : Wrote k.tells (roster_text ready.next) next a) (wrote_readings : Wrote k.tells (string_bytes ready.readings) readings b)
+      (wrote_next : Wrote k.tells (roster_text ready.next) next a)
+      (wrote_readings : Wrote k.tells (readings_text ready.collected.slots.items) readings b)
       (wrote_report : Wrote k.tells (report_text ready.ends.items ready.collected.slots.items ready.collected.strangers) report c)
       (stop : Option Status) (stop_is : stop ≡ stop_from 1 ready.ends.items) (result : Status)
       (result_is : result ≡ status_after stop (unwritten a b c)) where
@@ -576,7 +574,7 @@ module _ {S K : Type 0} (s : sources.Ghosts S) (k : sinks.Ghosts K) where
         (report_text ready.ends.items ready.collected.slots.items ready.collected.strangers) a b c
     writes = record {
       wrote_next = wrote_same k.tells _ _ next a (ap roster_text is.next) wrote_next;
-      wrote_readings = wrote_same k.tells _ _ readings b is.readings wrote_readings;
+      wrote_readings = wrote_readings;
       wrote_report = wrote_report;
     }
 

@@ -1,6 +1,5 @@
 -- Words of private contracts: what a session of several receivers came to, before it is written.
 use Rattle.std.specs.Prelude.{ℕ, ◌≡◌, ◌≢◌, ◌<◌, ◌^◌, List, [], Some, None, IsTrue, length}
-use Rattle.std.specs.String.{string_bytes}
 use Rattle.outer_io.specs.Each.{Each, EachWith}
 use Rattle.outer_io.specs.declared.sources.Source as sources
 use Rattle.outer_io.specs.declared.sinks.Sink as sinks
@@ -11,7 +10,6 @@ use Rattle.receivers.specs.Collected.{IsCollected}
 use Rattle.receivers.specs.Receiver.{Receiving}
 use Rattle.receivers.specs.Run.{receiver_runs}
 use Rattle.report_text.specs.declared.lent.ReceiverEnd.{ReceiverEnd}
-use Rattle.report_text.specs.Readings.{readings_text}
 use Rattle.report_text.specs.Report.{report_text}
 use Rattle.roster_file.specs.Roster.{Enrolled}
 use Rattle.collector_main.specs.Heard.{Heard, next_roster, report_of}
@@ -40,7 +38,6 @@ pub record IsReady {S K : Type 0} (s : sources.Ghosts S) (k : sinks.Ghosts K) (e
     (ready : Ready) : Type 0 where
   pub heard : HaveHeard s k e olds news (record { collected = ready.collected; ends = ready.ends })
   pub next : ready.next ≡ next_roster e.own ready.collected.slots.items
-  pub readings : string_bytes ready.readings ≡ readings_text ready.collected.slots.items
 
 -- a fresh receiver that hears a text
 pub record HearsText {K : Type 0} (r : Receiving Text K) (text : List ℕ) : Type 0 where

@@ -1,6 +1,5 @@
 //! A session of several receivers, which hear at once.
 ghost use Rattle.std.specs.Prelude.{◌≡◌, ◌≢◌, ◌<◌, ◌^◌, [], IsTrue, IfOk, IfSome, true, map, vec_len};
-ghost use Rattle.std.specs.String.{string_bytes};
 ghost use Rattle.outer_io.specs.Each.{Each};
 ghost use Rattle.outer_io.specs.Shown.{source_change, sink_change};
 ghost use Rattle.receivers.specs.Run.{receiver_runs};
@@ -21,7 +20,7 @@ use crate::stops::{Writes, first_stop, status_after};
 use crate::together::{HeardTogether, hear_together};
 use meter_address::{Address, Commission};
 use meter_slots::SlotBook;
-use outer_io::{Failed, Memory, Sink, Source, write_all};
+use outer_io::{Failed, Memory, Sink, Source};
 use receivers::{Collected, Receiver};
 use report_text::{MeterPart, ReceiverEnd, Session, readings_json, report, report_of_parts};
 use roster_file::Roster;
@@ -60,7 +59,6 @@ struct Ready {
     collected: Collected,
     ends: Vec<ReceiverEnd>,
     next: Roster,
-    readings: String,
 }
 
 // Makes ready what is written of a session.
@@ -74,20 +72,12 @@ fn make_ready(
     ensures strangers { IfOk result (λ ready. ready.collected.strangers ≡ collected.strangers) }
     ensures ends { IfOk result (λ ready. ready.ends.items ≡ ends.items) }
     ensures next { IfOk result (λ ready. ready.next ≡ next_roster own collected.slots.items) }
-    ensures readings { IfOk result (λ ready. string_bytes ready.readings ≡ readings_text collected.slots.items) }
 {
     let next = next_roster(alloc, own, collected.slots.as_slice())?;
-    let session = Session {
-        ends: ends.as_slice(),
-        slots: collected.slots.as_slice(),
-        strangers: &collected.strangers,
-    };
-    let readings = readings_json(alloc, &session)?;
     Ok(Ready {
         collected,
         ends,
         next,
-        readings,
     })
 }
 
@@ -137,7 +127,8 @@ fn write_outputs<R: Threads + Sync, K: Sink>(
     requires empty { IsTrue K.tells →
         (K.written next.old ≡ []) × (K.written readings.old ≡ []) × (K.written report_sink.old ≡ []) }
     ensures next { Wrote K.tells (roster_text ready.now.next) (sink_change K.Sink next.old next.new) result.next }
-    ensures readings { Wrote K.tells (string_bytes ready.now.readings) (sink_change K.Sink readings.old readings.new) result.readings }
+    ensures readings { Wrote K.tells (readings_text ready.now.collected.slots.items)
+        (sink_change K.Sink readings.old readings.new) result.readings }
     ensures report { Wrote K.tells
         (report_text ready.now.ends.items ready.now.collected.slots.items ready.now.collected.strangers)
         (sink_change K.Sink report_sink.old report_sink.new) result.report }
@@ -150,7 +141,7 @@ fn write_outputs<R: Threads + Sync, K: Sink>(
     let parts = parts_made(rt, alloc, session.ends.len(), session.slots);
     Writes {
         next: paper::write(next, &ready.next),
-        readings: write_all(readings, ready.readings.as_bytes()),
+        readings: readings_json(&session, readings),
         report: write_report(&session, &parts, report_sink),
     }
 }

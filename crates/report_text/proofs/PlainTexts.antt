@@ -4,13 +4,10 @@ use Rattle.std.proofs.Common.{List, [], ◌∷◌, ◌++◌, get_or, ap, ap₂, 
 use Rattle.std.specs.Prelude.{nat_le, codes}
 use Rattle.std.specs.Fmt.{decimal, signed_decimal, digits, digits_onto, digit_glyph}
 use Rattle.std.specs.List.{list_all}
-use Rattle.std.specs.Str.{IsAscii, IsUtf8}
 use Rattle.std.proofs.lemmas.Bool.{and_parts, and_from, cond_both, not-true, leb-true, ltb-true, ltb-false, eqb-false, le-leb, lt-ltb}
 use Rattle.std.proofs.lemmas.Bool.{ne_eqb}
 use Rattle.std.proofs.lemmas.List.Folds.{list_all-append}
 use Rattle.std.proofs.lemmas.List.Sums.{AllPass-from_list_all}
-use Rattle.std.proofs.lemmas.Str.{IsUtf8-from_ascii}
-use Rattle.std.proofs.lemmas.Str.Ascii.{IsAscii-from_all}
 use Rattle.hex.specs.Hex.{encode_with, encode_lower, lower_digits}
 use Rattle.json.specs.Print.{escape}
 use Rattle.json.proofs.Printed.Strings.{escape_byte_plain}
@@ -80,12 +77,6 @@ unescaped (b ∷ text) h =
 -- JSON has a plain text as it is
 pub as_it_is : {text : List ℕ} → IsPlain text → escape text ≡ text
 as_it_is {text} h = unescaped text h.passed
-
-pub plain_is_ascii : (text : List ℕ) → list_all is_plain text ≡ true → IsAscii text
-plain_is_ascii text h = IsAscii-from_all text (λ i d within. (passed_byte _ (AllPass-from_list_all is_plain text h i d within)).below)
-
-pub plain_is_text : {text : List ℕ} → IsPlain text → IsUtf8 text
-plain_is_text {text} h = IsUtf8-from_ascii text (plain_is_ascii text h.passed)
 
 line_differs : (text : List ℕ) → list_all is_plain text ≡ true → list_all (differs 10) text ≡ true
 line_differs [] h = refl

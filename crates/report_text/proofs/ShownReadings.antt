@@ -2,21 +2,15 @@
 use Rattle.std.proofs.Common.{◌≡◌, ℕ, zero, suc, ◌+◌, ◌-◌, ◌%◌, ◌^◌, ◌<◌, ◌≤◌, ◌==◌, true, ◌&&◌, List, [], ◌∷◌, length, map, ℤ, pos}
 use Rattle.std.proofs.Common.{negsuc, neg_ℤ, ◌≤ℤ◌}
 use Rattle.std.proofs.Common.{Option, Some, None, Result, Ok, Err, inl, inr, sym, ap, subst, refl, arith}
-use Rattle.std.specs.Prelude.{codes, nat_le, int_le, slice_index, IfSome}
+use Rattle.std.specs.Prelude.{nat_le, int_le, slice_index, IfSome}
 use Rattle.std.specs.List.{AllByRecursion, list_all}
-use Rattle.std.specs.Str.{IsUtf8}
 use Rattle.std.proofs.lemmas.Bool.{and_parts, cond_both, leb-true}
 use Rattle.std.proofs.lemmas.Int.{ints}
-use Rattle.std.proofs.lemmas.Str.{IsUtf8-append, IsUtf8-from_ascii}
-use Rattle.hex.specs.Hex.{encode_lower, lower_digits}
-use Rattle.hex.proofs.HexLemmas.{IsAscii-encode_with}
 use Rattle.serde_json.specs.Data.{number, string, object, unsigned}
 use Rattle.meter_address.specs.declared.address.Address.{Address}
 use Rattle.meter_address.specs.declared.commission.Mode.{Mode}
 use Rattle.meter_address.specs.declared.commission.Mode.TheVariants.{Five, Seven}
-use Rattle.meter_address.specs.Address.{bytes_of}
 use Rattle.dif_vif.specs.declared.fault.RecordFault.{RecordFault}
-use Rattle.dif_vif.specs.declared.fault.RecordFault.TheVariants.{Truncated, TooManyExtensions, Lvar, Selection, Special}
 use Rattle.dif_vif.specs.declared.span.RecordSpan.{RecordSpan}
 use Rattle.dif_vif.specs.Listing.{next_spans, spans_from}
 use Rattle.dif_vif.specs.Numbers.{low_first, tariff_of, subunit_of}
@@ -29,31 +23,15 @@ use Rattle.record_values.specs.declared.units.Unit.{Unit}
 use Rattle.record_values.specs.declared.values.Value.{Value}
 use Rattle.record_values.specs.Units.{primary, after_fd, after_fb, is_scaled, unit_by, unit_in, unit}
 use Rattle.record_values.specs.Values.{value}
-use Rattle.paper.specs.Pieces.{labelled_bytes}
 use Rattle.meter_slots.specs.declared.reading.Reading.{Reading}
 use Rattle.meter_slots.specs.Journal.{SlotView, readings}
-use Rattle.record_text.specs.Lines.{bytes_at, fault_text}
+use Rattle.record_text.specs.Lines.{fault_text}
 use Rattle.report_text.specs.Report.{last_reading}
 use Rattle.report_text.specs.Readings.{listed, next_listed, is_full, fault_behind, more_behind, members, record_members, maker_members}
 use Rattle.report_text.specs.Readings.{maker_tree, record_tree, span_tree}
 use Rattle.report_text.specs.Readings.{mode_number, payload_of, meter_members, meter_tree, readings_tree, IsNumbered, LastIsNumbered}
-use Rattle.report_text.proofs.PlainTexts.{literal, labelled_plain, function_plain, quantity_plain, name_plain, value_plain}
-use Rattle.report_text.proofs.PlainTexts.{plain_is_text, plain_is_ascii}
 use Rattle.report_text.proofs.ShownTrees.{IsShown, IsSmall, ◌⟫◌, none_left, object_shown, list_shown, string_shown, number_shown}
 use Rattle.report_text.proofs.ShownTrees.{integer_shown, boolean_shown, option_shown, choice_shown}
-
--- ---- texts
-
-hex_is_text : (bytes : List ℕ) → IsUtf8 (encode_lower bytes)
-hex_is_text bytes = IsUtf8-from_ascii (encode_lower bytes) (IsAscii-encode_with lower_digits bytes (plain_is_ascii lower_digits refl))
-
-fault_is_text : (fault : RecordFault) → IsUtf8 (fault_text fault)
-unfolding labelled_bytes
-fault_is_text (Truncated place) = plain_is_text (labelled_plain (literal (codes "truncated ") refl) place)
-fault_is_text (TooManyExtensions place) = plain_is_text (labelled_plain (literal (codes "extensions ") refl) place)
-fault_is_text (Lvar lvar) = IsUtf8-append (codes "lvar ") _ (plain_is_text (literal (codes "lvar ") refl)) (hex_is_text (lvar ∷ []))
-fault_is_text (Selection place) = plain_is_text (labelled_plain (literal (codes "selection ") refl) place)
-fault_is_text (Special dif) = IsUtf8-append (codes "special ") _ (plain_is_text (literal (codes "special ") refl)) (hex_is_text (dif ∷ []))
 
 -- ---- the numbers of a record
 
@@ -121,22 +99,22 @@ exponent_of payload span =
 
 record_shown : (payload : List ℕ) (span : RecordSpan) (u : Unit) (v : Value) → HasSmallRegister span → IsSmall u.exponent
     → IsShown 1 (object (members (record_members payload span u v)))
-record_shown payload span u v register small = object_shown (members (record_members payload span u v)) refl
+record_shown payload span u v register small = object_shown (members (record_members payload span u v))
     (integer_shown u.exponent small
-    ⟫ string_shown (plain_is_text (function_plain span.function))
-    ⟫ string_shown (hex_is_text (bytes_at payload u.modifiers_at u.modifiers))
-    ⟫ string_shown (plain_is_text (quantity_plain u.quantity))
-    ⟫ string_shown (hex_is_text (bytes_at payload span.data_at span.data_len))
+    ⟫ string_shown
+    ⟫ string_shown
+    ⟫ string_shown
+    ⟫ string_shown
     ⟫ number_shown span.storage register.storage
     ⟫ number_shown span.subunit register.subunit
     ⟫ number_shown span.tariff register.tariff
-    ⟫ string_shown (plain_is_text (name_plain u.name))
-    ⟫ string_shown (plain_is_text (value_plain v))
+    ⟫ string_shown
+    ⟫ string_shown
     ⟫ none_left)
 
 maker_shown : (payload : List ℕ) (span : RecordSpan) → IsShown 1 (maker_tree payload span)
-maker_shown payload span = object_shown (members (maker_members payload span)) refl
-    (string_shown (hex_is_text (span.dif ∷ [])) ⟫ string_shown (hex_is_text (bytes_at payload span.data_at span.data_len)) ⟫ none_left)
+maker_shown payload span = object_shown (members (maker_members payload span))
+    (string_shown ⟫ string_shown ⟫ none_left)
 
 span_shown : (payload : List ℕ) (span : RecordSpan) → IsSpanOf payload span → IsShown 1 (span_tree payload span)
 span_shown payload span is = choice_shown span.maker (maker_tree payload span) (record_tree payload span) (maker_shown payload span)
@@ -175,11 +153,11 @@ meter_shown : (address : Address) (mode : Mode) (last : Option Reading) (payload
 meter_shown address mode last payload h =
     let spans = listed payload in
     let next = next_listed payload in
-    object_shown (members (meter_members address mode last payload)) refl
-    (string_shown (hex_is_text (bytes_of address))
+    object_shown (members (meter_members address mode last payload))
+    (string_shown
     ⟫ option_shown (λ r. number (unsigned r.at)) last (λ r is. number_shown r.at (numbered last r h is).0)
     ⟫ option_shown (λ r. number (unsigned r.counter)) last (λ r is. number_shown r.counter (omega (arith, (numbered last r h is).1)))
-    ⟫ option_shown (λ fault. string (fault_text fault)) (fault_behind (is_full spans) next) (λ fault _. string_shown (fault_is_text fault))
+    ⟫ option_shown (λ fault. string (fault_text fault)) (fault_behind (is_full spans) next) (λ fault _. string_shown)
     ⟫ number_shown (mode_number mode) (mode_is_small mode)
     ⟫ boolean_shown (more_behind (is_full spans) next)
     ⟫ list_shown (span_tree payload) spans (spans_shown 256 payload 0 (omega arith))
@@ -192,4 +170,4 @@ slots_shown (b ∷ slots) h =
     (meter_shown b.commission.address b.commission.mode last (payload_of last) h.0, slots_shown slots h.1)
 
 pub readings_shown : (slots : List SlotView) → AllByRecursion LastIsNumbered slots → IsShown 5 (readings_tree slots)
-readings_shown slots h = object_shown _ refl (list_shown meter_tree slots (slots_shown slots h) ⟫ none_left)
+readings_shown slots h = object_shown _ (list_shown meter_tree slots (slots_shown slots h) ⟫ none_left)

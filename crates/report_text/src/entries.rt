@@ -2,7 +2,7 @@
 ghost use Rattle.std.specs.Prelude.{map, false, option_map};
 ghost use Rattle.hex.specs.Hex.{encode_lower};
 ghost use Rattle.json.specs.Print.{escape};
-ghost use Rattle.serde_json.specs.Data.{number, string, object, unsigned};
+ghost use Rattle.serde_json.specs.Data.{number, string, object};
 ghost use Rattle.serde_json.specs.Find.{of_integer};
 ghost use Rattle.serde_json.specs.View.{items_of};
 ghost use Rattle.serde_json.specs.Written.{comma_if, compact_text, items_text};

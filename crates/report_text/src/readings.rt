@@ -1,6 +1,8 @@
 //! The last readings of the meters, as JSON.
-ghost use Rattle.std.specs.Prelude.{◌≡◌, ◌^◌, ◌<◌, map, false, string_bytes, Some, IfOk, IfSome, option_copied, option_map};
+ghost use Rattle.std.specs.Prelude.{◌≡◌, ◌++◌, ◌≤◌, ◌^◌, ◌<◌, map, false, Some, IfSome, IsTrue, OnOk, OnErr, option_copied, option_map};
 ghost use Rattle.std.specs.List.{All};
+ghost use Rattle.outer_io.specs.Bytes.{AppendsFront};
+ghost use Rattle.outer_io.specs.Faults.{Rose};
 ghost use Rattle.serde_json.specs.Data.{number, boolean, object, unsigned};
 ghost use Rattle.serde_json.specs.Read.{read};
 ghost use Rattle.serde_json.specs.View.{items_of};
@@ -14,9 +16,8 @@ use crate::lent::Session;
 use crate::listing::ending_of;
 use meter_address::{Address, Mode};
 use meter_slots::{Reading, SlotBook};
-use outer_io::Memory;
-use paper::{Paper, Printed, put_number, put_text, written};
-use std::alloc::Global;
+use outer_io::{Failed, Sink};
+use paper::{Paper, Printed, put_number, put_text, write};
 
 fn put_mode<P: Paper>(paper: &mut P, mode: Mode)
     ensures { Puts P.takes paper.old (compact_text (number (unsigned (mode_number mode)))) paper.new }
@@ -172,15 +173,18 @@ fn show_slots(slots: &[SlotBook])
     }
 }
 
-/// The last reading of each meter as JSON, in the order of the roster: a compact text and a newline. A reader of JSON gets the
-/// tree back that the text was made of.
-pub fn readings_json(alloc: Global, session: &Session<'_>) -> Result<String, Memory>
-    ensures text { IfOk result (λ text. string_bytes text ≡ readings_text session.now.slots.now) }
-    ensures reads_back { let tree = readings_tree session.now.slots.now in
-        IfOk result (λ _. read (compact_text tree) ≡ Some tree) }
+/// Writes the last reading of each meter as JSON, in the order of the roster: a compact text and a newline, in large pieces and without
+/// memory. A reader of JSON gets the tree back that the text is made of. On `Failed` some first bytes of it were written.
+pub fn readings_json<K: Sink>(session: &Session<'_>, sink: &mut K) -> Result<(), Failed>
+    ensures ok { let text = readings_text session.now.slots.now in
+        OnOk result (IsTrue K.tells → K.written sink.new ≡ K.written sink.old ++ text) }
+    ensures err { let text = readings_text session.now.slots.now in
+        OnErr result (IsTrue K.tells → AppendsFront text (K.written sink.old) (K.written sink.new)) }
+    ensures later { K.faults sink.old ≤ K.faults sink.new }
+    ensures cause { OnErr result (Rose (K.faults sink.old) (K.faults sink.new)) }
+    ensures reads_back { let tree = readings_tree session.now.slots.now in read (compact_text tree) ≡ Some tree }
 {
-    show_slots(session.slots);
     let slots = session.slots;
-    let bytes = written(alloc, &LastReadings { slots })?;
-    Ok(String::from_utf8(bytes).unwrap())
+    show_slots(slots);
+    write(sink, &LastReadings { slots })
 }

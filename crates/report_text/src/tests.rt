@@ -76,10 +76,11 @@ fn a_meter_without_readings_has_no_records(rt: HostRuntime) -> Result<(), Fail> 
         slots: world.slots(),
         strangers: world.strangers(),
     };
-    let text = readings_json(rt.alloc(), &session)?;
+    let mut sink = MemorySink::steady(rt.alloc());
+    assert!(rt; readings_json(&session, &mut sink).is_ok());
     assert_eq!(rt;
-        text.as_str(),
-        "{\"meters\":[{\"address\":\"9315785634123303\",\"at\":null,\"counter\":null,\"fault\":null,\"mode\":5,\"more\":false,\"records\":[]}]}\n"
+        sink.bytes(),
+        b"{\"meters\":[{\"address\":\"9315785634123303\",\"at\":null,\"counter\":null,\"fault\":null,\"mode\":5,\"more\":false,\"records\":[]}]}\n".as_slice()
     );
     Ok(())
 }
