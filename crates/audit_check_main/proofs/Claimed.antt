@@ -160,8 +160,11 @@ by_receiver : (P : ℕ → ℕ → Type 0) (w : ℕ) (order : List (ℕ × ℕ))
 by_receiver P w [] h = tt
 by_receiver P w (p ∷ order) h = at (p.0 == w) refl (by_receiver P w order h.1)
   where
-    at : (b : Bool) → (p.0 == w) ≡ b → Each (P w) (numbers_by w order)
-        → Each (P w) (map (λ (q : ℕ × ℕ). q.1) (cond b (p ∷ filter (λ (q : ℕ × ℕ). q.0 == w) order) (filter (λ (q : ℕ × ℕ). q.0 == w) order)))
+    of_receiver : List (ℕ × ℕ)
+    of_receiver = filter (λ (q : ℕ × ℕ). q.0 == w) order
+
+    at : (b : Bool) → (p.0 == w) ≡ b → Each (P w) (map (λ (q : ℕ × ℕ). q.1) of_receiver)
+        → Each (P w) (map (λ (q : ℕ × ℕ). q.1) (cond b (p ∷ of_receiver) of_receiver))
     at true e rest = (subst (λ v. P v p.1) (is_number p.0 w e) h.0, rest)
     at false e rest = rest
 

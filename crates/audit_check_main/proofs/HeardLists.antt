@@ -159,7 +159,8 @@ place_none p xs h =
     let most = prefix_len-le-length (λ x. not (p x)) xs in grind (arith, nat_tests)
 
 -- what a line is gives its class
-class_sorted : (directory : List Address) (n : ℕ) (t : Told) → n ≡ length directory → class_in n (sort_of directory t) ≡ class_by directory t
+class_sorted : (directory : List Address) (n : ℕ) (t : Told) → n ≡ length directory
+    → class_in n (sort_of directory t) ≡ class_by directory t
 class_sorted directory n (told.Event address event) e =
     ap (λ m. class_in m (sort_of directory (told.Event address event))) e
     ∙ by (nat_lt (position_or_len (λ a. a.0 == address.0) directory) (length directory)) (position_or_len (λ a. a.0 == address.0) directory)

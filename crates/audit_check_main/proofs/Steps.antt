@@ -180,7 +180,8 @@ module _ (own : Address) (heard : List HeardInput) (c : Commissioned) (order : L
     × ℕ)) (target : SlotView) (h : IsOrderedSlot own (map tells heard) c order target) where
   entry_told : Each (λ (x : Entry). HasEvent c.address (told_at heard x.source x.line) x.event) target.journal
   entry_told =
-      of_all (λ (x : Entry). x.source) (λ (x : Entry). (x.line, x.event)) (λ w p. HasEvent c.address (told_at heard w p.0) p.1) target.journal
+      of_all (λ (x : Entry). x.source) (λ (x : Entry). (x.line, x.event)) (λ w p. HasEvent c.address (told_at heard w p.0) p.1)
+      target.journal
       (λ w. subst (Each (λ (p : ℕ × Event). HasEvent c.address (told_at heard w p.0) p.1))
       (sym (h.meters.lines w ∙ ap (lines_for c.address) (tells_of heard w)))
       (all_lines_told (λ l. event_at c.address l.0 l.1) (HasEvent c.address) (event_fits c.address) (input_of heard w).lines))

@@ -132,7 +132,8 @@ pub orders_are : (cs : List Commissioned) (inputs : List (List ℕ)) (before hea
     → ((k : ℕ) → k < length lists → IsRight (numbers_in_list before k) (get_or lists k [])) → AreOrders cs heard lists
 orders_are cs inputs before heard lists within same heard_is long right =
     let right_there =
-    subst (λ (h : List HeardInput). (k : ℕ) → k < length lists → IsRight (numbers_in_list h k) (get_or lists k [])) (same ∙ heard_is) right in
+    subst (λ (h : List HeardInput). (k : ℕ) → k < length lists → IsRight (numbers_in_list h k) (get_or lists k []))
+    (same ∙ heard_is) right in
     subst (λ (h : List HeardInput). AreOrders cs h lists) (sym heard_is) (record {
       meters_lists = orders_right cs inputs within lists long right_there;
       strangers_list = strangers_right cs inputs within lists long right_there;

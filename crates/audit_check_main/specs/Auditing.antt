@@ -1,16 +1,23 @@
 -- Words of private contracts: a report that is compared with the text of a session.
-use Rattle.std.specs.Prelude.{ℕ, ◌≡◌, List, [], map, length, slice_index_or}
+use Rattle.std.specs.Prelude.{ℕ, ◌≡◌, ◌<◌, ◌^◌, false, List, [], map, length, reverse, slice_index_or, Ok}
+use Rattle.outer_io.specs.Each.{Each}
+use Rattle.line_reader.specs.Lines.{is_over}
 use Rattle.meter_address.specs.declared.address.Address.{Address}
 use Rattle.meter_address.specs.Commission.{Commissioned}
 use Rattle.meter_slots.specs.Journal.{SlotView}
 use Rattle.stranger_ring.specs.declared.strangers.Heard.{Heard}
 use Rattle.receivers.specs.Orders.{AreOrderedStrangers}
+use Rattle.report_text.specs.Orders.{lines_in, orders}
 use Rattle.report_text.specs.Report.{report_text}
+use Rattle.roster_file.specs.Enrolled.{IsEnrolled}
+use Rattle.roster_file.specs.Roster.{Enrolled, roster_of}
 use Rattle.audit_check_main.specs.declared.verdict.Cause.TheVariants as causes
 use Rattle.audit_check_main.specs.declared.verdict.Verdict.{Verdict}
 use Rattle.audit_check_main.specs.declared.verdict.Verdict.TheVariants.{Yes, No}
+use Rattle.audit_check_main.specs.Audit.{IsVerdict}
 use Rattle.audit_check_main.specs.Difference.{DiffersAt}
 use Rattle.audit_check_main.specs.Hearing.{HeardInput, tells}
+use Rattle.audit_check_main.specs.Lists.{AreInForm, lists_printed}
 use Rattle.audit_check_main.specs.Printing.{end_of}
 use Rattle.audit_check_main.specs.Stepping.{AreOrderedSlots}
 
@@ -28,3 +35,16 @@ pub record IsStepped (own : Address) (meters : List Commissioned) (heard : List 
   pub so : AreOrderedSlots own (map tells heard) meters lists slots
   pub noted : AreOrderedStrangers meters (map tells heard) (slice_index_or lists (length meters) []) strangers
   pub compared : IsCompared report (report_text (map end_of heard) slots strangers) verdict
+
+-- a roster as one is read, inputs within the limits, and a report in form with the lists that it prints
+pub record AreListsRead (r : Enrolled) (report : List ℕ) (inputs : List (List ℕ)) (lists : List (List (ℕ × ℕ))) : Type 0 where
+  pub enrolled : IsEnrolled r
+  pub within : Each (λ input. is_over input ≡ false) inputs
+  pub few_lines : length (lines_in report) < 2 ^ 32
+  pub in_form : AreInForm (length r.meters) (reverse (lines_in report))
+  pub lists_are : lists ≡ lists_printed (length r.meters) (orders report)
+
+-- the verdict on a report by each text of a roster
+abbrev pub IsVerdictBy : Enrolled → (report : List ℕ) → (inputs : List (List ℕ)) → Verdict → Type 0
+IsVerdictBy r report inputs verdict =
+    (text : List ℕ) → roster_of text ≡ Ok r → IsVerdict (record { roster = text; report = report; inputs = inputs }) verdict

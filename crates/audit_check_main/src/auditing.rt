@@ -1,16 +1,14 @@
 //! The audit.
-ghost use Rattle.std.specs.Prelude.{◌≡◌, ◌<◌, ◌+◌, ◌^◌, List, ℕ, false, true, length, map, reverse, Ok, Err, IfOk, MatchOption};
+ghost use Rattle.std.specs.Prelude.{◌≡◌, ◌<◌, ◌+◌, ◌^◌, false, true, length, map, Ok, Err, IfOk, MatchOption};
 ghost use Rattle.outer_io.specs.Each.{Each, EachWith, IsFirst};
 ghost use Rattle.line_reader.specs.Lines.{is_over};
-ghost use Rattle.report_text.specs.Orders.{lines_in, orders};
+ghost use Rattle.report_text.specs.Orders.{lines_in};
 ghost use Rattle.roster_file.specs.Enrolled.{IsEnrolled};
-ghost use Rattle.roster_file.specs.Roster.{roster_of};
 ghost use Rattle.audit_check_main.specs.Audit.{IsVerdict};
 ghost use Rattle.meter_address.specs.Address.{AreApart};
-ghost use Rattle.audit_check_main.specs.Auditing.{IsStepped};
+ghost use Rattle.audit_check_main.specs.Auditing.{AreListsRead, IsStepped, IsVerdictBy};
 ghost use Rattle.audit_check_main.specs.Hearing.{AreListed, IsHeard};
 ghost use Rattle.audit_check_main.specs.Stepping.{AreOrders};
-ghost use Rattle.audit_check_main.specs.Lists.{AreInForm, lists_printed};
 ghost use Rattle.audit_check_main.specs.declared.verdict.Verdict.{Verdict};
 
 use crate::claims::{Claims, claims_of};
@@ -112,13 +110,9 @@ fn audit_claimed(
     inputs: &[Input],
     lists: &[Order],
 ) -> Result<Verdict, Unmade>
-    requires enrolled { IsEnrolled roster.now }
+    requires read { AreListsRead roster.now report.now inputs.now lists.now }
     requires directory { directory.now ≡ map (λ c. c.address) roster.now.meters }
-    requires within { Each (λ input. is_over input ≡ false) inputs.now }
-    requires in_form { AreInForm (length roster.now.meters) (reverse (lines_in report.now)) }
-    requires lists { lists.now ≡ lists_printed (length roster.now.meters) (orders report.now) }
-    ensures { IfOk result (λ verdict. (text : List ℕ) → roster_of text ≡ Ok roster.now
-        → IsVerdict (record { roster = text; report = report.now; inputs = inputs.now }) verdict) }
+    ensures { IfOk result (IsVerdictBy roster.now report.now inputs.now) }
 {
     let meters = roster.meters();
     let claimed = hear_claimed(alloc, meters, directory, inputs, lists)?;
@@ -157,14 +151,9 @@ fn audit_told(
     inputs: &[Input],
     lists: &[Order],
 ) -> Result<Verdict, Memory>
-    requires enrolled { IsEnrolled roster.now }
+    requires read { AreListsRead roster.now report.now inputs.now lists.now }
     requires directory { directory.now ≡ map (λ c. c.address) roster.now.meters }
-    requires within { Each (λ input. is_over input ≡ false) inputs.now }
-    requires lines { length (lines_in report.now) < 2 ^ 32 }
-    requires in_form { AreInForm (length roster.now.meters) (reverse (lines_in report.now)) }
-    requires lists { lists.now ≡ lists_printed (length roster.now.meters) (orders report.now) }
-    ensures { IfOk result (λ verdict. (text : List ℕ) → roster_of text ≡ Ok roster.now
-        → IsVerdict (record { roster = text; report = report.now; inputs = inputs.now }) verdict) }
+    ensures { IfOk result (IsVerdictBy roster.now report.now inputs.now) }
 {
     let meters = roster.meters();
     let heard = hear_all(alloc, meters, directory, &Claims::none(alloc), inputs)?;
@@ -193,13 +182,8 @@ fn audit_lists(
     inputs: &[Input],
     lists: &[Order],
 ) -> Result<Verdict, Memory>
-    requires enrolled { IsEnrolled roster.now }
-    requires within { Each (λ input. is_over input ≡ false) inputs.now }
-    requires lines { length (lines_in report.now) < 2 ^ 32 }
-    requires in_form { AreInForm (length roster.now.meters) (reverse (lines_in report.now)) }
-    requires lists { lists.now ≡ lists_printed (length roster.now.meters) (orders report.now) }
-    ensures { IfOk result (λ verdict. (text : List ℕ) → roster_of text ≡ Ok roster.now
-        → IsVerdict (record { roster = text; report = report.now; inputs = inputs.now }) verdict) }
+    requires { AreListsRead roster.now report.now inputs.now lists.now }
+    ensures { IfOk result (IsVerdictBy roster.now report.now inputs.now) }
 {
     let directory = directory_of(alloc, roster.meters())?;
     match audit_claimed(alloc, roster, &directory, report, inputs, lists) {
@@ -219,8 +203,7 @@ fn audit_readable(
     requires enrolled { IsEnrolled roster.now }
     requires within { Each (λ input. is_over input ≡ false) inputs.now }
     requires lines { length (lines_in report.now) < 2 ^ 32 }
-    ensures { IfOk result (λ verdict. (text : List ℕ) → roster_of text ≡ Ok roster.now
-        → IsVerdict (record { roster = text; report = report.now; inputs = inputs.now }) verdict) }
+    ensures { IfOk result (IsVerdictBy roster.now report.now inputs.now) }
 {
     match read_lists(alloc, report, roster.meters().len()) {
         Ok(lists) => audit_lists(alloc, roster, report, inputs, lists.as_slice()),

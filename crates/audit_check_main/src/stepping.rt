@@ -85,8 +85,8 @@ pub(crate) fn note_strangers(
     requires { directory.now ≡ map (λ c. c.address) meters.now }
     ensures strangers { IfOk result (λ strangers. IsOrderOfStrangers meters.now (map tells heard.now) order.now
         → AreOrderedStrangers meters.now (map tells heard.now) order.now strangers) }
-    ensures own_lines { IfOk result (λ strangers. Each (λ p. sort_of directory.now (told_at heard.now p.0 p.1) ≡ Sort.Listed (length meters.now))
-        order.now) }
+    ensures own_lines { let list = Sort.Listed (length meters.now) in
+        IfOk result (λ strangers. Each (λ p. sort_of directory.now (told_at heard.now p.0 p.1) ≡ list) order.now) }
     ensures stray { result ≡ Err Unmade.Stray → IsOrderOfStrangers meters.now (map tells heard.now) order.now → ⊥ }
 {
     let mut strangers = Strangers::new(alloc)?;

@@ -11,9 +11,11 @@ loop-receiver-preserved c =
     let input = c.index-inputs-receiver.result in
     let more = ap (λ (x : List ℕ). take c.loop-receiver.receiver c.args.inputs.now ++ x ∷ []) c.index-inputs-receiver.is
     ∙ sym (take_more c.args.inputs.now c.loop-receiver.receiver input c.loop-receiver-test.true) in
-    let heard = subst (λ (x : List ℕ). IsHeard c.args.meters.now x c.in_ok-hear.field-0) c.bytes.ensures c.in_ok-hear.ensures.heard in record {
+    let heard = subst (λ (x : List ℕ). IsHeard c.args.meters.now x c.in_ok-hear.field-0) c.bytes.ensures c.in_ok-hear.ensures.heard in
+    record {
       each =
-          subst (EachWith (IsHeard c.args.meters.now) (take (c.loop-receiver.receiver + 1) c.args.inputs.now)) (sym c.in_ok-push.ensures.items)
+          subst (EachWith (IsHeard c.args.meters.now) (take (c.loop-receiver.receiver + 1) c.args.inputs.now))
+          (sym c.in_ok-push.ensures.items)
           (subst (λ xs. EachWith (IsHeard c.args.meters.now) xs (c.loop-receiver.heard.items ++ c.in_ok-hear.field-0 ∷ [])) more
           (each_with_push (IsHeard c.args.meters.now) (take c.loop-receiver.receiver c.args.inputs.now) c.loop-receiver.heard.items
           input c.in_ok-hear.field-0 so.each heard));

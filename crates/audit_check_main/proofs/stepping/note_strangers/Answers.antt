@@ -39,7 +39,8 @@ loop-pair-preserved c =
           ∙ note_more c.args.heard.now c.args.meters.now c.args.order.now target h c.loop-pair.pair-index _ c.in-Event.address
           c.in-Event.field-1 c.loop-pair.strangers c.loop-pair-test.true refl (so.so target h) (sym c.told_at.ensures ∙ c.in-Event.is);
       own_lines =
-          each_more (λ (p : ℕ × ℕ). sort_of c.args.directory.now (told_at c.args.heard.now p.0 p.1) ≡ sorts.Listed (length c.args.meters.now))
+          each_more
+          (λ (p : ℕ × ℕ). sort_of c.args.directory.now (told_at c.args.heard.now p.0 p.1) ≡ sorts.Listed (length c.args.meters.now))
           c.args.order.now c.loop-pair.pair-index _ (0, 0) so.own_lines c.loop-pair-test.true refl
           (strange_listed c.args.directory.now (length c.args.meters.now) c.list_of.result _ c.in-Event.address c.in-Event.field-1
           (sym c.told_at.ensures ∙ c.in-Event.is) c.list_of.ensures

@@ -46,7 +46,8 @@ loop-pair-preserved c =
           each_more (λ (p : ℕ × ℕ). IsEventFor c.args.commission.address (told_at c.args.heard.now p.0 p.1)) c.args.order.now
           c.loop-pair.pair-index _ (0, 0) so.own_lines c.loop-pair-test.true refl
           (subst (IsEventFor c.args.commission.address) (sym c.in-Event.is ∙ c.told_at.ensures)
-          (let opened = ap (λ (m : Commissioned). m.address.0) c.commission.view_is in let same = c.if-address-commission.false in omega arith));
+          (let opened = ap (λ (m : Commissioned). m.address.0) c.commission.view_is in
+          let same = c.if-address-commission.false in omega arith));
     }
 
 pub returns-clause-slot : goal.returns-clause-slot
