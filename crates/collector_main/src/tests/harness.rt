@@ -11,6 +11,18 @@ use std::sync::Wait;
 use std::test::Fail;
 use std::thread::Threads;
 
+/// The roster of the gas meter of the OMS examples.
+pub(super) const GAS: &str = "\
+wmbus-roster 1
+own 9315010000000131
+meter 9315785634123303 5 0102030405060708090a0b0c0d0e0f11 - 0 0
+";
+
+/// The line of its published telegram.
+pub(super) const GAS_LINE: &str = "\
+A 100 2e44931578563412330333637a2a0020055923c95aaa26d1b2e7493b2a8b013ec4a6f6d3529b520edff0ea6defc955b29d6d69ebf3ec8a
+";
+
 /// The roster of the heat meter.
 pub(super) const HEAT: &str = "\
 wmbus-roster 1

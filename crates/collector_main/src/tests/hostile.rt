@@ -175,8 +175,8 @@ fn a_flood_of_strangers_at_eight_receivers_loses_no_message(rt: HostRuntime) -> 
     let flood = strangers(alloc, 1_000)?;
     let mut with_message = String::from_str(alloc, flood.as_str())?;
     with_message.push_str(MESSAGE)?;
-    let mut receivers = [hears(&flood); 8];
-    receivers[0] = hears(&with_message);
+    let (first, other) = (hears(&with_message), hears(&flood));
+    let receivers = [first, other, other, other, other, other, other, other];
     let session = Session::of(&rt, alloc, &steady(HEAT, &receivers))?;
     let report = session.report()?;
     assert_eq!(rt; session.status, Status::Done);

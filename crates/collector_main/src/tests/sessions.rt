@@ -1,5 +1,7 @@
 //! Sessions of `collect`: what their reports, next rosters, readings and downlinks are.
-use super::harness::{HEAT, OwnLines, Session, assert_own_lines, hears, read_table, steady};
+use super::harness::{
+    GAS, GAS_LINE, HEAT, OwnLines, Session, assert_own_lines, hears, read_table, steady,
+};
 use crate::Status;
 use std::alloc::{AllocError, Global};
 use std::test::Fail;
@@ -207,17 +209,6 @@ fn a_message_that_three_receivers_hear_is_stored_once(rt: HostRuntime) -> Result
     );
     Ok(())
 }
-
-const GAS: &str = "\
-wmbus-roster 1
-own 9315010000000131
-meter 9315785634123303 5 0102030405060708090a0b0c0d0e0f11 - 0 0
-";
-
-// The published telegram of the gas meter.
-const GAS_LINE: &str = "\
-A 100 2e44931578563412330333637a2a0020055923c95aaa26d1b2e7493b2a8b013ec4a6f6d3529b520edff0ea6defc955b29d6d69ebf3ec8a
-";
 
 const GAS_READINGS: &str = "\
     {\"meters\":[{\"address\":\"9315785634123303\",\"at\":100,\"counter\":42,\"fault\":null,\"mode\":5,\"more\":false,\"records\":[\

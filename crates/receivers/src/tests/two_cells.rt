@@ -1,5 +1,5 @@
 //! Workers whose books act at the same time: each act is held up at a gate until the other has begun.
-ghost use Rattle.std.specs.Prelude.{◌≡◌, ◌<◌, ◌^◌, All, None, vec_len};
+ghost use Rattle.std.specs.Prelude.{◌≡◌, ◌<◌, ◌^◌, [], All, None, vec_len};
 
 use super::{Radio, radio};
 use crate::crews::hire;
@@ -51,16 +51,14 @@ struct Gated<'g> {
 }
 
 impl<'g> Gated<'g> {
-    fn new(alloc: Global, gate: &'g Gate) -> Gated<'g> {
+    fn new(alloc: Global, gate: &'g Gate) -> Gated<'g>
+        ensures { result.acts.items ≡ [] }
+    {
         Gated {
             gate,
             acts: Vec::new(alloc),
         }
     }
-}
-
-fn ticked() -> Outcome {
-    Outcome::Ticked { expired: None }
 }
 
 impl Book for Gated<'_> {
@@ -84,9 +82,9 @@ impl Book for Gated<'_> {
             source,
             line,
             call,
-            answer: ticked(),
+            answer: Outcome::Ticked { expired: None },
         })?;
-        Ok(ticked())
+        Ok(Outcome::Ticked { expired: None })
     }
 
     ghost empty_is_legal = { λ o. tt };
