@@ -36,6 +36,9 @@ text PLACE             the report differs from the session's text at this byte
 exit status: 0 yes, 12 no, 2 faulty words, 4 roster not read, 5 receiver not
 read, 7 answer not written, 8 report too long, 10 no memory, 11 a file that
 can't be opened, 13 report not read
+
+docs/FORMATS.md says what each fault, refusal and message means and what to do about
+it; docs/audit_check.1 is the man page.
 ";
 
 const VERSION: &str = "audit_check 0.1.0\n";

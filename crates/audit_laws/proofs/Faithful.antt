@@ -108,11 +108,13 @@ neither false y h = (refl, h)
 
 bytes_within : (input : List ℕ) → is_over input ≡ false → length input ≤ 67108864
 unfolding is_over
-bytes_within input h = let test = (neither (nat_lt 67108864 (length input)) (nat_lt 131072 (length (lines input))) h).0 in grind (arith, nat_tests)
+bytes_within input h = let test = (neither (nat_lt 67108864 (length input)) (nat_lt 131072 (length (lines input))) h).0 in
+    grind (arith, nat_tests)
 
 lines_within : (input : List ℕ) → is_over input ≡ false → length (lines input) ≤ 131072
 unfolding is_over
-lines_within input h = let test = (neither (nat_lt 67108864 (length input)) (nat_lt 131072 (length (lines input))) h).1 in grind (arith, nat_tests)
+lines_within input h = let test = (neither (nat_lt 67108864 (length input)) (nat_lt 131072 (length (lines input))) h).1 in
+    grind (arith, nat_tests)
 
 all_of : (input : List ℕ) → is_over input ≡ false → all_lines input ≡ lines input
 unfolding all_lines
@@ -263,7 +265,8 @@ module _ (c : collector.Run) (a : audit.Run) (given : IsAudited c a) where
       (is_roster_short a.roster.before.left r (ap roster_of g.same_roster ∙ headline.roster_is)) ∙ g.same_roster in
       let report = read_whole 1073741824 a.report h.read.report h.report h.short ∙ (g.same_report ∙ (written ∙ text_is)) in
       let lines =
-      inputs_read a.inputs h.read.inputs h.inputs (subst (Each (λ input. is_over input ≡ false)) (sym g.same_lines) within) ∙ g.same_lines in
+      inputs_read a.inputs h.read.inputs h.inputs (subst (Each (λ input. is_over input ≡ false)) (sym g.same_lines) within)
+      ∙ g.same_lines in
       λ i. record { roster = roster i; report = report i; inputs = lines i }
 
   no_other : (cause : Cause) → HasVerdict a (No cause) → ⊥

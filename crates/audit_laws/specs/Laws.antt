@@ -9,7 +9,8 @@ use Rattle.audit_check_main.specs.Run as audit
 use Rattle.audit_check_main.specs.declared.status.AuditStatus.TheVariants.{Yes, No, Memory}
 use Rattle.audit_check_main.specs.declared.verdict.Cause.{Cause}
 
--- The audit is given what the collector was given and what it wrote: the bytes of the roster, the report, and the bytes of each receiver, of
+-- The audit is given what the collector was given and what it wrote: the bytes of the roster, the report, and the bytes of each
+-- receiver, of
 -- at most sixteen, in their order. Contracts know all these bytes.
 pub record IsAuditOf (c : collector.Run) (a : audit.Run) : Type 0 where
   pub sources_tell : IsTrue c.sources_tell

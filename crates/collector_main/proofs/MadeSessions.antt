@@ -43,7 +43,8 @@ session_of roster first second third fourth = record { roster = roster; first = 
 
 -- ---- each receiver hears its whole text
 
-module _ {S K : Type 0} (s : sources.Ghosts S) (k : sinks.Ghosts K) (reads : (x : S) → s.faults x ≡ 0) (writes : (x : K) → k.faults x ≡ 0) where
+module _ {S K : Type 0} (s : sources.Ghosts S) (k : sinks.Ghosts K) (reads : (x : S) → s.faults x ≡ 0) (writes : (x : K)
+    → k.faults x ≡ 0) where
   -- before its run nothing was taken of the text, which is within the limits
   pub record IsOver (r : Receiving S K) (text : List ℕ) : Type 0 where
     pub untaken : s.taken r.source ≡ []
@@ -58,16 +59,19 @@ module _ {S K : Type 0} (s : sources.Ghosts S) (k : sinks.Ghosts K) (reads : (x 
 
   by_end : (old new : Receiving S K) (text : List ℕ) (e : ReceiverEnd) (how : Ended) (lines : List (List ℕ)) → IsOver old text
       → s.taken new.source ++ s.left new.source ≡ text → new.ended ≡ Some e.ended → e.ended ≢ ends.Memory → new.ended ≡ Some how
-      → IsEnding how (s.taken new.source) (s.left new.source) lines → (how ≡ ends.ReadFault → Rose (s.faults old.source) (s.faults new.source))
+      → IsEnding how (s.taken new.source) (s.left new.source) lines
+      → (how ≡ ends.ReadFault → Rose (s.faults old.source) (s.faults new.source))
       → (how ≡ ends.TxFault → Rose (k.faults old.tx) (k.faults new.tx)) → heard_as lines how ≡ heard_whole text
   by_end old new text e ends.End lines over bytes is found so ending read tx =
-      let taken : s.taken new.source ≡ text = sym (append-nil (s.taken new.source)) ∙ ap (λ t. s.taken new.source ++ t) (sym ending.nothing_left) ∙ bytes in
+      let taken : s.taken new.source ≡ text = sym (append-nil (s.taken new.source))
+      ∙ ap (λ t. s.taken new.source ++ t) (sym ending.nothing_left) ∙ bytes in
       ap (λ l. heard_as l ends.End) (ending.all ∙ ap all_lines taken)
   by_end old new text e ends.Cut lines over bytes is found so ending read tx =
       absurd (let cut = ap is_over (sym bytes) ∙ ending.source_over in let within = over.within in cc)
   by_end old new text e ends.ReadFault lines over bytes is found so ending read tx =
       absurd (no_rise _ _ (reads old.source) (reads new.source) (read refl))
-  by_end old new text e ends.TxFault lines over bytes is found so ending read tx = absurd (no_rise _ _ (writes old.tx) (writes new.tx) (tx refl))
+  by_end old new text e ends.TxFault lines over bytes is found so ending read tx =
+      absurd (no_rise _ _ (writes old.tx) (writes new.tx) (tx refl))
   by_end old new text e ends.Memory lines over bytes is found so ending read tx = absurd (found (let same = sym is ∙ so in cc))
 
   module _ (directory : List Address) where
@@ -77,8 +81,10 @@ module _ {S K : Type 0} (s : sources.Ghosts S) (k : sinks.Ghosts K) (reads : (x 
         by_end old new text e h.ended h.lines over (taken.no_loss ∙ ap (λ t. t ++ s.left old.source) over.untaken ∙ over.left)
         end.ended end.found_memory taken.ended taken.lines taken.read_fault taken.tx_fault
 
-    all_whole : (olds news : List (Receiving S K)) (texts : List (List ℕ)) (es : List ReceiverEnd) (hs : List HeardLines) → EachWith IsOver olds texts
-        → length news ≡ length olds → EachWith IsEndOf news es → EachWith (HasTaken directory) (receiver_runs s k olds news) hs → hs ≡ map heard_whole texts
+    all_whole : (olds news : List (Receiving S K)) (texts : List (List ℕ)) (es : List ReceiverEnd) (hs : List HeardLines)
+        → EachWith IsOver olds texts
+        → length news ≡ length olds → EachWith IsEndOf news es → EachWith (HasTaken directory) (receiver_runs s k olds news) hs
+        → hs ≡ map heard_whole texts
     all_whole [] [] [] es [] over many each taken = refl
     all_whole [] news [] es (h ∷ hs) over many each taken = absurd taken
     all_whole [] news (t ∷ texts) es hs over many each taken = absurd over
@@ -93,29 +99,35 @@ module _ {S K : Type 0} (s : sources.Ghosts S) (k : sinks.Ghosts K) (reads : (x 
 
   -- ---- what they heard together
 
-  pub made_together : (session : Session) (e : Enrolled) (olds news : List (Receiving S K)) (h : HeardTogether) → IsTrue s.tells → roster_of session.roster ≡ Ok e
+  pub made_together : (session : Session) (e : Enrolled) (olds news : List (Receiving S K)) (h : HeardTogether) → IsTrue s.tells
+      → roster_of session.roster ≡ Ok e
       → EachWith IsOver olds (heard_texts session) → HaveHeard s k e olds news h → IsMadeTogether session h
   made_together session e olds news h told is over have =
       let runs : List ReceiverRun = receiver_runs s k olds news in
       let world : WorldView = record { slots = h.collected.slots.items; strangers = h.collected.strangers } in
       let known = runs_known s k olds news in
-      let t : IsHeardSession e.own e.meters runs world = heard_session e.own e.meters runs world (each_known s.tells runs known told) have.collected in
+      let t : IsHeardSession e.own e.meters runs world =
+      heard_session e.own e.meters runs world (each_known s.tells runs known told) have.collected in
       let directory : List Address = map address_of e.meters in
       let ended : EachWith IsEnd runs h.ends.items = runs_ended s k olds news h.ends.items have.as_many have.receiver_ends in
       let heard : Heard = record { enrolled = e; receivers = t.receivers; world = world } in
       let four : length (heard_texts session) ≡ length olds = each_many IsOver olds (heard_texts session) over in
-      let many : length (map tellings t.receivers) ≡ length runs = length-map t.receivers tellings ∙ each_many (HasTaken directory) runs t.receivers t.taken in
+      let many : length (map tellings t.receivers) ≡ length runs = length-map t.receivers tellings
+      ∙ each_many (HasTaken directory) runs t.receivers t.taken in
       let all : length runs ≡ length olds = runs_many s k olds news have.as_many in
       record {
         heard = heard;
         is_heard = record {
           roster_is = is;
-          receivers = all_whole directory olds news (heard_texts session) h.ends.items t.receivers over have.as_many have.receiver_ends t.taken;
+          receivers = all_whole directory olds news (heard_texts session)
+              h.ends.items t.receivers over have.as_many have.receiver_ends t.taken;
           session = t.session;
-          told = order_is_told e.own (map tellings t.receivers) (omega arith) (each_short s.tells directory runs h.ends.items t.receivers ended t.taken) e.meters world
+          told = order_is_told e.own (map tellings t.receivers) (omega arith)
+              (each_short s.tells directory runs h.ends.items t.receivers ended t.taken) e.meters world
               (map (receiver_end heard) t.receivers) t.session;
         };
-        report = ap (λ l. report_text l world.slots world.strangers) (ends_are s.tells directory runs h.ends.items t.receivers ended t.taken);
+        report = ap (λ l. report_text l world.slots world.strangers)
+            (ends_are s.tells directory runs h.ends.items t.receivers ended t.taken);
       }
 
 -- ---- four receivers over the texts of a made session
@@ -142,16 +154,22 @@ module _ {K : Type 0} (s : sources.Ghosts Text) (k : sinks.Ghosts K) (told : IsT
   )
 
   -- what they heard together, where the session has these texts
-  pub made_heard : {E : Type 0} (count telegrams number : ℕ) → count ≤ 1024 → telegrams ≤ 16384 → (session : Session) (roster first second third fourth bytes : List ℕ)
+  pub made_heard : {E : Type 0} (count telegrams number : ℕ) → count ≤ 1024 → telegrams ≤ 16384
+      → (session : Session) (roster first second third fourth bytes : List ℕ)
       → session_of roster first second third fourth ≡ session → session ≡ made count telegrams number → bytes ≡ roster
-      → (e : Enrolled) → roster_of bytes ≡ Ok e → (olds news : List (Receiving Text K)) → EachWith HearsText olds (first ∷ second ∷ third ∷ fourth ∷ [])
-      → (result : Result HeardTogether E) → IfOk result (HaveHeard s k e olds news) → IfOk result (IsMadeTogether (made count telegrams number))
-  made_heard count telegrams number few_meters few session roster first second third fourth bytes view same at e is olds news each (Err x) have = tt
-  made_heard count telegrams number few_meters few session roster first second third fourth bytes view same at e is olds news each (Ok h) have =
+      → (e : Enrolled) → roster_of bytes ≡ Ok e → (olds news : List (Receiving Text K))
+      → EachWith HearsText olds (first ∷ second ∷ third ∷ fourth ∷ [])
+      → (result : Result HeardTogether E) → IfOk result (HaveHeard s k e olds news)
+      → IfOk result (IsMadeTogether (made count telegrams number))
+  made_heard count telegrams number few_meters few session roster first second third fourth bytes view same at e is olds news each (Err x)
+      have = tt
+  made_heard count telegrams number few_meters few session roster first second third fourth bytes view same at e is olds news each (Ok h)
+      have =
       let whole : Session = made count telegrams number in
       let readable : IsReadable count telegrams number whole = made_is_readable count telegrams number few_meters few in
       let so : session_of roster first second third fourth ≡ whole = view ∙ same in
       let texts : EachWith HearsText olds (heard_texts whole) = subst (λ (x : Session). EachWith HearsText olds (heard_texts x)) so each in
       let roster_is : roster_of whole.roster ≡ Ok e = ap roster_of (sym (at ∙ ap (λ (x : Session). x.roster) so)) ∙ is in
       made_together s k reads writes whole e olds news h told roster_is
-      (over_texts olds (heard_texts whole) texts (readable.first.within, (readable.second.within, (readable.third.within, (readable.fourth.within, tt))))) have
+      (over_texts olds (heard_texts whole) texts
+      (readable.first.within, (readable.second.within, (readable.third.within, (readable.fourth.within, tt))))) have

@@ -55,12 +55,15 @@ pub record IsEnd (r : ReceiverRun) (e : ReceiverEnd) : Type 0 where
 
 -- the cause of the status of a receiver that stopped, where the first one of these has the number n
 abbrev Stops : ℕ → List ReceiverRun → Status → Type 0
-Stops n runs (statuses.Read w) = PassUntil (λ x. HasEnded ends.End x.1) (λ x. (x.0 ≡ w) × HasEnded ends.ReadFault x.1) (enumerate_from n runs)
-Stops n runs (statuses.Transmit w) = PassUntil (λ x. HasEnded ends.End x.1) (λ x. (x.0 ≡ w) × HasEnded ends.TxFault x.1) (enumerate_from n runs)
+Stops n runs (statuses.Read w) =
+    PassUntil (λ x. HasEnded ends.End x.1) (λ x. (x.0 ≡ w) × HasEnded ends.ReadFault x.1) (enumerate_from n runs)
+Stops n runs (statuses.Transmit w) =
+    PassUntil (λ x. HasEnded ends.End x.1) (λ x. (x.0 ≡ w) × HasEnded ends.TxFault x.1) (enumerate_from n runs)
 Stops n runs (statuses.Cut w) = PassUntil (λ x. HasEnded ends.End x.1) (λ x. (x.0 ≡ w) × HasEnded ends.Cut x.1) (enumerate_from n runs)
 Stops n runs _ = ⊥
 
-stops_later : (n : ℕ) (r : ReceiverRun) (runs : List ReceiverRun) (s : Status) → HasEnded ends.End r → Stops (n + 1) runs s → Stops n (r ∷ runs) s
+stops_later : (n : ℕ) (r : ReceiverRun) (runs : List ReceiverRun) (s : Status) → HasEnded ends.End r → Stops (n + 1) runs s
+    → Stops n (r ∷ runs) s
 stops_later n r runs (statuses.Read w) ended later = inr (ended, later)
 stops_later n r runs (statuses.Transmit w) ended later = inr (ended, later)
 stops_later n r runs (statuses.Cut w) ended later = inr (ended, later)
@@ -74,13 +77,15 @@ stops_later n r runs statuses.Memory ended later = absurd later
 some_is : {A : Type 0} (x y : A) → Some x ≡ Some y → x ≡ y
 some_is x y e = cc
 
-pub stops_from : (n : ℕ) (runs : List ReceiverRun) (es : List ReceiverEnd) → EachWith IsEnd runs es → (s : Status) → stop_from n es ≡ Some s → Stops n runs s
+pub stops_from : (n : ℕ) (runs : List ReceiverRun) (es : List ReceiverEnd) → EachWith IsEnd runs es → (s : Status)
+    → stop_from n es ≡ Some s → Stops n runs s
 stops_from n [] [] each s is = absurd cc
 stops_from n [] (e ∷ es) each s is = absurd each
 stops_from n (r ∷ runs) [] each s is = absurd each
 stops_from n (r ∷ runs) (e ∷ es) each s is = at e.ended each.0.ended each.0.found_memory is (stops_from (n + 1) runs es each.1 s)
   where
-    at : (v : Ended) → r.ended ≡ Some v → v ≢ ends.Memory → stop_at n v (stop_from (n + 1) es) ≡ Some s → (stop_from (n + 1) es ≡ Some s → Stops (n + 1) runs s) → Stops n (r ∷ runs) s
+    at : (v : Ended) → r.ended ≡ Some v → v ≢ ends.Memory → stop_at n v (stop_from (n + 1) es) ≡ Some s
+        → (stop_from (n + 1) es ≡ Some s → Stops (n + 1) runs s) → Stops n (r ∷ runs) s
     at ends.End ended found stop later = stops_later n r runs s ended (later stop)
     at ends.Cut ended found stop later = subst (Stops n (r ∷ runs)) (some_is (statuses.Cut n) s stop) (inl (refl, ended))
     at ends.ReadFault ended found stop later = subst (Stops n (r ∷ runs)) (some_is (statuses.Read n) s stop) (inl (refl, ended))
@@ -88,13 +93,15 @@ stops_from n (r ∷ runs) (e ∷ es) each s is = at e.ended each.0.ended each.0.
     at ends.Memory ended found stop later = absurd (found refl)
 
 -- where none stops, each one ended at its source's end
-pub none_stops : (n : ℕ) (runs : List ReceiverRun) (es : List ReceiverEnd) → EachWith IsEnd runs es → stop_from n es ≡ None → Each (HasEnded ends.End) runs
+pub none_stops : (n : ℕ) (runs : List ReceiverRun) (es : List ReceiverEnd) → EachWith IsEnd runs es → stop_from n es ≡ None
+    → Each (HasEnded ends.End) runs
 none_stops n [] [] each is = tt
 none_stops n [] (e ∷ es) each is = absurd each
 none_stops n (r ∷ runs) [] each is = absurd each
 none_stops n (r ∷ runs) (e ∷ es) each is = at e.ended each.0.ended is (none_stops (n + 1) runs es each.1)
   where
-    at : (v : Ended) → r.ended ≡ Some v → stop_at n v (stop_from (n + 1) es) ≡ None → (stop_from (n + 1) es ≡ None → Each (HasEnded ends.End) runs) → Each (HasEnded ends.End) (r ∷ runs)
+    at : (v : Ended) → r.ended ≡ Some v → stop_at n v (stop_from (n + 1) es) ≡ None
+        → (stop_from (n + 1) es ≡ None → Each (HasEnded ends.End) runs) → Each (HasEnded ends.End) (r ∷ runs)
     at ends.End ended none later = (ended, later none)
     at ends.Cut ended none later = absurd cc
     at ends.ReadFault ended none later = absurd cc
@@ -102,7 +109,8 @@ none_stops n (r ∷ runs) (e ∷ es) each is = at e.ended each.0.ended is (none_
     at ends.Memory ended none later = absurd cc
 
 -- and the other way round
-pub all_end : (n : ℕ) (runs : List ReceiverRun) (es : List ReceiverEnd) → EachWith IsEnd runs es → Each (HasEnded ends.End) runs → stop_from n es ≡ None
+pub all_end : (n : ℕ) (runs : List ReceiverRun) (es : List ReceiverEnd) → EachWith IsEnd runs es → Each (HasEnded ends.End) runs
+    → stop_from n es ≡ None
 all_end n [] [] each all = refl
 all_end n [] (e ∷ es) each all = absurd each
 all_end n (r ∷ runs) [] each all = absurd each
@@ -113,7 +121,8 @@ all_end n (r ∷ runs) (e ∷ es) each all =
 -- ---- one receiver's run
 
 module _ (st : Bool) (directory : List Address) where
-  end_caused : (r : ReceiverRun) (how : Ended) (lines : List (List ℕ)) → (how ≡ ends.ReadFault → ReadFailed r.source) → (how ≡ ends.TxFault → WriteFailed r.tx)
+  end_caused : (r : ReceiverRun) (how : Ended) (lines : List (List ℕ)) → (how ≡ ends.ReadFault → ReadFailed r.source)
+      → (how ≡ ends.TxFault → WriteFailed r.tx)
       → (IsTrue st → IsEnding how r.source.now.taken r.source.now.left lines) → EndIsCaused st r (Some how)
   end_caused r ends.End lines read tx ending = λ told. (ending told).nothing_left
   end_caused r ends.Cut lines read tx ending = λ told. (ending told).over
@@ -126,14 +135,16 @@ module _ (st : Bool) (directory : List Address) where
       subst (EndIsCaused st r) (sym h.ended)
       (end_caused r h.how (lines_of (hearing_of r h.how)) h.has_heard.read_fault h.tx_fault (λ told. h.has_heard.ending (knows ∙ told)))
 
-  pub each_caused : (runs : List ReceiverRun) (parts : List Part) → Each (λ r. r.source_tells ≡ st) runs → EachWith (HasRun directory) runs parts
+  pub each_caused : (runs : List ReceiverRun) (parts : List Part) → Each (λ r. r.source_tells ≡ st) runs
+      → EachWith (HasRun directory) runs parts
       → Each (λ r. EndIsCaused st r r.ended) runs
   each_caused [] [] knows each = tt
   each_caused [] (p ∷ parts) knows each = absurd each
   each_caused (r ∷ runs) [] knows each = absurd each
   each_caused (r ∷ runs) (p ∷ parts) knows each = (run_caused r p knows.0 each.0, each_caused runs parts knows.1 each.1)
 
-  pub each_keeps : (runs : List ReceiverRun) (parts : List Part) → Each (λ r. r.source_tells ≡ st) runs → EachWith (HasRun directory) runs parts
+  pub each_keeps : (runs : List ReceiverRun) (parts : List Part) → Each (λ r. r.source_tells ≡ st) runs
+      → EachWith (HasRun directory) runs parts
       → IsTrue st → Each (λ r. LosesNothing r.source) runs
   each_keeps [] [] knows each told = tt
   each_keeps [] (p ∷ parts) knows each told = absurd each
@@ -152,11 +163,13 @@ module _ (st : Bool) (directory : List Address) where
   faultless_end r e ends.TxFault lines same end read tx ending bytes within steady tx_steady = absurd (tx_steady (tx refl))
   faultless_end r e ends.Memory lines same end read tx ending bytes within steady tx_steady = absurd (end.found_memory same)
 
-  bytes_of_run : (r : ReceiverRun) → LosesNothing r.source → r.source.before.taken ≡ [] → r.source.now.taken ++ r.source.now.left ≡ r.source.before.left
+  bytes_of_run : (r : ReceiverRun) → LosesNothing r.source → r.source.before.taken ≡ []
+      → r.source.now.taken ++ r.source.now.left ≡ r.source.before.left
   bytes_of_run r kept none = kept ∙ ap (λ t. t ++ r.source.before.left) none
 
   pub all_faultless : (runs : List ReceiverRun) (es : List ReceiverEnd) (parts : List Part) → Each (λ r. r.source_tells ≡ st) runs
-      → Each (λ r. IsTrue st → r.source.before.taken ≡ []) runs → EachWith IsEnd runs es → EachWith (HasRun directory) runs parts → IsTrue st
+      → Each (λ r. IsTrue st → r.source.before.taken ≡ []) runs → EachWith IsEnd runs es → EachWith (HasRun directory) runs parts
+      → IsTrue st
       → Each (λ r. is_over r.source.before.left ≡ false) runs → Each (λ r. ¬ ReadFailed r.source) runs → Each (λ r. ¬ WriteFailed r.tx) runs
       → Each (HasEnded ends.End) runs
   all_faultless [] es parts knows none each ran told within steady tx_steady = tt
@@ -165,7 +178,8 @@ module _ (st : Bool) (directory : List Address) where
   all_faultless (r ∷ runs) (e ∷ es) (p ∷ parts) knows none each ran told within steady tx_steady =
       let h = ran.0 in
       let same : e.ended ≡ h.how = some_is e.ended h.how (sym each.0.ended ∙ h.ended) in (
-        faultless_end r e h.how (lines_of (hearing_of r h.how)) same each.0 h.has_heard.read_fault h.tx_fault (h.has_heard.ending (knows.0 ∙ told))
+        faultless_end r e h.how (lines_of (hearing_of r h.how)) same each.0 h.has_heard.read_fault h.tx_fault
+            (h.has_heard.ending (knows.0 ∙ told))
             (bytes_of_run r (h.has_heard.no_loss (knows.0 ∙ told)) (none.0 told)) within.0 steady.0 tx_steady.0,
         all_faultless runs es parts knows.1 none.1 each.1 ran.1 told within.1 steady.1 tx_steady.1,
       )
@@ -177,8 +191,10 @@ module _ (st : Bool) (directory : List Address) where
   each_so [] [] none told each = tt
   each_so [] (h ∷ heard) none told each = absurd each
   each_so (r ∷ runs) [] none told each = absurd each
-  each_so (r ∷ runs) (h ∷ heard) none told each =
-      (record { ended = each.0.ended; lines = each.0.lines; first_bytes = bytes_of_run r each.0.no_loss (none.0 told) }, each_so runs heard none.1 told each.1)
+  each_so (r ∷ runs) (h ∷ heard) none told each = (
+    record { ended = each.0.ended; lines = each.0.lines; first_bytes = bytes_of_run r each.0.no_loss (none.0 told) },
+    each_so runs heard none.1 told each.1,
+  )
 
   abbrev end_by : HeardLines → ReceiverEnd
   end_by h = record { counts = counts_of directory (tellings h); ended = h.ended }
@@ -190,7 +206,8 @@ module _ (st : Bool) (directory : List Address) where
       ap (λ (n : Counts). let x : ReceiverEnd = record { counts = n; ended = e.ended } in x) counts
       ∙ ap (λ (v : Ended). let x : ReceiverEnd = record { counts = counts_of directory (tellings h); ended = v } in x) ended
 
-  pub ends_are : (runs : List ReceiverRun) (es : List ReceiverEnd) (heard : List HeardLines) → EachWith IsEnd runs es → EachWith (HasTaken directory) runs heard
+  pub ends_are : (runs : List ReceiverRun) (es : List ReceiverEnd) (heard : List HeardLines) → EachWith IsEnd runs es
+      → EachWith (HasTaken directory) runs heard
       → es ≡ map end_by heard
   ends_are [] [] [] ended taken = refl
   ends_are [] [] (h ∷ heard) ended taken = absurd taken
@@ -204,7 +221,8 @@ module _ (st : Bool) (directory : List Address) where
   unfolding counts_of
   counted heard = refl
 
-  pub each_short : (runs : List ReceiverRun) (es : List ReceiverEnd) (heard : List HeardLines) → EachWith IsEnd runs es → EachWith (HasTaken directory) runs heard
+  pub each_short : (runs : List ReceiverRun) (es : List ReceiverEnd) (heard : List HeardLines) → EachWith IsEnd runs es
+      → EachWith (HasTaken directory) runs heard
       → Each (λ (told : List Told). length told < 2 ^ 32) (map tellings heard)
   each_short runs es [] ended taken = tt
   each_short [] es (h ∷ heard) ended taken = absurd taken
@@ -250,16 +268,19 @@ wrote_or : (kt : Bool) (text now : List ℕ) → (IsTrue kt → now ≡ text) �
 wrote_or true text now wrote = inl (wrote refl)
 wrote_or false text now wrote = inr refl
 
-pub text_of : (kt : Bool) (text : List ℕ) (sink : Change SinkShown) (came : Result Unit Failed) → Wrote kt text sink came → IsTrue kt → HasText text sink
+pub text_of : (kt : Bool) (text : List ℕ) (sink : Change SinkShown) (came : Result Unit Failed) → Wrote kt text sink came → IsTrue kt
+    → HasText text sink
 text_of kt text sink (Ok done) wrote writes = inl (wrote writes)
 text_of kt text sink (Err failed) wrote writes = inr (wrote.0, wrote.1 writes)
 
-pub wrote_same : (kt : Bool) (text text' : List ℕ) (sink : Change SinkShown) (came : Result Unit Failed) → text ≡ text' → Wrote kt text sink came → Wrote kt text' sink came
+pub wrote_same : (kt : Bool) (text text' : List ℕ) (sink : Change SinkShown) (came : Result Unit Failed) → text ≡ text'
+    → Wrote kt text sink came → Wrote kt text' sink came
 wrote_same kt text text' sink came same wrote = subst (λ t. Wrote kt t sink came) same wrote
 
 -- ---- the run
 
-module _ (st kt : Bool) (roster : Change SourceShown) (runs : List ReceiverRun) (next readings report : Change SinkShown) (e : Enrolled) (world : WorldView)
+module _ (st kt : Bool) (roster : Change SourceShown) (runs : List ReceiverRun) (next readings report : Change SinkShown) (e : Enrolled)
+    (world : WorldView)
     (es : List ReceiverEnd) where
   abbrev this : Status → Run
   this result = record {
@@ -295,7 +316,8 @@ module _ (st kt : Bool) (roster : Change SourceShown) (runs : List ReceiverRun) 
     -- the first output that couldn't be written, each one before it being such
     first_unwritten : (P : Output → Type 0) (a b c : Result Unit Failed) (which : ℕ) (o1 o2 o3 : Output)
         → o1.number ≡ 1 → o2.number ≡ 2 → o3.number ≡ 3 → o1.sink ≡ next → o2.sink ≡ readings → o3.sink ≡ report
-        → Writes a b c → ((next.now.written ≡ next_is) ⊎ (kt ≡ false) → P o1) → ((readings.now.written ≡ readings_are) ⊎ (kt ≡ false) → P o2)
+        → Writes a b c → ((next.now.written ≡ next_is) ⊎ (kt ≡ false) → P o1)
+        → ((readings.now.written ≡ readings_are) ⊎ (kt ≡ false) → P o2)
         → unwritten a b c ≡ statuses.Write which → PassUntil P (IsUnwritten which) (o1 ∷ o2 ∷ o3 ∷ [])
     first_unwritten P (Err _) b c which o1 o2 o3 n1 n2 n3 s1 s2 s3 w p1 p2 is =
         let same : 1 ≡ which = write_is 1 which is in
@@ -305,10 +327,14 @@ module _ (st kt : Bool) (roster : Change SourceShown) (runs : List ReceiverRun) 
         inr (p1 (wrote_or kt _ _ w.wrote_next), inl (n2 ∙ same, subst WriteFailed (sym s2) w.wrote_readings.0))
     first_unwritten P (Ok _) (Ok _) (Err _) which o1 o2 o3 n1 n2 n3 s1 s2 s3 w p1 p2 is =
         let same : 3 ≡ which = write_is 3 which is in
-        inr (p1 (wrote_or kt _ _ w.wrote_next), inr (p2 (wrote_or kt _ _ w.wrote_readings), inl (n3 ∙ same, subst WriteFailed (sym s3) w.wrote_report.0)))
+        inr (
+          p1 (wrote_or kt _ _ w.wrote_next),
+          inr (p2 (wrote_or kt _ _ w.wrote_readings), inl (n3 ∙ same, subst WriteFailed (sym s3) w.wrote_report.0)),
+        )
     first_unwritten P (Ok _) (Ok _) (Ok _) which o1 o2 o3 n1 n2 n3 s1 s2 s3 w p1 p2 is = absurd cc
 
-    caused_writes : (a b c : Result Unit Failed) → Writes a b c → (result : Status) → Each (HasEnded ends.End) runs → IsCausedBy (this result) (unwritten a b c)
+    caused_writes : (a b c : Result Unit Failed) → Writes a b c → (result : Status) → Each (HasEnded ends.End) runs
+        → IsCausedBy (this result) (unwritten a b c)
     caused_writes (Err _) b c w result all = (all, inl (refl, w.wrote_next.0))
     caused_writes (Ok _) (Err _) c w result all = (all, inr (tt, inl (refl, w.wrote_readings.0)))
     caused_writes (Ok _) (Ok _) (Err _) w result all = (all, inr (tt, inr (tt, inl (refl, w.wrote_report.0))))
@@ -342,7 +368,8 @@ module _ (st kt : Bool) (roster : Change SourceShown) (runs : List ReceiverRun) 
     heard_stop (statuses.Write which) stops = absurd stops
     heard_stop statuses.Memory stops = absurd stops
 
-    steady_writes : (a b c : Result Unit Failed) → Writes a b c → ¬ WriteFailed next → ¬ WriteFailed readings → ¬ WriteFailed report → unwritten a b c ≡ statuses.Done
+    steady_writes : (a b c : Result Unit Failed) → Writes a b c → ¬ WriteFailed next → ¬ WriteFailed readings → ¬ WriteFailed report
+        → unwritten a b c ≡ statuses.Done
     steady_writes (Err _) b c w n r p = absurd (n w.wrote_next.0)
     steady_writes (Ok _) (Err _) c w n r p = absurd (r w.wrote_readings.0)
     steady_writes (Ok _) (Ok _) (Err _) w n r p = absurd (p w.wrote_report.0)
@@ -350,12 +377,14 @@ module _ (st kt : Bool) (roster : Change SourceShown) (runs : List ReceiverRun) 
 
   -- ---- together
 
-  module _ (a b c : Result Unit Failed) (w : Writes (report_text es world.slots world.strangers) a b c) (each : EachWith IsEnd runs es) (result : Status)
+  module _ (a b c : Result Unit Failed) (w : Writes (report_text es world.slots world.strangers) a b c) (each : EachWith IsEnd runs es)
+      (result : Status)
       (result_is : result ≡ status_after (stop_from 1 es) (unwritten a b c)) where
     abbrev plain : List ℕ
     plain = report_text es world.slots world.strangers
 
-    by_stop : (P : Status → Type 0) → (stop_from 1 es ≡ None → P (unwritten a b c)) → ((s : Status) → stop_from 1 es ≡ Some s → P s) → P result
+    by_stop : (P : Status → Type 0) → (stop_from 1 es ≡ None → P (unwritten a b c)) → ((s : Status) → stop_from 1 es ≡ Some s → P s)
+        → P result
     by_stop P none some = at (stop_from 1 es) refl
       where
         at : (o : Option Status) → stop_from 1 es ≡ o → P result
@@ -367,23 +396,29 @@ module _ (st kt : Bool) (roster : Change SourceShown) (runs : List ReceiverRun) 
         (λ s is. caused_stop plain result s (stops_from 1 runs es each s is))
 
     pub heard_result : was_heard result ≡ true
-    heard_result = by_stop (λ s. was_heard s ≡ true) (λ none. heard_writes plain a b c) (λ s is. heard_stop plain s (stops_from 1 runs es each s is))
+    heard_result = by_stop (λ s. was_heard s ≡ true) (λ none. heard_writes plain a b c)
+        (λ s is. heard_stop plain s (stops_from 1 runs es each s is))
 
     -- after this status no receiver stopped
     no_stop : (s : Status) → (Stops 1 runs s → ⊥) → result ≡ s → unwritten a b c ≡ s
-    no_stop s not is = by_stop (λ r. r ≡ s → unwritten a b c ≡ s) (λ none same. same) (λ t some same. absurd (not (subst (Stops 1 runs) same (stops_from 1 runs es each t some)))) is
+    no_stop s not is = by_stop (λ r. r ≡ s → unwritten a b c ≡ s) (λ none same. same)
+        (λ t some same. absurd (not (subst (Stops 1 runs) same (stops_from 1 runs es each t some)))) is
 
-    pub collected_run : (st_is : Each (λ r. r.source_tells ≡ st) runs) → Each (λ r. IsTrue st → r.source.before.taken ≡ []) runs → length runs < 2 ^ 32
+    pub collected_run : (st_is : Each (λ r. r.source_tells ≡ st) runs) → Each (λ r. IsTrue st → r.source.before.taken ≡ []) runs
+        → length runs < 2 ^ 32
         → IsCollected e.own e.meters runs world → (IsTrue st → roster_of roster.before.left ≡ Ok e) → (IsTrue st → IsReadOut roster)
         → (IsTrue st → LosesNothing roster) → IsRun (this result)
     collected_run knows none few collected found read kept =
         let directory = map address_of e.meters in
         record {
           headline = λ was told.
-              let s : IsHeardSession e.own e.meters runs world = heard_session e.own e.meters runs world (each_known st runs knows told) collected in
+              let s : IsHeardSession e.own e.meters runs world =
+              heard_session e.own e.meters runs world (each_known st runs knows told) collected in
               let heard : Heard = record { enrolled = e; receivers = s.receivers; world = world } in
-              let same : plain ≡ report_of heard = ap (λ l. report_text l world.slots world.strangers) (ends_are st directory runs es s.receivers each s.taken) in
-              let many : length (map tellings s.receivers) ≡ length runs = length-map s.receivers tellings ∙ each_many (HasTaken directory) runs s.receivers s.taken in
+              let same : plain ≡ report_of heard =
+              ap (λ l. report_text l world.slots world.strangers) (ends_are st directory runs es s.receivers each s.taken) in
+              let many : length (map tellings s.receivers) ≡ length runs = length-map s.receivers tellings
+              ∙ each_many (HasTaken directory) runs s.receivers s.taken in
               let is_report : Wrote kt (report_of heard) report c = wrote_same kt plain (report_of heard) report c same w.wrote_report in
               record {
                 heard = heard;
@@ -391,7 +426,8 @@ module _ (st kt : Bool) (roster : Change SourceShown) (runs : List ReceiverRun) 
                 roster_is = found told;
                 receivers = each_so st directory runs s.receivers none told s.taken;
                 session = s.session;
-                told = order_is_told e.own (map tellings s.receivers) (omega arith) (each_short st directory runs es s.receivers each s.taken) e.meters world
+                told = order_is_told e.own (map tellings s.receivers) (omega arith)
+                    (each_short st directory runs es s.receivers each s.taken) e.meters world
                     (map (receiver_end heard) s.receivers) s.session;
                 sent = λ sends. record { parts = s.parts; lines = s.heard; answers = s.answers; sent = s.sent };
                 written = λ writes. (
@@ -401,17 +437,21 @@ module _ (st kt : Bool) (roster : Change SourceShown) (runs : List ReceiverRun) 
                     (text_of kt (report_of heard) report c is_report writes, tt),
                   ),
                 );
-                whole = λ writes all. let o = all_whole plain a b c w (no_stop statuses.Done (λ stops. stops) all) writes in (o.0, (o.1, (o.2 ∙ same, tt)));
+                whole = λ writes all. let o = all_whole plain a b c w (no_stop statuses.Done (λ stops. stops) all) writes in
+                    (o.0, (o.1, (o.2 ∙ same, tt)));
                 stopped = λ writes which is.
                     first_unwritten plain (IsWhole heard) a b c which (record { number = 1; text = next_of; sink = next })
                     (record { number = 2; text = readings_of; sink = readings }) (report_output report) refl refl refl refl refl refl w
-                    (λ o. ⊎_elim (λ t. t) (λ n. absurd (let y = writes in cc)) o) (λ o. ⊎_elim (λ t. t) (λ n. absurd (let y = writes in cc)) o)
+                    (λ o. ⊎_elim (λ t. t) (λ n. absurd (let y = writes in cc)) o) (λ o.
+                    ⊎_elim (λ t. t) (λ n. absurd (let y = writes in cc)) o)
                     (no_stop (statuses.Write which) (λ stops. stops) is);
               };
           status_caused = caused;
           ends_caused = λ told. each_caused st directory runs collected.parts knows collected.each_run;
           refused = λ told line why bad. let yes = found told in absurd cc;
-          complete = λ told f. inl (let all = all_faultless st directory runs es collected.parts knows none each collected.each_run told f.within f.receivers_steady (f.sinks_steady refl) in
+          complete = λ told f. inl (let all =
+              all_faultless st directory runs es collected.parts knows none each collected.each_run told f.within f.receivers_steady
+              (f.sinks_steady refl) in
               result_is ∙ ap (λ o. status_after o (unwritten a b c)) (all_end 1 runs es each all)
               ∙ steady_writes plain a b c w f.outputs_steady.0 f.outputs_steady.1.0 f.outputs_steady.1.1.0);
           no_loss = λ told. (kept told, λ shown. each_keeps st directory runs collected.parts knows collected.each_run told);
@@ -454,8 +494,10 @@ module _ {S K : Type 0} (s : sources.Ghosts S) (k : sinks.Ghosts K) where
   runs_ended [] (n ∷ news) es many each = absurd cc
   runs_ended (o ∷ olds) [] es many each = absurd cc
   runs_ended (o ∷ olds) (n ∷ news) [] many each = absurd each
-  runs_ended (o ∷ olds) (n ∷ news) (e ∷ es) many each =
-      (record { ended = each.0.ended; counts = each.0.counts; few = each.0.few; found_memory = each.0.found_memory }, runs_ended olds news es (suc_is many) each.1)
+  runs_ended (o ∷ olds) (n ∷ news) (e ∷ es) many each = (
+    record { ended = each.0.ended; counts = each.0.counts; few = each.0.few; found_memory = each.0.found_memory },
+    runs_ended olds news es (suc_is many) each.1,
+  )
 
   pub runs_many : (olds news : List (Receiving S K)) → length news ≡ length olds → length (receiver_runs s k olds news) ≡ length olds
   runs_many [] news many = refl
@@ -472,7 +514,8 @@ module _ {S K : Type 0} (s : sources.Ghosts S) (k : sinks.Ghosts K) where
   same_keeps (r ∷ rs) = (refl, same_keeps rs)
 
   -- what receivers heard together
-  pub heard_is : (e : Enrolled) (own : Address) (meters : List Commissioned) (olds olds' news news' : List (Receiving S K)) (h : HeardTogether)
+  pub heard_is : (e : Enrolled) (own : Address) (meters : List Commissioned) (olds olds' news news' : List (Receiving S K))
+      (h : HeardTogether)
       → own ≡ e.own → meters ≡ e.meters → olds' ≡ olds → news' ≡ news → Each (λ r. IsTrue s.tells → s.taken r.source ≡ []) olds'
       → IsCollected own meters (receiver_runs s k olds news) (record { slots = h.collected.slots.items; strangers = h.collected.strangers })
       → length news ≡ length olds → EachWith IsEndOf news' h.ends.items → HaveHeard s k e olds news h
@@ -487,10 +530,12 @@ module _ {S K : Type 0} (s : sources.Ghosts S) (k : sinks.Ghosts K) where
       }
 
   -- what is ready of a session
-  pub ready_is : {E : Type 0} (e : Enrolled) (own : Address) (olds news : List (Receiving S K)) (h : HeardTogether) (result : Result Ready E) → own ≡ e.own
+  pub ready_is : {E : Type 0} (e : Enrolled) (own : Address) (olds news : List (Receiving S K)) (h : HeardTogether)
+      (result : Result Ready E) → own ≡ e.own
       → HaveHeard s k e olds news h → IfOk result (λ r. r.collected.slots.items ≡ h.collected.slots.items)
       → IfOk result (λ r. r.collected.strangers ≡ h.collected.strangers) → IfOk result (λ r. r.ends.items ≡ h.ends.items)
-      → IfOk result (λ r. r.next ≡ next_roster own h.collected.slots.items) → IfOk result (λ r. string_bytes r.readings ≡ readings_text h.collected.slots.items)
+      → IfOk result (λ r. r.next ≡ next_roster own h.collected.slots.items)
+      → IfOk result (λ r. string_bytes r.readings ≡ readings_text h.collected.slots.items)
       → IfOk result (IsReady s k e olds news)
   ready_is e own olds news h (Err _) same have a b c d f = tt
   ready_is e own olds news h (Ok r) same have a b c d f =
@@ -499,7 +544,8 @@ module _ {S K : Type 0} (s : sources.Ghosts S) (k : sinks.Ghosts K) where
       record {
         heard = record {
           untaken = have.untaken;
-          collected = subst (λ x. P (W x r.collected.strangers)) (sym a) (subst (λ y. P (W h.collected.slots.items y)) (sym b) have.collected);
+          collected = subst (λ x. P (W x r.collected.strangers)) (sym a)
+              (subst (λ y. P (W h.collected.slots.items y)) (sym b) have.collected);
           as_many = have.as_many;
           receiver_ends = subst (λ l. EachWith IsEndOf news l) (sym c) have.receiver_ends;
         };
@@ -507,11 +553,13 @@ module _ {S K : Type 0} (s : sources.Ghosts S) (k : sinks.Ghosts K) where
         readings = f ∙ ap readings_text (sym a);
       }
 
-  module _ (roster : Change SourceShown) (next readings report : Change SinkShown) (e : Enrolled) (olds news : List (Receiving S K)) (ready : Ready)
+  module _ (roster : Change SourceShown) (next readings report : Change SinkShown) (e : Enrolled) (olds news : List (Receiving S K))
+      (ready : Ready)
       (is : IsReady s k e olds news ready) (few : length olds < 2 ^ 32) (a b c : Result Unit Failed)
       (wrote_next : Wrote k.tells (roster_text ready.next) next a) (wrote_readings : Wrote k.tells (string_bytes ready.readings) readings b)
       (wrote_report : Wrote k.tells (report_text ready.ends.items ready.collected.slots.items ready.collected.strangers) report c)
-      (stop : Option Status) (stop_is : stop ≡ stop_from 1 ready.ends.items) (result : Status) (result_is : result ≡ status_after stop (unwritten a b c)) where
+      (stop : Option Status) (stop_is : stop ≡ stop_from 1 ready.ends.items) (result : Status)
+      (result_is : result ≡ status_after stop (unwritten a b c)) where
     abbrev runs : List ReceiverRun
     runs = receiver_runs s k olds news
 
@@ -532,7 +580,8 @@ module _ {S K : Type 0} (s : sources.Ghosts S) (k : sinks.Ghosts K) where
       wrote_report = wrote_report;
     }
 
-    pub ready_run : (IsTrue s.tells → roster_of roster.before.left ≡ Ok e) → (IsTrue s.tells → IsReadOut roster) → (IsTrue s.tells → LosesNothing roster)
+    pub ready_run : (IsTrue s.tells → roster_of roster.before.left ≡ Ok e) → (IsTrue s.tells → IsReadOut roster)
+        → (IsTrue s.tells → LosesNothing roster)
         → IsRun (this s.tells k.tells roster runs next readings report e world ready.ends.items result)
     ready_run found read kept =
         let many = runs_many olds news is.heard.as_many in

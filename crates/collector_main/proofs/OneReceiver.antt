@@ -25,13 +25,15 @@ module _ {X Y : Type 0} (source line : X → ℕ) (what : X → Y) where
   all_first lines xs is none = from_parts source line what (λ x. source x ≡ 1) xs (λ w. at w (1 == w) refl)
     where
       at : (w : ℕ) (b : Bool) → (1 == w) ≡ b → Each (λ x. source x ≡ 1) (part source line what w xs)
-      at w true e = subst (λ (n : ℕ). Each (λ x. source x ≡ n) (part source line what w xs)) (sym (is_number 1 w e)) (of_source source line what w xs)
+      at w true e = subst (λ (n : ℕ). Each (λ x. source x ≡ n) (part source line what w xs)) (sym (is_number 1 w e))
+          (of_source source line what w xs)
       at w false e = subst (Each (λ x. source x ≡ 1)) (sym (none_mapped source line what (part source line what w xs) (is w ∙ none w e))) tt
 
   -- then its part is all of them
   all_of_it : (xs : List X) → Each (λ x. source x ≡ 1) xs → part source line what 1 xs ≡ xs
   all_of_it [] h = refl
-  all_of_it (x ∷ xs) h = ap (λ n. cond (n == 1) (x ∷ part source line what 1 xs) (part source line what 1 xs)) h.0 ∙ ap (λ ys. x ∷ ys) (all_of_it xs h.1)
+  all_of_it (x ∷ xs) h = ap (λ n. cond (n == 1) (x ∷ part source line what 1 xs) (part source line what 1 xs)) h.0
+      ∙ ap (λ ys. x ∷ ys) (all_of_it xs h.1)
 
 -- what a receiver of another number is told of one receiver's lines
 others : {X : Type 0} (f : List Told → List X) (heard : List Told) (w : ℕ) → f [] ≡ [] → (1 == w) ≡ false → f (heard_by w (heard ∷ [])) ≡ []
@@ -42,19 +44,24 @@ others f heard w none e = ap (λ b. f (cond b heard [])) e ∙ none
 abbrev placed : ℕ × Event → ℕ × ℕ
 placed l = (1, l.0)
 
-order_is : (journal : List Entry) → Each (λ (x : Entry). x.source ≡ 1) journal → order_of journal ≡ map placed (map (λ (x : Entry). (x.line, x.event)) journal)
+order_is : (journal : List Entry) → Each (λ (x : Entry). x.source ≡ 1) journal
+    → order_of journal ≡ map placed (map (λ (x : Entry). (x.line, x.event)) journal)
 order_is [] h = refl
 order_is (x ∷ xs) h = ap (λ n. (n, x.line) ∷ order_of xs) h.0 ∙ ap (λ t. (1, x.line) ∷ t) (order_is xs h.1)
 
-order_alone : (own : Address) (c : Commissioned) (heard : List Told) (slot : SlotView) → IsMetersSlot own (heard ∷ []) c slot → order_of slot.journal ≡ map placed (lines_for c.address heard)
+order_alone : (own : Address) (c : Commissioned) (heard : List Told) (slot : SlotView) → IsMetersSlot own (heard ∷ []) c slot
+    → order_of slot.journal ≡ map placed (lines_for c.address heard)
 order_alone own c heard slot h =
-    let first = all_first (λ (x : Entry). x.source) (λ (x : Entry). x.line) (λ (x : Entry). x.event) (λ w. lines_for c.address (heard_by w (heard ∷ []))) slot.journal h.lines
+    let first = all_first (λ (x : Entry). x.source) (λ (x : Entry). x.line) (λ (x : Entry). x.event)
+    (λ w. lines_for c.address (heard_by w (heard ∷ []))) slot.journal h.lines
     (λ w e. others (lines_for c.address) heard w refl e) in
     order_is slot.journal first
-    ∙ ap (λ j. map placed (map (λ (x : Entry). (x.line, x.event)) j)) (sym (all_of_it (λ (x : Entry). x.source) (λ (x : Entry). x.line) (λ (x : Entry). x.event) slot.journal first))
+    ∙ ap (λ j. map placed (map (λ (x : Entry). (x.line, x.event)) j))
+    (sym (all_of_it (λ (x : Entry). x.source) (λ (x : Entry). x.line) (λ (x : Entry). x.event) slot.journal first))
     ∙ ap (map placed) (h.lines 1)
 
-slots_one : (own : Address) (heard : List Told) (cs : List Commissioned) (slots again : List SlotView) → EachWith (IsMetersSlot own (heard ∷ [])) cs slots
+slots_one : (own : Address) (heard : List Told) (cs : List Commissioned) (slots again : List SlotView)
+    → EachWith (IsMetersSlot own (heard ∷ [])) cs slots
     → EachWith (IsMetersSlot own (heard ∷ [])) cs again → slots ≡ again
 slots_one own heard [] [] [] one two = refl
 slots_one own heard [] [] (b ∷ again) one two = absurd two
@@ -62,7 +69,9 @@ slots_one own heard [] (s ∷ slots) again one two = absurd one
 slots_one own heard (c ∷ cs) [] again one two = absurd one
 slots_one own heard (c ∷ cs) (s ∷ slots) [] one two = absurd two
 slots_one own heard (c ∷ cs) (s ∷ slots) (b ∷ again) one two =
-    ap (λ (x : SlotView). x ∷ slots) (one_slot own c (heard ∷ []) (heard ∷ []) s b one.0 two.0 (λ w. refl) (order_alone own c heard s one.0 ∙ sym (order_alone own c heard b two.0)))
+    ap (λ (x : SlotView). x ∷ slots)
+    (one_slot own c (heard ∷ []) (heard ∷ []) s b one.0 two.0 (λ w. refl) (order_alone own c heard s one.0
+    ∙ sym (order_alone own c heard b two.0)))
     ∙ ap (λ t. b ∷ t) (slots_one own heard cs slots again one.1 two.1)
 
 -- ---- the strangers
@@ -70,18 +79,23 @@ slots_one own heard (c ∷ cs) (s ∷ slots) (b ∷ again) one two =
 abbrev noted : ℕ × Address → Heard
 noted l = record { source = 1; line = l.0; address = l.1 }
 
-notes_are : (notes : List Heard) → Each (λ (h : Heard). h.source ≡ 1) notes → notes ≡ map noted (map (λ (h : Heard). (h.line, h.address)) notes)
+notes_are : (notes : List Heard) → Each (λ (h : Heard). h.source ≡ 1) notes
+    → notes ≡ map noted (map (λ (h : Heard). (h.line, h.address)) notes)
 notes_are [] h = refl
 notes_are (x ∷ xs) h =
-    ap (λ n. let y : Heard = record { source = n; line = x.line; address = x.address } in y ∷ xs) h.0 ∙ ap (λ t. noted (x.line, x.address) ∷ t) (notes_are xs h.1)
+    ap (λ n. let y : Heard = record { source = n; line = x.line; address = x.address } in y ∷ xs) h.0
+    ∙ ap (λ t. noted (x.line, x.address) ∷ t) (notes_are xs h.1)
 
-notes_alone : (cs : List Commissioned) (heard : List Told) (notes : List Heard) → ((w : ℕ) → notes_by w notes ≡ lines_of_strangers cs (heard_by w (heard ∷ [])))
+notes_alone : (cs : List Commissioned) (heard : List Told) (notes : List Heard)
+    → ((w : ℕ) → notes_by w notes ≡ lines_of_strangers cs (heard_by w (heard ∷ [])))
     → notes ≡ map noted (lines_of_strangers cs heard)
 notes_alone cs heard notes h =
-    let first = all_first (λ (x : Heard). x.source) (λ (x : Heard). x.line) (λ (x : Heard). x.address) (λ w. lines_of_strangers cs (heard_by w (heard ∷ []))) notes h
+    let first = all_first (λ (x : Heard). x.source) (λ (x : Heard). x.line) (λ (x : Heard). x.address)
+    (λ w. lines_of_strangers cs (heard_by w (heard ∷ []))) notes h
     (λ w e. others (lines_of_strangers cs) heard w refl e) in
     notes_are notes first
-    ∙ ap (λ j. map noted (map (λ (x : Heard). (x.line, x.address)) j)) (sym (all_of_it (λ (x : Heard). x.source) (λ (x : Heard). x.line) (λ (x : Heard). x.address) notes first))
+    ∙ ap (λ j. map noted (map (λ (x : Heard). (x.line, x.address)) j))
+    (sym (all_of_it (λ (x : Heard). x.source) (λ (x : Heard). x.line) (λ (x : Heard). x.address) notes first))
     ∙ ap (map noted) (h 1)
 
 -- ---- the session
@@ -89,10 +103,14 @@ notes_alone cs heard notes h =
 abbrev world_with : List SlotView → List Heard → WorldView
 world_with slots strangers = record { slots = slots; strangers = strangers }
 
-two_are_one : (own : Address) (cs : List Commissioned) (heard : List Told) (world again : WorldView) → IsSession own cs (heard ∷ []) world → IsSession own cs (heard ∷ []) again → world ≡ again
+two_are_one : (own : Address) (cs : List Commissioned) (heard : List Told) (world again : WorldView) → IsSession own cs (heard ∷ []) world
+    → IsSession own cs (heard ∷ []) again → world ≡ again
 two_are_one own cs heard world again one two =
     ap (λ slots. world_with slots world.strangers) (slots_one own heard cs world.slots again.slots one.meters two.meters)
-    ∙ ap (world_with again.slots) (notes_alone cs heard world.strangers one.strangers ∙ sym (notes_alone cs heard again.strangers two.strangers))
+    ∙ ap (world_with again.slots) (notes_alone cs heard world.strangers one.strangers
+    ∙ sym (notes_alone cs heard again.strangers two.strangers))
 
-pub session_fixed : (own : Address) (cs : List Commissioned) (heard : List Told) (world : WorldView) → IsSession own cs (heard ∷ []) world → world ≡ world_of own cs (steps_of 1 heard)
-session_fixed own cs heard world session = two_are_one own cs heard world (world_of own cs (steps_of 1 heard)) session (session_alone own cs heard)
+pub session_fixed : (own : Address) (cs : List Commissioned) (heard : List Told) (world : WorldView) → IsSession own cs (heard ∷ []) world
+    → world ≡ world_of own cs (steps_of 1 heard)
+session_fixed own cs heard world session =
+    two_are_one own cs heard world (world_of own cs (steps_of 1 heard)) session (session_alone own cs heard)

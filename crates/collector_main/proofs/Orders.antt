@@ -51,18 +51,22 @@ module _ {X Y : Type 0} (source line : X → ℕ) (what : X → Y) where
 
   pub from_parts : (P : X → Type 0) (xs : List X) → ((w : ℕ) → Each P (part w xs)) → Each P xs
   from_parts P [] h = tt
-  from_parts P (x ∷ xs) h =
-      (front_of P x (part (source x) xs) (source x == source x) (same_number (source x)) (h (source x)), from_parts P xs (λ w. rest_of P x (part w xs) (source x == w) (h w)))
+  from_parts P (x ∷ xs) h = (
+    front_of P x (part (source x) xs) (source x == source x) (same_number (source x)) (h (source x)),
+    from_parts P xs (λ w. rest_of P x (part w xs) (source x == w) (h w)),
+  )
 
   pub of_source : (w : ℕ) (xs : List X) → Each (λ x. source x ≡ w) (part w xs)
   of_source w [] = tt
   of_source w (x ∷ xs) = at (source x == w) refl (of_source w xs)
     where
-      at : (b : Bool) → (source x == w) ≡ b → Each (λ y. source y ≡ w) (part w xs) → Each (λ y. source y ≡ w) (cond b (x ∷ part w xs) (part w xs))
+      at : (b : Bool) → (source x == w) ≡ b → Each (λ y. source y ≡ w) (part w xs)
+          → Each (λ y. source y ≡ w) (cond b (x ∷ part w xs) (part w xs))
       at true e rest = (is_number (source x) w e, rest)
       at false e rest = rest
 
-  fit_together : (w : ℕ) → w < 2 ^ 32 → (xs : List X) → Each (λ x. source x ≡ w) xs → Each (λ (p : ℕ × Y). p.0 < 2 ^ 32) (map pair_of xs) → Each Fits xs
+  fit_together : (w : ℕ) → w < 2 ^ 32 → (xs : List X) → Each (λ x. source x ≡ w) xs → Each (λ (p : ℕ × Y). p.0 < 2 ^ 32) (map pair_of xs)
+      → Each Fits xs
   fit_together w small [] from few = tt
   fit_together w small (x ∷ xs) from few = ((omega (arith, from.0), few.0), fit_together w small xs from.1 few.1)
 
@@ -70,19 +74,22 @@ module _ {X Y : Type 0} (source line : X → ℕ) (what : X → Y) where
   none_mapped [] e = refl
   none_mapped (x ∷ xs) e = absurd cc
 
-  part_fits : (w : ℕ) (xs : List X) (lines : List (ℕ × Y)) → told_so w xs ≡ lines → Each (λ (p : ℕ × Y). p.0 < 2 ^ 32) lines → (w < 2 ^ 32) ⊎ (lines ≡ []) → Each Fits (part w xs)
+  part_fits : (w : ℕ) (xs : List X) (lines : List (ℕ × Y)) → told_so w xs ≡ lines → Each (λ (p : ℕ × Y). p.0 < 2 ^ 32) lines
+      → (w < 2 ^ 32) ⊎ (lines ≡ []) → Each Fits (part w xs)
   part_fits w xs lines is few known =
       ⊎_elim (λ small. fit_together w small (part w xs) (of_source w xs) (subst (Each (λ (p : ℕ × Y). p.0 < 2 ^ 32)) (sym is) few))
       (λ none. subst (Each Fits) (sym (none_mapped (part w xs) (is ∙ none))) tt) known
 
-  all_fit : (lines : ℕ → List (ℕ × Y)) (xs : List X) → ((w : ℕ) → told_so w xs ≡ lines w) → ((w : ℕ) → Each (λ (p : ℕ × Y). p.0 < 2 ^ 32) (lines w))
+  all_fit : (lines : ℕ → List (ℕ × Y)) (xs : List X) → ((w : ℕ) → told_so w xs ≡ lines w)
+      → ((w : ℕ) → Each (λ (p : ℕ × Y). p.0 < 2 ^ 32) (lines w))
       → ((w : ℕ) → (w < 2 ^ 32) ⊎ (lines w ≡ [])) → Each Fits xs
   all_fit lines xs is few known = from_parts Fits xs (λ w. part_fits w xs (lines w) (is w) (few w) (known w))
 
 -- ---- numbers of lines
 
 module _ {Y : Type 0} (f : ℕ × Told → Option (ℕ × Y)) (keeps : (l : ℕ × Told) (p : ℕ × Y) → f l ≡ Some p → p.0 ≡ l.0) where
-  few_lines : (n : ℕ) (heard : List Told) → n + length heard ≤ 2 ^ 32 → Each (λ (p : ℕ × Y). p.0 < 2 ^ 32) (filter_map f (enumerate_from n heard))
+  few_lines : (n : ℕ) (heard : List Told) → n + length heard ≤ 2 ^ 32
+      → Each (λ (p : ℕ × Y). p.0 < 2 ^ 32) (filter_map f (enumerate_from n heard))
   few_lines n [] few = tt
   few_lines n (t ∷ heard) few = at (f (n, t)) refl (few_lines (n + 1) heard (omega arith))
     where
@@ -115,7 +122,8 @@ no_receiver : (n w : ℕ) (all : List (List Told)) → n + length all ≤ 2 ^ 32
 no_receiver n w [] few = inr refl
 no_receiver n w (heard ∷ all) few = at (n == w) refl (no_receiver (n + 1) w all (omega arith))
   where
-    at : (b : Bool) → (n == w) ≡ b → (w < 2 ^ 32) ⊎ (heard_from (n + 1) w all ≡ []) → (w < 2 ^ 32) ⊎ (cond b heard (heard_from (n + 1) w all) ≡ [])
+    at : (b : Bool) → (n == w) ≡ b → (w < 2 ^ 32) ⊎ (heard_from (n + 1) w all ≡ [])
+        → (w < 2 ^ 32) ⊎ (cond b heard (heard_from (n + 1) w all) ≡ [])
     at true e later = inl (let same = is_number n w e in omega (arith, same))
     at false e later = later
 
@@ -135,26 +143,31 @@ each_placed place (x ∷ xs) h = All-cons IsCounted (place x) (map place xs) h.0
 
 module _ (own : Address) (all : List (List Told)) (few : length all < 2 ^ 32) (short : Each (λ heard. length heard < 2 ^ 32) all) where
   none_there : {Y : Type 0} (f : ℕ × Told → Option (ℕ × Y)) (w : ℕ) → (w < 2 ^ 32) ⊎ (filter_map f (enumerate_from 1 (heard_by w all)) ≡ [])
-  none_there f w = ⊎_elim (λ small. inl small) (λ none. inr (ap (λ h. filter_map f (enumerate_from 1 h)) none)) (no_receiver 1 w all (omega arith))
+  none_there f w = ⊎_elim (λ small. inl small) (λ none. inr (ap (λ h. filter_map f (enumerate_from 1 h)) none))
+      (no_receiver 1 w all (omega arith))
 
   slot_counted : (c : Commissioned) (b : SlotView) → IsMetersSlot own all c b → All IsCounted (order_of b)
   slot_counted c b slot =
       each_placed place_of_step b.journal
-      (all_fit (λ (x : Entry). x.source) (λ (x : Entry). x.line) (λ (x : Entry). x.event) (λ w. lines_for c.address (heard_by w all)) b.journal slot.lines
+      (all_fit (λ (x : Entry). x.source) (λ (x : Entry). x.line) (λ (x : Entry). x.event) (λ w. lines_for c.address (heard_by w all))
+      b.journal slot.lines
       (λ w. few_lines (λ l. event_at c.address l.0 l.1) (keeps_event c.address) 1 (heard_by w all) (omega (arith, few_of 1 w all short)))
       (none_there (λ l. event_at c.address l.0 l.1)))
 
-  pub slots_counted : (cs : List Commissioned) (slots : List SlotView) → EachWith (IsMetersSlot own all) cs slots → All (λ order. All IsCounted order) (map order_of slots)
+  pub slots_counted : (cs : List Commissioned) (slots : List SlotView) → EachWith (IsMetersSlot own all) cs slots
+      → All (λ order. All IsCounted order) (map order_of slots)
   slots_counted [] [] each = All-nil (λ order. All IsCounted order)
   slots_counted [] (b ∷ slots) each = absurd each
   slots_counted (c ∷ cs) [] each = absurd each
-  slots_counted (c ∷ cs) (b ∷ slots) each = All-cons (λ order. All IsCounted order) (order_of b) (map order_of slots) (slot_counted c b each.0) (slots_counted cs slots each.1)
+  slots_counted (c ∷ cs) (b ∷ slots) each =
+      All-cons (λ order. All IsCounted order) (order_of b) (map order_of slots) (slot_counted c b each.0) (slots_counted cs slots each.1)
 
   pub strangers_counted : (cs : List Commissioned) (world : WorldView) → IsSession own cs all world
       → All IsCounted (map place_of_stranger world.strangers)
   strangers_counted cs world session =
       each_placed place_of_stranger world.strangers
-      (all_fit (λ (h : Heard). h.source) (λ (h : Heard). h.line) (λ (h : Heard). h.address) (λ w. lines_of_strangers cs (heard_by w all)) world.strangers session.strangers
+      (all_fit (λ (h : Heard). h.source) (λ (h : Heard). h.line) (λ (h : Heard). h.address) (λ w. lines_of_strangers cs (heard_by w all))
+      world.strangers session.strangers
       (λ w. few_lines (λ l. stranger_at cs l.0 l.1) (keeps_stranger cs) 1 (heard_by w all) (omega (arith, few_of 1 w all short)))
       (none_there (λ l. stranger_at cs l.0 l.1)))
 

@@ -29,7 +29,8 @@ use Rattle.collector_main.specs.Showing.{report_output}
 use Rattle.collector_main.specs.Statuses.{IsDone, IsRefused, IsFinished, was_heard}
 use Rattle.collector_main.proofs.Orders.{order_is_told}
 
-counted : (directory : List Address) (heard : List Told) (counts : Counts) → counts ≡ counts_of directory heard → counts.lines ≡ length heard
+counted : (directory : List Address) (heard : List Told) (counts : Counts) → counts ≡ counts_of directory heard
+    → counts.lines ≡ length heard
 unfolding counts_of
 counted directory heard counts is = ap (λ (n : Counts). n.lines) is
 
@@ -138,8 +139,10 @@ module _ (st kt : Bool) (roster : Change SourceShown) (runs : List ReceiverRun) 
   }
 
 -- the same of one receiver that is heard alone
-pub alone_unheard : (st kt : Bool) (roster : Change SourceShown) (r : ReceiverRun) (report : Change SinkShown) (status : Status) (ended : Option Ended)
-    → IsRosterStatus st roster status → r.ended ≡ ended → IsUnended ended → (IsTrue st → LosesNothing roster) → (IsTrue st → LosesNothing r.source)
+pub alone_unheard : (st kt : Bool) (roster : Change SourceShown) (r : ReceiverRun) (report : Change SinkShown) (status : Status)
+    (ended : Option Ended)
+    → IsRosterStatus st roster status → r.ended ≡ ended → IsUnended ended → (IsTrue st → LosesNothing roster)
+    → (IsTrue st → LosesNothing r.source)
     → IsSilent report → IsRun (run_of st kt roster r report status)
 alone_unheard st kt roster r report status ended why is none kept lost silent =
     unheard_run st kt roster (r ∷ []) false (report_output report ∷ []) status why
@@ -155,8 +158,10 @@ module _ (st kt : Bool) (roster : Change SourceShown) (r : ReceiverRun) (report 
   caused ends.End is never finished =
       ⊎_elim (λ same. subst (IsCausedBy this) (sym same) (is, tt))
       (λ failed. subst (IsCausedBy this) (sym failed.0) ((is, tt), inl (refl, failed.1))) finished
-  caused ends.Cut is never finished = let same : result ≡ statuses.Cut 1 = ⊎_elim (λ s. s) (λ f. f.0) finished in subst (IsCausedBy this) (sym same) (inl (refl, is))
-  caused ends.ReadFault is never finished = let same : result ≡ statuses.Read 1 = ⊎_elim (λ s. s) (λ f. f.0) finished in subst (IsCausedBy this) (sym same) (inl (refl, is))
+  caused ends.Cut is never finished = let same : result ≡ statuses.Cut 1 = ⊎_elim (λ s. s) (λ f. f.0) finished in
+      subst (IsCausedBy this) (sym same) (inl (refl, is))
+  caused ends.ReadFault is never finished = let same : result ≡ statuses.Read 1 = ⊎_elim (λ s. s) (λ f. f.0) finished in
+      subst (IsCausedBy this) (sym same) (inl (refl, is))
   caused ends.TxFault is never finished = absurd (never.0 refl)
   caused ends.Memory is never finished = absurd (never.1 refl)
 
@@ -176,8 +181,10 @@ module _ (st kt : Bool) (roster : Change SourceShown) (r : ReceiverRun) (report 
   end_caused ends.Memory lines cause never ending = absurd (never.1 refl)
 
   completed : (ended : Ended) (lines : List (List ℕ)) → IsFaultless this → (ended ≡ ends.ReadFault → ReadFailed r.source) → IsHeardEnd ended
-      → IsEnding ended r.source.now.taken r.source.now.left lines → r.source.now.taken ++ r.source.now.left ≡ r.source.before.left → IsFinished ended report result → IsDone result
-  completed ends.End lines f cause never ending bytes finished = ⊎_elim (λ same. inl same) (λ failed. absurd (f.outputs_steady.0 failed.1)) finished
+      → IsEnding ended r.source.now.taken r.source.now.left lines → r.source.now.taken ++ r.source.now.left ≡ r.source.before.left
+      → IsFinished ended report result → IsDone result
+  completed ends.End lines f cause never ending bytes finished =
+      ⊎_elim (λ same. inl same) (λ failed. absurd (f.outputs_steady.0 failed.1)) finished
   completed ends.Cut lines f cause never ending bytes finished =
       let over = ap is_over (sym bytes) ∙ ending.source_over in let within = f.within.0 in absurd cc
   completed ends.ReadFault lines f cause never ending bytes finished = absurd (f.receivers_steady.0 (cause refl))
@@ -185,19 +192,23 @@ module _ (st kt : Bool) (roster : Change SourceShown) (r : ReceiverRun) (report 
   completed ends.Memory lines f cause never ending bytes finished = absurd (never.1 refl)
 
   -- the receiver was heard
-  pub heard_run : (e : Enrolled) (ended ended' : Ended) (counts counts' : Counts) (fresh world : WorldView) → ended ≡ ended' → counts ≡ counts'
+  pub heard_run : (e : Enrolled) (ended ended' : Ended) (counts counts' : Counts) (fresh world : WorldView) → ended ≡ ended'
+      → counts ≡ counts'
       → (IsTrue st → roster_of roster.before.left ≡ Ok e) → (IsTrue st → IsReadOut roster) → (IsTrue st → LosesNothing roster)
       → r.ended ≡ Some ended' → fresh ≡ world_of e.own e.meters [] → counts.lines < 2 ^ 32
       → HasHeardAlone 1 (record { tells = st; source = r.source; counts = counts'; ended = ended' }) fresh world
       → (IsTrue st → r.source.before.taken ≡ []) → IsHeardEnd ended'
       → IsFinished ended report result
       → (IsTrue kt → HasText (report_text (record { counts = counts; ended = ended } ∷ []) world.slots world.strangers) report)
-      → (result ≡ statuses.Done → IsTrue kt → report.now.written ≡ report_text (record { counts = counts; ended = ended } ∷ []) world.slots world.strangers)
+      → (result ≡ statuses.Done → IsTrue kt
+      → report.now.written ≡ report_text (record { counts = counts; ended = ended } ∷ []) world.slots world.strangers)
       → IsRun this
-  heard_run e ended ended' counts counts' fresh world same_end same_counts found read kept is' before few hears' untaken never' finished written done =
+  heard_run e ended ended' counts counts' fresh world same_end same_counts found read kept is' before few hears' untaken never' finished
+      written done =
       let is : r.ended ≡ Some ended = is' ∙ ap Some (sym same_end) in
       let never : IsHeardEnd ended = (λ t. never'.0 (sym same_end ∙ t), λ m. never'.1 (sym same_end ∙ m)) in
-      let Hears : Counts → Ended → Type 0 = λ n end. HasHeardAlone 1 (record { tells = st; source = r.source; counts = n; ended = end }) fresh world in
+      let Hears : Counts → Ended
+      → Type 0 = λ n end. HasHeardAlone 1 (record { tells = st; source = r.source; counts = n; ended = end }) fresh world in
       let hears : HasHeardAlone 1 (record { tells = st; source = r.source; counts = counts; ended = ended }) fresh world =
       subst (λ (n : Counts). Hears n ended) (sym same_counts) (subst (λ (end : Ended). Hears counts' end) (sym same_end) hears') in
       let h : Hearing = record { tells = st; source = r.source; counts = counts; ended = ended } in
@@ -213,7 +224,8 @@ module _ (st kt : Bool) (roster : Change SourceShown) (r : ReceiverRun) (report 
             ap (λ n. report_text (record { counts = n; ended = ended } ∷ []) world.slots world.strangers)
             (alone.has_heard.counts ∙ ap (counts_of (map (λ c. c.address) e.meters)) tells) in
             let short : length (map told_of lines) < 2 ^ 32 =
-            subst (λ (t : List Told). length t < 2 ^ 32) tells (subst (λ n. n < 2 ^ 32) (counted (map (λ c. c.address) e.meters) _ counts alone.has_heard.counts) few) in
+            subst (λ (t : List Told). length t < 2 ^ 32) tells
+            (subst (λ n. n < 2 ^ 32) (counted (map (λ c. c.address) e.meters) _ counts alone.has_heard.counts) few) in
             let session = subst (λ (t : List Told). IsSession e.own e.meters (t ∷ []) world) tells alone.session in
             record {
               heard = heard;
@@ -226,10 +238,12 @@ module _ (st kt : Bool) (roster : Change SourceShown) (r : ReceiverRun) (report 
                   (record { counts = counts_of (map (λ c. c.address) e.meters) (map told_of lines); ended = ended } ∷ []) session;
               written = λ writes. (subst (λ t. HasText t report) same (written writes), tt);
               whole = λ writes all. (done all writes ∙ same, tt);
-              stopped = λ writes which stop. ⊎_elim (λ at. inl at) (λ later. absurd later.1) (subst (IsCausedBy this) stop (caused ended is never finished)).1;
+              stopped = λ writes which stop.
+                  ⊎_elim (λ at. inl at) (λ later. absurd later.1) (subst (IsCausedBy this) stop (caused ended is never finished)).1;
             };
         status_caused = caused ended is never finished;
-        ends_caused = λ shown. (subst (EndIsCaused st r) (sym is) (end_caused ended lines alone.has_heard.read_fault never alone.has_heard.ending), tt);
+        ends_caused = λ shown.
+            (subst (EndIsCaused st r) (sym is) (end_caused ended lines alone.has_heard.read_fault never alone.has_heard.ending), tt);
         refused = λ told line why bad. let yes = found told in absurd cc;
         complete = λ told f. completed ended lines f alone.has_heard.read_fault never (alone.has_heard.ending told) (bytes told) finished;
         no_loss = λ told. (kept told, λ shown. (alone.has_heard.no_loss told, tt));

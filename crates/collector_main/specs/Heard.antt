@@ -39,7 +39,12 @@ readings_of heard = readings_text heard.world.slots
 unfoldable pub commission_now : SlotView → Commissioned
 commission_now b =
     let earlier = reverse b.journal in let k = orders b.commission earlier in
-    record b.commission { other = other_key b.commission earlier; last = last_counter b.commission earlier; down = k.down; ids = k.queue.ids }
+    record b.commission {
+      other = other_key b.commission earlier;
+      last = last_counter b.commission earlier;
+      down = k.down;
+      ids = k.queue.ids;
+    }
 
 -- the roster of the next session: the slots' commissions as they are now
 abbrev pub next_roster : Address → List SlotView → Enrolled

@@ -63,7 +63,8 @@ IsUnwritten which o = (o.number ≡ which) × WriteFailed o.sink
 
 -- The headline: the roster was read to its end and is one, each receiver was heard, each meter's slot is that of its own lines alone and
 -- the strangers' list has the others, the report's text tells their order, the receivers' sinks have the downlinks of just this, and the
--- outputs their texts: after status 0 whole, after status 7 whole before the one that the status names, and else a front where a write failed.
+-- outputs their texts: after status 0 whole, after status 7 whole before the one that the status names, and else a front where a write
+-- failed.
 pub record Headline (run : Run) : Type 0 where
   pub heard : Heard
   pub roster_read : IsReadOut run.roster

@@ -20,7 +20,11 @@ report_output report = record { number = 3; text = report_of; sink = report }
 -- all outputs: the next roster, the readings, the report
 abbrev pub all_outputs : (next readings report : Change SinkShown) → List Output
 all_outputs next readings report =
-    record { number = 1; text = next_of; sink = next } ∷ record { number = 2; text = readings_of; sink = readings } ∷ report_output report ∷ []
+    record { number = 1; text = next_of; sink = next } ∷ record {
+      number = 2;
+      text = readings_of;
+      sink = readings;
+    } ∷ report_output report ∷ []
 
 -- how many receivers a plan names
 abbrev pub receiver_count : Plan → ℕ

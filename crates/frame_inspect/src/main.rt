@@ -32,6 +32,9 @@ threads; the output doesn't depend on it.
 
 exit status: 0 done, 2 faulty words, 5 file not read, 7 output not written,
 8 file past its limit, 10 no memory, 11 the file can't be opened
+
+docs/FORMATS.md says what each fault, refusal and message means and what to do about
+it; docs/frame_inspect.1 is the man page.
 ";
 
 const VERSION: &str = "frame_inspect 0.1.0\n";

@@ -36,6 +36,9 @@ which were not heard, and which strangers were heard most often.
 exit status: 0 no line is faulty, 1 some are, 2 faulty words, 5 a file not read,
 7 output not written, 8 a file past its limit, 10 no memory, 11 a file that
 can't be opened
+
+docs/FORMATS.md says what each fault, refusal and message means and what to do about
+it; docs/input_check.1 is the man page.
 ";
 
 const VERSION: &str = "input_check 0.1.0\n";

@@ -35,7 +35,8 @@ told_by tells teller p p' q q' text note one two told = record {
 }
 
 -- a note is noted where it is written, or the write failed
-pub noted_by : (result : Result (Unit {0}) Failed) (note : List ℕ) (sink : Change SinkShown) → OnOk result (sink.now.written ≡ sink.before.written ++ note)
+pub noted_by : (result : Result (Unit {0}) Failed) (note : List ℕ) (sink : Change SinkShown)
+    → OnOk result (sink.now.written ≡ sink.before.written ++ note)
     → OnErr result (WriteFailed sink) → IsNoted note sink
 noted_by (Ok done) note sink ok err = λ off. ok
 noted_by (Err failed) note sink ok err = λ off. absurd (off err)

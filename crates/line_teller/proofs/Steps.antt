@@ -20,11 +20,13 @@ use Rattle.line_teller.specs.Standing.{Pours, PoursMore, Steps, EndsStep, Stands
 -- ---- what the reader gives
 
 -- one more line was given
-pub more_by_line : (next : NextText) (longest : ℕ) (text : List ℕ) (old new : List (List ℕ)) → next ≡ texts.Line → GivesText (Ok next) longest text old new
+pub more_by_line : (next : NextText) (longest : ℕ) (text : List ℕ) (old new : List (List ℕ)) → next ≡ texts.Line
+    → GivesText (Ok next) longest text old new
     → new ≡ old ++ text ∷ []
 more_by_line next longest text old new is gives = subst (λ n. GivesText (Ok n) longest text old new) is gives
 
-pub long_by_line : (next : NextText) (longest : ℕ) (text : List ℕ) (old new : List (List ℕ)) → next ≡ texts.TooLong → GivesText (Ok next) longest text old new
+pub long_by_line : (next : NextText) (longest : ℕ) (text : List ℕ) (old new : List (List ℕ)) → next ≡ texts.TooLong
+    → GivesText (Ok next) longest text old new
     → GivesLongLine longest old new
 long_by_line next longest text old new is gives = subst (λ n. GivesText (Ok n) longest text old new) is gives
 
@@ -34,18 +36,21 @@ first_before lines all line n e =
     let all_are : all ≡ (lines ++ line ∷ []) ++ drop n all = sym (take-append-drop n all) ∙ ap (λ t. t ++ drop n all) e in
     record {
       count = length lines;
-      first = sym (ap (take (length lines)) (all_are ∙ append_assoc lines (line ∷ []) (drop n all)) ∙ take-append_seam lines (line ∷ drop n all));
+      first = sym (ap (take (length lines)) (all_are ∙ append_assoc lines (line ∷ []) (drop n all))
+          ∙ take-append_seam lines (line ∷ drop n all));
     }
 
 -- ---- by how a step ended
 
 -- only want of memory ends it
-pub by_memory : (result : Result (Unit {0}) LinesEnd) (X : LinesEnd → Type 0) → IfErr result (λ end. end ≡ ends.Memory) → X ends.Memory → IfErr result X
+pub by_memory : (result : Result (Unit {0}) LinesEnd) (X : LinesEnd → Type 0) → IfErr result (λ end. end ≡ ends.Memory) → X ends.Memory
+    → IfErr result X
 by_memory (Ok done) X err x = tt
 by_memory (Err end) X err x = subst X (sym err) x
 
 -- only a write that failed ends it
-pub by_write : (result : Result (Unit {0}) LinesEnd) (X : LinesEnd → Type 0) (P F : Type 0) → IfErr result (λ end. (end ≡ ends.Write) × P) → OnErr result F
+pub by_write : (result : Result (Unit {0}) LinesEnd) (X : LinesEnd → Type 0) (P F : Type 0) → IfErr result (λ end. (end ≡ ends.Write) × P)
+    → OnErr result F
     → (F → X ends.Write) → IfErr result X
 by_write (Ok done) X P F err front x = tt
 by_write (Err end) X P F err front x = subst X (sym err.0) (x front)
@@ -64,7 +69,8 @@ rose_then a b c first then (inl below) = inl (omega arith)
 rose_then a b c first then (inr last) = inr last
 
 pub noted_then : (a b c : SinkShown) (note more : List ℕ) → a.faults ≤ b.faults → b.faults ≤ c.faults
-    → IsNoted note (record { before = a; now = b }) → IsNoted more (record { before = b; now = c }) → IsNoted (note ++ more) (record { before = a; now = c })
+    → IsNoted note (record { before = a; now = b }) → IsNoted more (record { before = b; now = c })
+    → IsNoted (note ++ more) (record { before = a; now = c })
 noted_then a b c note more first then one two = λ off.
     two (λ rose. off (rose_then a.faults b.faults c.faults first then rose))
     ∙ ap (λ t. t ++ more) (one (λ rose. off (rose_on a.faults b.faults c.faults first then rose)))
@@ -75,11 +81,13 @@ none_noted a = λ off. sym (append-nil a.written)
 
 -- ---- texts
 
-pub poured_then : (w0 w1 w2 text more sheet sheet' : List ℕ) → PoursMore text w0 [] w1 sheet → PoursMore more w1 sheet w2 sheet' → PoursMore (text ++ more) w0 [] w2 sheet'
+pub poured_then : (w0 w1 w2 text more sheet sheet' : List ℕ) → PoursMore text w0 [] w1 sheet → PoursMore more w1 sheet w2 sheet'
+    → PoursMore (text ++ more) w0 [] w2 sheet'
 poured_then w0 w1 w2 text more sheet sheet' one two = record {
   gone = one.gone ++ two.gone;
   written_is = two.written_is ∙ ap (λ t. t ++ two.gone) one.written_is ∙ append_assoc w0 one.gone two.gone;
-  sheet_is = ap (λ t. t ++ more) one.sheet_is ∙ append_assoc one.gone sheet more ∙ ap (λ t. one.gone ++ t) two.sheet_is ∙ sym (append_assoc one.gone two.gone sheet');
+  sheet_is = ap (λ t. t ++ more) one.sheet_is ∙ append_assoc one.gone sheet more ∙ ap (λ t. one.gone ++ t) two.sheet_is
+      ∙ sym (append_assoc one.gone two.gone sheet');
 }
 
 whole_then : (w0 w1 w2 text more sheet : List ℕ) → PoursMore text w0 [] w1 sheet → w2 ≡ w1 ++ (sheet ++ more) → w2 ≡ w0 ++ (text ++ more)
@@ -87,14 +95,17 @@ whole_then w0 w1 w2 text more sheet one e =
     e ∙ ap (λ t. t ++ (sheet ++ more)) one.written_is ∙ append_assoc w0 one.gone (sheet ++ more)
     ∙ ap (λ t. w0 ++ t) (sym (append_assoc one.gone sheet more) ∙ ap (λ t. t ++ more) (sym one.sheet_is))
 
-front_then : (w0 w1 w2 text more sheet : List ℕ) → PoursMore text w0 [] w1 sheet → AppendsFront (sheet ++ more) w1 w2 → AppendsFront (text ++ more) w0 w2
+front_then : (w0 w1 w2 text more sheet : List ℕ) → PoursMore text w0 [] w1 sheet → AppendsFront (sheet ++ more) w1 w2
+    → AppendsFront (text ++ more) w0 w2
 front_then w0 w1 w2 text more sheet one front =
     let whole : text ++ more ≡ one.gone ++ (sheet ++ more) = ap (λ t. t ++ more) one.sheet_is ∙ append_assoc one.gone sheet more in
     record {
       count = length one.gone + front.count;
       within = omega (arith, front.within, ap length whole, length-append one.gone (sheet ++ more));
-      appended = front.appended ∙ ap (λ t. t ++ take front.count (sheet ++ more)) one.written_is ∙ append_assoc w0 one.gone (take front.count (sheet ++ more))
-          ∙ ap (λ t. w0 ++ t) (sym (take-append-add one.gone (sheet ++ more) front.count) ∙ ap (take (length one.gone + front.count)) (sym whole));
+      appended = front.appended ∙ ap (λ t. t ++ take front.count (sheet ++ more)) one.written_is
+          ∙ append_assoc w0 one.gone (take front.count (sheet ++ more))
+          ∙ ap (λ t. w0 ++ t) (sym (take-append-add one.gone (sheet ++ more) front.count)
+          ∙ ap (take (length one.gone + front.count)) (sym whole));
     }
 
 pub text_then : (end : LinesEnd) (a b c : SinkShown) (text more sheet : List ℕ) → PoursMore text a.written [] b.written sheet
@@ -108,7 +119,8 @@ text_then ends.Memory a b c text more sheet one two = front_then a.written b.wri
 -- ---- lines
 
 module _ {T : Type 0} (tells : T → ℕ → List ℕ → List ℕ → List ℕ → T → Type 0) where
-  pub one_told : (n : ℕ) (old new : T) (line text note : List ℕ) → tells old n line text note new → AreTold tells n old (line ∷ []) text note new
+  pub one_told : (n : ℕ) (old new : T) (line text note : List ℕ) → tells old n line text note new
+      → AreTold tells n old (line ∷ []) text note new
   one_told n old new line text note told = record {
     next = new;
     first_text = text;
@@ -122,7 +134,8 @@ module _ {T : Type 0} (tells : T → ℕ → List ℕ → List ℕ → List ℕ 
   }
 
   pub told_then : (n m : ℕ) (first mid last : T) (xs ys : List (List ℕ)) (text more note later : List ℕ) → m ≡ n + length xs
-      → AreTold tells n first xs text note mid → AreTold tells m mid ys more later last → AreTold tells n first (xs ++ ys) (text ++ more) (note ++ later) last
+      → AreTold tells n first xs text note mid → AreTold tells m mid ys more later last
+      → AreTold tells n first (xs ++ ys) (text ++ more) (note ++ later) last
   told_then n m first mid last [] ys text more note later e one two =
       let start : m ≡ n = omega arith in
       let at_n : AreTold tells n mid ys more later last = subst (λ k. AreTold tells k mid ys more later last) start two in
@@ -144,22 +157,24 @@ module _ {T : Type 0} (tells : T → ℕ → List ℕ → List ℕ → List ℕ 
   -- ---- the last step
 
   -- a line was told, and its text can't be written
-  pub stopped_by_write : (number heard n : ℕ) → heard ≡ number → (old new : T) (source : SourceShown) (old_lines : List (List ℕ)) (out_tells : Bool) (out : Change SinkShown)
+  pub stopped_by_write : (number heard n : ℕ) → heard ≡ number
+      → (old new : T) (source : SourceShown) (old_lines : List (List ℕ)) (out_tells : Bool) (out : Change SinkShown)
       (sheet sheet' note note' : List ℕ) (notes_tell : Bool) (notes : Change SinkShown)
       → HearsLine tells heard old_lines (take n (all_lines source.taken)) old new sheet sheet' note note' → note ≡ []
       → (IsTrue out_tells → AppendsFront sheet' out.before.written out.now.written) → (IsTrue notes_tell → IsNoted note' notes)
       → EndsStep tells number old new ends.Write source old_lines out_tells out sheet notes_tell notes
-  stopped_by_write number heard n same old new source old_lines out_tells out sheet sheet' note note' notes_tell notes h empty front noted = record {
-    lines = h.line ∷ [];
-    text = h.told_text;
-    note = h.told_note;
-    last = new;
-    told = one_told number old new h.line h.told_text h.told_note (subst (λ k. tells old k h.line h.told_text h.told_note new) same h.told);
-    lines_are = record { count = n; first = sym h.more };
-    last_is = λ whole. refl;
-    written = λ on. subst (λ t. AppendsFront t out.before.written out.now.written) h.text_is (front on);
-    noted = λ on. subst (λ t. IsNoted t notes) (h.note_is ∙ ap (λ t. t ++ h.told_note) empty) (noted on);
-  }
+  stopped_by_write number heard n same old new source old_lines out_tells out sheet sheet' note note' notes_tell notes h empty front noted
+      = record {
+        lines = h.line ∷ [];
+        text = h.told_text;
+        note = h.told_note;
+        last = new;
+        told = one_told number old new h.line h.told_text h.told_note (subst (λ k. tells old k h.line h.told_text h.told_note new) same h.told);
+        lines_are = record { count = n; first = sym h.more };
+        last_is = λ whole. refl;
+        written = λ on. subst (λ t. AppendsFront t out.before.written out.now.written) h.text_is (front on);
+        noted = λ on. subst (λ t. IsNoted t notes) (h.note_is ∙ ap (λ t. t ++ h.told_note) empty) (noted on);
+      }
 
   nothing_front : (text before now : List ℕ) → now ≡ before → AppendsFront text before now
   nothing_front text before now same = record { count = 0; within = omega arith; appended = same ∙ sym (append-nil before) }
@@ -183,26 +198,31 @@ module _ {T : Type 0} (tells : T → ℕ → List ℕ → List ℕ → List ℕ 
           quiet ends.Done e off = absurd cc
           quiet ends.Cut e off = absurd cc
           quiet ends.Read e off = absurd cc
-          quiet ends.Write e off = subst (λ r. EndsText r (sheet ++ []) out) (sym e) (nothing_front (sheet ++ []) out.before.written out.now.written (silent is))
-          quiet ends.Memory e off = subst (λ r. EndsText r (sheet ++ []) out) (sym e) (nothing_front (sheet ++ []) out.before.written out.now.written (silent is))
+          quiet ends.Write e off =
+              subst (λ r. EndsText r (sheet ++ []) out) (sym e) (nothing_front (sheet ++ []) out.before.written out.now.written (silent is))
+          quiet ends.Memory e off =
+              subst (λ r. EndsText r (sheet ++ []) out) (sym e) (nothing_front (sheet ++ []) out.before.written out.now.written (silent is))
 
   -- no more lines are told
-  pub stopped_quietly : (number : ℕ) (old new : T) (end result : LinesEnd) (source : SourceShown) (old_lines : List (List ℕ)) (out_tells : Bool) (out : Change SinkShown)
-      (sheet sheet' : List ℕ) (notes_tell : Bool) (notes : SinkShown) → IsEndOf end result → EndsLines end source.taken source.left old_lines → AreFirst old_lines (all_lines source.taken)
+  pub stopped_quietly : (number : ℕ) (old new : T) (end result : LinesEnd) (source : SourceShown) (old_lines : List (List ℕ))
+      (out_tells : Bool) (out : Change SinkShown)
+      (sheet sheet' : List ℕ) (notes_tell : Bool) (notes : SinkShown) → IsEndOf end result
+      → EndsLines end source.taken source.left old_lines → AreFirst old_lines (all_lines source.taken)
       → (IsTrue (is_whole end) → (new ≡ old) × (sheet' ≡ sheet)) → (IsTrue (is_whole end) → IsTrue out_tells → EndsText result sheet' out)
       → (is_whole end ≡ false → IsTrue out_tells → out.now.written ≡ out.before.written)
       → EndsStep tells number old new result source old_lines out_tells out sheet notes_tell (record { before = notes; now = notes })
-  stopped_quietly number old new end result source old_lines out_tells out sheet sheet' notes_tell notes ended lines first same whole silent = record {
-    lines = [];
-    text = [];
-    note = [];
-    last = old;
-    told = (refl, refl, refl);
-    lines_are = subst (λ t. EndsLines result source.taken source.left t) (sym (append-nil old_lines)) (lines_of ended);
-    last_is = last_of ended;
-    written = λ on. last_text end result sheet sheet' out ended (λ w. (same w).1) (λ w. whole w on) (λ off. silent off on);
-    noted = λ on. none_noted notes;
-  }
+  stopped_quietly number old new end result source old_lines out_tells out sheet sheet' notes_tell notes ended lines first same whole
+      silent = record {
+        lines = [];
+        text = [];
+        note = [];
+        last = old;
+        told = (refl, refl, refl);
+        lines_are = subst (λ t. EndsLines result source.taken source.left t) (sym (append-nil old_lines)) (lines_of ended);
+        last_is = last_of ended;
+        written = λ on. last_text end result sheet sheet' out ended (λ w. (same w).1) (λ w. whole w on) (λ off. silent off on);
+        noted = λ on. none_noted notes;
+      }
     where
       lines_of : IsEndOf end result → EndsLines result source.taken source.left old_lines
       lines_of (inl is) = subst (λ r. EndsLines r source.taken source.left old_lines) (sym is) lines
@@ -214,8 +234,10 @@ module _ {T : Type 0} (tells : T → ℕ → List ℕ → List ℕ → List ℕ 
 
   -- ---- between steps
 
-  pub stands_first : (first : T) (lines : List (List ℕ)) (count : ℕ) (out_tells : Bool) (out : SinkShown) (notes_tell : Bool) (notes : SinkShown) → lines ≡ [] → count ≡ 0
-      → Stands tells first first lines count out_tells (record { before = out; now = out }) [] notes_tell (record { before = notes; now = notes })
+  pub stands_first : (first : T) (lines : List (List ℕ)) (count : ℕ) (out_tells : Bool) (out : SinkShown) (notes_tell : Bool)
+      (notes : SinkShown) → lines ≡ [] → count ≡ 0
+      → Stands tells first first lines count out_tells (record { before = out; now = out }) [] notes_tell
+      (record { before = notes; now = notes })
   stands_first first lines count out_tells out notes_tell notes none zero_lines = record {
     text = [];
     note = [];
@@ -225,10 +247,12 @@ module _ {T : Type 0} (tells : T → ℕ → List ℕ → List ℕ → List ℕ 
     noted = λ on. none_noted notes;
   }
 
-  pub stands_on : (first now next : T) (lines lines' : List (List ℕ)) (count count' : ℕ) → count' ≡ count + 1 → (out_tells : Bool) (a b c : SinkShown) (sheet sheet' : List ℕ)
+  pub stands_on : (first now next : T) (lines lines' : List (List ℕ)) (count count' : ℕ) → count' ≡ count + 1
+      → (out_tells : Bool) (a b c : SinkShown) (sheet sheet' : List ℕ)
       (notes_tell : Bool) (x y z : SinkShown) → x.faults ≤ y.faults → y.faults ≤ z.faults
       → Stands tells first now lines count out_tells (record { before = a; now = b }) sheet notes_tell (record { before = x; now = y })
-      → Steps tells count' now next lines lines' out_tells (record { before = b; now = c }) sheet sheet' notes_tell (record { before = y; now = z })
+      → Steps tells count' now next lines lines' out_tells (record { before = b; now = c }) sheet sheet' notes_tell
+      (record { before = y; now = z })
       → Stands tells first next lines' count' out_tells (record { before = a; now = c }) sheet' notes_tell (record { before = x; now = z })
   stands_on first now next lines lines' count count' next_is out_tells a b c sheet sheet' notes_tell x y z one two s step = record {
     text = s.text ++ step.text;
@@ -240,17 +264,20 @@ module _ {T : Type 0} (tells : T → ℕ → List ℕ → List ℕ → List ℕ 
     noted = λ on. noted_then x y z s.note step.note one two (s.noted on) (step.noted on);
   }
 
-  pub ended_then : (first now new : T) (end : LinesEnd) (source : SourceShown) (lines : List (List ℕ)) (count : ℕ) (out_tells : Bool) (a b c : SinkShown) (sheet : List ℕ)
+  pub ended_then : (first now new : T) (end : LinesEnd) (source : SourceShown) (lines : List (List ℕ)) (count : ℕ) (out_tells : Bool)
+      (a b c : SinkShown) (sheet : List ℕ)
       (notes_tell : Bool) (x y z : SinkShown) → x.faults ≤ y.faults → y.faults ≤ z.faults
       → Stands tells first now lines count out_tells (record { before = a; now = b }) sheet notes_tell (record { before = x; now = y })
-      → EndsStep tells (count + 1) now new end source lines out_tells (record { before = b; now = c }) sheet notes_tell (record { before = y; now = z })
+      → EndsStep tells (count + 1) now new end source lines out_tells (record { before = b; now = c }) sheet notes_tell
+      (record { before = y; now = z })
       → Ended tells first new end source out_tells (record { before = a; now = c }) notes_tell (record { before = x; now = z })
   ended_then first now new end source lines count out_tells a b c sheet notes_tell x y z one two s step = record {
     lines = lines ++ step.lines;
     text = s.text ++ step.text;
     note = s.note ++ step.note;
     last = step.last;
-    told = told_then 1 (count + 1) first now step.last lines step.lines s.text step.text s.note step.note (omega (arith, s.counted)) s.told step.told;
+    told = told_then 1 (count + 1) first now step.last lines step.lines s.text step.text s.note step.note (omega (arith, s.counted))
+        s.told step.told;
     lines_are = step.lines_are;
     last_is = step.last_is;
     written = λ on. text_then end a b c s.text step.text sheet (s.poured on) (step.written on);

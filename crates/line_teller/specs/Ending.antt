@@ -61,7 +61,8 @@ abbrev pub IsEndOf : (end result : LinesEnd) → Type 0
 IsEndOf end result = (result ≡ end) ⊎ ((result ≡ ends.Write) × IsTrue (is_whole end))
 
 -- one more line of the source was told
-pub record HearsLine {T : Type 0} (tells : T → ℕ → List ℕ → List ℕ → List ℕ → T → Type 0) (number : ℕ) (old_lines new_lines : List (List ℕ)) (old new : T)
+pub record HearsLine {T : Type 0} (tells : T → ℕ → List ℕ → List ℕ → List ℕ → T
+    → Type 0) (number : ℕ) (old_lines new_lines : List (List ℕ)) (old new : T)
     (text text' note note' : List ℕ) : Type 0 where
   pub line : List ℕ
   pub more : new_lines ≡ old_lines ++ line ∷ []

@@ -16,7 +16,8 @@ abbrev pub PoursMore : List ℕ → (written sheet written' sheet' : List ℕ) �
 PoursMore text written sheet written' sheet' = Pours written (sheet ++ text) written' sheet'
 
 -- one step: one more line was told
-pub record Steps {T : Type 0} (tells : T → ℕ → List ℕ → List ℕ → List ℕ → T → Type 0) (number : ℕ) (old new : T) (old_lines new_lines : List (List ℕ))
+pub record Steps {T : Type 0} (tells : T → ℕ → List ℕ → List ℕ → List ℕ → T → Type 0) (number : ℕ) (old new : T)
+    (old_lines new_lines : List (List ℕ))
     (out_tells : Bool) (out : Change SinkShown) (sheet sheet' : List ℕ) (notes_tell : Bool) (notes : Change SinkShown) : Type 0 where
   pub lines : List (List ℕ)
   pub text : List ℕ
@@ -28,8 +29,10 @@ pub record Steps {T : Type 0} (tells : T → ℕ → List ℕ → List ℕ → L
   pub noted : IsTrue notes_tell → IsNoted note notes
 
 -- the last step: perhaps one more line was told
-pub record EndsStep {T : Type 0} (tells : T → ℕ → List ℕ → List ℕ → List ℕ → T → Type 0) (number : ℕ) (old new : T) (end : LinesEnd) (source : SourceShown)
-    (old_lines : List (List ℕ)) (out_tells : Bool) (out : Change SinkShown) (sheet : List ℕ) (notes_tell : Bool) (notes : Change SinkShown) : Type 0 where
+pub record EndsStep {T : Type 0} (tells : T → ℕ → List ℕ → List ℕ → List ℕ → T → Type 0) (number : ℕ) (old new : T) (end : LinesEnd)
+    (source : SourceShown)
+    (old_lines : List (List ℕ)) (out_tells : Bool) (out : Change SinkShown) (sheet : List ℕ) (notes_tell : Bool)
+    (notes : Change SinkShown) : Type 0 where
   pub lines : List (List ℕ)
   pub text : List ℕ
   pub note : List ℕ

@@ -3,7 +3,8 @@ use Rattle.std.specs.Prelude.{ℕ, ◌≡◌, ◌+◌, List, [], ◌∷◌, ◌+
 use Rattle.paper.specs.InMemory.{Kept, Keeps}
 
 -- Of the first line this text and this note are told, and of the lines behind it the later ones.
-pub record TellsFirst {T : Type 0} (tells : List ℕ → List ℕ → T → Type 0) (rest : T → List ℕ → List ℕ → Type 0) (text note : List ℕ) : Type 0 where
+pub record TellsFirst {T : Type 0} (tells : List ℕ → List ℕ → T → Type 0) (rest : T → List ℕ → List ℕ
+    → Type 0) (text note : List ℕ) : Type 0 where
   pub next : T
   pub first_text : List ℕ
   pub first_note : List ℕ

@@ -49,13 +49,15 @@ bytes_by p q same = ap (to_be_bytes w64) same
 apart_by : (p q : ℕ) (b : Bool) → ((address_at q).0 == (address_at p).0) ≡ b → p < q → q < 1024 → b ≡ false
 apart_by p q false is less few = refl
 apart_by p q true is less few =
-    absurd (let same : q ≡ p = same_place q p few (omega arith) (sym (address_bytes q) ∙ bytes_by q p (eqb-true _ _ is) ∙ address_bytes p) in omega arith)
+    absurd (let same : q ≡ p = same_place q p few (omega arith) (sym (address_bytes q) ∙ bytes_by q p (eqb-true _ _ is) ∙ address_bytes p)
+    in omega arith)
 
 none_later : (p from count : ℕ) → p < from → from + count ≤ 1024
     → list_any (λ b. b.0 == (address_at p).0) (map address_at (range_with_len from count)) ≡ false
 none_later p from zero less few = refl
 none_later p from (suc n) less few =
-    let first : ((address_at from).0 == (address_at p).0) ≡ false = apart_by p from ((address_at from).0 == (address_at p).0) refl less (omega arith) in
+    let first : ((address_at from).0 == (address_at p).0) ≡ false =
+    apart_by p from ((address_at from).0 == (address_at p).0) refl less (omega arith) in
     rw first (none_later p (from + 1) n (omega arith) (omega arith))
 
 pub apart : (from count : ℕ) → from + count ≤ 1024 → AreApart (map address_at (range_with_len from count))
@@ -113,7 +115,8 @@ of_eight a b c d e f g h fits_a fits_b fits_c fits_d fits_e fits_f fits_g fits_h
 address_fits : (place : ℕ) → (address_at place).0 < 2 ^ 64
 unfolding bcd
 address_fits place =
-    of_eight 0x93 0x15 (bcd_byte (place + 1)) (bcd_byte ((place + 1) / 100)) (bcd_byte ((place + 1) / 10000)) (bcd_byte ((place + 1) / 1000000)) 0x01 0x07
+    of_eight 0x93 0x15 (bcd_byte (place + 1)) (bcd_byte ((place + 1) / 100)) (bcd_byte ((place + 1) / 10000))
+    (bcd_byte ((place + 1) / 1000000)) 0x01 0x07
     (omega arith) (omega arith) (omega arith) (omega arith) (omega arith) (omega arith) (omega arith) (omega arith)
 
 is_commission : (number place : ℕ) → IsCommission (meter_at number place)
@@ -130,7 +133,8 @@ pub made_is_enrolled : (count number : ℕ) → count ≤ 1024 → IsEnrolled (r
 made_is_enrolled count number few = record {
   own = omega arith;
   few = omega (arith, length-map-range_with_len (meter_at number) 0 count, few);
-  apart = subst AreApart (sym (map-map (λ (c : Commissioned). c.address) (meter_at number) (range_with_len 0 count))) (apart 0 count (omega arith));
+  apart = subst AreApart (sym (map-map (λ (c : Commissioned). c.address) (meter_at number) (range_with_len 0 count)))
+      (apart 0 count (omega arith));
   each = each_of_range IsCommission (meter_at number) 0 count (λ place least most. is_commission number place);
 }
 

@@ -190,7 +190,9 @@ heard_lines count telegrams number by few =
     let meters : List Commissioned = meters_of count number in
     let texts : List (List ℕ) = texts_of meters telegrams in
     let each : Each IsLine (heard by texts) = each_heard IsLine by texts
-    (each_of_range IsLine (λ k. frame_text k (telegram_of meters k)) 1 telegrams (λ k least most. telegram_fits count number k (omega (arith, most)))) in
+    (each_of_range IsLine (λ k. frame_text k (telegram_of meters k)) 1 telegrams
+    (λ k least most. telegram_fits count number k (omega (arith, most)))) in
     let many : length (heard by texts) ≡ length texts = length_permutation texts (heard by texts) (heard_in_another_order by texts) in
     let all : length texts ≡ telegrams = length-map-range_with_len (λ k. frame_text k (telegram_of meters k)) 1 telegrams in
-    subst (λ text. HasLines text (heard by texts)) (ap concat (sym (lines_ended meters by telegrams))) (has_lines (heard by texts) each (omega arith))
+    subst (λ text. HasLines text (heard by texts)) (ap concat (sym (lines_ended meters by telegrams)))
+    (has_lines (heard by texts) each (omega arith))

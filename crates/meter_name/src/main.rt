@@ -31,6 +31,9 @@ as rosters and reports have it. For an ADDRESS, sixteen hexadecimal digits,
 these four words are printed, and the device type in words.
 
 exit status: 0 done, 2 faulty words, 7 output not written, 10 no memory
+
+docs/FORMATS.md says what each fault, refusal and message means and what to do about
+it; docs/meter_name.1 is the man page.
 ";
 
 const VERSION: &str = "meter_name 0.1.0\n";

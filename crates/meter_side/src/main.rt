@@ -31,6 +31,9 @@ prints what the meter executes of them and why it refuses the others.
 exit status: 0 done, 2 faulty words, 3 faulty roster, 4 roster not read,
 5 deliveries not read, 7 output not written, 8 deliveries past their limit,
 10 no memory, 11 a file that can't be opened, 12 no such meter
+
+docs/FORMATS.md says what each fault, refusal and message means and what to do about
+it; docs/meter_side.1 is the man page.
 ";
 
 const VERSION: &str = "meter_side 0.1.0\n";

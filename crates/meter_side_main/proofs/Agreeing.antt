@@ -16,7 +16,8 @@ unfolding agreeing
 agreeing-nil ys = refl
 
 -- up to the first place at which they differ
-pub agreeing_until : (want have : List ℕ) (p : ℕ) → p < length want → length want ≤ length have → ((k : ℕ) → k < p → get_or want k 0 ≡ get_or have k 0)
+pub agreeing_until : (want have : List ℕ) (p : ℕ) → p < length want → length want ≤ length have
+    → ((k : ℕ) → k < p → get_or want k 0 ≡ get_or have k 0)
     → get_or want p 0 ≢ get_or have p 0 → agreeing want have ≡ p
 agreeing_until [] have p h long same other = absurd (omega arith)
 agreeing_until (x ∷ xs) [] p h long same other = absurd (omega arith)
@@ -26,7 +27,8 @@ agreeing_until (x ∷ xs) (y ∷ ys) (suc p) h long same other =
     agreeing-same x y xs ys (same zero (omega arith)) ∙ omega (arith, rest)
 
 -- to the end of the first
-pub agreeing_all : (want have : List ℕ) → length want ≤ length have → ((k : ℕ) → k < length want → get_or want k 0 ≡ get_or have k 0) → agreeing want have ≡ length want
+pub agreeing_all : (want have : List ℕ) → length want ≤ length have → ((k : ℕ) → k < length want → get_or want k 0 ≡ get_or have k 0)
+    → agreeing want have ≡ length want
 agreeing_all [] have long same = agreeing-nil have
 agreeing_all (x ∷ xs) [] long same = absurd (omega arith)
 agreeing_all (x ∷ xs) (y ∷ ys) long same =
@@ -57,4 +59,5 @@ agreed (x ∷ xs) (y ∷ ys) h = by_test (eqb x y) (λ g. agreed xs ys g) refl w
 -- what is put behind a list makes no difference
 pub agreeing-append : (want rest : List ℕ) → agreeing want (want ++ rest) ≡ length want
 agreeing-append [] rest = agreeing-nil rest
-agreeing-append (x ∷ xs) rest = let e : agreeing xs (xs ++ rest) ≡ length xs = agreeing-append xs rest in agreeing-same x x xs (xs ++ rest) refl ∙ omega (arith, e)
+agreeing-append (x ∷ xs) rest = let e : agreeing xs (xs ++ rest) ≡ length xs = agreeing-append xs rest in
+    agreeing-same x x xs (xs ++ rest) refl ∙ omega (arith, e)

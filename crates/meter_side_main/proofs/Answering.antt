@@ -65,32 +65,44 @@ module _ (own : Address) (c : Commissioned) (key : IsBlock c.key) where
 
   -- ---- what they execute
 
-  refused_tells : (last : ℕ) (d : List ℕ) (reason : SideReason) (e : Executed) → IsBytes d → IsRefusal own c last d reason → executed_in (did_after own c last d) ≡ e ∷ [] → ⊥
+  refused_tells : (last : ℕ) (d : List ℕ) (reason : SideReason) (e : Executed) → IsBytes d → IsRefusal own c last d reason
+      → executed_in (did_after own c last d) ≡ e ∷ [] → ⊥
   refused_tells last d reason e hd h done =
       let is = (refused_exactly own c last d reason key hd).1 h in
       let nothing : executed_in (did_after own c last d) ≡ [] = ap executed_in is in
       let both : e ∷ [] ≡ [] = sym done ∙ nothing in
       absurd cc
 
-  one_executes : (o : Option (List ℕ)) (answer : Answer) (last : ℕ) (counters : List ℕ) (ds : List (List ℕ)) (rest : List Answer) → IsLast last counters → ((d : List ℕ) → o ≡ Some d → IsBytes d)
-      → IsAnswer own c last o answer → ((next : List ℕ) → IsLast (last_by last answer) next → AreExecuted own c next ds (executed_among rest))
+  one_executes : (o : Option (List ℕ)) (answer : Answer) (last : ℕ) (counters : List ℕ) (ds : List (List ℕ)) (rest : List Answer)
+      → IsLast last counters → ((d : List ℕ) → o ≡ Some d → IsBytes d)
+      → IsAnswer own c last o answer
+      → ((next : List ℕ) → IsLast (last_by last answer) next → AreExecuted own c next ds (executed_among rest))
       → AreExecuted own c counters (option_to_list o ++ ds) (executed_among (answer ∷ rest))
   one_executes None Bad last counters ds rest l bytes h more = more counters l
   one_executes None (Heard x) last counters ds rest l bytes h more = absurd h
   one_executes (Some d) Bad last counters ds rest l bytes h more = absurd h
   one_executes (Some d) (Heard (did.Executed e)) last counters ds rest l bytes h more =
       let above : last < e.down = h.1 in
-      let after : IsLast e.down (e.down ∷ counters) = record { above = λ n high. (high, l.above n (omega (arith, above))); below = λ n high. high.0 } in
+      let after : IsLast e.down (e.down ∷ counters) =
+      record { above = λ n high. (high, l.above n (omega (arith, above))); below = λ n high. high.0 } in
       inr (inl (e, h.0, l.above e.down above, (executed_among rest, refl, more (e.down ∷ counters) after)))
   one_executes (Some d) (Heard (did.Refused reason)) last counters ds rest l bytes h more = elim (move last (told own c d)) [
     | Silent none done next ↦ inl ((λ e g. none e (genuine_is_told own c d e key g)), more counters l)
     | Done e is above done next ↦ absurd (refused_tells last d reason e (bytes d refl) h done)
     | Old e is old done next ↦
-        let after : IsLast last (e.down ∷ counters) = record { above = λ n high. (omega (arith, old), l.above n high); below = λ n high. l.below n high.1 } in
-        inr (inr (e, told_is_genuine own c d e key (bytes d refl) is, (λ high. let more_than : last < e.down = l.below e.down high in omega (arith, old)), more (e.down ∷ counters) after))
+        let after : IsLast last (e.down ∷ counters) =
+        record { above = λ n high. (omega (arith, old), l.above n high); below = λ n high. l.below n high.1 } in
+        inr (inr (
+          e,
+          told_is_genuine own c d e key (bytes d refl) is,
+          (λ high. let more_than : last < e.down = l.below e.down high in
+              omega (arith, old)),
+          more (e.down ∷ counters) after,
+        ))
   ]
 
-  pub answers_execute : (lines : List (List ℕ)) (answers : List Answer) (last : ℕ) (counters : List ℕ) → IsLast last counters → AreAnswers own c last lines answers
+  pub answers_execute : (lines : List (List ℕ)) (answers : List Answer) (last : ℕ) (counters : List ℕ) → IsLast last counters
+      → AreAnswers own c last lines answers
       → AreExecuted own c counters (deliveries_in lines) (executed_among answers)
   answers_execute [] [] last counters l h = refl
   answers_execute [] (answer ∷ answers) last counters l h = absurd h

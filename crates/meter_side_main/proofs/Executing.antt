@@ -18,8 +18,10 @@ use Rattle.meter_side_main.proofs.Genuineness.{told_is_genuine, genuine_is_told}
 -- what a delivery does: it tells nothing, or it is executed, or its counter isn't above the last one
 pub data Move (last : ℕ) (r : Result Executed SideReason) : Type 0 where
   Silent : ((e : Executed) → r ≡ Ok e → ⊥) → executed_in (did_with last r) ≡ [] → last_after last (did_with last r) ≡ last → Move last r
-  Done : (e : Executed) → r ≡ Ok e → last < e.down → executed_in (did_with last r) ≡ e ∷ [] → last_after last (did_with last r) ≡ e.down → Move last r
-  Old : (e : Executed) → r ≡ Ok e → e.down ≤ last → executed_in (did_with last r) ≡ [] → last_after last (did_with last r) ≡ last → Move last r
+  Done : (e : Executed) → r ≡ Ok e → last < e.down → executed_in (did_with last r) ≡ e ∷ [] → last_after last (did_with last r) ≡ e.down
+      → Move last r
+  Old : (e : Executed) → r ≡ Ok e → e.down ≤ last → executed_in (did_with last r) ≡ [] → last_after last (did_with last r) ≡ last
+      → Move last r
 
 move_ok : (last : ℕ) (e : Executed) (b : Bool) → ltb last e.down ≡ b → Move last (Ok e)
 move_ok last e true h = Done e refl (ltb-true _ _ h) (rw h refl) (rw h refl)
@@ -31,11 +33,13 @@ move last (Err reason) = Silent (λ e h. absurd cc) refl refl
 
 module _ (own : Address) (c : Commissioned) where
   pub executed_step : (last : ℕ) (d : List ℕ) (ds : List (List ℕ)) (done : List Executed) (next : ℕ)
-      → executed_in (did_after own c last d) ≡ done → last_after last (did_after own c last d) ≡ next → executed_after own c last (d ∷ ds) ≡ done ++ executed_after own c next ds
+      → executed_in (did_after own c last d) ≡ done → last_after last (did_after own c last d) ≡ next
+      → executed_after own c last (d ∷ ds) ≡ done ++ executed_after own c next ds
   unfolding executed_after
   executed_step last d ds done next e f = ap₂ (λ (x : List Executed) (n : ℕ). x ++ executed_after own c n ds) e f
 
-  counter_step : (last : ℕ) (d : List ℕ) (ds : List (List ℕ)) (next : ℕ) → last_after last (did_after own c last d) ≡ next → counter_after own c last (d ∷ ds) ≡ counter_after own c next ds
+  counter_step : (last : ℕ) (d : List ℕ) (ds : List (List ℕ)) (next : ℕ) → last_after last (did_after own c last d) ≡ next
+      → counter_after own c last (d ∷ ds) ≡ counter_after own c next ds
   unfolding counter_after
   counter_step last d ds next f = ap (λ (n : ℕ). counter_after own c n ds) f
 
@@ -48,14 +52,18 @@ module _ (own : Address) (c : Commissioned) where
   counter_none last = refl
 
   -- one delivery more
-  pub executed_push : (last : ℕ) (ds : List (List ℕ)) (d : List ℕ) → executed_after own c last (ds ++ d ∷ []) ≡ executed_after own c last ds ++ executed_in (did_after own c (counter_after own c last ds) d)
+  pub executed_push : (last : ℕ) (ds : List (List ℕ)) (d : List ℕ)
+      → executed_after own c last (ds ++ d ∷ []) ≡ executed_after own c last ds ++ executed_in
+      (did_after own c (counter_after own c last ds) d)
   unfolding executed_after counter_after
   executed_push last [] d = append-nil (executed_in (did_after own c last d))
   executed_push last (x ∷ ds) d =
-      ap (λ (es : List Executed). executed_in (did_after own c last x) ++ es) (executed_push (last_after last (did_after own c last x)) ds d)
+      ap (λ (es : List Executed). executed_in (did_after own c last x) ++ es)
+      (executed_push (last_after last (did_after own c last x)) ds d)
       ∙ sym (append_assoc (executed_in (did_after own c last x)) _ _)
 
-  pub counter_push : (last : ℕ) (ds : List (List ℕ)) (d : List ℕ) → counter_after own c last (ds ++ d ∷ []) ≡ last_after (counter_after own c last ds) (did_after own c (counter_after own c last ds) d)
+  pub counter_push : (last : ℕ) (ds : List (List ℕ)) (d : List ℕ)
+      → counter_after own c last (ds ++ d ∷ []) ≡ last_after (counter_after own c last ds) (did_after own c (counter_after own c last ds) d)
   unfolding counter_after
   counter_push last [] d = refl
   counter_push last (x ∷ ds) d = counter_push (last_after last (did_after own c last x)) ds d
@@ -64,8 +72,10 @@ module _ (own : Address) (c : Commissioned) where
   pub counter_is_greatest : (last : ℕ) (ds : List (List ℕ)) → counter_after own c last ds ≡ greatest last (executed_after own c last ds)
   counter_is_greatest last [] = counter_none last ∙ ap (greatest last) (sym (executed_none last))
   counter_is_greatest last (d ∷ ds) = elim (move last (told own c d)) [
-    | Silent none done next ↦ counter_step last d ds last next ∙ counter_is_greatest last ds ∙ ap (greatest last) (sym (executed_step last d ds [] last done next))
-    | Old e is old done next ↦ counter_step last d ds last next ∙ counter_is_greatest last ds ∙ ap (greatest last) (sym (executed_step last d ds [] last done next))
+    | Silent none done next ↦ counter_step last d ds last next ∙ counter_is_greatest last ds
+        ∙ ap (greatest last) (sym (executed_step last d ds [] last done next))
+    | Old e is old done next ↦ counter_step last d ds last next ∙ counter_is_greatest last ds
+        ∙ ap (greatest last) (sym (executed_step last d ds [] last done next))
     | Done e is above done next ↦
         let more : max last e.down ≡ e.down = omega arith in
         counter_step last d ds e.down next ∙ counter_is_greatest e.down ds
@@ -78,7 +88,8 @@ pub executed_rises : (own : Address) (c : Commissioned) (last : ℕ) (ds : List 
 executed_rises own c last [] = subst (RiseAbove last) (sym (executed_none own c last)) tt
 executed_rises own c last (d ∷ ds) = elim (move last (told own c d)) [
   | Silent none done next ↦ subst (RiseAbove last) (sym (executed_step own c last d ds [] last done next)) (executed_rises own c last ds)
-  | Done e is above done next ↦ subst (RiseAbove last) (sym (executed_step own c last d ds (e ∷ []) e.down done next)) (above, executed_rises own c e.down ds)
+  | Done e is above done next ↦ subst (RiseAbove last) (sym (executed_step own c last d ds (e ∷ []) e.down done next))
+      (above, executed_rises own c e.down ds)
   | Old e is old done next ↦ subst (RiseAbove last) (sym (executed_step own c last d ds [] last done next)) (executed_rises own c last ds)
 ]
 
@@ -88,7 +99,8 @@ pub record IsLast (last : ℕ) (counters : List ℕ) : Type 0 where
   pub below : (n : ℕ) → IsAboveAll n counters → last < n
 
 -- the executed list is that of the genuine deliveries
-pub are_executed : (own : Address) (c : Commissioned) → IsBlock c.key → (ds : List (List ℕ)) → AllBytes ds → (last : ℕ) (counters : List ℕ) → IsLast last counters
+pub are_executed : (own : Address) (c : Commissioned) → IsBlock c.key → (ds : List (List ℕ)) → AllBytes ds
+    → (last : ℕ) (counters : List ℕ) → IsLast last counters
     → AreExecuted own c counters ds (executed_after own c last ds)
 are_executed own c hk [] hb last counters l = executed_none own c last
 are_executed own c hk (d ∷ ds) hb last counters l = elim (move last (told own c d)) [
@@ -98,11 +110,21 @@ are_executed own c hk (d ∷ ds) hb last counters l = elim (move last (told own 
   | Done e is above done next ↦
       let after : IsLast e.down (e.down ∷ counters) = record { above = λ n h. (h, l.above n (omega arith)); below = λ n h. h.0 } in
       subst (AreExecuted own c counters (d ∷ ds)) (sym (executed_step own c last d ds (e ∷ []) e.down done next))
-      (inr (inl (e, told_is_genuine own c d e hk hb.0 is, l.above e.down above, (executed_after own c e.down ds, refl, are_executed own c hk ds hb.1 e.down (e.down ∷ counters) after))))
+      (inr (inl (
+        e,
+        told_is_genuine own c d e hk hb.0 is,
+        l.above e.down above,
+        (executed_after own c e.down ds, refl, are_executed own c hk ds hb.1 e.down (e.down ∷ counters) after),
+      )))
   | Old e is old done next ↦
       let after : IsLast last (e.down ∷ counters) = record { above = λ n h. (omega arith, l.above n h); below = λ n h. l.below n h.1 } in
       subst (AreExecuted own c counters (d ∷ ds)) (sym (executed_step own c last d ds [] last done next))
-      (inr (inr (e, told_is_genuine own c d e hk hb.0 is, (λ h. let more : last < e.down = l.below e.down h in omega arith), are_executed own c hk ds hb.1 last (e.down ∷ counters) after)))
+      (inr (inr (
+        e,
+        told_is_genuine own c d e hk hb.0 is,
+        (λ h. let more : last < e.down = l.below e.down h in omega arith),
+        are_executed own c hk ds hb.1 last (e.down ∷ counters) after,
+      )))
 ]
 
 pub first_last : (n : ℕ) → IsLast n (n ∷ [])
@@ -134,7 +156,8 @@ module _ (own : Address) (c : Commissioned) (hk : IsBlock c.key) where
     | Old e is old nothing next ↦ absurd (none e (told_is_genuine own c d e hk hd is))
   ]
 
-  only_done : (d : List ℕ) (ds : List (List ℕ)) (last : ℕ) (done rest : List Executed) (e : Executed) → IsGenuine own c d e → last < e.down → done ≡ e ∷ rest
+  only_done : (d : List ℕ) (ds : List (List ℕ)) (last : ℕ) (done rest : List Executed) (e : Executed) → IsGenuine own c d e
+      → last < e.down → done ≡ e ∷ rest
       → rest ≡ executed_after own c e.down ds → done ≡ executed_after own c last (d ∷ ds)
   only_done d ds last done rest e g above is more =
       let did = executed_does last (told own c d) e (genuine_is_told own c d e hk g) above in
@@ -144,11 +167,13 @@ module _ (own : Address) (c : Commissioned) (hk : IsBlock c.key) where
       → done ≡ executed_after own c last ds → done ≡ executed_after own c last (d ∷ ds)
   only_old d ds last done e g old more = elim (move last (told own c d)) [
     | Silent n nothing next ↦ more ∙ sym (executed_step own c last d ds [] last nothing next)
-    | Done x is above one next ↦ absurd (old (subst (λ (y : Executed). last < y.down) (one_told (told own c d) x e is (genuine_is_told own c d e hk g)) above))
+    | Done x is above one next ↦ absurd
+        (old (subst (λ (y : Executed). last < y.down) (one_told (told own c d) x e is (genuine_is_told own c d e hk g)) above))
     | Old x is low nothing next ↦ more ∙ sym (executed_step own c last d ds [] last nothing next)
   ]
 
-  pub only_executed : (ds : List (List ℕ)) → AllBytes ds → (last : ℕ) (counters : List ℕ) (done : List Executed) → IsLast last counters → AreExecuted own c counters ds done
+  pub only_executed : (ds : List (List ℕ)) → AllBytes ds → (last : ℕ) (counters : List ℕ) (done : List Executed) → IsLast last counters
+      → AreExecuted own c counters ds done
       → done ≡ executed_after own c last ds
   only_executed [] hb last counters done l h = h ∙ sym (executed_none own c last)
   only_executed (d ∷ ds) hb last counters done l h = elim h [
@@ -160,7 +185,8 @@ module _ (own : Address) (c : Commissioned) (hk : IsBlock c.key) where
           only_done d ds last done rest e g high is (only_executed ds hb.1 e.down (e.down ∷ counters) rest after more)
       | inr (e, g, low, more) ↦
           let old : last < e.down → ⊥ = λ (h : last < e.down). low (l.above e.down h) in
-          let after : IsLast last (e.down ∷ counters) = record { above = λ n h. (omega (arith, not_below last e.down old), l.above n h); below = λ n h. l.below n h.1 } in
+          let after : IsLast last (e.down ∷ counters) =
+          record { above = λ n h. (omega (arith, not_below last e.down old), l.above n h); below = λ n h. l.below n h.1 } in
           only_old d ds last done e g old (only_executed ds hb.1 last (e.down ∷ counters) done after more)
     ]
   ]
@@ -176,16 +202,21 @@ stands_first s fresh none = record {
 
 pub stands_rising : (s : Side) (ds : List (List ℕ)) → IsBlock s.commission.key → StandsFor ds s → RiseAbove s.commission.down s.executed
 stands_rising s ds hk h =
-    subst (RiseAbove s.commission.down) (sym (only_executed s.own s.commission hk ds h.bytes s.commission.down (s.commission.down ∷ []) s.executed (first_last s.commission.down) h.executed_are))
+    subst (RiseAbove s.commission.down)
+    (sym (only_executed s.own s.commission hk ds h.bytes s.commission.down (s.commission.down ∷ []) s.executed
+    (first_last s.commission.down) h.executed_are))
     (executed_rises s.own s.commission s.commission.down ds)
 
-pub stands_more : (s : Side) (did : Did) (d : List ℕ) (ds : List (List ℕ)) → IsBlock s.commission.key → IsBytes d → did ≡ did_after s.own s.commission s.last d → StandsFor ds s
+pub stands_more : (s : Side) (did : Did) (d : List ℕ) (ds : List (List ℕ)) → IsBlock s.commission.key → IsBytes d
+    → did ≡ did_after s.own s.commission s.last d → StandsFor ds s
     → StandsFor (ds ++ d ∷ []) (record s { last = last_after s.last did; executed = s.executed ++ executed_in did })
 stands_more s did d ds hk hd did_is h =
     let own : Address = s.own in
     let c : Commissioned = s.commission in
-    let executed : s.executed ≡ executed_after own c c.down ds = only_executed own c hk ds h.bytes c.down (c.down ∷ []) s.executed (first_last c.down) h.executed_are in
-    let last : s.last ≡ counter_after own c c.down ds = h.last_is ∙ ap (greatest c.down) executed ∙ sym (counter_is_greatest own c c.down ds) in
+    let executed : s.executed ≡ executed_after own c c.down ds =
+    only_executed own c hk ds h.bytes c.down (c.down ∷ []) s.executed (first_last c.down) h.executed_are in
+    let last : s.last ≡ counter_after own c c.down ds = h.last_is ∙ ap (greatest c.down) executed
+    ∙ sym (counter_is_greatest own c c.down ds) in
     let now : did ≡ did_after own c (counter_after own c c.down ds) d = did_is ∙ ap (λ (n : ℕ). did_after own c n d) last in
     let all : s.executed ++ executed_in did ≡ executed_after own c c.down (ds ++ d ∷ []) =
     ap₂ (λ (xs : List Executed) (x : Did). xs ++ executed_in x) executed now ∙ sym (executed_push own c c.down ds d) in
@@ -193,7 +224,8 @@ stands_more s did d ds hk hd did_is h =
     ap₂ (λ (n : ℕ) (x : Did). last_after n x) last now ∙ sym (counter_push own c c.down ds d) in
     let each : AllBytes (ds ++ d ∷ []) = AllBytes-push ds d h.bytes hd in
     record {
-      executed_are = subst (AreExecuted own c (c.down ∷ []) (ds ++ d ∷ [])) (sym all) (are_executed own c hk (ds ++ d ∷ []) each c.down (c.down ∷ []) (first_last c.down));
+      executed_are = subst (AreExecuted own c (c.down ∷ []) (ds ++ d ∷ [])) (sym all)
+          (are_executed own c hk (ds ++ d ∷ []) each c.down (c.down ∷ []) (first_last c.down));
       last_is = after ∙ counter_is_greatest own c c.down (ds ++ d ∷ []) ∙ ap (greatest c.down) (sym all);
       bytes = each;
     }

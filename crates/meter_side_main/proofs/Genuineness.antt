@@ -35,9 +35,11 @@ use Rattle.steps.proofs.StepLaws.{bind_ok, map_both_ok}
 
 -- ---- what is laid out as it should be, and has its MAC and its check bytes
 
-module _ (own : Address) (c : Commissioned) (p : Parts) (payload t : List ℕ) (h : HasParts own c.address p t) (hk : IsBlock c.key) (hb : AreBytes p.content)
+module _ (own : Address) (c : Commissioned) (p : Parts) (payload t : List ℕ) (h : HasParts own c.address p t) (hk : IsBlock c.key)
+    (hb : AreBytes p.content)
     (plain : cbc_decrypted (cipher_key c p.down) zeros p.content ≡ 0x2F ∷ 0x2F ∷ payload)
-    (due : take 8 (cmac (mac_key c p.down) (0x25 ∷ to_le_bytes w32 p.down ++ (header_bytes c.address p.down p.blocks ++ p.content))) ≡ p.mac) where
+    (due : take 8 (cmac (mac_key c p.down) (0x25 ∷ to_le_bytes w32 p.down ++ (header_bytes c.address p.down p.blocks ++ p.content)))
+    ≡ p.mac) where
   whole_blocks : length p.content % 16 ≡ 0
   whole_blocks = omega (arith, h.content)
 
@@ -45,7 +47,8 @@ module _ (own : Address) (c : Commissioned) (p : Parts) (payload t : List ℕ) (
   key_is = IsBlock-key c PartnerCipher p.down hk
 
   length-payload : length payload + 2 ≡ 16 * p.blocks
-  length-payload = omega (arith, ap length plain, length-cbc_decrypted (cipher_key c p.down) zeros p.content key_is IsBlock-zeros hb whole_blocks, h.content)
+  length-payload = omega
+      (arith, ap length plain, length-cbc_decrypted (cipher_key c p.down) zeros p.content key_is IsBlock-zeros hb whole_blocks, h.content)
 
   count : blocks_for (length payload) ≡ p.blocks
   count = omega (arith, length-payload)
@@ -72,7 +75,8 @@ module _ (own : Address) (c : Commissioned) (p : Parts) (payload t : List ℕ) (
   pub telegram_is : t ≡ telegram_to own c p.down payload
   unfolding telegram_to
   telegram_is =
-      h.whole ∙ append_assoc (link_bytes own p.blocks ++ authentication_bytes p.down p.mac) (header_bytes c.address p.down p.blocks) p.content
+      h.whole ∙ append_assoc (link_bytes own p.blocks ++ authentication_bytes p.down p.mac) (header_bytes c.address p.down p.blocks)
+      p.content
       ∙ sym (
       ap (λ (k : ℕ). link_bytes own k ++ authentication_bytes p.down (mac_of c p.down payload) ++ message_bytes c p.down payload) count
       ∙ ap (λ (m : List ℕ). link_bytes own p.blocks ++ authentication_bytes p.down m ++ message_bytes c p.down payload) mac_is
@@ -121,7 +125,8 @@ parts_of own a t hb ht l agree =
       whole = sym (take-append-drop 41 t) ∙ ap (λ (x : List ℕ). x ++ drop 41 t) front;
       least = omega (arith, counted.0);
       most = omega (arith, counted.1);
-      counter = counter-fits (take 4 (drop 15 t)) (omega (arith, length-take 4 (drop 15 t), length-drop 15 t)) (All-take Byte 4 (drop 15 t) (All-drop Byte 15 t (bytes_all t hb)));
+      counter = counter-fits (take 4 (drop 15 t)) (omega (arith, length-take 4 (drop 15 t), length-drop 15 t))
+          (All-take Byte 4 (drop 15 t) (All-drop Byte 15 t (bytes_all t hb)));
       eight = eight;
       content = omega (arith, length-drop 41 t, ht.counted, counted.0, counted.2);
     }
@@ -141,7 +146,8 @@ record IsItself (own : Address) (c : Commissioned) (bytes : List ℕ) (e : Execu
   of_content : IsOfItsContent own c bytes e
   filled : plain_content e.content ≡ 0x2F ∷ 0x2F ∷ e.content
 
-told_is_itself : (own : Address) (c : Commissioned) (bytes : List ℕ) (e : Executed) → IsBlock c.key → IsBytes bytes → told own c bytes ≡ Ok e → IsItself own c bytes e
+told_is_itself : (own : Address) (c : Commissioned) (bytes : List ℕ) (e : Executed) → IsBlock c.key → IsBytes bytes
+    → told own c bytes ≡ Ok e → IsItself own c bytes e
 unfolding told mac_due decrypted
 told_is_itself own c bytes e hk hb h =
     let a = bind_ok (framed bytes) _ e h in
@@ -160,7 +166,8 @@ told_is_itself own c bytes e hk hb h =
     let plain : decrypted c t ≡ 0x2F ∷ 0x2F ∷ payload = begins_twice (decrypted c t) k.1 in
     let signed : mac_due c t ≡ mac_in t = (bytes_eq-Decides _ _).0 (if_passed (bytes_eq (mac_due c t) (mac_in t)) BadMac m.0 m.1) in
     let message = part-message own c.address (parts_in t) t parts in
-    let due = ap (λ (x : List ℕ). take 8 (cmac (mac_key c (counter_in t)) (0x25 ∷ to_le_bytes w32 (counter_in t) ++ x))) (sym message) ∙ signed in
+    let due = ap (λ (x : List ℕ). take 8 (cmac (mac_key c (counter_in t)) (0x25 ∷ to_le_bytes w32 (counter_in t) ++ x))) (sym message)
+    ∙ signed in
     let body = All-drop Byte 41 t (bytes_all t each) in
     let made : Executed = record { down = counter_in t; content = payload } in
     let telegram = telegram_is own c (parts_in t) payload t parts hk body plain due in
@@ -175,7 +182,8 @@ told_is_itself own c bytes e hk hb h =
     let same : made ≡ e = cc in
     subst (IsItself own c bytes) same itself
 
-pub told_is_genuine : (own : Address) (c : Commissioned) (bytes : List ℕ) (e : Executed) → IsBlock c.key → IsBytes bytes → told own c bytes ≡ Ok e → IsGenuine own c bytes e
+pub told_is_genuine : (own : Address) (c : Commissioned) (bytes : List ℕ) (e : Executed) → IsBlock c.key → IsBytes bytes
+    → told own c bytes ≡ Ok e → IsGenuine own c bytes e
 told_is_genuine own c bytes e hk hb h =
     let itself = told_is_itself own c bytes e hk hb h in
     record {
@@ -199,12 +207,15 @@ length_of_blocks (suc (suc (suc (suc (suc (suc zero)))))) a b = refl
 length_of_blocks (suc (suc (suc (suc (suc (suc (suc n))))))) a b = absurd (omega arith)
 
 -- each check is passed
-told_by : (own : Address) (c : Commissioned) (bytes t content : List ℕ) (down : ℕ) → decoded_a bytes ≡ Ok t → is_length (get_or t 0 0) ≡ true → agreeing (layout_of own c.address t) t ≡ 41
-    → bytes_eq (mac_due c t) (mac_in t) ≡ true → decrypted c t ≡ 0x2F ∷ 0x2F ∷ content → counter_in t ≡ down → told own c bytes ≡ Ok (record { down = down; content = content })
+told_by : (own : Address) (c : Commissioned) (bytes t content : List ℕ) (down : ℕ) → decoded_a bytes ≡ Ok t
+    → is_length (get_or t 0 0) ≡ true → agreeing (layout_of own c.address t) t ≡ 41
+    → bytes_eq (mac_due c t) (mac_in t) ≡ true → decrypted c t ≡ 0x2F ∷ 0x2F ∷ content → counter_in t ≡ down
+    → told own c bytes ≡ Ok (record { down = down; content = content })
 unfolding told
 told_by own c bytes t content down decoded l agree mac plain counter = rw (decoded, l, agree, mac, plain, counter) refl
 
-pub genuine_is_told : (own : Address) (c : Commissioned) (bytes : List ℕ) (e : Executed) → IsBlock c.key → IsGenuine own c bytes e → told own c bytes ≡ Ok e
+pub genuine_is_told : (own : Address) (c : Commissioned) (bytes : List ℕ) (e : Executed) → IsBlock c.key → IsGenuine own c bytes e
+    → told own c bytes ≡ Ok e
 unfolding mac_due decrypted mac_of message_bytes
 genuine_is_told own c bytes e hk g =
     let t : List ℕ = telegram_to own c e.down g.payload in
@@ -221,9 +232,11 @@ genuine_is_told own c bytes e hk g =
     ap (λ (k : ℕ). link_bytes own k ++ authentication_bytes (counter_in t) (mac_in t) ++ header_bytes c.address (counter_in t) k) blocks
     ∙ ap₂ (λ (d : ℕ) (m : List ℕ). link_bytes own p.blocks ++ authentication_bytes d m ++ header_bytes c.address d p.blocks) counter mac in
     let agree : agreeing (layout_of own c.address t) t ≡ 41 =
-    ap₂ agreeing layout parts.whole ∙ agreeing-append (layers_before own c.address p) p.content ∙ length-layers_before own c.address p parts.eight in
+    ap₂ agreeing layout parts.whole ∙ agreeing-append (layers_before own c.address p) p.content
+    ∙ length-layers_before own c.address p parts.eight in
     let due : mac_due c t ≡ p.mac =
-    ap₂ (λ (d : ℕ) (x : List ℕ). take 8 (cmac (mac_key c d) (0x25 ∷ to_le_bytes w32 d ++ x))) counter (part-message own c.address p t parts) in
+    ap₂ (λ (d : ℕ) (x : List ℕ). take 8 (cmac (mac_key c d) (0x25 ∷ to_le_bytes w32 d ++ x))) counter
+    (part-message own c.address p t parts) in
     let plain : decrypted c t ≡ 0x2F ∷ 0x2F ∷ e.content =
     ap₂ (λ (d : ℕ) (x : List ℕ). cbc_decrypted (cipher_key c d) zeros x) counter (part-content own c.address p t parts)
     ∙ decrypted_again c e.down g.payload hk g.is_payload.bytes ∙ g.content in

@@ -20,10 +20,12 @@ use Rattle.meter_side_main.specs.Session.{text_of, HearsNext, HasTold, HasHeard}
 
 -- ---- what the reader gives
 
-pub lent : (next : NextText) (longest : ℕ) (text : List ℕ) (old new : List (List ℕ)) → next ≡ texts.Line → GivesText (Ok next) longest text old new → new ≡ old ++ text ∷ []
+pub lent : (next : NextText) (longest : ℕ) (text : List ℕ) (old new : List (List ℕ)) → next ≡ texts.Line
+    → GivesText (Ok next) longest text old new → new ≡ old ++ text ∷ []
 lent next longest text old new is gives = subst (λ n. GivesText (Ok n) longest text old new) is gives
 
-pub too_long : (next : NextText) (longest : ℕ) (text : List ℕ) (old new : List (List ℕ)) → next ≡ texts.TooLong → GivesText (Ok next) longest text old new → GivesLongLine longest old new
+pub too_long : (next : NextText) (longest : ℕ) (text : List ℕ) (old new : List (List ℕ)) → next ≡ texts.TooLong
+    → GivesText (Ok next) longest text old new → GivesLongLine longest old new
 too_long next longest text old new is gives = subst (λ n. GivesText (Ok n) longest text old new) is gives
 
 -- a line that is too long delivers nothing
@@ -36,18 +38,22 @@ unfolding delivery_in bytes_in
 long_line [] long = refl
 long_line (first ∷ []) long = refl
 long_line (first ∷ second ∷ digits) long =
-    none_if (first == 68 && second == 32) _ (ap (λ (test : Bool). cond test None (result_ok (decode_of digits))) (lt-ltb 580 (length digits) (omega arith)))
+    none_if (first == 68 && second == 32) _
+    (ap (λ (test : Bool). cond test None (result_ok (decode_of digits))) (lt-ltb 580 (length digits) (omega arith)))
 
 -- ---- a line is heard behind the others
 
 module _ (own : Address) (c : Commissioned) where
   answers_push : (last : ℕ) (lines : List (List ℕ)) (line : List ℕ)
-      → answers_to own c last (lines ++ line ∷ []) ≡ answers_to own c last lines ++ answer_of own c (last_after_all last (answers_to own c last lines)) (delivery_in line) ∷ []
+      → answers_to own c last (lines ++ line ∷ []) ≡ answers_to own c last lines ++ answer_of own c
+      (last_after_all last (answers_to own c last lines)) (delivery_in line) ∷ []
   answers_push last [] line = refl
   answers_push last (x ∷ lines) line =
-      ap (λ (answers : List Answer). answer_of own c last (delivery_in x) ∷ answers) (answers_push (last_by last (answer_of own c last (delivery_in x))) lines line)
+      ap (λ (answers : List Answer). answer_of own c last (delivery_in x) ∷ answers)
+      (answers_push (last_by last (answer_of own c last (delivery_in x))) lines line)
 
-last_push : (last : ℕ) (answers : List Answer) (answer : Answer) → last_after_all last (answers ++ answer ∷ []) ≡ last_by (last_after_all last answers) answer
+last_push : (last : ℕ) (answers : List Answer) (answer : Answer)
+    → last_after_all last (answers ++ answer ∷ []) ≡ last_by (last_after_all last answers) answer
 last_push last [] answer = refl
 last_push last (x ∷ answers) answer = last_push (last_by last x) answers answer
 
@@ -58,20 +64,25 @@ answer_to l line = answer_of l.own l.commission l.last (delivery_in line)
 abbrev told_last : Listening → Answer → Listening
 told_last l answer = record l { last = last_by l.last answer }
 
-told_push : (l : Listening) (lines : List (List ℕ)) (line : List ℕ) → told_by l lines ++ answer_text (answer_to (listener_after l lines) line) ≡ told_by l (lines ++ line ∷ [])
+told_push : (l : Listening) (lines : List (List ℕ)) (line : List ℕ)
+    → told_by l lines ++ answer_text (answer_to (listener_after l lines) line) ≡ told_by l (lines ++ line ∷ [])
 unfolding told_by listener_after
 told_push l lines line =
-    flat_map_more answer_text [] (answers_to l.own l.commission l.last lines) (answer_of l.own l.commission (last_after_all l.last (answers_to l.own l.commission l.last lines)) (delivery_in line))
+    flat_map_more answer_text [] (answers_to l.own l.commission l.last lines)
+    (answer_of l.own l.commission (last_after_all l.last (answers_to l.own l.commission l.last lines)) (delivery_in line))
     ∙ ap (flat_map answer_text) (sym (answers_push l.own l.commission l.last lines line))
 
-after_push : (l : Listening) (lines : List (List ℕ)) (line : List ℕ) → told_last (listener_after l lines) (answer_to (listener_after l lines) line) ≡ listener_after l (lines ++ line ∷ [])
+after_push : (l : Listening) (lines : List (List ℕ)) (line : List ℕ)
+    → told_last (listener_after l lines) (answer_to (listener_after l lines) line) ≡ listener_after l (lines ++ line ∷ [])
 unfolding listener_after
 after_push l lines line =
     ap (λ (n : ℕ). let after : Listening = record l { last = n } in after)
-    (sym (last_push l.last (answers_to l.own l.commission l.last lines) (answer_of l.own l.commission (last_after_all l.last (answers_to l.own l.commission l.last lines)) (delivery_in line)))
+    (sym (last_push l.last (answers_to l.own l.commission l.last lines)
+    (answer_of l.own l.commission (last_after_all l.last (answers_to l.own l.commission l.last lines)) (delivery_in line)))
     ∙ ap (last_after_all l.last) (sym (answers_push l.own l.commission l.last lines line)))
 
-module _ (first now new : Listening) (lines lines' : List (List ℕ)) (answer : Answer) (h : HearsNext now lines lines' answer new) (is : now ≡ listener_after first lines) where
+module _ (first now new : Listening) (lines lines' : List (List ℕ)) (answer : Answer) (h : HearsNext now lines lines' answer new)
+    (is : now ≡ listener_after first lines) where
   answered : answer ≡ answer_to (listener_after first lines) h.line
   answered = h.answered ∙ ap (λ (l : Listening). answer_to l h.line) is
 
@@ -90,8 +101,10 @@ module _ {P : Type 0} (takes : P → List ℕ → P → Type 0) (tells : Bool) (
     after = λ tells. ap (listener_after first) (sym is);
   }
 
-  pub heard_more : (lines lines' : List (List ℕ)) (now new : Listening) (paper paper' : P) (answer : Answer) → HasHeard takes tells first start lines now paper
-      → (IsTrue tells → HearsNext now lines lines' answer new) → Puts takes paper (answer_text answer) paper' → HasHeard takes tells first start lines' new paper'
+  pub heard_more : (lines lines' : List (List ℕ)) (now new : Listening) (paper paper' : P) (answer : Answer)
+      → HasHeard takes tells first start lines now paper
+      → (IsTrue tells → HearsNext now lines lines' answer new) → Puts takes paper (answer_text answer) paper'
+      → HasHeard takes tells first start lines' new paper'
   heard_more lines lines' now new paper paper' answer heard next more = record {
     told = record {
       put = heard.told.put ++ answer_text answer;
@@ -103,8 +116,10 @@ module _ {P : Type 0} (takes : P → List ℕ → P → Type 0) (tells : Bool) (
 
 -- ---- all lines, and the last counter
 
-pub all_told : {P : Type 0} (takes : P → List ℕ → P → Type 0) (tells : Bool) (own : Address) (c : Commissioned) (first now : Listening) (start paper paper' : P) (lines : List (List ℕ)) (last : ℕ)
-    → first ≡ record { own = own; commission = c; last = c.down } → HasHeard takes tells first start lines now paper → last ≡ now.last → Puts takes paper (last_text last) paper'
+pub all_told : {P : Type 0} (takes : P → List ℕ → P → Type 0) (tells : Bool) (own : Address) (c : Commissioned) (first now : Listening)
+    (start paper paper' : P) (lines : List (List ℕ)) (last : ℕ)
+    → first ≡ record { own = own; commission = c; last = c.down } → HasHeard takes tells first start lines now paper → last ≡ now.last
+    → Puts takes paper (last_text last) paper'
     → HasTold takes tells start (text_of own c lines) paper'
 unfolding told_by listener_after text_of
 all_told takes tells own c first now start paper paper' lines last fresh heard is more = record {

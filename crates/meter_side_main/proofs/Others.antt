@@ -35,7 +35,8 @@ order_in : (own a : Address) (p : Parts) (t : List ℕ) → HasParts own a p t �
 unfolding bytes_of
 order_in own a p t h =
     ap (λ (x : List ℕ). take 8 (drop 1 x)) (part-message own a p t h)
-    ∙ take_order (header_order a) (p.down % 256 ∷ 0x00 ∷ []) (to_le_bytes w16 (configuration p.blocks)) (0x10 ∷ []) p.content (length-header_order a)
+    ∙ take_order (header_order a) (p.down % 256 ∷ 0x00 ∷ []) (to_le_bytes w16 (configuration p.blocks)) (0x10 ∷ []) p.content
+    (length-header_order a)
 
 same_order : (a b : Address) → header_order a ≡ header_order b → bytes_of a ≡ bytes_of b
 unfolding bytes_of
@@ -44,7 +45,8 @@ same_order a b e = ap (λ (x : List ℕ). take 2 (drop 4 x) ++ take 4 x ++ drop 
 abbrev decoded_as : List ℕ → Result (List ℕ) FrameFault
 decoded_as t = Ok t
 
-not_genuine : (own : Address) (c : Commissioned) (d : List ℕ) (e : Executed) → IsBlock c.key → IsBytes d → IsForOther own c d → told own c d ≡ Ok e → ⊥
+not_genuine : (own : Address) (c : Commissioned) (d : List ℕ) (e : Executed) → IsBlock c.key → IsBytes d → IsForOther own c d
+    → told own c d ≡ Ok e → ⊥
 not_genuine own c d e hk hb o is =
     let g = told_is_genuine own c d e hk hb is in
     let t : List ℕ = telegram_to own o.other o.down o.payload in
@@ -55,14 +57,17 @@ not_genuine own c d e hk hb o is =
     let first = order_in own o.other.address (parts_to o.other o.down o.payload) t one.parts in
     let second = order_in own c.address (parts_to c e.down g.payload) u two.parts in
     let same : t ≡ u = cc in
-    let order : header_order o.other.address ≡ header_order c.address = sym first ∙ ap (λ (x : List ℕ). take 8 (drop 1 (message_in x))) same ∙ second in
+    let order : header_order o.other.address ≡ header_order c.address = sym first
+    ∙ ap (λ (x : List ℕ). take 8 (drop 1 (message_in x))) same ∙ second in
     o.differs (one_address o.other.address c.address o.other_number o.number (same_order o.other.address c.address order))
 
 module _ (own : Address) (c : Commissioned) (other : List ℕ → Bool) (hk : IsBlock c.key) where
   -- what tells nothing may be left out, and the rest stays
   one_left : (d : List ℕ) (ds : List (List ℕ)) → IsBytes d → (IsTrue (other d) → IsForOther own c d)
-      → ((last : ℕ) → executed_after own c last ds ≡ executed_after own c last (left_without other ds)) → (b : Bool) → other d ≡ b → (last : ℕ)
-      → executed_after own c last (d ∷ ds) ≡ executed_after own c last (cond (cond b false true) (d ∷ left_without other ds) (left_without other ds))
+      → ((last : ℕ) → executed_after own c last ds ≡ executed_after own c last (left_without other ds)) → (b : Bool) → other d ≡ b
+      → (last : ℕ)
+      → executed_after own c last (d ∷ ds)
+      ≡ executed_after own c last (cond (cond b false true) (d ∷ left_without other ds) (left_without other ds))
   unfolding executed_after
   one_left d ds hd ho more true is last = elim (move last (told own c d)) [
     | Silent none done next ↦ executed_step own c last d ds [] last done next ∙ more last

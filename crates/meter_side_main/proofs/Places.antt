@@ -21,7 +21,8 @@ there : (xs : List ℕ) (p k : ℕ) → p ≤ k → get_or xs k 0 ≡ get_or (dr
 there xs p k h = let e : k ≡ p + (k - p) = omega arith in ap (λ (j : ℕ). get_or xs j 0) e ∙ sym (get_or-drop p xs (k - p) 0)
 
 front_same : (xs ys zs : List ℕ) (n j : ℕ) → j < n → length xs ≡ n → xs ≡ take n zs → get_or (xs ++ ys) j 0 ≡ get_or zs j 0
-front_same xs ys zs n j h long e = get_or_append_left xs ys 0 j (omega (arith, long)) ∙ ap (λ (x : List ℕ). get_or x j 0) e ∙ get_or-take n zs j 0 h
+front_same xs ys zs n j h long e = get_or_append_left xs ys 0 j (omega (arith, long)) ∙ ap (λ (x : List ℕ). get_or x j 0) e
+    ∙ get_or-take n zs j 0 h
 
 bound : (a b c d : ℕ) → a < 256 → b < 256 → c < 256 → d < 256 → (i : ℕ) → get_or (a ∷ b ∷ c ∷ d ∷ []) i 0 < 256
 bound a b c d ha hb hc hd zero = ha
@@ -39,7 +40,8 @@ four_back xs four = at_four (λ (ys : List ℕ). AreBytes ys → to_le_bytes w32
       let h2 = All-tail Byte b (c ∷ d ∷ []) h1 in
       let h3 = All-tail Byte c (d ∷ []) h2 in
       le_bytes_4 (a ∷ b ∷ c ∷ d ∷ []) (from_le_bytes w32 (a ∷ b ∷ c ∷ d ∷ [])) refl
-      (bound a b c d (All-head Byte a (b ∷ c ∷ d ∷ []) h) (All-head Byte b (c ∷ d ∷ []) h1) (All-head Byte c (d ∷ []) h2) (All-head Byte d [] h3)) refl
+      (bound a b c d (All-head Byte a (b ∷ c ∷ d ∷ []) h) (All-head Byte b (c ∷ d ∷ []) h1) (All-head Byte c (d ∷ []) h2)
+      (All-head Byte d [] h3)) refl
 
 module _ (own a : Address) (t : List ℕ) (n : ℕ) (ht : IsTelegram t) (hb : IsBytes t) (h : HasBlocks t n) where
   abbrev want : List ℕ
@@ -52,13 +54,16 @@ module _ (own a : Address) (t : List ℕ) (n : ℕ) (ht : IsTelegram t) (hb : Is
   unfolding bytes_of
   counter_there k low high =
       let four : to_le_bytes w32 (counter_in t) ≡ take 4 (drop 15 t) =
-      four_back (take 4 (drop 15 t)) (omega (arith, length-take 4 (drop 15 t), length-drop 15 t, long)) (All-take Byte 4 (drop 15 t) (All-drop Byte 15 t (bytes_all t hb))) in
-      there want 15 k low ∙ front_same (to_le_bytes w32 (counter_in t)) (mac_in t ++ header_bytes a (counter_in t) n) (drop 15 t) 4 (k - 15) (omega arith) refl four ∙ sym (there t 15 k low)
+      four_back (take 4 (drop 15 t)) (omega (arith, length-take 4 (drop 15 t), length-drop 15 t, long))
+      (All-take Byte 4 (drop 15 t) (All-drop Byte 15 t (bytes_all t hb))) in
+      there want 15 k low ∙ front_same (to_le_bytes w32 (counter_in t)) (mac_in t ++ header_bytes a (counter_in t) n) (drop 15 t) 4
+      (k - 15) (omega arith) refl four ∙ sym (there t 15 k low)
 
   mac_there : (k : ℕ) → 19 ≤ k → k < 27 → get_or want k 0 ≡ get_or t k 0
   unfolding bytes_of
   mac_there k low high =
-      there want 19 k low ∙ front_same (mac_in t) (header_bytes a (counter_in t) n) (drop 19 t) 8 (k - 19) (omega arith) (eight t n ht h) refl ∙ sym (there t 19 k low)
+      there want 19 k low ∙ front_same (mac_in t) (header_bytes a (counter_in t) n) (drop 19 t) 8 (k - 19) (omega arith) (eight t n ht h)
+      refl ∙ sym (there t 19 k low)
 
   judged_place : (place : ℕ) → place < 41 → get_or want place 0 ≢ get_or t place 0 → IsJudgedPlace place
   judged_place place within other = elim (cases_lt place 15) [
@@ -84,7 +89,9 @@ places_are_judged own meter t place ht hb m = elim m [
       let short : place < 41 = omega (arith, p.2.within, wide own meter t n ht h) in (
         judged_place own meter t n ht hb h place short p.2.other,
         (
-          (λ e. absurd (not_first own meter t n ht hb h (λ same. p.2.other (ap (λ (k : ℕ). get_or (layers_before own meter (parts_with t n)) k 0) e ∙ same ∙ ap (λ (k : ℕ). get_or t k 0) (sym e))))),
+          (λ e. absurd (not_first own meter t n ht hb h
+              (λ same. p.2.other (ap (λ (k : ℕ). get_or (layers_before own meter (parts_with t n)) k 0) e ∙ same
+              ∙ ap (λ (k : ℕ). get_or t k 0) (sym e))))),
           (λ none. absurd (none n h)),
         ),
       )

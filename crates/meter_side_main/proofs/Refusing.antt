@@ -34,11 +34,13 @@ if_refused false e r h = (refl, cc)
 
 -- ---- the first other byte
 
-first_other : (want have : List ℕ) → length want ≤ length have → agreeing want have ≢ length want → IsFirstOther want have (agreeing want have)
+first_other : (want have : List ℕ) → length want ≤ length have → agreeing want have ≢ length want
+    → IsFirstOther want have (agreeing want have)
 first_other [] have long h = absurd (h (agreeing-nil have))
 first_other (x ∷ xs) [] long h = absurd (omega arith)
 first_other (x ∷ xs) (y ∷ ys) long h = by_test (eqb x y) (λ g. first_other xs ys (omega arith) g) refl where
-  by_test : (b : Bool) → (agreeing xs ys ≢ length xs → IsFirstOther xs ys (agreeing xs ys)) → eqb x y ≡ b → IsFirstOther (x ∷ xs) (y ∷ ys) (agreeing (x ∷ xs) (y ∷ ys))
+  by_test : (b : Bool) → (agreeing xs ys ≢ length xs → IsFirstOther xs ys (agreeing xs ys)) → eqb x y ≡ b
+      → IsFirstOther (x ∷ xs) (y ∷ ys) (agreeing (x ∷ xs) (y ∷ ys))
   by_test true rest e =
       let is : agreeing (x ∷ xs) (y ∷ ys) ≡ 1 + agreeing xs ys = agreeing-cases x y xs ys true e in
       let more : agreeing (x ∷ xs) (y ∷ ys) ≡ suc (agreeing xs ys) = omega (arith, is) in
@@ -65,7 +67,8 @@ first_other_is want have place long h =
 -- ---- L
 
 blocks_are : (t : List ℕ) → is_length (get_or t 0 0) ≡ true → HasBlocks t (blocks_in t)
-blocks_are t h = let l = is_counted (get_or t 0 0) h in record { least = omega (arith, l.0); most = omega (arith, l.1); counted = omega (arith, l.0, l.1, l.2) }
+blocks_are t h = let l = is_counted (get_or t 0 0) h in
+    record { least = omega (arith, l.0); most = omega (arith, l.1); counted = omega (arith, l.0, l.1, l.2) }
 
 is_blocks : (t : List ℕ) (n : ℕ) → HasBlocks t n → is_length (get_or t 0 0) ≡ true
 is_blocks t n h = ap (λ (l : ℕ). is_length l) h.counted ∙ length_of_blocks n h.least h.most
@@ -82,13 +85,16 @@ wide own a t n ht h = length-layers_before own a (parts_with t n) (eight t n ht 
 long : (own a : Address) (t : List ℕ) (n : ℕ) → IsTelegram t → HasBlocks t n → length (layers_before own a (parts_with t n)) ≤ length t
 long own a t n ht h = omega (arith, wide own a t n ht h, ht.counted, h.counted, h.least)
 
-laid_agrees : (own a : Address) (t : List ℕ) (n : ℕ) → IsTelegram t → HasBlocks t n → take 41 t ≡ layers_before own a (parts_with t n) → agreeing (layout_of own a t) t ≡ 41
+laid_agrees : (own a : Address) (t : List ℕ) (n : ℕ) → IsTelegram t → HasBlocks t n → take 41 t ≡ layers_before own a (parts_with t n)
+    → agreeing (layout_of own a t) t ≡ 41
 laid_agrees own a t n ht h laid =
     let want : List ℕ = layers_before own a (parts_with t n) in
-    ap₂ agreeing (ap (λ (k : ℕ). layers_before own a (parts_with t k)) (sym (same_blocks t n h))) (sym (take-append-drop 41 t) ∙ ap (λ (x : List ℕ). x ++ drop 41 t) laid)
+    ap₂ agreeing (ap (λ (k : ℕ). layers_before own a (parts_with t k)) (sym (same_blocks t n h))) (sym (take-append-drop 41 t)
+    ∙ ap (λ (x : List ℕ). x ++ drop 41 t) laid)
     ∙ agreeing-append want (drop 41 t) ∙ wide own a t n ht h
 
-agrees_laid : (own a : Address) (t : List ℕ) → IsTelegram t → is_length (get_or t 0 0) ≡ true → agreeing (layout_of own a t) t ≡ 41 → IsLaidOut own a t
+agrees_laid : (own a : Address) (t : List ℕ) → IsTelegram t → is_length (get_or t 0 0) ≡ true → agreeing (layout_of own a t) t ≡ 41
+    → IsLaidOut own a t
 agrees_laid own a t ht l agree =
     let h = blocks_are t l in
     let w = wide own a t (blocks_in t) ht h in
@@ -96,7 +102,8 @@ agrees_laid own a t ht l agree =
 
 -- ---- what is refused has its cause
 
-told_refusal : (own : Address) (c : Commissioned) (last : ℕ) (bytes : List ℕ) (r : SideReason) → IsBytes bytes → told own c bytes ≡ Err r → IsRefusal own c last bytes r
+told_refusal : (own : Address) (c : Commissioned) (last : ℕ) (bytes : List ℕ) (r : SideReason) → IsBytes bytes → told own c bytes ≡ Err r
+    → IsRefusal own c last bytes r
 unfolding told
 told_refusal own c last bytes r hb h = elim (bind_err (framed bytes) _ r h) [
   | inl f ↦
@@ -118,23 +125,37 @@ told_refusal own c last bytes r hb h = elim (bind_err (framed bytes) _ r h) [
             elim (bind_err (layout_passed own c.address t) _ r l.2) [
               | inl f ↦
                   let q = if_refused (eqb (agreeing want t) 41) (Layout (agreeing want t)) r f in
-                  let differs : agreeing want t ≢ length want = λ e. absurd (let same = eq-eqb (agreeing want t) 41 (e ∙ w) in let other = q.0 in cc) in
-                  subst (IsRefusal own c last bytes) q.1 (t, frame, inr (blocks_in t, blocks, first_other want t (long own c.address t (blocks_in t) frame.telegram blocks) differs))
+                  let differs : agreeing want t ≢ length want =
+                  λ e. absurd (let same = eq-eqb (agreeing want t) 41 (e ∙ w) in let other = q.0 in cc) in
+                  subst (IsRefusal own c last bytes) q.1 (
+                    t,
+                    frame,
+                    inr (
+                      blocks_in t,
+                      blocks,
+                      first_other want t (long own c.address t (blocks_in t) frame.telegram blocks)
+                          differs,
+                    ),
+                  )
               | inr y ↦
-                  let agree : agreeing want t ≡ 41 = eqb-true _ _ (if_passed (eqb (agreeing want t) 41) (Layout (agreeing want t)) y.0 y.1) in
+                  let agree : agreeing want t ≡ 41 =
+                  eqb-true _ _ (if_passed (eqb (agreeing want t) 41) (Layout (agreeing want t)) y.0 y.1) in
                   let laid = agrees_laid own c.address t frame.telegram counted agree in
                   elim (bind_err (mac_passed c t) _ r y.2) [
                     | inl f ↦
                         let q = if_refused (bytes_eq (mac_due c t) (mac_in t)) BadMac r f in
-                        let differs : mac_due c t ≢ mac_in t = λ e. absurd (let same = (bytes_eq-Decides (mac_due c t) (mac_in t)).1 e in let other = q.0 in cc) in
+                        let differs : mac_due c t ≢ mac_in t = λ e. absurd (let same = (bytes_eq-Decides (mac_due c t) (mac_in t)).1 e in
+                        let other = q.0 in cc) in
                         subst (IsRefusal own c last bytes) q.1 (t, frame, laid, differs)
                     | inr m ↦
-                        let signed : mac_due c t ≡ mac_in t = (bytes_eq-Decides _ _).0 (if_passed (bytes_eq (mac_due c t) (mac_in t)) BadMac m.0 m.1) in
+                        let signed : mac_due c t ≡ mac_in t =
+                        (bytes_eq-Decides _ _).0 (if_passed (bytes_eq (mac_due c t) (mac_in t)) BadMac m.0 m.1) in
                         let two : List ℕ = get_or (decrypted c t) 0 0 ∷ get_or (decrypted c t) 1 0 ∷ [] in
                         elim (bind_err (check_bytes_passed (decrypted c t)) _ r m.2) [
                           | inl f ↦
                               let q = if_refused (bytes_eq two (0x2F ∷ 0x2F ∷ [])) (CheckBytes two) r f in
-                              let differs : two ≢ 0x2F ∷ 0x2F ∷ [] = λ e. absurd (let same = (bytes_eq-Decides two (0x2F ∷ 0x2F ∷ [])).1 e in let other = q.0 in cc) in
+                              let differs : two ≢ 0x2F ∷ 0x2F ∷ [] =
+                              λ e. absurd (let same = (bytes_eq-Decides two (0x2F ∷ 0x2F ∷ [])).1 e in let other = q.0 in cc) in
                               subst (IsRefusal own c last bytes) q.1 (t, frame, laid, signed, refl, differs)
                           | inr k ↦ absurd (let none = k.2 in cc)
                         ]
@@ -143,11 +164,17 @@ told_refusal own c last bytes r hb h = elim (bind_err (framed bytes) _ r h) [
       ]
 ]
 
-refused_with : (last : ℕ) (e : Executed) (b : Bool) (r : SideReason) → ltb last e.down ≡ b → did_with last (Ok e) ≡ did.Refused r → (e.down ≤ last) × (Stale e.down last ≡ r)
+refused_with : (last : ℕ) (e : Executed) (b : Bool) (r : SideReason) → ltb last e.down ≡ b → did_with last (Ok e) ≡ did.Refused r
+    → (e.down ≤ last) × (Stale e.down last ≡ r)
 refused_with last e true r h g = absurd (let is : did_with last (Ok e) ≡ did.Executed e = rw h refl in cc)
-refused_with last e false r h g = (ltb-false last e.down h, let is : did_with last (Ok e) ≡ did.Refused (Stale e.down last) = rw h refl in cc)
+refused_with last e false r h g = (
+  ltb-false last e.down h,
+  let is : did_with last (Ok e) ≡ did.Refused (Stale e.down last) = rw h refl in
+      cc,
+)
 
-refusal_found : (own : Address) (c : Commissioned) (last : ℕ) (bytes : List ℕ) (r : SideReason) → IsBlock c.key → IsBytes bytes → did_after own c last bytes ≡ did.Refused r → IsRefusal own c last bytes r
+refusal_found : (own : Address) (c : Commissioned) (last : ℕ) (bytes : List ℕ) (r : SideReason) → IsBlock c.key → IsBytes bytes
+    → did_after own c last bytes ≡ did.Refused r → IsRefusal own c last bytes r
 refusal_found own c last bytes r hk hb h = by_told (told own c bytes) refl where
   by_told : (x : Result Executed SideReason) → told own c bytes ≡ x → IsRefusal own c last bytes r
   by_told (Err reason) e =
@@ -165,27 +192,32 @@ module _ (own : Address) (c : Commissioned) (bytes t : List ℕ) (decoded : deco
   unfolding told
   told_length l = rw (decoded, l) refl
 
-  told_layout : is_length (get_or t 0 0) ≡ true → eqb (agreeing (layout_of own c.address t) t) 41 ≡ false → told own c bytes ≡ Err (Layout (agreeing (layout_of own c.address t) t))
+  told_layout : is_length (get_or t 0 0) ≡ true → eqb (agreeing (layout_of own c.address t) t) 41 ≡ false
+      → told own c bytes ≡ Err (Layout (agreeing (layout_of own c.address t) t))
   unfolding told
   told_layout l y = rw (decoded, l, y) refl
 
-  told_mac : is_length (get_or t 0 0) ≡ true → agreeing (layout_of own c.address t) t ≡ 41 → bytes_eq (mac_due c t) (mac_in t) ≡ false → told own c bytes ≡ Err BadMac
+  told_mac : is_length (get_or t 0 0) ≡ true → agreeing (layout_of own c.address t) t ≡ 41 → bytes_eq (mac_due c t) (mac_in t) ≡ false
+      → told own c bytes ≡ Err BadMac
   unfolding told
   told_mac l y m = rw (decoded, l, y, m) refl
 
   told_check : is_length (get_or t 0 0) ≡ true → agreeing (layout_of own c.address t) t ≡ 41 → bytes_eq (mac_due c t) (mac_in t) ≡ true
-      → bytes_eq (get_or (decrypted c t) 0 0 ∷ get_or (decrypted c t) 1 0 ∷ []) (0x2F ∷ 0x2F ∷ []) ≡ false → told own c bytes ≡ Err (CheckBytes (get_or (decrypted c t) 0 0 ∷ get_or (decrypted c t) 1 0 ∷ []))
+      → bytes_eq (get_or (decrypted c t) 0 0 ∷ get_or (decrypted c t) 1 0 ∷ []) (0x2F ∷ 0x2F ∷ []) ≡ false
+      → told own c bytes ≡ Err (CheckBytes (get_or (decrypted c t) 0 0 ∷ get_or (decrypted c t) 1 0 ∷ []))
   unfolding told
   told_check l y m k = rw (decoded, l, y, m, k) refl
 
-told_frame : (own : Address) (c : Commissioned) (bytes : List ℕ) (fault : FrameFault) → decoded_a bytes ≡ Err fault → told own c bytes ≡ Err (Frame fault)
+told_frame : (own : Address) (c : Commissioned) (bytes : List ℕ) (fault : FrameFault) → decoded_a bytes ≡ Err fault
+    → told own c bytes ≡ Err (Frame fault)
 unfolding told
 told_frame own c bytes fault e = rw e refl
 
 differ : (xs ys : List ℕ) → xs ≢ ys → bytes_eq xs ys ≡ false
 differ xs ys h = false_from_ne_true _ (λ same. h ((bytes_eq-Decides xs ys).0 same))
 
-refusal_only : (own : Address) (c : Commissioned) (last : ℕ) (bytes : List ℕ) (r : SideReason) → IsBlock c.key → IsBytes bytes → IsRefusal own c last bytes r → did_after own c last bytes ≡ did.Refused r
+refusal_only : (own : Address) (c : Commissioned) (last : ℕ) (bytes : List ℕ) (r : SideReason) → IsBlock c.key → IsBytes bytes
+    → IsRefusal own c last bytes r → did_after own c last bytes ≡ did.Refused r
 refusal_only own c last bytes (Frame fault) hk hb h = ap (did_with last) (told_frame own c bytes fault (fault_only_a bytes fault hb h))
 refusal_only own c last bytes (Layout place) hk hb h =
     let t : List ℕ = h.0 in
@@ -197,7 +229,8 @@ refusal_only own c last bytes (Layout place) hk hb h =
       | inr p ↦
           let n : ℕ = p.0 in
           let want : List ℕ = layers_before own c.address (parts_with t n) in
-          let same : layout_of own c.address t ≡ want = ap (λ (k : ℕ). layers_before own c.address (parts_with t k)) (sym (same_blocks t n p.1)) in
+          let same : layout_of own c.address t ≡ want =
+          ap (λ (k : ℕ). layers_before own c.address (parts_with t k)) (sym (same_blocks t n p.1)) in
           let is : agreeing (layout_of own c.address t) t ≡ place =
           ap (λ (x : List ℕ). agreeing x t) same ∙ first_other_is want t place (long own c.address t n h.1.telegram p.1) p.2 in
           let short : place < 41 = omega (arith, p.2.within, wide own c.address t n h.1.telegram p.1) in
@@ -207,12 +240,14 @@ refusal_only own c last bytes (Layout place) hk hb h =
 refusal_only own c last bytes BadMac hk hb h =
     let t : List ℕ = h.0 in
     let l = h.2 in
-    ap (did_with last) (told_mac own c bytes t (only bytes t hb h.1) (is_blocks t l.0 l.1) (laid_agrees own c.address t l.0 h.1.telegram l.1 l.2) (differ _ _ h.3))
+    ap (did_with last) (told_mac own c bytes t (only bytes t hb h.1) (is_blocks t l.0 l.1)
+    (laid_agrees own c.address t l.0 h.1.telegram l.1 l.2) (differ _ _ h.3))
 refusal_only own c last bytes (CheckBytes two) hk hb h =
     let t : List ℕ = h.0 in
     let l = h.2 in
     let begins : List ℕ = get_or (decrypted c t) 0 0 ∷ get_or (decrypted c t) 1 0 ∷ [] in
-    ap (did_with last) (told_check own c bytes t (only bytes t hb h.1) (is_blocks t l.0 l.1) (laid_agrees own c.address t l.0 h.1.telegram l.1 l.2)
+    ap (did_with last) (told_check own c bytes t (only bytes t hb h.1) (is_blocks t l.0 l.1)
+    (laid_agrees own c.address t l.0 h.1.telegram l.1 l.2)
     ((bytes_eq-Decides _ _).1 h.3) (differ begins (0x2F ∷ 0x2F ∷ []) (λ e. h.5 (h.4 ∙ e))))
     ∙ ap (λ (x : List ℕ). did.Refused (CheckBytes x)) (sym h.4)
 refusal_only own c last bytes (Stale got before) hk hb h =

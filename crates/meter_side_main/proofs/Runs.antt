@@ -49,7 +49,8 @@ unwritten_is_not_done Fault e = absurd cc
 
 -- ---- what hearing came to
 
-module _ (own : Address) (c : Commissioned) (tx : Change SourceShown) (tells : Bool) (out : Change SinkShown) (ended : Ended) (lines : List (List ℕ)) (key : IsBlock c.key)
+module _ (own : Address) (c : Commissioned) (tx : Change SourceShown) (tells : Bool) (out : Change SinkShown) (ended : Ended)
+    (lines : List (List ℕ)) (key : IsBlock c.key)
     (ends : EndsSo ended tx.now.taken tx.now.left lines) where
   hears : (status : SideStatus) → IsStatusOf ended status → (IsTrue tells → HasText (text_of own c lines) out)
       → (IsTrue tells → status ≡ statuses.Done → out.now.written ≡ text_of own c lines) → Hears own c tx tells out status
@@ -61,30 +62,37 @@ module _ (own : Address) (c : Commissioned) (tx : Change SourceShown) (tells : B
     status_is = is;
     ends = ends;
     answered = are_answers own c key c.down lines;
-    executed = answers_execute own c key lines (answers_to own c c.down lines) c.down (c.down ∷ []) (first_last c.down) (are_answers own c key c.down lines);
+    executed = answers_execute own c key lines (answers_to own c c.down lines) c.down (c.down ∷ []) (first_last c.down)
+        (are_answers own c key c.down lines);
     told = told;
     whole = whole;
   }
 
   -- the paper over the output was finished, and a write failed or none did
-  pub hears_by : (failed : Bool) → (failed ≡ false → IsTrue tells → out.now.written ≡ text_of own c lines) → (failed ≡ true → WriteFailed out)
-      → (failed ≡ true → IsTrue tells → AppendsFront (text_of own c lines) [] out.now.written) → Hears own c tx tells out (status_at ended failed)
+  pub hears_by : (failed : Bool) → (failed ≡ false → IsTrue tells → out.now.written ≡ text_of own c lines)
+      → (failed ≡ true → WriteFailed out)
+      → (failed ≡ true → IsTrue tells → AppendsFront (text_of own c lines) [] out.now.written)
+      → Hears own c tx tells out (status_at ended failed)
   hears_by false whole cause front = hears (status_at ended false) (status_is ended false) (λ t. inl (whole refl t)) (λ t is. whole refl t)
   hears_by true whole cause front =
-      hears (status_at ended true) (status_is ended true) (λ t. inr (cause refl, front refl t)) (λ t is. absurd (unwritten_is_not_done ended is))
+      hears (status_at ended true) (status_is ended true) (λ t. inr (cause refl, front refl t))
+      (λ t is. absurd (unwritten_is_not_done ended is))
 
 -- the bytes that a fresh source had
 all_bytes : (tx : Change SourceShown) → tx.before.taken ≡ [] → LosesNothing tx → tx.now.taken ++ tx.now.left ≡ tx.before.left
 all_bytes tx fresh kept = kept ∙ ap (λ (x : List ℕ). x ++ tx.before.left) fresh
 
 read_out : (tx : Change SourceShown) → LosesNothing tx → tx.now.left ≡ [] → IsReadOut tx
-read_out tx kept none = record { took_all = sym (append-nil tx.now.taken) ∙ ap (λ (x : List ℕ). tx.now.taken ++ x) (sym none) ∙ kept; nothing_left = none }
+read_out tx kept none =
+    record { took_all = sym (append-nil tx.now.taken) ∙ ap (λ (x : List ℕ). tx.now.taken ++ x) (sym none) ∙ kept; nothing_left = none }
 
-module _ (tells : Bool) (tx : Change SourceShown) (out : Change SinkShown) (lines : List (List ℕ)) (fresh : IsTrue tells → tx.before.taken ≡ []) (kept : IsTrue tells → LosesNothing tx) where
+module _ (tells : Bool) (tx : Change SourceShown) (out : Change SinkShown) (lines : List (List ℕ)) (fresh : IsTrue tells
+    → tx.before.taken ≡ []) (kept : IsTrue tells → LosesNothing tx) where
   over_before : EndsSo Cut tx.now.taken tx.now.left lines → IsTrue tells → is_over tx.before.left ≡ true
   over_before ends t = ap is_over (sym (all_bytes tx (fresh t) (kept t))) ∙ ends.source_over
 
-  pub heard_for : (ended : Ended) (failed : Bool) → (IsTrue tells → EndsSo ended tx.now.taken tx.now.left lines) → (ended ≡ Fault → ReadFailed tx) → (failed ≡ true → WriteFailed out)
+  pub heard_for : (ended : Ended) (failed : Bool) → (IsTrue tells → EndsSo ended tx.now.taken tx.now.left lines)
+      → (ended ≡ Fault → ReadFailed tx) → (failed ≡ true → WriteFailed out)
       → IsHeardFor tells tx out (status_at ended failed)
   heard_for End false ends broken unwritten = λ t. read_out tx (kept t) (ends t).nothing_left
   heard_for End true ends broken unwritten = unwritten refl
@@ -92,7 +100,8 @@ module _ (tells : Bool) (tx : Change SourceShown) (out : Change SinkShown) (line
   heard_for Fault failed ends broken unwritten = broken refl
 
 -- a call failed or didn't
-pub failed_is : {E : Type 0} (r : Result (Unit {0}) E) (failed unwritten : Bool) → OnOk r (failed ≡ false) → OnErr r (failed ≡ true) → unwritten ≡ is_err r → failed ≡ unwritten
+pub failed_is : {E : Type 0} (r : Result (Unit {0}) E) (failed unwritten : Bool) → OnOk r (failed ≡ false) → OnErr r (failed ≡ true)
+    → unwritten ≡ is_err r → failed ≡ unwritten
 failed_is (Ok done) failed unwritten ok err is = ok ∙ sym is
 failed_is (Err e) failed unwritten ok err is = err ∙ sym is
 
@@ -102,9 +111,11 @@ whole_is text put old new written none is = written ∙ ap₂ (λ (o t : List �
 
 -- an output that was empty has a front of this text
 pub front_is : (text same old new : List ℕ) → text ≡ same → old ≡ [] → AppendsFront text old new → AppendsFront same [] new
-front_is text same old new is none h = subst (λ (o : List ℕ). AppendsFront same o new) none (subst (λ (t : List ℕ). AppendsFront t old new) is h)
+front_is text same old new is none h =
+    subst (λ (o : List ℕ). AppendsFront same o new) none (subst (λ (t : List ℕ). AppendsFront t old new) is h)
 
-pub headline_is : (run : Run) (meter : Meter) → IsNamed run.words run.roster meter → Hears meter.own meter.commission run.tx run.sinks_tell run.out run.status → Headline run
+pub headline_is : (run : Run) (meter : Meter) → IsNamed run.words run.roster meter
+    → Hears meter.own meter.commission run.tx run.sinks_tell run.out run.status → Headline run
 headline_is run meter n h = record {
   address = n.address;
   enrolled = n.enrolled;
@@ -117,13 +128,22 @@ headline_is run meter n h = record {
 
 -- ---- causes
 
-pub refusal_cause : (run : Run) (status : SideStatus) → IsRefused run.words run.sources_tell run.roster status → (was_heard status ≡ false) × IsCausedBy run status
+pub refusal_cause : (run : Run) (status : SideStatus) → IsRefused run.words run.sources_tell run.roster status
+    → (was_heard status ≡ false) × IsCausedBy run status
 refusal_cause run statuses.Done h = absurd h
 refusal_cause run statuses.Words h = (refl, h)
 refusal_cause run statuses.ReadRoster h = (refl, h)
 refusal_cause run (statuses.Roster line cause) h = (refl, h)
-refusal_cause run statuses.Uncommissioned h =
-    (refl, λ t. let m = h t in record { address = m.address; enrolled = m.enrolled; names = record { named = m.named; roster_is = m.roster_is }; missing = m.missing })
+refusal_cause run statuses.Uncommissioned h = (
+  refl,
+  λ t. let m = h t in
+      record {
+        address = m.address;
+        enrolled = m.enrolled;
+        names = record { named = m.named; roster_is = m.roster_is };
+        missing = m.missing;
+      },
+)
 refusal_cause run statuses.Read h = absurd h
 refusal_cause run statuses.Cut h = absurd h
 refusal_cause run statuses.Write h = absurd h
@@ -141,7 +161,8 @@ hearing_cause run statuses.Write h = h
 hearing_cause run statuses.Memory h = absurd h
 
 -- what was heard has a status that says so
-pub was_unheard : (tells : Bool) (tx : Change SourceShown) (out : Change SinkShown) (status : SideStatus) → IsHeardFor tells tx out status → was_heard status ≡ false → ⊥
+pub was_unheard : (tells : Bool) (tx : Change SourceShown) (out : Change SinkShown) (status : SideStatus) → IsHeardFor tells tx out status
+    → was_heard status ≡ false → ⊥
 was_unheard tells tx out statuses.Done h unheard = absurd cc
 was_unheard tells tx out statuses.Words h unheard = absurd h
 was_unheard tells tx out statuses.ReadRoster h unheard = absurd h
@@ -178,73 +199,83 @@ same_meter run a b x y n m =
     let enrolled : x ≡ y = cc in
     ap₂ (λ (k : Address) (e : Enrolled). meter_with k e.meters) (sym address) (sym enrolled)
 
-module _ (run : Run) (headline : IsTrue (was_heard run.status) → IsTrue run.sources_tell → Headline run) (tells : IsTrue run.sources_tell) where
-  heard : (s : SideStatus) → run.status ≡ s → IsTrue (was_heard s) → Headline run
-  heard s is h = headline (subst (λ (x : SideStatus). IsTrue (was_heard x)) (sym is) h) tells
+module _ (run : Run) (headline : IsTrue (was_heard run.status) → IsTrue run.sources_tell → Headline run) (tells : IsTrue run.sources_tell)
+  where
+    heard : (s : SideStatus) → run.status ≡ s → IsTrue (was_heard s) → Headline run
+    heard s is h = headline (subst (λ (x : SideStatus). IsTrue (was_heard x)) (sym is) h) tells
 
-  roster_heard : (line : ℕ) (cause : LineCause) → roster_of run.roster.before.left ≡ Err (Line line cause) → Headline run → ⊥
-  roster_heard line cause bad h = ok_err (roster_of run.roster.before.left) h.enrolled (Line line cause) h.names.roster_is bad
+    roster_heard : (line : ℕ) (cause : LineCause) → roster_of run.roster.before.left ≡ Err (Line line cause) → Headline run → ⊥
+    roster_heard line cause bad h = ok_err (roster_of run.roster.before.left) h.enrolled (Line line cause) h.names.roster_is bad
 
-  roster_by : (a : Address) (line : ℕ) (cause : LineCause) → address_in run.words ≡ Some a → roster_of run.roster.before.left ≡ Err (Line line cause)
-      → (s : SideStatus) → run.status ≡ s → IsCausedBy run s → IsUnlessUnread (statuses.Roster line cause) s
-  roster_by a line cause named bad statuses.Done is c = absurd (roster_heard line cause bad (heard statuses.Done is refl))
-  roster_by a line cause named bad statuses.Words is c = absurd (some_none (address_in run.words) a named c)
-  roster_by a line cause named bad statuses.ReadRoster is c = inr (inl refl)
-  roster_by a line cause named bad (statuses.Roster l k) is c =
-      let both : bad_roster (Line l k) ≡ bad_roster (Line line cause) = sym (c tells) ∙ bad in
-      let same : statuses.Roster l k ≡ statuses.Roster line cause = cc in
-      inl same
-  roster_by a line cause named bad statuses.Uncommissioned is c = let m = c tells in absurd (ok_err (roster_of run.roster.before.left) m.enrolled (Line line cause) m.names.roster_is bad)
-  roster_by a line cause named bad statuses.Read is c = absurd (roster_heard line cause bad (heard statuses.Read is refl))
-  roster_by a line cause named bad statuses.Cut is c = absurd (roster_heard line cause bad (heard statuses.Cut is refl))
-  roster_by a line cause named bad statuses.Write is c = absurd (roster_heard line cause bad (heard statuses.Write is refl))
-  roster_by a line cause named bad statuses.Memory is c = inr (inr refl)
+    roster_by : (a : Address) (line : ℕ) (cause : LineCause) → address_in run.words ≡ Some a
+        → roster_of run.roster.before.left ≡ Err (Line line cause)
+        → (s : SideStatus) → run.status ≡ s → IsCausedBy run s → IsUnlessUnread (statuses.Roster line cause) s
+    roster_by a line cause named bad statuses.Done is c = absurd (roster_heard line cause bad (heard statuses.Done is refl))
+    roster_by a line cause named bad statuses.Words is c = absurd (some_none (address_in run.words) a named c)
+    roster_by a line cause named bad statuses.ReadRoster is c = inr (inl refl)
+    roster_by a line cause named bad (statuses.Roster l k) is c =
+        let both : bad_roster (Line l k) ≡ bad_roster (Line line cause) = sym (c tells) ∙ bad in
+        let same : statuses.Roster l k ≡ statuses.Roster line cause = cc in
+        inl same
+    roster_by a line cause named bad statuses.Uncommissioned is c = let m = c tells in
+        absurd (ok_err (roster_of run.roster.before.left) m.enrolled (Line line cause) m.names.roster_is bad)
+    roster_by a line cause named bad statuses.Read is c = absurd (roster_heard line cause bad (heard statuses.Read is refl))
+    roster_by a line cause named bad statuses.Cut is c = absurd (roster_heard line cause bad (heard statuses.Cut is refl))
+    roster_by a line cause named bad statuses.Write is c = absurd (roster_heard line cause bad (heard statuses.Write is refl))
+    roster_by a line cause named bad statuses.Memory is c = inr (inr refl)
 
-  meter_heard : IsUncommissioned run → Headline run → ⊥
-  meter_heard u h =
-      let same = same_meter run u.address h.address u.enrolled h.enrolled u.names h.names in
-      found_missing (meter_with h.address h.enrolled.meters) h.meter h.commissioned (same ∙ u.missing)
+    meter_heard : IsUncommissioned run → Headline run → ⊥
+    meter_heard u h =
+        let same = same_meter run u.address h.address u.enrolled h.enrolled u.names h.names in
+        found_missing (meter_with h.address h.enrolled.meters) h.meter h.commissioned (same ∙ u.missing)
 
-  meter_by : IsUncommissioned run → (s : SideStatus) → run.status ≡ s → IsCausedBy run s → IsUnlessUnread statuses.Uncommissioned s
-  meter_by u statuses.Done is c = absurd (meter_heard u (heard statuses.Done is refl))
-  meter_by u statuses.Words is c = absurd (some_none (address_in run.words) u.address u.names.named c)
-  meter_by u statuses.ReadRoster is c = inr (inl refl)
-  meter_by u (statuses.Roster l k) is c = absurd (ok_err (roster_of run.roster.before.left) u.enrolled (Line l k) u.names.roster_is (c tells))
-  meter_by u statuses.Uncommissioned is c = inl refl
-  meter_by u statuses.Read is c = absurd (meter_heard u (heard statuses.Read is refl))
-  meter_by u statuses.Cut is c = absurd (meter_heard u (heard statuses.Cut is refl))
-  meter_by u statuses.Write is c = absurd (meter_heard u (heard statuses.Write is refl))
-  meter_by u statuses.Memory is c = inr (inr refl)
+    meter_by : IsUncommissioned run → (s : SideStatus) → run.status ≡ s → IsCausedBy run s → IsUnlessUnread statuses.Uncommissioned s
+    meter_by u statuses.Done is c = absurd (meter_heard u (heard statuses.Done is refl))
+    meter_by u statuses.Words is c = absurd (some_none (address_in run.words) u.address u.names.named c)
+    meter_by u statuses.ReadRoster is c = inr (inl refl)
+    meter_by u (statuses.Roster l k) is c =
+        absurd (ok_err (roster_of run.roster.before.left) u.enrolled (Line l k) u.names.roster_is (c tells))
+    meter_by u statuses.Uncommissioned is c = inl refl
+    meter_by u statuses.Read is c = absurd (meter_heard u (heard statuses.Read is refl))
+    meter_by u statuses.Cut is c = absurd (meter_heard u (heard statuses.Cut is refl))
+    meter_by u statuses.Write is c = absurd (meter_heard u (heard statuses.Write is refl))
+    meter_by u statuses.Memory is c = inr (inr refl)
 
-  complete_by : IsFaultless run → (s : SideStatus) → IsCausedBy run s → (s ≡ statuses.Done) ⊎ (s ≡ statuses.Memory)
-  complete_by f statuses.Done c = inl refl
-  complete_by f statuses.Words c = absurd (some_none (address_in run.words) f.address f.names.named c)
-  complete_by f statuses.ReadRoster c = absurd (f.roster_steady c)
-  complete_by f (statuses.Roster l k) c = absurd (ok_err (roster_of run.roster.before.left) f.enrolled (Line l k) f.names.roster_is (c tells))
-  complete_by f statuses.Uncommissioned c =
-      let m = c tells in
-      let same = same_meter run m.address f.address m.enrolled f.enrolled m.names f.names in
-      absurd (found_missing (meter_with f.address f.enrolled.meters) f.meter f.commissioned (same ∙ m.missing))
-  complete_by f statuses.Read c = absurd (f.tx_steady c)
-  complete_by f statuses.Cut c = let over = c tells in let within = f.within in absurd cc
-  complete_by f statuses.Write c = absurd (f.out_steady c)
-  complete_by f statuses.Memory c = inr refl
+    complete_by : IsFaultless run → (s : SideStatus) → IsCausedBy run s → (s ≡ statuses.Done) ⊎ (s ≡ statuses.Memory)
+    complete_by f statuses.Done c = inl refl
+    complete_by f statuses.Words c = absurd (some_none (address_in run.words) f.address f.names.named c)
+    complete_by f statuses.ReadRoster c = absurd (f.roster_steady c)
+    complete_by f (statuses.Roster l k) c =
+        absurd (ok_err (roster_of run.roster.before.left) f.enrolled (Line l k) f.names.roster_is (c tells))
+    complete_by f statuses.Uncommissioned c =
+        let m = c tells in
+        let same = same_meter run m.address f.address m.enrolled f.enrolled m.names f.names in
+        absurd (found_missing (meter_with f.address f.enrolled.meters) f.meter f.commissioned (same ∙ m.missing))
+    complete_by f statuses.Read c = absurd (f.tx_steady c)
+    complete_by f statuses.Cut c = let over = c tells in let within = f.within in absurd cc
+    complete_by f statuses.Write c = absurd (f.out_steady c)
+    complete_by f statuses.Memory c = inr refl
 
 -- what was heard to its end is within the limits
-ends_within : (tx : Change SourceShown) (lines : List (List ℕ)) → tx.before.taken ≡ [] → LosesNothing tx → EndsSo End tx.now.taken tx.now.left lines → is_over tx.before.left ≡ false
+ends_within : (tx : Change SourceShown) (lines : List (List ℕ)) → tx.before.taken ≡ [] → LosesNothing tx
+    → EndsSo End tx.now.taken tx.now.left lines → is_over tx.before.left ≡ false
 ends_within tx lines fresh kept ends =
-    let all : tx.now.taken ≡ tx.before.left = sym (append-nil tx.now.taken) ∙ ap (λ (x : List ℕ). tx.now.taken ++ x) (sym ends.nothing_left) ∙ all_bytes tx fresh kept in
+    let all : tx.now.taken ≡ tx.before.left = sym (append-nil tx.now.taken)
+    ∙ ap (λ (x : List ℕ). tx.now.taken ++ x) (sym ends.nothing_left) ∙ all_bytes tx fresh kept in
     ap is_over (sym all) ∙ ends.within
 
-is_end : (ended : Ended) (status : SideStatus) → (status ≡ statuses.Cut → ⊥) → (status ≡ statuses.Read → ⊥) → IsStatusOf ended status → ended ≡ End
+is_end : (ended : Ended) (status : SideStatus) → (status ≡ statuses.Cut → ⊥) → (status ≡ statuses.Read → ⊥) → IsStatusOf ended status
+    → ended ≡ End
 is_end End status cut read is = refl
 is_end Cut status cut read is = absurd (cut is)
 is_end Fault status cut read is = absurd (read is)
 
-heard_within : (run : Run) → run.tx.before.taken ≡ [] → LosesNothing run.tx → (run.status ≡ statuses.Cut → ⊥) → (run.status ≡ statuses.Read → ⊥) → Headline run → is_over run.tx.before.left ≡ false
+heard_within : (run : Run) → run.tx.before.taken ≡ [] → LosesNothing run.tx → (run.status ≡ statuses.Cut → ⊥)
+    → (run.status ≡ statuses.Read → ⊥) → Headline run → is_over run.tx.before.left ≡ false
 heard_within run fresh kept cut read h =
     let end : h.hears.ended ≡ End = is_end h.hears.ended run.status cut read h.hears.status_is in
-    ends_within run.tx h.hears.lines fresh kept (subst (λ (x : Ended). EndsSo x run.tx.now.taken run.tx.now.left h.hears.lines) end h.hears.ends)
+    ends_within run.tx h.hears.lines fresh kept
+    (subst (λ (x : Ended). EndsSo x run.tx.now.taken run.tx.now.left h.hears.lines) end h.hears.ends)
 
 over_within : (b : Bool) → b ≡ true → b ≡ false → ⊥
 over_within b over within = absurd cc
@@ -266,13 +297,15 @@ module _ (run : Run) (headline : IsTrue (was_heard run.status) → IsTrue run.so
   not_ended : (s : SideStatus) → run.status ≡ s → IsTrue (was_heard s) → (s ≡ statuses.Cut → ⊥) → (s ≡ statuses.Read → ⊥) → ⊥
   not_ended s is h cut read =
       over_within (is_over run.tx.before.left) long.over
-      (heard_within run fresh kept (λ e. cut (sym is ∙ e)) (λ e. read (sym is ∙ e)) (headline (subst (λ (x : SideStatus). IsTrue (was_heard x)) (sym is) h) tells))
+      (heard_within run fresh kept (λ e. cut (sym is ∙ e)) (λ e. read (sym is ∙ e))
+      (headline (subst (λ (x : SideStatus). IsTrue (was_heard x)) (sym is) h) tells))
 
   cut_by : (s : SideStatus) → run.status ≡ s → IsCausedBy run s → IsCut s
   cut_by statuses.Done is c = absurd (not_ended statuses.Done is refl done_cut done_read)
   cut_by statuses.Words is c = absurd (some_none (address_in run.words) long.address long.names.named c)
   cut_by statuses.ReadRoster is c = inr (inr (inl refl))
-  cut_by (statuses.Roster l k) is c = absurd (ok_err (roster_of run.roster.before.left) long.enrolled (Line l k) long.names.roster_is (c tells))
+  cut_by (statuses.Roster l k) is c =
+      absurd (ok_err (roster_of run.roster.before.left) long.enrolled (Line l k) long.names.roster_is (c tells))
   cut_by statuses.Uncommissioned is c =
       let m = c tells in
       let same = same_meter run m.address long.address m.enrolled long.enrolled m.names long.names in
@@ -282,8 +315,11 @@ module _ (run : Run) (headline : IsTrue (was_heard run.status) → IsTrue run.so
   cut_by statuses.Write is c = absurd (not_ended statuses.Write is refl write_cut write_read)
   cut_by statuses.Memory is c = inr (inr (inr refl))
 
-pub run_is : (run : Run) → (IsTrue (was_heard run.status) → IsTrue run.sources_tell → Headline run) → IsCausedBy run run.status → (address_in run.words ≡ None → run.status ≡ statuses.Words)
-    → (IsTrue run.sources_tell → run.tx.before.taken ≡ []) → (IsTrue run.sources_tell → LosesNothing run.roster) → (IsTrue run.sources_tell → LosesNothing run.tx) → (was_heard run.status ≡ false → run.tx.now ≡ run.tx.before) → (was_heard run.status ≡ false → IsSilent run.out) → IsRun run
+pub run_is : (run : Run) → (IsTrue (was_heard run.status) → IsTrue run.sources_tell → Headline run) → IsCausedBy run run.status
+    → (address_in run.words ≡ None → run.status ≡ statuses.Words)
+    → (IsTrue run.sources_tell → run.tx.before.taken ≡ []) → (IsTrue run.sources_tell → LosesNothing run.roster)
+    → (IsTrue run.sources_tell → LosesNothing run.tx) → (was_heard run.status ≡ false → run.tx.now ≡ run.tx.before)
+    → (was_heard run.status ≡ false → IsSilent run.out) → IsRun run
 run_is run headline caused words fresh roster tx unread silent = record {
   headline = headline;
   status_caused = caused;

@@ -95,7 +95,8 @@ pointed_parts n k small some = by (nat_lt k (length (decimal n))) refl
 
     by : (b : Bool) → nat_lt k (length d) ≡ b → Parts (pointed d k) n k
     by true is = inside n k d (pointed d k) (numeral n small) some (grind (arith, nat_tests)) (ap (λ b. cond b within beyond) is)
-    by false is = outside n k d (pointed d k) (numeral n small) (some_digits n small) (grind (arith, nat_tests)) (ap (λ b. cond b within beyond) is)
+    by false is = outside n k d (pointed d k) (numeral n small) (some_digits n small) (grind (arith, nat_tests))
+        (ap (λ b. cond b within beyond) is)
 
 lengthened_parts : (n k : ℕ) → n < 10 ^ 64 → Parts (lengthened n k) (n * 10 ^ k) 0
 unfolding lengthened
@@ -116,7 +117,8 @@ lengthened_parts (suc m) k small =
       behind = [];
       text_is = ap (λ b. cond b (decimal n) long) not_nought ∙ sym (append-nil long);
       some = omega (arith, length-append (decimal n) (zeros k), some_digits n small);
-      value_is = ap (digits_value 10) (append-nil long) ∙ after-append 0 (decimal n) (zeros k) ∙ zeros_behind k (digits_value 10 (decimal n)) ∙ ap (λ v. v * 10 ^ k) (numeral n small);
+      value_is = ap (digits_value 10) (append-nil long) ∙ after-append 0 (decimal n) (zeros k)
+          ∙ zeros_behind k (digits_value 10 (decimal n)) ∙ ap (λ v. v * 10 ^ k) (numeral n small);
       places_is = refl;
     }
 

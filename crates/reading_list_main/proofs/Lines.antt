@@ -16,7 +16,8 @@ use Rattle.reading_list_main.specs.Listing.{text_of, note_of, lister_after, list
 -- ---- one line
 
 -- a line that says this is listed by what is listed of that
-pub lists_said : (old new : Lister) (number : ℕ) (line : List ℕ) (said : Result Said LineFault) (found : Option LineNote) → said_of line ≡ said → found ≡ note_of old said
+pub lists_said : (old new : Lister) (number : ℕ) (line : List ℕ) (said : Result Said LineFault) (found : Option LineNote)
+    → said_of line ≡ said → found ≡ note_of old said
     → new ≡ lister_after old said → ListsLine old number line (text_of old said) (text_if (note_text number) found) new
 lists_said old new number line said found is note_is new_is = record {
   text_is = ap (text_of old) (sym is);
@@ -43,7 +44,8 @@ pub record AreListed (number : ℕ) (first last : Lister) (lines : List (List �
   pub note_is : note ≡ noted number first lines
   pub last_is : last ≡ lister_behind first lines
 
-pub are_listed : (number : ℕ) (first last : Lister) (lines : List (List ℕ)) (text note : List ℕ) → AreTold ListsLine number first lines text note last
+pub are_listed : (number : ℕ) (first last : Lister) (lines : List (List ℕ)) (text note : List ℕ)
+    → AreTold ListsLine number first lines text note last
     → AreListed number first last lines text note
 are_listed number first last [] text note told = record { text_is = told.0; note_is = told.1; last_is = told.2 }
 are_listed number first last (line ∷ lines) text note told =
@@ -60,4 +62,5 @@ pub listed_more : (l : Lister) (xs ys : List (List ℕ)) → listed l (xs ++ ys)
 listed_more l [] ys = refl
 listed_more l (x ∷ xs) ys =
     ap (λ t. text_of l (said_of x) ++ t) (listed_more (lister_after l (said_of x)) xs ys)
-    ∙ sym (append_assoc (text_of l (said_of x)) (listed (lister_after l (said_of x)) xs) (listed (lister_behind (lister_after l (said_of x)) xs) ys))
+    ∙ sym (append_assoc (text_of l (said_of x)) (listed (lister_after l (said_of x)) xs)
+    (listed (lister_behind (lister_after l (said_of x)) xs) ys))

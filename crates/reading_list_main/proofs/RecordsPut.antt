@@ -38,14 +38,17 @@ no_fault zero payload from none = refl
 no_fault (suc n) payload from none = absurd (omega arith)
 
 -- a line is put
-pub line_more : {P : Type 0} {takes : P → List ℕ → P → Type 0} {p q r : P} (line : ℕ × RecordSpan → List ℕ) (n : ℕ) (payload : List ℕ) (from : ℕ) (span : RecordSpan) (number : ℕ)
+pub line_more : {P : Type 0} {takes : P → List ℕ → P → Type 0} {p q r : P} (line : ℕ × RecordSpan → List ℕ) (n : ℕ) (payload : List ℕ)
+    (from : ℕ) (span : RecordSpan) (number : ℕ)
     → 0 < n → next_of payload from ≡ Ok (Some span) → Puts takes p (line (number, span)) q
     → Puts takes q (flat_map line (enumerate_from (number + 1) (spans_from (n - 1) payload span.end))) r
     → Puts takes p (flat_map line (enumerate_from number (spans_from n payload from))) r
 line_more line n payload from span number some is one later =
-    is_put _ _ (ap (λ spans. flat_map line (enumerate_from number spans)) (spans_next n payload from (Ok (Some span)) some is)) (then one later)
+    is_put _ _ (ap (λ spans. flat_map line (enumerate_from number spans)) (spans_next n payload from (Ok (Some span)) some is))
+    (then one later)
 
 -- no more lines are put
-pub lines_end : {P : Type 0} {takes : P → List ℕ → P → Type 0} {p : P} (line : ℕ × RecordSpan → List ℕ) (n : ℕ) (payload : List ℕ) (from number : ℕ)
+pub lines_end : {P : Type 0} {takes : P → List ℕ → P → Type 0} {p : P} (line : ℕ × RecordSpan → List ℕ) (n : ℕ) (payload : List ℕ)
+    (from number : ℕ)
     → spans_from n payload from ≡ [] → Puts takes p (flat_map line (enumerate_from number (spans_from n payload from))) p
 lines_end line n payload from number e = is_put _ _ (ap (λ spans. flat_map line (enumerate_from number spans)) e) none

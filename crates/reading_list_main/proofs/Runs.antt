@@ -23,18 +23,22 @@ use Rattle.reading_list_main.proofs.Lines.{are_listed, listed_more}
 
 -- ---- notes behind all lines
 
-pub quiet_end : (end : LinesEnd) (l : Lister) (notes : SinkShown) → is_whole end ≡ false → IsNoted (end_notes end l) (record { before = notes; now = notes })
+pub quiet_end : (end : LinesEnd) (l : Lister) (notes : SinkShown) → is_whole end ≡ false
+    → IsNoted (end_notes end l) (record { before = notes; now = notes })
 quiet_end end l notes off =
-    subst (λ t. IsNoted t (record { before = notes; now = notes })) (sym (ap (λ b. cond b (ending_text (not (is_read_out end) || l.whole) l.noted) []) off)) (none_noted notes)
+    subst (λ t. IsNoted t (record { before = notes; now = notes }))
+    (sym (ap (λ b. cond b (ending_text (not (is_read_out end) || l.whole) l.noted) []) off)) (none_noted notes)
 
-pub whole_end : (end : LinesEnd) (l : Lister) (sink : Change SinkShown) → is_whole end ≡ true → IsNoted (ending_text (not (is_read_out end) || l.whole) l.noted) sink → IsNoted (end_notes end l) sink
+pub whole_end : (end : LinesEnd) (l : Lister) (sink : Change SinkShown) → is_whole end ≡ true
+    → IsNoted (ending_text (not (is_read_out end) || l.whole) l.noted) sink → IsNoted (end_notes end l) sink
 whole_end end l sink on noted =
     subst (λ t. IsNoted t sink) (sym (ap (λ b. cond b (ending_text (not (is_read_out end) || l.whole) l.noted) []) on)) noted
 
 -- ---- lines that were told
 
 pub told_lines : (run : Run) (end : LinesEnd) (first now : Lister) (middle : SinkShown) → first ≡ fresh run.form
-    → Ended ListsLine first now end run.report.now run.list_tells run.out run.notes_tell (record { before = run.notes.before; now = middle })
+    → Ended ListsLine first now end run.report.now run.list_tells run.out run.notes_tell
+    (record { before = run.notes.before; now = middle })
     → run.notes.before.faults ≤ middle.faults → middle.faults ≤ run.notes.now.faults
     → (IsTrue run.notes_tell → IsNoted (end_notes end now) (record { before = middle; now = run.notes.now }))
     → run.status ≡ status_of end (is_faultless now) → ToldLines run end
@@ -49,10 +53,12 @@ told_lines run end first now middle first_is e one two noted_end status =
       listed = λ on. subst (λ t. EndsText end t run.out) text_is (e.written on);
       noted = λ whole on.
           let now_is : now ≡ lister_behind (fresh run.form) e.lines = sym (e.last_is whole) ∙ behind in
-          let ending : end_notes end now ≡ ending_text (not (is_read_out end) || (lister_behind (fresh run.form) e.lines).whole) (lister_behind (fresh run.form) e.lines).noted =
+          let ending : end_notes end now ≡ ending_text (not (is_read_out end) || (lister_behind (fresh run.form) e.lines).whole)
+          (lister_behind (fresh run.form) e.lines).noted =
           ap (λ b. cond b (ending_text (not (is_read_out end) || now.whole) now.noted) []) whole
           ∙ ap (λ (l : Lister). ending_text (not (is_read_out end) || l.whole) l.noted) now_is in
-          subst (λ t. IsNoted (t ++ ending_text (not (is_read_out end) || (lister_behind (fresh run.form) e.lines).whole) (lister_behind (fresh run.form) e.lines).noted) run.notes) note_is
+          subst (λ t. IsNoted (t ++ ending_text (not (is_read_out end) || (lister_behind (fresh run.form) e.lines).whole)
+          (lister_behind (fresh run.form) e.lines).noted) run.notes) note_is
           (subst (λ t. IsNoted (e.note ++ t) run.notes) ending
           (noted_then run.notes.before middle run.notes.now e.note (end_notes end now) one two (e.noted on) (noted_end on)));
       status = λ whole. status ∙ ap (λ (l : Lister). status_of end (is_faultless l)) (sym (e.last_is whole) ∙ behind);
@@ -71,14 +77,16 @@ front_of_more a b written front = record {
 first_and_more : (lines all : List (List ℕ)) (f : AreFirst lines all) → all ≡ lines ++ drop f.count all
 first_and_more lines all f = sym (take-append-drop f.count all) ∙ ap (λ t. t ++ drop f.count all) (sym f.first)
 
-more_listed : (form : Form) (lines all : List (List ℕ)) (f : AreFirst lines all) → list_text form all ≡ list_text form lines ++ listed (lister_behind (fresh form) lines) (drop f.count all)
+more_listed : (form : Form) (lines all : List (List ℕ)) (f : AreFirst lines all)
+    → list_text form all ≡ list_text form lines ++ listed (lister_behind (fresh form) lines) (drop f.count all)
 more_listed form lines all f =
     ap (λ ls. head_text form ++ listed (fresh form) ls) (first_and_more lines all f)
     ∙ ap (λ t. head_text form ++ t) (listed_more (fresh form) lines (drop f.count all))
     ∙ sym (append_assoc (head_text form) (listed (fresh form) lines) (listed (lister_behind (fresh form) lines) (drop f.count all)))
 
 -- a front of the lines' list behind the head is a front of the whole list
-front_behind : (form : Form) (lines all : List (List ℕ)) (before written : List ℕ) → AreFirst lines all → before ≡ head_text form → AppendsFront (listed (fresh form) lines) before written
+front_behind : (form : Form) (lines all : List (List ℕ)) (before written : List ℕ) → AreFirst lines all → before ≡ head_text form
+    → AppendsFront (listed (fresh form) lines) before written
     → AppendsFront (list_text form all) [] written
 front_behind form lines all before written f head front =
     subst (λ t. AppendsFront t [] written) (sym (more_listed form lines all f))
@@ -89,7 +97,8 @@ front_behind form lines all before written f head front =
           ∙ sym (take-append-add (head_text form) (listed (fresh form) lines) front.count);
     }))
 
-module _ (run : Run) (head : SinkShown) (later : run.out.before.faults ≤ head.faults) (head_is : IsTrue run.list_tells → head.written ≡ head_text run.form)
+module _ (run : Run) (head : SinkShown) (later : run.out.before.faults ≤ head.faults) (head_is : IsTrue run.list_tells
+    → head.written ≡ head_text run.form)
     (t : IsToldRun (record {
       form = run.form;
       report_tells = run.report_tells;
@@ -101,7 +110,8 @@ module _ (run : Run) (head : SinkShown) (later : run.out.before.faults ≤ head.
       status = run.status;
     }))
     (later_out : head.faults ≤ run.out.now.faults)
-    (untaken : IsTrue run.report_tells → run.report.before.taken ≡ []) (unnoted : IsTrue run.notes_tell → run.notes.before.written ≡ []) where
+    (untaken : IsTrue run.report_tells → run.report.before.taken ≡ []) (unnoted : IsTrue run.notes_tell
+    → run.notes.before.written ≡ []) where
   all_bytes : IsTrue run.report_tells → run.report.now.taken ++ run.report.now.left ≡ run.report.before.left
   all_bytes tells = t.bytes tells ∙ ap (λ b. b ++ run.report.before.left) (untaken tells)
 
@@ -109,7 +119,8 @@ module _ (run : Run) (head : SinkShown) (later : run.out.before.faults ≤ head.
   wrote is = rose_then run.out.before.faults head.faults run.out.now.faults later later_out (t.write is)
 
   -- the ending of a run that lists all
-  is_done : (end : LinesEnd) (faultless : Bool) (status : ListStatus) → status ≡ status_of end faultless → IsTrue (lists_all status) → end ≡ ends.Done
+  is_done : (end : LinesEnd) (faultless : Bool) (status : ListStatus) → status ≡ status_of end faultless → IsTrue (lists_all status)
+      → end ≡ ends.Done
   is_done ends.Done faultless status is on = refl
   is_done ends.Read faultless status is on = absurd (let off = subst (λ s. IsTrue (lists_all s)) is on in cc)
   is_done ends.Cut faultless status is on = absurd (let off = subst (λ s. IsTrue (lists_all s)) is on in cc)
@@ -120,7 +131,8 @@ module _ (run : Run) (head : SinkShown) (later : run.out.before.faults ≤ head.
   is_listed done tells =
       let told = t.told tells in
       let lines = subst (λ e. EndsLines e run.report.now.taken run.report.now.left told.lines) done told.lines_are in
-      let taken : run.report.now.taken ≡ run.report.now.taken ++ run.report.now.left = sym (append-nil run.report.now.taken) ∙ ap (λ b. run.report.now.taken ++ b) (sym lines.0) in
+      let taken : run.report.now.taken ≡ run.report.now.taken ++ run.report.now.left = sym (append-nil run.report.now.taken)
+      ∙ ap (λ b. run.report.now.taken ++ b) (sym lines.0) in
       let all : run.report.now.taken ≡ run.report.before.left = taken ∙ all_bytes tells in
       let lines_all : told.lines ≡ all_lines run.report.before.left = lines.2 ∙ ap all_lines all in
       let whole : IsTrue (is_whole t.end) = ap is_whole done in
@@ -139,7 +151,8 @@ module _ (run : Run) (head : SinkShown) (later : run.out.before.faults ≤ head.
     where
       noted_text : LinesEnd → List (List ℕ) → List ℕ
       noted_text e ls =
-          noted 1 (fresh run.form) ls ++ ending_text (not (is_read_out e) || (lister_behind (fresh run.form) ls).whole) (lister_behind (fresh run.form) ls).noted
+          noted 1 (fresh run.form) ls ++ ending_text (not (is_read_out e) || (lister_behind (fresh run.form) ls).whole)
+          (lister_behind (fresh run.form) ls).noted
 
   so_far_by : (end : LinesEnd) (faultless : Bool) (lines : List (List ℕ)) → EndsLines end run.report.now.taken run.report.now.left lines
       → EndsText end (listed (fresh run.form) lines) (record { before = head; now = run.out.now }) → head.written ≡ head_text run.form
@@ -148,15 +161,18 @@ module _ (run : Run) (head : SinkShown) (later : run.out.before.faults ≤ head.
   so_far_by ends.Done false lines are text h = text ∙ ap (λ b. b ++ listed (fresh run.form) lines) h ∙ ap (list_text run.form) are.2
   so_far_by ends.Read faultless lines are text h = text ∙ ap (λ b. b ++ listed (fresh run.form) lines) h ∙ ap (list_text run.form) are
   so_far_by ends.Cut faultless lines are text h = text ∙ ap (λ b. b ++ listed (fresh run.form) lines) h ∙ ap (list_text run.form) are.1
-  so_far_by ends.Write faultless lines are text h = front_behind run.form lines (all_lines run.report.now.taken) head.written run.out.now.written are h text
-  so_far_by ends.Memory faultless lines are text h = front_behind run.form lines (all_lines run.report.now.taken) head.written run.out.now.written are h text
+  so_far_by ends.Write faultless lines are text h =
+      front_behind run.form lines (all_lines run.report.now.taken) head.written run.out.now.written are h text
+  so_far_by ends.Memory faultless lines are text h =
+      front_behind run.form lines (all_lines run.report.now.taken) head.written run.out.now.written are h text
 
   caused_by : (end : LinesEnd) (faultless : Bool) → t.end ≡ end → IsCausedBy run (status_of end faultless)
   caused_by ends.Done true is = tt
   caused_by ends.Done false is = tt
   caused_by ends.Read faultless is = t.read is
   caused_by ends.Cut faultless is = λ tells.
-      ap is_over (sym (all_bytes tells)) ∙ (subst (λ e. EndsLines e run.report.now.taken run.report.now.left (t.told tells).lines) is (t.told tells).lines_are).0
+      ap is_over (sym (all_bytes tells))
+      ∙ (subst (λ e. EndsLines e run.report.now.taken run.report.now.left (t.told tells).lines) is (t.told tells).lines_are).0
   caused_by ends.Write faultless is = wrote is
   caused_by ends.Memory faultless is = tt
 
@@ -179,6 +195,7 @@ module _ (run : Run) (head : SinkShown) (later : run.out.before.faults ≤ head.
         subst (λ s. IsListedSoFar s run.form run.report.now.taken run.out.now.written) (sym t.status)
         (so_far_by t.end t.faultless (t.told tells).lines (t.told tells).lines_are ((t.told tells).listed on) (head_is on));
     caused = subst (IsCausedBy run) (sym t.status) (caused_by t.end t.faultless refl);
-    complete = λ tells u. subst (λ s. IsTrue (lists_all s) ⊎ (s ≡ statuses.Memory)) (sym t.status) (complete_by t.end t.faultless refl tells u);
+    complete = λ tells u. subst (λ s. IsTrue (lists_all s) ⊎ (s ≡ statuses.Memory)) (sym t.status)
+        (complete_by t.end t.faultless refl tells u);
     no_loss = t.bytes;
   }

@@ -6,7 +6,8 @@ use Rattle.paper.proofs.Calls.{none, two_make}
 use Rattle.paper.proofs.Items.{is_put}
 use Rattle.reading_list_main.specs.Decimals.{zeros}
 
-pub zero_more : {P : Type 0} {takes : P → List ℕ → P → Type 0} {p q r : P} (n : ℕ) → 0 < n → Puts takes p (codes "0") q → Puts takes q (zeros (n - 1)) r
+pub zero_more : {P : Type 0} {takes : P → List ℕ → P → Type 0} {p q r : P} (n : ℕ) → 0 < n → Puts takes p (codes "0") q
+    → Puts takes q (zeros (n - 1)) r
     → Puts takes p (zeros n) r
 zero_more zero some one later = absurd (omega arith)
 zero_more (suc n) some one later =

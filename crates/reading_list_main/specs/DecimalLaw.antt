@@ -15,7 +15,8 @@ abbrev pub behind_point : List ℕ → List ℕ
 behind_point [] = []
 behind_point (digit ∷ digits) = codes "." ++ digit ∷ digits
 
--- A text writes a number times ten to the power of an exponent: behind the sign stand digits, which without the point among them write the number
+-- A text writes a number times ten to the power of an exponent: behind the sign stand digits, which without the point among them write
+-- the number
 -- times ten to the power that multiplies; and as many stand behind the point as the power that divides says.
 pub record Writes (text : List ℕ) (number exponent : ℤ) : Type 0 where
   pub whole : List ℕ

@@ -15,7 +15,8 @@ fault_words faults.Version = codes "the report isn't of version 1"
 fault_words faults.Address = codes "the meter's address isn't sixteen hexadecimal digits: the steps below it have no meter"
 fault_words faults.Fields = codes "a step hasn't all its fields: the line is cut off"
 fault_words faults.Number = codes "a number of the step isn't a plain decimal one of its range"
-fault_words faults.Payload = codes "the payload isn't an even number of hexadecimal digits, at most 7,744: the line is cut off or was changed"
+fault_words faults.Payload =
+    codes "the payload isn't an even number of hexadecimal digits, at most 7,744: the line is cut off or was changed"
 
 -- what is wrong with a line
 unfoldable pub note_words : LineNote → List ℕ

@@ -57,7 +57,8 @@ closing forms.Csv = codes "\n"
 -- what stands in front of all lines: in comma separated values the names of the members
 abbrev pub head_text : Form → List ℕ
 head_text forms.Json = []
-head_text forms.Csv = codes "address,label,receiver,line,moment,counter,record,function,storage,tariff,subunit,quantity,unit,value,modifiers,raw\n"
+head_text forms.Csv =
+    codes "address,label,receiver,line,moment,counter,record,function,storage,tariff,subunit,quantity,unit,value,modifiers,raw\n"
 
 -- ---- the values of members
 

@@ -76,7 +76,8 @@ pub record IsListed (run : Run) : Type 0 where
   pub read : IsReadOut run.report
   pub within : is_over run.report.before.left ≡ false
   pub listed : IsTrue run.list_tells → run.out.now.written ≡ list_text run.form (all_lines run.report.before.left)
-  pub noted : IsTrue run.notes_tell → (WriteFailed run.notes → ⊥) → run.notes.now.written ≡ report_notes run.form true (all_lines run.report.before.left)
+  pub noted : IsTrue run.notes_tell → (WriteFailed run.notes → ⊥)
+      → run.notes.now.written ≡ report_notes run.form true (all_lines run.report.before.left)
   pub status : run.status ≡ listed_status run.form (all_lines run.report.before.left)
 
 -- what is listed where the report couldn't be read to its end: the readings of the whole lines taken; or a front of the list

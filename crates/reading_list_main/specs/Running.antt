@@ -23,7 +23,8 @@ pub record ToldLines (run : Run) (end : LinesEnd) : Type 0 where
   pub lines_are : EndsLines end run.report.now.taken run.report.now.left lines
   pub listed : IsTrue run.list_tells → EndsText end (listed (fresh run.form) lines) run.out
   pub noted : IsTrue (is_whole end) → IsTrue run.notes_tell
-      → IsNoted (noted 1 (fresh run.form) lines ++ ending_text (not (is_read_out end) || (lister_behind (fresh run.form) lines).whole) (lister_behind (fresh run.form) lines).noted) run.notes
+      → IsNoted (noted 1 (fresh run.form) lines ++ ending_text (not (is_read_out end) || (lister_behind (fresh run.form) lines).whole)
+      (lister_behind (fresh run.form) lines).noted) run.notes
   pub status : IsTrue (is_whole end) → run.status ≡ status_of end (is_faultless (lister_behind (fresh run.form) lines))
 
 -- how the lines ended, and what is known by that

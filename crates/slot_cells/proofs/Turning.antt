@@ -191,8 +191,7 @@ module _ {B O C R : Type 0} (opening_of : B → O) (acts_of : B → List (Deed C
               record {
                 after = ordered;
                 before = omega arith;
-                drew =
-                    changed_here g.drawer t me.0.number t refl;
+                drew = changed_here g.drawer t me.0.number t refl;
               },
             )
                 (λ j d ne there. know j d d.stage (r.seats j d there));
@@ -263,7 +262,8 @@ module _ {B O C R : Type 0} (opening_of : B → O) (acts_of : B → List (Deed C
             words = set-get_or s.words 1 0 ∙ r.words;
             ordered = r.ordered;
             queue = λ n lo hi. let q = r.queue n lo hi in dite (ℕ_discrete q.0 id)
-                (λ e. let same : q.1 ≡ me.0 = at_unique s.views id q.1 me.0 (subst (λ (z : ℕ). get_elem? s.views z ≡ some q.1) e q.2) at in (
+                (λ e. let same : q.1 ≡ me.0 =
+                at_unique s.views id q.1 me.0 (subst (λ (z : ℕ). get_elem? s.views z ≡ some q.1) e q.2) at in (
                   id,
                   w,
                   set_here s.views id w (at_inside s.views id me.0 at),
@@ -278,8 +278,7 @@ module _ {B O C R : Type 0} (opening_of : B → O) (acts_of : B → List (Deed C
                 prefix = starts_itself g.log;
                 own = live.own;
                 joined = live.joined;
-                apart =
-                    live.apart;
+                apart = live.apart;
                 is_root = live.is_root;
               },
               ticket,
@@ -361,8 +360,7 @@ module _ {B O C R : Type 0} (opening_of : B → O) (acts_of : B → List (Deed C
       record {
         seat_is = h.seat_is;
         acts_are = acts_by_other v.number m.number g.log fresh log' m.acts grown mine other h.acts_are;
-        in_use =
-            h.in_use;
+        in_use = h.in_use;
         small = h.small;
       } in
       let apart : (j : ℕ) (m : Made C R) → j ≢ id → IsOwned g.seat_of g.numbers g.log j m → m.number ≢ v.number =
@@ -428,8 +426,7 @@ module _ {B O C R : Type 0} (opening_of : B → O) (acts_of : B → List (Deed C
               ap (λ (l : List (Maybe S)). set l 0 (some (Some k))) (out_there g s r turn.out),
               record {
                 opening_is = is_o;
-                acts_are =
-                    refl;
+                acts_are = refl;
                 turns_are = turns ∙ ap (λ (n : ℕ). wrapped (n + 1)) now;
               },
             );
@@ -492,8 +489,7 @@ module _ {B O C R : Type 0} (opening_of : B → O) (acts_of : B → List (Deed C
       record {
         seat_is = changed_else g.seat_of number new m.number other ∙ h.seat_is;
         acts_are = h.acts_are;
-        in_use =
-            among_more m.number g.numbers (number ∷ []) h.in_use;
+        in_use = among_more m.number g.numbers (number ∷ []) h.in_use;
         small = h.small;
       } in
       let all_owned : (j : ℕ) (ms : List (Made C R)) → Each (IsOwned g.seat_of g.numbers g.log j) ms
@@ -528,8 +524,7 @@ module _ {B O C R : Type 0} (opening_of : B → O) (acts_of : B → List (Deed C
         own = record {
           seat_is = changed_here g.seat_of number new number refl;
           acts_are = r.no_others number free;
-          in_use =
-              among_last number g.numbers;
+          in_use = among_last number g.numbers;
           small = small;
         };
         joined = tt;
@@ -582,8 +577,7 @@ module _ {B O C R : Type 0} (opening_of : B → O) (acts_of : B → List (Deed C
       record {
         seat_is = moved_else g.seat_of other id m.number (λ e. ne (sym h.seat_is ∙ e)) ∙ h.seat_is;
         acts_are = h.acts_are;
-        in_use =
-            h.in_use;
+        in_use = h.in_use;
         small = h.small;
       } in
       let comes_over : (m : Made C R) → IsOwned g.seat_of g.numbers g.log other m → IsOwned seat_of' g.numbers g.log id m = λ m h.

@@ -33,6 +33,9 @@ Each line is answered on the standard output.
 
 exit status: 0 done, 2 faulty words, 5 edits not read, 7 answer not written,
 8 edits past the limit, 10 no memory, 11 a file that can't be opened
+
+docs/FORMATS.md says what each fault, refusal and message means and what to do about
+it; docs/usage_totals.1 is the man page.
 ";
 
 const VERSION: &str = "usage_totals 0.1.0\n";

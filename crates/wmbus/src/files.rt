@@ -7,6 +7,7 @@ ghost use Rattle.collector_main.specs.Showing.{IsFresh, receiver_count};
 ghost use Rattle.collector_main.specs.Words.{plan_of};
 ghost use Rattle.wmbus.specs.Exit.{IsUnopened};
 
+use crate::nodes::differ;
 use crate::session::end;
 use collector_main::{Plan, Receiver, Status};
 use outer_io::{StdSink, StdSource};
@@ -167,9 +168,9 @@ fn open_nothing<R: AllocGlobal>(rt: &R) -> Opened
     }
 }
 
-/// Opens the files that the words name, in their order; those that are written are made empty. What can't be opened is said, and is
-/// status 11; want of memory is 10.
-pub(crate) fn open_all<R: Eprint + Files<File = File> + AllocGlobal>(
+// Opens the files that the words name, in their order; those that are written are made empty. What can't be opened is said, and is
+// status 11; want of memory is 10.
+fn open_all<R: Eprint + Files<File = File> + AllocGlobal>(
     rt: &R,
     command: &[String],
     plan: Plan,
@@ -189,4 +190,23 @@ pub(crate) fn open_all<R: Eprint + Files<File = File> + AllocGlobal>(
         },
         Plan::Made { .. } => Ok(open_nothing(rt)),
     }
+}
+
+/// Opens the files that the words name, in their order; those that are written are made empty. What can't be opened is said, and is
+/// status 11; want of memory is 10. Where two words name one file nothing is made empty; where they name one that is only then made, it
+/// stays empty.
+pub(crate) fn open_apart<R: Eprint + Files<File = File> + AllocGlobal>(
+    rt: &R,
+    command: &[String],
+    plan: Plan,
+) -> Result<Opened, ExitCode>
+    requires { plan_of (map string_bytes command.now) ≡ Ok plan }
+    ensures fresh { IfOk result (λ files. Each IsFresh files.receivers.items) }
+    ensures count { IfOk result (λ files. vec_len files.receivers ≡ receiver_count plan) }
+    ensures unopened { IfErr result (λ code. IsUnopened (exit_status code)) }
+{
+    differ(rt, command, plan)?;
+    let files = open_all(rt, command, plan)?;
+    differ(rt, command, plan)?;
+    Ok(files)
 }

@@ -9,10 +9,11 @@ ghost use Rattle.program_words.specs.OwnTexts.{asks_for_text, IsTold};
 ghost use Rattle.wmbus.specs.Exit.{IsSessionExit};
 
 mod files;
+mod nodes;
 mod session;
 
 use collector_main::{Plan, Status, WordsFault, words};
-use files::open_all;
+use files::open_apart;
 use outer_io::StdSink;
 use program_words::{NoWords, command_words, own_text, tell};
 use session::{end, run_over};
@@ -51,6 +52,9 @@ to the standard output. The same words give the same summary everywhere.
 exit status: 0 done, 2 faulty words, 3 faulty roster, 4 roster not read,
 5 receiver not read, 6 downlink not written, 7 next, readings or report not
 written, 8 receiver past its limit, 10 no memory, 11 a file that can't be opened
+
+docs/FORMATS.md says what each fault, refusal and message means and what to do about
+it; docs/wmbus.1 is the man page.
 ";
 
 const VERSION: &str = "wmbus 0.1.0\n";
@@ -65,7 +69,7 @@ fn run_plan<R: Threads + Wait + Sync + Eprint + Files<File = File> + AllocGlobal
     requires { plan_of (map string_bytes command.now) ≡ Ok plan }
     ensures { IsSessionExit (exit_status result) }
 {
-    match open_all(rt, command, plan) {
+    match open_apart(rt, command, plan) {
         Ok(mut files) => run_over(
             rt,
             command,

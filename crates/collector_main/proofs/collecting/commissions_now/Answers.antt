@@ -9,4 +9,5 @@ loop-place-preserved c =
     let inside : place < length slots = search rules in
     let pushed : c.push.new.self.items ≡ c.loop-place.commissions.items ++ c.commission_now.result ∷ [] = search rules in
     let one : c.commission_now.result ≡ commission_now (get_or slots place d) = search rules in
-    pushed ∙ mapped_more commission_now slots place d c.loop-place.commissions.items c.commission_now.result inside c.loop-place.invariant one
+    pushed ∙ mapped_more commission_now slots place d c.loop-place.commissions.items c.commission_now.result inside c.loop-place.invariant
+    one

@@ -6,22 +6,27 @@ use Rattle.collector_main.proofs.Runs.{heard_run, alone_unheard}
 use Rattle.collector_main.proofs.session.hear_session.Goals as goal
 
 pub returns-in-Err-clause-run : goal.returns-in-Err-clause-run
-returns-in-Err-clause-run g c = alone_unheard _ _ _ _ _ c.in-Err.status None c.in-Err.ensures.status c.requires.fresh tt c.enrolled.ensures.no_loss (λ told. refl) refl
+returns-in-Err-clause-run g c =
+    alone_unheard _ _ _ _ _ c.in-Err.status None c.in-Err.ensures.status c.requires.fresh tt c.enrolled.ensures.no_loss (λ told. refl) refl
 
 pub returns-in_default-clause-run : goal.returns-in_default-clause-run
-returns-in_default-clause-run g c = alone_unheard _ _ _ _ _ statuses.Memory None tt c.requires.fresh tt c.enrolled.ensures.no_loss (λ told. refl) refl
+returns-in_default-clause-run g c =
+    alone_unheard _ _ _ _ _ statuses.Memory None tt c.requires.fresh tt c.enrolled.ensures.no_loss (λ told. refl) refl
 
 pub returns-in-Memory-clause-run : goal.returns-in-Memory-clause-run
 returns-in-Memory-clause-run g c =
-    alone_unheard _ _ _ _ _ statuses.Memory (Some ends.Memory) tt (c.work_alone.ensures.ended ∙ ap Some c.in-Memory.is) tt c.enrolled.ensures.no_loss
+    alone_unheard _ _ _ _ _ statuses.Memory (Some ends.Memory) tt (c.work_alone.ensures.ended ∙ ap Some c.in-Memory.is)
+    tt c.enrolled.ensures.no_loss
     c.work_alone.ensures.heard.has_heard.no_loss refl
 
 pub returns-clause-run : goal.returns-clause-run
 returns-clause-run g c =
-    heard_run _ _ _ _ _ _ c.in-Ok.roster c.work_alone.result c.work_alone.result c.counts-counts.result c.work_alone.new.self.counts c.in-Ok-new.world c.work_alone.new.world
+    heard_run _ _ _ _ _ _ c.in-Ok.roster c.work_alone.result c.work_alone.result c.counts-counts.result c.work_alone.new.self.counts
+    c.in-Ok-new.world c.work_alone.new.world
     refl c.counts-counts.ensures c.in-Ok.ensures.found c.in-Ok.ensures.read c.enrolled.ensures.no_loss
     c.work_alone.ensures.ended
-    (c.in-Ok-new.ensures ∙ ap (λ own. world_of own c.into_meters.result.items []) c.own-own.ensures ∙ ap (λ meters. world_of c.in-Ok.roster.own meters []) c.into_meters.ensures)
+    (c.in-Ok-new.ensures ∙ ap (λ own. world_of own c.into_meters.result.items []) c.own-own.ensures
+    ∙ ap (λ meters. world_of c.in-Ok.roster.own meters []) c.into_meters.ensures)
     (search rules)
     c.work_alone.ensures.heard c.work_alone.ensures.untaken (c.work_alone.ensures.never, c.in_default-work_alone.not-Memory)
     c.finish_one.ensures.status c.finish_one.ensures.written c.finish_one.ensures.done

@@ -12,4 +12,5 @@ loop-place-preserved g c =
     let pushed : c.push.new.self.items ≡ c.loop-place.ends.items ++ c.in_ok-end.end ∷ [] = search rules in
     subst (λ l. EachWith IsEndOf l c.push.new.self.items) (sym (take_more receivers place d inside))
     (subst (λ t. EachWith IsEndOf (take place receivers ++ get_or receivers place d ∷ []) t) (sym pushed)
-    (each_more IsEndOf (take place receivers) c.loop-place.ends.items (get_or receivers place d) c.in_ok-end.end c.loop-place.invariant (search rules)))
+    (each_more IsEndOf (take place receivers) c.loop-place.ends.items (get_or receivers place d) c.in_ok-end.end c.loop-place.invariant
+    (search rules)))

@@ -15,7 +15,8 @@ lines-preserved g c = record {
   few = c.tell_next.ensures.few;
   empty = c.in_default.ensures.empty;
   stands = λ tells.
-      stands_on g.T.Teller.tells _ _ _ _ _ _ _ c.in_default.ensures.next.1 _ _ _ _ _ _ _ _ _ _ c.lines.invariant.later_notes c.tell_next.ensures.later_notes
+      stands_on g.T.Teller.tells _ _ _ _ _ _ _ c.in_default.ensures.next.1 _ _ _ _ _ _ _ _ _ _ c.lines.invariant.later_notes
+      c.tell_next.ensures.later_notes
       (c.lines.invariant.stands tells) (c.in_default.ensures.told tells);
   later = omega arith;
   later_out = omega arith;

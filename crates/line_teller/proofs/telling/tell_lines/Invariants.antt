@@ -10,7 +10,8 @@ invariant-lines g l = record {
   longest : l.reader.longest ≡ g.T.Teller.longest;
   few : l.reader.reader.line ≤ 131072;
   empty : l.note.text ≡ [];
-  stands : IsTrue g.S.Source.tells → Stands g.T.Teller.tells l.initial.teller l.teller (given g.S.Source.taken l.reader.reader) l.reader.reader.line
+  stands : IsTrue g.S.Source.tells
+      → Stands g.T.Teller.tells l.initial.teller l.teller (given g.S.Source.taken l.reader.reader) l.reader.reader.line
       g.K.Sink.tells (sink_change g.K.Sink l.initial.out l.out) l.text.text g.E.Sink.tells (sink_change g.E.Sink l.initial.notes l.notes);
   later : g.S.Source.faults l.initial.reader.reader.source ≤ g.S.Source.faults l.reader.reader.source;
   later_out : g.K.Sink.faults l.initial.out ≤ g.K.Sink.faults l.out;

@@ -11,5 +11,7 @@ returns-in-Ok-clause-ended g c =
 
 pub returns-in-Err-clause-ended : goal.returns-in-Err-clause-ended
 returns-in-Err-clause-ended g c = λ tells.
-    stopped_quietly g.T.Teller.tells _ _ _ c.in-Err.end c.finish.result _ _ _ _ _ c.hear_next.new.text.text _ _ c.finish.ensures.end (c.in-Err.ensures.ends tells) (c.in-Err.ensures.first tells)
-    (λ whole. ((c.in-Err.ensures.same whole).0, ap (λ k. k.text) (c.in-Err.ensures.same whole).1)) c.finish.ensures.text c.finish.ensures.silent
+    stopped_quietly g.T.Teller.tells _ _ _ c.in-Err.end c.finish.result _ _ _ _ _ c.hear_next.new.text.text _ _ c.finish.ensures.end
+    (c.in-Err.ensures.ends tells) (c.in-Err.ensures.first tells)
+    (λ whole. ((c.in-Err.ensures.same whole).0, ap (λ k. k.text) (c.in-Err.ensures.same whole).1))
+    c.finish.ensures.text c.finish.ensures.silent

@@ -10,7 +10,8 @@ returns-in-Ok-Line-clause-heard g c = λ tells.
     let before = given g.S.Source.taken c.args.tx.now.reader in
     record {
       line = c.text.result.now;
-      more = lent _ _ _ _ _ c.in-Ok-Line.field-0-is (c.in-Ok-Line.ensures.lines tells) ∙ ap (λ (text : List ℕ). before ++ text ∷ []) (sym c.text.ensures);
+      more = lent _ _ _ _ _ c.in-Ok-Line.field-0-is (c.in-Ok-Line.ensures.lines tells)
+          ∙ ap (λ (text : List ℕ). before ++ text ∷ []) (sym c.text.ensures);
       answered = c.hear_line.ensures.answer;
       after = c.hear_line.ensures.last;
     }

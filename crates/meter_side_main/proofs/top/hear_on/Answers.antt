@@ -11,9 +11,12 @@ use Rattle.meter_side_main.proofs.Runs.{hears_by, heard_for, failed_is, whole_is
 use Rattle.meter_side_main.proofs.top.hear_on.Goals as goal
 
 done : (g : _) (c : goal.After-status_at g) → (c.finish.new.self.sink.ghost_name ≡ c.args.paper.now.sink.ghost_name)
-    × Finished g.K.Sink.tells (filed g.K.Sink.written g.K.Sink.faults c.args.paper.now) c.hear_source-ended.ensures.told.put (filed g.K.Sink.written g.K.Sink.faults c.finish.new.self)
-done g c = print_finished g.K.Sink.tells _ (λ p. p.sink.ghost_name) (filed g.K.Sink.written g.K.Sink.faults) (λ p text q took. took) c.args.paper.now c.hear_source-ended.new.paper c.finish.new.self _
-    c.hear_source-ended.ensures.told.puts c.finish.ensures.same c.finish.ensures.files c.requires.steady c.requires.blank c.finish.ensures.empty
+    × Finished g.K.Sink.tells (filed g.K.Sink.written g.K.Sink.faults c.args.paper.now) c.hear_source-ended.ensures.told.put
+    (filed g.K.Sink.written g.K.Sink.faults c.finish.new.self)
+done g c = print_finished g.K.Sink.tells _ (λ p. p.sink.ghost_name) (filed g.K.Sink.written g.K.Sink.faults) (λ p text q took. took)
+    c.args.paper.now c.hear_source-ended.new.paper c.finish.new.self _
+    c.hear_source-ended.ensures.told.puts c.finish.ensures.same c.finish.ensures.files c.requires.steady c.requires.blank
+    c.finish.ensures.empty
 
 failed : (g : _) (c : goal.After-status_at g) → c.finish.new.self.failed ≡ c.is_err-unwritten.result
 failed g c = failed_is c.finish.result _ _ c.finish.ensures.ok c.finish.ensures.err c.is_err-unwritten.ensures.value
@@ -31,7 +34,8 @@ returns-clause-heard g c = λ tells.
     let d = (done g c).1 in
     let is = failed g c in
     subst (λ (s : SideStatus). Hears m.own m.commission tx g.K.Sink.tells out s) (sym c.status_at.ensures)
-    (hears_by m.own m.commission tx g.K.Sink.tells out c.hear_source-ended.result lines heard.key (heard.ends tells) c.is_err-unwritten.result
+    (hears_by m.own m.commission tx g.K.Sink.tells out c.hear_source-ended.result lines heard.key (heard.ends tells)
+    c.is_err-unwritten.result
     (λ fine writes. whole_is _ _ _ _ (d.ok (is ∙ fine) writes) (c.requires.empty writes) (heard.told.is tells))
     (λ yes. d.cause (is ∙ yes))
     (λ yes writes. front_is _ _ _ _ (heard.told.is tells) (c.requires.empty writes) (d.err (is ∙ yes) writes)))
@@ -42,5 +46,6 @@ returns-clause-cause g c =
     let tx : Change SourceShown = source_change g.S.Source c.args.tx.now.reader.source c.hear_source-ended.new.tx.reader.source in
     let out : Change SinkShown = sink_change g.K.Sink c.args.paper.now.sink.now c.finish.new.self.sink.now in
     subst (λ (s : SideStatus). IsHeardFor g.S.Source.tells tx out s) (sym c.status_at.ensures)
-    (heard_for g.S.Source.tells tx out (given g.S.Source.taken c.hear_source-ended.new.tx.reader) c.requires.untaken heard.no_loss c.hear_source-ended.result c.is_err-unwritten.result heard.ends heard.failed
+    (heard_for g.S.Source.tells tx out (given g.S.Source.taken c.hear_source-ended.new.tx.reader)
+    c.requires.untaken heard.no_loss c.hear_source-ended.result c.is_err-unwritten.result heard.ends heard.failed
     (λ yes. (done g c).1.cause (failed g c ∙ yes)))

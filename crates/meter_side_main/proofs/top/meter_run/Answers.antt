@@ -9,7 +9,8 @@ use Rattle.meter_side_main.proofs.top.meter_run.Goals.{After-hear}
 
 heard : (g : _) (c : After-hear g) → was_heard c.hear.result ≡ false → ⊥
 heard g c unheard =
-    was_unheard g.S.Source.tells (source_change g.S.Source c.args.tx.now.reader.source c.hear.new.tx.reader.source) (sink_change g.K.Sink c.args.out.now c.hear.new.out) c.hear.result c.hear.ensures.cause unheard
+    was_unheard g.S.Source.tells (source_change g.S.Source c.args.tx.now.reader.source c.hear.new.tx.reader.source)
+    (sink_change g.K.Sink c.args.out.now c.hear.new.out) c.hear.result c.hear.ensures.cause unheard
 
 pub returns-in-Ok-clause-run : goal.returns-in-Ok-clause-run
 returns-in-Ok-clause-run g c =
@@ -22,8 +23,10 @@ returns-in-Ok-clause-run g c =
       out = sink_change g.K.Sink c.args.out.now c.hear.new.out;
       status = c.hear.result;
     } in
-    run_is run (λ h tells. headline_is run c.in-Ok.meter (c.in-Ok.ensures.found tells) (c.hear.ensures.heard tells)) (hearing_cause run c.hear.result c.hear.ensures.cause)
-    (λ none. absurd (let refused = (c.find_meter.ensures.words none).0 in let found = c.in-Ok.is in cc)) (λ tells. (c.requires.untaken tells).1) c.find_meter.ensures.no_loss c.hear.ensures.no_loss
+    run_is run (λ h tells. headline_is run c.in-Ok.meter (c.in-Ok.ensures.found tells) (c.hear.ensures.heard tells))
+    (hearing_cause run c.hear.result c.hear.ensures.cause)
+    (λ none. absurd (let refused = (c.find_meter.ensures.words none).0 in let found = c.in-Ok.is in cc))
+    (λ tells. (c.requires.untaken tells).1) c.find_meter.ensures.no_loss c.hear.ensures.no_loss
     (λ unheard. absurd (heard g c unheard)) (λ unheard. absurd (heard g c unheard))
 
 pub returns-in-Ok-clause-tx : goal.returns-in-Ok-clause-tx
@@ -45,5 +48,6 @@ returns-in-Err-clause-run g c =
     } in
     let cause = refusal_cause run c.in-Err.status c.in-Err.ensures.refused in
     run_is run (λ h tells. absurd (let unheard = sym cause.0 ∙ h in cc)) cause.1
-    (λ none. let refused = (c.find_meter.ensures.words none).0 in let given = c.in-Err.is in cc) (λ tells. (c.requires.untaken tells).1) c.find_meter.ensures.no_loss (λ tells. refl)
+    (λ none. let refused = (c.find_meter.ensures.words none).0 in let given = c.in-Err.is in cc) (λ tells. (c.requires.untaken tells).1)
+    c.find_meter.ensures.no_loss (λ tells. refl)
     (λ unheard. refl) (λ unheard. refl)

@@ -9,5 +9,6 @@ use Rattle.meter_side_main.proofs.top.names_meter.Goals as goal
 pub returns-clause-three : goal.returns-clause-three
 returns-clause-three c = λ named.
     let words = map string_bytes c.args.words.now in
-    let some : is_some (address_in words) ≡ true = sym (c.is_some.ensures ∙ ap (λ (o : Option Address). is_some o) c.named_address.ensures) ∙ named in
+    let some : is_some (address_in words) ≡ true =
+    sym (c.is_some.ensures ∙ ap (λ (o : Option Address). is_some o) c.named_address.ensures) ∙ named in
     sym (length-map c.args.words.now string_bytes) ∙ three_words words some

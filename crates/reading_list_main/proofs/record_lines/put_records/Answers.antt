@@ -7,31 +7,39 @@ use Rattle.reading_list_main.proofs.record_lines.put_records.Goals as goal
 pub returns-in-Err-clause-text : goal.returns-in-Err-clause-text
 returns-in-Err-clause-text g c =
     let some : 0 < c.records.left = omega (arith, c.records-test.true) in
-    let is : next_of c.args.step.now.payload.items c.records.from ≡ Err c.in-Err.fault = ap (λ bytes. next_of bytes c.records.from) (sym c.as_slice.ensures.value) ∙ sym c.in-Err.ensures.exact in
+    let is : next_of c.args.step.now.payload.items c.records.from ≡ Err c.in-Err.fault =
+    ap (λ bytes. next_of bytes c.records.from) (sym c.as_slice.ensures.value) ∙ sym c.in-Err.ensures.exact in
     c.records.invariant.text _ (lines_end _ c.records.left _ c.records.from _ (spans_next c.records.left _ c.records.from _ some is))
 
 pub returns-in-Err-clause-fault : goal.returns-in-Err-clause-fault
 returns-in-Err-clause-fault g c =
     let some : 0 < c.records.left = omega (arith, c.records-test.true) in
-    let is : next_of c.args.step.now.payload.items c.records.from ≡ Err c.in-Err.fault = ap (λ bytes. next_of bytes c.records.from) (sym c.as_slice.ensures.value) ∙ sym c.in-Err.ensures.exact in
+    let is : next_of c.args.step.now.payload.items c.records.from ≡ Err c.in-Err.fault =
+    ap (λ bytes. next_of bytes c.records.from) (sym c.as_slice.ensures.value) ∙ sym c.in-Err.ensures.exact in
     sym (fault_next c.records.left _ c.records.from _ some is) ∙ c.records.invariant.fault
 
 pub returns-in-Ok-None-clause-text : goal.returns-in-Ok-None-clause-text
 returns-in-Ok-None-clause-text g c =
     let some : 0 < c.records.left = omega (arith, c.records-test.true) in
-    let is : next_of c.args.step.now.payload.items c.records.from ≡ Ok None = ap (λ bytes. next_of bytes c.records.from) (sym c.as_slice.ensures.value) ∙ sym c.in-Ok-None.ensures.exact ∙ ap Ok c.in-Ok-None.field-0-is in
+    let is : next_of c.args.step.now.payload.items c.records.from ≡ Ok None =
+    ap (λ bytes. next_of bytes c.records.from) (sym c.as_slice.ensures.value) ∙ sym c.in-Ok-None.ensures.exact
+    ∙ ap Ok c.in-Ok-None.field-0-is in
     c.records.invariant.text _ (lines_end _ c.records.left _ c.records.from _ (spans_next c.records.left _ c.records.from _ some is))
 
 pub returns-in-Ok-None-clause-fault : goal.returns-in-Ok-None-clause-fault
 returns-in-Ok-None-clause-fault g c =
     let some : 0 < c.records.left = omega (arith, c.records-test.true) in
-    let is : next_of c.args.step.now.payload.items c.records.from ≡ Ok None = ap (λ bytes. next_of bytes c.records.from) (sym c.as_slice.ensures.value) ∙ sym c.in-Ok-None.ensures.exact ∙ ap Ok c.in-Ok-None.field-0-is in
+    let is : next_of c.args.step.now.payload.items c.records.from ≡ Ok None =
+    ap (λ bytes. next_of bytes c.records.from) (sym c.as_slice.ensures.value) ∙ sym c.in-Ok-None.ensures.exact
+    ∙ ap Ok c.in-Ok-None.field-0-is in
     sym (fault_next c.records.left _ c.records.from _ some is) ∙ c.records.invariant.fault
 
 pub records-preserved : goal.records-preserved
 records-preserved g c =
     let some : 0 < c.records.left = omega (arith, c.records-test.true) in
-    let is : next_of c.args.step.now.payload.items c.records.from ≡ Ok (Some c.in-Ok-Some.span) = ap (λ bytes. next_of bytes c.records.from) (sym c.as_slice.ensures.value) ∙ sym c.in-Ok-Some.ensures.exact ∙ ap Ok c.in-Ok-Some.field-0-is in
+    let is : next_of c.args.step.now.payload.items c.records.from ≡ Ok (Some c.in-Ok-Some.span) =
+    ap (λ bytes. next_of bytes c.records.from) (sym c.as_slice.ensures.value) ∙ sym c.in-Ok-Some.ensures.exact
+    ∙ ap Ok c.in-Ok-Some.field-0-is in
     let within : LiesWithin c.args.step.now.payload.items c.in-Ok-Some.span =
     subst (λ bytes. LiesWithin bytes c.in-Ok-Some.span) c.as_slice.ensures.value
     (subst (λ next. IfSome next (LiesWithin c.as_slice.result.now)) c.in-Ok-Some.field-0-is c.in-Ok-Some.ensures.within) in
@@ -39,7 +47,8 @@ records-preserved g c =
       within = within.within;
       counted = omega arith;
       fault = sym (fault_next c.records.left _ c.records.from _ some is) ∙ c.records.invariant.fault;
-      text = λ q later. c.records.invariant.text q (line_more _ c.records.left _ c.records.from c.in-Ok-Some.span _ some is c.put_record.ensures later);
+      text = λ q later. c.records.invariant.text q
+          (line_more _ c.records.left _ c.records.from c.in-Ok-Some.span _ some is c.put_record.ensures later);
     }
 
 pub returns-clause-text : goal.returns-clause-text

@@ -13,7 +13,8 @@ invariant-records g l = record {
   counted : l.listed + l.left ≡ length l.step.payload.items;
   fault : fault_from l.left l.step.payload.items l.from ≡ fault_of l.step.payload.items;
   text : (q : g.row.P.Denot) → Puts g.P.Paper.takes l.paper
-      (flat_map (record_line l.form l.address (step_read l.step)) (enumerate_from (l.listed + 1) (spans_from l.left l.step.payload.items l.from))) q
+      (flat_map (record_line l.form l.address (step_read l.step))
+      (enumerate_from (l.listed + 1) (spans_from l.left l.step.payload.items l.from))) q
       → Puts g.P.Paper.takes l.initial.paper (records_text l.form l.address (step_read l.step)) q;
 }
 

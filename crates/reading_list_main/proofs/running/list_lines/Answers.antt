@@ -12,7 +12,8 @@ returns-clause-run g c =
       faultless = c.is_faultless.result;
       status = c.of_lines.ensures;
       told = λ tells.
-          told_lines _ c.tell_lines-end.result c.new-lister.result c.tell_lines-end.new.teller _ c.new-lister.ensures (c.tell_lines-end.ensures.ended tells)
+          told_lines _ c.tell_lines-end.result c.new-lister.result c.tell_lines-end.new.teller _ c.new-lister.ensures
+          (c.tell_lines-end.ensures.ended tells)
           c.tell_lines-end.ensures.later_notes c.note_end.ensures.later c.note_end.ensures.noted status;
       read = c.tell_lines-end.ensures.read;
       write = c.tell_lines-end.ensures.write;

@@ -1,0 +1,73 @@
+//! Files that several words name.
+ghost use Rattle.std.specs.Prelude.{IfErr};
+ghost use Rattle.std.specs.Process.{exit_status};
+ghost use Rattle.wmbus.specs.Exit.{IsUnopened};
+
+use collector_main::{Plan, is_written};
+use std::fs::{File, Files};
+use std::os::unix::fs::MetadataExt;
+use std::process::ExitCode;
+
+/// Where a regular file lies, whatever names it.
+#[derive(Clone, Copy, PartialEq, Eq)]
+struct Node {
+    device: u64,
+    number: u64,
+}
+
+// Where the regular file of this name lies, if there is one.
+fn node_of<R: Files<File = File>>(rt: &R, name: &str) -> Option<Node> {
+    let about = rt.metadata(name).ok()?;
+    if about.is_file() {
+        Some(Node {
+            device: about.dev(),
+            number: about.ino(),
+        })
+    } else {
+        None
+    }
+}
+
+fn is_named<R: Files<File = File>>(rt: &R, node: Node, names: &[String]) -> bool {
+    for name in names {
+        if node_of(rt, name.as_str()) == Some(node) {
+            return true;
+        }
+    }
+    false
+}
+
+// The first name of a regular file that is written and that another of these names leads to as well.
+fn named_twice<'a, R: Files<File = File>>(rt: &R, names: &'a [String]) -> Option<&'a str> {
+    for place in 0..names.len() {
+        let name = names[place].as_str();
+        if is_written(place + 1) {
+            if let Some(node) = node_of(rt, name) {
+                if is_named(rt, node, &names[..place]) || is_named(rt, node, &names[place + 1..]) {
+                    return Some(name);
+                }
+            }
+        }
+    }
+    None
+}
+
+/// Refuses a session in threads of which two words name one regular file that is written, and says which.
+pub(crate) fn differ<R: Eprint + Files<File = File>>(
+    rt: &R,
+    command: &[String],
+    plan: Plan,
+) -> Result<(), ExitCode>
+    ensures { IfErr result (λ code. IsUnopened (exit_status code)) }
+{
+    match (plan, command) {
+        (Plan::Collect(_), [_, names @ ..]) => match named_twice(rt, names) {
+            None => Ok(()),
+            Some(name) => {
+                let _ = eprintln!(rt; "wmbus: the file {name} is named twice");
+                Err(ExitCode::from(11))
+            }
+        },
+        _ => Ok(()),
+    }
+}
