@@ -19,7 +19,8 @@ exit_of statuses.Memory other = (4, omega arith, refl)
 
 -- where the words are right, a run doesn't end with the status of faulty words
 pub run_exit : (run : Run) → IsSome run.workers → IsRun run → IsRunExit (code_of run.status)
-run_exit run right is = exit_of run.status (λ e. let none : run.workers ≡ None = subst (IsCausedBy run) e is.caused in false≢true (subst IsSome none right))
+run_exit run right is = exit_of run.status (λ e.
+    let none : run.workers ≡ None = subst (IsCausedBy run) e is.caused in false≢true (subst IsSome none right))
 
 done_of : (status : InspectStatus) → code_of status ≡ 0 → status ≡ statuses.Done
 done_of statuses.Done e = refl
@@ -30,7 +31,8 @@ done_of statuses.Write e = absurd (omega (arith, e))
 done_of statuses.Memory e = absurd (omega (arith, e))
 
 -- the output of a run whose exit status is 0
-pub done_exit : (run : Run) → IsRun run → code_of run.status ≡ 0 → IsTrue run.source_tells → IsTrue run.sink_tells → run.output.now.written ≡ inspected (all_lines (bytes_of run))
+pub done_exit : (run : Run) → IsRun run → code_of run.status ≡ 0 → IsTrue run.source_tells → IsTrue run.sink_tells
+    → run.output.now.written ≡ inspected (all_lines (bytes_of run))
 done_exit run is zero told writes =
     let done = done_of run.status zero in
     (is.headline (subst (λ s. IsTrue (shows_lines s)) (sym done) refl) told).whole writes done

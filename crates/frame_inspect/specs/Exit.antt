@@ -2,7 +2,8 @@
 use Rattle.std.specs.Prelude.{ℕ, List, [], ◌∷◌}
 use Rattle.std.specs.List.{Contains}
 
--- how a run ends: done, a file that can't be read, an output that can't be written, a file past its limit, no memory, a file that can't be opened
+-- how a run ends: done, a file that can't be read, an output that can't be written,
+-- a file past its limit, no memory, a file that can't be opened
 abbrev pub run_exits : List ℕ
 run_exits = 0 ∷ 5 ∷ 7 ∷ 8 ∷ 10 ∷ 11 ∷ []
 

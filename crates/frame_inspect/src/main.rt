@@ -82,7 +82,8 @@ fn perform<R: Threads + Sync + Print + Eprint + Files<File = File> + AllocGlobal
     mut out: StdSink,
 ) -> ExitCode
     ensures text { asks_for_text (map string_bytes command.now) ≡ true → IsTold 7 (exit_status result) }
-    ensures faulty { asks_for_text (map string_bytes command.now) ≡ false → workers_of (map string_bytes command.now) ≡ None → exit_status result ≡ 2 }
+    ensures faulty { asks_for_text (map string_bytes command.now) ≡ false → workers_of (map string_bytes command.now) ≡ None
+        → exit_status result ≡ 2 }
     ensures run { IsSome (workers_of (map string_bytes command.now)) → IsRunExit (exit_status result) }
 {
     if let Some(own) = own_text(command) {

@@ -58,7 +58,8 @@ module _ (workers : Option ℕ) (st kt : Bool) (frames : Change SourceShown) (li
   caused statuses.Read is cause ends finished =
       let same : result ≡ statuses.Read = ⊎_elim (λ s. s) (λ f. f.0) finished in subst (IsCausedBy this) (sym same) (cause refl)
   caused statuses.Cut is cause ends finished =
-      let same : result ≡ statuses.Cut = ⊎_elim (λ s. s) (λ f. f.0) finished in subst (IsCausedBy this) (sym same) (λ told. (ends told).over)
+      let same : result ≡ statuses.Cut = ⊎_elim (λ s. s) (λ f. f.0) finished in
+      subst (IsCausedBy this) (sym same) (λ told. (ends told).over)
   caused statuses.Words is cause ends finished = absurd is
   caused statuses.Write is cause ends finished = absurd is
   caused statuses.Memory is cause ends finished = absurd is
@@ -91,7 +92,8 @@ module _ (workers : Option ℕ) (st kt : Bool) (frames : Change SourceShown) (li
   completed statuses.Memory is clear cause ends kept finished = absurd is
 
   pub finished_run : (count : ℕ) (ended : InspectStatus) (text : List ℕ) → workers ≡ Some count → IsEnd ended
-      → (ended ≡ statuses.Read → ReadFailed frames) → (IsTrue st → Ends ended) → (IsTrue st → LosesNothing frames) → IsFinished ended → (IsTrue st → text ≡ inspected lines)
+      → (ended ≡ statuses.Read → ReadFailed frames) → (IsTrue st → Ends ended) → (IsTrue st → LosesNothing frames)
+      → IsFinished ended → (IsTrue st → text ≡ inspected lines)
       → (IsTrue kt → HasText text output) → (result ≡ statuses.Done → IsTrue kt → output.now.written ≡ text) → IsRun this
   finished_run count ended text asked is cause ends kept finished same written done = record {
     headline = λ shows told. record {
@@ -99,7 +101,8 @@ module _ (workers : Option ℕ) (st kt : Bool) (frames : Change SourceShown) (li
       cut = cut_exact result lines frames.now.taken frames.now.left shows (ended_so ended is (ends told) finished);
       written = λ writes. subst (λ t. HasText t output) (same told) (written writes);
       whole = λ writes all. done all writes ∙ same told
-          ∙ ap inspected (all_given result frames.now.taken frames.now.left _ lines all (ended_so ended is (ends told) finished) (kept told));
+          ∙ ap inspected (all_given result frames.now.taken frames.now.left _ lines all
+          (ended_so ended is (ends told) finished) (kept told));
     };
     caused = caused ended is cause ends finished;
     refused = λ none. absurd cc;

@@ -55,8 +55,9 @@ module _ (meaning : ℕ → Item → List ℕ) where
       (starts_within (length items) workers (worker + 1) within))
       ∙ shown
 
-  pub one_run_pushed : {R : Type 0} (shown_of : R → List (List ℕ)) (items : List Item) (workers worker next : ℕ) (runs all : List R) (run : R)
-      → worker + 1 ≤ workers → next ≡ worker + 1 → all ≡ runs ++ run ∷ [] → shown_of run ≡ shown_of_run meaning items workers worker
+  pub one_run_pushed : {R : Type 0} (shown_of : R → List (List ℕ)) (items : List Item) (workers worker next : ℕ)
+      (runs all : List R) (run : R) → worker + 1 ≤ workers → next ≡ worker + 1 → all ≡ runs ++ run ∷ []
+      → shown_of run ≡ shown_of_run meaning items workers worker
       → IsShownTo items workers worker (flat_map shown_of runs) → IsShownTo items workers next (flat_map shown_of all)
   one_run_pushed shown_of items workers worker next runs all run within counted pushed is shown =
       let whole : flat_map shown_of all ≡ flat_map shown_of runs ++ shown_of run =

@@ -13,8 +13,9 @@ loop-run-preserved g c =
     let looked = c.in_ok-looked.looked in
     let begun = c.into_iter-run-iterator.ensures.into_iter_gives in
     let worker = length c.loop-run.yielded in
-    let turn = YieldsList-turn (YieldsList-from_vec {s = c.into_iter-run-iterator.result} looked.items begun.0 (begun.1 ∙ looked.ok.0)) c.loop-run.yielded _
-    c.loop-run.yielded_by _ c.next.new.self c.in-Some.run' c.in-Some.is c.next.ensures.steps in
+    let all = YieldsList-from_vec {s = c.into_iter-run-iterator.result} looked.items begun.0 (begun.1 ∙ looked.ok.0) in
+    let turn = YieldsList-turn all c.loop-run.yielded _ c.loop-run.yielded_by _ c.next.new.self c.in-Some.run' c.in-Some.is
+    c.next.ensures.steps in
     let is = holds_of (λ run. run.items ≡ shown_of_run meaning c.args.items.now c.args.workers worker)
     (get_or looked.items worker c.in-Some.run') c.in_ok-run.field-0 (sym turn.1 ∙ c.in_ok-run.was)
     (c.in_ok-looked.ensures.each worker c.in-Some.run' (omega (arith, turn.0, looked.ok.0, c.in_ok-looked.ensures.len))).1.met in
