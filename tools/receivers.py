@@ -4,21 +4,21 @@ from datetime import datetime, timezone
 
 from frames import format_a, format_b
 
-MAKERS = {0x1593: "ELS", 0x0443: "ABC"}
+
+def shown(moment):
+    """A moment as a date and a time of day."""
+    return datetime.fromtimestamp(moment, timezone.utc).strftime("%Y-%m-%d %H:%M:%S")
 
 
-def shown(moment, mark=" "):
-    return datetime.fromtimestamp(moment, timezone.utc).strftime(f"%Y-%m-%d{mark}%H:%M:%S")
-
-
-def cul(telegram, moment=0, quality=b"\x80\xf4", b=False):
+def cul(telegram, quality=b"\x80\xf4", b=False):
     """culfw: the frame as it was received, and two bytes of link quality."""
     frame = format_b(telegram) if b else format_a(telegram)
     return ("bY" if b else "b") + (frame + quality).hex().upper()
 
 
-def rtl_wmbus(telegram, moment, mode="T1", right="1", code="1"):
-    return f"{mode};{right};{code};{shown(moment)}.000;97;148;{telegram[7:3:-1].hex()};0x{telegram.hex()}"
+def rtl_wmbus(telegram, moment, mode="T1"):
+    """rtl_wmbus: eight columns, of a frame with right CRCs."""
+    return f"{mode};1;1;{shown(moment)}.000;97;148;{telegram[7:3:-1].hex()};0x{telegram.hex()}"
 
 
 def rtl_433(telegram, moment, data=None, **members):
@@ -31,7 +31,7 @@ def rtl_433(telegram, moment, data=None, **members):
     return json.dumps({name: value for name, value in told.items() if value is not None}, separators=(", ", " : "))
 
 
-def hexadecimal(telegram, moment=0):
+def hexadecimal(telegram):
     """A telegram in hexadecimal, its layers set apart."""
     text = telegram.hex()
     return f"|{text[:22]}|{text[22:]}|" if len(text) % 4 else f"{text[:20]}_{text[20:]}"
