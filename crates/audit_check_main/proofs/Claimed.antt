@@ -1,24 +1,22 @@
--- Lines that lists claim: where each line is one of the list that names it, the inputs are what they were heard to be.
-use Rattle.std.proofs.Common.{◌≡◌, ◌==◌, ◌||◌, ℕ, zero, suc, ◌+◌, ◌<◌, ◌≤◌, not, Bool, true, false, cond, List, [], ◌∷◌, ◌++◌, map, filter, length, take, get_or, Result, Ok, Err, ⊎_elim, refl, sym, ap, ◌∙◌, subst, arith}
+-- Lines that lists name: each is one of the list that names it.
+use Rattle.std.proofs.Common.{◌≡◌, ◌==◌, ◌||◌, ℕ, zero, suc, ◌+◌, ◌<◌, ◌≤◌, not, Bool, true, false, cond, List, [], ◌∷◌, ◌++◌, map, length, take, get_or, Result, Ok, Err, ⊎_elim, refl, sym, ap, ◌∙◌, subst, arith}
 use Rattle.std.specs.List.{list_any, position_or_len}
 use Rattle.std.proofs.lemmas.Bool.{cases_lt}
 use Rattle.std.proofs.lemmas.Bool.Decides.{nat_tests}
 use Rattle.std.proofs.lemmas.List.{take_more, length-map}
 use Rattle.std.proofs.lemmas.List.Sums.{prefix_len-le-length}
 use Rattle.std.proofs.Math.Seq.{take-length}
-use Rattle.outer_io.specs.Each.{Each, EachWith}
+use Rattle.outer_io.specs.Each.{Each}
 use Rattle.meter_address.specs.declared.address.Address.{Address}
 use Rattle.meter_address.specs.Address.{AreApart}
 use Rattle.meter_address.specs.Commission.{Commissioned}
 use Rattle.meter_slots.specs.declared.entry.Event.{Event}
 use Rattle.receivers.specs.declared.told.Told.{Told}
 use Rattle.receivers.specs.declared.told.Told.TheVariants as told
-use Rattle.receivers.specs.Orders.{numbers_by}
 use Rattle.audit_check_main.specs.declared.hearing.Sort.TheVariants as sorts
 use Rattle.audit_check_main.specs.declared.stepping.Unmade.{Unmade}
 use Rattle.audit_check_main.specs.declared.stepping.Unmade.TheVariants as unmade
-use Rattle.audit_check_main.specs.Hearing.{HeardInput, heard_input, no_input, numbers_in_list, told_at, sort_of, AreSorted, AreListed, AreListedBelow, IsHeard}
-use Rattle.audit_check_main.specs.Order.{IsRight}
+use Rattle.audit_check_main.specs.Hearing.{HeardInput, told_at, sort_of, AreListed, AreListedBelow}
 use Rattle.audit_check_main.specs.Stepping.{IsEventFor}
 use Rattle.audit_check_main.proofs.Steps.{get-map}
 
@@ -149,45 +147,3 @@ module _ (heard : List HeardInput) (lists : List (List (ℕ × ℕ))) where
     where
       IsListed : List Address → ℕ → ℕ × ℕ → Type 0
       IsListed d k p = sort_of d (told_at heard p.0 p.1) ≡ sorts.Listed k
-
--- ---- what the inputs are heard to be
-
-is_number : (a b : ℕ) → (a == b) ≡ true → a ≡ b
-is_number a b h = grind (arith, nat_tests)
-
--- a fact on each pair of a list, told of the numbers of one receiver
-by_receiver : (P : ℕ → ℕ → Type 0) (w : ℕ) (order : List (ℕ × ℕ)) → Each (λ p. P p.0 p.1) order → Each (P w) (numbers_by w order)
-by_receiver P w [] h = tt
-by_receiver P w (p ∷ order) h = at (p.0 == w) refl (by_receiver P w order h.1)
-  where
-    of_receiver : List (ℕ × ℕ)
-    of_receiver = filter (λ (q : ℕ × ℕ). q.0 == w) order
-
-    at : (b : Bool) → (p.0 == w) ≡ b → Each (P w) (map (λ (q : ℕ × ℕ). q.1) of_receiver)
-        → Each (P w) (map (λ (q : ℕ × ℕ). q.1) (cond b (p ∷ of_receiver) of_receiver))
-    at true e rest = (subst (λ v. P v p.1) (is_number p.0 w e) h.0, rest)
-    at false e rest = rest
-
-each_told : (cs : List Commissioned) (inputs : List (List ℕ)) (heard : List HeardInput) → EachWith (IsHeard cs) inputs heard
-    → ((v : ℕ) → AreSorted (map (λ c. c.address) cs) (get_or heard v no_input).lines (get_or heard v no_input).lists)
-    → heard ≡ map (heard_input cs) inputs
-each_told cs [] [] h sorted = refl
-each_told cs [] (x ∷ heard) h sorted = absurd h
-each_told cs (x ∷ inputs) [] h sorted = absurd h
-each_told cs (x ∷ inputs) (y ∷ heard) h sorted =
-    (λ i. h.0.sorted (sorted 0) i ∷ each_told cs inputs heard h.1 (λ v. sorted (suc v)) i)
-
--- where all lists are right by what was heard, and each line is one of the list that names it, all was heard as it is
-pub all_told : (cs : List Commissioned) (inputs : List (List ℕ)) (heard : List HeardInput) (lists : List (List (ℕ × ℕ)))
-    → EachWith (IsHeard cs) inputs heard → length lists ≡ length cs + 1
-    → ((k : ℕ) → k < length lists → IsRight (numbers_in_list heard k) (get_or lists k []))
-    → AreListed (map (λ c. c.address) cs) heard lists → heard ≡ map (heard_input cs) inputs
-all_told cs inputs heard lists h long right listed = each_told cs inputs heard h sorted
-  where
-    sorted : (v : ℕ) → AreSorted (map (λ (c : Commissioned). c.address) cs) (get_or heard v no_input).lines (get_or heard v no_input).lists
-    sorted v list inside =
-        let few = length-map cs (λ (c : Commissioned). c.address) in
-        subst (Each (λ n. sort_of (map (λ (c : Commissioned). c.address) cs) (told_at heard (suc v) n) ≡ sorts.Listed list))
-        (right list (omega arith) (suc v))
-        (by_receiver (λ w n. sort_of (map (λ (c : Commissioned). c.address) cs) (told_at heard w n) ≡ sorts.Listed list) (suc v)
-        (get_or lists list []) (listed list (omega arith)))

@@ -10,7 +10,7 @@ use Rattle.audit_check_main.specs.Difference.{DiffersAt}
 
 -- ---- items of lists
 
-get-append : {X : Type 0} (xs ys : List X) (i : ℕ) → i < length xs → slice_get (xs ++ ys) i ≡ slice_get xs i
+pub get-append : {X : Type 0} (xs ys : List X) (i : ℕ) → i < length xs → slice_get (xs ++ ys) i ≡ slice_get xs i
 get-append [] ys i h = absurd (omega arith)
 get-append (x ∷ xs) ys zero h = refl
 get-append (x ∷ xs) ys (suc i) h = get-append xs ys i (omega arith)
@@ -102,7 +102,7 @@ put_piece text place differs piece rest count old is off back within common =
 
 -- ---- all pieces
 
-calls_compare : (p q : Compared) (parts : List (List ℕ)) → FoldsTo Compares p parts q → (put : List ℕ) → IsSoFar p put → (q.text ≡ p.text)
+pub calls_compare : (p q : Compared) (parts : List (List ℕ)) → FoldsTo Compares p parts q → (put : List ℕ) → IsSoFar p put → (q.text ≡ p.text)
     × IsSoFar q (put ++ concat parts)
 calls_compare p q [] same put so =
     (ap (λ (c : Compared). c.text) (sym same), subst (λ l. IsSoFar q l) (sym (append-nil put)) (subst (λ c. IsSoFar c put) same so))

@@ -1,12 +1,12 @@
 -- The lists of an input's numbers, and one line more.
-use Rattle.std.proofs.Common.{◌≡◌, ◌==◌, ◌||◌, ℕ, suc, ◌+◌, ◌≤◌, not, nat_lt, Bool, true, false, cond, List, [], ◌∷◌, ◌++◌, map, length, get_or, Option, Some, None, inl, inr, ⊎_elim, refl, sym, ap, ◌∙◌, subst, arith, append_assoc, append-nil, length-append}
-use Rattle.std.specs.Prelude.{◌⊎◌, ◌-◌, option_to_list, position, count_by}
+use Rattle.std.proofs.Common.{◌≡◌, ◌==◌, ◌||◌, ℕ, suc, ◌+◌, ◌<◌, ◌≤◌, not, nat_lt, Bool, true, false, cond, List, [], ◌∷◌, ◌++◌, map, length, take, get_or, Option, Some, None, refl, sym, ap, ◌∙◌, subst, arith, append-nil, length-append}
+use Rattle.std.specs.Prelude.{option_to_list, position, count_by}
 use Rattle.std.specs.List.{slice_get, filter_map, cons_option, list_any, position_or_len, enumerate_from}
 use Rattle.std.proofs.lemmas.Bool.Decides.{nat_tests}
-use Rattle.std.proofs.lemmas.List.{map-append, length-map, length-set, get_or-set_same, get_or-set_other}
-use mathlib.Core.Logic.{dite}
-use native.Mathlib.Decide.{ℕ_discrete}
-use Rattle.outer_io.specs.Each.{Each}
+use Rattle.std.proofs.lemmas.List.{map-append, length-map, length-take, length-take-le, take_more}
+use Rattle.std.proofs.lemmas.Option.{slice_get-get_or}
+use Rattle.std.proofs.Math.Nat.{min-le_right}
+use Rattle.std.proofs.Math.Seq.{take-length}
 use Rattle.std.proofs.lemmas.List.Sums.{prefix_len-le-length, sum_by-cons}
 use Rattle.std.specs.Str.Lines.{lines}
 use Rattle.line_reader.specs.Lines.{is_over}
@@ -27,9 +27,10 @@ use Rattle.receivers.specs.Told.{told_of}
 use Rattle.receivers.proofs.Numbers.{numbered}
 use Rattle.audit_check_main.specs.declared.hearing.Sort.{Sort}
 use Rattle.audit_check_main.specs.declared.hearing.Sort.TheVariants as sorts
-use Rattle.audit_check_main.specs.Hearing.{HeardInput, with_number, noted, counts_in, heard_input, sort_of, is_listed, list_in, class_in, told_by_text, AreSorted, IsHeard}
+use Rattle.audit_check_main.specs.declared.whose.Whose.{Whose}
+use Rattle.audit_check_main.specs.declared.whose.Whose.TheVariants as whose
+use Rattle.audit_check_main.specs.Hearing.{with_number, noted, counts_in, heard_input, sort_by, sort_of, list_in, class_in, told_by_text}
 use Rattle.audit_check_main.specs.Order.{numbers_for}
-use Rattle.audit_check_main.proofs.Steps.{get_there, each_item}
 
 -- ---- the numbers of one list, and one line more
 
@@ -172,29 +173,21 @@ class_sorted directory n told.Unframed e = refl
 class_sorted directory n told.Bad e = refl
 
 -- a line of a list has one of the lists
-pub sorted_within : (directory : List Address) (n : ℕ) (t : Told) → length directory ≡ n → list_in (sort_of directory t) ≤ n
-sorted_within directory n (told.Event address event) e =
+pub sorted_within : (directory : List Address) (n : ℕ) (w : Whose) → length directory ≡ n → list_in (sort_by directory w) ≤ n
+sorted_within directory n (whose.Meter address) e =
     let most = prefix_len-le-length (λ (a : Address). not (a.0 == address.0)) directory in omega arith
-sorted_within directory n told.Unframed e = omega arith
-sorted_within directory n told.Bad e = omega arith
+sorted_within directory n whose.Unframed e = omega arith
+sorted_within directory n whose.Bad e = omega arith
 
 -- ---- lines one after another
 
 abbrev addresses : List Commissioned → List Address
 addresses cs = map (λ c. c.address) cs
 
--- what some lines come to
-pub record HaveComeTo (cs : List Commissioned) (given : List (List ℕ)) (lists : List (List ℕ)) (kinds : List Class) : Type 0 where
-  pub lists_are : lists ≡ numbers_for cs (map told_of given)
-  pub classes_are : kinds ≡ map (class_by (map (λ c. c.address) cs)) (map told_of given)
-
--- the lines so far, and what they came to: that is so where nothing is claimed, or where each line is one of the list that has its number
-pub record HasHeardSo (cs : List Commissioned) (input : List ℕ) (unclaimed : Type 0) (given left : List (List ℕ)) (lists : List (List ℕ))
-    (kinds : List Class) : Type 0 where
-  pub cut : lines input ≡ given ++ left
-  pub many : length kinds ≡ length given
-  pub long : length lists ≡ length cs + 1
-  pub so : unclaimed ⊎ AreSorted (map (λ c. c.address) cs) (lines input) lists → HaveComeTo cs given lists kinds
+-- what some lines came to
+pub record HaveComeTo (cs : List Commissioned) (heard : List Told) (lists : List (List ℕ)) (kinds : List Class) : Type 0 where
+  pub lists_are : lists ≡ numbers_for cs heard
+  pub classes_are : kinds ≡ map (class_by (map (λ c. c.address) cs)) heard
 
 empty_numbers : (cs : List Commissioned) → map (λ (c : Commissioned). []) cs ++ [] ∷ [] ≡ numbers_for cs []
 empty_numbers [] = refl
@@ -205,114 +198,43 @@ empty_numbers (c ∷ cs) = ap (λ l. [] ∷ l) (rest cs)
     rest [] = refl
     rest (c ∷ cs) = ap (λ l. [] ∷ l) (rest cs)
 
-abbrev no_numbers : Commissioned → List ℕ
-no_numbers c = []
+pub come_none : (cs : List Commissioned) (lists : List (List ℕ)) (kinds : List Class)
+    → lists ≡ map (λ (c : Commissioned). []) cs ++ [] ∷ [] → kinds ≡ [] → HaveComeTo cs [] lists kinds
+come_none cs lists kinds empty no_kinds = record { lists_are = empty ∙ empty_numbers cs; classes_are = no_kinds }
 
-empty_many : (cs : List Commissioned) → length (map no_numbers cs ++ [] ∷ []) ≡ length cs + 1
-empty_many cs = length-append (map no_numbers cs) ([] ∷ []) ∙ ap (λ n. n + 1) (length-map cs no_numbers)
-
-pub heard_none : (cs : List Commissioned) (input : List ℕ) (unclaimed : Type 0) (given left : List (List ℕ)) (lists : List (List ℕ))
-    (kinds : List Class) → given ≡ [] → left ≡ lines input → lists ≡ map (λ (c : Commissioned). []) cs ++ [] ∷ [] → kinds ≡ []
-    → HasHeardSo cs input unclaimed given left lists kinds
-heard_none cs input unclaimed given left lists kinds none all empty no_kinds = record {
-  cut = sym all ∙ ap (λ l. l ++ left) (sym none);
-  many = ap length no_kinds ∙ sym (ap length none);
-  long = ap length empty ∙ empty_many cs;
-  so = λ _. record {
-    lists_are = empty ∙ (empty_numbers cs ∙ ap (λ l. numbers_for cs (map told_of l)) (sym none));
-    classes_are = no_kinds ∙ ap (λ l. map (class_by (map (λ c. c.address) cs)) (map told_of l)) (sym none);
-  };
+-- one line more
+come_more : (cs : List Commissioned) (heard : List Told) (t : Told) (number : ℕ) (lists lists' : List (List ℕ)) (kinds : List Class)
+    (class : Class) (sort : Sort) → AreApart (map (λ c. c.address) cs) → HaveComeTo cs heard lists kinds → number ≡ 1 + length heard
+    → sort ≡ sort_of (map (λ c. c.address) cs) t → lists' ≡ noted sort number lists → class ≡ class_in (length cs) sort
+    → HaveComeTo cs (heard ++ t ∷ []) lists' (kinds ++ class ∷ [])
+come_more cs heard t number lists lists' kinds class sort apart so counted same after is = record {
+  lists_are = after ∙ ((λ i. noted (same i) number (so.lists_are i)) ∙ numbers_for-push cs heard t number apart counted);
+  classes_are = (λ i. so.classes_are i ++ (is ∙ (ap (class_in (length cs)) same ∙ class_sorted (addresses cs) (length cs) t
+      (sym (length-map cs (λ (c : Commissioned). c.address))))) i ∷ [])
+      ∙ sym (map-append (class_by (addresses cs)) heard (t ∷ []));
 }
 
-each_front : {X : Type 0} (P : X → Type 0) (xs ys : List X) → Each P (xs ++ ys) → Each P xs
-each_front P [] ys h = tt
-each_front P (x ∷ xs) ys h = (h.0, each_front P xs ys h.1)
+-- what a line tells that stands among others
+told_inside : (texts : List (List ℕ)) (i : ℕ) → i < length texts → told_by_text (slice_get texts i) ≡ told_of (get_or texts i [])
+told_inside texts i inside = ap told_by_text (slice_get-get_or texts i [] inside)
 
-length-noted : (sort : Sort) (line : ℕ) (lists : List (List ℕ)) → length (noted sort line lists) ≡ length lists
-length-noted (sorts.Listed list) line lists = length-set lists list _
-length-noted sorts.Unframed line lists = refl
-length-noted sorts.Bad line lists = refl
+-- one line of a text more
+module _ (cs : List Commissioned) (texts : List (List ℕ)) (i : ℕ) (t : Told) (inside : i < length texts)
+    (told_is : t ≡ told_by_text (slice_get texts i)) where
+  more_told : map told_of (take (i + 1) texts) ≡ map told_of (take i texts) ++ t ∷ []
+  more_told =
+      ap (map told_of) (take_more texts i [] inside)
+      ∙ (map-append told_of (take i texts) (get_or texts i [] ∷ [])
+      ∙ ap (λ x. map told_of (take i texts) ++ x ∷ []) (sym (told_is ∙ told_inside texts i inside)))
 
--- one line more, which is taken to be of a sort
-module _ (cs : List Commissioned) (input : List ℕ) (unclaimed : Type 0) (given left rest : List (List ℕ)) (text : List ℕ) (number : ℕ)
-    (lists lists' : List (List ℕ)) (kinds : List Class) (class : Class) (sort : Sort)
-    (apart : AreApart (map (λ (c : Commissioned). c.address) cs)) (before : HasHeardSo cs input unclaimed given left lists kinds)
-    (next : left ≡ text ∷ rest) (counted : number ≡ length given + 1) (after : lists' ≡ noted sort number lists)
-    (is : class ≡ class_in (length cs) sort) (within : list_in sort ≤ length cs)
-    (by_claim : unclaimed → sort ≡ sort_of (map (λ (c : Commissioned). c.address) cs) (told_of text))
-    (by_text : is_listed sort ≡ false → sort ≡ sort_of (map (λ (c : Commissioned). c.address) cs) (told_of text)) where
-  -- a number of a list is that of one of its lines
-  abbrev IsListed : ℕ → ℕ → Type 0
-  IsListed list n = sort_of (addresses cs) (told_by_text (slice_get (lines input) (n - 1))) ≡ sorts.Listed list
-
-  come_to : sort ≡ sort_of (addresses cs) (told_of text) → HaveComeTo cs given lists kinds
-      → HaveComeTo cs (given ++ text ∷ []) lists' (kinds ++ class ∷ [])
-  come_to same so = record {
-    lists_are = after ∙ (ap (λ s. noted s number lists) same ∙ (ap (noted (sort_of (addresses cs) (told_of text)) number) so.lists_are
-        ∙ (numbers_for-push cs (map told_of given) (told_of text) number apart (let l = length-map given told_of in omega arith)
-        ∙ ap (numbers_for cs) (sym (map-append told_of given (text ∷ []))))));
-    classes_are = (λ i. so.classes_are i ++ (is ∙ (ap (class_in (length cs)) same ∙ class_sorted (addresses cs) (length cs) (told_of text)
-        (sym (length-map cs (λ (c : Commissioned). c.address))))) i ∷ [])
-        ∙ (sym (map-append (class_by (addresses cs)) (map told_of given) (told_of text ∷ []))
-        ∙ ap (map (class_by (addresses cs))) (sym (map-append told_of given (text ∷ []))));
-  }
-
-  text_there : slice_get (lines input) (number - 1) ≡ Some text
-  text_there =
-      ap (λ ls. slice_get ls (number - 1)) (before.cut ∙ ap (λ l. given ++ l) next)
-      ∙ get_there given text rest (number - 1) (omega arith)
-
-  row : (list : ℕ) → sort ≡ sorts.Listed list → get_or lists' list [] ≡ get_or lists list [] ++ number ∷ []
-  row list e =
-      let inside : list ≤ length cs = subst (λ s. list_in s ≤ length cs) e within in
-      let long = before.long in
-      ap (λ ls. get_or ls list []) (after ∙ ap (λ s. noted s number lists) e)
-      ∙ get_or-set_same lists list (get_or lists list [] ++ number ∷ []) [] (omega arith)
-
-  sorted_there : (list : ℕ) → sort ≡ sorts.Listed list → AreSorted (addresses cs) (lines input) lists'
-      → sort_of (addresses cs) (told_of text) ≡ sorts.Listed list
-  sorted_there list e sorted =
-      let inside : list ≤ length cs = subst (λ s. list_in s ≤ length cs) e within in
-      let few = length-map cs (λ (c : Commissioned). c.address) in
-      ap (λ o. sort_of (addresses cs) (told_by_text o)) (sym text_there)
-      ∙ each_item (IsListed list) (get_or lists list []) number [] (subst (Each (IsListed list)) (row list e) (sorted list (omega arith)))
-
-  sorted_before : AreSorted (addresses cs) (lines input) lists' → AreSorted (addresses cs) (lines input) lists
-  sorted_before sorted = at sort refl
-    where
-      at : (s : Sort) → sort ≡ s → AreSorted (addresses cs) (lines input) lists
-      at (sorts.Listed k) e list inside = dite (ℕ_discrete list k)
-          (λ same. each_front (IsListed list) (get_or lists list []) (number ∷ [])
-          (subst (Each (IsListed list)) (row list (e ∙ ap sorts.Listed (sym same))) (sorted list inside)))
-          (λ other. subst (Each (IsListed list)) (ap (λ ls. get_or ls list []) (after ∙ ap (λ s. noted s number lists) e)
-          ∙ get_or-set_other lists k list (get_or lists k [] ++ number ∷ []) [] other) (sorted list inside))
-      at sorts.Unframed e list inside =
-          subst (λ ls. Each (IsListed list) (get_or ls list [])) (after ∙ ap (λ s. noted s number lists) e) (sorted list inside)
-      at sorts.Bad e list inside =
-          subst (λ ls. Each (IsListed list) (get_or ls list [])) (after ∙ ap (λ s. noted s number lists) e) (sorted list inside)
-
-  same_by : AreSorted (addresses cs) (lines input) lists' → sort ≡ sort_of (addresses cs) (told_of text)
-  same_by sorted = at sort refl
-    where
-      at : (s : Sort) → sort ≡ s → sort ≡ sort_of (addresses cs) (told_of text)
-      at (sorts.Listed list) e = e ∙ sym (sorted_there list e sorted)
-      at sorts.Unframed e = by_text (ap is_listed e)
-      at sorts.Bad e = by_text (ap is_listed e)
-
-  heard_more : HasHeardSo cs input unclaimed (given ++ text ∷ []) rest lists' (kinds ++ class ∷ [])
-  heard_more = record {
-    cut = before.cut ∙ (ap (λ l. given ++ l) next ∙ sym (append_assoc given (text ∷ []) rest));
-    many = let k = length-append kinds (class ∷ []) in let g = length-append given (text ∷ []) in let m = before.many in omega arith;
-    long = ap length after ∙ (length-noted sort number lists ∙ before.long);
-    so = ⊎_elim (λ u. come_to (by_claim u) (before.so (inl u)))
-        (λ sorted. come_to (same_by sorted) (before.so (inr (sorted_before sorted))));
-  }
-
-  pub heard_next : (given' : List (List ℕ)) (kinds' : List Class) → given' ≡ given ++ text ∷ [] → kinds' ≡ kinds ++ class ∷ []
-      → HasHeardSo cs input unclaimed given' rest lists' kinds'
-  heard_next given' kinds' more more_kinds =
-      subst (λ g. HasHeardSo cs input unclaimed g rest lists' kinds') (sym more)
-      (subst (λ k. HasHeardSo cs input unclaimed (given ++ text ∷ []) rest lists' k) (sym more_kinds) heard_more)
+  pub come_next : (lists lists' : List (List ℕ)) (kinds : List Class) (class : Class) (sort : Sort) → AreApart (map (λ c. c.address) cs)
+      → HaveComeTo cs (map told_of (take i texts)) lists kinds → sort ≡ sort_of (map (λ c. c.address) cs) t
+      → lists' ≡ noted sort (i + 1) lists → class ≡ class_in (length cs) sort
+      → HaveComeTo cs (map told_of (take (i + 1) texts)) lists' (kinds ++ class ∷ [])
+  come_next lists lists' kinds class sort apart so same after is =
+      let many : length (map told_of (take i texts)) ≡ i = length-map (take i texts) told_of ∙ length-take-le i texts (omega arith) in
+      subst (λ heard. HaveComeTo cs heard lists' (kinds ++ class ∷ [])) (sym more_told)
+      (come_more cs (map told_of (take i texts)) t (i + 1) lists lists' kinds class sort apart so (omega arith) same after is)
 
 -- an input within the limits has few lines
 pub few_lines : (input : List ℕ) → is_over input ≡ false → length (lines input) ≤ 131072
@@ -321,15 +243,23 @@ few_lines input h =
     let parts : (nat_lt 67108864 (length input) ≡ false) × (nat_lt 131072 (length (lines input)) ≡ false) =
     or_parts _ _ h in let few : nat_lt 131072 (length (lines input)) ≡ false = parts.1 in grind (arith, nat_tests)
 
-pub given_few : (cs : List Commissioned) (input : List ℕ) (unclaimed : Type 0) (given left : List (List ℕ)) (lists : List (List ℕ))
-    (kinds : List Class) → is_over input ≡ false → HasHeardSo cs input unclaimed given left lists kinds
-    → length given + length left ≤ 131072
-given_few cs input unclaimed given left lists kinds within so =
-    let few = few_lines input within in let l = ap length so.cut ∙ length-append given left in omega arith
+-- so have those among its first lines
+pub first_few : (cs : List Commissioned) (input : List ℕ) (i : ℕ) (lists : List (List ℕ)) (kinds : List Class) → is_over input ≡ false
+    → HaveComeTo cs (map told_of (take i (lines input))) lists kinds → length kinds ≤ 131072
+first_few cs input i lists kinds within so =
+    let few = few_lines input within in
+    let many = ap length so.classes_are ∙ (length-map (map told_of (take i (lines input))) (class_by (addresses cs))
+    ∙ length-map (take i (lines input)) told_of) in
+    let taken = length-take i (lines input) in
+    let least = min-le_right i (length (lines input)) in omega arith
 
 -- one list for each meter, and one
 pub length-numbers_for : (cs : List Commissioned) (heard : List Told) → length (numbers_for cs heard) ≡ length cs + 1
 length-numbers_for cs heard = length-append (map (own_numbers heard) cs) _ ∙ ap (λ n. n + 1) (length-map cs (own_numbers heard))
+
+pub long_lists : (cs : List Commissioned) (heard : List Told) (lists : List (List ℕ)) (kinds : List Class) → HaveComeTo cs heard lists kinds
+    → length lists ≡ length cs + 1
+long_lists cs heard lists kinds so = ap length so.lists_are ∙ length-numbers_for cs heard
 
 -- ---- counts
 
@@ -350,28 +280,15 @@ counted_classes directory heard = (λ i. record {
   bad = count-map is_bad (class_by directory) heard i;
 })
 
-module _ (cs : List Commissioned) (input : List ℕ) (unclaimed : Type 0) (given left : List (List ℕ)) (lists : List (List ℕ))
-    (kinds : List Class) (counts : Counts) (so : HasHeardSo cs input unclaimed given left lists kinds) (none : left ≡ [])
-    (is : counts ≡ counts_in kinds) where
-  abbrev heard : HeardInput
-  heard = record { lines = given; lists = lists; counts = counts }
-
-  whole : given ≡ lines input
-  whole = sym (so.cut ∙ (ap (λ l. given ++ l) none ∙ append-nil given))
-
-  heard_is : HaveComeTo cs given lists kinds → heard ≡ heard_input cs input
-  heard_is h = (λ i. record {
-    lines = whole i;
-    lists = (h.lists_are ∙ ap (λ g. numbers_for cs (map told_of g)) whole) i;
-    counts = (is ∙ (ap counts_in h.classes_are ∙ (counted_classes (addresses cs) (map told_of given)
-        ∙ ap (λ g. counts_of (addresses cs) (map told_of g)) whole))) i;
-  })
-
-  pub heard_all : IsHeard cs input heard
-  heard_all = record {
-    lines_are = whole;
-    sorted = λ sorted. heard_is (so.so (inr (subst (λ ls. AreSorted (addresses cs) ls lists) whole sorted)));
-  }
-
-  pub heard_unclaimed : unclaimed → heard ≡ heard_input cs input
-  heard_unclaimed u = heard_is (so.so (inl u))
+-- all lines of an input
+pub heard_is : (cs : List Commissioned) (input : List ℕ) (i : ℕ) (lists : List (List ℕ)) (kinds : List Class) (counts : Counts)
+    → HaveComeTo cs (map told_of (take i (lines input))) lists kinds → i ≡ length (lines input) → counts ≡ counts_in kinds
+    → record { lines = lines input; lists = lists; counts = counts } ≡ heard_input cs input
+heard_is cs input i lists' kinds counts so whole is =
+    let all : take i (lines input) ≡ lines input = ap (λ n. take n (lines input)) whole ∙ take-length (lines input) in
+    (λ j. record {
+      lines = lines input;
+      lists = (so.lists_are ∙ ap (λ g. numbers_for cs (map told_of g)) all) j;
+      counts = (is ∙ (ap counts_in so.classes_are ∙ (counted_classes (addresses cs) (map told_of (take i (lines input)))
+          ∙ ap (λ g. counts_of (addresses cs) (map told_of g)) all))) j;
+    })

@@ -19,7 +19,7 @@ use Rattle.plain_text.specs.Parts.{fields_of}
 use Rattle.report_text.specs.declared.lent.ReceiverEnd.{ReceiverEnd}
 use Rattle.report_text.specs.Orders.{lines_in}
 use Rattle.report_text.specs.OrdersLaw.{IsCounted, place_of_step, place_of_stranger, order_of}
-use Rattle.report_text.specs.Report.{commission_text, numbers_text, step_text, readings_after, steps_text, last_text, pending_text, journal_text, orders_now, meter_text, stranger_text, strangers_text, report_text}
+use Rattle.report_text.specs.Report.{commission_text, numbers_text, answered_text, step_text, readings_after, steps_text, last_text, pending_text, journal_text, orders_now, meter_text, stranger_text, strangers_text, report_text}
 use Rattle.report_text.proofs.LineWalks.{IsWithout, ◌⌢◌, literal, first_line, IsOther, Others}
 use Rattle.report_text.proofs.LinePieces.{worded_number, worded_two}
 use Rattle.report_text.proofs.LineOutcomes.{outcome_is}
@@ -200,7 +200,7 @@ module _ (meters : ℕ) where
 
   entry_stands : (reading : Option Reading) (e : Entry) (n : ℕ) → IsCounted (place_of_step e)
       → Stands (step_text reading e) n opens.Meter n opens.Meter
-  unfolding step_text
+  unfolding answered_text
   entry_stands reading e n small = step_stands e.source e.line _ n small.0 small.1 (outcome_is reading e.outcome)
 
   steps_stand : (kept : List Reading) (journal : List Entry) (n : ℕ) → AllByRecursion IsCounted (map place_of_step journal)

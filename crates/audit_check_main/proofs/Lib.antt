@@ -1,8 +1,10 @@
 pub mod Claimed
 pub mod Compared
+pub mod ComparedLater
 pub mod HeardLists
 pub mod InForm
 pub mod InputReads
+pub mod KeptLines
 pub mod Notes
 pub mod OneVerdict
 pub mod OrderChecks
@@ -11,5 +13,6 @@ pub mod Prints
 pub mod ReadLists
 pub mod Runs
 pub mod Slots
+pub mod SteppedLines
 pub mod Steps
 pub mod Verdicts

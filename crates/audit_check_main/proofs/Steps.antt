@@ -231,15 +231,10 @@ module _ (own : Address) (heard : List HeardInput) (c : Commissioned) (order : L
       (λ j. so j ++ record { source = (same j).0; line = (same j).1; event = event_is j; outcome = answer_is j } ∷ [])
       ∙ take_cut target.journal i k.item k.later m k.cut
 
-  pub all_stepped : (slot : SlotView) (n : ℕ) → slot.own ≡ own → slot.commission ≡ c → n ≡ length order
-      → slot.journal ≡ take n target.journal → IsOrderedSlot own (map tells heard) c order slot
-  all_stepped slot n own_is commission_is e so =
-      let journal : slot.journal ≡ target.journal = so ∙ (ap (λ m. take m target.journal) (e ∙ order_long) ∙ take-length target.journal) in
-      let same : target ≡ slot =
-      (λ i. record {
-        own = (h.meters.own_is ∙ sym own_is) i;
-        commission = (h.meters.commission_is
-            ∙ sym commission_is) i;
-        journal = sym journal i;
-      }) in
-      subst (IsOrderedSlot own (map tells heard) c order) same h
+  -- all entries are those of the slot
+  pub all_stepped : (n : ℕ) → n ≡ length order → record { own = own; commission = c; journal = take n target.journal } ≡ target
+  all_stepped n e = λ i. record {
+    own = sym h.meters.own_is i;
+    commission = sym h.meters.commission_is i;
+    journal = (ap (λ m. take m target.journal) (e ∙ order_long) ∙ take-length target.journal) i;
+  }

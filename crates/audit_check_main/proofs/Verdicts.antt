@@ -5,7 +5,7 @@ use Rattle.std.specs.Str.{all_ascii_digits}
 use Rattle.std.specs.Str.Parse.{digits_value}
 use Rattle.std.specs.Str.Lines.{lines}
 use Rattle.std.proofs.lemmas.List.{length-map}
-use Rattle.outer_io.specs.Each.{Each, EachWith}
+use Rattle.outer_io.specs.Each.{Each}
 use Rattle.line_reader.specs.Lines.{is_over, all_lines, whole_lines}
 use Rattle.meter_address.specs.declared.address.Address.{Address}
 use Rattle.meter_address.specs.Commission.{Commissioned}
@@ -31,11 +31,10 @@ use Rattle.audit_check_main.specs.Audit.{Audited, told_in, heard_out, report_of,
 use Rattle.audit_check_main.specs.Auditing.{IsCompared, IsStepped}
 use Rattle.audit_check_main.specs.Printing.{end_of}
 use Rattle.audit_check_main.specs.Difference.{DiffersAt}
-use Rattle.audit_check_main.specs.Hearing.{HeardInput, IsHeard, AreListed, heard_input, tells, no_input, numbers_in_list}
+use Rattle.audit_check_main.specs.Hearing.{HeardInput, heard_input, tells, no_input, numbers_in_list}
 use Rattle.audit_check_main.specs.Lists.{AreInForm, as_many, lists_printed}
 use Rattle.audit_check_main.specs.Order.{numbers_for, wanted, IsRight, IsFirstWrong}
 use Rattle.audit_check_main.specs.Stepping.{AreOrderedSlots, AreOrders, IsOrderOfEach}
-use Rattle.audit_check_main.proofs.Claimed.{all_told}
 use Rattle.audit_check_main.proofs.ReadLists.{as_many-all}
 use Rattle.audit_check_main.proofs.Slots.{meters_slots, slots_orders, as_many_slots}
 use Rattle.audit_check_main.proofs.Steps.{heard_none, heard_suc}
@@ -139,19 +138,7 @@ orders_are cs inputs before heard lists within same heard_is long right =
       strangers_list = strangers_right cs inputs within lists long right_there;
     })
 
--- the same by claims, where each line is one of the list that names it
-pub claimed_are : {E : Type 0} (result : Result Verdict E) (cs : List Commissioned) (directory : List Address) (inputs : List (List ℕ))
-    (heard : List HeardInput) (lists : List (List (ℕ × ℕ))) (P : Verdict → Type 0) → directory ≡ map (λ c. c.address) cs
-    → Each (λ input. is_over input ≡ false) inputs → EachWith (IsHeard cs) inputs heard → length lists ≡ length cs + 1
-    → ((k : ℕ) → k < length lists → IsRight (numbers_in_list heard k) (get_or lists k []))
-    → IfOk result (λ v. AreListed directory heard lists) → IfOk result (λ v. AreOrders cs heard lists → P v)
-    → IfOk result (λ v. (heard ≡ map (heard_input cs) inputs) × P v)
-claimed_are (Err e) cs directory inputs heard lists P same within h long right listed stepped = tt
-claimed_are (Ok v) cs directory inputs heard lists P same within h long right listed stepped =
-    let heard_is = all_told cs inputs heard lists h long right (subst (λ d. AreListed d heard lists) same listed) in
-    (heard_is, stepped (orders_are cs inputs heard heard lists within refl heard_is long right))
-
--- the same where all was heard as it is
+-- what holds of a verdict that is found holds of it when it is answered
 pub told_are : {E F : Type 0} (found : Result Verdict E) (result : Result Verdict F) (P : Verdict → Type 0)
     → ((v : Verdict) → result ≡ Ok v → found ≡ Ok v) → IfOk found P → IfOk result P
 told_are found (Err e) P same h = tt

@@ -15,6 +15,8 @@ use Rattle.receivers.specs.Told.{told_of}
 use Rattle.outer_io.specs.Each.{Each}
 use Rattle.audit_check_main.specs.declared.hearing.Sort.{Sort}
 use Rattle.audit_check_main.specs.declared.hearing.Sort.TheVariants as sorts
+use Rattle.audit_check_main.specs.declared.whose.Whose.{Whose}
+use Rattle.audit_check_main.specs.declared.whose.Whose.TheVariants as whose
 use Rattle.audit_check_main.specs.Order.{numbers_for}
 
 -- the lines of an input, the numbers of its lines for each list, and its counts
@@ -58,16 +60,20 @@ told_at heard w line = told_by_text (slice_get (input_of heard w).lines (line - 
 abbrev pub with_number : ℕ → ℕ → List (List ℕ) → List (List ℕ)
 with_number list line lists = slice_set lists list (slice_index_or lists list [] ++ line ∷ [])
 
--- what a line is by what it tells: one of its meter's list, or of the strangers', which is the last one
-abbrev pub sort_of : List Address → Told → Sort
-sort_of directory (told.Event address event) = sorts.Listed (position_or_len (λ a. a.0 == address.0) directory)
-sort_of directory told.Unframed = sorts.Unframed
-sort_of directory told.Bad = sorts.Bad
+abbrev pub whose_told : Told → Whose
+whose_told (told.Event address event) = whose.Meter address
+whose_told told.Unframed = whose.Unframed
+whose_told told.Bad = whose.Bad
 
-abbrev pub is_listed : Sort → Bool
-is_listed (sorts.Listed list) = true
-is_listed sorts.Unframed = false
-is_listed sorts.Bad = false
+-- what a line is by whose it is: one of its meter's list, or of the strangers', which is the last one
+abbrev pub sort_by : List Address → Whose → Sort
+sort_by directory (whose.Meter address) = sorts.Listed (position_or_len (λ a. a.0 == address.0) directory)
+sort_by directory whose.Unframed = sorts.Unframed
+sort_by directory whose.Bad = sorts.Bad
+
+-- what a line is by what it tells
+abbrev pub sort_of : List Address → Told → Sort
+sort_of directory t = sort_by directory (whose_told t)
 
 -- the number of the list that a line is one of, 0 where there is none
 abbrev pub list_in : Sort → ℕ
@@ -97,21 +103,7 @@ counts_in classes = record {
   bad = count_by is_bad classes;
 }
 
--- ---- claims
-
--- the list that claims a line of a receiver, if one does; receivers are counted from 0
-abbrev pub claim_at : List (List (Option ℕ)) → (receiver line : ℕ) → Option ℕ
-claim_at claims receiver line = slice_index_or (slice_index_or claims receiver []) line None
-
--- each line whose number a list has is one of this list
-abbrev pub AreSorted : List Address → (lines lists : List (List ℕ)) → Type 0
-AreSorted directory lines lists = (list : ℕ) → list ≤ length directory →
-    Each (λ n. sort_of directory (told_by_text (slice_get lines (n - 1))) ≡ sorts.Listed list) (slice_index_or lists list [])
-
--- what an input is heard to be where lines were claimed: its lines, and what it comes to if they are what was claimed
-pub record IsHeard (commissions : List Commissioned) (input : List ℕ) (h : HeardInput) : Type 0 where
-  pub lines_are : h.lines ≡ lines input
-  pub sorted : AreSorted (map (λ c. c.address) commissions) h.lines h.lists → h ≡ heard_input commissions input
+-- ---- lines of the lists
 
 -- each line that one of the first lists names is one of this list
 abbrev pub AreListedBelow : ℕ → List Address → List HeardInput → List (List (ℕ × ℕ)) → Type 0

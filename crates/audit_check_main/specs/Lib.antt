@@ -5,11 +5,14 @@ pub mod Cursors
 pub mod Difference
 pub mod FormLaw
 pub mod Hearing
+pub mod Kept
 pub mod Lists
+pub mod MeterSteps
 pub mod Order
 pub mod Printing
 pub mod Reading
 pub mod Run
 pub mod Statuses
 pub mod Stepping
+pub mod Taken
 pub mod Texts

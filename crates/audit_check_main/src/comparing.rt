@@ -1,7 +1,8 @@
 //! A text that is compared with another one while it is printed.
 ghost use Rattle.std.specs.Prelude.{◌≡◌, ◌≤◌, [], false, true, length, take, drop, slice_get};
-ghost use Rattle.audit_check_main.specs.Comparing.{Compared, IsCommon};
+ghost use Rattle.audit_check_main.specs.Comparing.{Compared, IsCommon, line_len};
 
+use crate::report_lines::first_newline;
 use crate::verdict::{Cause, Verdict};
 use paper::Paper;
 use std::marker::Model;
@@ -18,6 +19,17 @@ fn common(text: &[u8], other: &[u8]) -> usize
         count += 1;
     }
     count
+}
+
+// How many bytes the first line has, with its newline: all, where there is no newline.
+fn line_len(text: &[u8]) -> usize
+    ensures len { result ≡ line_len text.now }
+    ensures within { result ≤ length text.now }
+{
+    match first_newline(text) {
+        None => text.len(),
+        Some(place) => place + 1,
+    }
 }
 
 /// A paper that keeps nothing of what is put on it but how far it is a given text.
@@ -42,7 +54,7 @@ impl<'a> Model for Comparing<'a> {
 impl<'a> Comparing<'a> {
     ghost use Rattle.std.specs.Prelude.{◌≡◌, ℕ, List, false};
     ghost use Rattle.audit_check_main.specs.Auditing.{IsCompared};
-    ghost use Rattle.audit_check_main.specs.Comparing.{IsSoFar};
+    ghost use Rattle.audit_check_main.specs.Comparing.{IsSoFar, line_passed, settled};
 
     /// Nothing is put yet.
     pub(crate) fn new(text: &'a [u8]) -> Comparing<'a>
@@ -52,6 +64,31 @@ impl<'a> Comparing<'a> {
             text,
             place: 0,
             differs: false,
+        }
+    }
+
+    /// Passes over a line of the text, with which nothing is compared yet. What is put goes on behind it; the paper that is answered is for
+    /// that line.
+    pub(crate) fn pass_line(&mut self) -> Comparing<'a>
+        ensures line { result ≡ self.old }
+        ensures passed { self.new ≡ line_passed self.old }
+    {
+        let (_, rest) = self.text.split_at(self.place);
+        let line = Comparing {
+            text: self.text,
+            place: self.place,
+            differs: self.differs,
+        };
+        self.place += line_len(rest);
+        line
+    }
+
+    /// Takes in what the line came to that was passed over, once it is put on its own paper: where it differs, that comes first.
+    pub(crate) fn settle(&mut self, line: Comparing<'a>)
+        ensures { self.new ≡ settled line.entry self.old }
+    {
+        if line.differs {
+            *self = line;
         }
     }
 

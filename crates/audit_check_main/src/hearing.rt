@@ -1,31 +1,20 @@
 //! What an input tells.
-ghost use Rattle.std.specs.Prelude.{◌≡◌, ◌≤◌, ◌<◌, ◌^◌, ◌+◌, ◌==◌, [], ◌∷◌, ◌++◌, None, false, count_by, length, map, vec_len, slice_set, slice_index_or, IfOk, OnOk};
+ghost use Rattle.std.specs.Prelude.{◌≡◌, ◌≤◌, ◌<◌, ◌^◌, ◌+◌, ◌==◌, [], ◌∷◌, ◌++◌, false, count_by, length, map, vec_len, slice_set, slice_index_or, IfOk, OnOk};
 ghost use Rattle.std.specs.List.{position_or_len};
 ghost use Rattle.line_reader.specs.Lines.{is_over};
 ghost use Rattle.meter_address.specs.Address.{AreApart};
-ghost use Rattle.receivers.specs.Told.{told_of};
-ghost use Rattle.outer_io.specs.Each.{Each, EachWith};
+ghost use Rattle.outer_io.specs.Each.{Each};
 ghost use Rattle.receivers.specs.Classes.{is_own, is_strange, is_unframed, is_bad};
-ghost use Rattle.audit_check_main.specs.Hearing.{IsHeard, class_in, counts_in, heard_input, is_listed, list_in, noted, sort_of};
+ghost use Rattle.audit_check_main.specs.Hearing.{class_in, counts_in, heard_input, list_in, noted, sort_by};
 
-use crate::claims::Claims;
 use crate::input::Input;
-use line_reader::{BYTES_MAX, LINES_MAX, read_line};
+use crate::whose::Whose;
 use meter_address::{Address, Commission};
 use meter_slots::{Counts, Directory};
 use outer_io::Memory;
-use plain_text::TextLines;
-use receivers::{Class, Told, tell};
+use receivers::{Class, Told};
 use std::alloc::Global;
 use std::marker::Model;
-
-/// Whether an input goes past the limits of a receiver.
-#[tactic(auto, unfolding(line_reader::specs::Lines::is_over))]
-pub(crate) fn is_over(input: &[u8]) -> bool
-    ensures { result ≡ is_over input.now }
-{
-    input.len() > BYTES_MAX || TextLines::of_text(input).count() > LINES_MAX as usize
-}
 
 /// The numbers of some lines, in their order.
 #[derive(Debug, Drop)]
@@ -80,32 +69,26 @@ pub enum Sort {
     Bad,
 }
 
-/// The lines of an input, the numbers of its lines for each list, and its counts.
+/// An input within the limits, the numbers of its lines for each list, and its counts.
 #[derive(Drop)]
 pub(crate) struct Hearing<'a> {
-    lines: Vec<&'a [u8]>,
+    input: &'a Input,
     lists: Vec<LineNumbers>,
     counts: Counts,
 }
 
+// A contract sees the lines in place of the input.
 impl<'a> Model for Hearing<'a> {
-    ghost use Rattle.std.specs.Prelude.{map};
+    ghost use Rattle.std.specs.Prelude.{◌≡◌, false};
+    ghost use Rattle.std.specs.Str.Lines.{lines};
+    ghost use Rattle.line_reader.specs.Lines.{is_over};
     ghost use Rattle.audit_check_main.specs.Hearing.{HeardInput};
 
     ghost Value = { HeardInput };
 
-    ghost view = { λ h. record { lines = map (λ t. t.now) h.lines.items; lists = h.lists.items; counts = h.counts } };
-}
+    ghost view = { λ h. record { lines = lines h.input.now; lists = h.lists.items; counts = h.counts } };
 
-// What a line's text tells.
-#[tactic(auto, unfolding(receivers::specs::Told::told_of))]
-fn told_of(text: &[u8]) -> Told
-    ensures { result ≡ told_of text.now }
-{
-    match read_line(text) {
-        Ok(line) => tell(&line),
-        Err(_) => Told::Bad,
-    }
+    ghost invariant = { λ h. is_over h.input.now ≡ false };
 }
 
 impl<'a> Hearing<'a> {
@@ -133,10 +116,7 @@ impl<'a> Hearing<'a> {
     pub(crate) fn told_at(&self, line: u32) -> Told
         ensures { result ≡ told_by_text (slice_get self.now.lines (line - 1)) }
     {
-        match self.lines.get(line.saturating_sub(1) as usize) {
-            None => Told::Bad,
-            Some(text) => told_of(text),
-        }
+        self.input.told_at(line.saturating_sub(1) as usize)
     }
 }
 
@@ -181,31 +161,16 @@ pub(crate) fn list_of(meters: &[Commission], directory: &Directory, address: Add
     }
 }
 
-// What a line is by what it tells.
-fn sort_of(meters: &[Commission], directory: &Directory, told: Told) -> Sort
+// What a line is by whose it is.
+fn sort_of(meters: &[Commission], directory: &Directory, whose: Whose) -> Sort
     requires { directory.now ≡ map (λ c. c.address) meters.now }
-    ensures { result ≡ sort_of directory.now told }
+    ensures { result ≡ sort_by directory.now whose }
 {
-    match told {
-        Told::Event(address, _) => Sort::Listed(list_of(meters, directory, address)),
-        Told::Unframed => Sort::Unframed,
-        Told::Bad => Sort::Bad,
+    match whose {
+        Whose::Meter(address) => Sort::Listed(list_of(meters, directory, address)),
+        Whose::Unframed => Sort::Unframed,
+        Whose::Bad => Sort::Bad,
     }
-}
-
-// What a line is: one of the list that claims it, whatever it tells, or else what it tells.
-fn sort_by(meters: &[Commission], directory: &Directory, claim: Option<u32>, text: &[u8]) -> Sort
-    requires { directory.now ≡ map (λ c. c.address) meters.now }
-    ensures unclaimed { claim ≡ None → result ≡ sort_of directory.now (told_of text.now) }
-    ensures unlisted { is_listed result ≡ false → result ≡ sort_of directory.now (told_of text.now) }
-    ensures within { list_in result ≤ length meters.now }
-{
-    if let Some(list) = claim {
-        if list as usize <= meters.len() {
-            return Sort::Listed(list as usize);
-        }
-    }
-    sort_of(meters, directory, told_of(text))
 }
 
 // The class of the lines of a list.
@@ -289,57 +254,46 @@ fn counts_of(classes: &[Class]) -> Counts
     }
 }
 
-// What an input within the limits is heard to be, where lines are taken to be what claims say of them. The input is that of the receiver
-// at this place.
+// What an input within the limits is heard to be.
 fn hear<'a>(
     alloc: Global,
     meters: &[Commission],
     directory: &Directory,
-    claims: &Claims,
-    receiver: usize,
-    input: &'a [u8],
+    input: &'a Input,
 ) -> Result<Hearing<'a>, Memory>
     requires directory { directory.now ≡ map (λ c. c.address) meters.now }
     requires apart { AreApart directory.now }
     requires within { is_over input.now ≡ false }
-    ensures heard { IfOk result (IsHeard meters.now input.now) }
-    ensures unclaimed { claims.now ≡ [] → IfOk result (λ h. h ≡ heard_input meters.now input.now) }
+    ensures { IfOk result (λ h. h ≡ heard_input meters.now input.now) }
 {
     let mut lists = empty_lists(alloc, meters)?;
-    let mut lines = Vec::new(alloc);
     let mut classes = Vec::new(alloc);
-    let mut texts = TextLines::of_text(input);
-    'lines: while let Some(text) = texts.next() {
-        lines.push(text)?;
-        let number = lines.len() as u32;
-        let sort = sort_by(meters, directory, claims.list_of(receiver, number), text);
-        classes.push(note(meters, &mut lists, number, sort)?)?;
+    for place in 0..input.line_count() {
+        let sort = sort_of(meters, directory, input.whose_at(place));
+        classes.push(note(meters, &mut lists, place as u32 + 1, sort)?)?;
     }
     Ok(Hearing {
-        lines,
+        input,
         lists,
         counts: counts_of(classes.as_slice()),
     })
 }
 
-/// What all inputs are heard to be, where lines are taken to be what claims say of them: this is what they are if each line is one of the
-/// list that has its number, or if nothing is claimed.
+/// What all inputs are heard to be.
 pub(crate) fn hear_all<'a>(
     alloc: Global,
     meters: &[Commission],
     directory: &Directory,
-    claims: &Claims,
     inputs: &'a [Input],
 ) -> Result<Vec<Hearing<'a>>, Memory>
     requires directory { directory.now ≡ map (λ c. c.address) meters.now }
     requires apart { AreApart directory.now }
     requires within { Each (λ input. is_over input ≡ false) inputs.now }
-    ensures heard { IfOk result (λ heard. EachWith (IsHeard meters.now) inputs.now heard.items) }
-    ensures unclaimed { claims.now ≡ [] → IfOk result (λ heard. heard.items ≡ map (heard_input meters.now) inputs.now) }
+    ensures { IfOk result (λ heard. heard.items ≡ map (heard_input meters.now) inputs.now) }
 {
     let mut heard = Vec::new(alloc);
-    for (receiver, input) in inputs.iter().enumerate() {
-        heard.push(hear(alloc, meters, directory, claims, receiver, input.bytes())?)?;
+    for input in inputs {
+        heard.push(hear(alloc, meters, directory, input)?)?;
     }
     Ok(heard)
 }

@@ -2,12 +2,13 @@
 #![tactic(auto)]
 
 mod auditing;
-mod claims;
 mod comparing;
 mod hearing;
 mod input;
+mod kept;
 mod laws;
 mod lists;
+mod meter_steps;
 mod orders;
 mod printed;
 mod printing;
@@ -17,6 +18,7 @@ mod status;
 mod stepping;
 mod texts;
 mod verdict;
+mod whose;
 
 pub use auditing::audit;
 pub use input::Input;

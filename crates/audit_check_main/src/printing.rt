@@ -1,20 +1,23 @@
-//! The report of the session of some orders, which is put on paper while its slots make their steps: one slot at a time is held.
+//! The report of the session of some orders, which is compared with a text while its slots make their steps: one slot at a time is held,
+//! and no journal.
 ghost use Rattle.std.specs.Prelude.{◌≡◌, ◌<◌, ◌+◌, List, ℕ, Err, length, map, IfOk, OnOk};
+ghost use Rattle.outer_io.specs.Each.{Each};
 ghost use Rattle.meter_address.specs.Address.{AreApart};
 ghost use Rattle.meter_address.specs.Commission.{Commissioned};
+ghost use Rattle.receivers.specs.Orders.{IsOrderOf};
 ghost use Rattle.report_text.specs.declared.lent.ReceiverEnd.{ReceiverEnd};
-ghost use Rattle.audit_check_main.specs.Hearing.{tells, AreListed, AreListedBelow};
-ghost use Rattle.audit_check_main.specs.Printing.{end_of, AreMetersPut, IsSessionPut};
-ghost use Rattle.audit_check_main.specs.Stepping.{AreOrders, IsOrderOfEach};
+ghost use Rattle.audit_check_main.specs.Hearing.{tells, told_at, AreListed, AreListedBelow};
+ghost use Rattle.audit_check_main.specs.Printing.{end_of, IsMeterPut, AreMetersPut, IsSessionPut};
+ghost use Rattle.audit_check_main.specs.Stepping.{AreOrders, IsOrderOfEach, IsEventFor};
 
+use crate::comparing::Comparing;
 use crate::hearing::Hearing;
 use crate::printed::Order;
 use crate::stepping::{Unmade, note_strangers, step_meter};
 use meter_address::{Address, Commission};
 use meter_slots::{Directory, Ended};
 use outer_io::Memory;
-use paper::Paper;
-use report_text::{ReceiverEnd, put_end, put_head, put_meter, put_strangers};
+use report_text::{ReceiverEnd, put_end, put_head, put_meter_line, put_strangers};
 use std::alloc::Global;
 
 // The receivers' ends: each input was heard to its end.
@@ -31,44 +34,66 @@ fn receiver_ends(alloc: Global, heard: &[Hearing<'_>]) -> Result<Vec<ReceiverEnd
     Ok(ends)
 }
 
+// Puts what the report says of a meter after its own lines in this order of them. Its first line tells what all steps come to, and so it
+// is passed over, and compared at the end.
+fn put_meter(
+    alloc: Global,
+    own: Address,
+    commission: Commission,
+    heard: &[Hearing<'_>],
+    order: &[(u32, u32)],
+    paper: &mut Comparing<'_>,
+) -> Result<(), Unmade>
+    ensures put { OnOk result (IsOrderOf commission.address (map tells heard.now) order.now
+        → IsMeterPut own (map tells heard.now) commission order.now paper.old paper.new) }
+    ensures own_lines { OnOk result (Each (λ p. IsEventFor commission.address (told_at heard.now p.0 p.1)) order.now) }
+    ensures stray { result ≡ Err Unmade.Stray → IsOrderOf commission.address (map tells heard.now) order.now → ⊥ }
+{
+    let mut line = paper.pass_line();
+    let steps = step_meter(alloc, own, commission, heard, order, paper)?;
+    steps.put_rest(paper);
+    put_meter_line(&mut line, &steps.line());
+    paper.settle(line);
+    Ok(())
+}
+
 // Puts what the report says of each meter after its own lines in the order of its list. Each slot is let go before the next is made.
-fn put_meters<P: Paper>(
+fn put_meters(
     alloc: Global,
     own: Address,
     meters: &[Commission],
     heard: &[Hearing<'_>],
     lists: &[Order],
-    paper: &mut P,
+    paper: &mut Comparing<'_>,
 ) -> Result<(), Unmade>
     requires apart { AreApart (map (λ c. c.address) meters.now) }
     requires lists { length meters.now < length lists.now }
     ensures put { OnOk result (IsOrderOfEach (map tells heard.now) meters.now lists.now
-        → AreMetersPut P.takes own (map tells heard.now) meters.now lists.now paper.old paper.new) }
+        → AreMetersPut own (map tells heard.now) meters.now lists.now paper.old paper.new) }
     ensures own_lines { OnOk result (AreListedBelow (length meters.now) (map (λ c. c.address) meters.now) heard.now lists.now) }
     ensures stray { result ≡ Err Unmade.Stray → IsOrderOfEach (map tells heard.now) meters.now lists.now → ⊥ }
 {
     for (list, commission) in meters.iter().enumerate() {
-        let slot = step_meter(alloc, own, *commission, heard, lists[list].pairs())?;
-        put_meter(paper, &slot);
+        put_meter(alloc, own, *commission, heard, lists[list].pairs(), paper)?;
     }
     Ok(())
 }
 
 /// Puts the report of the session in which each slot makes its steps in the order of its list, and the last list is that of the strangers.
-pub(crate) fn put_session<P: Paper>(
+pub(crate) fn put_session(
     alloc: Global,
     own: Address,
     meters: &[Commission],
     directory: &Directory,
     heard: &[Hearing<'_>],
     lists: &[Order],
-    paper: &mut P,
+    paper: &mut Comparing<'_>,
 ) -> Result<(), Unmade>
     requires directory { directory.now ≡ map (λ c. c.address) meters.now }
     requires apart { AreApart directory.now }
     requires long { length lists.now ≡ length meters.now + 1 }
     ensures put { OnOk result (AreOrders meters.now heard.now lists.now
-        → IsSessionPut P.takes own meters.now heard.now lists.now paper.old paper.new) }
+        → IsSessionPut own meters.now heard.now lists.now paper.old paper.new) }
     ensures own_lines { OnOk result (AreListed directory.now heard.now lists.now) }
     ensures stray { result ≡ Err Unmade.Stray → AreOrders meters.now heard.now lists.now → ⊥ }
 {

@@ -6,9 +6,9 @@ ghost use Rattle.report_text.specs.Orders.{lines_in};
 use memchr::memchr;
 use std::marker::Model;
 
-// The place of the first newline.
+/// The place of the first newline.
 #[tactic(auto, using(plain_text::proofs::Cuts::place_of_first))]
-fn first_newline(text: &[u8]) -> Option<usize>
+pub(crate) fn first_newline(text: &[u8]) -> Option<usize>
     ensures { result ≡ position (λ b. b == 10) text.now }
 {
     memchr(b'\n', text)

@@ -51,6 +51,21 @@ fn read_past<S: Source>(alloc: Global, source: &mut S, most: usize) -> Result<Ve
     Ok(bytes)
 }
 
+// Reads an input to its end or past the limit of a receiver. Its bytes are let go before it is answered.
+fn read_input<S: Source>(alloc: Global, source: &mut S) -> Result<Input, Unread>
+    ensures read { IfOk result (λ input. IsTrue S.tells → IsReadPast 67108864 (source_change S.Source source.old source.new) input) }
+    ensures failed { result ≡ Err Unread.Failed → ReadFailed (source_change S.Source source.old source.new) }
+    ensures no_loss { IsTrue S.tells → LosesNothing (source_change S.Source source.old source.new) }
+{
+    match read_past(alloc, source, BYTES_MAX) {
+        Ok(bytes) => match Input::new(alloc, bytes) {
+            Ok(input) => Ok(input),
+            Err(_) => Err(Unread::Memory),
+        },
+        Err(unread) => Err(unread),
+    }
+}
+
 // Why the inputs aren't read.
 #[derive(Clone, Copy, Debug, PartialEq, Eq)]
 enum InputFault {
@@ -72,9 +87,9 @@ fn read_inputs<S: Source>(alloc: Global, inputs: &mut Vec<S>) -> Result<Vec<Inpu
     let mut read = Vec::new(alloc);
     for place in 0..inputs.len() {
         let source = &mut inputs[place];
-        match read_past(alloc, source, BYTES_MAX) {
-            Ok(bytes) => {
-                if read.push(Input::new(bytes)).is_err() {
+        match read_input(alloc, source) {
+            Ok(input) => {
+                if read.push(input).is_err() {
                     return Err(InputFault::Memory);
                 }
             }

@@ -1,15 +1,19 @@
-//! The session of the printed orders: each slot makes its steps in the order that is printed.
+//! The session of the printed orders: each slot makes its steps in the order that is printed, and keeps no journal.
 ghost use Rattle.std.specs.Prelude.{◌≡◌, ◌<◌, ◌+◌, List, ℕ, Err, length, map, IfOk, slice_index_or};
 ghost use Rattle.outer_io.specs.Each.{Each};
 ghost use Rattle.receivers.specs.Orders.{IsOrderOf, IsOrderedSlot, IsOrderOfStrangers, AreOrderedStrangers};
 ghost use Rattle.meter_address.specs.Commission.{Commissioned};
+ghost use Rattle.meter_slots.specs.Journal.{SlotView};
 ghost use Rattle.audit_check_main.specs.Hearing.{sort_of, tells, told_at};
+ghost use Rattle.audit_check_main.specs.MeterSteps.{HasStepped};
 ghost use Rattle.audit_check_main.specs.Stepping.{IsEventFor};
 
+use crate::comparing::Comparing;
 use crate::hearing::{Hearing, Sort, list_of};
+use crate::meter_steps::MeterSteps;
 use crate::printed::Order;
 use meter_address::{Address, Commission};
-use meter_slots::{Directory, SlotBook};
+use meter_slots::Directory;
 use outer_io::Memory;
 use receivers::Told;
 use std::alloc::Global;
@@ -48,20 +52,21 @@ impl From<Memory> for Unmade {
     }
 }
 
-/// The slot of a meter after its own lines, in this order of them.
+/// Puts the lines of a meter's steps after its own lines in this order of them, and keeps what they come to.
 pub(crate) fn step_meter(
     alloc: Global,
     own: Address,
     commission: Commission,
     heard: &[Hearing<'_>],
     order: &[(u32, u32)],
-) -> Result<SlotBook, Unmade>
-    ensures slot { IfOk result (λ slot. IsOrderOf commission.address (map tells heard.now) order.now
-        → IsOrderedSlot own (map tells heard.now) commission order.now slot) }
-    ensures own_lines { IfOk result (λ slot. Each (λ p. IsEventFor commission.address (told_at heard.now p.0 p.1)) order.now) }
+    paper: &mut Comparing<'_>,
+) -> Result<MeterSteps, Unmade>
+    ensures stepped { IfOk result (λ steps. (slot : SlotView) → IsOrderedSlot own (map tells heard.now) commission order.now slot
+        → HasStepped slot paper.old steps paper.new) }
+    ensures own_lines { IfOk result (λ steps. Each (λ p. IsEventFor commission.address (told_at heard.now p.0 p.1)) order.now) }
     ensures stray { result ≡ Err Unmade.Stray → IsOrderOf commission.address (map tells heard.now) order.now → ⊥ }
 {
-    let mut slot = SlotBook::new(alloc, own, commission);
+    let mut steps = MeterSteps::new(alloc, own, commission);
     for pair in order {
         let Told::Event(address, event) = told_at(heard, pair.0, pair.1) else {
             return Err(Unmade::Stray);
@@ -69,9 +74,9 @@ pub(crate) fn step_meter(
         if address.0 != commission.address.0 {
             return Err(Unmade::Stray);
         }
-        slot.step(pair.0, pair.1, event)?;
+        steps.step(pair.0, pair.1, &event, paper)?;
     }
-    Ok(slot)
+    Ok(steps)
 }
 
 /// The strangers after their lines, in this order of them.

@@ -1,10 +1,8 @@
 //! A session of one stranger's line, and reports that differ from it.
 ghost use Rattle.std.specs.Prelude.{◌≡◌, []};
 
-use crate::claims::{Claims, claims_of};
-use crate::printed::Order;
 use crate::{AuditStatus, Cause, audit_run};
-use outer_io::{Memory, MemorySink, MemorySource};
+use outer_io::{MemorySink, MemorySource};
 use std::alloc::{AllocError, Global};
 use std::test::Fail;
 
@@ -75,36 +73,6 @@ fn each_verdict_is_printed(rt: HostRuntime) -> Result<(), Fail> {
         let got = audited(rt.alloc(), roster, report, fail, &mut out)?;
         assert_eq!(rt; got, status);
         assert_eq!(rt; out.bytes(), printed);
-    }
-    Ok(())
-}
-
-// What two lists claim of the lines of two receivers.
-fn two_lists_claims(alloc: Global) -> Result<Claims, Memory> {
-    let mut first = Order::new(alloc);
-    first.push((1, 2))?;
-    first.push((2, 131_072))?;
-    let mut second = Order::new(alloc);
-    second.push((1, 1))?;
-    second.push((1, 131_073))?;
-    second.push((3, 1))?;
-    let mut lists = Vec::new(alloc);
-    lists.push(first)?;
-    lists.push(second)?;
-    claims_of(alloc, 2, lists.as_slice())
-}
-
-#[test]
-fn lists_claim_the_lines_that_receivers_can_have(rt: HostRuntime) -> Result<(), Fail> {
-    let claims = two_lists_claims(rt.alloc());
-    assert!(rt; claims.is_ok());
-    if let Ok(claims) = claims {
-        assert_eq!(rt; claims.list_of(0, 1), Some(1));
-        assert_eq!(rt; claims.list_of(0, 2), Some(0));
-        assert_eq!(rt; claims.list_of(0, 3), None);
-        assert_eq!(rt; claims.list_of(0, 131_073), None);
-        assert_eq!(rt; claims.list_of(1, 131_072), Some(0));
-        assert_eq!(rt; claims.list_of(2, 1), None);
     }
     Ok(())
 }

@@ -97,8 +97,8 @@ fn hear_all<R: Threads + Wait + Sync, S: Source + Send + Drop, K: Sink + Send + 
     make_ready(alloc, roster.own(), collected, ends)
 }
 
-// Writes a report by its slots' parts, or from the slots where there are none.
-fn write_report<K: Sink>(
+/// Writes a report by its slots' parts, or from the slots where there are none.
+pub(crate) fn write_report<K: Sink>(
     session: &Session<'_>,
     parts: &Option<Vec<MeterPart<'_>>>,
     sink: &mut K,

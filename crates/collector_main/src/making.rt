@@ -9,21 +9,23 @@ ghost use Rattle.collector_main.specs.MadeRun.{IsMadeRun, made_outputs};
 ghost use Rattle.collector_main.specs.Ready.{HearsText, IsMadeTogether};
 ghost use Rattle.collector_main.specs.Statuses.{Wrote};
 
+use crate::at_once::{let_go, parts_made};
+use crate::collecting::write_report;
 use crate::status::Status;
 use crate::stops::{Writes, unwritten};
 use crate::together::{HeardTogether, hear_together};
-use made_input::{HeardText, Made, NoDownlinks, Summary, make};
+use made_input::{HeardText, Made, MadeText, NoDownlinks, OWN, Summary, make};
 use outer_io::{Memory, Sink};
 use receivers::Receiver;
-use report_text::{Session, report};
+use report_text::Session;
 use roster_file::read_roster;
 use std::alloc::Global;
 use std::sync::Wait;
 use std::thread::Threads;
 
 // A fresh receiver that hears a text.
-fn receiver_of(text: Vec<u8>) -> Receiver<HeardText, NoDownlinks>
-    ensures { HearsText result text.items }
+fn receiver_of(text: MadeText) -> Receiver<HeardText, NoDownlinks>
+    ensures { HearsText result text }
 {
     Receiver::new(HeardText::new(text), NoDownlinks)
 }
@@ -31,12 +33,12 @@ fn receiver_of(text: Vec<u8>) -> Receiver<HeardText, NoDownlinks>
 // Fresh receivers that hear the texts of a made session.
 fn receivers_of(
     alloc: Global,
-    first: Vec<u8>,
-    second: Vec<u8>,
-    third: Vec<u8>,
-    fourth: Vec<u8>,
+    first: MadeText,
+    second: MadeText,
+    third: MadeText,
+    fourth: MadeText,
 ) -> Result<Vec<Receiver<HeardText, NoDownlinks>>, Memory>
-    ensures { IfOk result (λ receivers. EachWith HearsText receivers.items (first.items ∷ second.items ∷ third.items ∷ fourth.items ∷ [])) }
+    ensures { IfOk result (λ receivers. EachWith HearsText receivers.items (first ∷ second ∷ third ∷ fourth ∷ [])) }
 {
     let mut receivers = Vec::new(alloc);
     receivers.push(receiver_of(first))?;
@@ -65,7 +67,7 @@ fn hear_made<R: Threads + Wait + Sync>(
         second,
         third,
         fourth,
-    } = make(alloc, meters, telegrams, number)?;
+    } = make(rt, alloc, meters, telegrams, number)?;
     // A made roster is one, so that it is refused for want of memory alone.
     let Ok(roster) = read_roster(alloc, roster.as_slice()) else {
         return Err(Memory);
@@ -74,8 +76,11 @@ fn hear_made<R: Threads + Wait + Sync>(
     hear_together(rt, alloc, &roster, &mut receivers)
 }
 
-// Writes the report of a made session and its summary, the second whatever became of the first.
-fn write_made<K: Sink>(
+// Writes the report of a made session and its summary, the second whatever became of the first. What memory there is for parts of the
+// report is taken before anything is written.
+fn write_made<R: Threads + Sync, K: Sink>(
+    rt: &R,
+    alloc: Global,
     heard: &HeardTogether,
     summary: Summary,
     readings: &mut K,
@@ -94,9 +99,10 @@ fn write_made<K: Sink>(
         slots: heard.collected.slots.as_slice(),
         strangers: &heard.collected.strangers,
     };
+    let parts = parts_made(rt, alloc, session.ends.len(), session.slots);
     Writes {
         next: Ok(()),
-        readings: report(&session, readings),
+        readings: write_report(&session, &parts, readings),
         report: paper::write(report_sink, &summary),
     }
 }
@@ -125,6 +131,8 @@ pub fn made_session<R: Threads + Wait + Sync, K: Sink>(
     let Ok(heard) = hear_made(rt, alloc, meters, telegrams, number) else {
         return Status::Memory;
     };
-    let writes = write_made(&heard, Summary { meters, telegrams }, readings, report);
+    let summary = Summary { meters, telegrams };
+    let writes = write_made(rt, alloc, &heard, summary, readings, report);
+    let_go(rt, alloc, OWN, heard.ends.len(), heard.collected.slots);
     unwritten(writes)
 }

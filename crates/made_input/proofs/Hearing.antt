@@ -46,7 +46,7 @@ four_of : (n : ℕ) → min (suc (suc (suc (suc n)))) 4 ≡ 4
 four_of n = min-eq_right (omega arith)
 
 -- the first group, and what is heard behind it
-first_group : {A : Type 0} (by : ℕ) (xs : List A)
+pub first_group : {A : Type 0} (by : ℕ) (xs : List A)
     → heard by xs ≡ rotated by (take (min (length xs) 4) xs) ++ heard by (drop (min (length xs) 4) xs)
 unfolding heard
 first_group by [] = sym (append-nil (rotated by []) ∙ none_rotated (by % 0))
@@ -57,32 +57,9 @@ first_group {A} by (a ∷ b ∷ c ∷ d ∷ later) =
     let xs : List A = a ∷ b ∷ c ∷ d ∷ later in
     ap (λ n. rotated by (take n xs) ++ heard by (drop n xs)) (sym (four_of (length later)))
 
--- the text of one group more
-pub group_put : {X : Type 0} (text : X → List ℕ) (by place : ℕ) (left group later : List X) (old new all : List ℕ)
-    → old ++ concat (map text (heard by left)) ≡ all
-    → place ≡ min (length left) 4 → group ≡ take place left → later ≡ drop place left → new ≡ old ++ concat (map text (rotated by group))
-    → new ++ concat (map text (heard by later)) ≡ all
-group_put text by place left group later old new all h at is_group is_later put =
-    ap (λ t. t ++ concat (map text (heard by later))) put
-    ∙ append_assoc old (concat (map text (rotated by group))) (concat (map text (heard by later)))
-    ∙ ap (λ t. old ++ t) (
-    sym (concat-append (map text (rotated by group)) (map text (heard by later)))
-    ∙ ap concat (sym (map-append text (rotated by group) (heard by later)))
-    ∙ ap (λ xs. concat (map text (rotated by xs ++ heard by later))) (is_group ∙ ap (λ n. take n left) at)
-    ∙ ap (λ xs. concat (map text (rotated by (take (min (length left) 4) left) ++ heard by xs))) (is_later ∙ ap (λ n. drop n left) at)
-    ∙ ap (λ xs. concat (map text xs)) (sym (first_group by left)))
-    ∙ h
-
--- nothing is left
-pub all_put : {X : Type 0} (text : X → List ℕ) (by : ℕ) (left : List X) (old all : List ℕ)
-    → old ++ concat (map text (heard by left)) ≡ all → length left ≡ 0 → old ≡ all
-unfolding heard
-all_put text by [] old all h none = sym (append-nil old) ∙ h
-all_put text by (x ∷ left) old all h none = absurd (omega arith)
-
 -- ---- the texts of what is heard are what is heard of the texts
 
-rotated-map : {X Y : Type 0} (f : X → Y) (by : ℕ) (xs : List X) → map f (rotated by xs) ≡ rotated by (map f xs)
+pub rotated-map : {X Y : Type 0} (f : X → Y) (by : ℕ) (xs : List X) → map f (rotated by xs) ≡ rotated by (map f xs)
 rotated-map f by xs =
     let place = by % length xs in
     map-append f (drop place xs) (take place xs)

@@ -7,3 +7,6 @@ pub mod OwnLines
 pub mod Counting
 pub mod MadeTexts
 pub mod MadeRosters
+pub mod Pieces
+pub mod HeardRuns
+pub mod LinePapers

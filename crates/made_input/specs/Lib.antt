@@ -3,6 +3,7 @@ pub mod Meters
 pub mod Uplinks
 pub mod Lines
 pub mod Made
+pub mod Runs
 pub mod Summary
 pub mod Laws
 pub mod Streams

@@ -2,27 +2,29 @@
 ghost use Rattle.std.specs.Prelude.{◌≡◌, ℕ, ◌+◌, ◌<◌, ◌≤◌, ◌++◌, ◌^◌, List, length, map, IfOk, OnOk};
 ghost use Rattle.std.specs.List.{concat};
 ghost use Rattle.paper.specs.Puts.{Puts};
-ghost use Rattle.made_input.specs.Lines.{telegram_of, frame_line, line_at, lines_of, rotated, heard};
+ghost use Rattle.made_input.specs.Lines.{telegram_of, frame_line, line_at, rotated};
+ghost use Rattle.made_input.specs.Runs.{lines_behind};
 
+use crate::line_paper::written_line;
+use crate::senders::Sender;
 use crate::uplinks::{stranger, uplink};
 use frame_formats::{Telegram, encode_a};
-use meter_address::Commission;
 use outer_io::Memory;
-use paper::{Paper, Printed, put_labelled, put_labelled_bytes, put_text, written};
+use paper::{Paper, Printed, put_labelled, put_labelled_bytes, put_text};
 use std::alloc::Global;
 
 // The telegram with this number: the meters and a stranger take turns.
-fn telegram(alloc: Global, meters: &[Commission], number: u32) -> Result<Telegram, Memory>
+fn telegram(meters: &[Sender], number: u32) -> Telegram
     requires few { length meters.now ≤ 1024 }
     requires counted { (0 < number) × (number < 2 ^ 31) }
-    ensures { IfOk result (λ t. t ≡ telegram_of meters.now number) }
+    ensures { result ≡ telegram_of meters.now number }
 {
     let turns = meters.len() as u32 + 1;
     let turn = (number - 1) % turns;
     let round = 1 + (number - 1) / turns;
     match meters.get(turn as usize) {
-        Some(meter) => uplink(alloc, meter, round),
-        None => Ok(stranger(number)),
+        Some(meter) => uplink(meter, round),
+        None => stranger(number),
     }
 }
 
@@ -46,13 +48,13 @@ impl Printed for FrameLine<'_> {
     }
 }
 
-fn line(alloc: Global, meters: &[Commission], number: u32) -> Result<Vec<u8>, Memory>
+fn line(alloc: Global, meters: &[Sender], number: u32) -> Result<Vec<u8>, Memory>
     requires few { length meters.now ≤ 1024 }
     requires counted { (0 < number) × (number < 2 ^ 31) }
     ensures { IfOk result (λ line. line.items ≡ line_at meters.now number) }
 {
-    let telegram = telegram(alloc, meters, number)?;
-    written(
+    let telegram = telegram(meters, number);
+    written_line(
         alloc,
         &FrameLine {
             number,
@@ -61,19 +63,20 @@ fn line(alloc: Global, meters: &[Commission], number: u32) -> Result<Vec<u8>, Me
     )
 }
 
-/// The lines of so many telegrams.
+/// The lines of so many telegrams behind those before them.
 pub(crate) fn lines(
     alloc: Global,
-    meters: &[Commission],
+    meters: &[Sender],
+    before: u32,
     count: u32,
 ) -> Result<Vec<Vec<u8>>, Memory>
     requires few { length meters.now ≤ 1024 }
-    requires counted { count ≤ 16384 }
-    ensures { IfOk result (λ lines. map (λ l. l.items) lines.items ≡ lines_of meters.now count) }
+    requires counted { before + count ≤ 16384 }
+    ensures { IfOk result (λ lines. map (λ l. l.items) lines.items ≡ lines_behind meters.now before count) }
 {
-    let mut lines = Vec::new(alloc);
+    let mut lines = Vec::with_capacity(alloc, count as usize)?;
     for place in 0..count {
-        lines.push(line(alloc, meters, place + 1)?)?;
+        lines.push(line(alloc, meters, before + place + 1)?)?;
     }
     Ok(lines)
 }
@@ -88,26 +91,12 @@ fn append(text: &mut Vec<u8>, lines: &[Vec<u8>]) -> Result<(), Memory>
     Ok(())
 }
 
-// Appends a group of lines, of which the one at a later place comes first.
-fn append_rotated(text: &mut Vec<u8>, group: &[Vec<u8>], by: usize) -> Result<(), Memory>
+/// Appends a group of lines, of which the one at a later place comes first.
+pub(crate) fn append_rotated(text: &mut Vec<u8>, group: &[Vec<u8>], by: usize) -> Result<(), Memory>
     requires { 0 < length group.now }
-    ensures { OnOk result (text.new.items ≡ text.old.items ++ concat (map (λ l. l.items) (rotated by group.now))) }
+    ensures { OnOk result (text.new.items ≡ text.old.items ++ concat (rotated by (map (λ l. l.items) group.now))) }
 {
     let (before, from) = group.split_at(by % group.len());
     append(text, from)?;
     append(text, before)
-}
-
-/// What a receiver hears: the lines in groups of four, each group rotated by so many places.
-pub(crate) fn heard(alloc: Global, lines: &[Vec<u8>], by: usize) -> Result<Vec<u8>, Memory>
-    ensures { IfOk result (λ text. text.items ≡ concat (map (λ l. l.items) (heard by lines.now))) }
-{
-    let mut text = Vec::new(alloc);
-    let mut left = lines;
-    'groups: while !left.is_empty() {
-        let (group, later) = left.split_at(left.len().min(4));
-        append_rotated(&mut text, group, by)?;
-        left = later;
-    }
-    Ok(text)
 }

@@ -1,6 +1,7 @@
 //! A small session, as another program made it.
 use super::*;
 use paper::written;
+use std::alloc::Global;
 use std::process::Abort;
 use std::test::Fail;
 
@@ -19,7 +20,7 @@ const LINES: [&str; 5] = [
 #[test]
 fn a_small_session_is_as_another_program_made_it(rt: HostRuntime) -> Result<(), Fail> {
     let alloc = rt.alloc();
-    let made = make(alloc, 2, 5, 7)?;
+    let made = make(&rt, alloc, 2, 5, 7)?;
     assert_eq!(rt; made.roster.as_slice(), ROSTER.as_bytes());
     for (text, order) in [
         (&made.first, [0, 1, 2, 3, 4]),
@@ -31,51 +32,59 @@ fn a_small_session_is_as_another_program_made_it(rt: HostRuntime) -> Result<(), 
         for place in order {
             want.push_str(LINES[place])?;
         }
-        assert_eq!(rt; text.as_slice(), want.as_bytes());
+        assert_eq!(rt; text.joined(alloc)?.as_slice(), want.as_bytes());
     }
     Ok(())
 }
 
 // Asserts what the roster's last meter and the last line that the first receiver hears are, as another program makes them.
-fn assert_ends(rt: &impl Abort, made: &Made, meter: &str, line: &str) {
+fn assert_ends(
+    rt: &impl Abort,
+    alloc: Global,
+    made: &Made,
+    meter: &str,
+    line: &str,
+) -> Result<(), Fail> {
+    let first = made.first.joined(alloc)?;
     assert!(rt; made.roster.ends_with(meter.as_bytes()), "{meter}");
-    assert!(rt; made.first.ends_with(line.as_bytes()), "{line}");
+    assert!(rt; first.ends_with(line.as_bytes()), "{line}");
+    Ok(())
 }
 
 #[test]
 fn the_256th_round_is_as_another_program_made_it(rt: HostRuntime) -> Result<(), Fail> {
-    let made = make(rt.alloc(), 1, 512, 3)?;
+    let made = make(&rt, rt.alloc(), 1, 512, 3)?;
     assert_ends(
         &rt,
+        rt.alloc(),
         &made,
         "meter 9315010000000107 7 0658fb1cf7b7275387b403bc94cb9d58 - - 0 0\n",
         "A 512 0e449315999999990107a4f47a00000000515f\n",
-    );
-    Ok(())
+    )
 }
 
 #[test]
 fn the_last_number_is_drawn_from_as_by_another_program(rt: HostRuntime) -> Result<(), Fail> {
-    let made = make(rt.alloc(), 12, 12, u64::MAX)?;
+    let made = make(&rt, rt.alloc(), 12, 12, u64::MAX)?;
     assert_ends(
         &rt,
+        rt.alloc(),
         &made,
         "meter 9315120000000107 7 5a7bdd71f6f0dc29f5103c65a36d8070 - - 0 0\n",
         "A 12 304493151200000001073487900f002c2501000000377fbc00ae7a310ebbbf7a0100100710ed590236dd826770d2ba9f520e92357fb297b4a1\n",
-    );
-    Ok(())
+    )
 }
 
 #[test]
 fn the_last_of_the_most_meters_is_as_another_program_made_it(rt: HostRuntime) -> Result<(), Fail> {
-    let made = make(rt.alloc(), 1_024, 1_024, 5)?;
+    let made = make(&rt, rt.alloc(), 1_024, 1_024, 5)?;
     assert_ends(
         &rt,
+        rt.alloc(),
         &made,
         "meter 9315241000000107 7 92639d6364171f5d82fa04533ea9b97c - - 0 0\n",
         "A 1024 30449315241000000107143c900f002c2501000000a798146b801d682cdf1a7a0100100710d3ab12ec6b9136f7cce3c85df379fb2e9c88e322\n",
-    );
-    Ok(())
+    )
 }
 
 const SUMMARIES: [(u32, u32, &str); 3] = [

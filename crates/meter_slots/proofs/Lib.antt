@@ -2,6 +2,7 @@ pub mod DownlinkLaws
 pub mod JournalLaws
 pub mod Journals
 pub mod KeyLaws
+pub mod Passages
 pub mod PayloadLaws
 pub mod Pieces
 pub mod Places

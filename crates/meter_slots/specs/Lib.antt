@@ -4,6 +4,7 @@ pub mod Journal
 pub mod Keeping
 pub mod Kept
 pub mod Laws
+pub mod Passing
 pub mod Sending
 pub mod Telling
 pub mod World

@@ -45,9 +45,11 @@ impl Model for Standing {
 
 /// What an event is answered, and the reading that is stored with it.
 #[derive(Drop)]
-pub(crate) struct Served {
-    pub(crate) outcome: Outcome,
-    pub(crate) reading: Option<Reading>,
+pub struct Served {
+    /// What is answered.
+    pub outcome: Outcome,
+    /// The reading, where one is stored.
+    pub reading: Option<Reading>,
 }
 
 // How many bytes the payload of what a telegram stores has at most. A whole message is joined to no fragment that is held.

@@ -22,7 +22,7 @@ use Rattle.report_text.specs.declared.lent.ReceiverEnd.{ReceiverEnd}
 use Rattle.report_text.specs.Orders.{Told, lines_in, told, orders, with_line, with_steps, meter_heading, strangers_heading}
 use Rattle.report_text.specs.OrdersLaw.{IsCounted, place_of_step, place_of_stranger, order_of, orders_of}
 use Rattle.paper.specs.Pieces.{optional_text, labelled, labelled_two, labelled_bytes, text_if}
-use Rattle.report_text.specs.Report.{ended_text, counts_text, receiver_text, mode_text, commission_text, numbers_text, step_text}
+use Rattle.report_text.specs.Report.{ended_text, counts_text, receiver_text, mode_text, commission_text, numbers_text, answered_text, step_text}
 use Rattle.report_text.specs.Report.{readings_after, steps_text, last_text, pending_text, journal_text, orders_now, meter_text}
 use Rattle.report_text.specs.Report.{stranger_text, ring_text, strangers_text, report_text}
 use Rattle.report_text.proofs.LineWalks.{IsWithout, ◌⌢◌, literal, Tells, nothing, ◌⨾◌, one_line, same_text, Others, no_others, ◌⨟◌, one_other, others_pass}
@@ -93,7 +93,7 @@ meter_line a mode last down steps kept =
 
 step_tells : (reading : Option Reading) (e : Entry) → IsCounted (place_of_step e)
     → Tells (step_text reading e) (with_steps (place_of_step e ∷ []))
-unfolding step_text
+unfolding answered_text
 step_tells reading e small = step_line e.source e.line _ small.0 small.1 (outcome_is reading e.outcome)
 
 steps_tell : (kept : List Reading) (journal : List Entry) → AllByRecursion IsCounted (map place_of_step journal)

@@ -19,6 +19,7 @@ use Rattle.meter_slots.specs.declared.entry.Outcome.TheVariants.{Stored}
 use Rattle.meter_slots.specs.declared.reading.Reading.{Reading}
 use Rattle.meter_slots.specs.Journal.{SlotView, last_counter, orders, readings}
 use Rattle.record_text.specs.RecordText.{records_text}
+use Rattle.report_text.specs.declared.lent.MeterLine.{MeterLine}
 use Rattle.report_text.specs.declared.lent.ReceiverEnd.{ReceiverEnd}
 use Rattle.layer_text.specs.Letters.{letters_text}
 use Rattle.paper.specs.Pieces.{optional_text, labelled, labelled_two, labelled_bytes, text_if}
@@ -59,9 +60,18 @@ numbers_text last down steps kept =
     codes " last " ++ optional_text last ++ labelled (codes " down ") down
     ++ labelled (codes " steps ") steps ++ labelled (codes " readings ") kept ++ codes "\n"
 
+-- the line of a meter
+abbrev pub meter_line_text : MeterLine → List ℕ
+meter_line_text l = commission_text l.address l.mode ++ numbers_text l.last l.down l.steps l.readings
+
+-- a step: its receiver, its line there, and what was answered, with the reading of what is stored
+unfoldable pub answered_text : (source line : ℕ) → Outcome → Option Reading → List ℕ
+answered_text source line outcome reading =
+    labelled_two (codes "step ") source line ++ codes " " ++ outcome_text reading outcome ++ codes "\n"
+
 -- an entry, with the reading of what it stores
-unfoldable pub step_text : Option Reading → Entry → List ℕ
-step_text reading e = labelled_two (codes "step ") e.source e.line ++ codes " " ++ outcome_text reading e.outcome ++ codes "\n"
+abbrev pub step_text : Option Reading → Entry → List ℕ
+step_text reading e = answered_text e.source e.line e.outcome reading
 
 -- the readings that are left for later entries: each stored message has one
 abbrev pub readings_after : Outcome → List Reading → List Reading
@@ -92,6 +102,17 @@ journal_text kept journal commands = steps_text kept journal ++ last_text kept +
 -- the commands after the journal
 abbrev pub orders_now : SlotView → Orders
 orders_now b = orders b.commission (reverse b.journal)
+
+-- what the line of a slot says
+abbrev pub line_of : SlotView → MeterLine
+line_of b = record {
+  address = b.commission.address;
+  mode = b.commission.mode;
+  last = last_counter b.commission (reverse b.journal);
+  down = (orders_now b).down;
+  steps = length b.journal;
+  readings = length (readings b.commission b.journal);
+}
 
 unfoldable pub meter_text : SlotView → List ℕ
 meter_text b =

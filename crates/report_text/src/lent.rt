@@ -1,4 +1,5 @@
 //! What a report is made of.
+use meter_address::{Address, Mode};
 use meter_slots::{Counts, Ended, SlotBook};
 use stranger_ring::Strangers;
 
@@ -9,6 +10,23 @@ pub struct ReceiverEnd {
     pub counts: Counts,
     /// How it ended.
     pub ended: Ended,
+}
+
+/// What the line of a meter says.
+#[derive(Clone, Copy, Debug, PartialEq, Eq)]
+pub struct MeterLine {
+    /// The meter.
+    pub address: Address,
+    /// How its messages are secured.
+    pub mode: Mode,
+    /// Its last counter or access number.
+    pub last: Option<u32>,
+    /// The last counter of a downlink.
+    pub down: u32,
+    /// How many steps its slot made.
+    pub steps: usize,
+    /// How many readings are stored.
+    pub readings: usize,
 }
 
 /// A session, lent for its report.

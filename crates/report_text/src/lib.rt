@@ -11,10 +11,13 @@ mod readings;
 mod writing;
 
 pub use laws::{json_lists_the_report, orders_are_told};
-pub use lent::{ReceiverEnd, Session};
+pub use lent::{MeterLine, ReceiverEnd, Session};
 pub use parts::{MeterPart, meter_parts, report_of_parts};
 pub use readings::readings_json;
-pub use writing::{put_end, put_head, put_meter, put_strangers, report};
+pub use writing::{
+    put_end, put_head, put_last_records, put_meter, put_meter_line, put_pending, put_step,
+    put_strangers, report,
+};
 
 #[cfg(test)]
 mod tests;

@@ -8,11 +8,11 @@ ghost use Rattle.stranger_ring.specs.Ring.{ring_of};
 ghost use Rattle.record_text.specs.RecordText.{records_text};
 ghost use Rattle.paper.specs.Pieces.{text_if};
 ghost use Rattle.report_text.specs.Report.{ended_text, counts_text, receiver_text};
-ghost use Rattle.report_text.specs.Report.{mode_text, commission_text, numbers_text, meter_text};
-ghost use Rattle.report_text.specs.Report.{step_text, readings_after, steps_text, last_text, pending_text, journal_text};
+ghost use Rattle.report_text.specs.Report.{mode_text, commission_text, numbers_text, meter_line_text, line_of, meter_text};
+ghost use Rattle.report_text.specs.Report.{answered_text, readings_after, steps_text, last_text, pending_text, journal_text};
 ghost use Rattle.report_text.specs.Report.{stranger_text, ring_text, strangers_text, head_text, report_around, report_text};
 
-use crate::lent::{ReceiverEnd, Session};
+use crate::lent::{MeterLine, ReceiverEnd, Session};
 use crate::outcomes::put_outcome;
 use command_queue::{Command, Queue};
 use layer_text::put_letters;
@@ -68,18 +68,20 @@ fn put_receivers<P: Paper>(paper: &mut P, ends: &[ReceiverEnd])
     }
 }
 
-#[tactic(auto, unfolding(crate::specs::Report::step_text), using(paper::proofs::Calls::four_make))]
-fn put_step<P: Paper>(paper: &mut P, reading: Option<&Reading>, entry: &Entry)
-    ensures { Puts P.takes paper.old (step_text (option_copied reading.entry) entry.now) paper.new }
+/// Puts the line of a step: what was answered to this line of a receiver, with the reading that is stored.
+#[tactic(auto, unfolding(crate::specs::Report::answered_text), using(paper::proofs::Calls::four_make))]
+pub fn put_step<P: Paper>(
+    paper: &mut P,
+    source: u32,
+    line: u32,
+    outcome: &Outcome,
+    reading: Option<&Reading>,
+)
+    ensures { Puts P.takes paper.old (answered_text source line outcome.now (option_copied reading.entry)) paper.new }
 {
-    put_labelled_two(
-        paper,
-        "step ",
-        u64::from(entry.source),
-        u64::from(entry.line),
-    );
+    put_labelled_two(paper, "step ", u64::from(source), u64::from(line));
     put_text(paper, " ");
-    put_outcome(paper, reading, &entry.outcome);
+    put_outcome(paper, reading, outcome);
     put_text(paper, "\n");
 }
 
@@ -99,13 +101,20 @@ fn put_steps<P: Paper>(paper: &mut P, readings: &[Reading], journal: &[Entry])
 {
     let mut left = readings;
     for entry in journal {
-        put_step(paper, left.first(), entry);
+        put_step(
+            paper,
+            entry.source,
+            entry.line,
+            &entry.outcome,
+            left.first(),
+        );
         left = readings_after(&entry.outcome, left);
     }
 }
 
+/// Puts the records of a meter's last reading, where there is one.
 #[tactic(auto, using(paper::proofs::Calls::none))]
-fn put_records_of<P: Paper>(paper: &mut P, reading: Option<&Reading>)
+pub fn put_last_records<P: Paper>(paper: &mut P, reading: Option<&Reading>)
     ensures { Puts P.takes paper.old (text_if (λ r. records_text r.payload) (option_copied reading.entry)) paper.new }
 {
     match reading {
@@ -118,7 +127,7 @@ fn put_records_of<P: Paper>(paper: &mut P, reading: Option<&Reading>)
 fn put_last<P: Paper>(paper: &mut P, readings: &[Reading])
     ensures { Puts P.takes paper.old (last_text readings.now) paper.new }
 {
-    put_records_of(paper, readings.last())
+    put_last_records(paper, readings.last())
 }
 
 #[tactic(auto, unfolding(crate::specs::Report::pending_text), using(paper::proofs::Calls::two_make))]
@@ -144,8 +153,9 @@ fn put_command_if<P: Paper>(paper: &mut P, command: Option<&Command>)
     }
 }
 
+/// Puts the commands that wait.
 #[tactic(auto, using(paper::proofs::Calls::none))]
-fn put_pending<P: Paper>(paper: &mut P, queue: &Queue)
+pub fn put_pending<P: Paper>(paper: &mut P, queue: &Queue)
     ensures { Puts P.takes paper.old (flat_map pending_text queue.now.commands) paper.new }
 {
     for place in 0..queue.pending() {
@@ -194,17 +204,37 @@ fn put_numbers<P: Paper>(paper: &mut P, last: Option<u32>, down: u32, steps: usi
     put_text(paper, "\n");
 }
 
+/// Puts the line of a meter.
+#[tactic(auto, using(paper::proofs::Calls::two_make))]
+pub fn put_meter_line<P: Paper>(paper: &mut P, line: &MeterLine)
+    ensures { Puts P.takes paper.old (meter_line_text line.now) paper.new }
+{
+    put_commission(paper, line.address, line.mode);
+    put_numbers(paper, line.last, line.down, line.steps, line.readings);
+}
+
+// The line of a slot.
+fn line_of(slot: &SlotBook) -> MeterLine
+    ensures { result ≡ line_of slot.now }
+{
+    let now = slot.commission();
+    MeterLine {
+        address: now.address,
+        mode: now.mode,
+        last: now.last,
+        down: now.down,
+        steps: slot.journal().len(),
+        readings: slot.readings().len(),
+    }
+}
+
 /// Puts what a report says of a meter: its line, its journal, the records of its last reading, and its waiting commands.
-#[tactic(auto, unfolding(crate::specs::Report::meter_text), using(paper::proofs::Calls::three_make))]
+#[tactic(auto, unfolding(crate::specs::Report::meter_text), using(paper::proofs::Calls::two_make))]
 pub fn put_meter<P: Paper>(paper: &mut P, slot: &SlotBook)
     ensures { Puts P.takes paper.old (meter_text slot.now) paper.new }
 {
-    let now = slot.commission();
-    let journal = slot.journal();
-    let readings = slot.readings();
-    put_commission(paper, now.address, now.mode);
-    put_numbers(paper, now.last, now.down, journal.len(), readings.len());
-    put_journal(paper, readings, journal, slot.queue());
+    put_meter_line(paper, &line_of(slot));
+    put_journal(paper, slot.readings(), slot.journal(), slot.queue());
 }
 
 #[tactic(auto, using(paper::proofs::Calls::none, paper::proofs::Calls::then))]

@@ -21,7 +21,7 @@ use std::snapshot::Snapshot;
 use std::sync::{Mutex, Wait};
 
 // How often a caller looks before it goes to the gate.
-const LOOKS: u32 = 4000;
+const LOOKS: u32 = 1000;
 
 /// There was no memory for a cell. The book comes back.
 #[derive(Drop)]

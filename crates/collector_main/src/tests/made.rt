@@ -138,12 +138,12 @@ fn made_lines_are_collected_with_the_numbers_of_the_summary(rt: HostRuntime) -> 
         second,
         third,
         fourth,
-    } = make(alloc, 50, 5_000, 7)?;
+    } = make(&rt, alloc, 50, 5_000, 7)?;
     let mut receivers = vec![in alloc;
-        hears(alloc, first),
-        hears(alloc, second),
-        hears(alloc, third),
-        hears(alloc, fourth),
+        hears(alloc, first.joined(alloc)?),
+        hears(alloc, second.joined(alloc)?),
+        hears(alloc, third.joined(alloc)?),
+        hears(alloc, fourth.joined(alloc)?),
     ]?;
     let mut report = MemorySink::steady(alloc);
     let status = collect(

@@ -1,9 +1,8 @@
-use Rattle.std.proofs.Common.{◌≡◌, [], length, map}
-use Rattle.audit_check_main.proofs.HeardLists.{HasHeardSo}
+use Rattle.std.proofs.Common.{map, take}
+use Rattle.std.specs.Str.Lines.{lines}
+use Rattle.receivers.specs.Told.{told_of}
+use Rattle.audit_check_main.proofs.HeardLists.{HaveComeTo}
 use Rattle.audit_check_main.proofs.hearing.hear.Given as goal
 
-abbrev pub invariant-lines : goal.invariant-lines
-invariant-lines l = HasHeardSo l.meters l.input (l.claims ≡ []) (map (λ t. t.now) l.lines.items) l.texts l.lists.items l.classes.items
-
-abbrev pub decreases-lines : goal.decreases-lines
-decreases-lines l = length l.texts
+abbrev pub invariant-loop-place : goal.invariant-loop-place
+invariant-loop-place l = HaveComeTo l.meters (map told_of (take l.place (lines l.input))) l.lists.items l.classes.items

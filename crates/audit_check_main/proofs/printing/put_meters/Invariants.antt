@@ -5,8 +5,8 @@ use Rattle.audit_check_main.specs.Stepping.{IsOrderOfEach}
 use Rattle.audit_check_main.proofs.printing.put_meters.Given as goal
 
 abbrev pub invariant-loop-list : goal.invariant-loop-list
-invariant-loop-list g l = record {
+invariant-loop-list l = record {
   put : IsOrderOfEach (map tells l.heard) l.meters l.lists
-      → AreMetersPut g.P.Paper.takes l.own (map tells l.heard) (take l.list l.meters) l.lists l.initial.paper l.paper;
+      → AreMetersPut l.own (map tells l.heard) (take l.list l.meters) l.lists l.initial.paper l.paper;
   own_lines : AreListedBelow l.list (map (λ c. c.address) l.meters) l.heard l.lists;
 }

@@ -1,12 +1,15 @@
-use Rattle.std.proofs.Common.{◌≡◌, ◌∙◌, ℕ, map, reverse, refl, sym, ap, subst, arith}
-use Rattle.meter_slots.specs.Journal.{SlotView, outcome}
+use Rattle.std.proofs.Common.{◌≡◌, ◌∙◌, ℕ, List, map, take, refl, sym, ap, subst, arith}
+use Rattle.meter_slots.specs.declared.entry.Entry.{Entry}
+use Rattle.meter_slots.specs.Journal.{SlotView}
 use Rattle.meter_address.specs.declared.address.Address.{Address}
 use Rattle.meter_address.specs.Commission.{Commissioned}
 use Rattle.receivers.specs.declared.told.Told.TheVariants as told
 use Rattle.receivers.proofs.OrderLaws.{slot_exists}
 use Rattle.audit_check_main.specs.Hearing.{tells, told_at}
+use Rattle.audit_check_main.specs.MeterSteps.{HasStepped}
 use Rattle.audit_check_main.specs.Stepping.{IsEventFor}
 use Rattle.audit_check_main.proofs.Claimed.{each_more, each_whole}
+use Rattle.audit_check_main.proofs.SteppedLines.{same_slot}
 use Rattle.audit_check_main.proofs.Steps.{step_told, step_more, all_stepped}
 use Rattle.audit_check_main.proofs.stepping.step_meter.Goals as goal
 
@@ -29,34 +32,48 @@ returns-then-address-commission-clause-stray c = λ _ right.
     let there = ap (λ (a : Address). a.0) same in
     let mine = t.1.1.1 in c.if-address-commission.true (omega arith)
 
+pub loop-pair-init : goal.loop-pair-init
+loop-pair-init c = record {
+  so = λ target h. c.new-steps.ensures.stepped c.args.paper.now;
+  own_lines = tt;
+  steps_are = c.new-steps.ensures.steps;
+  few = let none = c.new-steps.ensures.readings in omega arith;
+}
+
+pub step-requires-clause-steps : goal.step-requires-clause-steps
+step-requires-clause-steps c =
+    let so = c.loop-pair.invariant.steps_are in let inside = c.loop-pair-test.true in omega arith
+
 pub loop-pair-preserved : goal.loop-pair-preserved
 loop-pair-preserved c =
-    let so = c.loop-pair.invariant in
-    let stepped = c.in_ok-step.ensures.journal in record {
-      own_is = ap (λ (s : SlotView). s.own) stepped ∙ so.own_is;
-      commission_is = ap (λ (s : SlotView). s.commission) stepped ∙ so.commission_is;
+    let so = c.loop-pair.invariant in record {
       so = λ target h.
-          ap (λ (s : SlotView). s.journal) stepped
-          ∙ step_more c.args.own c.args.heard.now c.args.commission c.args.order.now target h c.loop-pair.pair-index _ c.in-Event.address
-          c.in-Event.event c.in_ok-step.field-0 c.loop-pair.slot.journal c.loop-pair-test.true refl (so.so target h)
-          (sym c.told_at.ensures ∙ c.in-Event.is)
-          (c.in_ok-step.ensures.outcome
-          ∙ (λ i. outcome (so.commission_is i) (so.own_is i) (reverse c.loop-pair.slot.journal) c.in-Event.event));
+          let now : SlotView = record {
+            own = c.args.own;
+            commission = c.args.commission;
+            journal = take c.loop-pair.pair-index target.journal;
+          } in
+          same_slot _ _ _ _ _ (ap (λ (js : List Entry). let v : SlotView = record { own = c.args.own; commission = c.args.commission; journal = js } in v)
+          (step_more c.args.own c.args.heard.now c.args.commission c.args.order.now target h c.loop-pair.pair-index _ c.in-Event.address
+          c.in-Event.event _ (take c.loop-pair.pair-index target.journal) c.loop-pair-test.true refl refl
+          (sym c.told_at.ensures ∙ c.in-Event.is) refl))
+          (c.in_ok-step.ensures.stepped now _ (so.so target h));
       own_lines =
           each_more (λ (p : ℕ × ℕ). IsEventFor c.args.commission.address (told_at c.args.heard.now p.0 p.1)) c.args.order.now
           c.loop-pair.pair-index _ (0, 0) so.own_lines c.loop-pair-test.true refl
           (subst (IsEventFor c.args.commission.address) (sym c.in-Event.is ∙ c.told_at.ensures)
           (let opened = ap (λ (m : Commissioned). m.address.0) c.commission.view_is in
           let same = c.if-address-commission.false in omega arith));
+      steps_are = let more = c.in_ok-step.ensures.steps in let before = so.steps_are in omega arith;
+      few = c.in_ok-step.ensures.readings;
     }
 
-pub returns-clause-slot : goal.returns-clause-slot
-returns-clause-slot c = λ right.
-    let target = slot_exists c.args.own c.args.commission (map tells c.args.heard.now) c.args.order.now right in
+pub returns-clause-stepped : goal.returns-clause-stepped
+returns-clause-stepped c = λ target h.
     let past = c.loop-pair-test.false in let inside = c.loop-pair.auto.pair-index-end in
-    let so = c.loop-pair.invariant in
-    all_stepped c.args.own c.args.heard.now c.args.commission c.args.order.now target.0 target.1 c.loop-pair.slot c.loop-pair.pair-index
-    so.own_is so.commission_is (omega arith) (so.so target.0 target.1)
+    same_slot _ _ _ _ _
+    (all_stepped c.args.own c.args.heard.now c.args.commission c.args.order.now target h c.loop-pair.pair-index (omega arith))
+    (c.loop-pair.invariant.so target h)
 
 pub returns-clause-own_lines : goal.returns-clause-own_lines
 returns-clause-own_lines c =

@@ -1,16 +1,18 @@
-use Rattle.std.proofs.Common.{◌≡◌, map, take}
+use Rattle.std.proofs.Common.{◌≡◌, ◌≤◌, map, take}
 use Rattle.outer_io.specs.Each.{Each}
 use Rattle.meter_slots.specs.Journal.{SlotView}
 use Rattle.receivers.specs.Orders.{IsOrderedSlot}
 use Rattle.audit_check_main.specs.Hearing.{tells, told_at}
+use Rattle.audit_check_main.specs.MeterSteps.{HasStepped}
 use Rattle.audit_check_main.specs.Stepping.{IsEventFor}
 use Rattle.audit_check_main.proofs.stepping.step_meter.Given as goal
 
 abbrev pub invariant-loop-pair : goal.invariant-loop-pair
 invariant-loop-pair l = record {
-  own_is : l.slot.own ≡ l.fn.own;
-  commission_is : l.slot.commission ≡ l.fn.commission;
   so : (target : SlotView) → IsOrderedSlot l.fn.own (map tells l.heard) l.fn.commission l.order target
-      → l.slot.journal ≡ take l.pair-index target.journal;
+      → HasStepped (record { own = l.fn.own; commission = l.fn.commission; journal = take l.pair-index target.journal }) l.initial.paper
+      l.steps l.paper;
   own_lines : Each (λ p. IsEventFor l.fn.commission.address (told_at l.heard p.0 p.1)) (take l.pair-index l.order);
+  steps_are : l.steps.steps ≡ l.pair-index;
+  few : l.steps.readings ≤ l.steps.steps;
 }

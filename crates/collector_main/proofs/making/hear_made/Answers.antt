@@ -21,8 +21,8 @@ pub returns : goal.returns
 returns g c =
     made_heard _ _ refl (λ x. refl) (λ x. refl) (λ x. refl) (λ x. refl)
     c.args.meters c.args.telegrams c.args.number c.requires.meters.1 c.requires.telegrams.1
-    c.in_ok-roster.field-0 c.roster.inside.roster.items c.roster.inside.first.items c.roster.inside.second.items c.roster.inside.third.items
-    c.roster.inside.fourth.items c.as_slice.result.now c.roster.view_is c.in_ok-roster.ensures c.as_slice.ensures.value c.in-Ok.roster
+    c.in_ok-roster.field-0 c.roster.inside.roster.items c.roster.inside.first c.roster.inside.second c.roster.inside.third
+    c.roster.inside.fourth c.as_slice.result.now c.roster.view_is c.in_ok-roster.ensures c.as_slice.ensures.value c.in-Ok.roster
     c.in-Ok.ensures.found
     c.in_ok-receivers.receivers.items c.hear_together.new.receivers.items c.in_ok-receivers.ensures c.hear_together.result
     c.hear_together.ensures

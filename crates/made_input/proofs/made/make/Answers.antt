@@ -1,45 +1,28 @@
-use Rattle.std.proofs.Common.{◌≡◌, ℕ, List, length, map, ap, ◌∙◌, arith}
-use Rattle.std.specs.List.{concat}
+use Rattle.std.proofs.Common.{List, ℕ, ◌≡◌, length, ap, ap₂, ◌∙◌, arith}
 use Rattle.std.proofs.lemmas.List.FromFn.{length-map-range_with_len}
 use Rattle.roster_file.specs.Text.{roster_text}
-use Rattle.made_input.specs.Meters.{meter_at, meters_of, own_address}
-use Rattle.made_input.specs.Lines.{lines_of, heard}
+use Rattle.roster_file.specs.Roster.{Enrolled}
+use Rattle.made_input.specs.Meters.{meter_at, own_address}
+use Rattle.made_input.specs.Lines.{lines_of}
 use Rattle.made_input.specs.Made.{Session, made}
-use Rattle.made_input.proofs.Hearing.{heard-map}
+use Rattle.made_input.specs.Runs.{Texts, texts_heard}
 use Rattle.made_input.proofs.made.make.Goals as goal
 
-pub lines-requires-clause-few : goal.lines-requires-clause-few
-lines-requires-clause-few c =
-    omega (
-      arith,
-      ap length (c.deref.ensures.value ∙ c.in_ok-meters.ensures),
-      length-map-range_with_len
-          (meter_at c.args.number) 0 c.args.meters,
-      c.requires.meters.1,
-    )
+pub four_texts-requires-clause-few : goal.four_texts-requires-clause-few
+four_texts-requires-clause-few g c =
+    let is_meters = c.deref.ensures.value ∙ c.in_ok-senders.ensures ∙ c.meters.ensures ∙ ap (λ (e : Enrolled). e.meters) c.new-roster.ensures
+    ∙ c.in_ok-drawn_meters.ensures in
+    omega (arith, ap length is_meters, length-map-range_with_len (meter_at c.args.number) 0 c.args.meters, c.requires.meters.1)
 
-abbrev session : List ℕ → List ℕ → List ℕ → List ℕ → List ℕ → Session
-session roster first second third fourth = record { roster = roster; first = first; second = second; third = third; fourth = fourth }
-
-same_session : (a b c d e v w x y z : List ℕ) → a ≡ v → b ≡ w → c ≡ x → d ≡ y → e ≡ z → session a b c d e ≡ session v w x y z
-same_session a b c d e v w x y z av bw cx dy ez =
-    ap (λ t. session t b c d e) av ∙ ap (λ t. session v t c d e) bw ∙ ap (λ t. session v w t d e) cx ∙ ap (λ t. session v w x t e) dy
-    ∙ ap (session v w x y) ez
+abbrev session : List ℕ → Texts → Session
+session roster texts = record { roster = roster; first = texts.first; second = texts.second; third = texts.third; fourth = texts.fourth }
 
 pub returns : goal.returns
-unfolding made
-returns c =
-    let meters = meters_of c.args.meters c.args.number in
-    let is_meters = c.deref.ensures.value ∙ c.in_ok-meters.ensures in
-    let is_lines = c.in_ok-lines.ensures ∙ ap (λ ms. lines_of ms c.args.telegrams) is_meters in
-    let one = c.in_ok-first.ensures
-    ∙ ap concat (heard-map (λ l. l.items) 0 _ ∙ ap (heard 0) (ap (map (λ l. l.items)) c.deref-2.ensures.value ∙ is_lines)) in
-    let two = c.in_ok-second.ensures
-    ∙ ap concat (heard-map (λ l. l.items) 1 _ ∙ ap (heard 1) (ap (map (λ l. l.items)) c.deref-3.ensures.value ∙ is_lines)) in
-    let three = c.in_ok-third.ensures
-    ∙ ap concat (heard-map (λ l. l.items) 2 _ ∙ ap (heard 2) (ap (map (λ l. l.items)) c.deref-4.ensures.value ∙ is_lines)) in
-    let four = c.in_ok-fourth.ensures
-    ∙ ap concat (heard-map (λ l. l.items) 3 _ ∙ ap (heard 3) (ap (map (λ l. l.items)) c.deref-5.ensures.value ∙ is_lines)) in
-    let roster = c.in_ok-roster.ensures
-    ∙ ap roster_text (c.new.ensures ∙ ap (λ ms. record { own = own_address; meters = ms }) c.in_ok-meters.ensures) in
-    same_session _ _ _ _ _ _ _ _ _ _ roster one two three four
+unfolding made texts_heard
+returns g c =
+    let is_meters = c.deref.ensures.value ∙ c.in_ok-senders.ensures ∙ c.meters.ensures ∙ ap (λ (e : Enrolled). e.meters) c.new-roster.ensures
+    ∙ c.in_ok-drawn_meters.ensures in
+    let texts = c.first.view_is ∙ c.in_ok-first.ensures ∙ ap (λ meters. texts_heard (lines_of meters c.args.telegrams)) is_meters in
+    let roster = c.in_ok-roster.ensures ∙ ap roster_text (c.new-roster.ensures
+    ∙ ap (λ meters. record { own = own_address; meters = meters }) c.in_ok-drawn_meters.ensures) in
+    ap₂ session roster texts

@@ -1,0 +1,37 @@
+-- Words of private contracts: a meter's slot whose steps are put one by one, and are then let go.
+use Rattle.std.specs.Prelude.{ℕ, ◌≡◌, [], ◌∷◌, ◌++◌, length, reverse, Option, Some, None}
+use Rattle.meter_slots.specs.declared.entry.Event.{Event}
+use Rattle.meter_slots.specs.declared.reading.Reading.{Reading}
+use Rattle.meter_slots.specs.Journal.{SlotView, outcome, readings}
+use Rattle.meter_slots.specs.Passing.{IsAfter}
+use Rattle.paper.specs.Puts.{Puts}
+use Rattle.report_text.specs.Report.{last_reading, steps_text}
+use Rattle.audit_check_main.specs.declared.meter_steps.MeterSteps.{MeterSteps}
+use Rattle.audit_check_main.specs.Comparing.{Compared, Compares}
+
+-- the last reading after one that there may be
+abbrev pub later_reading : Option Reading → Option Reading → Option Reading
+later_reading last None = last
+later_reading last (Some reading) = Some reading
+
+-- a slot after one more step
+abbrev pub stepped : SlotView → (source line : ℕ) → Event → SlotView
+stepped slot source line event = record slot {
+  journal = slot.journal ++ record {
+    source = source;
+    line = line;
+    event = event;
+    outcome = outcome slot.commission slot.own (reverse slot.journal) event;
+  } ∷ [];
+}
+
+-- what is kept of this slot, whose steps were put
+pub record HasStepped (slot : SlotView) (start : Compared) (kept : MeterSteps) (now : Compared) : Type 0 where
+  pub commission_is : kept.commission ≡ slot.commission
+  pub own_is : kept.slot.own ≡ slot.own
+  pub same_commission : kept.slot.commission ≡ slot.commission
+  pub after : IsAfter slot.journal kept.slot
+  pub steps_are : kept.steps ≡ length slot.journal
+  pub readings_are : kept.readings ≡ length (readings slot.commission slot.journal)
+  pub last_is : kept.last ≡ last_reading (readings slot.commission slot.journal)
+  pub put : Puts Compares start (steps_text (readings slot.commission slot.journal) slot.journal) now

@@ -1,0 +1,13 @@
+//! Whose a line is.
+use meter_address::Address;
+
+/// Whose a line is.
+#[derive(Clone, Copy, Debug, PartialEq, Eq)]
+pub enum Whose {
+    /// It tells something for a meter, one of the roster or a stranger.
+    Meter(Address),
+    /// Bytes that are no frame.
+    Unframed,
+    /// It is outside the grammar.
+    Bad,
+}

@@ -1,0 +1,84 @@
+//! The slot of a meter that keeps no journal.
+use crate::entry::Event;
+use crate::standing::{Served, Standing};
+use command_queue::Queue;
+use meter_address::{Address, Commission};
+use outer_io::Memory;
+use std::alloc::Global;
+use std::marker::Model;
+
+/// The slot of a meter that keeps no journal: what a step answers is told to the caller alone.
+#[derive(Drop)]
+pub struct PassingSlot {
+    alloc: Global,
+    own: Address,
+    opening: Commission,
+    standing: Standing,
+}
+
+impl Model for PassingSlot {
+    ghost use Rattle.meter_slots.specs.Passing.{Passing};
+
+    ghost Value = { Passing };
+
+    ghost view = { λ s. record { own = s.own; commission = s.opening; kept = s.standing } };
+}
+
+impl PassingSlot {
+    ghost use Rattle.std.specs.Prelude.{◌≡◌, ℕ, List, [], ◌∷◌, ◌++◌, reverse, option_to_list, IfOk, OnErr};
+    ghost use Rattle.meter_slots.specs.declared.entry.Entry.{Entry};
+    ghost use Rattle.meter_slots.specs.Journal.{outcome, readings};
+    ghost use Rattle.meter_slots.specs.Passing.{IsAfter};
+
+    /// A slot to which nothing came yet.
+    pub fn new(alloc: Global, own: Address, commission: Commission) -> PassingSlot
+        ensures own { result.own ≡ own }
+        ensures commission { result.commission ≡ commission }
+        ensures after { IsAfter [] result }
+    {
+        PassingSlot {
+            alloc,
+            own,
+            opening: commission,
+            standing: Standing::new(alloc, commission),
+        }
+    }
+
+    /// One step: what an event is answered, and the reading that is stored with it. For want of memory nothing changes.
+    pub fn step(&mut self, event: &Event) -> Result<Served, Memory>
+        ensures same { (self.new.own ≡ self.old.own) × (self.new.commission ≡ self.old.commission) }
+        ensures outcome { IfOk result (λ served. (journal : List Entry) → IsAfter journal self.old
+            → served.outcome ≡ outcome self.old.commission self.old.own (reverse journal) event.now) }
+        ensures after { IfOk result (λ served. (journal : List Entry) (source line : ℕ) → IsAfter journal self.old
+            → IsAfter (journal ++ record { source = source; line = line; event = event.now; outcome = served.outcome } ∷ []) self.new) }
+        ensures reading { IfOk result (λ served. (journal : List Entry) (source line : ℕ) → IsAfter journal self.old
+            → readings self.old.commission (journal ++ record { source = source; line = line; event = event.now; outcome = served.outcome } ∷ [])
+            ≡ readings self.old.commission journal ++ option_to_list served.reading) }
+        ensures err { OnErr result (self.new ≡ self.old) }
+    {
+        event.show_payload();
+        let served = self.standing.answer(self.alloc, self.own, event)?;
+        Ok(served)
+    }
+
+    /// The last number.
+    pub fn last(&self) -> Option<u32>
+        ensures { result ≡ self.now.kept.last }
+    {
+        self.standing.last()
+    }
+
+    /// The last counter of a downlink.
+    pub fn down(&self) -> u32
+        ensures { result ≡ self.now.kept.orders.down }
+    {
+        self.standing.down()
+    }
+
+    /// The commands that wait.
+    pub fn queue(&self) -> &Queue
+        ensures { result.now ≡ self.now.kept.orders.queue }
+    {
+        self.standing.queue()
+    }
+}
