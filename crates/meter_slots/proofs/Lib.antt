@@ -7,4 +7,5 @@ pub mod PayloadLaws
 pub mod Pieces
 pub mod Places
 pub mod ReadingLaws
+pub mod Repeats
 pub mod Worlds

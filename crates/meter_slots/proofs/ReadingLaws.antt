@@ -119,7 +119,7 @@ unfolding compared5 compared7
 compared_found Five last x f h = passed_found (access_number_passed last x.counter) x f h
 compared_found Seven last x f h = passed_found (counter_passed last x.counter) x f h
 
-opened_found : (mode : Mode) (last : Option ℕ) (g : Result Found Reason) (f : Found)
+pub opened_found : (mode : Mode) (last : Option ℕ) (g : Result Found Reason) (f : Found)
     → stored_or_refused (g >>= compared mode last) ≡ Ok (Some f) → result_ok g ≡ Some f
 opened_found mode last (Err reason) f h = cc
 opened_found mode last (Ok x) f h = compared_found mode last x f h

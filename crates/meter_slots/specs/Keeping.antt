@@ -1,10 +1,11 @@
 -- Words of private contracts: what a slot keeps beside its journal, and what its steps answer.
-use Rattle.std.specs.Prelude.{ℕ, ◌≡◌, ◌+◌, ◌-◌, ◌≤◌, drop, min, true, if◌then◌else◌, List, ◌++◌, length, reverse, Option, Some, None, option_map}
+use Rattle.std.specs.Prelude.{ℕ, ◌≡◌, ◌+◌, ◌-◌, ◌≤◌, drop, min, true, if◌then◌else◌, List, [], ◌++◌, length, reverse, Option, Some, None, option_map}
 use Rattle.std.specs.Prelude.{Result, Ok, Err}
 use Rattle.std.specs.List.{All}
 use Rattle.std.specs.Option.{ForSome}
 use Rattle.meter_address.specs.declared.address.Address.{Address}
 use Rattle.meter_address.specs.declared.commission.Mode.{Mode}
+use Rattle.meter_address.specs.declared.commission.Mode.TheVariants.{Seven}
 use Rattle.meter_address.specs.Commission.{Commissioned, most_last}
 use Rattle.afl_layer.specs.declared.header.Afl.{Afl}
 use Rattle.access_window.specs.Orders.{Orders}
@@ -18,7 +19,8 @@ use Rattle.message_check.specs.Opened.{found_in}
 use Rattle.message_check.specs.declared.headers.Layers.{Layers}
 use Rattle.message_check.specs.declared.opening.Opened.{Opened}
 use Rattle.message_check.specs.declared.refusal.Reason.{Reason}
-use Rattle.meter_slots.specs.Journal.{Standing, Legal, other_after, other_key, rekeyed, last_counter, told_by, told, access_at}
+use Rattle.meter_slots.specs.Hearing.{Whole, content_behind, received, brought}
+use Rattle.meter_slots.specs.Journal.{Standing, Legal, opened_in, told_by_received, other_after, other_key, rekeyed, last_counter, told_by, told, access_at}
 use Rattle.meter_slots.specs.Journal.{orders_after, orders, judged, readings}
 use Rattle.meter_slots.specs.Laws.{PutsPayload}
 use Rattle.meter_slots.specs.declared.entry.Entry.{Entry}
@@ -38,6 +40,31 @@ pub record Kept : Type 0 where
   pub last : Option ℕ
   pub parts : List HeldPart
   pub orders : Orders
+
+-- a telegram that is kept in mind, and the counter of its message
+pub record Known : Type 0 where
+  pub bytes : List ℕ
+  pub counter : ℕ
+
+-- a telegram that alone brings a genuine message of mode 7 with this counter
+pub record Brings (c : Commissioned) (k : Known) : Type 0 where
+  pub mode : c.mode ≡ Seven
+  pub layers : Layers
+  pub received_is : received c.mode k.bytes ≡ Ok layers
+  pub message : Message
+  pub whole : content_behind k.bytes layers ≡ Whole message
+  pub found : Found
+  pub genuine : opened_in c.mode c message ≡ Ok found
+  pub counter : found.counter ≡ k.counter
+
+-- a telegram that is refused whatever was told of fragments, and tells nothing of them
+pub record IsRefusedAlone (c : Commissioned) (last : Option ℕ) (t : List ℕ) (reason : Reason) : Type 0 where
+  pub refused : (told : List Told) → judged c last (brought told t (received c.mode t)) ≡ Err reason
+  pub tells : (later : List Told) → told_by_received t (received c.mode t) later ≡ []
+
+-- a verdict that is that of a whole message, where these layers have one behind them
+abbrev pub IsOfWhole : Bar → List ℕ → Result Layers Reason → Result (Option Found) Reason → Type 0
+IsOfWhole b t layers verdict = (l : Layers) (m : Message) → layers ≡ Ok l → content_behind t l ≡ Whole m → verdict ≡ judged b.commission b.last (Ok (Some m))
 
 -- what it stands for, where its fragments are those that are held after what was told
 abbrev pub standing_for : Kept → List Told → Standing

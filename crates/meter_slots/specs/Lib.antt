@@ -2,7 +2,6 @@ pub mod Directory
 pub mod Hearing
 pub mod Journal
 pub mod Keeping
-pub mod Kept
 pub mod Laws
 pub mod Passing
 pub mod Sending

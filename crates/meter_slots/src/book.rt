@@ -3,7 +3,7 @@ ghost use Rattle.std.specs.Prelude.{◌≡◌, ◌<◌, ◌++◌, length, vec_le
 ghost use Rattle.aes_block.specs.Block.{IsBlock};
 
 use crate::entry::{Entry, Event, Outcome};
-use crate::kept::KeptEvent;
+use crate::past::PastEvent;
 use crate::reading::Reading;
 use crate::sent::take_room;
 use crate::standing::Standing;
@@ -145,7 +145,6 @@ impl SlotBook {
     {
         self.entries.reserve(1)?;
         self.readings.reserve(1)?;
-        let kept = KeptEvent::new(self.alloc, &event)?;
         let mut room = take_room(self.alloc, &mut self.room)?;
         event.show_payload();
         let served = self.standing.answer(self.alloc, self.own, &event)?;
@@ -153,7 +152,7 @@ impl SlotBook {
         self.entries.push_reserved(Entry {
             source,
             line,
-            event: kept,
+            event: PastEvent::of(&event),
             outcome: served.outcome.copied(self.alloc, &mut room),
         });
         self.room = room;

@@ -2,7 +2,7 @@
 ghost use Rattle.std.specs.Prelude.{◌≡◌, ◌≤◌, length};
 ghost use Rattle.meter_slots.specs.Laws.{IsPayload};
 
-use crate::kept::KeptEvent;
+use crate::past::PastEvent;
 use crate::sent::SentDownlink;
 use downlink_maker::Downlink;
 use frame_formats::{Format, Telegram};
@@ -120,7 +120,7 @@ pub struct Entry {
     /// The number of its line there, from 1.
     pub line: u32,
     /// What came.
-    pub event: KeptEvent,
+    pub event: PastEvent,
     /// What was answered.
     pub outcome: Outcome,
 }

@@ -1,12 +1,12 @@
 //! Hearing a telegram: its refusals, the message that it brings, and the verdict on that message.
 ghost use Rattle.std.specs.Prelude.{◌≡◌, ◌+◌, ◌≤◌, ◌<◌, ◌++◌, ◌∷◌, ℕ, List, length, drop, Some, Ok, IfOk, OnOk};
-ghost use Rattle.afl_fragments.specs.Held.{Told, Piece, StandsFor, assembled, held, held_bytes};
+ghost use Rattle.afl_fragments.specs.Held.{Told, Piece, Message, StandsFor, assembled, held, held_bytes};
 ghost use Rattle.message_check.specs.Layers.{IsLayers, layers_of};
 ghost use Rattle.message_check.specs.declared.headers.Layers.{Layers};
 ghost use Rattle.meter_slots.specs.Hearing.{is_unasked, is_response, is_uplink, uplink_passed, layers_passed, number_passed};
-ghost use Rattle.meter_slots.specs.Hearing.{fragment_passed, received, auth_in, content_of, message_in, brought};
+ghost use Rattle.meter_slots.specs.Hearing.{fragment_passed, received, Whole, auth_in, content_of, message_in, brought};
 ghost use Rattle.meter_slots.specs.Journal.{given_up, told_with, told_by_received, access_of};
-ghost use Rattle.meter_slots.specs.Keeping.{HasPlace, PieceFits, stored_by, verdict_as, judged_by, most_joined, most_brought, VerdictFits};
+ghost use Rattle.meter_slots.specs.Keeping.{HasPlace, PieceFits, stored_by, verdict_as, judged_by, most_joined, most_brought, VerdictFits, IsOfWhole};
 
 use crate::judge::{Judge, Verdict};
 use afl_fragments::{PARTS_MAX, Part, Parts};
@@ -196,6 +196,7 @@ fn hear_content(
     ensures parts { (told : List Told) → StandsFor parts.old told
         → StandsFor parts.new (told_with (content_of afl bytes.now) (given_up (stored_by (verdict_as message.new result))) ++ told) }
     ensures fits { VerdictFits judge.now.commission.mode message.new (most_joined afl parts.old bytes.now) result }
+    ensures whole { (m : Message) → content_of afl bytes.now ≡ Whole m → verdict_as message.new result ≡ judged_by judge.now (Ok (Some m)) }
 {
     match afl {
         Some(afl) if afl.is_fragment() => {
@@ -241,6 +242,7 @@ pub(crate) fn hear(
     ensures parts { (told : List Told) → StandsFor parts.old told → StandsFor parts.new (told_by_received telegram.now
         (received judge.now.commission.mode telegram.now) (given_up (stored_by (verdict_as message.new result.verdict))) ++ told) }
     ensures fits { VerdictFits judge.now.commission.mode message.new (most_brought layers parts.old telegram.now) result.verdict }
+    ensures whole { IsOfWhole judge.now telegram.now layers (verdict_as message.new result.verdict) }
 {
     match layers {
         Err(reason) => Judged {

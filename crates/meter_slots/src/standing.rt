@@ -10,6 +10,7 @@ use crate::entry::{Event, Outcome};
 use crate::hearing::{has_response_control, hear, receive};
 use crate::judge::{Judge, Verdict};
 use crate::reading::{Bytes, Reading, Room};
+use crate::repeated::LastWhole;
 use crate::sent::take_room;
 use access_window::Window;
 use afl_fragments::Parts;
@@ -33,14 +34,19 @@ pub(crate) struct Standing {
     message: Option<Box<Scratch>>,
     // Room for the next downlink, from the first message on.
     room: Vec<Downlink>,
+    // What may be heard again.
+    heard: LastWhole,
 }
 
 impl Model for Standing {
-    ghost use Rattle.meter_slots.specs.Keeping.{Kept};
+    ghost use Rattle.std.specs.Option.{ForSome};
+    ghost use Rattle.meter_slots.specs.Keeping.{Kept, Brings};
 
     ghost Value = { Kept };
 
     ghost view = { λ s. record { commission = s.judge.commission; last = s.judge.last; parts = s.parts; orders = s.commands } };
+
+    ghost invariant = { λ s. ForSome s.heard (Brings s.judge.commission) };
 }
 
 /// What an event is answered, and the reading that is stored with it.
@@ -117,15 +123,15 @@ fn plain(outcome: Outcome) -> Served
 }
 
 impl Standing {
-    ghost use Rattle.std.specs.Prelude.{◌≡◌, ◌≤◌, ◌++◌, List, option_to_list, IfOk, OnErr};
+    ghost use Rattle.std.specs.Prelude.{◌≡◌, ◌≤◌, ◌++◌, List, option_to_list, IfOk, IfSome, OnErr};
     ghost use Rattle.std.specs.Option.{ForSome};
     ghost use Rattle.meter_address.specs.Commission.{most_last};
     ghost use Rattle.access_window.specs.Moves.{fresh_orders};
     ghost use Rattle.afl_fragments.specs.Held.{Told, StandsFor};
     ghost use Rattle.meter_slots.specs.declared.entry.Event.TheVariants.{Hear};
     ghost use Rattle.frame_formats.specs.declared.format.Format.{Format};
-    ghost use Rattle.meter_slots.specs.Journal.{told_by, access_at, orders_after, answer, stored, reading_of};
-    ghost use Rattle.meter_slots.specs.Keeping.{standing_for, last_after, Moves, StoresInRange};
+    ghost use Rattle.meter_slots.specs.Journal.{told_by, access_at, key_answer, other_given, rekeyed, orders_after, answer, stored, reading_of};
+    ghost use Rattle.meter_slots.specs.Keeping.{standing_for, last_after, Moves, StoresInRange, IsRefusedAlone};
 
     /// Nothing came yet.
     pub(crate) fn new(alloc: Global, commission: Commission) -> Standing
@@ -141,6 +147,7 @@ impl Standing {
             commands: Commands::new(commission.ids, commission.down),
             message: None,
             room: Vec::new(alloc),
+            heard: LastWhole::none(),
         }
     }
 
@@ -203,7 +210,8 @@ impl Standing {
         ensures number { IfOk result (λ served. StoresInRange self.old.commission.mode served.outcome) }
         ensures err { OnErr result (self.new ≡ self.old) }
     {
-        let layers = receive(self.judge.mode(), telegram);
+        let mode = self.judge.mode();
+        let layers = receive(mode, telegram);
         let room = Room::with_capacity(alloc, room_needed(&self.parts, telegram, &layers))?;
         let mut message = take_buffer(alloc, &mut self.message)?;
         let mut sent = take_room(alloc, &mut self.room)?;
@@ -219,9 +227,34 @@ impl Standing {
         );
         self.judge.count(&outcome);
         let reading = reading_from(at, room, &judged.verdict, &message);
+        self.heard.learn(mode, telegram, &layers, &judged.verdict);
         self.message = Some(message);
         self.room = sent;
         Ok(Served { outcome, reading })
+    }
+
+    // Why a telegram is refused that was stored before.
+    fn known_refusal(&self, telegram: &Telegram) -> Option<Reason>
+        ensures { IfSome result (IsRefusedAlone self.now.commission self.now.last telegram.now) }
+    {
+        let got = self.heard.counter_of(telegram)?;
+        let last = self.judge.last()?;
+        if got <= last {
+            Some(Reason::Stale { got, last })
+        } else {
+            None
+        }
+    }
+
+    // Takes a second key, under which what was heard may say something else.
+    fn rekey(&mut self, key: &[u8; 16]) -> Outcome
+        ensures outcome { result ≡ key_answer self.old.commission.mode }
+        ensures after { self.new ≡ record self.old {
+          commission = rekeyed self.old.commission (other_given self.old.commission.mode key.now self.old.commission.other);
+        } }
+    {
+        self.heard.forget();
+        self.judge.rekey(key)
     }
 
     /// Answers an event. For want of memory nothing changes.
@@ -241,14 +274,17 @@ impl Standing {
         ensures err { OnErr result (self.new ≡ self.old) }
     {
         match event {
-            Event::Hear { at, telegram, .. } => Ok(self.hear(alloc, own, *at, telegram)?),
+            Event::Hear { at, telegram, .. } => match self.known_refusal(telegram) {
+                Some(reason) => Ok(plain(Outcome::Refused(reason))),
+                None => Ok(self.hear(alloc, own, *at, telegram)?),
+            },
             Event::Tick => {
                 self.parts.tick();
                 Ok(plain(self.commands.tick()))
             }
             Event::Put(payload) => Ok(plain(self.commands.put(payload))),
             Event::Cancel(id) => Ok(plain(self.commands.cancel(*id))),
-            Event::Rekey(key) => Ok(plain(self.judge.rekey(key))),
+            Event::Rekey(key) => Ok(plain(self.rekey(key))),
         }
     }
 }

@@ -20,7 +20,7 @@ invariant_of-self-2 c =
       c.reserve.ensures.items,
       c.reserve-2.ensures.items,
       c.copied.ensures,
-      c.in_ok-kept.ensures,
+      c.of.ensures,
     )
     (kept_after b.opening b.own b.entries.items b.standing b.readings.items x c.answer.new.self _ c.self.invariant c.show_payload.ensures
     judged
@@ -41,7 +41,7 @@ returns-clause-refused c r =
     let b = c.self.inside in
     let x : Entry = record { source = c.args.source; line = c.args.line; event = c.args.event; outcome = c.in_ok-served.served.outcome } in
     let made : c.push_reserved.new.self.items ≡ b.entries.items ++ x ∷ [] =
-    rw (c.push_reserved.ensures.items, c.reserve.ensures.items, c.copied.ensures, c.in_ok-kept.ensures) refl in
+    rw (c.push_reserved.ensures.items, c.reserve.ensures.items, c.copied.ensures, c.of.ensures) refl in
     let old : SlotView = record { own = b.own; commission = b.opening; journal = b.entries.items } in
     let legal = subst (Legal b.opening b.own) made (invariant_of-self-2 c).legal in
     let left = refused_left b.opening b.own b.entries.items x legal r in

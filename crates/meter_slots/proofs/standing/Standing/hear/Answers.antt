@@ -1,4 +1,4 @@
-use Rattle.std.proofs.Common.{◌≡◌, ℕ, Bool, List, Option, Result, ap, ◌∙◌, subst, option_to_list}
+use Rattle.std.proofs.Common.{◌≡◌, ℕ, Bool, List, Option, Result, sym, ap, ◌∙◌, subst, option_to_list}
 use Rattle.std.specs.Prelude.{slice_index}
 use Rattle.meter_address.specs.Commission.{Commissioned}
 use Rattle.afl_fragments.specs.Held.{StandsFor}
@@ -7,7 +7,7 @@ use Rattle.message_check.specs.Opening.{Found}
 use Rattle.message_check.specs.declared.refusal.Reason.{Reason}
 use Rattle.meter_slots.specs.Hearing.{is_response, received}
 use Rattle.meter_slots.specs.Journal.{verdict, access_of, heard, orders_heard, reading_at, stored_in}
-use Rattle.meter_slots.specs.Keeping.{Kept, standing_for, verdict_as}
+use Rattle.meter_slots.specs.Keeping.{Bar, Brings, Kept, standing_for, verdict_as}
 use Rattle.meter_slots.proofs.standing.Standing.hear.Goals as goal
 
 pub returns-clause-outcome : goal.returns-clause-outcome
@@ -59,3 +59,12 @@ returns-clause-orders c format told =
     ∙ ap (λ (response : Bool). orders_heard b.commands (access k) response given)
     (c.has_response_control-response.ensures ∙ ap is_response c.control.ensures) in
     subst Moved c.self.view_is moved
+
+pub invariant_of-self-2 : goal.invariant_of-self-2
+invariant_of-self-2 c x is =
+    let b = c.self.inside in
+    let same : c.count.new.self.commission ≡ b.judge.commission = ap (λ (w : Bar). w.commission) c.count.ensures in
+    let known : Brings b.judge.commission x =
+    c.learn.ensures b.judge c.hear-judged.new.message (sym c.mode-mode.ensures) c.receive-layers.ensures.exact c.hear-judged.ensures.whole
+    c.self.invariant x is in
+    subst (λ (k : Commissioned). Brings k x) (sym same) known
