@@ -1,3 +1,4 @@
+pub mod Crossing
 pub mod DownlinkLaws
 pub mod JournalLaws
 pub mod Journals
