@@ -1,3 +1,5 @@
+use denote.Param.Send.{sendable}
+use Rattle.std.proofs.Crossing.{crosses}
 use Rattle.std.proofs.Common.{rules, List, map, subst, sym}
 use Rattle.meter_address.specs.declared.address.Address.{Address}
 use Rattle.meter_slots.specs.declared.entry.Event.{Event}
@@ -8,6 +10,7 @@ use Rattle.slot_cells.specs.Books.{opening_of, act_of, IsLegalJournal}
 use Rattle.receivers.specs.Roots.{CanCloseAll, AreLeft}
 use Rattle.receivers.specs.Run.{receiver_runs}
 use Rattle.receivers.proofs.Collecting.{HaveRunOn, have_run_on, can_close_all, whole, collected}
+use Rattle.meter_slots.proofs.Crossing.{slot_send}
 use Rattle.receivers.proofs.session.collect_over.Goals as goal
 
 pub close_each-requires : goal.close_each-requires
@@ -48,3 +51,6 @@ returns-clause-collected g c =
     (λ (b : SlotView). map act_of b.journal) IsLegalJournal c.args.fresh.cells.items l c.in_ok-slots.slots.items)
     (whole c.args.fresh.roots.len c.run_cells.new.roots c.args.fresh.roots.items (search rules) (search rules)) c.in_ok-slots.ensures)
     c.close.ensures.acts
+
+pub run_cells-requires-send-B : goal.run_cells-requires-send-B
+run_cells-requires-send-B g c κs within = search (sendable, crosses, slot_send) depth 40 fits 10000
