@@ -1,0 +1,7 @@
+use denote.Param.Send.{sendable}
+use Rattle.std.proofs.Crossing.{crosses}
+use Rattle.meter_slots.proofs.Crossing.{slot_sync}
+use Rattle.collector_main.proofs.at_once.make_each.Goals as goal
+
+pub for_each_mut-requires-send-T : goal.for_each_mut-requires-send-T
+for_each_mut-requires-send-T g c κs within = search (sendable, crosses, slot_sync) depth 40 fits 10000
