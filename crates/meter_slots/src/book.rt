@@ -18,14 +18,15 @@ use std::marker::Model;
 /// The slot of one commissioned meter: the collector's own address, the commission that it was made with, and its journal.
 #[derive(Drop)]
 pub struct SlotBook {
-    alloc: Global,
-    own: Address,
-    opening: Commission,
-    standing: Standing,
+    // (what every step touches stands side by side, since other processors may have touched it last)
     entries: Vec<Entry>,
     readings: Vec<Reading>,
     // Room for the next downlink in an entry.
     room: Vec<Downlink>,
+    standing: Standing,
+    opening: Commission,
+    own: Address,
+    alloc: Global,
 }
 
 impl Model for SlotBook {

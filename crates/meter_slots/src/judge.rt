@@ -19,9 +19,9 @@ pub(crate) type Verdict = Result<Option<Opened>, Reason>;
 /// A meter's commission with the second key that it has now, its keys made ready once for all messages, and the last number.
 #[derive(Drop)]
 pub(crate) struct Judge {
+    last: Option<u32>,
     commission: Commission,
     keys: MeterKeys,
-    last: Option<u32>,
 }
 
 // A contract sees the commission and the last number alone.

@@ -17,9 +17,9 @@ const TELEGRAM_MAX: usize = 256;
 /// The last telegram that alone brought a message of mode 7 which was stored. Where another receiver heard it too, it is known again by its bytes.
 #[derive(Drop)]
 pub(crate) struct LastWhole {
-    bytes: ArrayVec<u8, TELEGRAM_MAX>,
     // The counter of its message, none where no telegram is kept.
     counter: Option<u32>,
+    bytes: ArrayVec<u8, TELEGRAM_MAX>,
 }
 
 impl Model for LastWhole {

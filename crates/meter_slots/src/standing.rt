@@ -27,15 +27,15 @@ use std::marker::Model;
 /// What a slot keeps of what its entries come to: what messages are judged by, the fragments that are held, and the commands.
 #[derive(Drop)]
 pub(crate) struct Standing {
+    // What may be heard again.
+    heard: LastWhole,
     judge: Judge,
-    parts: Parts,
     commands: Commands,
     // The buffer in which messages are opened, from the first one on.
     message: Option<Box<Scratch>>,
     // Room for the next downlink, from the first message on.
     room: Vec<Downlink>,
-    // What may be heard again.
-    heard: LastWhole,
+    parts: Parts,
 }
 
 impl Model for Standing {

@@ -1,5 +1,5 @@
 -- A slot and the strangers as books.
-use Rattle.std.specs.Prelude.{ℕ, List, map}
+use Rattle.std.specs.Prelude.{List, map}
 use Rattle.meter_address.specs.declared.address.Address.{Address}
 use Rattle.meter_address.specs.Commission.{Commissioned}
 use Rattle.meter_slots.specs.declared.entry.Entry.{Entry}
