@@ -18,7 +18,7 @@ use outer_io::Memory;
 use std::alloc::{AllocFailed, Global};
 use std::marker::Brand;
 use std::snapshot::Snapshot;
-use std::sync::{Mutex, MutexGuard, Wait};
+use std::sync::{Mutex, Wait};
 
 // How often a caller looks before it goes to the gate.
 const LOOKS: u32 = 1000;
@@ -65,6 +65,7 @@ impl<B: Book> BookCell<B> {
                 let cell = BookCell {
                     table,
                     gate: Mutex::new(()),
+                    apart: [0; 7],
                 };
                 Ok((cell, Pass { source, seat }))
             }
@@ -96,17 +97,14 @@ impl<B: Book> BookCell<B> {
         unreachable!()
     }
 
-    // Looks for about as long as some turns take whether the book is back, and the gate free then: to sleep takes longer than a turn.
-    fn look_ahead(&self) -> Option<MutexGuard<'_, ()>> {
+    // Looks for about as long as a turn takes whether the book is back: who comes to the gate then mostly needn't sleep there, which takes
+    // longer than a turn.
+    fn look_ahead(&self) {
         for _ in 0..LOOKS {
             if self.table.shared.peek(0) == self.table.shared.peek(1) {
-                let gate = self.gate.try_lock();
-                if gate.is_some() {
-                    return gate;
-                }
+                return;
             }
         }
-        None
     }
 
     /// Waits for its turn, and makes the call on the book. The pass has then seen a history that begins with what it had seen and ends
@@ -125,10 +123,8 @@ impl<B: Book> BookCell<B> {
         ensures own { IfOk result (λ a. pass.new.own ≡ pass.old.own ++ act pass.old.number line call a ∷ []) }
         ensures memory { OnErr result (StartsWith pass.new.seen pass.old.seen × (pass.new.own ≡ pass.old.own)) }
     {
-        let gate = match self.look_ahead() {
-            Some(gate) => gate,
-            None => self.gate.lock(rt),
-        };
+        self.look_ahead();
+        let gate = self.gate.lock(rt);
         let mut kept = self.take(rt, &mut pass.seat);
         let answer = turn(&mut kept, pass.source, line, call);
         self.give(&mut pass.seat, kept);
@@ -184,7 +180,7 @@ impl<B: Book> BookCell<B> {
         ensures seen { StartsWith (B.acts result) pass.seen }
         ensures acts { (n : ℕ) → acts_by n (B.acts result) ≡ made_by n (mine pass) }
     {
-        let BookCell { table, gate } = self;
+        let BookCell { table, gate, .. } = self;
         drop(gate);
         let Pass { source: _, seat } = pass;
         let mut closed = table.close_with(seat);
