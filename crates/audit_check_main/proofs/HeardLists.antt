@@ -26,7 +26,6 @@ use Rattle.receivers.specs.Session.{event_at, lines_for, stranger_at, lines_of_s
 use Rattle.receivers.specs.Told.{told_of}
 use Rattle.receivers.proofs.Numbers.{numbered}
 use Rattle.audit_check_main.specs.declared.hearing.Sort.{Sort}
-use Rattle.audit_check_main.specs.declared.hearing.Sort.TheVariants as sorts
 use Rattle.audit_check_main.specs.declared.whose.Whose.{Whose}
 use Rattle.audit_check_main.specs.declared.whose.Whose.TheVariants as whose
 use Rattle.audit_check_main.specs.Hearing.{with_number, noted, counts_in, heard_input, sort_by, sort_of, list_in, class_in, told_by_text}

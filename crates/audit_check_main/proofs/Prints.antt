@@ -9,7 +9,7 @@ use Rattle.meter_address.specs.Commission.{Commissioned}
 use Rattle.meter_slots.specs.Journal.{SlotView}
 use Rattle.stranger_ring.specs.declared.strangers.Heard.{Heard}
 use Rattle.receivers.specs.declared.told.Told.{Told}
-use Rattle.receivers.specs.Orders.{IsOrderedSlot, AreOrderedStrangers}
+use Rattle.receivers.specs.Orders.{AreOrderedStrangers}
 use Rattle.report_text.specs.declared.lent.ReceiverEnd.{ReceiverEnd}
 use Rattle.report_text.specs.Report.{head_text, meter_text, strangers_text, report_text}
 use Rattle.audit_check_main.specs.declared.verdict.Verdict.{Verdict}

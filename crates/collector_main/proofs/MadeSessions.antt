@@ -1,10 +1,8 @@
 -- A made session is heard whole, and its run.
-use Rattle.std.proofs.Common.{suc, ◌≡◌, ◌≢◌, ◌⊎◌, ◌++◌, ◌+◌, ◌<◌, ◌≤◌, ◌^◌, ℕ, List, [], ◌∷◌, Bool, true, false, Option, Some, None, Result, Ok, Err, IfOk, inl, inr, ⊎_elim, refl, sym, ap, subst, ◌∙◌, IsTrue, map, length, arith}
+use Rattle.std.proofs.Common.{◌≡◌, ◌≢◌, ◌++◌, ◌≤◌, ℕ, List, [], ◌∷◌, false, Some, Result, Ok, Err, IfOk, ⊎_elim, refl, sym, ap, subst, ◌∙◌, IsTrue, map, length, arith}
 use Rattle.std.proofs.lemmas.List.{append-nil, length-map}
-use Rattle.outer_io.specs.Each.{Each, EachWith, PassUntil}
+use Rattle.outer_io.specs.Each.{Each, EachWith}
 use Rattle.outer_io.specs.Faults.{Rose}
-use Rattle.outer_io.specs.Shown.{Change, SinkShown, WriteFailed, HasText}
-use Rattle.outer_io.specs.declared.failures.Failed.{Failed}
 use Rattle.outer_io.specs.declared.sources.Source as sources
 use Rattle.outer_io.specs.declared.sinks.Sink as sinks
 use Rattle.line_reader.specs.Lines.{is_over, all_lines}
@@ -12,7 +10,6 @@ use Rattle.made_input.specs.Made.{Session, made}
 use Rattle.made_input.specs.Laws.{IsReadable}
 use Rattle.made_input.specs.Streams.{Text}
 use Rattle.made_input.proofs.MadeRosters.{made_is_readable}
-use Rattle.made_input.specs.Summary.{summary_text}
 use Rattle.meter_address.specs.declared.address.Address.{Address}
 use Rattle.meter_slots.specs.declared.counts.Ended.{Ended}
 use Rattle.meter_slots.specs.declared.counts.Ended.TheVariants as ends
@@ -26,16 +23,12 @@ use Rattle.receivers.proofs.HeardRuns.{heard_session}
 use Rattle.report_text.specs.declared.lent.ReceiverEnd.{ReceiverEnd}
 use Rattle.report_text.specs.Report.{report_text}
 use Rattle.roster_file.specs.Roster.{Enrolled, roster_of}
-use Rattle.collector_main.specs.declared.status.Status.{Status}
-use Rattle.collector_main.specs.declared.status.Status.TheVariants as statuses
 use Rattle.collector_main.specs.declared.together.HeardTogether.{HeardTogether}
-use Rattle.collector_main.specs.Heard.{Heard, receiver_end, report_of}
-use Rattle.collector_main.specs.MadeRun.{MadeRun, IsMadeRun, IsMadeHeard, IsMadeCause, heard_whole, heard_texts, made_outputs}
+use Rattle.collector_main.specs.Heard.{Heard, receiver_end}
+use Rattle.collector_main.specs.MadeRun.{heard_whole, heard_texts}
 use Rattle.collector_main.specs.Ready.{IsEndOf, HaveHeard, HearsText, IsMadeTogether}
 use Rattle.collector_main.specs.Showing.{IsFresh}
-use Rattle.collector_main.specs.Run.{Output, IsWhole, IsUnwritten}
-use Rattle.collector_main.specs.Statuses.{was_heard, unwritten, Wrote}
-use Rattle.collector_main.proofs.ManyReceivers.{IsEnd, each_known, each_short, each_many, ends_are, runs_known, runs_ended, runs_many, text_of, wrote_same, write_is}
+use Rattle.collector_main.proofs.ManyReceivers.{IsEnd, each_known, each_short, each_many, ends_are, runs_known, runs_ended, runs_many}
 use Rattle.collector_main.proofs.Orders.{order_is_told}
 
 abbrev pub session_of : (roster first second third fourth : List ℕ) → Session

@@ -1,4 +1,4 @@
-use Rattle.std.proofs.Common.{◌≡◌, ◌∙◌, ◌+◌, ◌++◌, ◌∷◌, [], slice_set, Err, refl, ap, subst, arith}
+use Rattle.std.proofs.Common.{◌≡◌, ◌+◌, slice_set, Err, refl, ap, subst, arith}
 use Rattle.outer_io.specs.Each.{IsFirst}
 use Rattle.outer_io.specs.Shown.{ReadFailed}
 use Rattle.audit_check_main.specs.Run.{source_changes}

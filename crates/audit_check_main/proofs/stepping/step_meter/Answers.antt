@@ -6,7 +6,6 @@ use Rattle.meter_address.specs.Commission.{Commissioned}
 use Rattle.receivers.specs.declared.told.Told.TheVariants as told
 use Rattle.receivers.proofs.OrderLaws.{slot_exists}
 use Rattle.audit_check_main.specs.Hearing.{tells, told_at}
-use Rattle.audit_check_main.specs.MeterSteps.{HasStepped}
 use Rattle.audit_check_main.specs.Stepping.{IsEventFor}
 use Rattle.audit_check_main.proofs.Claimed.{each_more, each_whole}
 use Rattle.audit_check_main.proofs.SteppedLines.{same_slot}
