@@ -63,8 +63,7 @@ impl SlotBook {
     ghost use Rattle.meter_slots.specs.Laws.{PutsPayload, IsRefused, IsLeft};
     ghost use Rattle.meter_slots.specs.Journal.{SlotView, Legal, outcome, readings, other_key, last_counter, orders};
 
-    /// A slot with an empty journal. (It is made where it is to lie, since it has some thousand bytes.)
-    #[inline(always)]
+    /// A slot with an empty journal.
     pub fn new(alloc: Global, own: Address, commission: Commission) -> Self
         ensures { result ≡ record { own = own; commission = commission; journal = [] } }
     {
