@@ -184,6 +184,8 @@ pub fn audit_run<S: Source, K: Sink>(
         Err(Unread::Failed) => return AuditStatus::ReadRoster,
         Err(Unread::Memory) => return AuditStatus::Memory,
     };
+    // Before the report, beside which no input's bytes are held then.
+    let heard = read_inputs(alloc, inputs);
     let report = match read_past(alloc, report, REPORT_MAX) {
         Ok(bytes) => bytes,
         Err(Unread::Failed) => return AuditStatus::ReadReport,
@@ -192,8 +194,8 @@ pub fn audit_run<S: Source, K: Sink>(
     if report.len() > REPORT_MAX {
         return AuditStatus::LongReport;
     }
-    let inputs = match read_inputs(alloc, inputs) {
-        Ok(inputs) => inputs,
+    let heard = match heard {
+        Ok(heard) => heard,
         Err(InputFault::Read(w)) => return AuditStatus::Read(w),
         Err(InputFault::Memory) => return AuditStatus::Memory,
     };
@@ -201,7 +203,7 @@ pub fn audit_run<S: Source, K: Sink>(
         alloc,
         roster.as_slice(),
         report.as_slice(),
-        inputs.as_slice(),
+        heard.as_slice(),
     ) {
         Ok(verdict) => finish(out, verdict),
         Err(Memory) => AuditStatus::Memory,

@@ -3,6 +3,7 @@ pub mod DownlinkLaws
 pub mod JournalLaws
 pub mod Journals
 pub mod KeyLaws
+pub mod NothingHeld
 pub mod Passages
 pub mod PayloadLaws
 pub mod Pieces

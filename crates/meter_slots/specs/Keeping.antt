@@ -1,6 +1,7 @@
 -- Words of private contracts: what a slot keeps beside its journal, and what its steps answer.
-use Rattle.std.specs.Prelude.{ℕ, ◌≡◌, ◌+◌, ◌-◌, ◌≤◌, drop, min, true, if◌then◌else◌, List, [], ◌++◌, length, reverse, Option, Some, None, option_map}
-use Rattle.std.specs.Prelude.{Result, Ok, Err}
+use Rattle.std.specs.Prelude.{ℕ, ◌≡◌, ◌+◌, ◌-◌, ◌≤◌, drop, min, true, if◌then◌else◌, List, [], ◌++◌, length, reverse, Option, Some, None, is_some, option_map}
+use Rattle.std.specs.Prelude.{Result, Ok, Err, Box}
+use Rattle.std.specs.declared.alloc.Global.{Global}
 use Rattle.std.specs.List.{All}
 use Rattle.std.specs.Option.{ForSome}
 use Rattle.meter_address.specs.declared.address.Address.{Address}
@@ -9,6 +10,7 @@ use Rattle.meter_address.specs.declared.commission.Mode.TheVariants.{Seven}
 use Rattle.meter_address.specs.Commission.{Commissioned, most_last}
 use Rattle.afl_layer.specs.declared.header.Afl.{Afl}
 use Rattle.access_window.specs.Orders.{Orders}
+use Rattle.afl_fragments.specs.declared.parts.Parts.{Parts}
 use Rattle.afl_fragments.specs.declared.places.HeldPart.{HeldPart}
 use Rattle.afl_fragments.specs.Fragment.{IsFragment}
 use Rattle.afl_layer.specs.Fields.{is_fragment}
@@ -64,7 +66,17 @@ pub record IsRefusedAlone (c : Commissioned) (last : Option ℕ) (t : List ℕ) 
 
 -- a verdict that is that of a whole message, where these layers have one behind them
 abbrev pub IsOfWhole : Bar → List ℕ → Result Layers Reason → Result (Option Found) Reason → Type 0
-IsOfWhole b t layers verdict = (l : Layers) (m : Message) → layers ≡ Ok l → content_behind t l ≡ Whole m → verdict ≡ judged b.commission b.last (Ok (Some m))
+IsOfWhole b t layers verdict = (l : Layers) (m : Message) → layers ≡ Ok l → content_behind t l ≡ Whole m
+    → verdict ≡ judged b.commission b.last (Ok (Some m))
+
+-- the fragments that are held, none where there was no room for any yet
+abbrev pub held_by : Option (Box Parts Global) → List HeldPart
+held_by None = []
+held_by (Some parts) = parts.value
+
+-- a telegram with this header finds room for its fragment, where it has one
+abbrev pub Admits : Option Afl → Option (Box Parts Global) → Type 0
+Admits afl parts = has_piece afl ≡ true → is_some parts ≡ true
 
 -- what it stands for, where its fragments are those that are held after what was told
 abbrev pub standing_for : Kept → List Told → Standing

@@ -6,8 +6,9 @@ ghost use Rattle.message_check.specs.declared.headers.Layers.{Layers};
 ghost use Rattle.meter_slots.specs.Hearing.{is_unasked, is_response, is_uplink, uplink_passed, layers_passed, number_passed};
 ghost use Rattle.meter_slots.specs.Hearing.{fragment_passed, received, Whole, auth_in, content_of, message_in, brought};
 ghost use Rattle.meter_slots.specs.Journal.{given_up, told_with, told_by_received, access_of};
-ghost use Rattle.meter_slots.specs.Keeping.{HasPlace, PieceFits, stored_by, verdict_as, judged_by, most_joined, most_brought, VerdictFits, IsOfWhole};
+ghost use Rattle.meter_slots.specs.Keeping.{held_by, HasPlace, Admits, PieceFits, stored_by, verdict_as, judged_by, most_joined, most_brought, VerdictFits, IsOfWhole};
 
+use crate::fragments::Fragments;
 use crate::judge::{Judge, Verdict};
 use afl_fragments::{PARTS_MAX, Part, Parts};
 use afl_layer::{Afl, Auth, Scratch};
@@ -183,7 +184,7 @@ fn hear_whole(judge: &Judge, auth: Auth, bytes: &[u8], message: &mut Scratch) ->
 // Hears what stands behind the layers.
 fn hear_content(
     judge: &Judge,
-    parts: &mut Parts,
+    parts: &mut Fragments,
     afl: Option<Afl>,
     bytes: &[u8],
     message: &mut Scratch,
@@ -191,17 +192,19 @@ fn hear_content(
     requires few { length bytes.now ≤ 256 }
     requires piece { PieceFits afl bytes.now }
     requires counted { HasPlace afl }
-    ensures verdict { (told : List Told) → StandsFor parts.old told
+    requires room { Admits afl parts.old }
+    ensures verdict { (told : List Told) → StandsFor (held_by parts.old) told
         → verdict_as message.new result ≡ judged_by judge.now (Ok (message_in told (content_of afl bytes.now))) }
-    ensures parts { (told : List Told) → StandsFor parts.old told
-        → StandsFor parts.new (told_with (content_of afl bytes.now) (given_up (stored_by (verdict_as message.new result))) ++ told) }
-    ensures fits { VerdictFits judge.now.commission.mode message.new (most_joined afl parts.old bytes.now) result }
+    ensures parts { (told : List Told) → StandsFor (held_by parts.old) told
+        → StandsFor (held_by parts.new) (told_with (content_of afl bytes.now) (given_up (stored_by (verdict_as message.new result))) ++ told) }
+    ensures fits { VerdictFits judge.now.commission.mode message.new (most_joined afl (held_by parts.old) bytes.now) result }
     ensures whole { (m : Message) → content_of afl bytes.now ≡ Whole m → verdict_as message.new result ≡ judged_by judge.now (Ok (Some m)) }
 {
     match afl {
-        Some(afl) if afl.is_fragment() => {
-            hear_part(judge, parts, Part::new(afl, bytes), message)
-        }
+        Some(afl) if afl.is_fragment() => match parts {
+            Some(parts) => hear_part(judge, parts, Part::new(afl, bytes), message),
+            None => unreachable!(),
+        },
         afl => hear_whole(judge, auth_of(afl), bytes, message),
     }
 }
@@ -227,7 +230,7 @@ pub(crate) struct Judged {
 /// Hears a telegram with these layers: the message that is to be stored stands in `message` then.
 pub(crate) fn hear(
     judge: &Judge,
-    parts: &mut Parts,
+    parts: &mut Fragments,
     telegram: &Telegram,
     layers: Result<Layers, Reason>,
     message: &mut Scratch,
@@ -236,12 +239,13 @@ pub(crate) fn hear(
     requires within { IfOk layers (λ l. l.body ≤ length telegram.now) }
     requires found { IfOk layers (λ l. IsLayers telegram.now l) }
     requires counted { IfOk layers (λ l. HasPlace l.afl) }
-    ensures verdict { (told : List Told) → StandsFor parts.old told → verdict_as message.new result.verdict
+    requires room { IfOk layers (λ l. Admits l.afl parts.old) }
+    ensures verdict { (told : List Told) → StandsFor (held_by parts.old) told → verdict_as message.new result.verdict
         ≡ judged_by judge.now (brought told telegram.now (received judge.now.commission.mode telegram.now)) }
     ensures access { result.access ≡ access_of (received judge.now.commission.mode telegram.now) (verdict_as message.new result.verdict) }
-    ensures parts { (told : List Told) → StandsFor parts.old told → StandsFor parts.new (told_by_received telegram.now
+    ensures parts { (told : List Told) → StandsFor (held_by parts.old) told → StandsFor (held_by parts.new) (told_by_received telegram.now
         (received judge.now.commission.mode telegram.now) (given_up (stored_by (verdict_as message.new result.verdict))) ++ told) }
-    ensures fits { VerdictFits judge.now.commission.mode message.new (most_brought layers parts.old telegram.now) result.verdict }
+    ensures fits { VerdictFits judge.now.commission.mode message.new (most_brought layers (held_by parts.old) telegram.now) result.verdict }
     ensures whole { IsOfWhole judge.now telegram.now layers (verdict_as message.new result.verdict) }
 {
     match layers {

@@ -6,6 +6,7 @@ mod commands;
 mod counts;
 mod directory;
 mod entry;
+mod fragments;
 mod hearing;
 mod judge;
 pub mod laws;

@@ -1,9 +1,4 @@
 //! Telegrams that are heard again.
-ghost use Rattle.std.specs.Prelude.{◌≡◌, None, Some, IfSome};
-ghost use Rattle.std.specs.Option.{ForSome};
-ghost use Rattle.meter_slots.specs.Hearing.{received};
-ghost use Rattle.meter_slots.specs.Keeping.{Bar, Brings, IsOfWhole, verdict_as};
-
 use crate::judge::Verdict;
 use arrayvec::ArrayVec;
 use frame_formats::Telegram;
@@ -14,7 +9,8 @@ use std::marker::Model;
 // A telegram has at most so many bytes.
 const TELEGRAM_MAX: usize = 256;
 
-/// The last telegram that alone brought a message of mode 7 which was stored. Where another receiver heard it too, it is known again by its bytes.
+/// The last telegram that alone brought a message of mode 7 which was stored. Where another receiver heard it too, it is
+/// known again by its bytes.
 #[derive(Drop)]
 pub(crate) struct LastWhole {
     // The counter of its message, none where no telegram is kept.

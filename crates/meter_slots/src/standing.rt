@@ -3,17 +3,17 @@ ghost use Rattle.std.specs.Prelude.{◌≡◌, ◌++◌, ℕ, List, [], length, 
 ghost use Rattle.smallvec.specs.SmallVec.{HasRoomFor};
 ghost use Rattle.afl_fragments.specs.Held.{held_bytes};
 ghost use Rattle.meter_slots.specs.Journal.{reading_at, stored_in};
-ghost use Rattle.meter_slots.specs.Keeping.{verdict_as, room_for, VerdictHasRoom};
+ghost use Rattle.meter_slots.specs.Keeping.{held_by, verdict_as, room_for, VerdictHasRoom};
 
 use crate::commands::Commands;
 use crate::entry::{Event, Outcome};
+use crate::fragments::{Fragments, held_bytes, take_place, tick};
 use crate::hearing::{has_response_control, hear, receive};
 use crate::judge::{Judge, Verdict};
 use crate::reading::{Bytes, Reading, Room};
 use crate::repeated::LastWhole;
 use crate::sent::take_room;
 use access_window::Window;
-use afl_fragments::Parts;
 use afl_layer::{SCRATCH_MAX, Scratch};
 use command_queue::Queue;
 use downlink_maker::Downlink;
@@ -35,16 +35,16 @@ pub(crate) struct Standing {
     message: Option<Box<Scratch>>,
     // Room for the next downlink, from the first message on.
     room: Vec<Downlink>,
-    parts: Parts,
+    parts: Fragments,
 }
 
 impl Model for Standing {
     ghost use Rattle.std.specs.Option.{ForSome};
-    ghost use Rattle.meter_slots.specs.Keeping.{Kept, Brings};
+    ghost use Rattle.meter_slots.specs.Keeping.{Kept, Brings, held_by};
 
     ghost Value = { Kept };
 
-    ghost view = { λ s. record { commission = s.judge.commission; last = s.judge.last; parts = s.parts; orders = s.commands } };
+    ghost view = { λ s. record { commission = s.judge.commission; last = s.judge.last; parts = held_by s.parts; orders = s.commands } };
 
     ghost invariant = { λ s. ForSome s.heard (Brings s.judge.commission) };
 }
@@ -59,16 +59,16 @@ pub struct Served {
 }
 
 // How many bytes the payload of what a telegram stores has at most. A whole message is joined to no fragment that is held.
-fn room_needed(parts: &Parts, telegram: &Telegram, layers: &Result<Layers, Reason>) -> usize
+fn room_needed(parts: &Fragments, telegram: &Telegram, layers: &Result<Layers, Reason>) -> usize
     requires { IfOk layers.now (λ l. l.body ≤ length telegram.now) }
-    ensures { result ≡ room_for layers.now parts.now telegram.now }
+    ensures { result ≡ room_for layers.now (held_by parts.now) telegram.now }
 {
     match layers {
         Err(_) => 0,
         Ok(layers) => {
             let len = telegram.bytes().len() - layers.body;
             if layers.is_fragment() {
-                parts.held_bytes().min(SCRATCH_MAX) + len
+                held_bytes(parts).min(SCRATCH_MAX) + len
             } else {
                 len
             }
@@ -143,7 +143,7 @@ impl Standing {
     {
         Standing {
             judge: Judge::new(commission),
-            parts: Parts::new(),
+            parts: None,
             commands: Commands::new(commission.ids, commission.down),
             message: None,
             room: Vec::new(alloc),
@@ -212,6 +212,7 @@ impl Standing {
     {
         let mode = self.judge.mode();
         let layers = receive(mode, telegram);
+        take_place(alloc, &mut self.parts, &layers)?;
         let room = Room::with_capacity(alloc, room_needed(&self.parts, telegram, &layers))?;
         let mut message = take_buffer(alloc, &mut self.message)?;
         let mut sent = take_room(alloc, &mut self.room)?;
@@ -279,7 +280,7 @@ impl Standing {
                 None => Ok(self.hear(alloc, own, *at, telegram)?),
             },
             Event::Tick => {
-                self.parts.tick();
+                tick(&mut self.parts);
                 Ok(plain(self.commands.tick()))
             }
             Event::Put(payload) => Ok(plain(self.commands.put(payload))),

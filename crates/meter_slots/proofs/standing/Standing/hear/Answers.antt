@@ -7,7 +7,7 @@ use Rattle.message_check.specs.Opening.{Found}
 use Rattle.message_check.specs.declared.refusal.Reason.{Reason}
 use Rattle.meter_slots.specs.Hearing.{is_response, received}
 use Rattle.meter_slots.specs.Journal.{verdict, access_of, heard, orders_heard, reading_at, stored_in}
-use Rattle.meter_slots.specs.Keeping.{Bar, Brings, Kept, standing_for, verdict_as}
+use Rattle.meter_slots.specs.Keeping.{Bar, Brings, Kept, held_by, standing_for, verdict_as}
 use Rattle.meter_slots.proofs.standing.Standing.hear.Goals as goal
 
 pub returns-clause-outcome : goal.returns-clause-outcome
@@ -15,7 +15,7 @@ returns-clause-outcome c format told =
     let b = c.self.inside in
     let t = c.args.telegram.now in
     let own = c.args.own in
-    let k : Kept = record { commission = b.judge.commission; last = b.judge.last; parts = b.parts; orders = b.commands } in
+    let k : Kept = record { commission = b.judge.commission; last = b.judge.last; parts = held_by b.parts; orders = b.commands } in
     let access : Kept → Access = λ k. access_of (received k.commission.mode t) (verdict k.commission (standing_for k told) t) in
     let response = is_response (slice_index t 1) in
     let Answered : Kept → Type 0 = λ k. StandsFor k.parts told
@@ -25,23 +25,23 @@ returns-clause-outcome c format told =
     ∙ ap (λ (n : Commissioned). heard own n b.commands c.hear-judged.result.access c.has_response_control-response.result found)
     c.commission.ensures
     ∙ ap (λ (a : Access). heard own b.judge.commission b.commands a c.has_response_control-response.result found)
-    (c.hear-judged.ensures.access ∙ ap (access_of (received b.judge.commission.mode t)) (c.hear-judged.ensures.verdict told stands))
+    (c.hear-judged.ensures.access ∙ ap (access_of (received b.judge.commission.mode t)) (c.hear-judged.ensures.verdict told (c.take_place.ensures.held ∙ stands)))
     ∙ ap (λ (r : Bool). heard own b.judge.commission b.commands (access k) r found)
     (c.has_response_control-response.ensures ∙ ap is_response c.control.ensures)
     ∙ ap (λ (v : Result (Option Found) Reason). heard own b.judge.commission b.commands (access k) response v)
-    (c.hear-judged.ensures.verdict told stands) in
+    (c.hear-judged.ensures.verdict told (c.take_place.ensures.held ∙ stands)) in
     subst Answered c.self.view_is answered
 
 pub returns-clause-reading : goal.returns-clause-reading
 returns-clause-reading c format told =
     let b = c.self.inside in
     let t = c.args.telegram.now in
-    let k : Kept = record { commission = b.judge.commission; last = b.judge.last; parts = b.parts; orders = b.commands } in
+    let k : Kept = record { commission = b.judge.commission; last = b.judge.last; parts = held_by b.parts; orders = b.commands } in
     let Reads : Kept → Type 0 = λ k. StandsFor k.parts told
     → option_to_list c.reading_from-reading.result ≡ reading_at c.args.at (stored_in (verdict k.commission (standing_for k told) t)) in
     let reads : Reads k = λ stands. c.reading_from-reading.ensures
     ∙ ap (λ (bytes : List ℕ). reading_at c.args.at (stored_in (verdict_as bytes c.hear-judged.result.verdict))) c.deref.ensures
-    ∙ ap (λ (v : Result (Option Found) Reason). reading_at c.args.at (stored_in v)) (c.hear-judged.ensures.verdict told stands) in
+    ∙ ap (λ (v : Result (Option Found) Reason). reading_at c.args.at (stored_in v)) (c.hear-judged.ensures.verdict told (c.take_place.ensures.held ∙ stands)) in
     subst Reads c.self.view_is reads
 
 pub returns-clause-orders : goal.returns-clause-orders
@@ -49,13 +49,13 @@ returns-clause-orders c format told =
     let b = c.self.inside in
     let t = c.args.telegram.now in
     let given = c.hear-outcome.result in
-    let k : Kept = record { commission = b.judge.commission; last = b.judge.last; parts = b.parts; orders = b.commands } in
+    let k : Kept = record { commission = b.judge.commission; last = b.judge.last; parts = held_by b.parts; orders = b.commands } in
     let access : Kept → Access = λ k. access_of (received k.commission.mode t) (verdict k.commission (standing_for k told) t) in
     let Moved : Kept → Type 0 = λ k. StandsFor k.parts told
     → c.hear-outcome.new.self ≡ orders_heard k.orders (access k) (is_response (slice_index t 1)) given in
     let moved : Moved k = λ stands. c.hear-outcome.ensures.after
     ∙ ap (λ (a : Access). orders_heard b.commands a c.has_response_control-response.result given)
-    (c.hear-judged.ensures.access ∙ ap (access_of (received b.judge.commission.mode t)) (c.hear-judged.ensures.verdict told stands))
+    (c.hear-judged.ensures.access ∙ ap (access_of (received b.judge.commission.mode t)) (c.hear-judged.ensures.verdict told (c.take_place.ensures.held ∙ stands)))
     ∙ ap (λ (response : Bool). orders_heard b.commands (access k) response given)
     (c.has_response_control-response.ensures ∙ ap is_response c.control.ensures) in
     subst Moved c.self.view_is moved
