@@ -196,8 +196,10 @@ pub fn audit_run<S: Source, K: Sink>(
     }
     let heard = match heard {
         Ok(heard) => heard,
-        Err(InputFault::Read(w)) => return AuditStatus::Read(w),
-        Err(InputFault::Memory) => return AuditStatus::Memory,
+        Err(fault) => match fault {
+            InputFault::Read(w) => return AuditStatus::Read(w),
+            InputFault::Memory => return AuditStatus::Memory,
+        },
     };
     match audit(
         alloc,
