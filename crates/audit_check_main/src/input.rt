@@ -72,7 +72,14 @@ impl Input {
     pub fn new(alloc: Global, bytes: Vec<u8>) -> Result<Input, Memory>
         ensures { IfOk result (λ input. input ≡ bytes.items) }
     {
-        let text = Snapshot::of(&bytes);
+        Input::of(alloc, &bytes)
+    }
+
+    /// The input of these bytes, which are lent.
+    pub(crate) fn of(alloc: Global, bytes: &Vec<u8>) -> Result<Input, Memory>
+        ensures { IfOk result (λ input. input ≡ bytes.now.items) }
+    {
+        let text = Snapshot::of(bytes);
         let count = count_of(bytes.as_slice());
         let over = is_over(bytes.as_slice(), count);
         let told = if over {

@@ -28,6 +28,29 @@ enum Unread {
     Memory,
 }
 
+// Reads a source to its end, or past `most` bytes, in place of what the room held.
+fn read_into<S: Source>(source: &mut S, most: usize, room: &mut Vec<u8>) -> Result<(), Unread>
+    requires { most < 2 ^ 63 }
+    ensures read { IfOk result (λ _. IsTrue S.tells → IsReadPast most (source_change S.Source source.old source.new) room.new.items) }
+    ensures failed { result ≡ Err Unread.Failed → ReadFailed (source_change S.Source source.old source.new) }
+    ensures no_loss { IsTrue S.tells → LosesNothing (source_change S.Source source.old source.new) }
+{
+    room.clear();
+    let mut buffer = [0u8; 4096];
+    'reads: while room.len() <= most {
+        let Ok(count) = source.read(&mut buffer) else {
+            return Err(Unread::Failed);
+        };
+        if count == 0 {
+            return Ok(());
+        }
+        if room.extend_from_slice(&buffer[..count]).is_err() {
+            return Err(Unread::Memory);
+        }
+    }
+    Ok(())
+}
+
 // Reads a source to its end, or past `most` bytes.
 fn read_past<S: Source>(alloc: Global, source: &mut S, most: usize) -> Result<Vec<u8>, Unread>
     requires { most < 2 ^ 63 }
@@ -36,29 +59,20 @@ fn read_past<S: Source>(alloc: Global, source: &mut S, most: usize) -> Result<Ve
     ensures no_loss { IsTrue S.tells → LosesNothing (source_change S.Source source.old source.new) }
 {
     let mut bytes = Vec::new(alloc);
-    let mut buffer = [0u8; 4096];
-    'reads: while bytes.len() <= most {
-        let Ok(count) = source.read(&mut buffer) else {
-            return Err(Unread::Failed);
-        };
-        if count == 0 {
-            return Ok(bytes);
-        }
-        if bytes.extend_from_slice(&buffer[..count]).is_err() {
-            return Err(Unread::Memory);
-        }
+    match read_into(source, most, &mut bytes) {
+        Ok(()) => Ok(bytes),
+        Err(unread) => Err(unread),
     }
-    Ok(bytes)
 }
 
-// Reads an input to its end or past the limit of a receiver. Its bytes are let go before it is answered.
-fn read_input<S: Source>(alloc: Global, source: &mut S) -> Result<Input, Unread>
+// Reads an input to its end or past the limit of a receiver. Its bytes stand in the room until the next one is read.
+fn read_input<S: Source>(alloc: Global, source: &mut S, room: &mut Vec<u8>) -> Result<Input, Unread>
     ensures read { IfOk result (λ input. IsTrue S.tells → IsReadPast 67108864 (source_change S.Source source.old source.new) input) }
     ensures failed { result ≡ Err Unread.Failed → ReadFailed (source_change S.Source source.old source.new) }
     ensures no_loss { IsTrue S.tells → LosesNothing (source_change S.Source source.old source.new) }
 {
-    match read_past(alloc, source, BYTES_MAX) {
-        Ok(bytes) => match Input::new(alloc, bytes) {
+    match read_into(source, BYTES_MAX, room) {
+        Ok(()) => match Input::of(alloc, room) {
             Ok(input) => Ok(input),
             Err(_) => Err(Unread::Memory),
         },
@@ -85,9 +99,11 @@ fn read_inputs<S: Source>(alloc: Global, inputs: &mut Vec<S>) -> Result<Vec<Inpu
     ensures no_loss { IsTrue S.tells → Each LosesNothing (source_changes S.Source inputs.old.items inputs.new.items) }
 {
     let mut read = Vec::new(alloc);
+    // (one room for the bytes of all, which is given back to the system behind the last one)
+    let mut room = Vec::new(alloc);
     for place in 0..inputs.len() {
         let source = &mut inputs[place];
-        match read_input(alloc, source) {
+        match read_input(alloc, source, &mut room) {
             Ok(input) => {
                 if read.push(input).is_err() {
                     return Err(InputFault::Memory);
