@@ -88,8 +88,12 @@ enum InputFault {
     Memory,
 }
 
-// Reads all inputs, each to its end or past the limit of a receiver.
-fn read_inputs<S: Source>(alloc: Global, inputs: &mut Vec<S>) -> Result<Vec<Input>, InputFault>
+// Reads all inputs, each to its end or past the limit of a receiver, one after the other into the room.
+fn read_inputs<S: Source>(
+    alloc: Global,
+    inputs: &mut Vec<S>,
+    room: &mut Vec<u8>,
+) -> Result<Vec<Input>, InputFault>
     requires { vec_len inputs.old ≤ 16 }
     ensures read { IfOk result (λ read. IsTrue S.tells →
         EachWith (IsReadPast 67108864) (source_changes S.Source inputs.old.items inputs.new.items) read.items) }
@@ -99,11 +103,9 @@ fn read_inputs<S: Source>(alloc: Global, inputs: &mut Vec<S>) -> Result<Vec<Inpu
     ensures no_loss { IsTrue S.tells → Each LosesNothing (source_changes S.Source inputs.old.items inputs.new.items) }
 {
     let mut read = Vec::new(alloc);
-    // (one room for the bytes of all, which is given back to the system behind the last one)
-    let mut room = Vec::new(alloc);
     for place in 0..inputs.len() {
         let source = &mut inputs[place];
-        match read_input(alloc, source, &mut room) {
+        match read_input(alloc, source, room) {
             Ok(input) => {
                 if read.push(input).is_err() {
                     return Err(InputFault::Memory);
@@ -200,14 +202,15 @@ pub fn audit_run<S: Source, K: Sink>(
         Err(Unread::Failed) => return AuditStatus::ReadRoster,
         Err(Unread::Memory) => return AuditStatus::Memory,
     };
-    // Before the report, beside which no input's bytes are held then.
-    let heard = read_inputs(alloc, inputs);
-    let report = match read_past(alloc, report, REPORT_MAX) {
-        Ok(bytes) => bytes,
+    // The report is read behind the inputs and into the same room, so that no more is held than what the inputs told.
+    let mut text = Vec::new(alloc);
+    let heard = read_inputs(alloc, inputs, &mut text);
+    match read_into(report, REPORT_MAX, &mut text) {
+        Ok(()) => {}
         Err(Unread::Failed) => return AuditStatus::ReadReport,
         Err(Unread::Memory) => return AuditStatus::Memory,
-    };
-    if report.len() > REPORT_MAX {
+    }
+    if text.len() > REPORT_MAX {
         return AuditStatus::LongReport;
     }
     let heard = match heard {
@@ -220,7 +223,7 @@ pub fn audit_run<S: Source, K: Sink>(
     match audit(
         alloc,
         roster.as_slice(),
-        report.as_slice(),
+        text.as_slice(),
         heard.as_slice(),
     ) {
         Ok(verdict) => finish(out, verdict),

@@ -19,35 +19,35 @@ returns-in-Err-Memory-clause-run g c =
     run_memory g.S.Source.tells g.K.Sink.tells _ _ _ _ _ (sym c.in-Some.ensures.named)
     (λ t. (c.read_past.ensures.no_loss t, refl, untouched g.S.Source c.args.inputs.now.items)) refl
 
-pub returns-in-Err-Failed-read_past-clause-run : goal.returns-in-Err-Failed-read_past-clause-run
-returns-in-Err-Failed-read_past-clause-run g c =
+pub returns-in-Err-Failed-read_into-clause-run : goal.returns-in-Err-Failed-read_into-clause-run
+returns-in-Err-Failed-read_into-clause-run g c =
     run_report g.S.Source.tells g.K.Sink.tells _ _ _ _ _ (sym c.in-Some.ensures.named)
-    (c.in-Err-Failed-read_past.ensures.failed (ap Err c.in-Err-Failed-read_past.field-0-is))
-    (λ t. (c.read_past.ensures.no_loss t, c.read_past-2.ensures.no_loss t, c.read_inputs-heard.ensures.no_loss t)) refl
+    (c.in-Err-Failed-read_into.ensures.failed (ap Err c.in-Err-Failed-read_into.field-0-is))
+    (λ t. (c.read_past.ensures.no_loss t, c.read_into.ensures.no_loss t, c.read_inputs-heard.ensures.no_loss t)) refl
 
-pub returns-in-Err-Memory-read_past-clause-run : goal.returns-in-Err-Memory-read_past-clause-run
-returns-in-Err-Memory-read_past-clause-run g c =
+pub returns-in-Err-Memory-read_into-clause-run : goal.returns-in-Err-Memory-read_into-clause-run
+returns-in-Err-Memory-read_into-clause-run g c =
     run_memory g.S.Source.tells g.K.Sink.tells _ _ _ _ _ (sym c.in-Some.ensures.named)
-    (λ t. (c.read_past.ensures.no_loss t, c.read_past-2.ensures.no_loss t, c.read_inputs-heard.ensures.no_loss t)) refl
+    (λ t. (c.read_past.ensures.no_loss t, c.read_into.ensures.no_loss t, c.read_inputs-heard.ensures.no_loss t)) refl
 
 pub returns-then-len-gt-REPORT_MAX-clause-run : goal.returns-then-len-gt-REPORT_MAX-clause-run
 returns-then-len-gt-REPORT_MAX-clause-run g c =
-    let long = c.if-len-gt-REPORT_MAX.true in let n = c.len.ensures in let o = c.in-Ok-read_past.bytes.ok.0 in
+    let long = c.if-len-gt-REPORT_MAX.true in let n = c.len.ensures in let o = c.read_into.new.room.ok.0 in
     run_long g.S.Source.tells g.K.Sink.tells _ _ _ _ _ (sym c.in-Some.ensures.named)
-    (λ t. read_long_of 1073741824 _ c.in-Ok-read_past.bytes.items (c.in-Ok-read_past.ensures.read t) (omega arith))
-    (λ t. (c.read_past.ensures.no_loss t, c.read_past-2.ensures.no_loss t, c.read_inputs-heard.ensures.no_loss t)) refl
+    (λ t. read_long_of 1073741824 _ c.read_into.new.room.items (c.in-Ok-read_into.ensures.read t) (omega arith))
+    (λ t. (c.read_past.ensures.no_loss t, c.read_into.ensures.no_loss t, c.read_inputs-heard.ensures.no_loss t)) refl
 
 pub returns-in-Read-clause-run : goal.returns-in-Read-clause-run
 returns-in-Read-clause-run g c =
-    let short = c.if-len-gt-REPORT_MAX.false in let n = c.len.ensures in let o = c.in-Ok-read_past.bytes.ok.0 in
+    let short = c.if-len-gt-REPORT_MAX.false in let n = c.len.ensures in let o = c.read_into.new.room.ok.0 in
     run_read g.S.Source.tells g.K.Sink.tells _ _ _ _ _ c.in-Read.w (sym c.in-Some.ensures.named)
-    (λ t. read_all_of 1073741824 _ c.in-Ok-read_past.bytes.items (c.in-Ok-read_past.ensures.read t) (omega arith))
+    (λ t. read_all_of 1073741824 _ c.read_into.new.room.items (c.in-Ok-read_into.ensures.read t) (omega arith))
     (c.in-Err.ensures.failed c.in-Read.w (ap Err c.in-Read.is))
-    (λ t. (c.read_past.ensures.no_loss t, c.read_past-2.ensures.no_loss t, c.read_inputs-heard.ensures.no_loss t)) refl
+    (λ t. (c.read_past.ensures.no_loss t, c.read_into.ensures.no_loss t, c.read_inputs-heard.ensures.no_loss t)) refl
 
 pub audit-requires-clause-lines : goal.audit-requires-clause-lines
 audit-requires-clause-lines g c =
     let short =
-    c.if-len-gt-REPORT_MAX.false in let n = c.len.ensures in let o = c.in-Ok-read_past.bytes.ok.0 in let v = ap length
+    c.if-len-gt-REPORT_MAX.false in let n = c.len.ensures in let o = c.read_into.new.room.ok.0 in let v = ap length
     c.as_slice-2.ensures.value in
     lines_few c.as_slice-2.result.now (omega arith)
