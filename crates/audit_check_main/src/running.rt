@@ -220,12 +220,7 @@ pub fn audit_run<S: Source, K: Sink>(
             InputFault::Memory => return AuditStatus::Memory,
         },
     };
-    match audit(
-        alloc,
-        roster.as_slice(),
-        text.as_slice(),
-        heard.as_slice(),
-    ) {
+    match audit(alloc, roster.as_slice(), text.as_slice(), heard.as_slice()) {
         Ok(verdict) => finish(out, verdict),
         Err(Memory) => AuditStatus::Memory,
     }
