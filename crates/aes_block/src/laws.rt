@@ -1,6 +1,7 @@
 //! What holds of the definitions themselves, for every element, block and key: each function's contract is a law.
 
-ghost use Rattle.aes_block.specs.Laws.{ProductIsRemainder, InverseIsTheInverse, SubstitutionIsABijection, ScheduleIsTheStandards, EachStepIsUndone, DecryptionUndoesEncryption};
+ghost use Rattle.aes_block.specs.Laws.{ProductIsRemainder, InverseIsTheInverse, SubstitutionIsABijection, ScheduleIsTheStandards};
+ghost use Rattle.aes_block.specs.Laws.{EachStepIsUndone, DecryptionUndoesEncryption};
 
 /// A product in the field is what is left of the product of the polynomials (FIPS 197, section 4.2).
 pub fn product_is_remainder()

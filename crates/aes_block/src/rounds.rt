@@ -3,7 +3,8 @@
 ghost use Rattle.std.specs.Prelude.{◌≡◌, ◌<◌, ℕ, List};
 ghost use Rattle.std.specs.Int.{w32, to_be_bytes};
 ghost use Rattle.aes_block.specs.Field.{substitute, inverse_substitute};
-ghost use Rattle.aes_block.specs.Block.{add, sub_bytes, inverse_sub_bytes, shift_rows, inverse_shift_rows, column_product, mix_columns, inverse_mix_columns, mix_polynomial, inverse_mix_polynomial, power_of_x, next_round_key};
+ghost use Rattle.aes_block.specs.Block.{add, sub_bytes, inverse_sub_bytes, shift_rows, inverse_shift_rows, column_product, mix_columns};
+ghost use Rattle.aes_block.specs.Block.{inverse_mix_columns, mix_polynomial, inverse_mix_polynomial, power_of_x, next_round_key};
 ghost use Rattle.aes_block.specs.Words.{word, rows, AreWordsOf};
 
 use crate::tables::{

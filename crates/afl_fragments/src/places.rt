@@ -1,5 +1,6 @@
 //! Places for fragments: one for each number, and which of them are in use.
-ghost use Rattle.std.specs.Prelude.{◌≡◌, ◌≤◌, ◌<◌, ◌+◌, ◌*◌, ◌++◌, ◌∷◌, length, filter, map, not, eqb, find, take, IfSome, IfNone, Some, None, if◌then◌else◌};
+ghost use Rattle.std.specs.Prelude.{◌≡◌, ◌≤◌, ◌<◌, ◌+◌, ◌*◌, ◌++◌, ◌∷◌, length, filter, map, not};
+ghost use Rattle.std.specs.Prelude.{eqb, find, take, IfSome, IfNone, Some, None, if◌then◌else◌};
 ghost use Rattle.std.specs.List.{flat_map};
 ghost use Rattle.afl_fragments.specs.Held.{is_end, front, auth_of, message_with, assembled, held_bytes};
 ghost use Rattle.afl_fragments.specs.Places.{at_place, held_in, held_with, is_in, is_led, is_fresh, older, parts_in, IsPlace, AreOrdered};

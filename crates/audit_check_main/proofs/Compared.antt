@@ -102,8 +102,8 @@ put_piece text place differs piece rest count old is off back within common =
 
 -- ---- all pieces
 
-pub calls_compare : (p q : Compared) (parts : List (List ℕ)) → FoldsTo Compares p parts q → (put : List ℕ) → IsSoFar p put → (q.text ≡ p.text)
-    × IsSoFar q (put ++ concat parts)
+pub calls_compare : (p q : Compared) (parts : List (List ℕ)) → FoldsTo Compares p parts q → (put : List ℕ) → IsSoFar p put
+    → (q.text ≡ p.text) × IsSoFar q (put ++ concat parts)
 calls_compare p q [] same put so =
     (ap (λ (c : Compared). c.text) (sym same), subst (λ l. IsSoFar q l) (sym (append-nil put)) (subst (λ c. IsSoFar c put) same so))
 calls_compare p q (piece ∷ parts) (j, one, rest) put so =

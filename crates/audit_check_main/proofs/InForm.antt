@@ -234,7 +234,8 @@ module _ (meters : ℕ) where
   headings (b ∷ slots) n = headings slots (suc n)
 
   slots_stand : (slots : List SlotView) (n : ℕ) (o : Open) → n + length slots ≤ meters
-      → AllByRecursion (λ order. All IsCounted order) (map order_of slots) → Stands (flat_map meter_text slots) n o (headings slots n) (behind slots o)
+      → AllByRecursion (λ order. All IsCounted order) (map order_of slots)
+      → Stands (flat_map meter_text slots) n o (headings slots n) (behind slots o)
   slots_stand [] n o few small = nothing_stands n o
   slots_stand (b ∷ slots) n o few small =
       then_stands (slot_stands b n o (omega arith) (recursion_from_All IsCounted (order_of b) small.0))

@@ -20,7 +20,8 @@ part-last bytes more start len begins ends =
     ∙ (ap (take (length more)) (drop-append_seam bytes more) ∙ take-length more)
 
 told-longer : (bytes more : List ℕ) (line : KeptLine) → IsKept bytes line → told_kept (bytes ++ more) line ≡ told_kept bytes line
-told-longer bytes more line kept = ap (told_again line.kind line.address line.number) (part-longer bytes more line.start line.len kept.within)
+told-longer bytes more line kept =
+    ap (told_again line.kind line.address line.number) (part-longer bytes more line.start line.len kept.within)
 
 kept-longer : (bytes more : List ℕ) (line : KeptLine) → IsKept bytes line → IsKept (bytes ++ more) line
 kept-longer bytes more line kept = record {

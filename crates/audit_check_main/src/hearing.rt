@@ -1,5 +1,6 @@
 //! What an input tells.
-ghost use Rattle.std.specs.Prelude.{◌≡◌, ◌≤◌, ◌<◌, ◌^◌, ◌+◌, ◌==◌, [], ◌∷◌, ◌++◌, false, count_by, length, map, vec_len, slice_set, slice_index_or, IfOk, OnOk};
+ghost use Rattle.std.specs.Prelude.{◌≡◌, ◌≤◌, ◌<◌, ◌^◌, ◌+◌, ◌==◌, [], ◌∷◌, ◌++◌, false, count_by};
+ghost use Rattle.std.specs.Prelude.{length, map, vec_len, slice_set, slice_index_or, IfOk, OnOk};
 ghost use Rattle.std.specs.List.{position_or_len};
 ghost use Rattle.line_reader.specs.Lines.{is_over};
 ghost use Rattle.meter_address.specs.Address.{AreApart};

@@ -1,5 +1,6 @@
 //! Reading the lists of a report.
-ghost use Rattle.std.specs.Prelude.{◌≡◌, ◌<◌, ◌≤◌, ◌^◌, [], ◌∷◌, ◌++◌, List, ℕ, false, true, length, reverse, Err, IfOk, IfErr, OnOk, OnErr};
+ghost use Rattle.std.specs.Prelude.{◌≡◌, ◌<◌, ◌≤◌, ◌^◌, [], ◌∷◌, ◌++◌, List, ℕ, false, true};
+ghost use Rattle.std.specs.Prelude.{length, reverse, Err, IfOk, IfErr, OnOk, OnErr};
 ghost use Rattle.report_text.specs.Orders.{lines_in, orders};
 ghost use Rattle.audit_check_main.specs.Lists.{is_meter, is_strangers, is_step, is_stranger, AreInForm, IsFirstFaulty, lists_printed};
 ghost use Rattle.audit_check_main.specs.Reading.{onto_last};

@@ -1,5 +1,6 @@
 //! Whether the printed lists are orders of the lines that they have to have.
-ghost use Rattle.std.specs.Prelude.{◌≡◌, ◌<◌, ◌+◌, ◌-◌, ◌^◌, [], ◌∷◌, ◌++◌, ℕ, List, true, false, length, vec_len, slice_get, slice_index_or, Ok, None, Some, IfSome};
+ghost use Rattle.std.specs.Prelude.{◌≡◌, ◌<◌, ◌+◌, ◌-◌, ◌^◌, [], ◌∷◌, ◌++◌, ℕ, List, true, false, length};
+ghost use Rattle.std.specs.Prelude.{vec_len, slice_get, slice_index_or, Ok, None, Some, IfSome};
 ghost use Rattle.audit_check_main.specs.Order.{IsRight, IsWrongAt, IsFirstWrong, AreNext};
 ghost use Rattle.audit_check_main.specs.Hearing.{numbers_in_list};
 ghost use Rattle.audit_check_main.specs.Cursors.{HaveTaken};

@@ -1,5 +1,6 @@
 //! The top call.
-ghost use Rattle.std.specs.Prelude.{◌≡◌, ◌≤◌, ◌<◌, ◌+◌, ◌^◌, [], ℕ, true, false, map, length, vec_len, is_some, ◌⊎◌, Err, IsTrue, IfOk, IfSome};
+ghost use Rattle.std.specs.Prelude.{◌≡◌, ◌≤◌, ◌<◌, ◌+◌, ◌^◌, [], ℕ, true, false, map, length};
+ghost use Rattle.std.specs.Prelude.{vec_len, is_some, ◌⊎◌, Err, IsTrue, IfOk, IfSome};
 ghost use Rattle.std.specs.String.{string_bytes};
 ghost use Rattle.outer_io.specs.Bytes.{AppendsFront};
 ghost use Rattle.outer_io.specs.Each.{Each, EachWith, IsFirst};

@@ -7,7 +7,8 @@ ghost use Rattle.made_input.specs.Made.{made};
 ghost use Rattle.receivers.specs.Run.{receiver_runs};
 ghost use Rattle.collector_main.specs.MadeRun.{IsMadeRun, made_outputs};
 ghost use Rattle.collector_main.specs.Run.{IsRun};
-ghost use Rattle.collector_main.specs.Showing.{IsFresh, IfMade, receiver_count, hears, collects, asks_for_readings, sends_downlinks, outputs_of};
+ghost use Rattle.collector_main.specs.Showing.{IsFresh, IfMade, receiver_count, hears, collects};
+ghost use Rattle.collector_main.specs.Showing.{asks_for_readings, sends_downlinks, outputs_of};
 ghost use Rattle.collector_main.specs.Statuses.{IsUnread};
 ghost use Rattle.collector_main.specs.Words.{plan_of};
 ghost use Rattle.collector_main.specs.declared.command_words.WordsFault.{WordsFault};
@@ -24,9 +25,9 @@ use std::sync::Wait;
 use std::thread::Threads;
 
 /// Runs what the words ask for, over sources and sinks. For `hear` the receiver is the one of the vector; `next` and
-/// `readings` stay as they are, and so does the receiver's `tx`. For `collect` all receivers of the vector are heard at once, in the order of
-/// their numbers, and it may wait; after `Memory` nothing is said of them. For `made` there is no receiver in the vector: a session is made,
-/// its report goes to `readings` and its summary to `report`, and `next` and the roster stay as they are.
+/// `readings` stay as they are, and so does the receiver's `tx`. For `collect` all receivers of the vector are heard at once, in the
+/// order of their numbers, and it may wait; after `Memory` nothing is said of them. For `made` there is no receiver in the vector: a
+/// session is made, its report goes to `readings` and its summary to `report`, and `next` and the roster stay as they are.
 pub fn run<R: Threads + Wait + Sync, S: Source + Send + Drop, K: Sink + Send + Drop>(
     rt: &R,
     alloc: Global,

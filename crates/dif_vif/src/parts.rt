@@ -2,7 +2,8 @@
 
 ghost use Rattle.std.specs.Prelude.{◌≡◌, ◌≤◌, length, IfOk};
 ghost use Rattle.dif_vif.specs.Spelling.{field_width, lvar_width, data_width};
-ghost use Rattle.dif_vif.specs.Reading.{Gives, byte_at, bytes_at, chain_len, chain_at, dif_at, dib_at, text_at, vib_at, lvar_at, contents_at, record_at};
+ghost use Rattle.dif_vif.specs.Reading.{Gives, byte_at, bytes_at, chain_len, chain_at, dif_at, dib_at};
+ghost use Rattle.dif_vif.specs.Reading.{text_at, vib_at, lvar_at, contents_at, record_at};
 ghost use Rattle.dif_vif.specs.Views.{dib, vib, contents, data_record};
 
 use crate::fault::RecordFault;

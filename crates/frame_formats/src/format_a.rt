@@ -1,5 +1,6 @@
 //! Format A: a block of 10 bytes, then blocks of 16, each with its CRC.
-ghost use Rattle.std.specs.Prelude.{◌≡◌, ◌≤◌, ◌<◌, ◌+◌, ◌-◌, ◌*◌, ◌/◌, ◌++◌, List, ℕ, length, take, drop, slice_index, Ok, Err, OnOk, MatchResult};
+ghost use Rattle.std.specs.Prelude.{◌≡◌, ◌≤◌, ◌<◌, ◌+◌, ◌-◌, ◌*◌, ◌/◌, ◌++◌, List, ℕ, length};
+ghost use Rattle.std.specs.Prelude.{take, drop, slice_index, Ok, Err, OnOk, MatchResult};
 ghost use Rattle.std.specs.List.{flat_map};
 ghost use Rattle.frame_formats.specs.Frames.{FrameA};
 ghost use Rattle.frame_formats.specs.Decodes.{Decodes};

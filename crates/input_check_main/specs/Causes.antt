@@ -33,7 +33,9 @@ roster_words causes.Missing = codes "the head or the line `own ADDRESS` is missi
 abbrev pub bad_words : BadLine → List ℕ
 bad_words bads.TooLong = codes "the line has more than 1,024 bytes"
 bad_words bads.Word =
-    codes "the line begins with none of A, B, T, Q, X and K and a space: a tab is no space, a byte order mark in front of the first line is none either, and a receiver's own output has to be turned into such lines first"
+    codes "the line begins with none of A, B, T, Q, X and K and a space: a tab is no space, "
+    ++ codes "a byte order mark in front of the first line is none either, "
+    ++ codes "and a receiver's own output has to be turned into such lines first"
 bad_words bads.Fields = codes "the line hasn't as many fields as its first one asks for, with just one space between two of them"
 bad_words bads.Number = codes "the moment or the id is no plain decimal number of its range"
 bad_words bads.Address = codes "the address isn't sixteen hexadecimal digits: meter_name makes it of what the label says"

@@ -47,7 +47,9 @@ fn put_bad_words<P: Paper>(paper: &mut P, bad: BadLine)
         BadLine::TooLong => put_text(paper, "the line has more than 1,024 bytes"),
         BadLine::Word => put_text(
             paper,
-            "the line begins with none of A, B, T, Q, X and K and a space: a tab is no space, a byte order mark in front of the first line is none either, and a receiver's own output has to be turned into such lines first",
+            "the line begins with none of A, B, T, Q, X and K and a space: a tab is no space, \
+             a byte order mark in front of the first line is none either, \
+             and a receiver's own output has to be turned into such lines first",
         ),
         BadLine::Fields => put_text(
             paper,

@@ -1,7 +1,8 @@
 //! The grammar of a line.
 ghost use Rattle.std.specs.Prelude.{◌≡◌, ◌≤◌, length};
 ghost use Rattle.std.specs.List.{AllByRecursion};
-ghost use Rattle.line_reader.specs.Grammar.{IsLineText, frame_line, tick_line, put_line, payload_of, cancel_line, key_line, by_word, line_of};
+ghost use Rattle.line_reader.specs.Grammar.{IsLineText, frame_line, tick_line, put_line, payload_of};
+ghost use Rattle.line_reader.specs.Grammar.{cancel_line, key_line, by_word, line_of};
 
 use crate::frame::FrameBytes;
 use crate::line::{BadLine, Line};

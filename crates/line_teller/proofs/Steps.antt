@@ -169,7 +169,8 @@ module _ {T : Type 0} (tells : T → ℕ → List ℕ → List ℕ → List ℕ 
         text = h.told_text;
         note = h.told_note;
         last = new;
-        told = one_told number old new h.line h.told_text h.told_note (subst (λ k. tells old k h.line h.told_text h.told_note new) same h.told);
+        told = one_told number old new h.line h.told_text h.told_note
+            (subst (λ k. tells old k h.line h.told_text h.told_note new) same h.told);
         lines_are = record { count = n; first = sym h.more };
         last_is = λ whole. refl;
         written = λ on. subst (λ t. AppendsFront t out.before.written out.now.written) h.text_is (front on);

@@ -44,10 +44,12 @@ pub(crate) fn hear_next<S: Source, T: Teller>(
     ensures few { reader.new.reader.line ≤ 131072 }
     ensures sound { OnOk result ((text.new.failed ≡ false) × (note.new.failed ≡ false)) }
     ensures heard { OnOk result (IsTrue S.tells → HearsLine T.tells reader.new.reader.line
-        (given S.taken reader.old.reader) (given S.taken reader.new.reader) teller.old teller.new text.old.text text.new.text note.old.text note.new.text) }
+        (given S.taken reader.old.reader) (given S.taken reader.new.reader) teller.old teller.new
+        text.old.text text.new.text note.old.text note.new.text) }
     ensures ends { IfErr result (λ end. IsTrue S.tells →
         EndsLines end (S.taken reader.new.reader.source) (S.left reader.new.reader.source) (given S.taken reader.old.reader)) }
-    ensures first { IfErr result (λ end. IsTrue S.tells → AreFirst (given S.taken reader.old.reader) (all_lines (S.taken reader.new.reader.source))) }
+    ensures first { IfErr result (λ end. IsTrue S.tells →
+        AreFirst (given S.taken reader.old.reader) (all_lines (S.taken reader.new.reader.source))) }
     ensures same { IfErr result (λ end. IsTrue (is_whole end) → (teller.new ≡ teller.old) × (text.new ≡ text.old) × (note.new ≡ note.old)) }
     ensures write { result ≢ Err LinesEnd.Write }
     ensures read { result ≡ Err LinesEnd.Read → Rose (S.faults reader.old.reader.source) (S.faults reader.new.reader.source) }

@@ -135,7 +135,8 @@ one_group_more meters before count made len group run new some is is_group put h
     ap (λ r. joined r later) (put ∙ ap (λ g. joined run (texts_rotated g)) is_group)
     ∙ joined_assoc run (texts_rotated (lines_behind meters (before + made) len)) later
     ∙ ap (joined run) (
-    ap₂ (λ b n. joined (texts_rotated (lines_behind meters (before + made) len)) (texts_heard (lines_behind meters b n))) (sym at) (sym left)
+    ap₂ (λ b n. joined (texts_rotated (lines_behind meters (before + made) len)) (texts_heard (lines_behind meters b n)))
+    (sym at) (sym left)
     ∙ sym (group_heard meters (before + made) (count - made) len is within))
     ∙ h
 

@@ -115,7 +115,8 @@ module _ {P : Type 0} (bytes : P → List ℕ) where
       let first : front ≡ take n (drop start all) = is_front
       ∙ front_of_piece pieces piece at n rest place.in_piece (is_rest ∙ ap (drop at) (sym here)) few
       ∙ ap (λ m. take n (drop m all)) same in
-      let moved : Moves front (take start all) (drop start all) (take (start + n) all) (drop (start + n) all) = moves all start n front first in
+      let moved : Moves front (take start all) (drop start all) (take (start + n) all) (drop (start + n) all) =
+      moves all start n front first in
       let end : start + n ≡ place_in_all bytes pieces piece (at + n) = ap (λ m. m + n) (sym same) ∙ sym (bytes_on pieces piece at n) in
       let later : Moves front (take start all) (drop start all) (take (place_in_all bytes pieces piece (at + n)) all)
       (drop (place_in_all bytes pieces piece (at + n)) all) =

@@ -3,7 +3,8 @@ ghost use Rattle.std.specs.Prelude.{◌≡◌, ◌+◌, ◌*◌, ◌^◌, ◌<�
 ghost use Rattle.frame_formats.specs.Crc.{IsBytes};
 ghost use Rattle.meter_address.specs.Address.{bytes_of};
 ghost use Rattle.tpl_headers.specs.Configuration.{blocks_of};
-ghost use Rattle.message_check.specs.Opening.{initialization_vector, decrypted5, rest_of, Checked5, some_passed, check_bytes_passed, access_number_passed, opened5_after};
+ghost use Rattle.message_check.specs.Opening.{initialization_vector, decrypted5, rest_of, Checked5, some_passed};
+ghost use Rattle.message_check.specs.Opening.{check_bytes_passed, access_number_passed, opened5_after};
 ghost use Rattle.message_check.specs.Keys.{keys_of};
 ghost use Rattle.message_check.specs.Opened.{found_in, Opens, Says};
 ghost use Rattle.message_check.specs.Refusals.{Refusal5};

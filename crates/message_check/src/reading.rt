@@ -1,6 +1,7 @@
 //! Reading the layers of a telegram above the link.
 ghost use Rattle.std.specs.Prelude.{◌≡◌, ◌≤◌, ◌↔◌, length, drop, Ok, Err, IfOk};
-ghost use Rattle.message_check.specs.Layers.{IsLayers, IsLayerFault, extension_len, fragmentation_len, extension_in, fragmentation_in, header_in, layers_of};
+ghost use Rattle.message_check.specs.Layers.{IsLayers, IsLayerFault, extension_len, fragmentation_len};
+ghost use Rattle.message_check.specs.Layers.{extension_in, fragmentation_in, header_in, layers_of};
 ghost use Rattle.message_check.specs.declared.headers.Layers.{Layers};
 ghost use Rattle.message_check.specs.declared.refusal.LayerFault.{LayerFault};
 

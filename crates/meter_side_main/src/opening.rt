@@ -4,7 +4,8 @@ ghost use Rattle.std.specs.Int.{w32, to_le_bytes};
 ghost use Rattle.cbc_cmac.specs.Cbc.{cbc_decrypted};
 ghost use Rattle.cbc_cmac.specs.Mac.{zeros, cmac};
 ghost use Rattle.downlink_maker.specs.Downlink.{cipher_key, mac_key};
-ghost use Rattle.meter_side_main.specs.Reading.{blocks_in, counter_in, mac_in, mac_due, decrypted, framed, length_passed, layout_passed, mac_passed, check_bytes_passed, told, did_with, did_after};
+ghost use Rattle.meter_side_main.specs.Reading.{blocks_in, counter_in, mac_in, mac_due, decrypted, framed, length_passed};
+ghost use Rattle.meter_side_main.specs.Reading.{layout_passed, mac_passed, check_bytes_passed, told, did_with, did_after};
 
 use crate::delivery::{Content, Executed};
 use crate::layers::{CONTENT_AT, agreeing, layers_before};

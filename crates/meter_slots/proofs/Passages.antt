@@ -48,5 +48,6 @@ module _ (v : Passing) (own : Address) (c : Commissioned) (k k' : Kept) (event :
         ≡ readings v.commission journal ++ option_to_list reading
     passing_reading journal source line h =
         let kept = keeps journal source line h in
-        subst (λ (w : Passing). readings w.commission (journal ++ record { source = source; line = line; event = event; outcome = given } ∷ [])
+        subst (λ (w : Passing). readings w.commission
+        (journal ++ record { source = source; line = line; event = event; outcome = given } ∷ [])
         ≡ readings w.commission journal ++ option_to_list reading) view_is (sym kept.readings_are)

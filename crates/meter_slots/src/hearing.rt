@@ -6,7 +6,8 @@ ghost use Rattle.message_check.specs.declared.headers.Layers.{Layers};
 ghost use Rattle.meter_slots.specs.Hearing.{is_unasked, is_response, is_uplink, uplink_passed, layers_passed, number_passed};
 ghost use Rattle.meter_slots.specs.Hearing.{fragment_passed, received, Whole, auth_in, content_of, message_in, brought};
 ghost use Rattle.meter_slots.specs.Journal.{given_up, told_with, told_by_received, access_of};
-ghost use Rattle.meter_slots.specs.Keeping.{held_by, HasPlace, Admits, PieceFits, stored_by, verdict_as, judged_by, most_joined, most_brought, VerdictFits, IsOfWhole};
+ghost use Rattle.meter_slots.specs.Keeping.{held_by, HasPlace, Admits, PieceFits, stored_by, verdict_as};
+ghost use Rattle.meter_slots.specs.Keeping.{judged_by, most_joined, most_brought, VerdictFits, IsOfWhole};
 
 use crate::fragments::Fragments;
 use crate::judge::{Judge, Verdict};
@@ -196,7 +197,8 @@ fn hear_content(
     ensures verdict { (told : List Told) → StandsFor (held_by parts.old) told
         → verdict_as message.new result ≡ judged_by judge.now (Ok (message_in told (content_of afl bytes.now))) }
     ensures parts { (told : List Told) → StandsFor (held_by parts.old) told
-        → StandsFor (held_by parts.new) (told_with (content_of afl bytes.now) (given_up (stored_by (verdict_as message.new result))) ++ told) }
+        → StandsFor (held_by parts.new)
+        (told_with (content_of afl bytes.now) (given_up (stored_by (verdict_as message.new result))) ++ told) }
     ensures fits { VerdictFits judge.now.commission.mode message.new (most_joined afl (held_by parts.old) bytes.now) result }
     ensures whole { (m : Message) → content_of afl bytes.now ≡ Whole m → verdict_as message.new result ≡ judged_by judge.now (Ok (Some m)) }
 {

@@ -52,7 +52,8 @@ impl PassingSlot {
         ensures after { IfOk result (λ served. (journal : List Entry) (source line : ℕ) → IsAfter journal self.old
             → IsAfter (journal ++ record { source = source; line = line; event = event.now; outcome = served.outcome } ∷ []) self.new) }
         ensures reading { IfOk result (λ served. (journal : List Entry) (source line : ℕ) → IsAfter journal self.old
-            → readings self.old.commission (journal ++ record { source = source; line = line; event = event.now; outcome = served.outcome } ∷ [])
+            → readings self.old.commission
+            (journal ++ record { source = source; line = line; event = event.now; outcome = served.outcome } ∷ [])
             ≡ readings self.old.commission journal ++ option_to_list served.reading) }
         ensures err { OnErr result (self.new ≡ self.old) }
     {

@@ -130,7 +130,8 @@ impl Standing {
     ghost use Rattle.afl_fragments.specs.Held.{Told, StandsFor};
     ghost use Rattle.meter_slots.specs.declared.entry.Event.TheVariants.{Hear};
     ghost use Rattle.frame_formats.specs.declared.format.Format.{Format};
-    ghost use Rattle.meter_slots.specs.Journal.{told_by, access_at, key_answer, other_given, rekeyed, orders_after, answer, stored, reading_of};
+    ghost use Rattle.meter_slots.specs.Journal.{told_by, access_at, key_answer, other_given, rekeyed};
+    ghost use Rattle.meter_slots.specs.Journal.{orders_after, answer, stored, reading_of};
     ghost use Rattle.meter_slots.specs.Keeping.{standing_for, last_after, Moves, StoresInRange, IsRefusedAlone};
 
     /// Nothing came yet.

@@ -24,18 +24,18 @@ front_is : (a b c : List ℕ) → a ≡ b → IsFrontOf a c → IsFrontOf b c
 front_is a b c e f = record { rest = f.rest; joined = f.joined ∙ ap (λ t. t ++ f.rest) e }
 
 -- what a write did
-pub front_of_appended : (bytes old new : List ℕ) → AppendsFront bytes old new → IsFrontOf old new
-front_of_appended bytes old new a = record { rest = take a.count bytes; joined = a.appended }
+pub appended_grows : (bytes old new : List ℕ) → AppendsFront bytes old new → IsFrontOf old new
+appended_grows bytes old new a = record { rest = take a.count bytes; joined = a.appended }
 
-pub appended_is_front : (bytes old new : List ℕ) → AppendsFront bytes old new → IsFrontOf new (old ++ bytes)
-appended_is_front bytes old new a = record {
+pub appended_front : (bytes old new : List ℕ) → AppendsFront bytes old new → IsFrontOf new (old ++ bytes)
+appended_front bytes old new a = record {
   rest = drop a.count bytes;
   joined = ap (λ t. old ++ t) (sym (take-append-drop a.count bytes)) ∙ sym (append_assoc old (take a.count bytes) (drop a.count bytes))
       ∙ ap (λ t. t ++ drop a.count bytes) (sym a.appended);
 }
 
-pub whole_is_front : (bytes old new : List ℕ) → new ≡ old ++ bytes → IsFrontOf new (old ++ bytes)
-whole_is_front bytes old new e = record { rest = []; joined = sym e ∙ sym (append-nil new) }
+pub whole_front : (bytes old new : List ℕ) → new ≡ old ++ bytes → IsFrontOf new (old ++ bytes)
+whole_front bytes old new e = record { rest = []; joined = sym e ∙ sym (append-nil new) }
 
 rose_on : (f g h : ℕ) → f ≤ g → Rose f g → g ≤ h → Rose f h
 rose_on f g h le rose later = grind arith

@@ -9,7 +9,7 @@ use crate::pieces::Paper;
 use outer_io::{Failed, Sink, write_all};
 
 // Gives bytes to a sink unless a write has failed before, and answers whether one has failed by now.
-#[tactic(auto, using(crate::proofs::Filings::front_of_appended, crate::proofs::Filings::appended_is_front, crate::proofs::Filings::whole_is_front))]
+#[tactic(auto, using(crate::proofs::Filings::appended_grows, crate::proofs::Filings::appended_front, crate::proofs::Filings::whole_front))]
 fn give<K: Sink>(sink: &mut K, bytes: &[u8], failed: bool) -> bool
     ensures later { K.faults sink.old ≤ K.faults sink.new }
     ensures grows { IsTrue K.tells → IsFrontOf (K.written sink.old) (K.written sink.new) }

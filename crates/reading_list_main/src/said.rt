@@ -4,7 +4,8 @@ ghost use Rattle.std.specs.Option.{ok_or};
 ghost use Rattle.plain_text.specs.Parts.{is_word};
 ghost use Rattle.meter_address.specs.Address.{address_of};
 ghost use Rattle.reading_list_main.specs.Said.{Means, Said, number_in, moment_in, payload_in, said_read};
-ghost use Rattle.reading_list_main.specs.Said.{stored_line, step_line, meter_line, head_line, is_below_steps, is_outside, is_other, by_word, said_of};
+ghost use Rattle.reading_list_main.specs.Said.{stored_line, step_line, meter_line, head_line, is_below_steps};
+ghost use Rattle.reading_list_main.specs.Said.{is_outside, is_other, by_word, said_of};
 
 use hex::FromHexError;
 use meter_address::Address;

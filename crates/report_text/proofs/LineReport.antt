@@ -107,7 +107,8 @@ last_others kept = if_others (λ r. records_text r.payload) (λ r. records_other
 
 pending_others : (c : Command) → Others (pending_text c)
 unfolding pending_text labelled_two
-pending_others c = one_other _ (worded_two (literal (codes "pending ") refl) c.id c.tries) (record { meter = refl; strangers = refl; step = refl; stranger = refl })
+pending_others c = one_other _ (worded_two (literal (codes "pending ") refl) c.id c.tries)
+    (record { meter = refl; strangers = refl; step = refl; stranger = refl })
 
 -- what stands behind a journal's steps
 pub behind_steps : (kept : List Reading) (commands : List Command) → Others (last_text kept ++ flat_map pending_text commands)
@@ -163,7 +164,8 @@ all_strangers_tell (h ∷ heard) small = stranger_tells h small.0 ⨾ all_strang
 
 ring_others : (a : Address) → Others (ring_text a)
 unfolding ring_text labelled_bytes
-ring_others a = one_other _ (worded_bytes (literal (codes "ring ") refl) (bytes_of a)) (record { meter = refl; strangers = refl; step = refl; stranger = refl })
+ring_others a = one_other _ (worded_bytes (literal (codes "ring ") refl) (bytes_of a))
+    (record { meter = refl; strangers = refl; step = refl; stranger = refl })
 
 pub rings_others : (heard : List Heard) → Others (flat_map ring_text (ring_of heard))
 rings_others heard = all_others ring_text ring_others (ring_of heard)
@@ -177,7 +179,8 @@ strangers_tell heard small = strangers_line (length heard) ⨾ all_strangers_tel
 
 pub head_others : (ends : List ReceiverEnd) → Others (codes "wmbus-report 1\n" ++ flat_map receiver_text (enumerate_from 1 ends))
 head_others ends =
-    one_other (codes "wmbus-report 1") (literal (codes "wmbus-report 1") refl) (record { meter = refl; strangers = refl; step = refl; stranger = refl })
+    one_other (codes "wmbus-report 1") (literal (codes "wmbus-report 1") refl)
+    (record { meter = refl; strangers = refl; step = refl; stranger = refl })
     ⨟ all_others receiver_text receiver_others (enumerate_from 1 ends)
 
 pub end_others : Others (codes "end\n")

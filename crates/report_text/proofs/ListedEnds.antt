@@ -52,7 +52,8 @@ end_next f n payload from span is =
     ∙ ap (λ full. f full (next_of payload (place_behind span.end rest))) (one_less (length rest) n)
 
 end_behind : {X : Type 0} (f : Bool → Result (Option RecordSpan) RecordFault → X) (left : ℕ) (payload : List ℕ) (from : ℕ)
-    (span : RecordSpan) → 0 < left → next_of payload from ≡ Ok (Some span) → end_from f left payload from ≡ end_from f (left - 1) payload span.end
+    (span : RecordSpan) → 0 < left → next_of payload from ≡ Ok (Some span)
+    → end_from f left payload from ≡ end_from f (left - 1) payload span.end
 end_behind f zero payload from span some is = absurd (omega arith)
 end_behind f (suc n) payload from span some is =
     let one : n ≡ suc n - 1 = omega arith in

@@ -13,7 +13,9 @@ parts_are text [] = refl
 parts_are text (x ∷ xs) = ap (λ t. text x ++ t) (parts_are text xs)
 
 -- a report of the slots' parts is the report
-pub report_is : (ends : List ReceiverEnd) (parts : List (List ℕ)) (slots : List SlotView) (heard : List Heard) → parts ≡ map meter_text slots
+pub report_is : (ends : List ReceiverEnd) (parts : List (List ℕ)) (slots : List SlotView) (heard : List Heard)
+    → parts ≡ map meter_text slots
     → report_around ends (flat_map (λ part. part) parts) heard ≡ report_text ends slots heard
 unfolding report_text
-report_is ends parts slots heard are = ap (λ meters. report_around ends meters heard) (ap (flat_map (λ part. part)) are ∙ parts_are meter_text slots)
+report_is ends parts slots heard are =
+    ap (λ meters. report_around ends meters heard) (ap (flat_map (λ part. part)) are ∙ parts_are meter_text slots)

@@ -140,8 +140,9 @@ fn open_collect<R: Eprint + Files<File = File> + AllocGlobal>(
 {
     let roster = open_to_read(rt, roster)?;
 
-    // Where the program was started with standard streams closed, their numbers would be those of files. The roster and these take them, so that
-    // nothing that is printed goes into a file that is written; they can't be written, and so the report fails as over a closed stream.
+    // Where the program was started with standard streams closed, their numbers would be those of files. The roster and these take them,
+    // so that nothing that is printed goes into a file that is written; they can't be written, and so the report fails as over a closed
+    // stream.
     let _streams = (File::open(rt, "/dev/null"), File::open(rt, "/dev/null"));
     let next = open_to_write(rt, next, PRIVATE)?;
     let readings = open_to_write(rt, readings, PLAIN)?;

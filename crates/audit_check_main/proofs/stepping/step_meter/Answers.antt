@@ -52,7 +52,8 @@ loop-pair-preserved c =
             commission = c.args.commission;
             journal = take c.loop-pair.pair-index target.journal;
           } in
-          same_slot _ _ _ _ _ (ap (λ (js : List Entry). let v : SlotView = record { own = c.args.own; commission = c.args.commission; journal = js } in v)
+          same_slot _ _ _ _ _
+          (ap (λ (js : List Entry). let v : SlotView = record { own = c.args.own; commission = c.args.commission; journal = js } in v)
           (step_more c.args.own c.args.heard.now c.args.commission c.args.order.now target h c.loop-pair.pair-index _ c.in-Event.address
           c.in-Event.event _ (take c.loop-pair.pair-index target.journal) c.loop-pair-test.true refl refl
           (sym c.told_at.ensures ∙ c.in-Event.is) refl))

@@ -25,7 +25,8 @@ returns-clause-outcome c format told =
     ∙ ap (λ (n : Commissioned). heard own n b.commands c.hear-judged.result.access c.has_response_control-response.result found)
     c.commission.ensures
     ∙ ap (λ (a : Access). heard own b.judge.commission b.commands a c.has_response_control-response.result found)
-    (c.hear-judged.ensures.access ∙ ap (access_of (received b.judge.commission.mode t)) (c.hear-judged.ensures.verdict told (c.take_place.ensures.held ∙ stands)))
+    (c.hear-judged.ensures.access ∙ ap (access_of (received b.judge.commission.mode t))
+    (c.hear-judged.ensures.verdict told (c.take_place.ensures.held ∙ stands)))
     ∙ ap (λ (r : Bool). heard own b.judge.commission b.commands (access k) r found)
     (c.has_response_control-response.ensures ∙ ap is_response c.control.ensures)
     ∙ ap (λ (v : Result (Option Found) Reason). heard own b.judge.commission b.commands (access k) response v)
@@ -41,7 +42,8 @@ returns-clause-reading c format told =
     → option_to_list c.reading_from-reading.result ≡ reading_at c.args.at (stored_in (verdict k.commission (standing_for k told) t)) in
     let reads : Reads k = λ stands. c.reading_from-reading.ensures
     ∙ ap (λ (bytes : List ℕ). reading_at c.args.at (stored_in (verdict_as bytes c.hear-judged.result.verdict))) c.deref.ensures
-    ∙ ap (λ (v : Result (Option Found) Reason). reading_at c.args.at (stored_in v)) (c.hear-judged.ensures.verdict told (c.take_place.ensures.held ∙ stands)) in
+    ∙ ap (λ (v : Result (Option Found) Reason). reading_at c.args.at (stored_in v))
+    (c.hear-judged.ensures.verdict told (c.take_place.ensures.held ∙ stands)) in
     subst Reads c.self.view_is reads
 
 pub returns-clause-orders : goal.returns-clause-orders
@@ -55,7 +57,8 @@ returns-clause-orders c format told =
     → c.hear-outcome.new.self ≡ orders_heard k.orders (access k) (is_response (slice_index t 1)) given in
     let moved : Moved k = λ stands. c.hear-outcome.ensures.after
     ∙ ap (λ (a : Access). orders_heard b.commands a c.has_response_control-response.result given)
-    (c.hear-judged.ensures.access ∙ ap (access_of (received b.judge.commission.mode t)) (c.hear-judged.ensures.verdict told (c.take_place.ensures.held ∙ stands)))
+    (c.hear-judged.ensures.access ∙ ap (access_of (received b.judge.commission.mode t))
+    (c.hear-judged.ensures.verdict told (c.take_place.ensures.held ∙ stands)))
     ∙ ap (λ (response : Bool). orders_heard b.commands (access k) response given)
     (c.has_response_control-response.ensures ∙ ap is_response c.control.ensures) in
     subst Moved c.self.view_is moved
