@@ -1,9 +1,13 @@
 //! What the lines of an input told, in few bytes.
-ghost use Rattle.std.specs.Prelude.{◌≡◌, ◌≤◌, ◌+◌, ℕ, List, length};
+ghost use Rattle.std.specs.Prelude.{◌≡◌, ◌≤◌, ◌<◌, ◌+◌, ◌^◌, length, Ok};
+ghost use Rattle.frame_formats.specs.Frames.{IsTelegram};
+ghost use Rattle.meter_slots.specs.Telling.{heard_in};
+ghost use Rattle.receivers.specs.Told.{told_by_event};
 ghost use Rattle.audit_check_main.specs.Hearing.{whose_told};
-ghost use Rattle.audit_check_main.specs.Kept.{FitsKind, part_of, told_again};
+ghost use Rattle.audit_check_main.specs.Kept.{FitsKind, IsKept, part_of, number_in, bytes_in, told_again};
 
 use crate::whose::Whose;
+use byteorder::{BigEndian, ByteOrder};
 use frame_formats::{Format, Telegram, decode};
 use line_reader::{Line, read_line};
 use message_check::target;
@@ -14,18 +18,17 @@ use receivers::Told;
 use std::alloc::Global;
 use std::marker::Model;
 
-// The address that stands beside a line that is for no meter; it is never looked at.
-const NOBODY: Address = Address(0);
-
-// What a line told, without its address, its number and its bytes.
+// What a line told, without its number and its bytes.
 #[derive(Clone, Copy)]
 enum Kind {
-    // The number is the moment at which the telegram was heard, and the bytes are its own.
-    Hear(Format),
+    // A telegram of format A or B. The number is the moment at which it was heard, and the bytes are its own.
+    HearA,
+    HearB,
+    // The number of this and of those below is the meter's address.
     Tick,
     // The bytes are the payload.
     Put,
-    // The number is the id.
+    // The bytes are the id, the highest first.
     Cancel,
     // The bytes are the key.
     Rekey,
@@ -33,17 +36,18 @@ enum Kind {
     Bad,
 }
 
-// A line, with the place of its bytes among those of all lines.
+// A line, with the place where its number, the highest byte first, and its bytes stand among those of all lines.
 #[derive(Clone, Copy)]
 struct KeptLine {
-    address: Address,
-    number: u64,
     start: u32,
+    // Of so many bytes the number takes the first `width`.
     len: u16,
+    width: u8,
     kind: Kind,
 }
 
-/// What the lines of an input told: 24 bytes for a line, and those of its telegram, payload or key.
+/// What the lines of an input told: 8 bytes for a line, those of its number, as few as it takes, and those of its telegram, payload or
+/// key.
 #[derive(Drop)]
 pub(crate) struct ToldLines {
     lines: Vec<KeptLine>,
@@ -65,14 +69,74 @@ impl Model for ToldLines {
     ghost invariant = { λ t. Each (IsKept t.bytes.items) t.lines.items };
 }
 
-// So many bytes from a place on.
-fn part_of(bytes: &[u8], start: usize, len: usize) -> &[u8]
-    requires { start + len ≤ length bytes.now }
-    ensures { result.now ≡ part_of bytes.now start len }
+// The part of all bytes that is a line's.
+fn part_of_line<'a>(bytes: &'a [u8], line: &KeptLine) -> &'a [u8]
+    requires { IsKept bytes.now line.now }
+    ensures { result.now ≡ part_of bytes.now line.now.start line.now.len }
 {
-    let (_, behind) = bytes.split_at(start);
-    let (part, _) = behind.split_at(len);
+    let (_, behind) = bytes.split_at(line.start as usize);
+    let (part, _) = behind.split_at(line.len as usize);
     part
+}
+
+// The number of a line.
+fn number_of(part: &[u8], width: u8) -> u64
+    requires least { 1 ≤ width }
+    requires most { width ≤ 8 }
+    requires within { width ≤ length part.now }
+    ensures { result ≡ number_in width part.now }
+{
+    BigEndian::read_uint(part, width as usize)
+}
+
+// The bytes of a line, behind its number.
+fn bytes_of(part: &[u8], width: u8) -> &[u8]
+    requires { width ≤ length part.now }
+    ensures { result.now ≡ bytes_in width part.now }
+{
+    let (_, bytes) = part.split_at(width as usize);
+    bytes
+}
+
+// How many bytes a number takes; at least one.
+fn width_of(number: u64) -> usize
+    ensures least { 1 ≤ result }
+    ensures most { result ≤ 8 }
+    ensures fits { number < 256 ^ result }
+{
+    match number {
+        0..=0xff => 1,
+        0x100..=0xffff => 2,
+        0x1_0000..=0xff_ffff => 3,
+        0x100_0000..=0xffff_ffff => 4,
+        0x1_0000_0000..=0xff_ffff_ffff => 5,
+        0x100_0000_0000..=0xffff_ffff_ffff => 6,
+        0x1_0000_0000_0000..=0xff_ffff_ffff_ffff => 7,
+        _ => 8,
+    }
+}
+
+// The telegram with these bytes.
+fn telegram_of(bytes: &[u8]) -> Telegram
+    requires { IsTelegram bytes.now }
+    ensures { result ≡ bytes.now }
+{
+    Telegram::from_bytes(bytes).unwrap()
+}
+
+// A telegram that was heard at a moment.
+fn hear_again(format: Format, at: u64, bytes: &[u8]) -> Told
+    requires { IsTelegram bytes.now }
+    ensures { result ≡ told_by_event (heard_in format at (Ok bytes.now)) }
+{
+    let telegram = telegram_of(bytes);
+    let address = target(&telegram);
+    let event = Event::Hear {
+        format,
+        at,
+        telegram,
+    };
+    Told::Event(address, event)
 }
 
 // The key in these bytes.
@@ -85,44 +149,39 @@ fn key_of(bytes: &[u8]) -> [u8; 16]
     key
 }
 
-// What was told, by its kind, its address, its number and its bytes.
-fn told_again(kind: Kind, address: Address, number: u64, bytes: &[u8]) -> Told
-    requires { FitsKind kind number bytes.now }
-    ensures { result ≡ told_again kind address number bytes.now }
+// What was told, by its kind, its number and its bytes.
+fn told_again(kind: Kind, number: u64, bytes: &[u8]) -> Told
+    requires { FitsKind kind bytes.now }
+    ensures { result ≡ told_again kind number bytes.now }
 {
+    let meter = Address(number);
     match kind {
-        Kind::Hear(format) => {
-            let event = Event::Hear {
-                format,
-                at: number,
-                telegram: Telegram::from_bytes(bytes).unwrap(),
-            };
-            Told::Event(address, event)
-        }
-        Kind::Tick => Told::Event(address, Event::Tick),
-        Kind::Put => Told::Event(address, Event::Put(Payload::new(bytes).unwrap())),
-        Kind::Cancel => Told::Event(address, Event::Cancel(number as u32)),
-        Kind::Rekey => Told::Event(address, Event::Rekey(key_of(bytes))),
+        Kind::HearA => hear_again(Format::A, number, bytes),
+        Kind::HearB => hear_again(Format::B, number, bytes),
+        Kind::Tick => Told::Event(meter, Event::Tick),
+        Kind::Put => Told::Event(meter, Event::Put(Payload::new(bytes).unwrap())),
+        Kind::Cancel => Told::Event(meter, Event::Cancel(BigEndian::read_u32(bytes))),
+        Kind::Rekey => Told::Event(meter, Event::Rekey(key_of(bytes))),
         Kind::Unframed => Told::Unframed,
         Kind::Bad => Told::Bad,
     }
 }
 
-// Whose line it is.
-fn whose_by(kind: Kind, address: Address) -> Whose
-    ensures { (number : ℕ) (bytes : List ℕ) → result ≡ whose_told (told_again kind address number bytes) }
+// Whose line it is, by its kind, its number and its bytes.
+fn whose_again(kind: Kind, number: u64, bytes: &[u8]) -> Whose
+    requires { FitsKind kind bytes.now }
+    ensures { result ≡ whose_told (told_again kind number bytes.now) }
 {
     match kind {
-        Kind::Hear(_) | Kind::Tick | Kind::Put | Kind::Cancel | Kind::Rekey => {
-            Whose::Meter(address)
-        }
+        Kind::HearA | Kind::HearB => Whose::Meter(target(&telegram_of(bytes))),
+        Kind::Tick | Kind::Put | Kind::Cancel | Kind::Rekey => Whose::Meter(Address(number)),
         Kind::Unframed => Whose::Unframed,
         Kind::Bad => Whose::Bad,
     }
 }
 
 impl ToldLines {
-    ghost use Rattle.std.specs.Prelude.{◌≡◌, ◌≤◌, [], ◌∷◌, ◌++◌, length, slice_get, option_map, IfOk, OnOk};
+    ghost use Rattle.std.specs.Prelude.{◌≡◌, ◌≤◌, [], ◌∷◌, ◌++◌, length, slice_get, option_map, Ok, IfOk, OnOk};
     ghost use Rattle.frame_formats.specs.Decoding.{decoded};
     ghost use Rattle.meter_slots.specs.Telling.{heard_in};
     ghost use Rattle.receivers.specs.Told.{told_by, told_by_event, told_of};
@@ -136,25 +195,38 @@ impl ToldLines {
         Ok(ToldLines { lines, bytes })
     }
 
-    // Adds what is told by a kind, an address, a number and bytes. There is no room behind more bytes than 32 bits count.
-    fn add(&mut self, kind: Kind, address: Address, number: u64, bytes: &[u8]) -> Result<(), Memory>
-        requires fits { FitsKind kind number bytes.now }
+    // Adds what is told by a kind, a number and bytes. There is no room behind more bytes than 32 bits count.
+    fn add(&mut self, kind: Kind, number: u64, bytes: &[u8]) -> Result<(), Memory>
+        requires fits { FitsKind kind bytes.now }
         requires few { length bytes.now ≤ 256 }
-        ensures { OnOk result (self.new ≡ self.old ++ told_again kind address number bytes.now ∷ []) }
+        ensures { OnOk result (self.new ≡ self.old ++ told_again kind number bytes.now ∷ []) }
     {
         let start = self.bytes.len();
         if start > u32::MAX as usize {
             return Err(Memory);
         }
+        let width = width_of(number);
+        let mut number_bytes = [0; 8];
+        BigEndian::write_uint(&mut number_bytes, number, width);
+        self.bytes.extend_from_slice(&number_bytes[..width])?;
         self.bytes.extend_from_slice(bytes)?;
         self.lines.push(KeptLine {
-            address,
-            number,
             start: start as u32,
-            len: bytes.len() as u16,
+            len: (width + bytes.len()) as u16,
+            width: width as u8,
             kind,
         })?;
         Ok(())
+    }
+
+    // Adds a telegram that was heard at a moment.
+    fn add_telegram(&mut self, format: Format, at: u64, telegram: &Telegram) -> Result<(), Memory>
+        ensures { OnOk result (self.new ≡ self.old ++ told_by_event (heard_in format at (Ok telegram.now)) ∷ []) }
+    {
+        match format {
+            Format::A => self.add(Kind::HearA, at, telegram.bytes()),
+            Format::B => self.add(Kind::HearB, at, telegram.bytes()),
+        }
     }
 
     // Adds what a frame tells that was heard at a moment.
@@ -163,8 +235,8 @@ impl ToldLines {
     {
         let mut telegram = Telegram::shortest();
         match decode(format, frame, &mut telegram) {
-            Ok(()) => self.add(Kind::Hear(format), target(&telegram), at, telegram.bytes()),
-            Err(_) => self.add(Kind::Unframed, NOBODY, 0, &[]),
+            Ok(()) => self.add_telegram(format, at, &telegram),
+            Err(_) => self.add(Kind::Unframed, 0, &[]),
         }
     }
 
@@ -174,10 +246,10 @@ impl ToldLines {
     {
         match line {
             Line::Frame { format, at, bytes } => self.add_frame(*format, *at, bytes.bytes()),
-            Line::Tick(address) => self.add(Kind::Tick, *address, 0, &[]),
-            Line::Put(address, payload) => self.add(Kind::Put, *address, 0, payload.bytes()),
-            Line::Cancel(address, id) => self.add(Kind::Cancel, *address, *id as u64, &[]),
-            Line::Key(address, key) => self.add(Kind::Rekey, *address, 0, key),
+            Line::Tick(address) => self.add(Kind::Tick, address.0, &[]),
+            Line::Put(address, payload) => self.add(Kind::Put, address.0, payload.bytes()),
+            Line::Cancel(address, id) => self.add(Kind::Cancel, address.0, &id.to_be_bytes()),
+            Line::Key(address, key) => self.add(Kind::Rekey, address.0, key),
         }
     }
 
@@ -188,7 +260,7 @@ impl ToldLines {
     {
         match read_line(text) {
             Ok(line) => self.add_line(&line),
-            Err(_) => self.add(Kind::Bad, NOBODY, 0, &[]),
+            Err(_) => self.add(Kind::Bad, 0, &[]),
         }
     }
 
@@ -205,7 +277,11 @@ impl ToldLines {
     {
         match self.lines.get(place) {
             None => None,
-            Some(line) => Some(whose_by(line.kind, line.address)),
+            Some(line) => {
+                let part = part_of_line(self.bytes.as_slice(), line);
+                let number = number_of(part, line.width);
+                Some(whose_again(line.kind, number, bytes_of(part, line.width)))
+            }
         }
     }
 
@@ -216,12 +292,9 @@ impl ToldLines {
         match self.lines.get(place) {
             None => None,
             Some(line) => {
-                let bytes = part_of(
-                    self.bytes.as_slice(),
-                    line.start as usize,
-                    line.len as usize,
-                );
-                Some(told_again(line.kind, line.address, line.number, bytes))
+                let part = part_of_line(self.bytes.as_slice(), line);
+                let number = number_of(part, line.width);
+                Some(told_again(line.kind, number, bytes_of(part, line.width)))
             }
         }
     }

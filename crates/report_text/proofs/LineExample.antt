@@ -1,6 +1,6 @@
 -- The orders of a small text: a step above the first heading, words in place of numbers, too few fields and all other lines are passed
 -- over.
-use Rattle.std.proofs.Common.{◌≡◌, [], ◌∷◌, refl}
+use Rattle.std.proofs.Common.{◌≡◌, [], ◌∷◌, ◌++◌, refl}
 use Rattle.std.specs.Prelude.{codes}
 use Rattle.report_text.specs.Orders.{Orders, orders, with_line}
 
