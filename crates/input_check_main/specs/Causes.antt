@@ -1,5 +1,5 @@
 -- What is wrong, in words, and what to do.
-use Rattle.std.specs.Prelude.{ℕ, List, codes}
+use Rattle.std.specs.Prelude.{ℕ, List, codes, ◌++◌}
 use Rattle.roster_file.specs.declared.roster.LineCause.{LineCause}
 use Rattle.roster_file.specs.declared.roster.LineCause.TheVariants as causes
 use Rattle.frame_formats.specs.declared.fault.FrameFault.{FrameFault}
