@@ -25,7 +25,7 @@ aging xs ys i d e h = rw (e, add-one) (aging_half xs i d h)
 
 -- ---- filters
 
-filter-cond : {X : Type 0} (p : X → Bool) (b : Bool) (x : X) (xs : List X)
+pub filter-cond : {X : Type 0} (p : X → Bool) (b : Bool) (x : X) (xs : List X)
     → filter p (cond b (x ∷ xs) xs) ≡ cond b (cond (p x) (x ∷ filter p xs) (filter p xs)) (filter p xs)
 filter-cond p true x xs = refl
 filter-cond p false x xs = refl
@@ -36,7 +36,7 @@ cond_swap true false u v = refl
 cond_swap false true u v = refl
 cond_swap false false u v = refl
 
-filter-filter : {X : Type 0} (p q : X → Bool) (xs : List X) → filter p (filter q xs) ≡ filter q (filter p xs)
+pub filter-filter : {X : Type 0} (p q : X → Bool) (xs : List X) → filter p (filter q xs) ≡ filter q (filter p xs)
 filter-filter p q [] = refl
 filter-filter p q (x ∷ xs) =
     filter-cond p (q x) x (filter q xs) ∙ cond_swap (q x) (p x) (x ∷ filter p (filter q xs)) (filter p (filter q xs))
@@ -46,7 +46,7 @@ map-cond : (b : Bool) (h : HeldPart) (hs : List HeldPart) → cond b (older h �
 map-cond true h hs = refl
 map-cond false h hs = refl
 
-others-older : (fid : ℕ) (hs : List HeldPart) → others fid (map older hs) ≡ map older (others fid hs)
+pub others-older : (fid : ℕ) (hs : List HeldPart) → others fid (map older hs) ≡ map older (others fid hs)
 others-older fid [] = refl
 others-older fid (h ∷ hs) =
     ap (λ gs. cond (not (is_fid fid h)) (older h ∷ gs) gs) (others-older fid hs) ∙ map-cond (not (is_fid fid h)) h (others fid hs)

@@ -6,3 +6,4 @@ pub mod MessageLaws
 pub mod PlaceLaws
 pub mod Room
 pub mod HistoryLaws
+pub mod Shortening

@@ -1,8 +1,9 @@
 //! Laws of the fragments that are held.
-ghost use Rattle.std.specs.Prelude.{◌≡◌, ◌↔◌, ℕ, List, Some, option_map};
+ghost use Rattle.std.specs.Prelude.{◌≡◌, ◌↔◌, ◌++◌, ℕ, List, Some, option_map};
 ghost use Rattle.afl_fragments.specs.Fragment.{Fragment};
 ghost use Rattle.afl_fragments.specs.declared.places.HeldPart.{HeldPart};
 ghost use Rattle.afl_fragments.specs.Held.{Told, held, piece_at, last_end, Message, assembled};
+ghost use Rattle.afl_fragments.specs.Short.{cut_down};
 ghost use Rattle.afl_fragments.specs.Laws.{IsLatest, IsLastEnd, IsMessage, MessagesAreThoseOfHistories, EachNumberIsHeldOnce};
 
 /// A fragment is held exactly where it is the latest that was heard with its number, no message that fragments made was
@@ -33,4 +34,9 @@ pub fn message_is_that_of_the_history()
 /// A number stands at most once among the fragments that are held, so that none is counted twice in `held_bytes`.
 pub fn each_number_is_held_once()
     ensures { EachNumberIsHeldOnce }
+{}
+
+/// What was told, cut down to the fragments that are held, holds the same, whatever is told after it.
+pub fn a_cut_history_holds_the_same()
+    ensures { (later told : List Told) → held (later ++ cut_down told) ≡ held (later ++ told) }
 {}

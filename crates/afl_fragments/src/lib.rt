@@ -6,10 +6,12 @@ mod part;
 mod parts;
 mod places;
 
-pub use laws::{end_is_the_last_heard, held_is_latest, message_is_joined};
-pub use part::{PART_MAX, Part};
+pub use laws::{
+    a_cut_history_holds_the_same, end_is_the_last_heard, held_is_latest, message_is_joined,
+};
+pub use part::{PART_MAX, Part, SPELT_MAX};
 pub use parts::{Held, Parts};
-pub use places::PARTS_MAX;
+pub use places::{HeldPart, PARTS_MAX};
 
 #[cfg(test)]
 mod tests;

@@ -1,9 +1,11 @@
 //! Fragments.
-ghost use Rattle.std.specs.Prelude.{◌≡◌, ◌≤◌, length};
-ghost use Rattle.afl_fragments.specs.Fragment.{IsFragment};
+ghost use Rattle.std.specs.Prelude.{◌≡◌, ◌≤◌, ◌<◌, ◌^◌, length, take, All, IfSome};
+ghost use Rattle.afl_layer.specs.Header.{Fits};
+ghost use Rattle.afl_fragments.specs.Fragment.{IsFragment, IsSpelt, spelt};
 
-use afl_layer::Afl;
+use afl_layer::{Afl, write_afl};
 use std::marker::Model;
+use steps::put;
 
 /// The most bytes of a message that one fragment carries: a telegram has at most 256 bytes, of which ten are the link's
 /// and four at least the header's.
@@ -30,7 +32,67 @@ impl Model for Part {
     ghost invariant = { λ p. (p.len ≤ PART_MAX) × IsFragment p.afl };
 }
 
+/// The most bytes of a fragment as it is sent.
+pub const SPELT_MAX: usize = 263;
+
+fn show_two(field: Option<u16>)
+    ensures { IfSome field (λ n. n < 2 ^ 16) }
+{}
+
+fn show_four(field: Option<u32>)
+    ensures { IfSome field (λ n. n < 2 ^ 32) }
+{}
+
+fn show_eight(field: Option<[u8; 8]>)
+    ensures { IfSome field (λ mac. length mac ≡ 8) }
+{}
+
+fn show_fid(fid: u8)
+    ensures { fid < 2 ^ 8 }
+{}
+
+// The fields of a header have the sizes of their types.
+fn show_fits(afl: Afl)
+    ensures { Fits afl }
+{
+    show_fid(afl.fid);
+    show_two(afl.ki);
+    show_four(afl.mcr);
+    show_eight(afl.mac);
+    show_two(afl.ml);
+}
+
+// Bytes are bytes.
+fn show_bytes(bytes: &[u8])
+    ensures { All (λ b. b < 256) bytes.now }
+{
+    let (_front, _rest) = bytes.split_at(0);
+}
+
 impl Part {
+    /// It can be sent again. Nothing is done: what is held is written with it.
+    pub fn show(&self)
+        ensures { IsSpelt self.now }
+    {
+        let mut out = [0; SPELT_MAX];
+        let len = self.spell(&mut out);
+        show_bytes(&out[..len]);
+    }
+
+    /// Writes the fragment as it is sent, and answers how many bytes it has.
+    pub fn spell(&self, out: &mut [u8; SPELT_MAX]) -> usize
+        ensures text { take result out.new ≡ spelt self.now }
+        ensures fragment { IsFragment self.now.afl }
+        ensures fits { Fits self.now.afl }
+        ensures most { length self.now.bytes ≤ 242 }
+    {
+        show_fits(self.afl);
+        let mut header = [0; 21];
+        let len = write_afl(&self.afl, &mut header);
+        let end = put(out, 0, &header[..len]);
+        put(out, end, &self.bytes[..self.len])
+    }
+
     /// The fragment with this header and this piece.
     pub fn new(afl: Afl, bytes: &[u8]) -> Part
         requires fragment { IsFragment afl }

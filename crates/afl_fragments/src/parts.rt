@@ -1,5 +1,6 @@
 //! The fragments that are held.
-ghost use Rattle.std.specs.Prelude.{◌≡◌, ◌≤◌, ◌<◌, ◌+◌, ◌↔◌, List, [], ◌∷◌, length, Some, IfNone, OnSome};
+ghost use Rattle.std.specs.Prelude.{◌≡◌, ◌≤◌, ◌<◌, ◌+◌, ◌↔◌, List, [], ◌∷◌, length, Some, IfNone, OnSome, IfSome, slice_get};
+ghost use Rattle.std.specs.Option.{option_copied};
 ghost use Rattle.afl_fragments.specs.Held.{Told, Piece, Tick, Clear, StandsFor, Message, message_with, assembled, held_bytes};
 ghost use Rattle.afl_fragments.specs.Laws.{IsMessageOf};
 
@@ -97,6 +98,25 @@ impl Parts {
         ensures room { OnSome result (length out.new ≤ held_bytes self.now) }
     {
         assemble(&self.places, self.order.as_slice(), out)
+    }
+
+    /// How many fragments are held.
+    pub fn count(&self) -> usize
+        ensures count { result ≡ length self.now }
+        ensures few { length self.now ≤ 16 }
+    {
+        self.order.len()
+    }
+
+    /// The fragment at a place, of which the one heard last has the first.
+    pub fn at(&self, place: usize) -> Option<&HeldPart>
+        ensures held { option_copied result ≡ slice_get self.now place }
+        ensures counted { IfSome result (λ h. h.now.part.afl.fid ≤ 16) }
+    {
+        match self.order.as_slice().get(place) {
+            Some(i) => self.places.get(*i as usize),
+            None => None,
+        }
     }
 
     /// How many bytes the fragments have together.

@@ -23,6 +23,23 @@ pub struct HeldPart {
 }
 
 impl HeldPart {
+    ghost use Rattle.std.specs.Prelude.{◌≡◌};
+    ghost use Rattle.afl_fragments.specs.Places.{is_fresh};
+
+    /// The fragment.
+    pub fn part(&self) -> &Part
+        ensures { result.now ≡ self.now.part }
+    {
+        &self.part
+    }
+
+    /// Whether no tick came after it.
+    pub fn is_fresh(&self) -> bool
+        ensures { result ≡ is_fresh self.now }
+    {
+        self.ticks == 0
+    }
+
     // What stands in a place that isn't in use.
     pub(crate) fn unused() -> HeldPart {
         let afl = Afl {

@@ -9,7 +9,7 @@ use Rattle.std.proofs.Math.Seq.{take-length}
 use Rattle.outer_io.specs.Each.{Each}
 use Rattle.meter_address.specs.declared.address.Address.{Address}
 use Rattle.meter_address.specs.Address.{AreApart}
-use Rattle.meter_address.specs.Commission.{Commissioned}
+use Rattle.meter_slots.specs.Journal.{Start}
 use Rattle.meter_slots.specs.declared.entry.Event.{Event}
 use Rattle.receivers.specs.declared.told.Told.{Told}
 use Rattle.receivers.specs.declared.told.Told.TheVariants as told
@@ -77,14 +77,14 @@ own_place (x ∷ xs) (suc k) d n apart inside is =
     ∙ (let e : 1 + position_or_len (λ (a : Address). a.0 == n) xs ≡ suc k = omega arith in e)
 
 -- an address that no meter has stands behind all
-pub strange_place : (a : ℕ) (cs : List Commissioned) → list_any (λ c. c.address.0 == a) cs ≡ false
-    → position_or_len (λ x. x.0 == a) (map (λ (c : Commissioned). c.address) cs) ≡ length cs
+pub strange_place : (a : ℕ) (cs : List Start) → list_any (λ c. c.address.0 == a) cs ≡ false
+    → position_or_len (λ x. x.0 == a) (map (λ (c : Start). c.address) cs) ≡ length cs
 strange_place a [] h = refl
 strange_place a (c ∷ cs) h =
-    let parts = or_parts (c.address.0 == a) (list_any (λ (d : Commissioned). d.address.0 == a) cs) h in
+    let parts = or_parts (c.address.0 == a) (list_any (λ (d : Start). d.address.0 == a) cs) h in
     let rest = strange_place a cs parts.1 in
-    ap (λ b. cond (not b) (1 + position_or_len (λ (x : Address). x.0 == a) (map (λ (d : Commissioned). d.address) cs)) 0) parts.0
-    ∙ (let e : 1 + position_or_len (λ (x : Address). x.0 == a) (map (λ (d : Commissioned). d.address) cs) ≡ suc (length cs) =
+    ap (λ b. cond (not b) (1 + position_or_len (λ (x : Address). x.0 == a) (map (λ (d : Start). d.address) cs)) 0) parts.0
+    ∙ (let e : 1 + position_or_len (λ (x : Address). x.0 == a) (map (λ (d : Start). d.address) cs) ≡ suc (length cs) =
     omega arith in e)
 
 -- ---- what a line that is stepped or noted is
@@ -107,8 +107,8 @@ strange_listed directory n place t address event is place_is long past =
 
 module _ (heard : List HeardInput) (lists : List (List (ℕ × ℕ))) where
   -- one meter more
-  pub listed_more : (cs : List Commissioned) (i : ℕ) (c : Commissioned) (order : List (ℕ × ℕ))
-      → AreApart (map (λ (d : Commissioned). d.address) cs) → i < length cs → c ≡ get_or cs i c → order ≡ get_or lists i []
+  pub listed_more : (cs : List Start) (i : ℕ) (c : Start) (order : List (ℕ × ℕ))
+      → AreApart (map (λ (d : Start). d.address) cs) → i < length cs → c ≡ get_or cs i c → order ≡ get_or lists i []
       → AreListedBelow i (map (λ d. d.address) cs) heard lists
       → Each (λ p. IsEventFor c.address (told_at heard p.0 p.1)) order
       → AreListedBelow (i + 1) (map (λ d. d.address) cs) heard lists
@@ -118,29 +118,29 @@ module _ (heard : List HeardInput) (lists : List (List (ℕ × ℕ))) where
       (cases_lt list i)
     where
       directory : List Address
-      directory = map (λ (d : Commissioned). d.address) cs
+      directory = map (λ (d : Start). d.address) cs
 
       IsListed : ℕ → ℕ × ℕ → Type 0
-      IsListed k p = sort_of (map (λ (d : Commissioned). d.address) cs) (told_at heard p.0 p.1) ≡ sorts.Listed k
+      IsListed k p = sort_of (map (λ (d : Start). d.address) cs) (told_at heard p.0 p.1) ≡ sorts.Listed k
 
-      there : get_or (map (λ (d : Commissioned). d.address) cs) i c.address ≡ c.address
-      there = get-map (λ (d : Commissioned). d.address) cs i c.address c inside ∙ ap (λ (d : Commissioned). d.address) (sym is)
+      there : get_or (map (λ (d : Start). d.address) cs) i c.address ≡ c.address
+      there = get-map (λ (d : Start). d.address) cs i c.address c inside ∙ ap (λ (d : Start). d.address) (sym is)
 
       here : Each (IsListed i) (get_or lists i [])
       here =
-          let few = length-map cs (λ (d : Commissioned). d.address) in
+          let few = length-map cs (λ (d : Start). d.address) in
           subst (Each (IsListed i)) order_is
           (each_map (λ (p : ℕ × ℕ). IsEventFor c.address (told_at heard p.0 p.1)) (IsListed i)
-          (λ p h. own_listed (map (λ (d : Commissioned). d.address) cs) i c.address (told_at heard p.0 p.1) apart (omega arith) there h)
+          (λ p h. own_listed (map (λ (d : Start). d.address) cs) i c.address (told_at heard p.0 p.1) apart (omega arith) there h)
           order own)
 
   -- all meters, and the strangers
-  pub listed_all : (cs : List Commissioned) (directory : List Address) (order : List (ℕ × ℕ)) → directory ≡ map (λ c. c.address) cs
+  pub listed_all : (cs : List Start) (directory : List Address) (order : List (ℕ × ℕ)) → directory ≡ map (λ c. c.address) cs
       → order ≡ get_or lists (length cs) [] → AreListedBelow (length cs) (map (λ c. c.address) cs) heard lists
       → Each (λ p. sort_of directory (told_at heard p.0 p.1) ≡ sorts.Listed (length cs)) order → AreListed directory heard lists
   listed_all cs directory order same order_is meters strangers list below = ⊎_elim
       (λ inside. subst (λ d. Each (IsListed d list) (get_or lists list [])) (sym same) (meters list inside))
-      (λ past. let long : length directory ≡ length cs = ap length same ∙ length-map cs (λ (c : Commissioned). c.address) in
+      (λ past. let long : length directory ≡ length cs = ap length same ∙ length-map cs (λ (c : Start). c.address) in
       subst (λ k. Each (IsListed directory k) (get_or lists k [])) (let e : length cs ≡ list = omega arith in e)
       (subst (Each (IsListed directory (length cs))) order_is strangers))
       (cases_lt list (length cs))

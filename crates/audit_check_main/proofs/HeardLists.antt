@@ -15,7 +15,7 @@ use Rattle.receivers.specs.declared.class.Class.TheVariants as classes
 use Rattle.std.proofs.lemmas.List.Elements.{filter_map-append}
 use Rattle.meter_address.specs.declared.address.Address.{Address}
 use Rattle.meter_address.specs.Address.{AreApart}
-use Rattle.meter_address.specs.Commission.{Commissioned}
+use Rattle.meter_slots.specs.Journal.{Start}
 use Rattle.meter_slots.specs.declared.entry.Event.{Event}
 use Rattle.meter_slots.specs.World.{is_commissioned}
 use Rattle.receivers.specs.declared.class.Class.{Class}
@@ -57,14 +57,14 @@ numbers_more f heard t line number =
 abbrev one_if : Bool → ℕ → List ℕ
 one_if b n = cond b (n ∷ []) []
 
-abbrev is_for : ℕ → Commissioned → Bool
+abbrev is_for : ℕ → Start → Bool
 is_for a c = c.address.0 == a
 
-abbrev place_in : ℕ → List Commissioned → ℕ
-place_in a cs = position_or_len (λ x. x.0 == a) (map (λ (c : Commissioned). c.address) cs)
+abbrev place_in : ℕ → List Start → ℕ
+place_in a cs = position_or_len (λ x. x.0 == a) (map (λ (c : Start). c.address) cs)
 
 -- the list of each meter with this address has the number behind its others, and the last list where there is no such meter
-abbrev all_with : (Commissioned → List ℕ) → List ℕ → ℕ → ℕ → List Commissioned → List (List ℕ)
+abbrev all_with : (Start → List ℕ) → List ℕ → ℕ → ℕ → List Start → List (List ℕ)
 all_with f s a n cs = map (λ c. f c ++ one_if (is_for a c) n) cs ++ (s ++ one_if (not (list_any (is_for a) cs)) n) ∷ []
 
 or_parts : (x y : Bool) → (x || y) ≡ false → (x ≡ false) × (y ≡ false)
@@ -72,12 +72,12 @@ or_parts true y h = absurd cc
 or_parts false y h = (refl, h)
 
 -- where no meter has the address, no list of a meter changes
-unchanged : (f : Commissioned → List ℕ) (a b n : ℕ) (cs : List Commissioned) → b ≡ a
-    → list_any (λ (x : Address). x.0 == b) (map (λ (c : Commissioned). c.address) cs) ≡ false
+unchanged : (f : Start → List ℕ) (a b n : ℕ) (cs : List Start) → b ≡ a
+    → list_any (λ (x : Address). x.0 == b) (map (λ (c : Start). c.address) cs) ≡ false
     → (map (λ c. f c ++ one_if (is_for a c) n) cs ≡ map f cs) × (list_any (is_for a) cs ≡ false)
 unchanged f a b n [] same h = (refl, refl)
 unchanged f a b n (c ∷ cs) same h =
-    let parts = or_parts (c.address.0 == b) (list_any (λ (x : Address). x.0 == b) (map (λ (d : Commissioned). d.address) cs)) h in
+    let parts = or_parts (c.address.0 == b) (list_any (λ (x : Address). x.0 == b) (map (λ (d : Start). d.address) cs)) h in
     let other : (c.address.0 == a) ≡ false = ap (λ m. c.address.0 == m) (sym same) ∙ parts.0 in
     let rest = unchanged f a b n cs same parts.1 in (
       (λ i. (ap (λ b. f c ++ one_if b n) other ∙ append-nil (f c)) i ∷ rest.0 i),
@@ -87,7 +87,7 @@ unchanged f a b n (c ∷ cs) same h =
 is_same : (a b : ℕ) → (a == b) ≡ true → a ≡ b
 is_same a b h = grind (arith, nat_tests)
 
-placed : (f : Commissioned → List ℕ) (s : List ℕ) (a n : ℕ) (cs : List Commissioned) → AreApart (map (λ (c : Commissioned). c.address) cs)
+placed : (f : Start → List ℕ) (s : List ℕ) (a n : ℕ) (cs : List Start) → AreApart (map (λ (c : Start). c.address) cs)
     → with_number (place_in a cs) n (map f cs ++ s ∷ []) ≡ all_with f s a n cs
 placed f s a n [] apart = refl
 placed f s a n (c ∷ cs) apart = at (c.address.0 == a) refl (placed f s a n cs apart.1)
@@ -109,7 +109,7 @@ placed f s a n (c ∷ cs) apart = at (c.address.0 == a) refl (placed f s a n cs 
 
 -- ---- all lists, and one line more
 
-lists_with : (f g : Commissioned → List ℕ) (s r : List ℕ) (cs : List Commissioned) → ((c : Commissioned) → f c ≡ g c) → s ≡ r
+lists_with : (f g : Start → List ℕ) (s r : List ℕ) (cs : List Start) → ((c : Start) → f c ≡ g c) → s ≡ r
     → map f cs ++ s ∷ [] ≡ map g cs ++ r ∷ []
 lists_with f g s r [] same e = ap (λ l. l ∷ []) e
 lists_with f g s r (c ∷ cs) same e = (λ i. same c i ∷ lists_with f g s r cs same e i)
@@ -123,11 +123,11 @@ strange_number : (b : Bool) (line : ℕ) (address : Address)
 strange_number true line address = refl
 strange_number false line address = refl
 
-abbrev own_numbers : List Told → Commissioned → List ℕ
+abbrev own_numbers : List Told → Start → List ℕ
 own_numbers heard c = map number_of (lines_for c.address heard)
 
-pub numbers_for-push : (cs : List Commissioned) (heard : List Told) (t : Told) (line : ℕ)
-    → AreApart (map (λ (c : Commissioned). c.address) cs) → line ≡ 1 + length heard
+pub numbers_for-push : (cs : List Start) (heard : List Told) (t : Told) (line : ℕ)
+    → AreApart (map (λ (c : Start). c.address) cs) → line ≡ 1 + length heard
     → noted (sort_of (map (λ c. c.address) cs) t) line (numbers_for cs heard) ≡ numbers_for cs (heard ++ t ∷ [])
 numbers_for-push cs heard (told.Event address event) line apart number =
     placed (own_numbers heard) (map number_of (lines_of_strangers cs heard)) address.0 line cs apart
@@ -180,36 +180,36 @@ sorted_within directory n whose.Bad e = omega arith
 
 -- ---- lines one after another
 
-abbrev addresses : List Commissioned → List Address
+abbrev addresses : List Start → List Address
 addresses cs = map (λ c. c.address) cs
 
 -- what some lines came to
-pub record HaveComeTo (cs : List Commissioned) (heard : List Told) (lists : List (List ℕ)) (kinds : List Class) : Type 0 where
+pub record HaveComeTo (cs : List Start) (heard : List Told) (lists : List (List ℕ)) (kinds : List Class) : Type 0 where
   pub lists_are : lists ≡ numbers_for cs heard
   pub classes_are : kinds ≡ map (class_by (map (λ c. c.address) cs)) heard
 
-empty_numbers : (cs : List Commissioned) → map (λ (c : Commissioned). []) cs ++ [] ∷ [] ≡ numbers_for cs []
+empty_numbers : (cs : List Start) → map (λ (c : Start). []) cs ++ [] ∷ [] ≡ numbers_for cs []
 empty_numbers [] = refl
 empty_numbers (c ∷ cs) = ap (λ l. [] ∷ l) (rest cs)
   where
-    rest : (cs : List Commissioned) → map (λ (c : Commissioned). []) cs ++ [] ∷ []
-        ≡ map (λ (c : Commissioned). map number_of (lines_for c.address [])) cs ++ [] ∷ []
+    rest : (cs : List Start) → map (λ (c : Start). []) cs ++ [] ∷ []
+        ≡ map (λ (c : Start). map number_of (lines_for c.address [])) cs ++ [] ∷ []
     rest [] = refl
     rest (c ∷ cs) = ap (λ l. [] ∷ l) (rest cs)
 
-pub come_none : (cs : List Commissioned) (lists : List (List ℕ)) (kinds : List Class)
-    → lists ≡ map (λ (c : Commissioned). []) cs ++ [] ∷ [] → kinds ≡ [] → HaveComeTo cs [] lists kinds
+pub come_none : (cs : List Start) (lists : List (List ℕ)) (kinds : List Class)
+    → lists ≡ map (λ (c : Start). []) cs ++ [] ∷ [] → kinds ≡ [] → HaveComeTo cs [] lists kinds
 come_none cs lists kinds empty no_kinds = record { lists_are = empty ∙ empty_numbers cs; classes_are = no_kinds }
 
 -- one line more
-come_more : (cs : List Commissioned) (heard : List Told) (t : Told) (number : ℕ) (lists lists' : List (List ℕ)) (kinds : List Class)
+come_more : (cs : List Start) (heard : List Told) (t : Told) (number : ℕ) (lists lists' : List (List ℕ)) (kinds : List Class)
     (class : Class) (sort : Sort) → AreApart (map (λ c. c.address) cs) → HaveComeTo cs heard lists kinds → number ≡ 1 + length heard
     → sort ≡ sort_of (map (λ c. c.address) cs) t → lists' ≡ noted sort number lists → class ≡ class_in (length cs) sort
     → HaveComeTo cs (heard ++ t ∷ []) lists' (kinds ++ class ∷ [])
 come_more cs heard t number lists lists' kinds class sort apart so counted same after is = record {
   lists_are = after ∙ ((λ i. noted (same i) number (so.lists_are i)) ∙ numbers_for-push cs heard t number apart counted);
   classes_are = (λ i. so.classes_are i ++ (is ∙ (ap (class_in (length cs)) same ∙ class_sorted (addresses cs) (length cs) t
-      (sym (length-map cs (λ (c : Commissioned). c.address))))) i ∷ [])
+      (sym (length-map cs (λ (c : Start). c.address))))) i ∷ [])
       ∙ sym (map-append (class_by (addresses cs)) heard (t ∷ []));
 }
 
@@ -218,7 +218,7 @@ told_inside : (texts : List (List ℕ)) (i : ℕ) → i < length texts → told_
 told_inside texts i inside = ap told_by_text (slice_get-get_or texts i [] inside)
 
 -- one line of a text more
-module _ (cs : List Commissioned) (texts : List (List ℕ)) (i : ℕ) (t : Told) (inside : i < length texts)
+module _ (cs : List Start) (texts : List (List ℕ)) (i : ℕ) (t : Told) (inside : i < length texts)
     (told_is : t ≡ told_by_text (slice_get texts i)) where
   more_told : map told_of (take (i + 1) texts) ≡ map told_of (take i texts) ++ t ∷ []
   more_told =
@@ -243,7 +243,7 @@ few_lines input h =
     or_parts _ _ h in let few : nat_lt 131072 (length (lines input)) ≡ false = parts.1 in grind (arith, nat_tests)
 
 -- so have those among its first lines
-pub first_few : (cs : List Commissioned) (input : List ℕ) (i : ℕ) (lists : List (List ℕ)) (kinds : List Class) → is_over input ≡ false
+pub first_few : (cs : List Start) (input : List ℕ) (i : ℕ) (lists : List (List ℕ)) (kinds : List Class) → is_over input ≡ false
     → HaveComeTo cs (map told_of (take i (lines input))) lists kinds → length kinds ≤ 131072
 first_few cs input i lists kinds within so =
     let few = few_lines input within in
@@ -253,10 +253,10 @@ first_few cs input i lists kinds within so =
     let least = min-le_right i (length (lines input)) in omega arith
 
 -- one list for each meter, and one
-pub length-numbers_for : (cs : List Commissioned) (heard : List Told) → length (numbers_for cs heard) ≡ length cs + 1
+pub length-numbers_for : (cs : List Start) (heard : List Told) → length (numbers_for cs heard) ≡ length cs + 1
 length-numbers_for cs heard = length-append (map (own_numbers heard) cs) _ ∙ ap (λ n. n + 1) (length-map cs (own_numbers heard))
 
-pub long_lists : (cs : List Commissioned) (heard : List Told) (lists : List (List ℕ)) (kinds : List Class) → HaveComeTo cs heard lists kinds
+pub long_lists : (cs : List Start) (heard : List Told) (lists : List (List ℕ)) (kinds : List Class) → HaveComeTo cs heard lists kinds
     → length lists ≡ length cs + 1
 long_lists cs heard lists kinds so = ap length so.lists_are ∙ length-numbers_for cs heard
 
@@ -280,7 +280,7 @@ counted_classes directory heard = (λ i. record {
 })
 
 -- all lines of an input
-pub heard_is : (cs : List Commissioned) (input : List ℕ) (i : ℕ) (lists : List (List ℕ)) (kinds : List Class) (counts : Counts)
+pub heard_is : (cs : List Start) (input : List ℕ) (i : ℕ) (lists : List (List ℕ)) (kinds : List Class) (counts : Counts)
     → HaveComeTo cs (map told_of (take i (lines input))) lists kinds → i ≡ length (lines input) → counts ≡ counts_in kinds
     → record { lines = lines input; lists = lists; counts = counts } ≡ heard_input cs input
 heard_is cs input i lists' kinds counts so whole is =

@@ -220,9 +220,9 @@ module _ (meters : ℕ) where
       → Stands (meter_text b) n o (suc n) opens.Meter
   unfolding meter_text
   slot_stands b n o few small =
-      then_stands (meter_stands b.commission.address b.commission.mode (last_counter b.commission (reverse b.journal)) (orders_now b).down
-      (length b.journal) (length (readings b.commission b.journal)) n o few)
-      (journal_stands (readings b.commission b.journal) b.journal (orders_now b).queue.commands (suc n) small)
+      then_stands (meter_stands b.start.address b.start.mode (last_counter b.start (reverse b.journal)) (orders_now b).down
+      (length b.journal) (length (readings b.start b.journal)) n o few)
+      (journal_stands (readings b.start b.journal) b.journal (orders_now b).queue.commands (suc n) small)
 
   -- the list that is open behind some meters
   abbrev behind : List SlotView → Open → Open

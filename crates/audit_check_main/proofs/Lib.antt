@@ -1,3 +1,4 @@
+pub mod Begun
 pub mod Claimed
 pub mod Compared
 pub mod ComparedLater

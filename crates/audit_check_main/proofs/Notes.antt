@@ -4,7 +4,7 @@ use Rattle.std.proofs.lemmas.List.{length-map}
 use Rattle.std.proofs.Math.Seq.{take-length}
 use Rattle.outer_io.specs.Each.{Each}
 use Rattle.meter_address.specs.declared.address.Address.{Address}
-use Rattle.meter_address.specs.Commission.{Commissioned}
+use Rattle.meter_slots.specs.Journal.{Start}
 use Rattle.meter_slots.specs.declared.entry.Event.{Event}
 use Rattle.meter_slots.specs.World.{is_commissioned}
 use Rattle.stranger_ring.specs.declared.strangers.Heard.{Heard}
@@ -16,10 +16,10 @@ use Rattle.audit_check_main.specs.Hearing.{HeardInput, tells, input_of, told_at}
 use Rattle.audit_check_main.proofs.Steps.{tells_of, all_lines_told, of_all, IsCutAt, cut_at, each_item, item_there, get-map, take_cut, long_take}
 
 -- a line tells something for an address that no meter has
-abbrev pub HasAddress : List Commissioned → Told → Address → Type 0
+abbrev pub HasAddress : List Start → Told → Address → Type 0
 HasAddress cs t address = (event : Event) × ((t ≡ told.Event address event) × (is_commissioned cs address ≡ false))
 
-address_if : (cs : List Commissioned) (b : Bool) (line : ℕ) (address : Address) (event : Event) (p : ℕ × Address)
+address_if : (cs : List Start) (b : Bool) (line : ℕ) (address : Address) (event : Event) (p : ℕ × Address)
     → is_commissioned cs address ≡ b → cond b None (Some (line, address)) ≡ Some p
     → (p.0 ≡ line) × HasAddress cs (told.Event address event) p.1
 address_if cs true line address event p is e = absurd cc
@@ -30,13 +30,13 @@ address_if cs false line address event p is e =
       (event, (ap (λ a. told.Event a event) address_is, sym (ap (is_commissioned cs) address_is) ∙ is)),
     )
 
-address_fits : (cs : List Commissioned) (line : ℕ) (t : Told) (p : ℕ × Address) → stranger_at cs line t ≡ Some p → (p.0 ≡ line)
+address_fits : (cs : List Start) (line : ℕ) (t : Told) (p : ℕ × Address) → stranger_at cs line t ≡ Some p → (p.0 ≡ line)
     × HasAddress cs t p.1
 address_fits cs line (told.Event address event) p e = address_if cs (is_commissioned cs address) line address event p refl e
 address_fits cs line told.Unframed p e = absurd cc
 address_fits cs line told.Bad p e = absurd cc
 
-module _ (heard : List HeardInput) (cs : List Commissioned) (order : List (ℕ
+module _ (heard : List HeardInput) (cs : List Start) (order : List (ℕ
     × ℕ)) (target : List Heard) (h : AreOrderedStrangers cs (map tells heard) order target) where
   note_told : Each (λ (x : Heard). HasAddress cs (told_at heard x.source x.line) x.address) target
   note_told = of_all (λ (x : Heard). x.source) (λ (x : Heard). (x.line, x.address)) (λ w p. HasAddress cs (told_at heard w p.0) p.1) target

@@ -8,8 +8,7 @@ use Rattle.std.proofs.Math.Seq.{take-length}
 use Rattle.outer_io.specs.Each.{Each, EachWith, PassUntil, IsFirst}
 use Rattle.line_reader.specs.Lines.{is_over}
 use Rattle.meter_address.specs.declared.address.Address.{Address}
-use Rattle.meter_address.specs.Commission.{Commissioned}
-use Rattle.meter_slots.specs.Journal.{SlotView}
+use Rattle.meter_slots.specs.Journal.{Start, SlotView}
 use Rattle.meter_slots.specs.World.{WorldView}
 use Rattle.meter_slots.proofs.JournalLaws.{front_back}
 use Rattle.stranger_ring.specs.declared.strangers.Heard.{Heard}
@@ -19,7 +18,7 @@ use Rattle.receivers.specs.Session.{heard_by, lines_for, lines_of_strangers, not
 use Rattle.receivers.proofs.OrderLaws.{one_slot, one_strangers, in_order}
 use Rattle.report_text.specs.Orders.{orders, lines_in}
 use Rattle.report_text.specs.OrdersLaw.{orders_of}
-use Rattle.roster_file.specs.Roster.{Enrolled, roster_of}
+use Rattle.audit_check_main.specs.Known.{Known, known_of}
 use Rattle.roster_file.specs.declared.roster.RosterFault.{RosterFault}
 use Rattle.audit_check_main.specs.declared.verdict.Cause.{Cause}
 use Rattle.audit_check_main.specs.declared.verdict.Cause.TheVariants as causes
@@ -169,11 +168,11 @@ numbers_of_notes w (x ∷ xs) = at (x.source == w) (numbers_of_notes w xs)
     at true e = ap (λ l. x.line ∷ l) e
     at false e = e
 
-abbrev own_numbers : List (List Told) → ℕ → Commissioned → List ℕ
+abbrev own_numbers : List (List Told) → ℕ → Start → List ℕ
 own_numbers all w c = map (λ l. l.0) (lines_for c.address (heard_by w all))
 
 each_right : (own : Address) (all : List (List Told)) (behind : ℕ → List ℕ) (noted : List (ℕ × ℕ))
-    → ((w : ℕ) → numbers_by w noted ≡ behind w) → (cs : List Commissioned) (slots : List SlotView)
+    → ((w : ℕ) → numbers_by w noted ≡ behind w) → (cs : List Start) (slots : List SlotView)
     → EachWith (IsMetersSlot own all) cs slots
     → (k : ℕ) → k ≤ length cs → (w : ℕ)
     → numbers_by w (get_or (map (λ (s : SlotView). order_of s.journal) slots ++ noted ∷ []) k []) ≡ get_or
@@ -190,41 +189,41 @@ each_right own all behind noted last (c ∷ cs) (s ∷ slots) h (suc k) le w =
 abbrev lists_of : WorldView → List (List (ℕ × ℕ))
 lists_of world = map (λ (s : SlotView). order_of s.journal) world.slots ++ order_of_strangers world.strangers ∷ []
 
-lists_are : (own : Address) (cs : List Commissioned) (all : List (List Told)) (world : WorldView) → IsSession own cs all world
+lists_are : (own : Address) (cs : List Start) (all : List (List Told)) (world : WorldView) → IsSession own cs all world
     → lists_printed (length cs) (orders_of world.slots world.strangers) ≡ lists_of world
 lists_are own cs all world session =
     ap (λ l. l ++ order_of_strangers world.strangers ∷ [])
     (as_many-all (length cs) (map (λ (s : SlotView). order_of s.journal) world.slots)
     (length-map world.slots (λ (s : SlotView). order_of s.journal) ∙ as_many_slots own all cs world.slots session.meters))
 
-printed_are : (a : Audited) (r : Enrolled) (world : WorldView) → IsOrdered a r world
-    → lists_printed (length r.meters) (orders a.report) ≡ lists_of world
-printed_are a r world h = h.printed ∙ lists_are r.own r.meters (heard_of a) world h.session
+printed_are : (a : Audited) (r : Known) (world : WorldView) → IsOrdered a r world
+    → lists_printed (length r.starts) (orders a.report) ≡ lists_of world
+printed_are a r world h = h.printed ∙ lists_are r.own r.starts (heard_of a) world h.session
 
-ordered_right : (a : Audited) (r : Enrolled) (world : WorldView) → IsOrdered a r world → (k : ℕ)
-    → k < length (lists_printed (length r.meters) (orders a.report))
-    → IsRight (wanted r.meters (heard_of a) k) (get_or (lists_printed (length r.meters) (orders a.report)) k [])
+ordered_right : (a : Audited) (r : Known) (world : WorldView) → IsOrdered a r world → (k : ℕ)
+    → k < length (lists_printed (length r.starts) (orders a.report))
+    → IsRight (wanted r.starts (heard_of a) k) (get_or (lists_printed (length r.starts) (orders a.report)) k [])
 ordered_right a r world h k inside =
     let same = printed_are a r world h in
-    let count = as_many_slots r.own (heard_of a) r.meters world.slots h.session.meters in
+    let count = as_many_slots r.own (heard_of a) r.starts world.slots h.session.meters in
     let long =
     ap length same ∙ (length-append (map (λ (s : SlotView). order_of s.journal) world.slots) (order_of_strangers world.strangers ∷ [])
     ∙ ap (λ n. n + 1) (length-map world.slots (λ (s : SlotView). order_of s.journal))) in
-    subst (λ ls. IsRight (wanted r.meters (heard_of a) k) (get_or ls k [])) (sym same)
-    (each_right r.own (heard_of a) (λ w. map (λ l. l.0) (lines_of_strangers r.meters (heard_by w (heard_of a))))
+    subst (λ ls. IsRight (wanted r.starts (heard_of a) k) (get_or ls k [])) (sym same)
+    (each_right r.own (heard_of a) (λ w. map (λ l. l.0) (lines_of_strangers r.starts (heard_by w (heard_of a))))
     (order_of_strangers world.strangers)
     (λ w. numbers_of_notes w world.strangers ∙ ap (map (λ (l : ℕ × Address). l.0)) (h.session.strangers w))
-    r.meters world.slots h.session.meters k (omega arith))
+    r.starts world.slots h.session.meters k (omega arith))
 
-wrong_not_ordered : (a : Audited) (r : Enrolled) (world : WorldView) (list place : ℕ)
-    → IsFirstWrong (wanted r.meters (heard_of a)) (lists_printed (length r.meters) (orders a.report)) list place → IsOrdered a r world → ⊥
+wrong_not_ordered : (a : Audited) (r : Known) (world : WorldView) (list place : ℕ)
+    → IsFirstWrong (wanted r.starts (heard_of a)) (lists_printed (length r.starts) (orders a.report)) list place → IsOrdered a r world → ⊥
 wrong_not_ordered a r world list place wrong h =
-    wrong_not_right (wanted r.meters (heard_of a) list) (get_or (lists_printed (length r.meters) (orders a.report)) list [])
+    wrong_not_right (wanted r.starts (heard_of a) list) (get_or (lists_printed (length r.starts) (orders a.report)) list [])
     place wrong.wrong (ordered_right a r world h list wrong.within)
 
 -- ---- one session
 
-one_each : (own : Address) (all : List (List Told)) (cs : List Commissioned) (slots slots' : List SlotView) (x y : List (ℕ × ℕ))
+one_each : (own : Address) (all : List (List Told)) (cs : List Start) (slots slots' : List SlotView) (x y : List (ℕ × ℕ))
     → EachWith (IsMetersSlot own all) cs slots → EachWith (IsMetersSlot own all) cs slots'
     → map (λ (s : SlotView). order_of s.journal) slots ++ x ∷ [] ≡ map (λ (s : SlotView). order_of s.journal) slots' ++ y ∷ []
     → (slots ≡ slots') × (x ≡ y)
@@ -241,14 +240,14 @@ one_each own all (c ∷ cs) (s ∷ slots) (s' ∷ slots') x y h k e =
     let same = one_slot own c all all s s' h.0 k.0 (λ w. refl) head in
     ((λ i. same i ∷ rest.0 i), rest.1)
 
-one_world : (a : Audited) (r : Enrolled) (world world' : WorldView) → IsOrdered a r world → IsOrdered a r world' → world ≡ world'
+one_world : (a : Audited) (r : Known) (world world' : WorldView) → IsOrdered a r world → IsOrdered a r world' → world ≡ world'
 one_world a r world world' h k =
     let parts =
-    one_each r.own (heard_of a) r.meters world.slots world'.slots (order_of_strangers world.strangers)
+    one_each r.own (heard_of a) r.starts world.slots world'.slots (order_of_strangers world.strangers)
     (order_of_strangers world'.strangers) h.session.meters k.session.meters (sym (printed_are a r world h)
     ∙ printed_are a r world' k) in
     let strangers =
-    one_strangers (λ w. lines_of_strangers r.meters (heard_by w (heard_of a)))
+    one_strangers (λ w. lines_of_strangers r.starts (heard_by w (heard_of a)))
     world.strangers world'.strangers h.session.strangers k.session.strangers parts.1 in
     (λ i. record { slots = parts.0 i; strangers = strangers i })
 
@@ -268,33 +267,33 @@ one_difference text other p q h k = by_order ⊥ p q (not_nearer text other p q 
 
 -- ---- one verdict
 
-same_roster : (a : Audited) (r r' : Enrolled) → roster_of a.roster ≡ Ok r → roster_of a.roster ≡ Ok r' → r' ≡ r
+same_roster : (a : Audited) (r r' : Known) → known_of a.roster ≡ Ok r → known_of a.roster ≡ Ok r' → r' ≡ r
 same_roster a r r' h k = cc
 
 module _ (a : Audited) where
   abbrev Over : ℕ → Type 0
   Over w = IsFirst (λ input. is_over input ≡ false) (λ input. is_over input ≡ true) w a.inputs
 
-  no_roster : {f : RosterFault} (r : Enrolled) → roster_of a.roster ≡ Err f → roster_of a.roster ≡ Ok r → ⊥
+  no_roster : {f : RosterFault} (r : Known) → known_of a.roster ≡ Err f → known_of a.roster ≡ Ok r → ⊥
   no_roster r h k = absurd cc
 
-  over_not : (w : ℕ) (r : Enrolled) → Over w → IsReadable a r → ⊥
+  over_not : (w : ℕ) (r : Known) → Over w → IsReadable a r → ⊥
   over_not w r h k = until_not (λ input. is_over input ≡ false) (λ input. is_over input ≡ true) not_both 1 w a.inputs h k.within
 
-  form_not : (line : ℕ) (r r' : Enrolled) → IsReadable a r → IsFirstFaulty (length r.meters) (lines_in a.report) line → IsInForm a r' → ⊥
+  form_not : (line : ℕ) (r r' : Known) → IsReadable a r → IsFirstFaulty (length r.starts) (lines_in a.report) line → IsInForm a r' → ⊥
   form_not line r r' read h k =
       let same = same_roster a r r' read.roster_is k.readable.roster_is in
-      faulty_not (length r.meters) line (lines_in a.report) h (subst (λ e. AreInForm (length e.meters) (reverse (lines_in a.report)))
+      faulty_not (length r.starts) line (lines_in a.report) h (subst (λ e. AreInForm (length e.starts) (reverse (lines_in a.report)))
       same k.in_form)
 
-  order_not : (list place : ℕ) (r r' : Enrolled) (world : WorldView) → IsInForm a r
-      → IsFirstWrong (wanted r.meters (heard_of a)) (lists_printed (length r.meters) (orders a.report)) list place → IsOrdered a r' world
+  order_not : (list place : ℕ) (r r' : Known) (world : WorldView) → IsInForm a r
+      → IsFirstWrong (wanted r.starts (heard_of a)) (lists_printed (length r.starts) (orders a.report)) list place → IsOrdered a r' world
       → ⊥
   order_not list place r r' world form h k =
       let same = same_roster a r r' form.readable.roster_is k.form.readable.roster_is in
       wrong_not_ordered a r world list place h (subst (λ e. IsOrdered a e world) same k)
 
-  same_text : (r r' : Enrolled) (world world' : WorldView) → IsOrdered a r world → IsOrdered a r' world'
+  same_text : (r r' : Known) (world world' : WorldView) → IsOrdered a r world → IsOrdered a r' world'
       → report_of a r' world' ≡ report_of a r world
   same_text r r' world world' h k =
       let same = same_roster a r r' h.form.readable.roster_is k.form.readable.roster_is in
@@ -303,64 +302,64 @@ module _ (a : Audited) where
 
   text_not : (place : ℕ) → IsUnfaithfulAt place a → IsFaithful a → ⊥
   text_not place h k =
-      let same : a.report ≡ report_of a h.enrolled h.world = k.text ∙ same_text h.enrolled k.enrolled h.world k.world h.ordered k.ordered in
+      let same : a.report ≡ report_of a h.known h.world = k.text ∙ same_text h.known k.known h.world k.world h.ordered k.ordered in
       h.differs.differs (ap (λ t. slice_get t place) same)
 
   not_faithful : (c : Cause) → IsCause a c → IsFaithful a → ⊥
-  not_faithful (causes.Roster line cause) h k = no_roster k.enrolled h k.ordered.form.readable.roster_is
-  not_faithful (causes.Over w) h k = over_not w k.enrolled h.2 k.ordered.form.readable
-  not_faithful (causes.Form line) h k = form_not line h.0 k.enrolled h.1 h.2 k.ordered.form
-  not_faithful (causes.Order list place) h k = order_not list place h.0 k.enrolled k.world h.1 h.2 k.ordered
+  not_faithful (causes.Roster line cause) h k = no_roster k.known h k.ordered.form.readable.roster_is
+  not_faithful (causes.Over w) h k = over_not w k.known h.2 k.ordered.form.readable
+  not_faithful (causes.Form line) h k = form_not line h.0 k.known h.1 h.2 k.ordered.form
+  not_faithful (causes.Order list place) h k = order_not list place h.0 k.known k.world h.1 h.2 k.ordered
   not_faithful (causes.Text place) h k = text_not place h k
 
   one_order : (l p m q : ℕ) → IsCause a (causes.Order l p) → IsCause a (causes.Order m q) → causes.Order l p ≡ causes.Order m q
   one_order l p m q h k =
       let same = same_roster a h.0 k.0 h.1.readable.roster_is k.1.readable.roster_is in
-      let k' = subst (λ (e : Enrolled). IsFirstWrong (wanted e.meters (heard_of a)) (lists_printed (length e.meters) (orders a.report))
+      let k' = subst (λ (e : Known). IsFirstWrong (wanted e.starts (heard_of a)) (lists_printed (length e.starts) (orders a.report))
       m q) same k.2 in
-      let lists = one_list (wanted h.0.meters (heard_of a)) (lists_printed (length h.0.meters) (orders a.report)) l m p q h.2 k' in
-      let places = one_place (wanted h.0.meters (heard_of a) m) (get_or (lists_printed (length h.0.meters) (orders a.report)) m []) p q
-      (subst (λ n. IsWrongAt (wanted h.0.meters (heard_of a) n) (get_or (lists_printed (length h.0.meters) (orders a.report)) n []) p)
+      let lists = one_list (wanted h.0.starts (heard_of a)) (lists_printed (length h.0.starts) (orders a.report)) l m p q h.2 k' in
+      let places = one_place (wanted h.0.starts (heard_of a) m) (get_or (lists_printed (length h.0.starts) (orders a.report)) m []) p q
+      (subst (λ n. IsWrongAt (wanted h.0.starts (heard_of a) n) (get_or (lists_printed (length h.0.starts) (orders a.report)) n []) p)
       lists h.2.wrong) k'.wrong in
       (λ i. causes.Order (lists i) (places i))
 
   one_text : (p q : ℕ) → IsUnfaithfulAt p a → IsUnfaithfulAt q a → causes.Text p ≡ causes.Text q
   one_text p q h k =
-      ap causes.Text (one_difference a.report (report_of a h.enrolled h.world) p q h.differs
-      (subst (λ t. DiffersAt q a.report t) (same_text h.enrolled k.enrolled h.world k.world h.ordered k.ordered) k.differs))
+      ap causes.Text (one_difference a.report (report_of a h.known h.world) p q h.differs
+      (subst (λ t. DiffersAt q a.report t) (same_text h.known k.known h.world k.world h.ordered k.ordered) k.differs))
 
   one_form : (l m : ℕ) → IsCause a (causes.Form l) → IsCause a (causes.Form m) → causes.Form l ≡ causes.Form m
   one_form l m h k =
       let same = same_roster a h.0 k.0 h.1.roster_is k.1.roster_is in
-      ap causes.Form (one_faulty (length h.0.meters) l m (lines_in a.report) h.2
-      (subst (λ (e : Enrolled). IsFirstFaulty (length e.meters) (lines_in a.report) m) same k.2))
+      ap causes.Form (one_faulty (length h.0.starts) l m (lines_in a.report) h.2
+      (subst (λ (e : Known). IsFirstFaulty (length e.starts) (lines_in a.report) m) same k.2))
 
   one_cause : (c d : Cause) → IsCause a c → IsCause a d → c ≡ d
   one_cause (causes.Roster line cause) (causes.Roster line' cause') h k = cc
   one_cause (causes.Roster line cause) (causes.Over w) h k = absurd (no_roster k.0 h k.1)
   one_cause (causes.Roster line cause) (causes.Form l) h k = absurd (no_roster k.0 h k.1.roster_is)
   one_cause (causes.Roster line cause) (causes.Order l p) h k = absurd (no_roster k.0 h k.1.readable.roster_is)
-  one_cause (causes.Roster line cause) (causes.Text p) h k = absurd (no_roster k.enrolled h k.ordered.form.readable.roster_is)
+  one_cause (causes.Roster line cause) (causes.Text p) h k = absurd (no_roster k.known h k.ordered.form.readable.roster_is)
   one_cause (causes.Over w) (causes.Roster line cause) h k = absurd (no_roster h.0 k h.1)
   one_cause (causes.Over w) (causes.Over v) h k =
       ap causes.Over (until_one (λ input. is_over input ≡ false) (λ input. is_over input ≡ true) not_both 1 w v a.inputs h.2 k.2)
   one_cause (causes.Over w) (causes.Form l) h k = absurd (over_not w k.0 h.2 k.1)
   one_cause (causes.Over w) (causes.Order l p) h k = absurd (over_not w k.0 h.2 k.1.readable)
-  one_cause (causes.Over w) (causes.Text p) h k = absurd (over_not w k.enrolled h.2 k.ordered.form.readable)
+  one_cause (causes.Over w) (causes.Text p) h k = absurd (over_not w k.known h.2 k.ordered.form.readable)
   one_cause (causes.Form l) (causes.Roster line cause) h k = absurd (no_roster h.0 k h.1.roster_is)
   one_cause (causes.Form l) (causes.Over w) h k = absurd (over_not w h.0 k.2 h.1)
   one_cause (causes.Form l) (causes.Form m) h k = one_form l m h k
   one_cause (causes.Form l) (causes.Order m p) h k = absurd (form_not l h.0 k.0 h.1 h.2 k.1)
-  one_cause (causes.Form l) (causes.Text p) h k = absurd (form_not l h.0 k.enrolled h.1 h.2 k.ordered.form)
+  one_cause (causes.Form l) (causes.Text p) h k = absurd (form_not l h.0 k.known h.1 h.2 k.ordered.form)
   one_cause (causes.Order l p) (causes.Roster line cause) h k = absurd (no_roster h.0 k h.1.readable.roster_is)
   one_cause (causes.Order l p) (causes.Over w) h k = absurd (over_not w h.0 k.2 h.1.readable)
   one_cause (causes.Order l p) (causes.Form m) h k = absurd (form_not m k.0 h.0 k.1 k.2 h.1)
   one_cause (causes.Order l p) (causes.Order m q) h k = one_order l p m q h k
-  one_cause (causes.Order l p) (causes.Text q) h k = absurd (order_not l p h.0 k.enrolled k.world h.1 h.2 k.ordered)
-  one_cause (causes.Text p) (causes.Roster line cause) h k = absurd (no_roster h.enrolled k h.ordered.form.readable.roster_is)
-  one_cause (causes.Text p) (causes.Over w) h k = absurd (over_not w h.enrolled k.2 h.ordered.form.readable)
-  one_cause (causes.Text p) (causes.Form m) h k = absurd (form_not m k.0 h.enrolled k.1 k.2 h.ordered.form)
-  one_cause (causes.Text p) (causes.Order m q) h k = absurd (order_not m q k.0 h.enrolled h.world k.1 k.2 h.ordered)
+  one_cause (causes.Order l p) (causes.Text q) h k = absurd (order_not l p h.0 k.known k.world h.1 h.2 k.ordered)
+  one_cause (causes.Text p) (causes.Roster line cause) h k = absurd (no_roster h.known k h.ordered.form.readable.roster_is)
+  one_cause (causes.Text p) (causes.Over w) h k = absurd (over_not w h.known k.2 h.ordered.form.readable)
+  one_cause (causes.Text p) (causes.Form m) h k = absurd (form_not m k.0 h.known k.1 k.2 h.ordered.form)
+  one_cause (causes.Text p) (causes.Order m q) h k = absurd (order_not m q k.0 h.known h.world k.1 k.2 h.ordered)
   one_cause (causes.Text p) (causes.Text q) h k = one_text p q h k
 
   pub one_verdict : (v w : Verdict) → IsVerdict a v → IsVerdict a w → v ≡ w

@@ -5,8 +5,7 @@ use Rattle.paper.specs.Puts.{Puts}
 use Rattle.paper.proofs.Calls.{none, then, four_make}
 use Rattle.paper.proofs.Items.{is_put}
 use Rattle.meter_address.specs.declared.address.Address.{Address}
-use Rattle.meter_address.specs.Commission.{Commissioned}
-use Rattle.meter_slots.specs.Journal.{SlotView}
+use Rattle.meter_slots.specs.Journal.{Start, SlotView}
 use Rattle.stranger_ring.specs.declared.strangers.Heard.{Heard}
 use Rattle.receivers.specs.declared.told.Told.{Told}
 use Rattle.receivers.specs.Orders.{AreOrderedStrangers}
@@ -32,7 +31,7 @@ module _ (own : Address) (all : List (List Told)) (lists : List (List (ℕ × �
   no_meters p = record { slots = []; so = slots_none own all lists; put = none }
 
   -- one meter more
-  pub meters_more : (cs : List Commissioned) (i : ℕ) (c : Commissioned) (p q r : Compared)
+  pub meters_more : (cs : List Start) (i : ℕ) (c : Start) (p q r : Compared)
       → AreMetersPut own all (take i cs) lists p q → i < length cs → length cs < length lists → c ≡ get_or cs i c
       → IsMeterPut own all c (get_or lists i []) q r → AreMetersPut own all (take (i + 1) cs) lists p r
   meters_more cs i c p q r before inside few is one = record {
@@ -49,7 +48,7 @@ whole_report : {P : Type 0} (takes : P → List ℕ → P → Type 0) (p q r s t
 unfolding report_text head_text
 whole_report takes p q r s t ends slots strangers one two three four = four_make (report_text ends slots strangers) one two three four refl
 
-pub session_put : (own : Address) (meters : List Commissioned) (heard : List HeardInput) (lists : List (List (ℕ × ℕ)))
+pub session_put : (own : Address) (meters : List Start) (heard : List HeardInput) (lists : List (List (ℕ × ℕ)))
     (p q r s t : Compared) (ends : List ReceiverEnd) (order : List (ℕ × ℕ)) (strangers : List Heard)
     → ends ≡ map end_of heard → Puts Compares p (head_text ends) q → AreMetersPut own (map tells heard) meters lists q r
     → order ≡ get_or lists (length meters) [] → AreOrderedStrangers meters (map tells heard) order strangers
@@ -65,7 +64,7 @@ session_put own meters heard lists p q r s t ends order strangers ends_are head 
 
 -- ---- what is found
 
-module _ (own : Address) (meters : List Commissioned) (heard : List HeardInput) (lists : List (List (ℕ × ℕ))) (report : List ℕ)
+module _ (own : Address) (meters : List Start) (heard : List HeardInput) (lists : List (List (ℕ × ℕ))) (report : List ℕ)
     (fresh now : Compared) (is_fresh : fresh ≡ record { text = report; place = 0; differs = false })
     (session : IsSessionPut own meters heard lists fresh now) where
   abbrev session_text : List ℕ

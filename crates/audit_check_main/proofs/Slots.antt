@@ -3,15 +3,14 @@ use Rattle.std.proofs.Common.{◌≡◌, ℕ, zero, suc, ◌+◌, ◌<◌, List,
 use Rattle.std.proofs.lemmas.List.{take_more}
 use Rattle.outer_io.specs.Each.{EachWith}
 use Rattle.meter_address.specs.declared.address.Address.{Address}
-use Rattle.meter_address.specs.Commission.{Commissioned}
-use Rattle.meter_slots.specs.Journal.{SlotView}
+use Rattle.meter_slots.specs.Journal.{Start, SlotView}
 use Rattle.receivers.specs.declared.told.Told.{Told}
 use Rattle.receivers.specs.Orders.{order_of, IsOrderOf, IsOrderedSlot}
 use Rattle.receivers.specs.Session.{IsMetersSlot}
 use Rattle.audit_check_main.specs.Stepping.{AreOrderedSlots, IsOrderOfEach}
 
 module _ (own : Address) (all : List (List Told)) where
-  pub slots_push : (cs : List Commissioned) (c : Commissioned) (lists : List (List (ℕ × ℕ))) (slots : List SlotView) (slot : SlotView)
+  pub slots_push : (cs : List Start) (c : Start) (lists : List (List (ℕ × ℕ))) (slots : List SlotView) (slot : SlotView)
       → AreOrderedSlots own all cs lists slots → length cs < length lists
       → IsOrderedSlot own all c (get_or lists (length cs) []) slot → AreOrderedSlots own all (cs ++ c ∷ []) lists (slots ++ slot ∷ [])
   slots_push [] c [] [] slot h few is = absurd (omega arith)
@@ -25,7 +24,7 @@ module _ (own : Address) (all : List (List Told)) where
   slots_push (d ∷ cs) c (order ∷ lists) [] slot h few is = absurd h
   slots_push (d ∷ cs) c (order ∷ lists) (s ∷ slots) slot h few is = (h.0, slots_push cs c lists slots slot h.1 (omega arith) is)
 
-  pub order_at : (cs : List Commissioned) (lists : List (List (ℕ × ℕ))) (i : ℕ) (d : Commissioned) → IsOrderOfEach all cs lists
+  pub order_at : (cs : List Start) (lists : List (List (ℕ × ℕ))) (i : ℕ) (d : Start) → IsOrderOfEach all cs lists
       → i < length cs → IsOrderOf (get_or cs i d).address all (get_or lists i [])
   order_at [] lists i d h inside = absurd (omega arith)
   order_at (c ∷ cs) [] i d h inside = absurd h
@@ -36,7 +35,7 @@ module _ (own : Address) (all : List (List Told)) where
   slots_none [] = tt
   slots_none (order ∷ lists) = tt
 
-  pub slots_more : (cs : List Commissioned) (i : ℕ) (c : Commissioned) (lists : List (List (ℕ × ℕ))) (slots : List SlotView)
+  pub slots_more : (cs : List Start) (i : ℕ) (c : Start) (lists : List (List (ℕ × ℕ))) (slots : List SlotView)
       (slot : SlotView) → AreOrderedSlots own all (take i cs) lists slots → i < length cs → length cs < length lists
       → c ≡ get_or cs i c → IsOrderedSlot own all c (get_or lists i []) slot
       → AreOrderedSlots own all (take (i + 1) cs) lists (slots ++ slot ∷ [])
@@ -51,7 +50,7 @@ module _ (own : Address) (all : List (List Told)) where
       long_take zero (x ∷ xs) h = refl
       long_take (suc i) (x ∷ xs) h = ap suc (long_take i xs (omega arith))
 
-  pub meters_slots : (cs : List Commissioned) (lists : List (List (ℕ × ℕ))) (slots : List SlotView)
+  pub meters_slots : (cs : List Start) (lists : List (List (ℕ × ℕ))) (slots : List SlotView)
       → AreOrderedSlots own all cs lists slots → EachWith (IsMetersSlot own all) cs slots
   meters_slots [] [] [] h = tt
   meters_slots [] (order ∷ lists) [] h = tt
@@ -66,7 +65,7 @@ module _ (own : Address) (all : List (List Told)) where
   meters_slots (c ∷ cs) (order ∷ lists) (slot ∷ slots) h = (h.0.meters, meters_slots cs lists slots h.1)
 
   -- the lists are the orders of the slots, and what stands behind them
-  pub slots_orders : (cs : List Commissioned) (lists : List (List (ℕ × ℕ))) (slots : List SlotView)
+  pub slots_orders : (cs : List Start) (lists : List (List (ℕ × ℕ))) (slots : List SlotView)
       → AreOrderedSlots own all cs lists slots → lists ≡ map (λ (s : SlotView). order_of s.journal) slots ++ drop (length cs) lists
   slots_orders [] [] [] h = refl
   slots_orders [] (order ∷ lists) [] h = refl
@@ -80,7 +79,7 @@ module _ (own : Address) (all : List (List Told)) where
   slots_orders (c ∷ cs) (order ∷ lists) [] h = absurd h
   slots_orders (c ∷ cs) (order ∷ lists) (slot ∷ slots) h = (λ i. sym h.0.in_order i ∷ slots_orders cs lists slots h.1 i)
 
-  pub as_many_slots : (cs : List Commissioned) (slots : List SlotView) → EachWith (IsMetersSlot own all) cs slots → length slots ≡ length cs
+  pub as_many_slots : (cs : List Start) (slots : List SlotView) → EachWith (IsMetersSlot own all) cs slots → length slots ≡ length cs
   as_many_slots [] [] h = refl
   as_many_slots [] (s ∷ slots) h = absurd h
   as_many_slots (c ∷ cs) [] h = absurd h

@@ -4,13 +4,13 @@ use Rattle.std.specs.Prelude.{slice_get, option_to_list}
 use Rattle.std.specs.List.{flat_map, cons_option}
 use Rattle.std.proofs.lemmas.List.{length-map}
 use Rattle.meter_address.specs.declared.address.Address.{Address}
-use Rattle.meter_address.specs.Commission.{Commissioned}
+use Rattle.meter_address.specs.declared.commission.Mode.{Mode}
 use Rattle.meter_slots.specs.declared.entry.Entry.{Entry}
 use Rattle.meter_slots.specs.declared.entry.Event.{Event}
 use Rattle.meter_slots.specs.declared.entry.Outcome.{Outcome}
 use Rattle.meter_slots.specs.declared.entry.Outcome.TheVariants.{Stored}
 use Rattle.meter_slots.specs.declared.reading.Reading.{Reading}
-use Rattle.meter_slots.specs.Journal.{SlotView, Legal, last_counter, orders, outcome, readings, stored_counter}
+use Rattle.meter_slots.specs.Journal.{Start, SlotView, Legal, last_counter, orders, outcome, readings, stored_counter}
 use Rattle.meter_slots.specs.Laws.{stored_counters}
 use Rattle.meter_slots.specs.Passing.{Passing, IsAfter}
 use Rattle.meter_slots.proofs.ReadingLaws.{counters_read}
@@ -58,7 +58,7 @@ one_step : (e : Entry) (reading : Option Reading)
 one_step e None = append-nil _
 one_step e (Some r) = append-nil _
 
-pub steps_more : (c : Commissioned) (own : Address) (journal : List Entry) (e : Entry) (reading : Option Reading) → Legal c own journal
+pub steps_more : (c : Start) (own : Address) (journal : List Entry) (e : Entry) (reading : Option Reading) → Legal c own journal
     → readings c (journal ++ e ∷ []) ≡ readings c journal ++ option_to_list reading
     → steps_text (readings c (journal ++ e ∷ [])) (journal ++ e ∷ [])
     ≡ steps_text (readings c journal) journal ++ answered_text e.source e.line e.outcome reading
@@ -98,7 +98,8 @@ module _ (slot : SlotView) (start p q : Compared) (kept : MeterSteps) (s : Passi
 
   abbrev kept_on : MeterSteps
   kept_on = record {
-    commission = kept.commission;
+    address = kept.address;
+    mode = kept.mode;
     slot = s;
     steps = kept.steps + 1;
     readings = kept.readings + length (option_to_list reading);
@@ -106,57 +107,60 @@ module _ (slot : SlotView) (start p q : Compared) (kept : MeterSteps) (s : Passi
   }
 
   pub stepped_on : (now : MeterSteps) → now ≡ kept_on → HasStepped slot start kept p
-      → (s.own ≡ kept.slot.own) × (s.commission ≡ kept.slot.commission)
+      → (s.own ≡ kept.slot.own) × (s.start ≡ kept.slot.start)
       → ((journal : List Entry) → IsAfter journal kept.slot
-      → given ≡ outcome kept.slot.commission kept.slot.own (reverse journal) event)
+      → given ≡ outcome kept.slot.start kept.slot.own (reverse journal) event)
       → ((journal : List Entry) (n m : ℕ) → IsAfter journal kept.slot
       → IsAfter (journal ++ record { source = n; line = m; event = event; outcome = given } ∷ []) s)
       → ((journal : List Entry) (n m : ℕ) → IsAfter journal kept.slot
-      → readings kept.slot.commission (journal ++ record { source = n; line = m; event = event; outcome = given } ∷ [])
-      ≡ readings kept.slot.commission journal ++ option_to_list reading)
+      → readings kept.slot.start (journal ++ record { source = n; line = m; event = event; outcome = given } ∷ [])
+      ≡ readings kept.slot.start journal ++ option_to_list reading)
       → (shown : Option Reading) → shown ≡ reading → Puts Compares p (answered_text source line given shown) q
       → HasStepped (stepped slot source line event) start now q
   stepped_on now now_is h same answered after reads shown shown_is put =
       subst (λ m. HasStepped (stepped slot source line event) start m q) (sym now_is)
       (subst (λ o. HasStepped (record slot { journal = journal_on o }) start kept_on q) outcome_is at_given)
     where
-      outcome_is : given ≡ outcome slot.commission slot.own (reverse slot.journal) event
-      outcome_is = answered slot.journal h.after ∙ (λ i. outcome (h.same_commission i) (h.own_is i) (reverse slot.journal) event)
+      outcome_is : given ≡ outcome slot.start slot.own (reverse slot.journal) event
+      outcome_is = answered slot.journal h.after ∙ (λ i. outcome (h.same_start i) (h.own_is i) (reverse slot.journal) event)
 
-      legal : Legal slot.commission slot.own slot.journal
-      legal = subst (λ c. Legal c slot.own slot.journal) h.same_commission
-          (subst (λ o. Legal kept.slot.commission o slot.journal) h.own_is h.after.legal)
+      legal : Legal slot.start slot.own slot.journal
+      legal = subst (λ c. Legal c slot.own slot.journal) h.same_start
+          (subst (λ o. Legal kept.slot.start o slot.journal) h.own_is h.after.legal)
 
-      reads_on : readings slot.commission (journal_on given) ≡ readings slot.commission slot.journal ++ option_to_list reading
-      reads_on = subst (λ c. readings c (journal_on given) ≡ readings c slot.journal ++ option_to_list reading) h.same_commission
+      reads_on : readings slot.start (journal_on given) ≡ readings slot.start slot.journal ++ option_to_list reading
+      reads_on = subst (λ c. readings c (journal_on given) ≡ readings c slot.journal ++ option_to_list reading) h.same_start
           (reads slot.journal source line h.after)
 
       at_given : HasStepped (record slot { journal = journal_on given }) start kept_on q
       at_given = record {
-        commission_is = h.commission_is;
+        address_is = h.address_is;
+        mode_is = h.mode_is;
         own_is = same.0 ∙ h.own_is;
-        same_commission = same.1 ∙ h.same_commission;
+        same_start = same.1 ∙ h.same_start;
         after = after slot.journal source line h.after;
         steps_are = ap (λ n. n + 1) h.steps_are
             ∙ sym (length-append slot.journal (record { source = source; line = line; event = event; outcome = given } ∷ []));
         readings_are = ap (λ n. n + length (option_to_list reading)) h.readings_are
-            ∙ (sym (length-append (readings slot.commission slot.journal) (option_to_list reading)) ∙ sym (ap length reads_on));
+            ∙ (sym (length-append (readings slot.start slot.journal) (option_to_list reading)) ∙ sym (ap length reads_on));
         last_is = ap (λ l. later_reading l reading) h.last_is
-            ∙ (last_more (readings slot.commission slot.journal) reading ∙ sym (ap last_reading reads_on));
-        put = is_put _ _ (steps_more slot.commission slot.own slot.journal
+            ∙ (last_more (readings slot.start slot.journal) reading ∙ sym (ap last_reading reads_on));
+        put = is_put _ _ (steps_more slot.start slot.own slot.journal
             (record { source = source; line = line; event = event; outcome = given }) reading legal reads_on)
             (then h.put (subst (λ o. Puts Compares p (answered_text source line given o) q) shown_is put));
       }
 
 -- nothing is stepped yet
-pub nothing_stepped : (own : Address) (c : Commissioned) (s : Passing) (paper : Compared) → s.own ≡ own → s.commission ≡ c → IsAfter [] s
-    → HasStepped (record { own = own; commission = c; journal = [] }) paper
-    (record { commission = c; slot = s; steps = 0; readings = 0; last = None }) paper
+pub nothing_stepped : (own : Address) (c : Start) (address : Address) (mode : Mode) (s : Passing) (paper : Compared)
+    → address ≡ c.address → mode ≡ c.mode → s.own ≡ own → s.start ≡ c → IsAfter [] s
+    → HasStepped (record { own = own; start = c; journal = [] }) paper
+    (record { address = address; mode = mode; slot = s; steps = 0; readings = 0; last = None }) paper
 unfolding readings
-nothing_stepped own c s paper own_is commission_is after = record {
-  commission_is = refl;
+nothing_stepped own c address mode s paper address_is mode_is own_is start_is after = record {
+  address_is = address_is;
+  mode_is = mode_is;
   own_is = own_is;
-  same_commission = commission_is;
+  same_start = start_is;
   after = after;
   steps_are = refl;
   readings_are = refl;
@@ -170,31 +174,31 @@ nothing_stepped own c s paper own_is commission_is after = record {
 pub rest_put : (slot : SlotView) (start now p q r : Compared) (kept : MeterSteps) (last : Option Reading) (commands : List Command)
     → HasStepped slot start kept now → last ≡ kept.last → commands ≡ kept.slot.kept.orders.queue.commands
     → Puts Compares p (text_if (λ x. records_text x.payload) last) q → Puts Compares q (flat_map pending_text commands) r
-    → Puts Compares p (last_text (readings slot.commission slot.journal) ++ flat_map pending_text (orders_now slot).queue.commands) r
+    → Puts Compares p (last_text (readings slot.start slot.journal) ++ flat_map pending_text (orders_now slot).queue.commands) r
 unfolding last_text
 rest_put slot start now p q r kept last commands h last_is commands_are one two =
     let queue : commands ≡ (orders_now slot).queue.commands =
     commands_are ∙ (ap (λ k. k.queue.commands) h.after.orders_are
-    ∙ ap (λ c. (orders c (reverse slot.journal)).queue.commands) h.same_commission) in
+    ∙ ap (λ c. (orders c (reverse slot.journal)).queue.commands) h.same_start) in
     then (subst (λ o. Puts Compares p (text_if (λ x. records_text x.payload) o) q) (last_is ∙ h.last_is) one)
     (subst (λ cs. Puts Compares q (flat_map pending_text cs) r) queue two)
 
 pub line_kept : (slot : SlotView) (start now : Compared) (kept : MeterSteps) (last : Option ℕ) (down : ℕ) → HasStepped slot start kept now
     → last ≡ kept.slot.kept.last → down ≡ kept.slot.kept.orders.down
     → record {
-      address = kept.commission.address;
-      mode = kept.commission.mode;
+      address = kept.address;
+      mode = kept.mode;
       last = last;
       down = down;
       steps = kept.steps;
       readings = kept.readings;
     } ≡ line_of slot
 line_kept slot start now kept last down h last_is down_is = λ i. record {
-  address = (h.commission_is i).address;
-  mode = (h.commission_is i).mode;
-  last = (last_is ∙ (h.after.last_is ∙ ap (λ c. last_counter c (reverse slot.journal)) h.same_commission)) i;
+  address = h.address_is i;
+  mode = h.mode_is i;
+  last = (last_is ∙ (h.after.last_is ∙ ap (λ c. last_counter c (reverse slot.journal)) h.same_start)) i;
   down = (down_is ∙ (ap (λ k. k.down) h.after.orders_are
-      ∙ ap (λ c. (orders c (reverse slot.journal)).down) h.same_commission)) i;
+      ∙ ap (λ c. (orders c (reverse slot.journal)).down) h.same_start)) i;
   steps = h.steps_are i;
   readings = h.readings_are i;
 }
@@ -210,17 +214,17 @@ meter_line_is l = record {
 
 meter_whole : (slot : SlotView)
     → meter_text slot
-    ≡ meter_line_text (line_of slot) ++ (steps_text (readings slot.commission slot.journal) slot.journal
-    ++ (last_text (readings slot.commission slot.journal) ++ flat_map pending_text (orders_now slot).queue.commands))
+    ≡ meter_line_text (line_of slot) ++ (steps_text (readings slot.start slot.journal) slot.journal
+    ++ (last_text (readings slot.start slot.journal) ++ flat_map pending_text (orders_now slot).queue.commands))
 unfolding meter_text journal_text
 meter_whole slot = ap (λ t. meter_line_text (line_of slot) ++ t)
-    (append_assoc (steps_text (readings slot.commission slot.journal) slot.journal) (last_text (readings slot.commission slot.journal))
+    (append_assoc (steps_text (readings slot.start slot.journal) slot.journal) (last_text (readings slot.start slot.journal))
     (flat_map pending_text (orders_now slot).queue.commands))
 
 -- a meter's line is passed over, its steps and what stands behind them are put, and then its line on a paper of its own
 pub meter_put : (slot : SlotView) (p q r s t u : Compared) (kept : MeterSteps) (l : MeterLine) → q ≡ line_passed p
     → HasStepped slot q kept r
-    → Puts Compares r (last_text (readings slot.commission slot.journal) ++ flat_map pending_text (orders_now slot).queue.commands) s
+    → Puts Compares r (last_text (readings slot.start slot.journal) ++ flat_map pending_text (orders_now slot).queue.commands) s
     → l ≡ line_of slot → Puts Compares p (meter_line_text l) t → u ≡ settled t s → Puts Compares p (meter_text slot) u
 meter_put slot p q r s t u kept l passed h rest same line is =
     is_put _ _ (meter_whole slot) (once (compared_later p q t s u _ _ (meter_line_is (line_of slot)) passed

@@ -6,11 +6,10 @@ use Rattle.std.proofs.lemmas.List.{take_more, length-map}
 use Rattle.std.proofs.Math.Seq.{take-length}
 use Rattle.outer_io.specs.Each.{Each}
 use Rattle.meter_address.specs.declared.address.Address.{Address}
-use Rattle.meter_address.specs.Commission.{Commissioned}
 use Rattle.meter_slots.specs.declared.entry.Entry.{Entry}
 use Rattle.meter_slots.specs.declared.entry.Event.{Event}
 use Rattle.meter_slots.specs.declared.entry.Outcome.{Outcome}
-use Rattle.meter_slots.specs.Journal.{SlotView, Legal, outcome}
+use Rattle.meter_slots.specs.Journal.{Start, SlotView, Legal, outcome}
 use Rattle.meter_slots.proofs.JournalLaws.{judged_at}
 use Rattle.receivers.specs.declared.told.Told.{Told}
 use Rattle.receivers.specs.declared.told.Told.TheVariants as told
@@ -176,7 +175,7 @@ event_fits a line (told.Event address event) p e = event_if a (a.0 == address.0)
 event_fits a line told.Unframed p e = absurd cc
 event_fits a line told.Bad p e = absurd cc
 
-module _ (own : Address) (heard : List HeardInput) (c : Commissioned) (order : List (ℕ
+module _ (own : Address) (heard : List HeardInput) (c : Start) (order : List (ℕ
     × ℕ)) (target : SlotView) (h : IsOrderedSlot own (map tells heard) c order target) where
   entry_told : Each (λ (x : Entry). HasEvent c.address (told_at heard x.source x.line) x.event) target.journal
   entry_told =
@@ -232,9 +231,9 @@ module _ (own : Address) (heard : List HeardInput) (c : Commissioned) (order : L
       ∙ take_cut target.journal i k.item k.later m k.cut
 
   -- all entries are those of the slot
-  pub all_stepped : (n : ℕ) → n ≡ length order → record { own = own; commission = c; journal = take n target.journal } ≡ target
+  pub all_stepped : (n : ℕ) → n ≡ length order → record { own = own; start = c; journal = take n target.journal } ≡ target
   all_stepped n e = λ i. record {
     own = sym h.meters.own_is i;
-    commission = sym h.meters.commission_is i;
+    start = sym h.meters.commission_is i;
     journal = (ap (λ m. take m target.journal) (e ∙ order_long) ∙ take-length target.journal) i;
   }

@@ -8,9 +8,8 @@ use Rattle.std.proofs.lemmas.List.{length-map}
 use Rattle.outer_io.specs.Each.{Each}
 use Rattle.line_reader.specs.Lines.{is_over, all_lines, whole_lines}
 use Rattle.meter_address.specs.declared.address.Address.{Address}
-use Rattle.meter_address.specs.Commission.{Commissioned}
 use Rattle.meter_slots.specs.declared.counts.Ended.TheVariants as ends
-use Rattle.meter_slots.specs.Journal.{SlotView}
+use Rattle.meter_slots.specs.Journal.{Start, SlotView}
 use Rattle.meter_slots.specs.World.{WorldView}
 use Rattle.stranger_ring.specs.declared.strangers.Heard.{Heard}
 use Rattle.receivers.specs.declared.told.Told.{Told}
@@ -23,7 +22,7 @@ use Rattle.report_text.specs.Orders.{Orders, orders, lines_in, pair_in, meter_he
 use Rattle.report_text.specs.Orders as text
 use Rattle.report_text.specs.OrdersLaw.{orders_of}
 use Rattle.report_text.specs.Report.{report_text}
-use Rattle.roster_file.specs.Roster.{Enrolled, roster_of}
+use Rattle.audit_check_main.specs.Known.{Known, known_of}
 use Rattle.audit_check_main.specs.declared.verdict.Cause.TheVariants as causes
 use Rattle.audit_check_main.specs.declared.verdict.Verdict.{Verdict}
 use Rattle.audit_check_main.specs.declared.verdict.Verdict.TheVariants.{Yes, No}
@@ -46,39 +45,39 @@ all_within : (input : List ℕ) → is_over input ≡ false → all_lines input 
 unfolding all_lines
 all_within input h = ap (λ b. cond b (whole_lines input) (lines input)) h
 
-pub tells_all : (cs : List Commissioned) (inputs : List (List ℕ)) → Each (λ input. is_over input ≡ false) inputs
+pub tells_all : (cs : List Start) (inputs : List (List ℕ)) → Each (λ input. is_over input ≡ false) inputs
     → map tells (map (heard_input cs) inputs) ≡ map told_in inputs
 tells_all cs [] h = refl
 tells_all cs (x ∷ inputs) h = (λ i. map told_of (sym (all_within x h.0) i) ∷ tells_all cs inputs h.1 i)
 
-ends_all : (cs : List Commissioned) (inputs : List (List ℕ)) → Each (λ input. is_over input ≡ false) inputs
+ends_all : (cs : List Start) (inputs : List (List ℕ)) → Each (λ input. is_over input ≡ false) inputs
     → map end_of (map (heard_input cs) inputs) ≡ map (heard_out (map (λ c. c.address) cs)) inputs
 ends_all cs [] h = refl
 ends_all cs (x ∷ inputs) h =
     (λ i. record {
-      counts = counts_of (map (λ (c : Commissioned). c.address) cs) (map told_of (sym (all_within x h.0) i));
+      counts = counts_of (map (λ (c : Start). c.address) cs) (map told_of (sym (all_within x h.0) i));
       ended = ends.End;
     } ∷ ends_all cs inputs h.1 i)
 
 -- ---- numbers of lines
 
-nothing_heard : (cs : List Commissioned) (k : ℕ) → get_or (numbers_for cs []) k [] ≡ []
+nothing_heard : (cs : List Start) (k : ℕ) → get_or (numbers_for cs []) k [] ≡ []
 nothing_heard cs k = at cs k
   where
-    at : (cs : List Commissioned) (k : ℕ)
-        → get_or (map (λ (c : Commissioned). map (λ l. l.0) (lines_for c.address [])) cs ++ [] ∷ []) k [] ≡ []
+    at : (cs : List Start) (k : ℕ)
+        → get_or (map (λ (c : Start). map (λ l. l.0) (lines_for c.address [])) cs ++ [] ∷ []) k [] ≡ []
     at [] zero = refl
     at [] (suc k) = refl
     at (c ∷ cs) zero = refl
     at (c ∷ cs) (suc k) = at cs k
 
-numbers_at : (cs : List Commissioned) (inputs : List (List ℕ)) → Each (λ input. is_over input ≡ false) inputs → (k v : ℕ)
+numbers_at : (cs : List Start) (inputs : List (List ℕ)) → Each (λ input. is_over input ≡ false) inputs → (k v : ℕ)
     → get_or (get_or (map (heard_input cs) inputs) v no_input).lists k [] ≡ get_or (numbers_for cs (get_or (map told_in inputs) v [])) k []
 numbers_at cs [] h k v = sym (nothing_heard cs k)
 numbers_at cs (x ∷ inputs) h k zero = ap (λ ls. get_or (numbers_for cs (map told_of ls)) k []) (sym (all_within x h.0))
 numbers_at cs (x ∷ inputs) h k (suc v) = numbers_at cs inputs h.1 k v
 
-pub numbers_same : (cs : List Commissioned) (inputs : List (List ℕ)) → Each (λ input. is_over input ≡ false) inputs → (k w : ℕ)
+pub numbers_same : (cs : List Start) (inputs : List (List ℕ)) → Each (λ input. is_over input ≡ false) inputs → (k w : ℕ)
     → numbers_in_list (map (heard_input cs) inputs) k w ≡ wanted cs (map told_in inputs) k w
 numbers_same cs inputs h k zero =
     sym (ap (λ heard. get_or (numbers_for cs heard) k []) (heard_none 0 (map told_in inputs)) ∙ nothing_heard cs k)
@@ -91,10 +90,10 @@ last_there : {X : Type 0} (xs : List X) (x d : X) → get_or (xs ++ x ∷ []) (l
 last_there [] x d = refl
 last_there (y ∷ xs) x d = last_there xs x d
 
-abbrev own_numbers : List (List Told) → ℕ → Commissioned → List ℕ
+abbrev own_numbers : List (List Told) → ℕ → Start → List ℕ
 own_numbers all w c = map (λ l. l.0) (lines_for c.address (heard_by w all))
 
-each_order : (all : List (List Told)) (behind : ℕ → List ℕ) (cs : List Commissioned) (lists : List (List (ℕ × ℕ)))
+each_order : (all : List (List Told)) (behind : ℕ → List ℕ) (cs : List Start) (lists : List (List (ℕ × ℕ)))
     → length cs < length lists
     → ((k : ℕ) → k < length cs → (w : ℕ) → numbers_by w (get_or lists k []) ≡ get_or (map (own_numbers all w) cs ++ behind w ∷ []) k [])
     → IsOrderOfEach all cs lists
@@ -103,7 +102,7 @@ each_order all behind (c ∷ cs) [] few h = absurd (omega arith)
 each_order all behind (c ∷ cs) (order ∷ lists) few h =
     (h 0 (omega arith), each_order all behind cs lists (omega arith) (λ k inside. h (suc k) (omega arith)))
 
-module _ (cs : List Commissioned) (inputs : List (List ℕ)) (within : Each (λ input. is_over input ≡ false) inputs)
+module _ (cs : List Start) (inputs : List (List ℕ)) (within : Each (λ input. is_over input ≡ false) inputs)
     (lists : List (List (ℕ × ℕ))) (long : length lists ≡ length cs + 1)
     (right : (k : ℕ) → k < length lists → IsRight (numbers_in_list (map (heard_input cs) inputs) k) (get_or lists k [])) where
   right_at : (k : ℕ) → k < length lists → (w : ℕ)
@@ -126,7 +125,7 @@ module _ (cs : List Commissioned) (inputs : List (List ℕ)) (within : Each (λ 
       ∙ last_there (map (own_numbers all w) cs) (map (λ l. l.0) (lines_of_strangers cs (heard_by w all))) [])
 
 -- where all lists are right by what all inputs told, each is an order of its lines
-pub orders_are : (cs : List Commissioned) (inputs : List (List ℕ)) (before heard : List HeardInput) (lists : List (List (ℕ × ℕ)))
+pub orders_are : (cs : List Start) (inputs : List (List ℕ)) (before heard : List HeardInput) (lists : List (List (ℕ × ℕ)))
     → Each (λ input. is_over input ≡ false) inputs → before ≡ heard → heard ≡ map (heard_input cs) inputs → length lists ≡ length cs + 1
     → ((k : ℕ) → k < length lists → IsRight (numbers_in_list before k) (get_or lists k [])) → AreOrders cs heard lists
 orders_are cs inputs before heard lists within same heard_is long right =
@@ -211,7 +210,7 @@ list_short n report k =
 
 -- ---- verdicts
 
-module _ (r : Enrolled) (text report : List ℕ) (inputs : List (List ℕ)) (roster_is : roster_of text ≡ Ok r)
+module _ (r : Known) (text report : List ℕ) (inputs : List (List ℕ)) (roster_is : known_of text ≡ Ok r)
     (within : Each (λ input. is_over input ≡ false) inputs) where
   abbrev audited : Audited
   audited = record { roster = text; report = report; inputs = inputs }
@@ -219,33 +218,33 @@ module _ (r : Enrolled) (text report : List ℕ) (inputs : List (List ℕ)) (ros
   readable : IsReadable audited r
   readable = record { roster_is = roster_is; within = within }
 
-  module _ (in_form : AreInForm (length r.meters) (reverse (lines_in report))) (lists : List (List (ℕ × ℕ)))
-      (lists_are : lists ≡ lists_printed (length r.meters) (orders report)) where
+  module _ (in_form : AreInForm (length r.starts) (reverse (lines_in report))) (lists : List (List (ℕ × ℕ)))
+      (lists_are : lists ≡ lists_printed (length r.starts) (orders report)) where
     form : IsInForm audited r
     form = record { readable = readable; in_form = in_form }
 
-    pub first_wrong_is : (list place : ℕ) → IsFirstWrong (numbers_in_list (map (heard_input r.meters) inputs)) lists list place
+    pub first_wrong_is : (list place : ℕ) → IsFirstWrong (numbers_in_list (map (heard_input r.starts) inputs)) lists list place
         → IsVerdict audited (No (causes.Order list place))
     first_wrong_is list place wrong =
-        let numbers : numbers_in_list (map (heard_input r.meters) inputs) ≡ wanted r.meters (map told_in inputs) =
-        (λ i k w. numbers_same r.meters inputs within k w i) in (
+        let numbers : numbers_in_list (map (heard_input r.starts) inputs) ≡ wanted r.starts (map told_in inputs) =
+        (λ i k w. numbers_same r.starts inputs within k w i) in (
           r,
           form,
-          subst (λ l. IsFirstWrong (wanted r.meters (map told_in inputs)) l list place) lists_are
+          subst (λ l. IsFirstWrong (wanted r.starts (map told_in inputs)) l list place) lists_are
               (subst (λ f. IsFirstWrong f lists list place) numbers wrong),
         )
 
-    module _ (slots : List SlotView) (strangers : List Heard) (so : AreOrderedSlots r.own (map tells (map (heard_input r.meters) inputs))
-        r.meters lists slots)
-        (noted : AreOrderedStrangers r.meters (map tells (map (heard_input r.meters) inputs)) (get_or lists (length r.meters) [])
+    module _ (slots : List SlotView) (strangers : List Heard) (so : AreOrderedSlots r.own (map tells (map (heard_input r.starts) inputs))
+        r.starts lists slots)
+        (noted : AreOrderedStrangers r.starts (map tells (map (heard_input r.starts) inputs)) (get_or lists (length r.starts) [])
         strangers) where
       abbrev world : WorldView
       world = record { slots = slots; strangers = strangers }
 
-      session : IsSession r.own r.meters (map told_in inputs) world
+      session : IsSession r.own r.starts (map told_in inputs) world
       session =
-          subst (λ all. IsSession r.own r.meters all world) (tells_all r.meters inputs within)
-          (record { meters = meters_slots _ _ r.meters lists slots so; strangers = noted.lines })
+          subst (λ all. IsSession r.own r.starts all world) (tells_all r.starts inputs within)
+          (record { meters = meters_slots _ _ r.starts lists slots so; strangers = noted.lines })
 
       lists_end : {X : Type 0} (n : ℕ) (xs : List X) (d : X) → length xs ≡ n + 1 → drop n xs ≡ get_or xs n d ∷ []
       lists_end zero [] d h = absurd (omega arith)
@@ -254,42 +253,42 @@ module _ (r : Enrolled) (text report : List ℕ) (inputs : List (List ℕ)) (ros
       lists_end (suc n) [] d h = absurd (omega arith)
       lists_end (suc n) (x ∷ xs) d h = lists_end n xs d (omega arith)
 
-      printed : lists_printed (length r.meters) (orders report) ≡ lists_printed (length r.meters) (orders_of slots strangers)
+      printed : lists_printed (length r.starts) (orders report) ≡ lists_printed (length r.starts) (orders_of slots strangers)
       printed =
-          let long : length lists ≡ length r.meters + 1 = ap length lists_are ∙ length-lists_printed (length r.meters) (orders report) in
-          let many : length (map (λ (s : SlotView). order_of s.journal) slots) ≡ length r.meters =
+          let long : length lists ≡ length r.starts + 1 = ap length lists_are ∙ length-lists_printed (length r.starts) (orders report) in
+          let many : length (map (λ (s : SlotView). order_of s.journal) slots) ≡ length r.starts =
           length-map slots (λ (s : SlotView). order_of s.journal)
-          ∙ as_many_slots _ _ r.meters slots (meters_slots _ _ r.meters lists slots so) in
-          sym lists_are ∙ (slots_orders _ _ r.meters lists slots so
-          ∙ (λ i. sym (as_many-all (length r.meters) (map (λ (s : SlotView). order_of s.journal) slots) many) i
-          ++ (lists_end (length r.meters) lists [] long ∙ ap (λ o. o ∷ []) (sym noted.in_order)) i))
+          ∙ as_many_slots _ _ r.starts slots (meters_slots _ _ r.starts lists slots so) in
+          sym lists_are ∙ (slots_orders _ _ r.starts lists slots so
+          ∙ (λ i. sym (as_many-all (length r.starts) (map (λ (s : SlotView). order_of s.journal) slots) many) i
+          ++ (lists_end (length r.starts) lists [] long ∙ ap (λ o. o ∷ []) (sym noted.in_order)) i))
 
       ordered : IsOrdered audited r world
       ordered = record { form = form; session = session; printed = printed }
 
-      text_is : report_text (map end_of (map (heard_input r.meters) inputs)) slots strangers ≡ report_of audited r world
-      text_is = ap (λ e. report_text e slots strangers) (ends_all r.meters inputs within)
+      text_is : report_text (map end_of (map (heard_input r.starts) inputs)) slots strangers ≡ report_of audited r world
+      text_is = ap (λ e. report_text e slots strangers) (ends_all r.starts inputs within)
 
       pub compared_is : (verdict : Verdict)
-          → IsCompared report (report_text (map end_of (map (heard_input r.meters) inputs)) slots strangers) verdict
+          → IsCompared report (report_text (map end_of (map (heard_input r.starts) inputs)) slots strangers) verdict
           → IsVerdict audited verdict
-      compared_is Yes h = record { enrolled = r; world = world; ordered = ordered; text = h ∙ text_is }
+      compared_is Yes h = record { known = r; world = world; ordered = ordered; text = h ∙ text_is }
       compared_is (No (causes.Text place)) h =
-          record { enrolled = r; world = world; ordered = ordered; differs = subst (λ t. DiffersAt place report t) text_is h }
+          record { known = r; world = world; ordered = ordered; differs = subst (λ t. DiffersAt place report t) text_is h }
       compared_is (No (causes.Roster line cause)) h = absurd h
       compared_is (No (causes.Over w)) h = absurd h
       compared_is (No (causes.Form line)) h = absurd h
       compared_is (No (causes.Order list place)) h = absurd h
 
-    pub stepped_is : {E : Type 0} (result : Result Verdict E) (own : Address) (meters : List Commissioned) (heard : List HeardInput)
-        → own ≡ r.own → meters ≡ r.meters
+    pub stepped_is : {E : Type 0} (result : Result Verdict E) (own : Address) (meters : List Start) (heard : List HeardInput)
+        → own ≡ r.own → meters ≡ r.starts
         → IfOk result (λ v. (heard ≡ map (heard_input meters) inputs) × IsStepped own meters heard lists report v)
         → IfOk result (IsVerdict audited)
     stepped_is (Err e) own meters heard own_is meters_are h = tt
     stepped_is (Ok verdict) own meters heard own_is meters_are h =
         let heard_is = subst (λ m. heard ≡ map (heard_input m) inputs) meters_are h.0 in
-        let there = subst (λ o. IsStepped o r.meters (map (heard_input r.meters) inputs) lists report verdict) own_is
-        (subst (λ m. IsStepped own m (map (heard_input r.meters) inputs) lists report verdict) meters_are
+        let there = subst (λ o. IsStepped o r.starts (map (heard_input r.starts) inputs) lists report verdict) own_is
+        (subst (λ m. IsStepped own m (map (heard_input r.starts) inputs) lists report verdict) meters_are
         (subst (λ k. IsStepped own meters k lists report verdict) heard_is h.1)) in
         compared_is there.slots there.strangers there.so there.noted verdict there.compared
 

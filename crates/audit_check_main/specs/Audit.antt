@@ -13,7 +13,7 @@ use Rattle.report_text.specs.declared.lent.ReceiverEnd.{ReceiverEnd}
 use Rattle.report_text.specs.Orders.{orders, lines_in}
 use Rattle.report_text.specs.OrdersLaw.{orders_of}
 use Rattle.report_text.specs.Report.{report_text}
-use Rattle.roster_file.specs.Roster.{Enrolled, roster_of}
+use Rattle.audit_check_main.specs.Known.{Known, known_of}
 use Rattle.roster_file.specs.declared.roster.RosterFault.TheVariants.{Line}
 use Rattle.audit_check_main.specs.declared.verdict.Cause.{Cause}
 use Rattle.audit_check_main.specs.declared.verdict.Cause.TheVariants as causes
@@ -43,52 +43,52 @@ abbrev pub heard_out : List Address → List ℕ → ReceiverEnd
 heard_out addresses input = record { counts = counts_of addresses (told_in input); ended = ends.End }
 
 -- the report of a session in which every input was heard to its end
-abbrev pub report_of : Audited → Enrolled → WorldView → List ℕ
-report_of a r world = report_text (map (heard_out (map (λ c. c.address) r.meters)) a.inputs) world.slots world.strangers
+abbrev pub report_of : Audited → Known → WorldView → List ℕ
+report_of a r world = report_text (map (heard_out (map (λ c. c.address) r.starts)) a.inputs) world.slots world.strangers
 
 -- ---- one stage after another
 
 -- the roster's bytes are one, and no input goes past the limits
-pub record IsReadable (a : Audited) (r : Enrolled) : Type 0 where
-  pub roster_is : roster_of a.roster ≡ Ok r
+pub record IsReadable (a : Audited) (r : Known) : Type 0 where
+  pub roster_is : known_of a.roster ≡ Ok r
   pub within : Each (λ input. is_over input ≡ false) a.inputs
 
 -- and each line of the report that belongs to a list stands in its own
-pub record IsInForm (a : Audited) (r : Enrolled) : Type 0 where
+pub record IsInForm (a : Audited) (r : Known) : Type 0 where
   pub readable : IsReadable a r
-  pub in_form : AreInForm (length r.meters) (reverse (lines_in a.report))
+  pub in_form : AreInForm (length r.starts) (reverse (lines_in a.report))
 
 -- and the printed lists are the orders of a session of what the inputs tell
-pub record IsOrdered (a : Audited) (r : Enrolled) (world : WorldView) : Type 0 where
+pub record IsOrdered (a : Audited) (r : Known) (world : WorldView) : Type 0 where
   pub form : IsInForm a r
-  pub session : IsSession r.own r.meters (heard_of a) world
-  pub printed : lists_printed (length r.meters) (orders a.report)
-      ≡ lists_printed (length r.meters) (orders_of world.slots world.strangers)
+  pub session : IsSession r.own r.starts (heard_of a) world
+  pub printed : lists_printed (length r.starts) (orders a.report)
+      ≡ lists_printed (length r.starts) (orders_of world.slots world.strangers)
 
 -- ---- verdicts
 
 -- the report is the text of a session of just what the inputs tell, in the orders that it prints
 pub record IsFaithful (a : Audited) : Type 0 where
-  pub enrolled : Enrolled
+  pub known : Known
   pub world : WorldView
-  pub ordered : IsOrdered a enrolled world
-  pub text : a.report ≡ report_of a enrolled world
+  pub ordered : IsOrdered a known world
+  pub text : a.report ≡ report_of a known world
 
 -- it is another text than that of the session
 pub record IsUnfaithfulAt (place : ℕ) (a : Audited) : Type 0 where
-  pub enrolled : Enrolled
+  pub known : Known
   pub world : WorldView
-  pub ordered : IsOrdered a enrolled world
-  pub differs : DiffersAt place a.report (report_of a enrolled world)
+  pub ordered : IsOrdered a known world
+  pub differs : DiffersAt place a.report (report_of a known world)
 
 -- the first cause of a `no`: each stands only where none of those before it does
 abbrev pub IsCause : Audited → Cause → Type 0
-IsCause a (causes.Roster line cause) = roster_of a.roster ≡ Err (Line line cause)
-IsCause a (causes.Over w) = (r : Enrolled) × (roster_of a.roster ≡ Ok r)
+IsCause a (causes.Roster line cause) = known_of a.roster ≡ Err (Line line cause)
+IsCause a (causes.Over w) = (r : Known) × (known_of a.roster ≡ Ok r)
     × IsFirst (λ input. is_over input ≡ false) (λ input. is_over input ≡ true) w a.inputs
-IsCause a (causes.Form line) = (r : Enrolled) × IsReadable a r × IsFirstFaulty (length r.meters) (lines_in a.report) line
-IsCause a (causes.Order list place) = (r : Enrolled) × IsInForm a r
-    × IsFirstWrong (wanted r.meters (heard_of a)) (lists_printed (length r.meters) (orders a.report)) list place
+IsCause a (causes.Form line) = (r : Known) × IsReadable a r × IsFirstFaulty (length r.starts) (lines_in a.report) line
+IsCause a (causes.Order list place) = (r : Known) × IsInForm a r
+    × IsFirstWrong (wanted r.starts (heard_of a)) (lists_printed (length r.starts) (orders a.report)) list place
 IsCause a (causes.Text place) = IsUnfaithfulAt place a
 
 abbrev pub IsVerdict : Audited → Verdict → Type 0

@@ -1,16 +1,15 @@
 -- Words of private contracts: a report that is compared with the text of a session.
-use Rattle.std.specs.Prelude.{ℕ, ◌≡◌, ◌<◌, ◌^◌, false, List, [], map, length, reverse, slice_index_or, Ok}
+use Rattle.std.specs.Prelude.{ℕ, ◌≡◌, ◌<◌, ◌≤◌, ◌^◌, false, List, [], map, length, reverse, slice_index_or, Ok}
 use Rattle.outer_io.specs.Each.{Each}
 use Rattle.line_reader.specs.Lines.{is_over}
 use Rattle.meter_address.specs.declared.address.Address.{Address}
-use Rattle.meter_address.specs.Commission.{Commissioned}
-use Rattle.meter_slots.specs.Journal.{SlotView}
+use Rattle.meter_slots.specs.Journal.{Start, SlotView}
 use Rattle.stranger_ring.specs.declared.strangers.Heard.{Heard}
 use Rattle.receivers.specs.Orders.{AreOrderedStrangers}
 use Rattle.report_text.specs.Orders.{lines_in, orders}
 use Rattle.report_text.specs.Report.{report_text}
-use Rattle.roster_file.specs.Enrolled.{IsEnrolled}
-use Rattle.roster_file.specs.Roster.{Enrolled, roster_of}
+use Rattle.meter_address.specs.Address.{AreApart}
+use Rattle.audit_check_main.specs.Known.{Known, known_of}
 use Rattle.audit_check_main.specs.declared.verdict.Cause.TheVariants as causes
 use Rattle.audit_check_main.specs.declared.verdict.Verdict.{Verdict}
 use Rattle.audit_check_main.specs.declared.verdict.Verdict.TheVariants.{Yes, No}
@@ -28,7 +27,7 @@ IsCompared report text (No (causes.Text place)) = DiffersAt place report text
 IsCompared report text _ = ⊥
 
 -- slots and strangers in the order of some lists, and what a report is found to be beside the text of that session
-pub record IsStepped (own : Address) (meters : List Commissioned) (heard : List HeardInput) (lists : List (List (ℕ × ℕ))) (report : List ℕ)
+pub record IsStepped (own : Address) (meters : List Start) (heard : List HeardInput) (lists : List (List (ℕ × ℕ))) (report : List ℕ)
     (verdict : Verdict) : Type 0 where
   pub slots : List SlotView
   pub strangers : List Heard
@@ -36,15 +35,16 @@ pub record IsStepped (own : Address) (meters : List Commissioned) (heard : List 
   pub noted : AreOrderedStrangers meters (map tells heard) (slice_index_or lists (length meters) []) strangers
   pub compared : IsCompared report (report_text (map end_of heard) slots strangers) verdict
 
--- a roster as one is read, inputs within the limits, and a report in form with the lists that it prints
-pub record AreListsRead (r : Enrolled) (report : List ℕ) (inputs : List (List ℕ)) (lists : List (List (ℕ × ℕ))) : Type 0 where
-  pub enrolled : IsEnrolled r
+-- meters whose addresses differ, 4,096 at most, inputs within the limits, and a report in form with the lists that it prints
+pub record AreListsRead (r : Known) (report : List ℕ) (inputs : List (List ℕ)) (lists : List (List (ℕ × ℕ))) : Type 0 where
+  pub apart : AreApart (map (λ c. c.address) r.starts)
+  pub few : length r.starts ≤ 4096
   pub within : Each (λ input. is_over input ≡ false) inputs
   pub few_lines : length (lines_in report) < 2 ^ 32
-  pub in_form : AreInForm (length r.meters) (reverse (lines_in report))
-  pub lists_are : lists ≡ lists_printed (length r.meters) (orders report)
+  pub in_form : AreInForm (length r.starts) (reverse (lines_in report))
+  pub lists_are : lists ≡ lists_printed (length r.starts) (orders report)
 
--- the verdict on a report by each text of a roster
-abbrev pub IsVerdictBy : Enrolled → (report : List ℕ) → (inputs : List (List ℕ)) → Verdict → Type 0
+-- the verdict on a report by each file that says this of the meters
+abbrev pub IsVerdictBy : Known → (report : List ℕ) → (inputs : List (List ℕ)) → Verdict → Type 0
 IsVerdictBy r report inputs verdict =
-    (text : List ℕ) → roster_of text ≡ Ok r → IsVerdict (record { roster = text; report = report; inputs = inputs }) verdict
+    (text : List ℕ) → known_of text ≡ Ok r → IsVerdict (record { roster = text; report = report; inputs = inputs }) verdict

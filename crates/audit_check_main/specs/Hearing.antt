@@ -3,7 +3,7 @@ use Rattle.std.specs.Prelude.{ℕ, zero, suc, ◌≡◌, ◌<◌, ◌+◌, ◌-�
 use Rattle.std.specs.List.{position_or_len}
 use Rattle.std.specs.Str.Lines.{lines}
 use Rattle.meter_address.specs.declared.address.Address.{Address}
-use Rattle.meter_address.specs.Commission.{Commissioned}
+use Rattle.meter_slots.specs.Journal.{Start}
 use Rattle.meter_slots.specs.declared.counts.Counts.{Counts}
 use Rattle.receivers.specs.declared.told.Told.{Told}
 use Rattle.receivers.specs.declared.told.Told.TheVariants as told
@@ -25,11 +25,11 @@ pub record HeardInput : Type 0 where
   pub lists : List (List ℕ)
   pub counts : Counts
 
--- what an input comes to for the meters of some commissions
-abbrev pub heard_input : List Commissioned → List ℕ → HeardInput
-heard_input commissions input =
+-- what an input comes to for meters of which this is known
+abbrev pub heard_input : List Start → List ℕ → HeardInput
+heard_input starts input =
     let heard = map told_of (lines input) in
-    record { lines = lines input; lists = numbers_for commissions heard; counts = counts_of (map (λ c. c.address) commissions) heard }
+    record { lines = lines input; lists = numbers_for starts heard; counts = counts_of (map (λ c. c.address) starts) heard }
 
 abbrev pub tells : HeardInput → List Told
 tells h = map told_of h.lines

@@ -21,17 +21,18 @@ stepped slot source line event = record slot {
     source = source;
     line = line;
     event = event;
-    outcome = outcome slot.commission slot.own (reverse slot.journal) event;
+    outcome = outcome slot.start slot.own (reverse slot.journal) event;
   } ∷ [];
 }
 
 -- what is kept of this slot, whose steps were put
 pub record HasStepped (slot : SlotView) (start : Compared) (kept : MeterSteps) (now : Compared) : Type 0 where
-  pub commission_is : kept.commission ≡ slot.commission
+  pub address_is : kept.address ≡ slot.start.address
+  pub mode_is : kept.mode ≡ slot.start.mode
   pub own_is : kept.slot.own ≡ slot.own
-  pub same_commission : kept.slot.commission ≡ slot.commission
+  pub same_start : kept.slot.start ≡ slot.start
   pub after : IsAfter slot.journal kept.slot
   pub steps_are : kept.steps ≡ length slot.journal
-  pub readings_are : kept.readings ≡ length (readings slot.commission slot.journal)
-  pub last_is : kept.last ≡ last_reading (readings slot.commission slot.journal)
-  pub put : Puts Compares start (steps_text (readings slot.commission slot.journal) slot.journal) now
+  pub readings_are : kept.readings ≡ length (readings slot.start slot.journal)
+  pub last_is : kept.last ≡ last_reading (readings slot.start slot.journal)
+  pub put : Puts Compares start (steps_text (readings slot.start slot.journal) slot.journal) now

@@ -1,19 +1,19 @@
 -- Whether a printed list is an order of the lines that it has to have.
 use Rattle.std.specs.Prelude.{ℕ, ◌≡◌, ◌+◌, ◌<◌, ◌≤◌, List, [], ◌∷◌, ◌++◌, length, map, take, slice_index_or}
 use Rattle.paper.specs.Filing.{IsFrontOf}
-use Rattle.meter_address.specs.Commission.{Commissioned}
+use Rattle.meter_slots.specs.Journal.{Start}
 use Rattle.receivers.specs.declared.told.Told.{Told}
 use Rattle.receivers.specs.Orders.{numbers_by}
 use Rattle.receivers.specs.Session.{heard_by, lines_for, lines_of_strangers}
 
 -- the numbers of a receiver's lines for each list: each meter's own lines, and behind them those of strangers
-abbrev pub numbers_for : List Commissioned → List Told → List (List ℕ)
-numbers_for commissions heard =
-    map (λ c. map (λ l. l.0) (lines_for c.address heard)) commissions ++ map (λ l. l.0) (lines_of_strangers commissions heard) ∷ []
+abbrev pub numbers_for : List Start → List Told → List (List ℕ)
+numbers_for starts heard =
+    map (λ c. map (λ l. l.0) (lines_for c.address heard)) starts ++ map (λ l. l.0) (lines_of_strangers starts heard) ∷ []
 
 -- of each receiver the numbers of its lines that the list with this number has to have, in their order
-abbrev pub wanted : List Commissioned → List (List Told) → (list : ℕ) → ℕ → List ℕ
-wanted commissions all list w = slice_index_or (numbers_for commissions (heard_by w all)) list []
+abbrev pub wanted : List Start → List (List Told) → (list : ℕ) → ℕ → List ℕ
+wanted starts all list w = slice_index_or (numbers_for starts (heard_by w all)) list []
 
 -- ---- a list
 

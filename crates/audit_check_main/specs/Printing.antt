@@ -2,9 +2,8 @@
 use Rattle.std.specs.Prelude.{ℕ, List, [], map, length, slice_index_or}
 use Rattle.std.specs.List.{flat_map}
 use Rattle.meter_address.specs.declared.address.Address.{Address}
-use Rattle.meter_address.specs.Commission.{Commissioned}
 use Rattle.paper.specs.Puts.{Puts}
-use Rattle.meter_slots.specs.Journal.{SlotView}
+use Rattle.meter_slots.specs.Journal.{Start, SlotView}
 use Rattle.meter_slots.specs.declared.counts.Ended.TheVariants as ends
 use Rattle.stranger_ring.specs.declared.strangers.Heard.{Heard}
 use Rattle.receivers.specs.declared.told.Told.{Told}
@@ -20,20 +19,20 @@ abbrev pub end_of : HeardInput → ReceiverEnd
 end_of h = record { counts = h.counts; ended = ends.End }
 
 -- what the report says of a meter is put, after its lines in this order of them
-pub record IsMeterPut (own : Address) (all : List (List Told)) (c : Commissioned) (order : List (ℕ × ℕ)) (old new : Compared) : Type 0 where
+pub record IsMeterPut (own : Address) (all : List (List Told)) (c : Start) (order : List (ℕ × ℕ)) (old new : Compared) : Type 0 where
   pub slot : SlotView
   pub so : IsOrderedSlot own all c order slot
   pub put : Puts Compares old (meter_text slot) new
 
 -- what the report says of each meter is put, after its lines in the order of its list
-pub record AreMetersPut (own : Address) (all : List (List Told)) (meters : List Commissioned) (lists : List (List (ℕ × ℕ)))
+pub record AreMetersPut (own : Address) (all : List (List Told)) (meters : List Start) (lists : List (List (ℕ × ℕ)))
     (old new : Compared) : Type 0 where
   pub slots : List SlotView
   pub so : AreOrderedSlots own all meters lists slots
   pub put : Puts Compares old (flat_map meter_text slots) new
 
 -- the report of the session of some orders is put
-pub record IsSessionPut (own : Address) (meters : List Commissioned) (heard : List HeardInput) (lists : List (List (ℕ × ℕ)))
+pub record IsSessionPut (own : Address) (meters : List Start) (heard : List HeardInput) (lists : List (List (ℕ × ℕ)))
     (old new : Compared) : Type 0 where
   pub slots : List SlotView
   pub strangers : List Heard

@@ -1,9 +1,9 @@
 //! The audit.
-ghost use Rattle.std.specs.Prelude.{◌≡◌, ◌<◌, ◌+◌, ◌^◌, false, true, length, map, Ok, Err, IfOk, MatchOption};
+ghost use Rattle.std.specs.Prelude.{◌≡◌, ◌<◌, ◌≤◌, ◌+◌, ◌^◌, false, true, length, map, Ok, Err, IfOk, MatchOption};
 ghost use Rattle.outer_io.specs.Each.{Each, IsFirst};
 ghost use Rattle.line_reader.specs.Lines.{is_over};
 ghost use Rattle.report_text.specs.Orders.{lines_in};
-ghost use Rattle.roster_file.specs.Enrolled.{IsEnrolled};
+ghost use Rattle.meter_slots.specs.Journal.{fresh_start};
 ghost use Rattle.audit_check_main.specs.Audit.{IsVerdict};
 ghost use Rattle.meter_address.specs.Address.{AreApart};
 ghost use Rattle.audit_check_main.specs.Auditing.{AreListsRead, IsStepped, IsVerdictBy};
@@ -20,9 +20,9 @@ use crate::printing::put_session;
 use crate::stepping::Unmade;
 use crate::verdict::{Cause, Verdict};
 use meter_address::{Address, Commission};
-use meter_slots::Directory;
+use meter_slots::{Directory, MeterStart};
 use outer_io::Memory;
-use roster_file::{Roster, RosterFault, read_roster};
+use roster_file::{RosterFault, read_roster};
 use std::alloc::Global;
 
 // The first input, from 1, that goes past the limits.
@@ -39,16 +39,30 @@ fn first_over(inputs: &[Input]) -> Option<u32>
     None
 }
 
+// What is known of the meters of a roster.
+fn starts_of(alloc: Global, meters: &[Commission]) -> Result<Vec<MeterStart>, Memory>
+    ensures { IfOk result (λ starts. starts.items ≡ map fresh_start meters.now) }
+{
+    let mut starts = Vec::new(alloc);
+    for place in 0..meters.len() {
+        starts.push(MeterStart::new(meters[place]))?;
+    }
+    Ok(starts)
+}
+
 // The addresses of the meters.
-fn addresses_of(alloc: Global, meters: &[Commission]) -> Result<Vec<Address>, Memory>
+fn addresses_of(alloc: Global, meters: &[MeterStart]) -> Result<Vec<Address>, Memory>
     ensures { IfOk result (λ addresses. addresses.items ≡ map (λ c. c.address) meters.now) }
 {
-    let addresses = meters.iter().map(|c| c.address).collect(alloc)?;
+    let mut addresses = Vec::new(alloc);
+    for place in 0..meters.len() {
+        addresses.push(meters[place].address())?;
+    }
     Ok(addresses)
 }
 
 // The directory of the meters.
-fn directory_of(alloc: Global, meters: &[Commission]) -> Result<Directory, Memory>
+fn directory_of(alloc: Global, meters: &[MeterStart]) -> Result<Directory, Memory>
     requires apart { AreApart (map (λ c. c.address) meters.now) }
     requires few { length meters.now < 2 ^ 32 }
     ensures { IfOk result (λ directory. directory ≡ map (λ c. c.address) meters.now) }
@@ -61,18 +75,18 @@ fn directory_of(alloc: Global, meters: &[Commission]) -> Result<Directory, Memor
 fn audit_orders(
     alloc: Global,
     own: Address,
-    meters: &[Commission],
+    meters: Vec<MeterStart>,
     directory: &Directory,
     report: &[u8],
     heard: &[Hearing<'_>],
     lists: &[Order],
 ) -> Result<Verdict, Unmade>
-    requires directory { directory.now ≡ map (λ c. c.address) meters.now }
+    requires directory { directory.now ≡ map (λ c. c.address) meters.items }
     requires apart { AreApart directory.now }
-    requires long { length lists.now ≡ length meters.now + 1 }
-    ensures stepped { IfOk result (λ verdict. AreOrders meters.now heard.now lists.now
-        → IsStepped own meters.now heard.now lists.now report.now verdict) }
-    ensures stray { result ≡ Err Unmade.Stray → AreOrders meters.now heard.now lists.now → ⊥ }
+    requires long { length lists.now ≡ length meters.items + 1 }
+    ensures stepped { IfOk result (λ verdict. AreOrders meters.items heard.now lists.now
+        → IsStepped own meters.items heard.now lists.now report.now verdict) }
+    ensures stray { result ≡ Err Unmade.Stray → AreOrders meters.items heard.now lists.now → ⊥ }
 {
     let mut paper = Comparing::new(report);
     put_session(alloc, own, meters, directory, heard, lists, &mut paper)?;
@@ -94,17 +108,18 @@ fn told_verdict(found: Result<Verdict, Unmade>) -> Result<Verdict, Memory>
 // Audits a report whose lists were read.
 fn audit_lists(
     alloc: Global,
-    roster: &Roster,
+    own: Address,
+    meters: Vec<MeterStart>,
     report: &[u8],
     inputs: &[Input],
     lists: &[Order],
 ) -> Result<Verdict, Memory>
-    requires { AreListsRead roster.now report.now inputs.now lists.now }
-    ensures { IfOk result (IsVerdictBy roster.now report.now inputs.now) }
+    requires { AreListsRead (record { own = own; starts = meters.items }) report.now inputs.now lists.now }
+    ensures { IfOk result (IsVerdictBy (record { own = own; starts = meters.items }) report.now inputs.now) }
 {
-    let meters = roster.meters();
-    let directory = directory_of(alloc, meters)?;
-    let heard = hear_all(alloc, meters, &directory, inputs)?;
+    let starts = meters.as_slice();
+    let directory = directory_of(alloc, starts)?;
+    let heard = hear_all(alloc, starts, &directory, inputs)?;
     match first_wrong(alloc, heard.as_slice(), lists)? {
         Some((list, place)) => Ok(Verdict::No(Cause::Order {
             list: list as u32,
@@ -112,7 +127,7 @@ fn audit_lists(
         })),
         None => told_verdict(audit_orders(
             alloc,
-            roster.own(),
+            own,
             meters,
             &directory,
             report,
@@ -122,20 +137,22 @@ fn audit_lists(
     }
 }
 
-// Audits a report where the roster is one and no input goes past the limits.
+// Audits a report where this is known of the meters and no input goes past the limits.
 fn audit_readable(
     alloc: Global,
-    roster: &Roster,
+    own: Address,
+    meters: Vec<MeterStart>,
     report: &[u8],
     inputs: &[Input],
 ) -> Result<Verdict, Memory>
-    requires enrolled { IsEnrolled roster.now }
+    requires apart { AreApart (map (λ c. c.address) meters.items) }
+    requires few { length meters.items ≤ 4096 }
     requires within { Each (λ input. is_over input ≡ false) inputs.now }
     requires lines { length (lines_in report.now) < 2 ^ 32 }
-    ensures { IfOk result (IsVerdictBy roster.now report.now inputs.now) }
+    ensures { IfOk result (IsVerdictBy (record { own = own; starts = meters.items }) report.now inputs.now) }
 {
-    match read_lists(alloc, report, roster.meters().len()) {
-        Ok(lists) => audit_lists(alloc, roster, report, inputs, lists.as_slice()),
+    match read_lists(alloc, report, meters.len()) {
+        Ok(lists) => audit_lists(alloc, own, meters, report, inputs, lists.as_slice()),
         Err(ListsFault::Form(line)) => Ok(Verdict::No(Cause::Form(line))),
         Err(ListsFault::Memory) => Err(Memory),
     }
@@ -161,7 +178,10 @@ fn verdict_on(
     };
     match first_over(inputs) {
         Some(w) => Ok(Verdict::No(Cause::Over(w))),
-        None => audit_readable(alloc, &roster, report, inputs),
+        None => {
+            let starts = starts_of(alloc, roster.meters())?;
+            audit_readable(alloc, roster.own(), starts, report, inputs)
+        }
     }
 }
 

@@ -10,8 +10,8 @@ ghost use Rattle.audit_check_main.specs.Hearing.{class_in, counts_in, heard_inpu
 
 use crate::input::Input;
 use crate::whose::Whose;
-use meter_address::{Address, Commission};
-use meter_slots::{Counts, Directory};
+use meter_address::Address;
+use meter_slots::{Counts, Directory, MeterStart};
 use outer_io::Memory;
 use receivers::{Class, Told};
 use std::alloc::Global;
@@ -132,7 +132,7 @@ fn add_at(lists: &mut Vec<LineNumbers>, place: usize, number: u32) -> Result<(),
 }
 
 // An empty list for each meter.
-fn empty_lists_of(alloc: Global, meters: &[Commission]) -> Result<Vec<LineNumbers>, Memory>
+fn empty_lists_of(alloc: Global, meters: &[MeterStart]) -> Result<Vec<LineNumbers>, Memory>
     ensures { IfOk result (λ lists. lists.items ≡ map (λ c. []) meters.now) }
 {
     let lists = meters
@@ -143,7 +143,7 @@ fn empty_lists_of(alloc: Global, meters: &[Commission]) -> Result<Vec<LineNumber
 }
 
 // An empty list for each meter, and one for the strangers.
-fn empty_lists(alloc: Global, meters: &[Commission]) -> Result<Vec<LineNumbers>, Memory>
+fn empty_lists(alloc: Global, meters: &[MeterStart]) -> Result<Vec<LineNumbers>, Memory>
     ensures { IfOk result (λ lists. lists.items ≡ map (λ c. []) meters.now ++ [] ∷ []) }
 {
     let mut lists = empty_lists_of(alloc, meters)?;
@@ -152,7 +152,7 @@ fn empty_lists(alloc: Global, meters: &[Commission]) -> Result<Vec<LineNumbers>,
 }
 
 /// The list of an address: that of the meter with this address, or the strangers' behind those of all meters.
-pub(crate) fn list_of(meters: &[Commission], directory: &Directory, address: Address) -> usize
+pub(crate) fn list_of(meters: &[MeterStart], directory: &Directory, address: Address) -> usize
     requires { directory.now ≡ map (λ c. c.address) meters.now }
     ensures { result ≡ position_or_len (λ a. a.0 == address.0) directory.now }
 {
@@ -163,7 +163,7 @@ pub(crate) fn list_of(meters: &[Commission], directory: &Directory, address: Add
 }
 
 // What a line is by whose it is.
-fn sort_of(meters: &[Commission], directory: &Directory, whose: Whose) -> Sort
+fn sort_of(meters: &[MeterStart], directory: &Directory, whose: Whose) -> Sort
     requires { directory.now ≡ map (λ c. c.address) meters.now }
     ensures { result ≡ sort_by directory.now whose }
 {
@@ -175,7 +175,7 @@ fn sort_of(meters: &[Commission], directory: &Directory, whose: Whose) -> Sort
 }
 
 // The class of the lines of a list.
-fn class_of_list(meters: &[Commission], list: usize) -> Class
+fn class_of_list(meters: &[MeterStart], list: usize) -> Class
     ensures { result ≡ class_in (length meters.now) (Sort.Listed list) }
 {
     if list < meters.len() {
@@ -187,7 +187,7 @@ fn class_of_list(meters: &[Commission], list: usize) -> Class
 
 // Notes a line of a sort in the lists, and answers its class.
 fn note(
-    meters: &[Commission],
+    meters: &[MeterStart],
     lists: &mut Vec<LineNumbers>,
     line: u32,
     sort: Sort,
@@ -258,7 +258,7 @@ fn counts_of(classes: &[Class]) -> Counts
 // What an input within the limits is heard to be.
 fn hear<'a>(
     alloc: Global,
-    meters: &[Commission],
+    meters: &[MeterStart],
     directory: &Directory,
     input: &'a Input,
 ) -> Result<Hearing<'a>, Memory>
@@ -283,7 +283,7 @@ fn hear<'a>(
 /// What all inputs are heard to be.
 pub(crate) fn hear_all<'a>(
     alloc: Global,
-    meters: &[Commission],
+    meters: &[MeterStart],
     directory: &Directory,
     inputs: &'a [Input],
 ) -> Result<Vec<Hearing<'a>>, Memory>

@@ -1,15 +1,16 @@
 //! A meter's slot whose steps are put one by one, and are then let go.
 use crate::comparing::Comparing;
-use meter_address::{Address, Commission};
-use meter_slots::{Event, PassingSlot, Reading};
+use meter_address::{Address, Mode};
+use meter_slots::{Event, MeterStart, PassingSlot, Reading};
 use outer_io::Memory;
 use report_text::{MeterLine, put_last_records, put_pending, put_step};
 use std::alloc::Global;
 
-/// What is kept of a meter's steps: its slot as it is now, how many steps and readings there are, and the last reading.
+/// What is kept of a meter's steps: its address and mode, its slot as it is now, how many steps and readings there are, and the last reading.
 #[derive(Drop)]
 pub(crate) struct MeterSteps {
-    commission: Commission,
+    address: Address,
+    mode: Mode,
     slot: PassingSlot,
     steps: usize,
     readings: usize,
@@ -26,14 +27,15 @@ impl MeterSteps {
     ghost use Rattle.audit_check_main.specs.MeterSteps.{HasStepped, later_reading, stepped};
 
     /// No step is made yet.
-    pub(crate) fn new(alloc: Global, own: Address, commission: Commission) -> MeterSteps
-        ensures stepped { (paper : Compared) → HasStepped (record { own = own; commission = commission; journal = [] }) paper result paper }
+    pub(crate) fn new(alloc: Global, own: Address, start: MeterStart) -> MeterSteps
+        ensures stepped { (paper : Compared) → HasStepped (record { own = own; start = start; journal = [] }) paper result paper }
         ensures steps { result.steps ≡ 0 }
         ensures readings { result.readings ≡ 0 }
     {
         MeterSteps {
-            commission,
-            slot: PassingSlot::new(alloc, own, commission),
+            address: start.address(),
+            mode: start.mode(),
+            slot: PassingSlot::resume(alloc, own, start),
             steps: 0,
             readings: 0,
             last: None,
@@ -90,8 +92,8 @@ impl MeterSteps {
         ensures { (slot : SlotView) (start now : Compared) → HasStepped slot start self.now now → result ≡ line_of slot }
     {
         MeterLine {
-            address: self.commission.address,
-            mode: self.commission.mode,
+            address: self.address,
+            mode: self.mode,
             last: self.slot.last(),
             down: self.slot.down(),
             steps: self.steps,
@@ -103,7 +105,7 @@ impl MeterSteps {
     pub(crate) fn put_rest(&self, paper: &mut Comparing<'_>)
         ensures { (slot : SlotView) (start now : Compared) → HasStepped slot start self.now now
             → Puts Compares paper.old
-            (last_text (readings slot.commission slot.journal) ++ flat_map pending_text (orders_now slot).queue.commands) paper.new }
+            (last_text (readings slot.start slot.journal) ++ flat_map pending_text (orders_now slot).queue.commands) paper.new }
     {
         put_last_records(paper, self.last.as_ref());
         put_pending(paper, self.slot.queue());

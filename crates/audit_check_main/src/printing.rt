@@ -3,7 +3,7 @@
 ghost use Rattle.std.specs.Prelude.{◌≡◌, ◌<◌, ◌+◌, List, ℕ, Err, length, map, IfOk, OnOk};
 ghost use Rattle.outer_io.specs.Each.{Each};
 ghost use Rattle.meter_address.specs.Address.{AreApart};
-ghost use Rattle.meter_address.specs.Commission.{Commissioned};
+ghost use Rattle.meter_slots.specs.Journal.{Start};
 ghost use Rattle.receivers.specs.Orders.{IsOrderOf};
 ghost use Rattle.report_text.specs.declared.lent.ReceiverEnd.{ReceiverEnd};
 ghost use Rattle.audit_check_main.specs.Hearing.{tells, told_at, AreListed, AreListedBelow};
@@ -14,8 +14,8 @@ use crate::comparing::Comparing;
 use crate::hearing::Hearing;
 use crate::printed::Order;
 use crate::stepping::{Unmade, note_strangers, step_meter};
-use meter_address::{Address, Commission};
-use meter_slots::{Directory, Ended};
+use meter_address::Address;
+use meter_slots::{Directory, Ended, MeterStart};
 use outer_io::Memory;
 use report_text::{ReceiverEnd, put_end, put_head, put_meter_line, put_strangers};
 use std::alloc::Global;
@@ -39,18 +39,18 @@ fn receiver_ends(alloc: Global, heard: &[Hearing<'_>]) -> Result<Vec<ReceiverEnd
 fn put_meter(
     alloc: Global,
     own: Address,
-    commission: Commission,
+    start: MeterStart,
     heard: &[Hearing<'_>],
     order: &[(u32, u32)],
     paper: &mut Comparing<'_>,
 ) -> Result<(), Unmade>
-    ensures put { OnOk result (IsOrderOf commission.address (map tells heard.now) order.now
-        → IsMeterPut own (map tells heard.now) commission order.now paper.old paper.new) }
-    ensures own_lines { OnOk result (Each (λ p. IsEventFor commission.address (told_at heard.now p.0 p.1)) order.now) }
-    ensures stray { result ≡ Err Unmade.Stray → IsOrderOf commission.address (map tells heard.now) order.now → ⊥ }
+    ensures put { OnOk result (IsOrderOf start.address (map tells heard.now) order.now
+        → IsMeterPut own (map tells heard.now) start order.now paper.old paper.new) }
+    ensures own_lines { OnOk result (Each (λ p. IsEventFor start.address (told_at heard.now p.0 p.1)) order.now) }
+    ensures stray { result ≡ Err Unmade.Stray → IsOrderOf start.address (map tells heard.now) order.now → ⊥ }
 {
     let mut line = paper.pass_line();
-    let steps = step_meter(alloc, own, commission, heard, order, paper)?;
+    let steps = step_meter(alloc, own, start, heard, order, paper)?;
     steps.put_rest(paper);
     put_meter_line(&mut line, &steps.line());
     paper.settle(line);
@@ -61,20 +61,22 @@ fn put_meter(
 fn put_meters(
     alloc: Global,
     own: Address,
-    meters: &[Commission],
+    meters: Vec<MeterStart>,
     heard: &[Hearing<'_>],
     lists: &[Order],
     paper: &mut Comparing<'_>,
 ) -> Result<(), Unmade>
-    requires apart { AreApart (map (λ c. c.address) meters.now) }
-    requires lists { length meters.now < length lists.now }
-    ensures put { OnOk result (IsOrderOfEach (map tells heard.now) meters.now lists.now
-        → AreMetersPut own (map tells heard.now) meters.now lists.now paper.old paper.new) }
-    ensures own_lines { OnOk result (AreListedBelow (length meters.now) (map (λ c. c.address) meters.now) heard.now lists.now) }
-    ensures stray { result ≡ Err Unmade.Stray → IsOrderOfEach (map tells heard.now) meters.now lists.now → ⊥ }
+    requires apart { AreApart (map (λ c. c.address) meters.items) }
+    requires lists { length meters.items < length lists.now }
+    ensures put { OnOk result (IsOrderOfEach (map tells heard.now) meters.items lists.now
+        → AreMetersPut own (map tells heard.now) meters.items lists.now paper.old paper.new) }
+    ensures own_lines { OnOk result (AreListedBelow (length meters.items) (map (λ c. c.address) meters.items) heard.now lists.now) }
+    ensures stray { result ≡ Err Unmade.Stray → IsOrderOfEach (map tells heard.now) meters.items lists.now → ⊥ }
 {
-    for (list, commission) in meters.iter().enumerate() {
-        put_meter(alloc, own, *commission, heard, lists[list].pairs(), paper)?;
+    let mut list = 0;
+    for start in meters {
+        put_meter(alloc, own, start, heard, lists[list].pairs(), paper)?;
+        list += 1;
     }
     Ok(())
 }
@@ -83,24 +85,25 @@ fn put_meters(
 pub(crate) fn put_session(
     alloc: Global,
     own: Address,
-    meters: &[Commission],
+    meters: Vec<MeterStart>,
     directory: &Directory,
     heard: &[Hearing<'_>],
     lists: &[Order],
     paper: &mut Comparing<'_>,
 ) -> Result<(), Unmade>
-    requires directory { directory.now ≡ map (λ c. c.address) meters.now }
+    requires directory { directory.now ≡ map (λ c. c.address) meters.items }
     requires apart { AreApart directory.now }
-    requires long { length lists.now ≡ length meters.now + 1 }
-    ensures put { OnOk result (AreOrders meters.now heard.now lists.now
-        → IsSessionPut own meters.now heard.now lists.now paper.old paper.new) }
+    requires long { length lists.now ≡ length meters.items + 1 }
+    ensures put { OnOk result (AreOrders meters.items heard.now lists.now
+        → IsSessionPut own meters.items heard.now lists.now paper.old paper.new) }
     ensures own_lines { OnOk result (AreListed directory.now heard.now lists.now) }
-    ensures stray { result ≡ Err Unmade.Stray → AreOrders meters.now heard.now lists.now → ⊥ }
+    ensures stray { result ≡ Err Unmade.Stray → AreOrders meters.items heard.now lists.now → ⊥ }
 {
     let ends = receiver_ends(alloc, heard)?;
     put_head(paper, ends.as_slice());
+    let order = lists[meters.len()].pairs();
+    let strangers = note_strangers(alloc, meters.as_slice(), directory, heard, order)?;
     put_meters(alloc, own, meters, heard, lists, paper)?;
-    let strangers = note_strangers(alloc, meters, directory, heard, lists[meters.len()].pairs())?;
     put_strangers(paper, &strangers);
     put_end(paper);
     Ok(())

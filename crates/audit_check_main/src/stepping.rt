@@ -2,8 +2,7 @@
 ghost use Rattle.std.specs.Prelude.{◌≡◌, ◌<◌, ◌+◌, List, ℕ, Err, length, map, IfOk, slice_index_or};
 ghost use Rattle.outer_io.specs.Each.{Each};
 ghost use Rattle.receivers.specs.Orders.{IsOrderOf, IsOrderedSlot, IsOrderOfStrangers, AreOrderedStrangers};
-ghost use Rattle.meter_address.specs.Commission.{Commissioned};
-ghost use Rattle.meter_slots.specs.Journal.{SlotView};
+ghost use Rattle.meter_slots.specs.Journal.{Start, SlotView};
 ghost use Rattle.audit_check_main.specs.Hearing.{sort_of, tells, told_at};
 ghost use Rattle.audit_check_main.specs.MeterSteps.{HasStepped};
 ghost use Rattle.audit_check_main.specs.Stepping.{IsEventFor};
@@ -12,8 +11,8 @@ use crate::comparing::Comparing;
 use crate::hearing::{Hearing, Sort, list_of};
 use crate::meter_steps::MeterSteps;
 use crate::printed::Order;
-use meter_address::{Address, Commission};
-use meter_slots::Directory;
+use meter_address::Address;
+use meter_slots::{Directory, MeterStart};
 use outer_io::Memory;
 use receivers::Told;
 use std::alloc::Global;
@@ -56,22 +55,23 @@ impl From<Memory> for Unmade {
 pub(crate) fn step_meter(
     alloc: Global,
     own: Address,
-    commission: Commission,
+    start: MeterStart,
     heard: &[Hearing<'_>],
     order: &[(u32, u32)],
     paper: &mut Comparing<'_>,
 ) -> Result<MeterSteps, Unmade>
-    ensures stepped { IfOk result (λ steps. (slot : SlotView) → IsOrderedSlot own (map tells heard.now) commission order.now slot
+    ensures stepped { IfOk result (λ steps. (slot : SlotView) → IsOrderedSlot own (map tells heard.now) start order.now slot
         → HasStepped slot paper.old steps paper.new) }
-    ensures own_lines { IfOk result (λ steps. Each (λ p. IsEventFor commission.address (told_at heard.now p.0 p.1)) order.now) }
-    ensures stray { result ≡ Err Unmade.Stray → IsOrderOf commission.address (map tells heard.now) order.now → ⊥ }
+    ensures own_lines { IfOk result (λ steps. Each (λ p. IsEventFor start.address (told_at heard.now p.0 p.1)) order.now) }
+    ensures stray { result ≡ Err Unmade.Stray → IsOrderOf start.address (map tells heard.now) order.now → ⊥ }
 {
-    let mut steps = MeterSteps::new(alloc, own, commission);
+    let mine = start.address();
+    let mut steps = MeterSteps::new(alloc, own, start);
     for pair in order {
         let Told::Event(address, event) = told_at(heard, pair.0, pair.1) else {
             return Err(Unmade::Stray);
         };
-        if address.0 != commission.address.0 {
+        if address.0 != mine.0 {
             return Err(Unmade::Stray);
         }
         steps.step(pair.0, pair.1, &event, paper)?;
@@ -82,7 +82,7 @@ pub(crate) fn step_meter(
 /// The strangers after their lines, in this order of them.
 pub(crate) fn note_strangers(
     alloc: Global,
-    meters: &[Commission],
+    meters: &[MeterStart],
     directory: &Directory,
     heard: &[Hearing<'_>],
     order: &[(u32, u32)],

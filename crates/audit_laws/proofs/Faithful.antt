@@ -1,16 +1,14 @@
 -- What the collector wrote is faithful.
-use Rattle.std.proofs.Common.{◌≡◌, ◌⊎◌, ℕ, zero, suc, ◌+◌, ◌<◌, ◌≤◌, ◌^◌, ◌||◌, nat_lt, nat_le, Bool, true, false, cond, IsTrue, List, [], ◌∷◌, ◌++◌, map, length, get_or, reverse, Option, Some, None, Result, Ok, Err, inl, inr, refl, sym, ap, ◌∙◌, subst, arith, append-nil, length-append}
-use Rattle.std.specs.List.{All, Contains}
+use Rattle.std.proofs.Common.{◌≡◌, ◌⊎◌, ℕ, zero, suc, ◌<◌, ◌≤◌, ◌^◌, ◌||◌, nat_lt, Bool, true, false, cond, IsTrue, List, [], ◌∷◌, ◌++◌, map, length, get_or, Option, Some, Ok, inl, inr, refl, sym, ap, ◌∙◌, subst, arith, append-nil, length-append}
+use Rattle.std.specs.List.{Contains}
 use Rattle.std.specs.Str.Lines.{lines}
 use Rattle.std.proofs.lemmas.Bool.Decides.{nat_tests}
 use Rattle.std.proofs.lemmas.List.{length-map}
-use Rattle.outer_io.specs.Bytes.{Moves}
 use Rattle.outer_io.specs.Each.{Each, EachWith}
-use Rattle.outer_io.specs.Shown.{Change, SourceShown, SinkShown}
+use Rattle.outer_io.specs.Shown.{Change, SourceShown}
 use Rattle.line_reader.specs.Lines.{is_over, whole_lines, all_lines}
 use Rattle.meter_address.specs.declared.address.Address.{Address}
-use Rattle.meter_address.specs.Commission.{Commissioned}
-use Rattle.meter_slots.specs.Journal.{SlotView}
+use Rattle.meter_slots.specs.Journal.{Start, SlotView}
 use Rattle.meter_slots.specs.World.{WorldView}
 use Rattle.meter_slots.specs.declared.counts.Ended.{Ended}
 use Rattle.meter_slots.specs.declared.counts.Ended.TheVariants as ends
@@ -22,19 +20,18 @@ use Rattle.receivers.specs.Run.{ReceiverRun}
 use Rattle.receivers.specs.Session.{IsMetersSlot, IsSession}
 use Rattle.receivers.specs.Told.{told_of}
 use Rattle.report_text.specs.declared.lent.ReceiverEnd.{ReceiverEnd}
-use Rattle.report_text.specs.Orders.{Orders, orders, lines_in}
+use Rattle.report_text.specs.Orders.{orders}
 use Rattle.report_text.specs.OrdersLaw.{orders_of}
 use Rattle.report_text.specs.Report.{report_text}
 use Rattle.roster_file.specs.Roster.{Enrolled, roster_of}
 use Rattle.roster_file.proofs.Enrolling.{too_long}
-use Rattle.collector_main.specs.Heard.{Heard, addresses, receiver_end, report_of}
+use Rattle.collector_main.specs.Heard.{addresses, report_of}
 use Rattle.collector_main.specs.Run as collector
 use Rattle.collector_main.specs.Showing.{report_output}
 use Rattle.collector_main.specs.Statuses.{was_heard}
-use Rattle.collector_main.specs.declared.status.Status.{Status}
-use Rattle.collector_main.specs.declared.status.Status.TheVariants as statuses
 use Rattle.collector_main.proofs.Orders.{slots_counted, strangers_counted}
-use Rattle.audit_check_main.specs.Audit.{Audited, told_in, heard_of, heard_out, IsReadable, IsInForm, IsOrdered, IsFaithful, IsVerdict}
+use Rattle.audit_check_main.specs.Audit.{Audited, told_in, heard_out, IsReadable, IsInForm, IsFaithful, IsVerdict}
+use Rattle.audit_check_main.specs.Known.{Known, begun, begun_by, known_of}
 use Rattle.audit_check_main.specs.Lists.{lists_printed}
 use Rattle.audit_check_main.specs.Run as audit
 use Rattle.audit_check_main.specs.Run.{IsReadPast, HasVerdict}
@@ -45,7 +42,7 @@ use Rattle.audit_check_main.specs.declared.verdict.Verdict.{Verdict}
 use Rattle.audit_check_main.specs.declared.verdict.Verdict.TheVariants.{Yes, No}
 use Rattle.audit_check_main.proofs.InForm.{report_in_form}
 use Rattle.audit_check_main.proofs.OneVerdict.{one_verdict}
-use Rattle.audit_laws.specs.Laws.{IsAuditOf, IsAudited}
+use Rattle.audit_laws.specs.Laws.{IsAudited}
 
 -- ---- a receiver that heard an input to its end
 
@@ -137,11 +134,11 @@ is_roster_short text r h = at (nat_lt 1048576 (length text)) refl
 
 -- ---- a session of what some inputs tell
 
-module _ (roster : List ℕ) (inputs : List (List ℕ)) (r : Enrolled) (world : WorldView) (roster_is : roster_of roster ≡ Ok r)
+module _ (roster : List ℕ) (inputs : List (List ℕ)) (r : Known) (world : WorldView) (roster_is : known_of roster ≡ Ok r)
     (within : Each (λ input. is_over input ≡ false) inputs) (few : length inputs ≤ 16)
-    (session : IsSession r.own r.meters (map told_in inputs) world) where
+    (session : IsSession r.own r.starts (map told_in inputs) world) where
   abbrev text : List ℕ
-  text = report_text (map (heard_out (map (λ c. c.address) r.meters)) inputs) world.slots world.strangers
+  text = report_text (map (heard_out (map (λ c. c.address) r.starts)) inputs) world.slots world.strangers
 
   abbrev audited : Audited
   audited = record { roster = roster; report = text; inputs = inputs }
@@ -149,7 +146,7 @@ module _ (roster : List ℕ) (inputs : List (List ℕ)) (r : Enrolled) (world : 
   few_receivers : length (map told_in inputs) < 2 ^ 32
   few_receivers = let same = length-map inputs told_in in omega arith
 
-  as_many : (cs : List Commissioned) (slots : List SlotView) → EachWith (IsMetersSlot r.own (map told_in inputs)) cs slots
+  as_many : (cs : List Start) (slots : List SlotView) → EachWith (IsMetersSlot r.own (map told_in inputs)) cs slots
       → length slots ≤ length cs
   as_many [] [] h = omega arith
   as_many [] (b ∷ slots) h = absurd h
@@ -162,17 +159,17 @@ module _ (roster : List ℕ) (inputs : List (List ℕ)) (r : Enrolled) (world : 
   in_form : IsInForm audited r
   in_form = record {
     readable = readable;
-    in_form = report_in_form (length r.meters) (map (heard_out (map (λ c. c.address) r.meters)) inputs) world.slots world.strangers
-        (as_many r.meters world.slots session.meters)
-        (slots_counted r.own (map told_in inputs) few_receivers (few_told inputs within) r.meters world.slots session.meters)
-        (strangers_counted r.own (map told_in inputs) few_receivers (few_told inputs within) r.meters world session);
+    in_form = report_in_form (length r.starts) (map (heard_out (map (λ c. c.address) r.starts)) inputs) world.slots world.strangers
+        (as_many r.starts world.slots session.meters)
+        (slots_counted r.own (map told_in inputs) few_receivers (few_told inputs within) r.starts world.slots session.meters)
+        (strangers_counted r.own (map told_in inputs) few_receivers (few_told inputs within) r.starts world session);
   }
 
   faithful : orders text ≡ orders_of world.slots world.strangers → IsFaithful audited
   faithful told = record {
-    enrolled = r;
+    known = r;
     world = world;
-    ordered = record { form = in_form; session = session; printed = ap (lists_printed (length r.meters)) told };
+    ordered = record { form = in_form; session = session; printed = ap (lists_printed (length r.starts)) told };
     text = refl;
   }
 
@@ -221,26 +218,29 @@ module _ (c : collector.Run) (a : audit.Run) (given : IsAudited c a) where
       heard_each c.receivers headline.heard.receivers (subst (collector.IsCausedBy c) given.done given.collected.status_caused)
       headline.receivers
 
-  abbrev r : Enrolled
-  r = headline.heard.enrolled
+  abbrev r : Known
+  r = begun headline.heard.enrolled
+
+  known : known_of c.roster.before.left ≡ Ok r
+  known = ap begun_by headline.roster_is
 
   within : Each (λ input. is_over input ≡ false) inputs
   within = all_within inputs headline.heard.receivers heard_all
 
-  session : IsSession r.own r.meters (map told_in inputs) headline.heard.world
+  session : IsSession r.own r.starts (map told_in inputs) headline.heard.world
   session =
-      subst (λ all. IsSession r.own r.meters all headline.heard.world) (all_told inputs headline.heard.receivers heard_all) headline.session
+      subst (λ all. IsSession r.own r.starts all headline.heard.world) (all_told inputs headline.heard.receivers heard_all) headline.session
 
   few : length inputs ≤ 16
   few = let same = length-map c.receivers bytes_heard in let most = given.audit_of.few in omega arith
 
   abbrev faithful_text : List ℕ
-  faithful_text = text c.roster.before.left inputs r headline.heard.world headline.roster_is within few session
+  faithful_text = text c.roster.before.left inputs r headline.heard.world known within few session
 
   text_is : report_of headline.heard ≡ faithful_text
   text_is =
       ap (λ e. report_text e headline.heard.world.slots headline.heard.world.strangers)
-      (all_ends (addresses r) inputs headline.heard.receivers heard_all)
+      (all_ends (addresses headline.heard.enrolled) inputs headline.heard.receivers heard_all)
 
   -- the report was written whole
   written : given.audit_of.report.now.written ≡ report_of headline.heard
@@ -249,11 +249,11 @@ module _ (c : collector.Run) (a : audit.Run) (given : IsAudited c a) where
       (headline.whole given.audit_of.sinks_tell given.done) given.audit_of.is_output
 
   abbrev audited_bytes : Audited
-  audited_bytes = audited c.roster.before.left inputs r headline.heard.world headline.roster_is within few session
+  audited_bytes = audited c.roster.before.left inputs r headline.heard.world known within few session
 
   is_faithful : IsFaithful audited_bytes
   is_faithful =
-      faithful c.roster.before.left inputs r headline.heard.world headline.roster_is within few session
+      faithful c.roster.before.left inputs r headline.heard.world known within few session
       (ap orders (sym text_is) ∙ headline.told)
 
   -- what the audit read is this
@@ -262,7 +262,7 @@ module _ (c : collector.Run) (a : audit.Run) (given : IsAudited c a) where
       let g = given.audit_of in
       let roster =
       all_read 1048576 a.roster h.read.roster h.roster
-      (is_roster_short a.roster.before.left r (ap roster_of g.same_roster ∙ headline.roster_is)) ∙ g.same_roster in
+      (is_roster_short a.roster.before.left headline.heard.enrolled (ap roster_of g.same_roster ∙ headline.roster_is)) ∙ g.same_roster in
       let report = read_whole 1073741824 a.report h.read.report h.report h.short ∙ (g.same_report ∙ (written ∙ text_is)) in
       let lines =
       inputs_read a.inputs h.read.inputs h.inputs (subst (Each (λ input. is_over input ≡ false)) (sym g.same_lines) within)

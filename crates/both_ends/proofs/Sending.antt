@@ -7,6 +7,9 @@ use Rattle.std.proofs.lemmas.List.Kept.{AllPairs-cons}
 use Rattle.aes_block.specs.Block.{IsBlock}
 use Rattle.meter_address.specs.declared.address.Address.{Address}
 use Rattle.meter_address.specs.Commission.{Commissioned}
+use Rattle.meter_slots.specs.Journal.{commission_of}
+use Rattle.meter_slots.specs.Resuming.{joined}
+use Rattle.meter_slots.proofs.Cuts.{legal_through}
 use Rattle.downlink_maker.specs.Sent.{Sent}
 use Rattle.downlink_maker.specs.Downlink.{plain_content}
 use Rattle.downlink_maker.specs.Parts.{IsPayload}
@@ -23,7 +26,7 @@ use Rattle.meter_side_main.specs.Genuine.{IsGenuine, RiseAbove}
 use Rattle.meter_side_main.proofs.Genuineness.{genuine_is_told}
 use Rattle.meter_side_main.proofs.Executing.{Silent, Done, Old, move, executed_none, executed_step, executed_rises}
 use Rattle.meter_side_main.proofs.Others.{others_change_nothing}
-use Rattle.both_ends.specs.Laws.{bytes_of, AreAllExecuted, SentAreExecuted, IsOf, NoneTwice}
+use Rattle.both_ends.specs.Laws.{bytes_of, AreAllExecuted, SentAreExecuted, IsOf, NoneTwice, NoneTwiceOverSessions}
 
 -- ---- the downlinks of some entries
 
@@ -118,13 +121,14 @@ module _ (own : Address) (c : Commissioned) (key : IsBlock c.key) where
 
 pub sent_are_executed : SentAreExecuted
 sent_are_executed c own journal chosen other ds j d =
+    let m : Commissioned = commission_of c in
     let entries : List Entry = filter chosen journal in
-    let carry = All-chosen (CarriesPayload own c) chosen journal (downlinks_carry own c journal j.legal j.payloads) in
-    let alone = all_executed own c j.key (downlinks_in entries) carry c.down
-    (subst (IsRising (Some c.down)) (sym (counters_are entries))
-    (chosen_rise chosen journal (Some c.down) (downlink_counters_rise c own journal j.legal))) in
-    let same = others_change_nothing own c other ds j.key d.bytes d.others ∙ ap (executed_after own c c.down) d.in_order in
-    subst (AreAllExecuted own c (downlinks_in entries)) (sym same) alone
+    let carry = All-chosen (CarriesPayload own m) chosen journal (downlinks_carry own c journal j.ready j.legal j.payloads) in
+    let alone = all_executed own m j.key (downlinks_in entries) carry m.down
+    (subst (IsRising (Some m.down)) (sym (counters_are entries))
+    (chosen_rise chosen journal (Some m.down) (downlink_counters_rise c own journal j.legal))) in
+    let same = others_change_nothing own m other ds j.key d.bytes d.others ∙ ap (executed_after own m m.down) d.in_order in
+    subst (AreAllExecuted own m (downlinks_in entries)) (sym same) alone
 
 -- ---- nothing is executed twice
 
@@ -190,7 +194,13 @@ rising_pairs n (e ∷ es) r = AllPairs-cons (λ (x y : Executed). x.down < y.dow
     (rising_pairs e.down es r.1)
 
 pub none_twice : NoneTwice
-none_twice c own journal ds j o = (
-  executed_were_sent own c (downlinks_in journal) j.key (downlinks_carry own c journal j.legal j.payloads) ds o c.down,
-  rising_pairs c.down (executed_after own c c.down ds) (executed_rises own c c.down ds),
-)
+none_twice c own journal ds j o =
+    let m : Commissioned = commission_of c in (
+      executed_were_sent own m (downlinks_in journal) j.key (downlinks_carry own c journal j.ready j.legal j.payloads) ds o m.down,
+      rising_pairs m.down (executed_after own m m.down ds) (executed_rises own m m.down ds),
+    )
+
+pub none_over_sessions : NoneTwiceOverSessions
+none_over_sessions c own first later ds legal ready key payloads o =
+    none_twice c own (joined (first ∷ later)) ds
+    (record { legal = (legal_through c own first later).0 legal; ready = ready; key = key; payloads = payloads }) o

@@ -6,17 +6,19 @@ use Rattle.meter_address.specs.declared.address.Address.{Address}
 use Rattle.meter_address.specs.Commission.{Commissioned}
 use Rattle.downlink_maker.specs.Sent.{Sent}
 use Rattle.meter_slots.specs.declared.entry.Entry.{Entry}
-use Rattle.meter_slots.specs.Journal.{Legal}
-use Rattle.meter_slots.specs.Laws.{PutsPayload, downlinks_in}
+use Rattle.meter_slots.specs.Journal.{Start, commission_of, Legal}
+use Rattle.meter_slots.specs.Resuming.{joined, AreLegal}
+use Rattle.meter_slots.specs.Laws.{AreReady, PutsPayload, downlinks_in}
 use Rattle.meter_side_main.specs.declared.delivery.Executed.{Executed}
 use Rattle.meter_side_main.specs.Reading.{executed_after}
 use Rattle.meter_side_main.specs.Genuine.{IsGenuine}
 use Rattle.meter_side_main.specs.Side.{AllBytes}
 use Rattle.meter_side_main.specs.Laws.{left_without, IsForOther}
 
--- a slot's journal, as it stands: legal, under a key of sixteen bytes, and each command that is put has a payload
-pub record IsJournal (c : Commissioned) (own : Address) (journal : List Entry) : Type 0 where
+-- a slot's journal, as it stands: legal, under a key of sixteen bytes, and each command that waited before or is put has a payload
+pub record IsJournal (c : Start) (own : Address) (journal : List Entry) : Type 0 where
   pub legal : Legal c own journal
+  pub ready : AreReady c.orders
   pub key : IsBlock c.key
   pub payloads : All (λ x. PutsPayload x.event) journal
 
@@ -40,9 +42,11 @@ pub record AreDelivered (own : Address) (c : Commissioned) (sent : List Sent) (o
 -- the downlinks that some entries of a journal send, as those of one receiver, delivered in their order, are all executed, whatever
 -- downlinks to other meters come between them
 abbrev pub SentAreExecuted : Type 0
-SentAreExecuted = (c : Commissioned) (own : Address) (journal : List Entry) (chosen : Entry → Bool) (other : List ℕ → Bool)
-    (deliveries : List (List ℕ)) → IsJournal c own journal → AreDelivered own c (downlinks_in (filter chosen journal)) other deliveries
-    → AreAllExecuted own c (downlinks_in (filter chosen journal)) (executed_after own c c.down deliveries)
+SentAreExecuted = (c : Start) (own : Address) (journal : List Entry) (chosen : Entry → Bool) (other : List ℕ → Bool)
+    (deliveries : List (List ℕ)) → IsJournal c own journal
+    → AreDelivered own (commission_of c) (downlinks_in (filter chosen journal)) other deliveries
+    → AreAllExecuted own (commission_of c) (downlinks_in (filter chosen journal))
+    (executed_after own (commission_of c) c.orders.down deliveries)
 
 -- what is executed is one of these downlinks
 abbrev pub IsOf : Address → Commissioned → List Sent → Executed → Type 0
@@ -51,7 +55,16 @@ IsOf own c sent e = (s : Sent) × Contains sent s × (e.down ≡ s.down) × IsGe
 -- whatever list of deliveries is made from the downlinks that a journal sends, whichever are lost, repeated or come in another
 -- order, each that is executed is one of them, and no two have one counter: so no downlink is executed twice
 abbrev pub NoneTwice : Type 0
-NoneTwice = (c : Commissioned) (own : Address) (journal : List Entry) (deliveries : List (List ℕ)) → IsJournal c own journal
+NoneTwice = (c : Start) (own : Address) (journal : List Entry) (deliveries : List (List ℕ)) → IsJournal c own journal
     → All (Contains (bytes_of (downlinks_in journal))) deliveries
-    → All (IsOf own c (downlinks_in journal)) (executed_after own c c.down deliveries)
-    × AllPairs (λ e f. e.down < f.down) (executed_after own c c.down deliveries)
+    → All (IsOf own (commission_of c) (downlinks_in journal)) (executed_after own (commission_of c) c.orders.down deliveries)
+    × AllPairs (λ e f. e.down < f.down) (executed_after own (commission_of c) c.orders.down deliveries)
+
+-- the same of the journals of many sessions, one after the other, each begun with what was known behind the one before it
+abbrev pub NoneTwiceOverSessions : Type 0
+NoneTwiceOverSessions = (c : Start) (own : Address) (first : List Entry) (later : List (List Entry)) (deliveries : List (List ℕ))
+    → AreLegal c own (first ∷ later) → AreReady c.orders → IsBlock c.key → All (λ x. PutsPayload x.event) (joined (first ∷ later))
+    → All (Contains (bytes_of (downlinks_in (joined (first ∷ later))))) deliveries
+    → All (IsOf own (commission_of c) (downlinks_in (joined (first ∷ later))))
+    (executed_after own (commission_of c) c.orders.down deliveries)
+    × AllPairs (λ e f. e.down < f.down) (executed_after own (commission_of c) c.orders.down deliveries)

@@ -2,7 +2,7 @@
 //! contract is a law.
 #![tactic(auto)]
 
-ghost use Rattle.both_ends.specs.Laws.{SentAreExecuted, NoneTwice};
+ghost use Rattle.both_ends.specs.Laws.{SentAreExecuted, NoneTwice, NoneTwiceOverSessions};
 
 /// The downlinks that one receiver's entries send in a slot's journal, delivered in their order, are all executed, and nothing else is,
 /// whatever downlinks to other meters come between them.
@@ -14,4 +14,9 @@ pub fn sent_are_executed()
 /// these are executed, and none of them twice.
 pub fn none_is_executed_twice()
     ensures { NoneTwice }
+{}
+
+/// Nor is one of many sessions, one after the other, each begun with what was known behind the one before it.
+pub fn none_is_executed_twice_over_sessions()
+    ensures { NoneTwiceOverSessions }
 {}

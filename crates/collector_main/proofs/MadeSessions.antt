@@ -24,7 +24,7 @@ use Rattle.report_text.specs.declared.lent.ReceiverEnd.{ReceiverEnd}
 use Rattle.report_text.specs.Report.{report_text}
 use Rattle.roster_file.specs.Roster.{Enrolled, roster_of}
 use Rattle.collector_main.specs.declared.together.HeardTogether.{HeardTogether}
-use Rattle.collector_main.specs.Heard.{Heard, receiver_end}
+use Rattle.collector_main.specs.Heard.{starts, Heard, receiver_end}
 use Rattle.collector_main.specs.MadeRun.{heard_whole, heard_texts}
 use Rattle.collector_main.specs.Ready.{IsEndOf, HaveHeard, HearsText, IsMadeTogether}
 use Rattle.collector_main.specs.Showing.{IsFresh}
@@ -99,9 +99,9 @@ module _ {S K : Type 0} (s : sources.Ghosts S) (k : sinks.Ghosts K) (reads : (x 
       let runs : List ReceiverRun = receiver_runs s k olds news in
       let world : WorldView = record { slots = h.collected.slots.items; strangers = h.collected.strangers } in
       let known = runs_known s k olds news in
-      let t : IsHeardSession e.own e.meters runs world =
-      heard_session e.own e.meters runs world (each_known s.tells runs known told) have.collected in
-      let directory : List Address = map address_of e.meters in
+      let t : IsHeardSession e.own (starts e) runs world =
+      heard_session e.own (starts e) runs world (each_known s.tells runs known told) have.collected in
+      let directory : List Address = map address_of (starts e) in
       let ended : EachWith IsEnd runs h.ends.items = runs_ended s k olds news h.ends.items have.as_many have.receiver_ends in
       let heard : Heard = record { enrolled = e; receivers = t.receivers; world = world } in
       let four : length (heard_texts session) ≡ length olds = each_many IsOver olds (heard_texts session) over in
@@ -116,7 +116,7 @@ module _ {S K : Type 0} (s : sources.Ghosts S) (k : sinks.Ghosts K) (reads : (x 
               h.ends.items t.receivers over have.as_many have.receiver_ends t.taken;
           session = t.session;
           told = order_is_told e.own (map tellings t.receivers) (omega arith)
-              (each_short s.tells directory runs h.ends.items t.receivers ended t.taken) e.meters world
+              (each_short s.tells directory runs h.ends.items t.receivers ended t.taken) (starts e) world
               (map (receiver_end heard) t.receivers) t.session;
         };
         report = ap (λ l. report_text l world.slots world.strangers)

@@ -3,6 +3,7 @@ use Rattle.std.proofs.Common.{get_or, IfOk, suc, ◌≡◌, ◌≢◌, ◌⊎◌
 use Rattle.std.specs.List.{enumerate_from}
 use Rattle.std.specs.List.{All}
 use Rattle.std.proofs.lemmas.List.{length-map, map-append, take_more}
+use Rattle.std.proofs.lemmas.Simd.{map-map}
 use Rattle.std.proofs.lemmas.List.Elements.{All-nil, All-cons}
 use Rattle.outer_io.specs.Each.{Each, EachWith, PassUntil}
 use Rattle.outer_io.specs.Shown.{Change, SourceShown, SinkShown, ReadFailed, WriteFailed, LosesNothing, IsReadOut, HasText}
@@ -11,11 +12,12 @@ use Rattle.outer_io.specs.declared.sources.Source as sources
 use Rattle.outer_io.specs.declared.sinks.Sink as sinks
 use Rattle.line_reader.specs.Lines.{is_over}
 use Rattle.meter_address.specs.declared.address.Address.{Address}
-use Rattle.meter_address.specs.Commission.{Commissioned}
 use Rattle.meter_slots.specs.declared.counts.Counts.{Counts}
 use Rattle.meter_slots.specs.declared.counts.Ended.{Ended}
 use Rattle.meter_slots.specs.declared.counts.Ended.TheVariants as ends
-use Rattle.meter_slots.specs.Journal.{SlotView}
+use Rattle.meter_address.specs.Commission.{Commissioned}
+use Rattle.meter_slots.specs.Directory.{AreApart}
+use Rattle.meter_slots.specs.Journal.{Start, SlotView, fresh_start}
 use Rattle.meter_slots.specs.World.{WorldView}
 use Rattle.stranger_ring.specs.declared.strangers.Heard.{Heard as Stranger}
 use Rattle.receivers.specs.Classes.{counts_of}
@@ -34,7 +36,7 @@ use Rattle.roster_file.specs.Roster.{Enrolled, roster_of}
 use Rattle.roster_file.specs.Text.{roster_text}
 use Rattle.collector_main.specs.declared.status.Status.{Status}
 use Rattle.collector_main.specs.declared.status.Status.TheVariants as statuses
-use Rattle.collector_main.specs.Heard.{Heard, next_roster, next_of, readings_of, receiver_end, report_of}
+use Rattle.collector_main.specs.Heard.{starts, Heard, next_roster, next_of, readings_of, receiver_end, report_of}
 use Rattle.collector_main.specs.Ready.{IsEndOf, HaveHeard, IsReady}
 use Rattle.collector_main.specs.declared.collecting.Ready.{Ready}
 use Rattle.collector_main.specs.declared.together.HeardTogether.{HeardTogether}
@@ -245,6 +247,15 @@ each_more P [] (z ∷ ys) x y each one = absurd each
 each_more P (z ∷ xs) [] x y each one = absurd each
 each_more P (z ∷ xs) (w ∷ ys) x y each one = (each.0, each_more P xs ys x y each.1 one)
 
+-- the starts of meters whose addresses differ
+pub starts_apart : (cs : List Commissioned) (ss : List Start) → ss ≡ map fresh_start cs → AreApart (map (λ c. c.address) cs)
+    → AreApart (map address_of ss)
+starts_apart cs ss is apart =
+    subst AreApart (sym (ap (map address_of) is ∙ map-map address_of fresh_start cs)) apart
+
+pub as_many_starts : (cs : List Commissioned) (ss : List Start) → ss ≡ map fresh_start cs → length ss ≡ length cs
+as_many_starts cs ss is = ap length is ∙ length-map cs fresh_start
+
 pub mapped_more : {A B : Type 0} (f : A → B) (xs : List A) (i : ℕ) (d : A) (ys : List B) (y : B) → i < length xs → ys ≡ map f (take i xs)
     → y ≡ f (get_or xs i d) → ys ++ y ∷ [] ≡ map f (take (i + 1) xs)
 mapped_more f xs i d ys y inside so one =
@@ -405,14 +416,14 @@ module _ (st kt : Bool) (roster : Change SourceShown) (runs : List ReceiverRun) 
 
     pub collected_run : (st_is : Each (λ r. r.source_tells ≡ st) runs) → Each (λ r. IsTrue st → r.source.before.taken ≡ []) runs
         → length runs < 2 ^ 32
-        → IsCollected e.own e.meters runs world → (IsTrue st → roster_of roster.before.left ≡ Ok e) → (IsTrue st → IsReadOut roster)
+        → IsCollected e.own (starts e) runs world → (IsTrue st → roster_of roster.before.left ≡ Ok e) → (IsTrue st → IsReadOut roster)
         → (IsTrue st → LosesNothing roster) → IsRun (this result)
     collected_run knows none few collected found read kept =
-        let directory = map address_of e.meters in
+        let directory = map address_of (starts e) in
         record {
           headline = λ was told.
-              let s : IsHeardSession e.own e.meters runs world =
-              heard_session e.own e.meters runs world (each_known st runs knows told) collected in
+              let s : IsHeardSession e.own (starts e) runs world =
+              heard_session e.own (starts e) runs world (each_known st runs knows told) collected in
               let heard : Heard = record { enrolled = e; receivers = s.receivers; world = world } in
               let same : plain ≡ report_of heard =
               ap (λ l. report_text l world.slots world.strangers) (ends_are st directory runs es s.receivers each s.taken) in
@@ -426,7 +437,7 @@ module _ (st kt : Bool) (roster : Change SourceShown) (runs : List ReceiverRun) 
                 receivers = each_so st directory runs s.receivers none told s.taken;
                 session = s.session;
                 told = order_is_told e.own (map tellings s.receivers) (omega arith)
-                    (each_short st directory runs es s.receivers each s.taken) e.meters world
+                    (each_short st directory runs es s.receivers each s.taken) (starts e) world
                     (map (receiver_end heard) s.receivers) s.session;
                 sent = λ sends. record { parts = s.parts; lines = s.heard; answers = s.answers; sent = s.sent };
                 written = λ writes. (
@@ -513,16 +524,16 @@ module _ {S K : Type 0} (s : sources.Ghosts S) (k : sinks.Ghosts K) where
   same_keeps (r ∷ rs) = (refl, same_keeps rs)
 
   -- what receivers heard together
-  pub heard_is : (e : Enrolled) (own : Address) (meters : List Commissioned) (olds olds' news news' : List (Receiving S K))
+  pub heard_is : (e : Enrolled) (own : Address) (meters : List Start) (olds olds' news news' : List (Receiving S K))
       (h : HeardTogether)
-      → own ≡ e.own → meters ≡ e.meters → olds' ≡ olds → news' ≡ news → Each (λ r. IsTrue s.tells → s.taken r.source ≡ []) olds'
+      → own ≡ e.own → meters ≡ starts e → olds' ≡ olds → news' ≡ news → Each (λ r. IsTrue s.tells → s.taken r.source ≡ []) olds'
       → IsCollected own meters (receiver_runs s k olds news) (record { slots = h.collected.slots.items; strangers = h.collected.strangers })
       → length news ≡ length olds → EachWith IsEndOf news' h.ends.items → HaveHeard s k e olds news h
   heard_is e own meters olds olds' news news' h same same_meters o n untaken collected many ended =
       let world : WorldView = record { slots = h.collected.slots.items; strangers = h.collected.strangers } in
       record {
         untaken = subst (λ l. Each (λ r. IsTrue s.tells → s.taken r.source ≡ []) l) o untaken;
-        collected = subst (λ x. IsCollected x e.meters (receiver_runs s k olds news) world) same
+        collected = subst (λ x. IsCollected x (starts e) (receiver_runs s k olds news) world) same
             (subst (λ m. IsCollected own m (receiver_runs s k olds news) world) same_meters collected);
         as_many = many;
         receiver_ends = subst (λ l. EachWith IsEndOf l h.ends.items) n ended;
@@ -538,7 +549,7 @@ module _ {S K : Type 0} (s : sources.Ghosts S) (k : sinks.Ghosts K) where
   ready_is e own olds news h (Err _) same have a b c d = tt
   ready_is e own olds news h (Ok r) same have a b c d =
       let W : List SlotView → List Stranger → WorldView = λ x y. record { slots = x; strangers = y } in
-      let P : WorldView → Type 0 = λ w. IsCollected e.own e.meters (receiver_runs s k olds news) w in
+      let P : WorldView → Type 0 = λ w. IsCollected e.own (starts e) (receiver_runs s k olds news) w in
       record {
         heard = record {
           untaken = have.untaken;

@@ -2,10 +2,9 @@
 use Rattle.std.proofs.Common.{◌≡◌, ◌==◌, ℕ, Bool, true, false, cond, List, [], ◌∷◌, map, refl, sym, ap, ◌∙◌, subst}
 use Rattle.outer_io.specs.Each.{Each, EachWith}
 use Rattle.meter_address.specs.declared.address.Address.{Address}
-use Rattle.meter_address.specs.Commission.{Commissioned}
 use Rattle.meter_slots.specs.declared.entry.Entry.{Entry}
 use Rattle.meter_slots.specs.declared.entry.Event.{Event}
-use Rattle.meter_slots.specs.Journal.{SlotView}
+use Rattle.meter_slots.specs.Journal.{Start, SlotView}
 use Rattle.meter_slots.specs.World.{WorldView, world_of}
 use Rattle.stranger_ring.specs.declared.strangers.Heard.{Heard}
 use Rattle.receivers.specs.declared.told.Told.{Told}
@@ -49,7 +48,7 @@ order_is : (journal : List Entry) → Each (λ (x : Entry). x.source ≡ 1) jour
 order_is [] h = refl
 order_is (x ∷ xs) h = ap (λ n. (n, x.line) ∷ order_of xs) h.0 ∙ ap (λ t. (1, x.line) ∷ t) (order_is xs h.1)
 
-order_alone : (own : Address) (c : Commissioned) (heard : List Told) (slot : SlotView) → IsMetersSlot own (heard ∷ []) c slot
+order_alone : (own : Address) (c : Start) (heard : List Told) (slot : SlotView) → IsMetersSlot own (heard ∷ []) c slot
     → order_of slot.journal ≡ map placed (lines_for c.address heard)
 order_alone own c heard slot h =
     let first = all_first (λ (x : Entry). x.source) (λ (x : Entry). x.line) (λ (x : Entry). x.event)
@@ -60,7 +59,7 @@ order_alone own c heard slot h =
     (sym (all_of_it (λ (x : Entry). x.source) (λ (x : Entry). x.line) (λ (x : Entry). x.event) slot.journal first))
     ∙ ap (map placed) (h.lines 1)
 
-slots_one : (own : Address) (heard : List Told) (cs : List Commissioned) (slots again : List SlotView)
+slots_one : (own : Address) (heard : List Told) (cs : List Start) (slots again : List SlotView)
     → EachWith (IsMetersSlot own (heard ∷ [])) cs slots
     → EachWith (IsMetersSlot own (heard ∷ [])) cs again → slots ≡ again
 slots_one own heard [] [] [] one two = refl
@@ -86,7 +85,7 @@ notes_are (x ∷ xs) h =
     ap (λ n. let y : Heard = record { source = n; line = x.line; address = x.address } in y ∷ xs) h.0
     ∙ ap (λ t. noted (x.line, x.address) ∷ t) (notes_are xs h.1)
 
-notes_alone : (cs : List Commissioned) (heard : List Told) (notes : List Heard)
+notes_alone : (cs : List Start) (heard : List Told) (notes : List Heard)
     → ((w : ℕ) → notes_by w notes ≡ lines_of_strangers cs (heard_by w (heard ∷ [])))
     → notes ≡ map noted (lines_of_strangers cs heard)
 notes_alone cs heard notes h =
@@ -103,14 +102,14 @@ notes_alone cs heard notes h =
 abbrev world_with : List SlotView → List Heard → WorldView
 world_with slots strangers = record { slots = slots; strangers = strangers }
 
-two_are_one : (own : Address) (cs : List Commissioned) (heard : List Told) (world again : WorldView) → IsSession own cs (heard ∷ []) world
+two_are_one : (own : Address) (cs : List Start) (heard : List Told) (world again : WorldView) → IsSession own cs (heard ∷ []) world
     → IsSession own cs (heard ∷ []) again → world ≡ again
 two_are_one own cs heard world again one two =
     ap (λ slots. world_with slots world.strangers) (slots_one own heard cs world.slots again.slots one.meters two.meters)
     ∙ ap (world_with again.slots) (notes_alone cs heard world.strangers one.strangers
     ∙ sym (notes_alone cs heard again.strangers two.strangers))
 
-pub session_fixed : (own : Address) (cs : List Commissioned) (heard : List Told) (world : WorldView) → IsSession own cs (heard ∷ []) world
+pub session_fixed : (own : Address) (cs : List Start) (heard : List Told) (world : WorldView) → IsSession own cs (heard ∷ []) world
     → world ≡ world_of own cs (steps_of 1 heard)
 session_fixed own cs heard world session =
     two_are_one own cs heard world (world_of own cs (steps_of 1 heard)) session (session_alone own cs heard)

@@ -5,10 +5,9 @@ use Rattle.std.proofs.lemmas.Bool.Decides.{nat_tests}
 use Rattle.std.proofs.lemmas.List.Elements.{All-nil, All-cons}
 use Rattle.outer_io.specs.Each.{Each, EachWith}
 use Rattle.meter_address.specs.declared.address.Address.{Address}
-use Rattle.meter_address.specs.Commission.{Commissioned}
 use Rattle.meter_slots.specs.declared.entry.Entry.{Entry}
 use Rattle.meter_slots.specs.declared.entry.Event.{Event}
-use Rattle.meter_slots.specs.Journal.{SlotView}
+use Rattle.meter_slots.specs.Journal.{Start, SlotView}
 use Rattle.meter_slots.specs.World.{WorldView, is_commissioned}
 use Rattle.stranger_ring.specs.declared.strangers.Heard.{Heard}
 use Rattle.receivers.specs.declared.told.Told.{Told}
@@ -111,7 +110,7 @@ keeps_event a (line, told.Event address event) p e = if_some (a.0 == address.0) 
 keeps_event a (line, told.Unframed) p e = absurd cc
 keeps_event a (line, told.Bad) p e = absurd cc
 
-keeps_stranger : (cs : List Commissioned) (l : ℕ × Told) (p : ℕ × Address) → stranger_at cs l.0 l.1 ≡ Some p → p.0 ≡ l.0
+keeps_stranger : (cs : List Start) (l : ℕ × Told) (p : ℕ × Address) → stranger_at cs l.0 l.1 ≡ Some p → p.0 ≡ l.0
 keeps_stranger cs (line, told.Event address event) p e = if_none (is_commissioned cs address) line address p e
 keeps_stranger cs (line, told.Unframed) p e = absurd cc
 keeps_stranger cs (line, told.Bad) p e = absurd cc
@@ -146,7 +145,7 @@ module _ (own : Address) (all : List (List Told)) (few : length all < 2 ^ 32) (s
   none_there f w = ⊎_elim (λ small. inl small) (λ none. inr (ap (λ h. filter_map f (enumerate_from 1 h)) none))
       (no_receiver 1 w all (omega arith))
 
-  slot_counted : (c : Commissioned) (b : SlotView) → IsMetersSlot own all c b → All IsCounted (order_of b)
+  slot_counted : (c : Start) (b : SlotView) → IsMetersSlot own all c b → All IsCounted (order_of b)
   slot_counted c b slot =
       each_placed place_of_step b.journal
       (all_fit (λ (x : Entry). x.source) (λ (x : Entry). x.line) (λ (x : Entry). x.event) (λ w. lines_for c.address (heard_by w all))
@@ -154,7 +153,7 @@ module _ (own : Address) (all : List (List Told)) (few : length all < 2 ^ 32) (s
       (λ w. few_lines (λ l. event_at c.address l.0 l.1) (keeps_event c.address) 1 (heard_by w all) (omega (arith, few_of 1 w all short)))
       (none_there (λ l. event_at c.address l.0 l.1)))
 
-  pub slots_counted : (cs : List Commissioned) (slots : List SlotView) → EachWith (IsMetersSlot own all) cs slots
+  pub slots_counted : (cs : List Start) (slots : List SlotView) → EachWith (IsMetersSlot own all) cs slots
       → All (λ order. All IsCounted order) (map order_of slots)
   slots_counted [] [] each = All-nil (λ order. All IsCounted order)
   slots_counted [] (b ∷ slots) each = absurd each
@@ -162,7 +161,7 @@ module _ (own : Address) (all : List (List Told)) (few : length all < 2 ^ 32) (s
   slots_counted (c ∷ cs) (b ∷ slots) each =
       All-cons (λ order. All IsCounted order) (order_of b) (map order_of slots) (slot_counted c b each.0) (slots_counted cs slots each.1)
 
-  pub strangers_counted : (cs : List Commissioned) (world : WorldView) → IsSession own cs all world
+  pub strangers_counted : (cs : List Start) (world : WorldView) → IsSession own cs all world
       → All IsCounted (map place_of_stranger world.strangers)
   strangers_counted cs world session =
       each_placed place_of_stranger world.strangers
@@ -172,7 +171,7 @@ module _ (own : Address) (all : List (List Told)) (few : length all < 2 ^ 32) (s
       (none_there (λ l. stranger_at cs l.0 l.1)))
 
   -- the text of a session's report tells the session's order
-  pub order_is_told : (cs : List Commissioned) (world : WorldView) (ends : List ReceiverEnd) → IsSession own cs all world
+  pub order_is_told : (cs : List Start) (world : WorldView) (ends : List ReceiverEnd) → IsSession own cs all world
       → orders (report_text ends world.slots world.strangers) ≡ orders_of world.slots world.strangers
   order_is_told cs world ends session =
       report_orders ends world.slots world.strangers (slots_counted cs world.slots session.meters) (strangers_counted cs world session)

@@ -21,7 +21,7 @@ use Rattle.roster_file.specs.declared.roster.LineCause.{LineCause}
 use Rattle.roster_file.specs.declared.roster.RosterFault.TheVariants.{Line}
 use Rattle.collector_main.specs.declared.status.Status.{Status}
 use Rattle.collector_main.specs.declared.status.Status.TheVariants as statuses
-use Rattle.collector_main.specs.Heard.{Heard, report_of}
+use Rattle.collector_main.specs.Heard.{starts, Heard, report_of}
 use Rattle.collector_main.specs.Rosters.{IsRosterStatus}
 use Rattle.outer_io.specs.Each.{Each}
 use Rattle.collector_main.specs.Run.{Run, Output, IsRun, EndIsCaused, IsCausedBy, IsFaultless, AreTold}
@@ -195,7 +195,7 @@ module _ (st kt : Bool) (roster : Change SourceShown) (r : ReceiverRun) (report 
   pub heard_run : (e : Enrolled) (ended ended' : Ended) (counts counts' : Counts) (fresh world : WorldView) → ended ≡ ended'
       → counts ≡ counts'
       → (IsTrue st → roster_of roster.before.left ≡ Ok e) → (IsTrue st → IsReadOut roster) → (IsTrue st → LosesNothing roster)
-      → r.ended ≡ Some ended' → fresh ≡ world_of e.own e.meters [] → counts.lines < 2 ^ 32
+      → r.ended ≡ Some ended' → fresh ≡ world_of e.own (starts e) [] → counts.lines < 2 ^ 32
       → HasHeardAlone 1 (record { tells = st; source = r.source; counts = counts'; ended = ended' }) fresh world
       → (IsTrue st → r.source.before.taken ≡ []) → IsHeardEnd ended'
       → IsFinished ended report result
@@ -212,7 +212,7 @@ module _ (st kt : Bool) (roster : Change SourceShown) (r : ReceiverRun) (report 
       let hears : HasHeardAlone 1 (record { tells = st; source = r.source; counts = counts; ended = ended }) fresh world =
       subst (λ (n : Counts). Hears n ended) (sym same_counts) (subst (λ (end : Ended). Hears counts' end) (sym same_end) hears') in
       let h : Hearing = record { tells = st; source = r.source; counts = counts; ended = ended } in
-      let alone = heard_alone e.own e.meters h fresh world before hears in
+      let alone = heard_alone e.own (starts e) h fresh world before hears in
       let lines = lines_of h in
       let bytes : IsTrue st → r.source.now.taken ++ r.source.now.left ≡ r.source.before.left =
       λ told. alone.has_heard.no_loss told ∙ ap (λ t. t ++ r.source.before.left) (untaken told) in
@@ -222,11 +222,11 @@ module _ (st kt : Bool) (roster : Change SourceShown) (r : ReceiverRun) (report 
             let tells = alone.has_heard.lines told in
             let same : report_text (record { counts = counts; ended = ended } ∷ []) world.slots world.strangers ≡ report_of heard =
             ap (λ n. report_text (record { counts = n; ended = ended } ∷ []) world.slots world.strangers)
-            (alone.has_heard.counts ∙ ap (counts_of (map (λ c. c.address) e.meters)) tells) in
+            (alone.has_heard.counts ∙ ap (counts_of (map (λ c. c.address) (starts e))) tells) in
             let short : length (map told_of lines) < 2 ^ 32 =
             subst (λ (t : List Told). length t < 2 ^ 32) tells
-            (subst (λ n. n < 2 ^ 32) (counted (map (λ c. c.address) e.meters) _ counts alone.has_heard.counts) few) in
-            let session = subst (λ (t : List Told). IsSession e.own e.meters (t ∷ []) world) tells alone.session in
+            (subst (λ n. n < 2 ^ 32) (counted (map (λ c. c.address) (starts e)) _ counts alone.has_heard.counts) few) in
+            let session = subst (λ (t : List Told). IsSession e.own (starts e) (t ∷ []) world) tells alone.session in
             record {
               heard = heard;
               roster_read = read told;
@@ -234,8 +234,8 @@ module _ (st kt : Bool) (roster : Change SourceShown) (r : ReceiverRun) (report 
               receivers = (record { ended = is; lines = alone.has_heard.ending told; first_bytes = bytes told }, tt);
               session = session;
               sent = λ sends. absurd (let e = sends in cc);
-              told = order_is_told e.own (map told_of lines ∷ []) (omega arith) (short, tt) e.meters world
-                  (record { counts = counts_of (map (λ c. c.address) e.meters) (map told_of lines); ended = ended } ∷ []) session;
+              told = order_is_told e.own (map told_of lines ∷ []) (omega arith) (short, tt) (starts e) world
+                  (record { counts = counts_of (map (λ c. c.address) (starts e)) (map told_of lines); ended = ended } ∷ []) session;
               written = λ writes. (subst (λ t. HasText t report) same (written writes), tt);
               whole = λ writes all. (done all writes ∙ same, tt);
               stopped = λ writes which stop.

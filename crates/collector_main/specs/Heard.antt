@@ -1,8 +1,9 @@
 -- What a run heard: a session of its receivers for the meters of a roster, and the text of it.
-use Rattle.std.specs.Prelude.{ℕ, List, map, reverse}
+use Rattle.std.specs.Prelude.{ℕ, List, map}
 use Rattle.meter_address.specs.declared.address.Address.{Address}
 use Rattle.meter_address.specs.Commission.{Commissioned}
-use Rattle.meter_slots.specs.Journal.{SlotView, orders, other_key, last_counter}
+use Rattle.meter_slots.specs.Journal.{Start, SlotView, fresh_start, commission_of}
+use Rattle.meter_slots.specs.Resuming.{resumed}
 use Rattle.meter_slots.specs.World.{WorldView}
 use Rattle.receivers.specs.Classes.{counts_of}
 use Rattle.receivers.specs.HeardLines.{HeardLines, tellings}
@@ -20,8 +21,12 @@ pub record Heard : Type 0 where
   pub receivers : List HeardLines
   pub world : WorldView
 
+-- what is known of the meters when a session begins from a roster
+abbrev pub starts : Enrolled → List Start
+starts r = map fresh_start r.meters
+
 abbrev pub addresses : Enrolled → List Address
-addresses r = map (λ c. c.address) r.meters
+addresses r = map (λ c. c.address) (starts r)
 
 -- a receiver's line of the report: how many of its lines are in each class, and how it ended
 abbrev pub receiver_end : Heard → HeardLines → ReceiverEnd
@@ -37,14 +42,7 @@ readings_of heard = readings_text heard.world.slots
 
 -- a slot's commission as it is at the end of its journal: its second key, its last counter, and the numbers of its downlinks and commands
 unfoldable pub commission_now : SlotView → Commissioned
-commission_now b =
-    let earlier = reverse b.journal in let k = orders b.commission earlier in
-    record b.commission {
-      other = other_key b.commission earlier;
-      last = last_counter b.commission earlier;
-      down = k.down;
-      ids = k.queue.ids;
-    }
+commission_now b = commission_of (resumed b.start b.journal)
 
 -- the roster of the next session: the slots' commissions as they are now
 abbrev pub next_roster : Address → List SlotView → Enrolled

@@ -12,7 +12,7 @@ use Rattle.report_text.specs.Orders.{orders}
 use Rattle.roster_file.specs.Roster.{roster_of}
 use Rattle.collector_main.specs.declared.status.Status.{Status}
 use Rattle.collector_main.specs.declared.status.Status.TheVariants as statuses
-use Rattle.collector_main.specs.Heard.{Heard, report_of, order_of}
+use Rattle.collector_main.specs.Heard.{starts, Heard, report_of, order_of}
 use Rattle.collector_main.specs.Run.{Output, IsWhole, IsUnwritten}
 use Rattle.collector_main.specs.Statuses.{was_heard, IsDone}
 
@@ -44,7 +44,7 @@ heard_whole text = record { lines = all_lines text; ended = ends.End }
 pub record IsMadeHeard (made : Session) (heard : Heard) : Type 0 where
   pub roster_is : roster_of made.roster ≡ Ok heard.enrolled
   pub receivers : heard.receivers ≡ map heard_whole (heard_texts made)
-  pub session : IsSession heard.enrolled.own heard.enrolled.meters (map tellings heard.receivers) heard.world
+  pub session : IsSession heard.enrolled.own (starts heard.enrolled) (map tellings heard.receivers) heard.world
   pub told : orders (report_of heard) ≡ order_of heard
 
 -- ---- all that is promised

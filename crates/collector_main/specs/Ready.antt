@@ -12,7 +12,7 @@ use Rattle.receivers.specs.Run.{receiver_runs}
 use Rattle.report_text.specs.declared.lent.ReceiverEnd.{ReceiverEnd}
 use Rattle.report_text.specs.Report.{report_text}
 use Rattle.roster_file.specs.Roster.{Enrolled}
-use Rattle.collector_main.specs.Heard.{Heard, next_roster, report_of}
+use Rattle.collector_main.specs.Heard.{starts, Heard, next_roster, report_of}
 use Rattle.collector_main.specs.MadeRun.{IsMadeHeard}
 use Rattle.collector_main.specs.declared.collecting.Ready.{Ready}
 use Rattle.collector_main.specs.declared.together.HeardTogether.{HeardTogether}
@@ -28,7 +28,7 @@ pub record IsEndOf {S K : Type 0} (r : Receiving S K) (e : ReceiverEnd) : Type 0
 pub record HaveHeard {S K : Type 0} (s : sources.Ghosts S) (k : sinks.Ghosts K) (e : Enrolled) (olds news : List (Receiving S K))
     (heard : HeardTogether) : Type 0 where
   pub untaken : Each (λ r. IsTrue s.tells → s.taken r.source ≡ []) olds
-  pub collected : IsCollected e.own e.meters (receiver_runs s k olds news)
+  pub collected : IsCollected e.own (starts e) (receiver_runs s k olds news)
       (record { slots = heard.collected.slots.items; strangers = heard.collected.strangers })
   pub as_many : length news ≡ length olds
   pub receiver_ends : EachWith IsEndOf news heard.ends.items

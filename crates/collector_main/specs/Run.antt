@@ -17,7 +17,7 @@ use Rattle.roster_file.specs.declared.roster.LineCause.{LineCause}
 use Rattle.roster_file.specs.declared.roster.RosterFault.TheVariants.{Line}
 use Rattle.collector_main.specs.declared.status.Status.{Status}
 use Rattle.collector_main.specs.declared.status.Status.TheVariants as statuses
-use Rattle.collector_main.specs.Heard.{Heard, addresses, report_of, order_of}
+use Rattle.collector_main.specs.Heard.{Heard, starts, addresses, report_of, order_of}
 use Rattle.collector_main.specs.Statuses.{was_heard, IsDone, IsRefused}
 
 -- a sink that the command writes: its number in status 7, the text that it is to have of what was heard, and what it shows
@@ -70,7 +70,7 @@ pub record Headline (run : Run) : Type 0 where
   pub roster_read : IsReadOut run.roster
   pub roster_is : roster_of run.roster.before.left ≡ Ok heard.enrolled
   pub receivers : EachWith EndsSo run.receivers heard.receivers
-  pub session : IsSession heard.enrolled.own heard.enrolled.meters (map tellings heard.receivers) heard.world
+  pub session : IsSession heard.enrolled.own (starts heard.enrolled) (map tellings heard.receivers) heard.world
   pub told : orders (report_of heard) ≡ order_of heard
   pub sent : IsTrue run.sends → HaveSent run.receivers heard
   pub written : IsTrue run.sinks_tell → Each (λ o. HasText (o.text heard) o.sink) run.outputs

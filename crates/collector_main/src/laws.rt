@@ -1,7 +1,7 @@
 //! Laws of runs: each function's contract is one.
 ghost use Rattle.std.specs.Prelude.{◌≡◌, List, [], ◌∷◌};
 ghost use Rattle.meter_address.specs.declared.address.Address.{Address};
-ghost use Rattle.meter_address.specs.Commission.{Commissioned};
+ghost use Rattle.meter_slots.specs.Journal.{Start};
 ghost use Rattle.meter_slots.specs.World.{WorldView, world_of};
 ghost use Rattle.receivers.specs.declared.told.Told.{Told};
 ghost use Rattle.receivers.specs.Alone.{steps_of};
@@ -10,6 +10,6 @@ ghost use Rattle.receivers.specs.Session.{IsSession};
 /// The lines of one receiver fix the session: the slots and the strangers' list are those of its lines, stepped one after the other. So
 /// the report of `hear` is a function of the roster and of the lines.
 pub fn one_receivers_lines_fix_the_session()
-    ensures { (own : Address) (commissions : List Commissioned) (heard : List Told) (world : WorldView)
+    ensures { (own : Address) (commissions : List Start) (heard : List Told) (world : WorldView)
         → IsSession own commissions (heard ∷ []) world → world ≡ world_of own commissions (steps_of 1 heard) }
 {}

@@ -1,13 +1,14 @@
 -- What putting and taking a command keep of a queue, and which command is taken.
 use Rattle.std.proofs.Common.{◌≡◌, ◌≢◌, ℕ, zero, suc, ◌+◌, ◌<◌, ◌≤◌, ◌==◌, Bool, true, false, not, cond, List, [], ◌∷◌, ◌++◌, length}
 use Rattle.std.proofs.Common.{get_or, filter, Some, None, find, All, AllPairs, refl, sym, ap, ◌∙◌, arith, length-append, Ok, Err}
+use Rattle.std.specs.Prelude.{◌-◌, nat_lt, nat_le, ◌&&◌, slice_get}
 use Rattle.std.specs.List.{HoldsAt, remove}
 use Rattle.std.proofs.lemmas.Bool.Decides.{nat_tests}
 use Rattle.std.proofs.lemmas.List.Elements.{All-head, All-tail}
 use Rattle.std.proofs.lemmas.List.Filters.{length-filter_both}
 use Rattle.command_queue.specs.declared.command.Command.{Command}
 use Rattle.command_queue.specs.Pending.{Pending, IdsRise, AreUntried, OnlyOldestTried, IsSound, has_id, no_such, take_answer}
-use Rattle.command_queue.specs.Pending.{without_command}
+use Rattle.command_queue.specs.Pending.{without_command, newest_id, most_tries, may_follow}
 
 -- the commands with another id
 abbrev pub without : ℕ → List Command → List Command
@@ -177,3 +178,54 @@ ids_lower q s i j d lt within = pairs_at 0 q.commands q.ids i j d s.rising lt wi
 
 pub ids_given : (q : Pending) → IsSound q → All (λ c. c.id ≤ q.ids) q.commands
 ids_given q s i d lt = last_at 0 q.commands q.ids i d s.rising lt
+
+-- ---- a command that waited before
+
+rise_behind : (n : ℕ) (cs : List Command) (last : ℕ) (c : Command) → IdsRise n cs last → newest_id n cs < c.id → c.id ≤ last
+    → IdsRise n (cs ++ c ∷ []) last
+rise_behind n [] last c h above within = (above, within)
+rise_behind n (d ∷ cs) last c h above within = (h.0, rise_behind d.id cs last c h.1 above within)
+
+tries_behind : (cs : List Command) (c : Command) → OnlyOldestTried cs → c.tries ≤ most_tries cs → OnlyOldestTried (cs ++ c ∷ [])
+tries_behind [] c t few = (few, tt)
+tries_behind (d ∷ cs) c t few = (t.0, untried_push cs c t.1 (omega (arith, few)))
+
+sound_behind : (q : Pending) (c : Command) → IsSound q → length q.commands < 8 → newest_id 0 q.commands < c.id → c.id ≤ q.ids
+    → c.tries ≤ most_tries q.commands → IsSound (record q { commands = q.commands ++ c ∷ [] })
+sound_behind q c s room above within few = record {
+  few = omega (arith, length-append q.commands (c ∷ []));
+  rising = rise_behind 0 q.commands q.ids c s.rising above within;
+  tries = tries_behind q.commands c s.tries few;
+}
+
+four : (a b c d : Bool) → (a && b && c && d) ≡ true → (a ≡ true) × (b ≡ true) × (c ≡ true) × (d ≡ true)
+four true true true d h = (refl, refl, refl, h)
+four true true false d h = cc
+four true false c d h = cc
+four false b c d h = cc
+
+below : (m n : ℕ) → nat_lt m n ≡ true → m < n
+below m n h = grind (arith, nat_tests)
+
+within : (m n : ℕ) → nat_le m n ≡ true → m ≤ n
+within m n h = grind (arith, nat_tests)
+
+pub sound_follower : (q : Pending) (c : Command) → IsSound q → may_follow q c ≡ true → IsSound (record q { commands = q.commands ++ c ∷ [] })
+unfolding may_follow
+sound_follower q c s h =
+    let p = four (nat_lt (length q.commands) 8) (nat_lt (newest_id 0 q.commands) c.id) (nat_le c.id q.ids)
+    (nat_le c.tries (most_tries q.commands)) h in
+    sound_behind q c s (below (length q.commands) 8 p.0) (below (newest_id 0 q.commands) c.id p.1) (within c.id q.ids p.2)
+    (within c.tries (most_tries q.commands) p.3)
+
+-- the newest command stands last
+newest_at : (n : ℕ) (cs : List Command) (i : ℕ) (c : Command) → length cs ≡ suc i → Some c ≡ slice_get cs i → c.id ≡ newest_id n cs
+newest_at n [] i c long h = cc
+newest_at n (d ∷ []) zero c long h = let same : c ≡ d = cc in ap (λ (x : Command). x.id) same
+newest_at n (d ∷ []) (suc i) c long h = absurd (omega arith)
+newest_at n (d ∷ e ∷ cs) zero c long h = absurd (omega arith)
+newest_at n (d ∷ e ∷ cs) (suc i) c long h = newest_at d.id (e ∷ cs) i c (omega arith) h
+
+pub newest_last : (n : ℕ) (cs : List Command) (c : Command) → Some c ≡ slice_get cs (length cs - 1) → c.id ≡ newest_id n cs
+newest_last n [] c h = cc
+newest_last n (d ∷ cs) c h = newest_at n (d ∷ cs) (length (d ∷ cs) - 1) c (omega arith) h

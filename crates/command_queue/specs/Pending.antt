@@ -1,5 +1,5 @@
 -- The commands that wait to be sent to a meter.
-use Rattle.std.specs.Prelude.{ℕ, ◌≡◌, ◌+◌, ◌-◌, ◌^◌, ◌<◌, ◌≤◌, Bool, not, ◌==◌, nat_le, if◌then◌else◌, List, [], ◌∷◌, ◌++◌, length, filter}
+use Rattle.std.specs.Prelude.{ℕ, ◌≡◌, ◌+◌, ◌-◌, ◌^◌, ◌<◌, ◌≤◌, Bool, not, ◌==◌, nat_le, nat_lt, ◌&&◌, if◌then◌else◌, List, [], ◌∷◌, ◌++◌, length, filter}
 use Rattle.std.specs.Prelude.{find, is_some, Result, Ok, Err, ok_or}
 use Rattle.command_queue.specs.declared.command.Command.{Command}
 use Rattle.command_queue.specs.declared.command.QueueFault.{QueueFault}
@@ -82,3 +82,25 @@ one_try_more (c ∷ cs) = record c { tries = c.tries + 1 } ∷ cs
 -- the queue after its oldest command was sent once more
 unfoldable pub with_try : Pending → Pending
 with_try q = record q { commands = one_try_more q.commands }
+
+-- ---- a command that waited before
+
+-- the id of the newest of some commands, or this number where there are none
+abbrev pub newest_id : ℕ → List Command → ℕ
+newest_id n [] = n
+newest_id n (c ∷ cs) = newest_id c.id cs
+
+-- how often the next command was sent at most: only the oldest one was sent
+abbrev pub most_tries : List Command → ℕ
+most_tries [] = 3
+most_tries (c ∷ cs) = 0
+
+-- whether a command may stand behind those that wait: there is room, its id is above theirs and not above the last that was given, and
+-- it was sent three times at most, or never where it isn't the oldest
+unfoldable pub may_follow : Pending → Command → Bool
+may_follow q c =
+    nat_lt (length q.commands) 8 && nat_lt (newest_id 0 q.commands) c.id && nat_le c.id q.ids && nat_le c.tries (most_tries q.commands)
+
+-- the queue with it, where it may
+unfoldable pub with_follower : Pending → Command → Pending
+with_follower q c = if may_follow q c then record q { commands = q.commands ++ c ∷ [] } else q

@@ -2,7 +2,7 @@
 ghost use Rattle.std.specs.Prelude.{◌≡◌};
 ghost use Rattle.command_queue.specs.Pending.{HasTryLeft, one_try_more};
 
-use crate::command::{Command, NoSuch, QueueFault};
+use crate::command::{Command, NoSuch, QueueFault, TRIES_MAX};
 use arrayvec::ArrayVec;
 use meter_address::Payload;
 use std::default::MadeWith;
@@ -49,6 +49,7 @@ impl Queue {
     ghost use Rattle.std.specs.Option.{option_copied};
     ghost use Rattle.command_queue.specs.Pending.{IsSound, HasTryLeft, no_such, put_answer};
     ghost use Rattle.command_queue.specs.Pending.{with_command, take_answer, without_command, with_try};
+    ghost use Rattle.command_queue.specs.Pending.{newest_id, most_tries, may_follow, with_follower};
 
     /// No command waits yet; `ids` is the last id that was given.
     pub fn new(ids: u32) -> Queue
@@ -86,6 +87,52 @@ impl Queue {
             payload,
         });
         Ok(id)
+    }
+
+    // The id of the newest command, or 0 where none waits.
+    fn newest_id(&self) -> u32
+        ensures { result ≡ newest_id 0 self.now.commands }
+    {
+        match self.commands.as_slice().last() {
+            Some(newest) => newest.id,
+            None => 0,
+        }
+    }
+
+    // How often the next command was sent at most.
+    fn most_tries(&self) -> u8
+        ensures { result ≡ most_tries self.now.commands }
+    {
+        match self.commands.as_slice() {
+            [] => TRIES_MAX,
+            [_oldest, ..] => 0,
+        }
+    }
+
+    // Whether a command may stand behind those that wait.
+    #[tactic(auto, unfolding(crate::specs::Pending::may_follow))]
+    fn may_follow(&self, command: &Command) -> bool
+        ensures { result ≡ may_follow self.now command.now }
+    {
+        !self.commands.is_full()
+            && self.newest_id() < command.id
+            && command.id <= self.ids
+            && command.tries <= self.most_tries()
+    }
+
+    /// Puts a command at the end of the queue that waited before, under its id and with its tries. Where it may not stand there nothing
+    /// changes.
+    #[tactic(auto, unfolding(crate::specs::Pending::with_follower))]
+    pub fn restore(&mut self, command: Command) -> bool
+        ensures answer { result ≡ may_follow self.old command }
+        ensures after { self.new ≡ with_follower self.old command }
+        ensures was_sound { IsSound self.old }
+    {
+        if !self.may_follow(&command) {
+            return false;
+        }
+        self.commands.push(command);
+        true
     }
 
     // Where the command with this id stands.

@@ -33,7 +33,7 @@ use Rattle.meter_slots.specs.declared.entry.Event.TheVariants.{Hear, Tick, Put, 
 use Rattle.meter_slots.specs.declared.entry.Outcome.{Outcome}
 use Rattle.meter_slots.specs.declared.entry.Outcome.TheVariants.{Stored, PartKept, Ticked, Queued, Cancelled, Rekeyed, Refused}
 use Rattle.meter_slots.specs.Hearing.{received, brought}
-use Rattle.meter_slots.specs.Journal.{Standing, standing, stored_counter, told, other_given, other_after, other_key, rekeyed, opened_in}
+use Rattle.meter_slots.specs.Journal.{Start, commission_of, Standing, standing, stored_counter, told, other_given, other_after, other_key, rekeyed, opened_in}
 use Rattle.meter_slots.specs.Journal.{compared, genuine_in, genuine, counters, greater, greatest, last_among, last_counter}
 use Rattle.meter_slots.specs.Journal.{stored_or_refused, judged, verdict, access_at, orders_heard, orders_after, orders, heard, queued}
 use Rattle.meter_slots.specs.Journal.{cancelled, key_answer, answer, outcome, IsJudged, Legal}
@@ -45,7 +45,7 @@ use Rattle.meter_slots.proofs.Journals.{back, found_where, last_counter-cons, re
 
 -- ---- an entry in its place
 
-judged_rest : (c : Commissioned) (own : Address) (later earlier : List Entry) → IsJudged c own (later ++ earlier) → IsJudged c own earlier
+pub judged_rest : (c : Start) (own : Address) (later earlier : List Entry) → IsJudged c own (later ++ earlier) → IsJudged c own earlier
 judged_rest c own [] earlier j = j
 judged_rest c own (x ∷ later) earlier j = judged_rest c own later earlier j.1
 
@@ -58,7 +58,7 @@ from_entry before x after =
     reverse-append before (x ∷ after) ∙ ap (λ xs. xs ++ reverse before) (front_back x after)
     ∙ append_assoc (reverse after) (x ∷ []) (reverse before)
 
-pub judged_at : (c : Commissioned) (own : Address) (before : List Entry) (x : Entry) (after : List Entry)
+pub judged_at : (c : Start) (own : Address) (before : List Entry) (x : Entry) (after : List Entry)
     → Legal c own (before ++ x ∷ after) → IsJudged c own (x ∷ reverse before)
 judged_at c own before x after j =
     judged_rest c own (reverse after) (x ∷ reverse before) (subst (IsJudged c own) (from_entry before x after) j)
@@ -141,11 +141,11 @@ key_stored Seven = refl
 none_stored : (n : ℕ) (last o : Option ℕ) → o ≡ None → (o ≡ Some n) ↔ ((None ≡ Some n) × IsAbove n last)
 none_stored n last o h = (λ s. cc, λ p. cc (p.0))
 
-answer_stored : (c : Commissioned) (own : Address) (n : ℕ) (earlier : List Entry) (event : Event) → c.mode ≡ Seven
-    → (stored_counter (answer c own (standing c earlier) event) ≡ Some n) ↔
+answer_stored : (c : Start) (own : Address) (n : ℕ) (earlier : List Entry) (event : Event) → c.mode ≡ Seven
+    → (stored_counter (answer (commission_of c) own (standing c earlier) event) ≡ Some n) ↔
     ((counter (genuine c earlier event) ≡ Some n) × IsAbove n (last_counter c earlier))
 answer_stored c own n earlier (Hear format at t) m =
-    rw heard_stored (judged_stored (rekeyed c (other_key c earlier)) m n (last_counter c earlier)
+    rw heard_stored (judged_stored (rekeyed (commission_of c) (other_key c earlier)) m n (last_counter c earlier)
     (brought (told c earlier) t (received c.mode t)))
 answer_stored c own n earlier Tick m = none_stored n (last_counter c earlier) None refl
 answer_stored c own n earlier (Put payload) m =
@@ -154,18 +154,18 @@ answer_stored c own n earlier (Cancel id) m =
     none_stored n (last_counter c earlier) _ (cancelled_stored id (take_answer id (orders c earlier).queue))
 answer_stored c own n earlier (Rekey key) m = none_stored n (last_counter c earlier) _ (key_stored c.mode)
 
-last_seven : (c : Commissioned) (earlier : List Entry) → c.mode ≡ Seven
+last_seven : (c : Start) (earlier : List Entry) → c.mode ≡ Seven
     → last_counter c earlier ≡ greatest (counters c earlier ++ option_to_list c.last)
 unfolding last_counter
 last_seven c earlier m = ap (λ mode. last_among mode (counters c earlier ++ option_to_list c.last)) m
 
 -- an entry stores exactly what is genuine and above the last counter
-entry_stored : (c : Commissioned) (own : Address) (x : Entry) (earlier : List Entry) (n : ℕ) → c.mode ≡ Seven → IsJudged c own (x ∷ earlier)
+entry_stored : (c : Start) (own : Address) (x : Entry) (earlier : List Entry) (n : ℕ) → c.mode ≡ Seven → IsJudged c own (x ∷ earlier)
     → (stored_counter x.outcome ≡ Some n) ↔ ((counter (genuine c earlier x.event) ≡ Some n) × IsAbove n (last_counter c earlier))
 unfolding outcome
 entry_stored c own x earlier n m j = rw j.0 (answer_stored c own n earlier x.event m)
 
-pub entry_stored_exactly : (c : Commissioned) (own : Address) (x : Entry) (earlier : List Entry) (n : ℕ) → c.mode ≡ Seven
+pub entry_stored_exactly : (c : Start) (own : Address) (x : Entry) (earlier : List Entry) (n : ℕ) → c.mode ≡ Seven
     → IsJudged c own (x ∷ earlier)
     → (stored_counter x.outcome ≡ Some n) ↔ ((counter (genuine c earlier x.event) ≡ Some n) × AreBelow n
     (counters c earlier ++ option_to_list c.last))
@@ -187,7 +187,7 @@ last_or-push floor [] n = refl
 last_or-push floor (k ∷ ns) n = last_or-push (Some k) ns n
 
 -- the stored counters so far rise, and the last of them is the last counter
-record RisesTo (c : Commissioned) (earlier : List Entry) (ns : List ℕ) : Type 0 where
+record RisesTo (c : Start) (earlier : List Entry) (ns : List ℕ) : Type 0 where
   rises : IsRising c.last ns
   ends : last_or c.last ns ≡ last_counter c earlier
 
@@ -209,7 +209,7 @@ kept_last last (Cancelled id) h = refl
 kept_last last Rekeyed h = refl
 kept_last last (Refused reason) h = refl
 
-rises_step : (c : Commissioned) (own : Address) (x : Entry) (earlier : List Entry) (ns : List ℕ) (s : Option ℕ) → c.mode ≡ Seven
+rises_step : (c : Start) (own : Address) (x : Entry) (earlier : List Entry) (ns : List ℕ) (s : Option ℕ) → c.mode ≡ Seven
     → IsJudged c own (x ∷ earlier)
     → RisesTo c earlier ns → stored_counter x.outcome ≡ s → RisesTo c (x ∷ earlier) (ns ++ cons_option s [])
 rises_step c own x earlier ns None m j r h = record {
@@ -226,34 +226,34 @@ stored_counters-reverse : (x : Entry) (earlier : List Entry)
 stored_counters-reverse x earlier =
     ap stored_counters (front_back x earlier) ∙ filter_map-append (λ (y : Entry). stored_counter y.outcome) (reverse earlier) (x ∷ [])
 
-floor_seven : (c : Commissioned) → c.mode ≡ Seven → c.last ≡ last_counter c []
+floor_seven : (c : Start) → c.mode ≡ Seven → c.last ≡ last_counter c []
 floor_seven c m = alone c.last ∙ sym (last_seven c [] m)
   where
     alone : (o : Option ℕ) → o ≡ greatest (option_to_list o)
     alone None = refl
     alone (Some n) = refl
 
-rises_back : (c : Commissioned) (own : Address) (earlier : List Entry) → c.mode ≡ Seven → IsJudged c own earlier
+rises_back : (c : Start) (own : Address) (earlier : List Entry) → c.mode ≡ Seven → IsJudged c own earlier
     → RisesTo c earlier (stored_counters (reverse earlier))
 rises_back c own [] m j = record { rises = tt; ends = floor_seven c m }
 rises_back c own (x ∷ earlier) m j =
     rw (stored_counters-reverse x earlier) (rises_step c own x earlier (stored_counters (reverse earlier)) (stored_counter x.outcome) m j
     (rises_back c own earlier m j.1) refl)
 
-pub stored_counters_rise : (c : Commissioned) (own : Address) (journal : List Entry) → c.mode ≡ Seven → Legal c own journal
+pub stored_counters_rise : (c : Start) (own : Address) (journal : List Entry) → c.mode ≡ Seven → Legal c own journal
     → IsRising c.last (stored_counters journal)
 stored_counters_rise c own journal m j =
     subst (λ (xs : List Entry). IsRising c.last (stored_counters xs)) (reverse-reverse journal)
     (rises_back c own (reverse journal) m j).rises
 
-last_back : (c : Commissioned) (own : Address) (journal : List Entry) → c.mode ≡ Seven → Legal c own journal
+last_back : (c : Start) (own : Address) (journal : List Entry) → c.mode ≡ Seven → Legal c own journal
     → last_stored c journal ≡ last_counter c (reverse journal)
 last_back c own journal m j =
     subst (λ (xs : List Entry). last_or c.last (stored_counters xs) ≡ last_counter c (reverse journal)) (reverse-reverse journal)
     (rises_back c own (reverse journal) m j).ends
 
 -- an entry stores exactly what is genuine and above the counter stored last
-pub stored_above_last : (c : Commissioned) (own : Address) (before : List Entry) (x : Entry) (after : List Entry) (n : ℕ) → c.mode ≡ Seven
+pub stored_above_last : (c : Start) (own : Address) (before : List Entry) (x : Entry) (after : List Entry) (n : ℕ) → c.mode ≡ Seven
     → Legal c own (before ++ x ∷ after)
     → (stored_counter x.outcome ≡ Some n) ↔ ((counter (genuine c (reverse before) x.event) ≡ Some n) × IsAbove n (last_stored c before))
 stored_above_last c own before x after n m j =
@@ -274,12 +274,12 @@ opened_seven : (mode : Mode) (c : Commissioned) (m : Message) → mode ≡ Seven
 opened_seven Five c m h = cc
 opened_seven Seven c m h = refl
 
-pub genuine_by_mac : (c : Commissioned) (earlier : List Entry) (format : Format) (at : ℕ) (t : List ℕ) (m : Message) (f : Found)
+pub genuine_by_mac : (c : Start) (earlier : List Entry) (format : Format) (at : ℕ) (t : List ℕ) (m : Message) (f : Found)
     → c.mode ≡ Seven
     → brought (told c earlier) t (received c.mode t) ≡ Ok (Some m) → IsBytes m.bytes
-    → (genuine c earlier (Hear format at t) ≡ Some f) ↔ Genuine7 (rekeyed c (other_key c earlier)) m.auth m.bytes f
+    → (genuine c earlier (Hear format at t) ≡ Some f) ↔ Genuine7 (rekeyed (commission_of c) (other_key c earlier)) m.auth m.bytes f
 genuine_by_mac c earlier format at t m f h b bytes =
-    let k = rekeyed c (other_key c earlier) in
+    let k = rekeyed (commission_of c) (other_key c earlier) in
     let is : genuine c earlier (Hear format at t) ≡ result_ok (opened7 k m.auth m.bytes) =
     ap (genuine_in k) b ∙ ap result_ok (opened_seven c.mode k m h) in
     subst (λ (o : Option Found). (o ≡ Some f) ↔ Genuine7 k m.auth m.bytes f) (sym is)
@@ -351,43 +351,43 @@ answer_leaves_key c own s (Put payload) other r = refl
 answer_leaves_key c own s (Cancel id) other r = refl
 answer_leaves_key c own s (Rekey key) other r = key_refused c.mode key other r
 
-left_other : (c : Commissioned) (own : Address) (journal : List Entry) (x : Entry) → Legal c own (journal ++ x ∷ []) → IsRefused x.outcome
+left_other : (c : Start) (own : Address) (journal : List Entry) (x : Entry) → Legal c own (journal ++ x ∷ []) → IsRefused x.outcome
     → other_key c (reverse (journal ++ x ∷ [])) ≡ other_key c (reverse journal)
 unfolding outcome
 left_other c own journal x j r =
     let earlier = reverse journal in
     let h = subst (IsJudged c own) (back journal x) j in
-    ap (other_key c) (back journal x) ∙ answer_leaves_key c own (standing c earlier) x.event (other_key c earlier) (subst IsRefused h.0 r)
+    ap (other_key c) (back journal x) ∙ answer_leaves_key (commission_of c) own (standing c earlier) x.event (other_key c earlier) (subst IsRefused h.0 r)
 
-left_last : (c : Commissioned) (own : Address) (journal : List Entry) (x : Entry) → Legal c own (journal ++ x ∷ []) → IsRefused x.outcome
+left_last : (c : Start) (own : Address) (journal : List Entry) (x : Entry) → Legal c own (journal ++ x ∷ []) → IsRefused x.outcome
     → last_counter c (reverse (journal ++ x ∷ [])) ≡ last_counter c (reverse journal)
 left_last c own journal x j r =
     let earlier = reverse journal in
     let h = subst (IsJudged c own) (back journal x) j in
     ap (last_counter c) (back journal x) ∙ last_counter-cons c own earlier x h.0 ∙ refused_last (last_counter c earlier) x.outcome r
 
-left_orders : (c : Commissioned) (own : Address) (journal : List Entry) (x : Entry) → Legal c own (journal ++ x ∷ []) → IsRefused x.outcome
+left_orders : (c : Start) (own : Address) (journal : List Entry) (x : Entry) → Legal c own (journal ++ x ∷ []) → IsRefused x.outcome
     → orders c (reverse (journal ++ x ∷ [])) ≡ orders c (reverse journal)
 unfolding outcome
 left_orders c own journal x j r =
     let earlier = reverse journal in
     let h = subst (IsJudged c own) (back journal x) j in
     ap (orders c) (back journal x)
-    ∙ answer_refused c own (standing c earlier) (access_at c (standing c earlier) x.event) x.event x.outcome h.0 r
+    ∙ answer_refused (commission_of c) own (standing c earlier) (access_at (commission_of c) (standing c earlier) x.event) x.event x.outcome h.0 r
 
-left_readings : (c : Commissioned) (own : Address) (journal : List Entry) (x : Entry) → Legal c own (journal ++ x ∷ [])
+left_readings : (c : Start) (own : Address) (journal : List Entry) (x : Entry) → Legal c own (journal ++ x ∷ [])
     → IsRefused x.outcome
     → readings c (journal ++ x ∷ []) ≡ readings c journal
 unfolding outcome
 left_readings c own journal x j r =
     let s = standing c (reverse journal) in
     let h = subst (IsJudged c own) (back journal x) j in
-    readings-append c journal x ∙ ap (λ rs. readings c journal ++ rs) (refused_reading c own s x.event (subst IsRefused h.0 r))
+    readings-append c journal x ∙ ap (λ rs. readings c journal ++ rs) (refused_reading (commission_of c) own s x.event (subst IsRefused h.0 r))
     ∙ append-nil (readings c journal)
 
-pub refused_left : (c : Commissioned) (own : Address) (journal : List Entry) (x : Entry) → Legal c own (journal ++ x ∷ [])
+pub refused_left : (c : Start) (own : Address) (journal : List Entry) (x : Entry) → Legal c own (journal ++ x ∷ [])
     → IsRefused x.outcome
-    → IsLeft (record { own = own; commission = c; journal = journal }) (record { own = own; commission = c; journal = journal ++ x ∷ [] })
+    → IsLeft (record { own = own; start = c; journal = journal }) (record { own = own; start = c; journal = journal ++ x ∷ [] })
 refused_left c own journal x j r = record {
   other = left_other c own journal x j r;
   last = left_last c own journal x j r;
@@ -397,7 +397,7 @@ refused_left c own journal x j r = record {
 
 -- ---- one journal
 
-one_journal_back : (c : Commissioned) (own : Address) (earlier : List Entry) → IsJudged c own earlier
+one_journal_back : (c : Start) (own : Address) (earlier : List Entry) → IsJudged c own earlier
     → earlier ≡ judged_journal c own (map call_in earlier)
 one_journal_back c own [] j = refl
 one_journal_back c own (x ∷ earlier) j =
@@ -405,22 +405,22 @@ one_journal_back c own (x ∷ earlier) j =
     ap (λ o. record { source = x.source; line = x.line; event = x.event; outcome = o } ∷ earlier) j.0
     ∙ ap (λ (e : List Entry). record { source = x.source; line = x.line; event = x.event; outcome = outcome c own e x.event } ∷ e) rest
 
-map-reverse : {X Y : Type 0} (f : X → Y) (xs : List X) → map f (reverse xs) ≡ reverse (map f xs)
+pub map-reverse : {X Y : Type 0} (f : X → Y) (xs : List X) → map f (reverse xs) ≡ reverse (map f xs)
 map-reverse f [] = refl
 map-reverse f (x ∷ xs) =
     ap (map f) (front_back x xs) ∙ map-append f (reverse xs) (x ∷ []) ∙ ap (λ ys. ys ++ f x ∷ []) (map-reverse f xs)
     ∙ sym (front_back (f x) (map f xs))
 
-pub journal_is : (c : Commissioned) (own : Address) (journal : List Entry) → Legal c own journal
+pub journal_is : (c : Start) (own : Address) (journal : List Entry) → Legal c own journal
     → journal ≡ journal_of c own (map call_in journal)
 journal_is c own journal j =
     sym (reverse-reverse journal) ∙ ap reverse (one_journal_back c own (reverse journal) j)
     ∙ ap (λ calls. reverse (judged_journal c own calls)) (map-reverse call_in journal)
 
-judged_journal_judged : (c : Commissioned) (own : Address) (calls : List Call) → IsJudged c own (judged_journal c own calls)
+judged_journal_judged : (c : Start) (own : Address) (calls : List Call) → IsJudged c own (judged_journal c own calls)
 judged_journal_judged c own [] = tt
 judged_journal_judged c own (s ∷ calls) = (refl, judged_journal_judged c own calls)
 
-pub journal_of_legal : (c : Commissioned) (own : Address) (calls : List Call) → Legal c own (journal_of c own calls)
+pub journal_of_legal : (c : Start) (own : Address) (calls : List Call) → Legal c own (journal_of c own calls)
 journal_of_legal c own calls =
     subst (IsJudged c own) (sym (reverse-reverse (judged_journal c own (reverse calls)))) (judged_journal_judged c own (reverse calls))

@@ -18,7 +18,6 @@ use Rattle.command_queue.specs.declared.command.QueueFault.{QueueFault}
 use Rattle.command_queue.specs.declared.command.QueueFault.TheVariants.{Full, IdsSpent}
 use Rattle.command_queue.specs.Pending.{put_answer, take_answer}
 use Rattle.access_window.specs.Orders.{Orders, confirmed, sent_at, after_stored}
-use Rattle.access_window.specs.Moves.{fresh_orders}
 use Rattle.afl_fragments.specs.Held.{Told, Message, StandsFor}
 use Rattle.message_check.specs.Steps.{◌>>=◌}
 use Rattle.message_check.specs.Opening.{Found, Passed, compared5, compared7}
@@ -32,12 +31,12 @@ use Rattle.meter_slots.specs.declared.entry.Outcome.TheVariants.{Stored, PartKep
 use Rattle.meter_slots.specs.declared.reading.Reading.{Reading}
 use Rattle.downlink_maker.specs.Downlink.{encrypted_content, message_bytes, mac_of, telegram_to, downlink}
 use Rattle.meter_slots.specs.Hearing.{is_response, received, brought}
-use Rattle.meter_slots.specs.Journal.{told, told_by, other_after, other_key, rekeyed, opened_in, compared, genuine_in, genuine, counters}
+use Rattle.meter_slots.specs.Journal.{Start, commission_of, told, told_by, other_after, other_key, rekeyed, opened_in, compared, genuine_in, genuine, counters}
 use Rattle.meter_slots.specs.Journal.{greater, greatest, last_among, last_counter}
 use Rattle.meter_slots.specs.Journal.{Standing, standing, stored_or_refused, judged, verdict, access_at, orders_after, orders}
 use Rattle.meter_slots.specs.Journal.{downlink_with, heard, queued, cancelled, key_answer, answer, outcome}
 use Rattle.meter_slots.specs.Journal.{stored, reading_of, readings_back, readings}
-use Rattle.meter_slots.specs.Laws.{PutsPayload}
+use Rattle.meter_slots.specs.Laws.{AreReady, PutsPayload}
 use Rattle.meter_slots.specs.Keeping.{Kept, standing_for, Keeps, last_after, Moves, StoresInRange}
 
 -- ---- the last number
@@ -116,21 +115,21 @@ key_last : (last : Option ℕ) (mode : Mode) → last ≡ last_after last (key_a
 key_last last Five = refl
 key_last last Seven = refl
 
-answer_last : (c : Commissioned) (own : Address) (earlier : List Entry) (event : Event)
+answer_last : (c : Start) (own : Address) (earlier : List Entry) (event : Event)
     → last_among c.mode ((counter_in (genuine c earlier event) ++ counters c earlier) ++ option_to_list c.last)
-    ≡ last_after (last_counter c earlier) (answer c own (standing c earlier) event)
+    ≡ last_after (last_counter c earlier) (answer (commission_of c) own (standing c earlier) event)
 unfolding last_counter
 answer_last c own earlier (Hear format at t) =
-    judged_last (rekeyed c (other_key c earlier)) (brought (told c earlier) t (received c.mode t)) (counters c earlier)
+    judged_last (rekeyed (commission_of c) (other_key c earlier)) (brought (told c earlier) t (received c.mode t)) (counters c earlier)
     (option_to_list c.last)
-    ∙ heard_last own c (orders c earlier) _ _ (last_counter c earlier) (verdict c (standing c earlier) t)
+    ∙ heard_last own (commission_of c) (orders c earlier) _ _ (last_counter c earlier) (verdict (commission_of c) (standing c earlier) t)
 answer_last c own earlier Tick = refl
 answer_last c own earlier (Put payload) = queued_last (last_counter c earlier) (put_answer (orders c earlier).queue)
 answer_last c own earlier (Cancel id) = cancelled_last (last_counter c earlier) id (take_answer id (orders c earlier).queue)
 answer_last c own earlier (Rekey key) = key_last (last_counter c earlier) c.mode
 
 -- the last number after one more entry
-pub last_counter-cons : (c : Commissioned) (own : Address) (earlier : List Entry) (x : Entry) → x.outcome ≡ outcome c own earlier x.event
+pub last_counter-cons : (c : Start) (own : Address) (earlier : List Entry) (x : Entry) → x.outcome ≡ outcome c own earlier x.event
     → last_counter c (x ∷ earlier) ≡ last_after (last_counter c earlier) x.outcome
 unfolding last_counter outcome
 last_counter-cons c own earlier x h = answer_last c own earlier x.event ∙ ap (last_after (last_counter c earlier)) (sym h)
@@ -151,12 +150,13 @@ last_after_fits mode last (Refused reason) h f = h
 pub back : (journal : List Entry) (x : Entry) → reverse (journal ++ x ∷ []) ≡ x ∷ reverse journal
 back journal x = reverse-append journal (x ∷ [])
 
-told-cons : (c : Commissioned) (earlier : List Entry) (x : Entry) → told c (x ∷ earlier) ≡ told_by c x.event x.outcome ++ told c earlier
+told-cons : (c : Start) (earlier : List Entry) (x : Entry)
+    → told c (x ∷ earlier) ≡ told_by (commission_of c) x.event x.outcome ++ told c earlier
 unfolding told
 told-cons c earlier x = refl
 
-pub readings-append : (c : Commissioned) (journal : List Entry) (x : Entry)
-    → readings c (journal ++ x ∷ []) ≡ readings c journal ++ reading_of x.event (stored c (standing c (reverse journal)) x.event)
+pub readings-append : (c : Start) (journal : List Entry) (x : Entry)
+    → readings c (journal ++ x ∷ []) ≡ readings c journal ++ reading_of x.event (stored (commission_of c) (standing c (reverse journal)) x.event)
 unfolding readings
 readings-append c journal x = ap (readings_back c) (back journal x)
 
@@ -203,13 +203,14 @@ answer_rekeyed c own s (Rekey key) = refl
 abbrev pub PutsIn : Entry → Type 0
 PutsIn x = PutsPayload x.event
 
-pub empty_kept : (c : Commissioned) (own : Address) (k : Kept) → k.commission ≡ c → k.last ≡ c.last
+pub empty_kept : (c : Start) (own : Address) (k : Kept) → AreReady c.orders → k.commission ≡ commission_of c → k.last ≡ c.last
     → ForSome c.last (λ n. n ≤ most_last c.mode)
-    → StandsFor k.parts [] → k.orders ≡ fresh_orders c.ids c.down → Keeps c own [] k []
+    → StandsFor k.parts c.told → k.orders ≡ c.orders → Keeps c own [] k []
 unfolding last_counter readings told
-empty_kept c own k same last fits parts commands = record {
+empty_kept c own k ready same last fits parts commands = record {
   legal = tt;
   payloads = All-nil PutsIn;
+  ready = ready;
   commission_is = same;
   last_is = last ∙ floor_last c.mode c.last;
   last_fits = subst (λ (o : Option ℕ). ForSome o (λ n. n ≤ most_last c.mode)) (sym last) fits;
@@ -219,7 +220,7 @@ empty_kept c own k same last fits parts commands = record {
 }
 
 -- what is kept stands for what the entries come to
-kept_standing : (c : Commissioned) (own : Address) (journal : List Entry) (k : Kept) (kept : List Reading)
+kept_standing : (c : Start) (own : Address) (journal : List Entry) (k : Kept) (kept : List Reading)
     → Keeps c own journal k kept → standing_for k (told c (reverse journal)) ≡ standing c (reverse journal)
 kept_standing c own journal k kept h =
     let earlier = reverse journal in
@@ -228,7 +229,7 @@ kept_standing c own journal k kept h =
     ∙ ap (λ o. record { other = other_key c earlier; last = last_counter c earlier; told = told c earlier; orders = o }) h.orders_are
 
 -- what the kept state answers is what the journal answers
-pub answer_kept : (c : Commissioned) (own : Address) (journal : List Entry) (k : Kept) (kept : List Reading) (event : Event)
+pub answer_kept : (c : Start) (own : Address) (journal : List Entry) (k : Kept) (kept : List Reading) (event : Event)
     (given : Outcome)
     → Keeps c own journal k kept
     → ((t : List Told) → StandsFor k.parts t → given ≡ answer k.commission own (standing_for k t) event)
@@ -238,11 +239,11 @@ answer_kept c own journal k kept event given h answered =
     let earlier = reverse journal in
     answered (told c earlier) h.parts_are
     ∙ ap (λ (m : Commissioned). answer m own (standing_for k (told c earlier)) event) h.commission_is
-    ∙ ap (λ (s : Standing). answer (rekeyed c (other_key c earlier)) own s event) (kept_standing c own journal k kept h)
-    ∙ answer_rekeyed c own (standing c earlier) event
+    ∙ ap (λ (s : Standing). answer (rekeyed (commission_of c) (other_key c earlier)) own s event) (kept_standing c own journal k kept h)
+    ∙ answer_rekeyed (commission_of c) own (standing c earlier) event
 
 -- what is kept after one more entry
-pub kept_after : (c : Commissioned) (own : Address) (journal : List Entry) (k : Kept) (kept : List Reading) (x : Entry) (k' : Kept)
+pub kept_after : (c : Start) (own : Address) (journal : List Entry) (k : Kept) (kept : List Reading) (x : Entry) (k' : Kept)
     (new : List Reading)
     → Keeps c own journal k kept
     → PutsPayload x.event
@@ -260,6 +261,7 @@ kept_after c own journal k kept x k' new h puts judged fits reads moves =
     record {
       legal = rw (back journal x) (judged, h.legal);
       payloads = All-push PutsIn journal x h.payloads puts;
+      ready = h.ready;
       commission_is = rw (back journal x) (m.commission
           ∙ ap (λ (n : Commissioned). rekeyed n (other_after n.mode x.event n.other)) h.commission_is);
       last_is = rw (back journal x, last_counter-cons c own earlier x judged) (m.last ∙ ap (λ l. last_after l x.outcome) h.last_is);
@@ -270,9 +272,9 @@ kept_after c own journal k kept x k' new h puts judged fits reads moves =
       orders_are = rw (back journal x) (m.orders
           ∙ ap (λ (n : Commissioned). orders_after k.orders (access_at n (standing_for k fragments) x.event) x.event x.outcome)
           h.commission_is
-          ∙ ap (λ (s : Standing). orders_after s.orders (access_at c s x.event) x.event x.outcome) stands);
+          ∙ ap (λ (s : Standing). orders_after s.orders (access_at (commission_of c) s x.event) x.event x.outcome) stands);
       readings_are = rw (readings-append c journal x) (ap (λ rs. rs ++ new) h.readings_are
           ∙ ap (λ rs. readings c journal ++ rs) (reads fragments h.parts_are
           ∙ ap (λ (n : Commissioned). reading_of x.event (stored n (standing_for k fragments) x.event)) h.commission_is
-          ∙ ap (λ (s : Standing). reading_of x.event (stored c s x.event)) stands));
+          ∙ ap (λ (s : Standing). reading_of x.event (stored (commission_of c) s x.event)) stands));
     }

@@ -1,4 +1,5 @@
 pub mod Crossing
+pub mod Cuts
 pub mod DownlinkLaws
 pub mod JournalLaws
 pub mod Journals
@@ -9,5 +10,8 @@ pub mod PayloadLaws
 pub mod Pieces
 pub mod Places
 pub mod ReadingLaws
+pub mod Renumbering
 pub mod Repeats
+pub mod Restorings
+pub mod Starting
 pub mod Worlds

@@ -2,27 +2,26 @@
 use Rattle.std.proofs.Common.{◌≡◌, ℕ, List, [], ◌∷◌, ◌++◌, reverse, Option, ap, sym, ◌∙◌, subst}
 use Rattle.std.specs.Prelude.{option_to_list}
 use Rattle.meter_address.specs.declared.address.Address.{Address}
-use Rattle.meter_address.specs.Commission.{Commissioned}
 use Rattle.afl_fragments.specs.Held.{Told, StandsFor}
 use Rattle.meter_slots.specs.declared.entry.Entry.{Entry}
 use Rattle.meter_slots.specs.declared.entry.Event.{Event}
 use Rattle.meter_slots.specs.declared.entry.Outcome.{Outcome}
 use Rattle.meter_slots.specs.declared.reading.Reading.{Reading}
-use Rattle.meter_slots.specs.Journal.{answer, outcome, stored, reading_of, readings}
+use Rattle.meter_slots.specs.Journal.{Start, answer, outcome, stored, reading_of, readings}
 use Rattle.meter_slots.specs.Keeping.{Kept, Keeps, Moves, StoresInRange, standing_for}
 use Rattle.meter_slots.specs.Laws.{PutsPayload}
 use Rattle.meter_slots.specs.Passing.{Passing, IsAfter}
 use Rattle.meter_slots.proofs.Journals.{answer_kept, kept_after}
 
-module _ (v : Passing) (own : Address) (c : Commissioned) (k k' : Kept) (event : Event) (given : Outcome) (reading : Option Reading)
-    (view_is : record { own = own; commission = c; kept = k } ≡ v)
+module _ (v : Passing) (own : Address) (c : Start) (k k' : Kept) (event : Event) (given : Outcome) (reading : Option Reading)
+    (view_is : record { own = own; start = c; kept = k } ≡ v)
     (answered : (t : List Told) → StandsFor k.parts t → given ≡ answer k.commission own (standing_for k t) event) where
   judged : (journal : List Entry) → IsAfter journal v → given ≡ outcome c own (reverse journal) event
   judged journal h =
       answer_kept c own journal k (readings c journal) event given (subst (IsAfter journal) (sym view_is) h) answered
 
-  pub passing_answer : (journal : List Entry) → IsAfter journal v → given ≡ outcome v.commission v.own (reverse journal) event
-  passing_answer journal h = judged journal h ∙ ap (λ (w : Passing). outcome w.commission w.own (reverse journal) event) view_is
+  pub passing_answer : (journal : List Entry) → IsAfter journal v → given ≡ outcome v.start v.own (reverse journal) event
+  passing_answer journal h = judged journal h ∙ ap (λ (w : Passing). outcome w.start w.own (reverse journal) event) view_is
 
   module _ (puts : PutsPayload event) (fits : StoresInRange k.commission.mode given)
       (reads : (t : List Told) → StandsFor k.parts t
@@ -44,10 +43,10 @@ module _ (v : Passing) (own : Address) (c : Commissioned) (k k' : Kept) (event :
         kept
 
     pub passing_reading : (journal : List Entry) (source line : ℕ) → IsAfter journal v
-        → readings v.commission (journal ++ record { source = source; line = line; event = event; outcome = given } ∷ [])
-        ≡ readings v.commission journal ++ option_to_list reading
+        → readings v.start (journal ++ record { source = source; line = line; event = event; outcome = given } ∷ [])
+        ≡ readings v.start journal ++ option_to_list reading
     passing_reading journal source line h =
         let kept = keeps journal source line h in
-        subst (λ (w : Passing). readings w.commission
+        subst (λ (w : Passing). readings w.start
         (journal ++ record { source = source; line = line; event = event; outcome = given } ∷ [])
-        ≡ readings w.commission journal ++ option_to_list reading) view_is (sym kept.readings_are)
+        ≡ readings w.start journal ++ option_to_list reading) view_is (sym kept.readings_are)

@@ -29,9 +29,9 @@ use Rattle.meter_slots.specs.declared.entry.Event.{Event}
 use Rattle.meter_slots.specs.declared.entry.Event.TheVariants.{Hear, Tick, Put, Cancel, Rekey}
 use Rattle.meter_slots.specs.declared.entry.Outcome.{Outcome}
 use Rattle.meter_slots.specs.declared.entry.Outcome.TheVariants.{Stored, PartKept, Ticked, Queued, Cancelled, Rekeyed, Refused}
-use Rattle.meter_slots.specs.Journal.{standing, verdict, access_at, orders_heard, orders_after, orders, downlink_with, heard, queued}
+use Rattle.meter_slots.specs.Journal.{Start, commission_of, Standing, standing, verdict, access_at, orders_heard, orders_after, orders, downlink_with, heard, queued}
 use Rattle.meter_slots.specs.Journal.{cancelled, key_answer, answer, outcome, IsJudged, Legal}
-use Rattle.meter_slots.specs.Laws.{downlinks_of, downlinks_in, IsPayload, PutsPayload, CarriesPayload}
+use Rattle.meter_slots.specs.Laws.{downlinks_of, downlinks_in, IsPayload, HasPayload, AreReady, PutsPayload, CarriesPayload}
 use Rattle.meter_slots.proofs.Journals.{PutsIn}
 use Rattle.meter_slots.proofs.JournalLaws.{front_back}
 
@@ -42,12 +42,6 @@ All-reverse P (x ∷ xs) h =
     (All-cons P x [] (All-head P x xs h) (All-nil P)))
 
 -- ---- each command that waits has a payload
-
-abbrev HasPayload : Command → Type 0
-HasPayload command = IsPayload command.payload
-
-abbrev AreReady : Orders → Type 0
-AreReady k = All HasPayload k.queue.commands
 
 put_by : (q : Pending) (payload : List ℕ) (r : Result ℕ QueueFault) → IsPayload payload → All HasPayload q.commands
     → All HasPayload (with_command_by q payload r).commands
@@ -118,11 +112,11 @@ event_ready k access (Put payload) o p h = put_ready k payload p h
 event_ready k access (Cancel id) o p h = cancel_ready k id h
 event_ready k access (Rekey key) o p h = h
 
-orders_ready : (c : Commissioned) (earlier : List Entry) → All PutsIn earlier → AreReady (orders c earlier)
-orders_ready c [] h = All-nil HasPayload
-orders_ready c (x ∷ earlier) h =
-    event_ready (orders c earlier) (access_at c (standing c earlier) x.event) x.event x.outcome (All-head PutsIn x earlier h)
-    (orders_ready c earlier (All-tail PutsIn x earlier h))
+pub orders_ready : (c : Start) (earlier : List Entry) → AreReady c.orders → All PutsIn earlier → AreReady (orders c earlier)
+orders_ready c [] ready h = ready
+orders_ready c (x ∷ earlier) ready h =
+    event_ready (orders c earlier) (access_at (commission_of c) (standing c earlier) x.event) x.event x.outcome (All-head PutsIn x earlier h)
+    (orders_ready c earlier ready (All-tail PutsIn x earlier h))
 
 -- ---- each downlink that is sent carries a payload
 
@@ -178,30 +172,15 @@ module _ (own : Address) (c : Commissioned) where
   key_sent Five = All-nil (CarriesPayload own c)
   key_sent Seven = All-nil (CarriesPayload own c)
 
-  answer_sent : (earlier : List Entry) (event : Event) → AreReady (orders c earlier)
-      → All (CarriesPayload own c) (downlinks_of (answer c own (standing c earlier) event))
-  answer_sent earlier (Hear format at t) h = heard_sent (orders c earlier) _ _ (verdict c (standing c earlier) t) h
-  answer_sent earlier Tick h = All-nil (CarriesPayload own c)
-  answer_sent earlier (Put payload) h = queued_sent (put_answer (orders c earlier).queue)
-  answer_sent earlier (Cancel id) h = cancelled_sent id (take_answer id (orders c earlier).queue)
-  answer_sent earlier (Rekey key) h = key_sent c.mode
+  answer_sent : (s : Standing) (event : Event) → AreReady s.orders → All (CarriesPayload own c) (downlinks_of (answer c own s event))
+  answer_sent s (Hear format at t) h = heard_sent s.orders _ _ (verdict c s t) h
+  answer_sent s Tick h = All-nil (CarriesPayload own c)
+  answer_sent s (Put payload) h = queued_sent (put_answer s.orders.queue)
+  answer_sent s (Cancel id) h = cancelled_sent id (take_answer id s.orders.queue)
+  answer_sent s (Rekey key) h = key_sent c.mode
 
   abbrev SendsRightly : Entry → Type 0
   SendsRightly x = All (CarriesPayload own c) (downlinks_of x.outcome)
-
-  entry_sent : (x : Entry) (earlier : List Entry) → IsJudged c own (x ∷ earlier) → All PutsIn earlier → SendsRightly x
-  unfolding outcome
-  entry_sent x earlier j h =
-      subst (λ (o : Outcome). All (CarriesPayload own c) (downlinks_of o)) (sym j.0)
-      (answer_sent earlier x.event (orders_ready c earlier h))
-
-  journal_sent : (earlier : List Entry) → IsJudged c own earlier → All PutsIn earlier → All SendsRightly (reverse earlier)
-  journal_sent [] j h = All-nil SendsRightly
-  journal_sent (x ∷ earlier) j h =
-      let rest = All-tail PutsIn x earlier h in
-      subst (All SendsRightly) (sym (front_back x earlier))
-      (All-append SendsRightly (reverse earlier) (x ∷ []) (journal_sent earlier j.1 rest)
-      (All-cons SendsRightly x [] (entry_sent x earlier j rest) (All-nil SendsRightly)))
 
   all_sent : (entries : List Entry) → All SendsRightly entries → All (CarriesPayload own c) (downlinks_in entries)
   all_sent [] h = All-nil (CarriesPayload own c)
@@ -209,8 +188,26 @@ module _ (own : Address) (c : Commissioned) where
       All-append (CarriesPayload own c) (downlinks_of x.outcome) (downlinks_in entries) (All-head SendsRightly x entries h)
       (all_sent entries (All-tail SendsRightly x entries h))
 
-pub downlinks_carry : (own : Address) (c : Commissioned) (journal : List Entry) → Legal c own journal → All PutsIn journal
-    → All (CarriesPayload own c) (downlinks_in journal)
-downlinks_carry own c journal j h =
-    let sends = journal_sent own c (reverse journal) j (All-reverse PutsIn journal h) in
-    all_sent own c journal (subst (All (SendsRightly own c)) (reverse-reverse journal) sends)
+module _ (own : Address) (c : Start) (ready : AreReady c.orders) where
+  abbrev Sends : Entry → Type 0
+  Sends x = SendsRightly own (commission_of c) x
+
+  entry_sent : (x : Entry) (earlier : List Entry) → IsJudged c own (x ∷ earlier) → All PutsIn earlier → Sends x
+  unfolding outcome
+  entry_sent x earlier j h =
+      subst (λ (o : Outcome). All (CarriesPayload own (commission_of c)) (downlinks_of o)) (sym j.0)
+      (answer_sent own (commission_of c) (standing c earlier) x.event (orders_ready c earlier ready h))
+
+  journal_sent : (earlier : List Entry) → IsJudged c own earlier → All PutsIn earlier → All Sends (reverse earlier)
+  journal_sent [] j h = All-nil Sends
+  journal_sent (x ∷ earlier) j h =
+      let rest = All-tail PutsIn x earlier h in
+      subst (All Sends) (sym (front_back x earlier))
+      (All-append Sends (reverse earlier) (x ∷ []) (journal_sent earlier j.1 rest)
+      (All-cons Sends x [] (entry_sent x earlier j rest) (All-nil Sends)))
+
+pub downlinks_carry : (own : Address) (c : Start) (journal : List Entry) → AreReady c.orders → Legal c own journal → All PutsIn journal
+    → All (CarriesPayload own (commission_of c)) (downlinks_in journal)
+downlinks_carry own c journal ready j h =
+    let sends = journal_sent own c ready (reverse journal) j (All-reverse PutsIn journal h) in
+    all_sent own (commission_of c) journal (subst (All (Sends own c ready)) (reverse-reverse journal) sends)

@@ -19,7 +19,17 @@ fits_behind : (bytes : List ℕ) (afl : Option Afl) (content piece : List ℕ) �
     → length piece ≤ length content → PieceFits afl piece
 fits_behind bytes None content piece h b p = tt
 fits_behind bytes (Some a) content piece h b p = λ f. record {
-  fragment = record { fragment = f; numbered = h.0.placed.fid };
+  fragment = record {
+    fragment = f;
+    numbered = h.0.placed.fid;
+    placed = h.0.placed.fields;
+    len = omega (
+      arith,
+      h.0.len,
+      length-append (to_le_bytes w16 h.0.fcl) (fields_bytes a),
+      length-two (Some h.0.fcl),
+    );
+  };
   most =
       omega (
         arith,

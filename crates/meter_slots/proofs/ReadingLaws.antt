@@ -25,7 +25,7 @@ use Rattle.meter_slots.specs.declared.entry.Outcome.{Outcome}
 use Rattle.meter_slots.specs.declared.entry.Outcome.TheVariants.{Stored, PartKept, Ticked, Queued, Cancelled, Rekeyed, Refused}
 use Rattle.meter_slots.specs.declared.reading.Reading.{Reading}
 use Rattle.meter_slots.specs.Hearing.{received, brought}
-use Rattle.meter_slots.specs.Journal.{Standing, standing, told, other_key, rekeyed, opened_in, compared, genuine_in, genuine}
+use Rattle.meter_slots.specs.Journal.{Start, commission_of, Standing, standing, told, other_key, rekeyed, opened_in, compared, genuine_in, genuine}
 use Rattle.meter_slots.specs.Journal.{stored_or_refused, judged, orders, last_counter, verdict, heard, answer, outcome, IsJudged, Legal}
 use Rattle.meter_slots.specs.Journal.{stored_in, stored, reading_at, reading_of, readings_back, readings, stored_counter}
 use Rattle.meter_slots.specs.Laws.{stored_counters, moment_read, stored_moment, stored_moments, reading_added}
@@ -33,14 +33,14 @@ use Rattle.meter_slots.proofs.Journals.{back, found_where, readings-append}
 use Rattle.meter_slots.proofs.JournalLaws.{front_back, queued_stored, cancelled_stored, key_stored}
 
 -- what a fact says of one entry it says of all
-each_stored : {X : Type 0} (f : Reading → X) (g : Entry → Option X) (c : Commissioned) (own : Address)
+each_stored : {X : Type 0} (f : Reading → X) (g : Entry → Option X) (c : Start) (own : Address)
     → ((x : Entry) (earlier : List Entry) → IsJudged c own (x ∷ earlier) → map f
-    (reading_of x.event (stored c (standing c earlier) x.event)) ≡ cons_option (g x) [])
+    (reading_of x.event (stored (commission_of c) (standing c earlier) x.event)) ≡ cons_option (g x) [])
     → (earlier : List Entry) → IsJudged c own earlier → map f (readings_back c earlier) ≡ filter_map g (reverse earlier)
 each_stored f g c own one [] j = refl
 each_stored f g c own one (x ∷ earlier) j =
-    map-append f (readings_back c earlier) (reading_of x.event (stored c (standing c earlier) x.event))
-    ∙ ap (λ xs. xs ++ map f (reading_of x.event (stored c (standing c earlier) x.event))) (each_stored f g c own one earlier j.1)
+    map-append f (readings_back c earlier) (reading_of x.event (stored (commission_of c) (standing c earlier) x.event))
+    ∙ ap (λ xs. xs ++ map f (reading_of x.event (stored (commission_of c) (standing c earlier) x.event))) (each_stored f g c own one earlier j.1)
     ∙ ap (λ xs. filter_map g (reverse earlier) ++ xs) (one x earlier j)
     ∙ sym (ap (filter_map g) (front_back x earlier) ∙ filter_map-append g (reverse earlier) (x ∷ []))
 
@@ -65,13 +65,14 @@ answer_counter c own s (Put payload) = none_of _ (queued_stored (put_answer s.or
 answer_counter c own s (Cancel id) = none_of _ (cancelled_stored id (take_answer id s.orders.queue))
 answer_counter c own s (Rekey key) = none_of _ (key_stored c.mode)
 
-entry_counter : (c : Commissioned) (own : Address) (x : Entry) (earlier : List Entry) → IsJudged c own (x ∷ earlier)
-    → map (λ (r : Reading). r.counter) (reading_of x.event (stored c (standing c earlier) x.event)) ≡ cons_option (stored_counter x.outcome)
+entry_counter : (c : Start) (own : Address) (x : Entry) (earlier : List Entry) → IsJudged c own (x ∷ earlier)
+    → map (λ (r : Reading). r.counter) (reading_of x.event (stored (commission_of c) (standing c earlier) x.event)) ≡ cons_option (stored_counter x.outcome)
     []
 unfolding outcome
-entry_counter c own x earlier j = answer_counter c own (standing c earlier) x.event ∙ ap (λ o. cons_option (stored_counter o) []) (sym j.0)
+entry_counter c own x earlier j =
+    answer_counter (commission_of c) own (standing c earlier) x.event ∙ ap (λ o. cons_option (stored_counter o) []) (sym j.0)
 
-pub counters_read : (c : Commissioned) (own : Address) (journal : List Entry) → Legal c own journal
+pub counters_read : (c : Start) (own : Address) (journal : List Entry) → Legal c own journal
     → map (λ (r : Reading). r.counter) (readings c journal) ≡ stored_counters journal
 unfolding readings
 counters_read c own journal j =
@@ -95,13 +96,13 @@ answer_moment c own s (Put payload) = refl
 answer_moment c own s (Cancel id) = refl
 answer_moment c own s (Rekey key) = refl
 
-entry_moment : (c : Commissioned) (own : Address) (x : Entry) (earlier : List Entry) → IsJudged c own (x ∷ earlier)
-    → map moment_read (reading_of x.event (stored c (standing c earlier) x.event)) ≡ cons_option (stored_moment x.event x.outcome) []
+entry_moment : (c : Start) (own : Address) (x : Entry) (earlier : List Entry) → IsJudged c own (x ∷ earlier)
+    → map moment_read (reading_of x.event (stored (commission_of c) (standing c earlier) x.event)) ≡ cons_option (stored_moment x.event x.outcome) []
 unfolding outcome
 entry_moment c own x earlier j =
-    answer_moment c own (standing c earlier) x.event ∙ ap (λ o. cons_option (stored_moment x.event o) []) (sym j.0)
+    answer_moment (commission_of c) own (standing c earlier) x.event ∙ ap (λ o. cons_option (stored_moment x.event o) []) (sym j.0)
 
-pub moments_read : (c : Commissioned) (own : Address) (journal : List Entry) → Legal c own journal
+pub moments_read : (c : Start) (own : Address) (journal : List Entry) → Legal c own journal
     → map moment_read (readings c journal) ≡ stored_moments journal
 unfolding readings
 moments_read c own journal j =
@@ -155,19 +156,21 @@ none_added event found (Cancelled id) h = refl
 none_added event found Rekeyed h = refl
 none_added event found (Refused reason) h = refl
 
-answer_added : (c : Commissioned) (own : Address) (earlier : List Entry) (event : Event)
-    → reading_of event (stored c (standing c earlier) event) ≡ reading_added (answer c own (standing c earlier) event) event
+answer_added : (c : Start) (own : Address) (earlier : List Entry) (event : Event)
+    → reading_of event (stored (commission_of c) (standing c earlier) event)
+    ≡ reading_added (answer (commission_of c) own (standing c earlier) event) event
     (genuine c earlier event)
 answer_added c own earlier (Hear format at t) =
-    heard_added own c (orders c earlier) _ _ (Hear format at t) (genuine c earlier (Hear format at t)) (verdict c (standing c earlier) t)
-    (judged_found (rekeyed c (other_key c earlier)) (last_counter c earlier) (brought (told c earlier) t (received c.mode t)))
+    heard_added own (commission_of c) (orders c earlier) _ _ (Hear format at t) (genuine c earlier (Hear format at t))
+    (verdict (commission_of c) (standing c earlier) t)
+    (judged_found (rekeyed (commission_of c) (other_key c earlier)) (last_counter c earlier) (brought (told c earlier) t (received c.mode t)))
 answer_added c own earlier Tick = refl
 answer_added c own earlier (Put payload) = none_added (Put payload) None _ refl
 answer_added c own earlier (Cancel id) = none_added (Cancel id) None _ refl
 answer_added c own earlier (Rekey key) = none_added (Rekey key) None _ refl
 
 -- the readings after one more entry
-pub added_read : (c : Commissioned) (own : Address) (journal : List Entry) (x : Entry) → Legal c own (journal ++ x ∷ [])
+pub added_read : (c : Start) (own : Address) (journal : List Entry) (x : Entry) → Legal c own (journal ++ x ∷ [])
     → readings c (journal ++ x ∷ []) ≡ readings c journal ++ reading_added x.outcome x.event (genuine c (reverse journal) x.event)
 unfolding outcome
 added_read c own journal x j =

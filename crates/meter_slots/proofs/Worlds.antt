@@ -11,13 +11,13 @@ use Rattle.std.proofs.lemmas.List.Quantifiers.{position-Some}
 use Rattle.std.proofs.lemmas.List.Sums.{prefix_len_passes}
 use Rattle.meter_address.specs.declared.address.Address.{Address}
 use Rattle.meter_address.specs.declared.commission.Mode.TheVariants.{Seven}
-use Rattle.meter_address.specs.Commission.{Commissioned}
+use Rattle.access_window.specs.declared.window.Window.TheVariants.{Idle}
 use Rattle.meter_slots.specs.declared.entry.Entry.{Entry}
 use Rattle.meter_slots.specs.declared.entry.Outcome.{Outcome}
 use Rattle.meter_slots.specs.declared.step.Landed.TheVariants.{Slot, Stranger}
 use Rattle.meter_slots.specs.declared.step.Step.{Step}
 use Rattle.meter_slots.specs.Directory.{AreApart}
-use Rattle.meter_slots.specs.Journal.{SlotView, outcome}
+use Rattle.meter_slots.specs.Journal.{Start, SlotView, outcome}
 use Rattle.meter_slots.specs.Laws.{IsLegal}
 use Rattle.meter_slots.specs.World.{Call, call_of, judged_journal, journal_of, is_for, calls_of, slot_of, is_commissioned, heard_of}
 use Rattle.meter_slots.specs.World.{strangers_of, WorldView, world_of, Lands, fresh_slot, outcome_at, stepped_slot, has_slot, slot_after}
@@ -33,9 +33,9 @@ eqb_swap a b = grind (arith, nat_tests)
 -- ---- the slot of a meter after one more step
 
 abbrev has_number : ℕ → SlotView → Bool
-has_number n b = b.commission.address.0 == n
+has_number n b = b.start.address.0 == n
 
-pub journal_of-push : (c : Commissioned) (own : Address) (calls : List Call) (s : Call)
+pub journal_of-push : (c : Start) (own : Address) (calls : List Call) (s : Call)
     → journal_of c own (calls ++ s ∷ []) ≡ journal_of c own calls ++ record
     { source = s.source; line = s.line; event = s.event; outcome = outcome c own (reverse (journal_of c own calls)) s.event } ∷ []
 journal_of-push c own calls s =
@@ -45,26 +45,26 @@ journal_of-push c own calls s =
     ∙ ap (λ (e : List Entry). reverse before ++ record
     { source = s.source; line = s.line; event = s.event; outcome = outcome c own e s.event } ∷ []) (sym (reverse-reverse before))
 
-slot_cond : (b : Bool) (own : Address) (c : Commissioned) (steps : List Step) (s : Step)
-    → record { own = own; commission = c; journal = journal_of c own (map call_of (filter (is_for c.address) steps ++ cond b (s ∷ []) [])) }
+slot_cond : (b : Bool) (own : Address) (c : Start) (steps : List Step) (s : Step)
+    → record { own = own; start = c; journal = journal_of c own (map call_of (filter (is_for c.address) steps ++ cond b (s ∷ []) [])) }
     ≡ cond b (stepped_slot s (slot_of own steps c)) (slot_of own steps c)
 slot_cond true own c steps s =
-    ap (λ j. record { own = own; commission = c; journal = j })
+    ap (λ j. record { own = own; start = c; journal = j })
     (ap (journal_of c own) (map-append call_of (filter (is_for c.address) steps) (s ∷ [])) ∙ journal_of-push c own
     (calls_of c.address steps) (call_of s))
 slot_cond false own c steps s =
-    ap (λ xs. record { own = own; commission = c; journal = journal_of c own (map call_of xs) })
+    ap (λ xs. record { own = own; start = c; journal = journal_of c own (map call_of xs) })
     (append-nil (filter (is_for c.address) steps))
 
-slot_of-push : (own : Address) (c : Commissioned) (steps : List Step) (s : Step)
+slot_of-push : (own : Address) (c : Start) (steps : List Step) (s : Step)
     → slot_of own (steps ++ s ∷ []) c ≡ slot_after s (slot_of own steps c)
 slot_of-push own c steps s =
-    ap (λ xs. record { own = own; commission = c; journal = journal_of c own (map call_of xs) })
+    ap (λ xs. record { own = own; start = c; journal = journal_of c own (map call_of xs) })
     (filter-append (is_for c.address) steps (s ∷ []))
     ∙ slot_cond (is_for c.address s) own c steps s
     ∙ ap (λ b. cond b (stepped_slot s (slot_of own steps c)) (slot_of own steps c)) (eqb_swap s.address.0 c.address.0)
 
-slots-push : (own : Address) (cs : List Commissioned) (steps : List Step) (s : Step)
+slots-push : (own : Address) (cs : List Start) (steps : List Step) (s : Step)
     → map (slot_of own (steps ++ s ∷ [])) cs ≡ map (slot_after s) (map (slot_of own steps) cs)
 slots-push own [] steps s = refl
 slots-push own (c ∷ cs) steps s =
@@ -100,18 +100,18 @@ other_number : (x b s : ℕ) → (x == b) ≡ false → x ≡ s → (b == s) ≡
 other_number x b s h e = grind (arith, nat_tests)
 
 set_stepped : (bs : List SlotView) (place : ℕ) (s : Step) (d : SlotView) → AreApart (map address_of_slot bs) → place < length bs
-    → (get_or bs place d).commission.address.0 ≡ s.address.0
+    → (get_or bs place d).start.address.0 ≡ s.address.0
     → set bs place (stepped_slot s (get_or bs place d)) ≡ map (slot_after s) bs
 set_stepped [] place s d a h e = absurd (omega arith)
 set_stepped (b ∷ bs) zero s d a h e =
-    let lacks : Lacks s.address.0 bs = subst (λ n. Lacks n bs) e (sym (any-map b.commission.address.0 bs) ∙ a.0) in
+    let lacks : Lacks s.address.0 bs = subst (λ n. Lacks n bs) e (sym (any-map b.start.address.0 bs) ∙ a.0) in
     ap (λ bs'. stepped_slot s b ∷ bs') (sym (stepped_lacks s bs lacks))
-    ∙ ap (λ t. cond t (stepped_slot s b) b ∷ map (slot_after s) bs) (sym (same_number b.commission.address.0 s.address.0 e))
+    ∙ ap (λ t. cond t (stepped_slot s b) b ∷ map (slot_after s) bs) (sym (same_number b.start.address.0 s.address.0 e))
 set_stepped (b ∷ bs) (suc place) s d a h e =
-    let lacks : Lacks b.commission.address.0 bs = sym (any-map b.commission.address.0 bs) ∙ a.0 in
+    let lacks : Lacks b.start.address.0 bs = sym (any-map b.start.address.0 bs) ∙ a.0 in
     let differs =
-    other_number (get_or bs place d).commission.address.0 b.commission.address.0 s.address.0
-    (lacks_at b.commission.address.0 bs place d lacks (omega arith)) e in
+    other_number (get_or bs place d).start.address.0 b.start.address.0 s.address.0
+    (lacks_at b.start.address.0 bs place d lacks (omega arith)) e in
     ap (λ bs'. b ∷ bs') (set_stepped bs place s d a.1 (omega arith) e)
     ∙ ap (λ t. cond t (stepped_slot s b) b ∷ map (slot_after s) bs) (sym differs)
 
@@ -125,7 +125,7 @@ addresses_stay : (s : Step) (bs : List SlotView) → map address_of_slot (map (s
 addresses_stay s [] = refl
 addresses_stay s (b ∷ bs) =
     ap (λ a. a ∷ map address_of_slot (map (slot_after s) bs)) (stepped_address (has_number s.address.0 b) s b)
-    ∙ ap (λ xs. b.commission.address ∷ xs) (addresses_stay s bs)
+    ∙ ap (λ xs. b.start.address ∷ xs) (addresses_stay s bs)
 
 -- ---- the place that the directory gives
 
@@ -157,11 +157,11 @@ none_found bs directory n ordered h =
 
 pub found_at : (bs : List SlotView) (directory : List Address) (n place : ℕ) (d : SlotView) → IsOrdered bs directory
     → position (λ a. a.0 == n) directory ≡ Some place
-    → (place < length bs) × ((get_or bs place d).commission.address.0 ≡ n)
+    → (place < length bs) × ((get_or bs place d).start.address.0 ≡ n)
 found_at bs directory n place d ordered h =
     let found = position-Some (λ a. a.0 == n) directory place (address_of_slot d) h in
     let within : place < length bs = omega (arith, ap length ordered.places, length-map bs address_of_slot, found.0) in
-    let same : (get_or bs place d).commission.address.0 ≡ (get_or directory place (address_of_slot d)).0 =
+    let same : (get_or bs place d).start.address.0 ≡ (get_or directory place (address_of_slot d)).0 =
     ap (λ (a : Address). a.0) (sym (get_or-map address_of_slot bs place d) ∙ ap (λ xs. get_or xs place (address_of_slot d))
     (sym ordered.places)) in
     (within, same ∙ is_same (get_or directory place (address_of_slot d)).0 n found.1)
@@ -172,7 +172,7 @@ found_at bs directory n place d ordered h =
 -- ---- the order is kept
 
 pub ordered_step : (bs new : List SlotView) (directory : List Address) (place : ℕ) (s : Step) (d : SlotView) → IsOrdered bs directory
-    → place < length bs → (get_or bs place d).commission.address.0 ≡ s.address.0
+    → place < length bs → (get_or bs place d).start.address.0 ≡ s.address.0
     → new ≡ set bs place (stepped_slot s (get_or bs place d)) → IsOrdered new directory
 ordered_step bs new directory place s d ordered within same made =
     let apart : AreApart (map address_of_slot bs) = subst AreApart ordered.places ordered.apart in
@@ -182,32 +182,32 @@ ordered_step bs new directory place s d ordered within same made =
       apart = ordered.apart;
     }
 
-pub ordered_fresh : (own : Address) (cs : List Commissioned) → AreApart (map (λ c. c.address) cs)
+pub ordered_fresh : (own : Address) (cs : List Start) → AreApart (map (λ c. c.address) cs)
     → IsOrdered (map (fresh_slot own) cs) (map (λ c. c.address) cs)
 ordered_fresh own cs apart = record { places = same cs; apart = apart }
   where
-    same : (cs : List Commissioned) → map (λ c. c.address) cs ≡ map address_of_slot (map (fresh_slot own) cs)
+    same : (cs : List Start) → map (λ c. c.address) cs ≡ map address_of_slot (map (fresh_slot own) cs)
     same [] = refl
     same (c ∷ cs) = ap (λ xs. c.address ∷ xs) (same cs)
 
 -- ---- strangers
 
-any_slot : (n : ℕ) (own : Address) (cs : List Commissioned) (steps : List Step)
+any_slot : (n : ℕ) (own : Address) (cs : List Start) (steps : List Step)
     → list_any (has_number n) (map (slot_of own steps) cs) ≡ list_any (λ c. c.address.0 == n) cs
 any_slot n own [] steps = refl
 any_slot n own (c ∷ cs) steps = ap (λ t. (c.address.0 == n) || t) (any_slot n own cs steps)
 
-any_at : (n : ℕ) (bs : List SlotView) (place : ℕ) (d : SlotView) → place < length bs → (get_or bs place d).commission.address.0 ≡ n
+any_at : (n : ℕ) (bs : List SlotView) (place : ℕ) (d : SlotView) → place < length bs → (get_or bs place d).start.address.0 ≡ n
     → list_any (has_number n) bs ≡ true
 any_at n [] place d h e = absurd (omega arith)
-any_at n (b ∷ bs) zero d h e = ap (λ t. t || list_any (has_number n) bs) (same_number b.commission.address.0 n e)
+any_at n (b ∷ bs) zero d h e = ap (λ t. t || list_any (has_number n) bs) (same_number b.start.address.0 n e)
 any_at n (b ∷ bs) (suc place) d h e = ap (λ t. has_number n b || t) (any_at n bs place d (omega arith) e) ∙ or_true (has_number n b)
   where
     or_true : (x : Bool) → (x || true) ≡ true
     or_true true = refl
     or_true false = refl
 
-strangers-push : (cs : List Commissioned) (steps : List Step) (s : Step) (t : Bool) → is_commissioned cs s.address ≡ t
+strangers-push : (cs : List Start) (steps : List Step) (s : Step) (t : Bool) → is_commissioned cs s.address ≡ t
     → strangers_of cs (steps ++ s ∷ []) ≡ strangers_of cs steps ++ cond t [] (heard_of s ∷ [])
 strangers-push cs steps s t h =
     let strange : Step → Bool = λ x. not (is_commissioned cs x.address) in
@@ -221,7 +221,7 @@ strangers-push cs steps s t h =
 
 -- ---- a world after one more step
 
-pub world_fresh : (own : Address) (cs : List Commissioned) → record { slots = map (fresh_slot own) cs; strangers = [] } ≡ world_of own cs []
+pub world_fresh : (own : Address) (cs : List Start) → record { slots = map (fresh_slot own) cs; strangers = [] } ≡ world_of own cs []
 unfolding world_of
 world_fresh own cs = refl
 
@@ -232,7 +232,7 @@ after_strange s w h =
     ∙ ap (λ t. record { slots = map (slot_after s) w.slots; strangers = cond t w.strangers (w.strangers ++ heard_of s ∷ []) }) (sym h)
 
 pub after_own : (s : Step) (w : WorldView) (place : ℕ) (d : SlotView) → AreApart (map address_of_slot w.slots) → place < length w.slots
-    → (get_or w.slots place d).commission.address.0 ≡ s.address.0
+    → (get_or w.slots place d).start.address.0 ≡ s.address.0
     → record { slots = set w.slots place (stepped_slot s (get_or w.slots place d)); strangers = w.strangers } ≡ after_step w s
 after_own s w place d a h same =
     ap (λ bs. record { slots = bs; strangers = w.strangers }) (set_stepped w.slots place s d a h same)
@@ -240,7 +240,7 @@ after_own s w place d a h same =
     (sym (any_at s.address.0 w.slots place d h same))
 
 -- the world of some steps and one more is that of these steps after this one
-pub after_push : (own : Address) (cs : List Commissioned) (steps : List Step) (s : Step)
+pub after_push : (own : Address) (cs : List Start) (steps : List Step) (s : Step)
     → after_step (world_of own cs steps) s ≡ world_of own cs (steps ++ s ∷ [])
 unfolding world_of
 after_push own cs steps s =
@@ -259,34 +259,34 @@ after_push own cs steps s =
 
 -- ---- where a step lands
 
-pub landed_strange : (own : Address) (cs : List Commissioned) (steps : List Step) (s : Step) (w : WorldView) → w ≡ world_of own cs steps
+pub landed_strange : (own : Address) (cs : List Start) (steps : List Step) (s : Step) (w : WorldView) → w ≡ world_of own cs steps
     → Lacks s.address.0 w.slots → Lands own cs steps s Stranger
 unfolding world_of
 landed_strange own cs steps s w e h =
     sym (any_slot s.address.0 own cs steps) ∙ sym (ap (λ (v : WorldView). list_any (has_number s.address.0) v.slots) e) ∙ h
 
-landed_at : (own : Address) (cs : List Commissioned) (steps : List Step) (s : Step) (place : ℕ) (d : SlotView) (given : Outcome)
+landed_at : (own : Address) (cs : List Start) (steps : List Step) (s : Step) (place : ℕ) (d : SlotView) (given : Outcome)
     → place < length (map (slot_of own steps) cs)
-    → (get_or (map (slot_of own steps) cs) place d).commission.address.0 ≡ s.address.0
+    → (get_or (map (slot_of own steps) cs) place d).start.address.0 ≡ s.address.0
     → given ≡ outcome_at (get_or (map (slot_of own steps) cs) place d) s → Lands own cs steps s (Slot place given)
 landed_at own [] steps s place d given l a h = absurd (omega arith)
 landed_at own (c ∷ cs) steps s zero d given l a h = (c, refl, a, h)
 landed_at own (c ∷ cs) steps s (suc place) d given l a h = landed_at own cs steps s place d given (omega arith) a h
 
-pub landed_own : (own : Address) (cs : List Commissioned) (steps : List Step) (s : Step) (w : WorldView) (place : ℕ) (d : SlotView)
+pub landed_own : (own : Address) (cs : List Start) (steps : List Step) (s : Step) (w : WorldView) (place : ℕ) (d : SlotView)
     (given : Outcome)
     → w ≡ world_of own cs steps → place < length w.slots
-    → (get_or w.slots place d).commission.address.0 ≡ s.address.0 → given ≡ outcome_at (get_or w.slots place d) s
+    → (get_or w.slots place d).start.address.0 ≡ s.address.0 → given ≡ outcome_at (get_or w.slots place d) s
     → Lands own cs steps s (Slot place given)
 unfolding world_of
 landed_own own cs steps s w place d given e l a h =
     let P : List SlotView → Type 0 =
-    λ bs. place < length bs → (get_or bs place d).commission.address.0 ≡ s.address.0 → given ≡ outcome_at (get_or bs place d) s → Lands
+    λ bs. place < length bs → (get_or bs place d).start.address.0 ≡ s.address.0 → given ≡ outcome_at (get_or bs place d) s → Lands
     own cs steps s (Slot place given) in
     subst P (sym (ap (λ (v : WorldView). v.slots) e)) (landed_at own cs steps s place d given) l a h
 
 pub answered_own : (bs : List SlotView) (s : Step) (place : ℕ) (d : SlotView) (given : Outcome) → place < length bs
-    → (get_or bs place d).commission.address.0 ≡ s.address.0 → given ≡ outcome_at (get_or bs place d) s → AnsweredBy bs s (Slot place given)
+    → (get_or bs place d).start.address.0 ≡ s.address.0 → given ≡ outcome_at (get_or bs place d) s → AnsweredBy bs s (Slot place given)
 answered_own [] s place d given l a h = absurd (omega arith)
 answered_own (b ∷ bs) s zero d given l a h = (b, refl, a, h)
 answered_own (b ∷ bs) s (suc place) d given l a h = answered_own bs s place d given (omega arith) a h
@@ -295,7 +295,7 @@ pub stranger_strange : (bs : List SlotView) (s : Step) → Lacks s.address.0 bs 
 stranger_strange bs s h = (λ e. h, λ n. refl)
 
 pub stranger_own : (bs : List SlotView) (s : Step) (place : ℕ) (d : SlotView) (given : Outcome) → place < length bs
-    → (get_or bs place d).commission.address.0 ≡ s.address.0 → (Slot place given ≡ Stranger) ↔ (has_slot bs s ≡ false)
+    → (get_or bs place d).start.address.0 ≡ s.address.0 → (Slot place given ≡ Stranger) ↔ (has_slot bs s ≡ false)
 stranger_own bs s place d given l a =
     let found = any_at s.address.0 bs place d l a in
     (λ e. cc, λ n. absurd (differ (sym found ∙ n)))
@@ -308,19 +308,27 @@ abbrev pub some_slot : SlotView
 some_slot =
     record {
       own = record { 0 = 0 };
-      commission = record
-          { address = record { 0 = 0 }; mode = Seven; key = []; other = None; last = None; down = 0; ids = 0 };
+      start = record {
+        address = record { 0 = 0 };
+        mode = Seven;
+        key = [];
+        other = None;
+        last = None;
+        told = [];
+        orders = record { queue = record { ids = 0; commands = [] }; window = Idle; down = 0 };
+        reading = None;
+      };
       journal = [];
     }
 
 -- ---- every slot is legal
 
-slots_legal : (own : Address) (cs : List Commissioned) (steps : List Step) → All IsLegal (map (slot_of own steps) cs)
+slots_legal : (own : Address) (cs : List Start) (steps : List Step) → All IsLegal (map (slot_of own steps) cs)
 slots_legal own [] steps = All-nil IsLegal
 slots_legal own (c ∷ cs) steps =
     All-cons IsLegal (slot_of own steps c) (map (slot_of own steps) cs) (journal_of_legal c own (calls_of c.address steps))
     (slots_legal own cs steps)
 
-pub world_legal : (own : Address) (cs : List Commissioned) (steps : List Step) → All IsLegal (world_of own cs steps).slots
+pub world_legal : (own : Address) (cs : List Start) (steps : List Step) → All IsLegal (world_of own cs steps).slots
 unfolding world_of
 world_legal own cs steps = slots_legal own cs steps

@@ -1,7 +1,6 @@
 -- What a slot's journal means. Of a list of entries here the latest stands first, so that the tail of a list is what came before its head.
 use Rattle.std.specs.Prelude.{ℕ, ◌≡◌, max, Bool, List, [], ◌∷◌, ◌++◌, reverse, slice_index, Option, Some, None, option_to_list, option_map}
 use Rattle.std.specs.Prelude.{Result, Ok, Err}
-use Rattle.std.specs.List.{flat_map}
 use Rattle.std.specs.Result.{result_ok}
 use Rattle.meter_address.specs.declared.address.Address.{Address}
 use Rattle.meter_address.specs.declared.commission.Mode.{Mode}
@@ -34,6 +33,46 @@ use Rattle.downlink_maker.specs.Sent.{Sent}
 use Rattle.downlink_maker.specs.Downlink.{downlink}
 use Rattle.meter_slots.specs.declared.reading.Reading.{Reading}
 
+-- ---- what a slot begins with
+
+-- What is known of a meter when its slot is made: its address, mode and first key; the second key and the last number; what was told of
+-- fragments; the commands that wait, their window and the last counter of a downlink; and the last reading. A commission says all of it
+-- of a meter of which nothing was heard, and the end of a journal says it of one that was heard before.
+pub record Start : Type 0 where
+  pub address : Address
+  pub mode : Mode
+  pub key : List ℕ
+  pub other : Option (List ℕ)
+  pub last : Option ℕ
+  pub told : List Told
+  pub orders : Orders
+  pub reading : Option Reading
+
+-- the start of a commissioned meter: no fragment is held, no command waits, and nothing was read
+abbrev pub fresh_start : Commissioned → Start
+fresh_start c = record {
+  address = c.address;
+  mode = c.mode;
+  key = c.key;
+  other = c.other;
+  last = c.last;
+  told = [];
+  orders = fresh_orders c.ids c.down;
+  reading = None;
+}
+
+-- the commission in a start
+abbrev pub commission_of : Start → Commissioned
+commission_of c = record {
+  address = c.address;
+  mode = c.mode;
+  key = c.key;
+  other = c.other;
+  last = c.last;
+  down = c.orders.down;
+  ids = c.orders.queue.ids;
+}
+
 -- ---- fragments
 
 -- the counter that an outcome stored
@@ -63,8 +102,10 @@ told_by c (Put payload) outcome = []
 told_by c (Cancel id) outcome = []
 told_by c (Rekey key) outcome = []
 
-unfoldable pub told : Commissioned → List Entry → List Told
-told c earlier = flat_map (λ x. told_by c x.event x.outcome) earlier
+-- what was told before the first entry, and what the entries tell
+unfoldable pub told : Start → List Entry → List Told
+told c [] = c.told
+told c (x ∷ earlier) = told_by (commission_of c) x.event x.outcome ++ told c earlier
 
 -- ---- the second key
 
@@ -78,8 +119,8 @@ abbrev pub other_after : Mode → Event → Option (List ℕ) → Option (List �
 other_after mode (Rekey key) other = other_given mode key other
 other_after mode _ other = other
 
--- the second key after some entries: that of the latest rekeying, or the commission's where there is none
-abbrev pub other_key : Commissioned → List Entry → Option (List ℕ)
+-- the second key after some entries: that of the latest rekeying, or the one before all of them where there is none
+abbrev pub other_key : Start → List Entry → Option (List ℕ)
 other_key c [] = c.other
 other_key c (x ∷ earlier) = other_after c.mode x.event (other_key c earlier)
 
@@ -104,12 +145,12 @@ genuine_in c (Ok (Some m)) = result_ok (opened_in c.mode c m)
 genuine_in c _ = None
 
 -- what a telegram's message says, where it brings one that is checked (mode 5) or genuine (mode 7), under the keys that there are then
-abbrev pub genuine : Commissioned → List Entry → Event → Option Found
-genuine c earlier (Hear format at t) = genuine_in (rekeyed c (other_key c earlier)) (brought (told c earlier) t (received c.mode t))
+abbrev pub genuine : Start → List Entry → Event → Option Found
+genuine c earlier (Hear format at t) = genuine_in (rekeyed (commission_of c) (other_key c earlier)) (brought (told c earlier) t (received c.mode t))
 genuine c earlier _ = None
 
 -- the counters (mode 7) or access numbers (mode 5) of all genuine messages, stored or not
-abbrev pub counters : Commissioned → List Entry → List ℕ
+abbrev pub counters : Start → List Entry → List ℕ
 counters c [] = []
 counters c (x ∷ earlier) = option_to_list (option_map (λ f. f.counter) (genuine c earlier x.event)) ++ counters c earlier
 
@@ -132,8 +173,8 @@ abbrev pub last_among : Mode → List ℕ → Option ℕ
 last_among Five ns = latest ns
 last_among Seven ns = greatest ns
 
--- the last number; the commissioned one stands before all others
-unfoldable pub last_counter : Commissioned → List Entry → Option ℕ
+-- the last number; the one that was known before stands before all others
+unfoldable pub last_counter : Start → List Entry → Option ℕ
 last_counter c earlier = last_among c.mode (counters c earlier ++ option_to_list c.last)
 
 -- ---- verdicts
@@ -193,16 +234,16 @@ orders_after k access (Cancel id) outcome = after_cancel k id
 orders_after k access (Rekey key) outcome = k
 
 -- what some entries come to, and these commands
-abbrev pub standing_with : Commissioned → List Entry → Orders → Standing
+abbrev pub standing_with : Start → List Entry → Orders → Standing
 standing_with c earlier k = record { other = other_key c earlier; last = last_counter c earlier; told = told c earlier; orders = k }
 
 -- the commands that wait, the window, and the last counter of a downlink
-abbrev pub orders : Commissioned → List Entry → Orders
-orders c [] = fresh_orders c.ids c.down
-orders c (x ∷ earlier) = let k = orders c earlier in orders_after k (access_at c (standing_with c earlier k) x.event) x.event x.outcome
+abbrev pub orders : Start → List Entry → Orders
+orders c [] = c.orders
+orders c (x ∷ earlier) = let k = orders c earlier in orders_after k (access_at (commission_of c) (standing_with c earlier k) x.event) x.event x.outcome
 
 -- what some entries come to
-abbrev pub standing : Commissioned → List Entry → Standing
+abbrev pub standing : Start → List Entry → Standing
 standing c earlier = standing_with c earlier (orders c earlier)
 
 -- ---- outcomes
@@ -242,16 +283,16 @@ answer c own s (Cancel id) = cancelled id (take_answer id s.orders.queue)
 answer c own s (Rekey key) = key_answer c.mode
 
 -- what an event is answered after the earlier entries
-unfoldable pub outcome : Commissioned → Address → List Entry → Event → Outcome
-outcome c own earlier event = answer c own (standing c earlier) event
+unfoldable pub outcome : Start → Address → List Entry → Event → Outcome
+outcome c own earlier event = answer (commission_of c) own (standing c earlier) event
 
 -- each entry has the outcome that those before it give
-abbrev pub IsJudged : Commissioned → Address → List Entry → Type 0
+abbrev pub IsJudged : Start → Address → List Entry → Type 0
 IsJudged c own [] = Unit {0}
 IsJudged c own (x ∷ earlier) = (x.outcome ≡ outcome c own earlier x.event) × IsJudged c own earlier
 
--- a journal, oldest entry first, of a slot with this commission
-abbrev pub Legal : Commissioned → Address → List Entry → Type 0
+-- a journal, oldest entry first, of a slot that began so
+abbrev pub Legal : Start → Address → List Entry → Type 0
 Legal c own journal = IsJudged c own (reverse journal)
 
 -- ---- readings
@@ -274,16 +315,16 @@ abbrev pub reading_of : Event → Option Found → List Reading
 reading_of (Hear format at t) found = reading_at at found
 reading_of _ found = []
 
-abbrev pub readings_back : Commissioned → List Entry → List Reading
+abbrev pub readings_back : Start → List Entry → List Reading
 readings_back c [] = []
-readings_back c (x ∷ earlier) = readings_back c earlier ++ reading_of x.event (stored c (standing c earlier) x.event)
+readings_back c (x ∷ earlier) = readings_back c earlier ++ reading_of x.event (stored (commission_of c) (standing c earlier) x.event)
 
 -- the readings of a journal, the oldest first
-unfoldable pub readings : Commissioned → List Entry → List Reading
+unfoldable pub readings : Start → List Entry → List Reading
 readings c journal = readings_back c (reverse journal)
 
--- what contracts see of a slot: the collector's own address, the commission that it was made with, and its journal
+-- what contracts see of a slot: the collector's own address, what it began with, and its journal
 pub record SlotView : Type 0 where
   pub own : Address
-  pub commission : Commissioned
+  pub start : Start
   pub journal : List Entry

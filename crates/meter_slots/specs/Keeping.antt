@@ -22,9 +22,9 @@ use Rattle.message_check.specs.declared.headers.Layers.{Layers}
 use Rattle.message_check.specs.declared.opening.Opened.{Opened}
 use Rattle.message_check.specs.declared.refusal.Reason.{Reason}
 use Rattle.meter_slots.specs.Hearing.{Whole, content_behind, received, brought}
-use Rattle.meter_slots.specs.Journal.{Standing, Legal, opened_in, told_by_received, other_after, other_key, rekeyed, last_counter, told_by, told, access_at}
+use Rattle.meter_slots.specs.Journal.{Start, commission_of, Standing, Legal, opened_in, told_by_received, other_after, other_key, rekeyed, last_counter, told_by, told, access_at}
 use Rattle.meter_slots.specs.Journal.{orders_after, orders, judged, readings}
-use Rattle.meter_slots.specs.Laws.{PutsPayload}
+use Rattle.meter_slots.specs.Laws.{AreReady, PutsPayload}
 use Rattle.meter_slots.specs.declared.entry.Entry.{Entry}
 use Rattle.meter_slots.specs.declared.entry.Event.{Event}
 use Rattle.meter_slots.specs.declared.entry.Outcome.{Outcome}
@@ -83,10 +83,11 @@ abbrev pub standing_for : Kept → List Told → Standing
 standing_for k told = record { other = k.commission.other; last = k.last; told = told; orders = k.orders }
 
 -- what a slot keeps is what its journal comes to
-pub record Keeps (c : Commissioned) (own : Address) (journal : List Entry) (k : Kept) (kept : List Reading) : Type 0 where
+pub record Keeps (c : Start) (own : Address) (journal : List Entry) (k : Kept) (kept : List Reading) : Type 0 where
   pub legal : Legal c own journal
   pub payloads : All (λ x. PutsPayload x.event) journal
-  pub commission_is : k.commission ≡ rekeyed c (other_key c (reverse journal))
+  pub ready : AreReady c.orders
+  pub commission_is : k.commission ≡ rekeyed (commission_of c) (other_key c (reverse journal))
   pub last_is : k.last ≡ last_counter c (reverse journal)
   pub last_fits : ForSome k.last (λ n. n ≤ most_last c.mode)
   pub parts_are : StandsFor k.parts (told c (reverse journal))

@@ -5,6 +5,8 @@ use Rattle.std.specs.List.{All, flat_map}
 use Rattle.meter_address.specs.declared.address.Address.{Address}
 use Rattle.meter_address.specs.Commission.{Commissioned}
 use Rattle.message_check.specs.Opening.{Found}
+use Rattle.command_queue.specs.declared.command.Command.{Command}
+use Rattle.access_window.specs.Orders.{Orders}
 use Rattle.downlink_maker.specs.Sent.{Sent}
 use Rattle.downlink_maker.specs.Downlink.{downlink}
 use Rattle.meter_slots.specs.declared.entry.Entry.{Entry}
@@ -13,7 +15,7 @@ use Rattle.meter_slots.specs.declared.entry.Event.TheVariants.{Hear, Put, Rekey}
 use Rattle.meter_slots.specs.declared.entry.Outcome.{Outcome}
 use Rattle.meter_slots.specs.declared.entry.Outcome.TheVariants.{Stored, Refused}
 use Rattle.meter_slots.specs.declared.reading.Reading.{Reading}
-use Rattle.meter_slots.specs.Journal.{SlotView, Legal, stored_counter, other_key, last_counter, orders, reading_of, readings}
+use Rattle.meter_slots.specs.Journal.{Start, SlotView, Legal, stored_counter, other_key, last_counter, orders, reading_of, readings}
 use Rattle.meter_slots.specs.World.{Call}
 
 -- the stored counters of a journal
@@ -62,6 +64,13 @@ pub record IsPayload (payload : List ℕ) : Type 0 where
   pub most : length payload ≤ 94
   pub bytes : All (λ b. b < 256) payload
 
+abbrev pub HasPayload : Command → Type 0
+HasPayload command = IsPayload command.payload
+
+-- each command that waits has a payload
+abbrev pub AreReady : Orders → Type 0
+AreReady k = All HasPayload k.queue.commands
+
 -- a command that is put has a payload
 abbrev pub PutsPayload : Event → Type 0
 PutsPayload (Put payload) = IsPayload payload
@@ -89,8 +98,8 @@ abbrev pub last_or : Option ℕ → List ℕ → Option ℕ
 last_or floor [] = floor
 last_or floor (n ∷ ns) = last_or (Some n) ns
 
--- the counter of the message that a journal stored last, or the commission's where it stored none
-abbrev pub last_stored : Commissioned → List Entry → Option ℕ
+-- the counter of the message that a journal stored last, or the one that was known before where it stored none
+abbrev pub last_stored : Start → List Entry → Option ℕ
 last_stored c journal = last_or c.last (stored_counters journal)
 
 -- each number is above the one before it, and the first one is above the floor
@@ -109,15 +118,15 @@ IsRefused _ = ⊥
 
 -- the second key, the last counter, the commands with their window, and the readings are as they were
 pub record IsLeft (old new : SlotView) : Type 0 where
-  pub other : other_key new.commission (reverse new.journal) ≡ other_key old.commission (reverse old.journal)
-  pub last : last_counter new.commission (reverse new.journal) ≡ last_counter old.commission (reverse old.journal)
-  pub orders : orders new.commission (reverse new.journal) ≡ orders old.commission (reverse old.journal)
-  pub readings : readings new.commission new.journal ≡ readings old.commission old.journal
+  pub other : other_key new.start (reverse new.journal) ≡ other_key old.start (reverse old.journal)
+  pub last : last_counter new.start (reverse new.journal) ≡ last_counter old.start (reverse old.journal)
+  pub orders : orders new.start (reverse new.journal) ≡ orders old.start (reverse old.journal)
+  pub readings : readings new.start new.journal ≡ readings old.start old.journal
 
 -- what was asked of a slot, without the answer
 abbrev pub call_in : Entry → Call
 call_in x = record { source = x.source; line = x.line; event = x.event }
 
--- the journal of a slot is legal for the commission that it was made with
+-- the journal of a slot is legal for what it began with
 abbrev pub IsLegal : SlotView → Type 0
-IsLegal slot = Legal slot.commission slot.own slot.journal
+IsLegal slot = Legal slot.start slot.own slot.journal

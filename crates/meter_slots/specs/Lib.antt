@@ -4,6 +4,8 @@ pub mod Journal
 pub mod Keeping
 pub mod Laws
 pub mod Passing
+pub mod Restoring
+pub mod Resuming
 pub mod Sending
 pub mod Telling
 pub mod World

@@ -1,14 +1,15 @@
 //! The commands of a meter: the queue, the window, and the counter of the downlinks.
-ghost use Rattle.std.specs.Prelude.{◌≡◌, Option, IfSome, is_some, option_map};
+ghost use Rattle.std.specs.Prelude.{◌≡◌, ◌≤◌, Option, IfSome, is_some, option_map, length, slice_get, All};
 ghost use Rattle.command_queue.specs.declared.command.Command.{Command};
 ghost use Rattle.access_window.specs.Orders.{IsOldestAfterTry};
 ghost use Rattle.meter_slots.specs.Journal.{downlink_with};
+ghost use Rattle.meter_slots.specs.Laws.{IsPayload, HasPayload, AreReady};
 
 use crate::entry::Outcome;
 use crate::hearing::Judged;
 use crate::sent::SentDownlink;
 use access_window::Window;
-use command_queue::{Queue, QueueFault};
+use command_queue::{Command, Queue, QueueFault};
 use downlink_maker::{Downlink, make_downlink};
 use message_check::Reason;
 use meter_address::{Address, Commission, Payload};
@@ -51,14 +52,43 @@ fn downlink_now(
     Some(make_downlink(own, commission, oldest.id, down, &oldest.payload))
 }
 
+// What a command shows of its payload.
+fn show_payload(bytes: &[u8])
+    requires least { 1 ≤ length bytes.now }
+    requires most { length bytes.now ≤ 94 }
+    ensures { IsPayload bytes.now }
+{
+    let (_front, _rest) = bytes.split_at(0);
+}
+
+// What the command at a place shows of its payload.
+fn show_payload_at(queue: &Queue, place: usize)
+    ensures { IfSome (slice_get queue.now.commands place) HasPayload }
+{
+    if let Some(command) = queue.at(place) {
+        show_payload(command.payload.bytes());
+    }
+}
+
+// The payloads of the commands of a queue are payloads.
+fn show_payloads(queue: &Queue)
+    ensures { All HasPayload queue.now.commands }
+{
+    for place in 0..queue.pending() {
+        show_payload_at(queue, place);
+    }
+}
+
 impl Commands {
     ghost use Rattle.std.specs.Prelude.{◌≡◌, ℕ, List, option_map, vec_capacity};
-    ghost use Rattle.command_queue.specs.Pending.{put_answer, take_answer};
-    ghost use Rattle.access_window.specs.Orders.{after_put, after_cancel, expired, after_tick};
+    ghost use Rattle.command_queue.specs.Pending.{IsSound, put_answer, take_answer};
+    ghost use Rattle.access_window.specs.Orders.{Agrees, after_put, after_cancel, expired, after_tick};
     ghost use Rattle.access_window.specs.Moves.{fresh_orders};
     ghost use Rattle.meter_slots.specs.Journal.{heard, queued, cancelled, orders_heard, stored_counter};
     ghost use Rattle.meter_slots.specs.Keeping.{verdict_as, stored_by};
     ghost use Rattle.meter_slots.specs.Sending.{IsRoom};
+    ghost use Rattle.meter_slots.specs.Restoring.{window_fits, may_restore, restored};
+    ghost use Rattle.command_queue.specs.declared.command.Command.{Command};
 
     // No command waits yet.
     pub(crate) fn new(ids: u32, down: u32) -> Commands
@@ -69,6 +99,50 @@ impl Commands {
             window: Window::Idle,
             down,
         }
+    }
+
+    // Whether the window may wait for a command behind those that wait, or not.
+    fn window_fits(&self, tries: u8, waits: bool) -> bool
+        ensures { (c : Command) → c.tries ≡ tries → result ≡ window_fits self.now.queue.commands c waits }
+    {
+        match self.queue.at(0) {
+            Some(_) => !waits,
+            None => { if waits { 1 <= tries } else { tries < 3 } }
+        }
+    }
+
+    // A command that waited before, for which the window waits or not. Where it may not stand behind the others nothing changes.
+    #[tactic(auto, unfolding(crate::specs::Restoring::may_restore, crate::specs::Restoring::restored, command_queue::specs::Pending::with_follower))]
+    pub(crate) fn restore(&mut self, command: Command, waits: bool) -> bool
+        ensures answer { result ≡ may_restore self.old command waits }
+        ensures after { self.new ≡ restored self.old command waits }
+    {
+        let id = command.id;
+        if !self.window_fits(command.tries, waits) {
+            return false;
+        }
+        if !self.queue.restore(command) {
+            return false;
+        }
+        if waits {
+            self.window = Window::Waiting(id);
+        }
+        true
+    }
+
+    // Each command that waits has 1 to 94 bytes. Nothing is done: the journal's proof needs it.
+    pub(crate) fn show_payloads(&self)
+        ensures { AreReady self.now }
+    {
+        show_payloads(&self.queue);
+    }
+
+    // Nothing is done: what is written needs it.
+    pub(crate) fn show(&self)
+        ensures agrees { Agrees self.now.window self.now.queue }
+        ensures sound { IsSound self.now.queue }
+    {
+        let _ = self.queue.pending();
     }
 
     pub(crate) fn queue(&self) -> &Queue

@@ -1,9 +1,9 @@
 //! The fragments that a slot holds.
-ghost use Rattle.std.specs.Prelude.{◌≡◌, ◌∷◌, List, IfOk};
-ghost use Rattle.afl_fragments.specs.Held.{Told, Tick, StandsFor, held_bytes};
+ghost use Rattle.std.specs.Prelude.{◌≡◌, ◌≤◌, ◌∷◌, List, IfOk, IfSome, OnOk, OnErr, length, slice_get, option_copied};
+ghost use Rattle.afl_fragments.specs.Held.{Told, Piece, Tick, StandsFor, held_bytes};
 ghost use Rattle.meter_slots.specs.Keeping.{held_by, Admits};
 
-use afl_fragments::Parts;
+use afl_fragments::{HeldPart, Part, Parts};
 use message_check::{Layers, Reason};
 use outer_io::Memory;
 use std::alloc::Global;
@@ -46,5 +46,46 @@ pub(crate) fn tick(fragments: &mut Fragments)
     match fragments {
         None => {}
         Some(parts) => parts.tick(),
+    }
+}
+
+/// Holds a fragment.
+pub(crate) fn hold(alloc: Global, fragments: &mut Fragments, part: Part) -> Result<(), Memory>
+    ensures ok { OnOk result ((told : List Told) → StandsFor (held_by fragments.old) told
+        → StandsFor (held_by fragments.new) (Piece part ∷ told)) }
+    ensures err { OnErr result (held_by fragments.new ≡ held_by fragments.old) }
+{
+    match fragments {
+        Some(parts) => {
+            parts.hold(part);
+        }
+        None => {
+            let mut parts = Box::new(alloc, Parts::new())?;
+            parts.hold(part);
+            *fragments = Some(parts);
+        }
+    }
+    Ok(())
+}
+
+/// How many fragments are held.
+pub(crate) fn part_count(fragments: &Fragments) -> usize
+    ensures count { result ≡ length (held_by fragments.now) }
+    ensures few { length (held_by fragments.now) ≤ 16 }
+{
+    match fragments {
+        None => 0,
+        Some(parts) => parts.count(),
+    }
+}
+
+/// The fragment at a place, of which the one heard last has the first.
+pub(crate) fn part_at(fragments: &Fragments, place: usize) -> Option<&HeldPart>
+    ensures held { option_copied result ≡ slice_get (held_by fragments.now) place }
+    ensures counted { IfSome result (λ h. h.now.part.afl.fid ≤ 16) }
+{
+    match fragments {
+        None => None,
+        Some(parts) => parts.at(place),
     }
 }

@@ -1,18 +1,20 @@
 //! The slot of a meter that keeps no journal.
 use crate::entry::Event;
 use crate::standing::{Served, Standing};
+use crate::start::MeterStart;
 use command_queue::Queue;
 use meter_address::{Address, Commission};
 use outer_io::Memory;
 use std::alloc::Global;
 use std::marker::Model;
+use std::snapshot::Snapshot;
 
 /// The slot of a meter that keeps no journal: what a step answers is told to the caller alone.
 #[derive(Drop)]
 pub struct PassingSlot {
     alloc: Global,
     own: Address,
-    opening: Commission,
+    start: Snapshot<MeterStart>,
     standing: Standing,
 }
 
@@ -21,40 +23,51 @@ impl Model for PassingSlot {
 
     ghost Value = { Passing };
 
-    ghost view = { λ s. record { own = s.own; commission = s.opening; kept = s.standing } };
+    ghost view = { λ s. record { own = s.own; start = s.start.value; kept = s.standing } };
 }
 
 impl PassingSlot {
     ghost use Rattle.std.specs.Prelude.{◌≡◌, ℕ, List, [], ◌∷◌, ◌++◌, reverse, option_to_list, IfOk, OnErr};
     ghost use Rattle.meter_slots.specs.declared.entry.Entry.{Entry};
-    ghost use Rattle.meter_slots.specs.Journal.{outcome, readings};
+    ghost use Rattle.meter_slots.specs.Journal.{fresh_start, outcome, readings};
     ghost use Rattle.meter_slots.specs.Passing.{IsAfter};
 
     /// A slot to which nothing came yet.
     pub fn new(alloc: Global, own: Address, commission: Commission) -> PassingSlot
         ensures own { result.own ≡ own }
-        ensures commission { result.commission ≡ commission }
+        ensures start { result.start ≡ fresh_start commission }
         ensures after { IsAfter [] result }
     {
+        PassingSlot::resume(alloc, own, MeterStart::new(commission))
+    }
+
+    /// A slot that begins with what is known of its meter.
+    pub fn resume(alloc: Global, own: Address, start: MeterStart) -> PassingSlot
+        ensures own { result.own ≡ own }
+        ensures start { result.start ≡ start }
+        ensures after { IsAfter [] result }
+    {
+        let begun = Snapshot::of(&start);
+        let (standing, _before) = Standing::new(alloc, start);
         PassingSlot {
             alloc,
             own,
-            opening: commission,
-            standing: Standing::new(alloc, commission),
+            start: begun,
+            standing,
         }
     }
 
     /// One step: what an event is answered, and the reading that is stored with it. For want of memory nothing changes.
     pub fn step(&mut self, event: &Event) -> Result<Served, Memory>
-        ensures same { (self.new.own ≡ self.old.own) × (self.new.commission ≡ self.old.commission) }
+        ensures same { (self.new.own ≡ self.old.own) × (self.new.start ≡ self.old.start) }
         ensures outcome { IfOk result (λ served. (journal : List Entry) → IsAfter journal self.old
-            → served.outcome ≡ outcome self.old.commission self.old.own (reverse journal) event.now) }
+            → served.outcome ≡ outcome self.old.start self.old.own (reverse journal) event.now) }
         ensures after { IfOk result (λ served. (journal : List Entry) (source line : ℕ) → IsAfter journal self.old
             → IsAfter (journal ++ record { source = source; line = line; event = event.now; outcome = served.outcome } ∷ []) self.new) }
         ensures reading { IfOk result (λ served. (journal : List Entry) (source line : ℕ) → IsAfter journal self.old
-            → readings self.old.commission
+            → readings self.old.start
             (journal ++ record { source = source; line = line; event = event.now; outcome = served.outcome } ∷ [])
-            ≡ readings self.old.commission journal ++ option_to_list served.reading) }
+            ≡ readings self.old.start journal ++ option_to_list served.reading) }
         ensures err { OnErr result (self.new ≡ self.old) }
     {
         event.show_payload();

@@ -8,25 +8,28 @@ const INLINE: usize = 32;
 /// Room for bytes that are to be kept.
 pub(crate) type Room = SmallVec<u8, INLINE>;
 
-/// Bytes that are kept.
+/// Bytes that are kept, at most 4,096: a message has no more.
 #[derive(Drop)]
 pub struct Bytes {
     bytes: Room,
 }
 
 impl Model for Bytes {
-    ghost use Rattle.std.specs.Prelude.{ℕ, List};
+    ghost use Rattle.std.specs.Prelude.{ℕ, ◌≤◌, List, length};
 
     ghost Value = { List ℕ };
 
     ghost view = { λ b. b.bytes.items };
+
+    ghost invariant = { λ b. length b.bytes.items ≤ 4096 };
 }
 
 impl Bytes {
-    ghost use Rattle.std.specs.Prelude.{◌≡◌};
+    ghost use Rattle.std.specs.Prelude.{◌≡◌, ◌≤◌, length};
 
     // These bytes, kept.
     pub(crate) fn from_room(bytes: Room) -> Bytes
+        requires { length bytes.items ≤ 4096 }
         ensures { result ≡ bytes.items }
     {
         Bytes { bytes }
@@ -34,7 +37,8 @@ impl Bytes {
 
     /// The bytes.
     pub fn bytes(&self) -> &[u8]
-        ensures { result.now ≡ self.now }
+        ensures bytes { result.now ≡ self.now }
+        ensures most { length self.now ≤ 4096 }
     {
         self.bytes.as_slice()
     }

@@ -13,6 +13,7 @@ use crate::judge::{Judge, Verdict};
 use crate::reading::{Bytes, Reading, Room};
 use crate::repeated::LastWhole;
 use crate::sent::take_room;
+use crate::start::MeterStart;
 use access_window::Window;
 use afl_layer::{SCRATCH_MAX, Scratch};
 use command_queue::Queue;
@@ -85,7 +86,7 @@ fn take_buffer(alloc: Global, kept: &mut Option<Box<Scratch>>) -> Result<Box<Scr
 }
 
 // The bytes, in room that was taken before.
-fn fill(mut room: Room, bytes: &[u8]) -> Room
+pub(crate) fn fill(mut room: Room, bytes: &[u8]) -> Room
     requires empty { room.items ≡ [] }
     requires fits { HasRoomFor room (length bytes.now) }
     ensures { result.items ≡ bytes.now }
@@ -126,29 +127,67 @@ impl Standing {
     ghost use Rattle.std.specs.Prelude.{◌≡◌, ◌≤◌, ◌++◌, List, option_to_list, IfOk, IfSome, OnErr};
     ghost use Rattle.std.specs.Option.{ForSome};
     ghost use Rattle.meter_address.specs.Commission.{most_last};
-    ghost use Rattle.access_window.specs.Moves.{fresh_orders};
     ghost use Rattle.afl_fragments.specs.Held.{Told, StandsFor};
+    ghost use Rattle.afl_fragments.specs.Short.{cut_down};
     ghost use Rattle.meter_slots.specs.declared.entry.Event.TheVariants.{Hear};
     ghost use Rattle.frame_formats.specs.declared.format.Format.{Format};
-    ghost use Rattle.meter_slots.specs.Journal.{told_by, access_at, key_answer, other_given, rekeyed};
+    ghost use Rattle.meter_slots.specs.Journal.{commission_of, told_by, access_at, key_answer, other_given, rekeyed};
+    ghost use Rattle.meter_slots.specs.Laws.{AreReady};
     ghost use Rattle.meter_slots.specs.Journal.{orders_after, answer, stored, reading_of};
     ghost use Rattle.meter_slots.specs.Keeping.{standing_for, last_after, Moves, StoresInRange, IsRefusedAlone};
 
-    /// Nothing came yet.
-    pub(crate) fn new(alloc: Global, commission: Commission) -> Standing
-        ensures commission { result.commission ≡ commission }
-        ensures last { result.last ≡ commission.last }
-        ensures fits { ForSome commission.last (λ n. n ≤ most_last commission.mode) }
-        ensures parts { StandsFor result.parts [] }
-        ensures orders { result.orders ≡ fresh_orders commission.ids commission.down }
+    /// What is known before the first entry, and the last reading.
+    pub(crate) fn new(alloc: Global, start: MeterStart) -> (Standing, Option<Reading>)
+        ensures commission { result.0.commission ≡ commission_of start }
+        ensures last { result.0.last ≡ start.last }
+        ensures fits { ForSome start.last (λ n. n ≤ most_last start.mode) }
+        ensures parts { StandsFor result.0.parts start.told }
+        ensures orders { result.0.orders ≡ start.orders }
+        ensures ready { AreReady start.orders }
+        ensures reading { result.1 ≡ start.reading }
     {
-        Standing {
+        start.show_commands();
+        let MeterStart {
+            mut commission,
+            parts,
+            commands,
+            reading,
+        } = start;
+        commission.down = commands.down();
+        commission.ids = commands.queue().ids();
+        let standing = Standing {
             judge: Judge::new(commission),
-            parts: None,
-            commands: Commands::new(commission.ids, commission.down),
+            parts,
+            commands,
             message: None,
             room: Vec::new(alloc),
             heard: LastWhole::none(),
+        };
+        (standing, reading)
+    }
+
+    /// What is known behind the last entry, with this last reading.
+    pub(crate) fn end(self, reading: Option<Reading>) -> MeterStart
+        requires held { (told : List Told) × StandsFor self.parts told }
+        requires fits { ForSome self.last (λ n. n ≤ most_last self.commission.mode) }
+        ensures told { (told : List Told) → StandsFor self.parts told → result.told ≡ cut_down told }
+        ensures commission { commission_of result ≡ record self.commission { last = self.last; down = self.orders.down; ids = self.orders.queue.ids } }
+        ensures orders { result.orders ≡ self.orders }
+        ensures reading { result.reading ≡ reading }
+    {
+        let Standing {
+            judge,
+            commands,
+            parts,
+            ..
+        } = self;
+        let mut commission = *judge.commission();
+        commission.last = judge.last();
+        MeterStart {
+            commission,
+            parts,
+            commands,
+            reading,
         }
     }
 

@@ -1,7 +1,7 @@
 //! All slots, and the strangers that none of them is for.
 ghost use Rattle.std.specs.Prelude.{◌≡◌, ◌<◌, List, map, length, vec_len, IfOk, OnErr, slice_index_or, slice_set, reverse};
 ghost use Rattle.meter_address.specs.declared.address.Address.{Address};
-ghost use Rattle.meter_slots.specs.Journal.{SlotView};
+ghost use Rattle.meter_slots.specs.Journal.{SlotView, fresh_start};
 ghost use Rattle.meter_slots.specs.World.{fresh_slot, outcome_at, stepped_slot};
 
 use crate::book::SlotBook;
@@ -38,7 +38,7 @@ fn fresh_slots(
     own: Address,
     commissions: &[Commission],
 ) -> Result<Vec<SlotBook>, Memory>
-    ensures { IfOk result (λ slots. slots.items ≡ map (fresh_slot own) commissions.now) }
+    ensures { IfOk result (λ slots. slots.items ≡ map (λ c. fresh_slot own (fresh_start c)) commissions.now) }
 {
     let slots = commissions
         .iter()
@@ -69,7 +69,7 @@ fn step_at(slots: &mut Vec<SlotBook>, place: usize, step: Step) -> Result<Outcom
 
 impl World {
     ghost use Rattle.std.specs.Prelude.{◌≡◌, ◌↔◌, ◌<◌, ◌^◌, false, [], ◌∷◌, ◌++◌, List, map, length, slice_get, option_copied, IfOk, OnErr};
-    ghost use Rattle.meter_address.specs.Commission.{Commissioned};
+    ghost use Rattle.meter_slots.specs.Journal.{Start, fresh_start};
     ghost use Rattle.meter_slots.specs.Directory.{AreApart};
     ghost use Rattle.meter_slots.specs.declared.step.Step.{Step};
     ghost use Rattle.meter_slots.specs.World.{world_of, Lands, has_slot, after_step, AnsweredBy};
@@ -78,7 +78,7 @@ impl World {
     pub fn new(alloc: Global, own: Address, commissions: Vec<Commission>) -> Result<World, Memory>
         requires apart { AreApart (map (λ c. c.address) commissions.items) }
         requires few { length commissions.items < 2 ^ 32 }
-        ensures { IfOk result (λ world. world ≡ world_of own commissions.items []) }
+        ensures { IfOk result (λ world. world ≡ world_of own (map fresh_start commissions.items) []) }
     {
         let addresses = addresses_of(alloc, commissions.as_slice())?;
         Ok(World {
@@ -96,9 +96,9 @@ impl World {
         ensures slot { IfOk result (λ landed. AnsweredBy self.old.slots step landed) }
 
         // A world that stands for some steps then stands for these and this one.
-        ensures ok { IfOk result (λ _. (own : Address) (commissions : List Commissioned) (steps : List Step)
+        ensures ok { IfOk result (λ _. (own : Address) (commissions : List Start) (steps : List Step)
             → self.old ≡ world_of own commissions steps → self.new ≡ world_of own commissions (steps ++ step ∷ [])) }
-        ensures landed { IfOk result (λ landed. (own : Address) (commissions : List Commissioned) (steps : List Step)
+        ensures landed { IfOk result (λ landed. (own : Address) (commissions : List Start) (steps : List Step)
             → self.old ≡ world_of own commissions steps → Lands own commissions steps step landed) }
         ensures err { OnErr result (self.new ≡ self.old) }
     {

@@ -3,15 +3,14 @@ use Rattle.std.proofs.Common.{◌≡◌, ℕ, zero, suc, ◌+◌, ◌<◌, ◌�
 use Rattle.std.specs.List.{enumerate_from}
 use Rattle.std.proofs.Math.ListN.{get_or-append}
 use Rattle.std.proofs.Math.Seq.{get_or-append_seam}
-use Rattle.std.proofs.lemmas.List.{map-append}
+use Rattle.std.proofs.lemmas.List.{map-append, take_more}
 use mathlib.Core.Logic.{dite}
 use native.Mathlib.Decide.{ℕ_discrete}
 use Rattle.meter_address.specs.declared.address.Address.{Address}
-use Rattle.meter_address.specs.Commission.{Commissioned}
 use Rattle.meter_slots.specs.declared.entry.Event.{Event}
 use Rattle.meter_slots.specs.declared.entry.Outcome.{Outcome}
 use Rattle.meter_slots.specs.Directory.{AreApart}
-use Rattle.meter_slots.specs.Journal.{SlotView}
+use Rattle.meter_slots.specs.Journal.{Start, SlotView}
 use Rattle.slot_cells.specs.Acts.{Shown, CellShown, Each, IsPassOf, IsFirstPass, acts_by, made_by, mine}
 use Rattle.slot_cells.specs.Books.{Opening, opening_of, act_of, note_of, IsLegalJournal}
 use Rattle.receivers.specs.Classes.{own_lines}
@@ -28,6 +27,13 @@ use Rattle.receivers.specs.Collected.{address_of, heard_in, did_from, entries_at
 use Rattle.receivers.proofs.SessionLines.{meters_part, entries_made, notes_made}
 use Rattle.receivers.proofs.Sessions.{IsJoinedRoot, parts_of, asked_by, run_parts, run_are_parts, run_root, run_stranger}
 
+-- one more of what is made of a list
+pub mapped_more : {A B : Type 0} (f : A → B) (xs : List A) (i : ℕ) (d : A) (ys : List B) (y : B) → i < length xs → ys ≡ map f (take i xs)
+    → y ≡ f (get_or xs i d) → ys ++ y ∷ [] ≡ map f (take (i + 1) xs)
+mapped_more f xs i d ys y inside so one =
+    ap (λ t. t ++ y ∷ []) so ∙ (ap (λ z. map f (take i xs) ++ z ∷ []) one
+    ∙ (sym (map-append f (take i xs) (get_or xs i d ∷ [])) ∙ ap (map f) (sym (take_more xs i d inside))))
+
 -- ---- making the cells
 
 seam : {X : Type 0} (xs : List X) (y : X) (k : ℕ) (d : X) → k ≡ length xs → get_or (xs ++ y ∷ []) k d ≡ y
@@ -42,7 +48,7 @@ module _ (own : Address) where
         λ k d l. absurd (omega arith);
   }
 
-  pub fresh_more : (commissions : List Commissioned) (c : Commissioned) (cells cells' : List (CellShown SlotView))
+  pub fresh_more : (commissions : List Start) (c : Start) (cells cells' : List (CellShown SlotView))
       (roots roots' : List (Shown SlotView Event Outcome)) (x : CellShown SlotView) (p : Shown SlotView Event Outcome)
       → AreFresh own commissions cells roots → opening_of x.opening ≡ opening own c → IsPassOf x p → IsFirstPass 0 p
       → cells' ≡ cells ++ x ∷ [] → roots' ≡ roots ++ p ∷ [] → AreFresh own (commissions ++ c ∷ []) cells' roots'
@@ -77,7 +83,7 @@ new_root n p h =
           subst (Each (λ (k : ℕ). (n < k) × (k ≤ n))) (sym h.handed) tt;
     }
 
-pub fresh_roots : {P : Type 0} (own : Address) (commissions : List Commissioned) (cells : List (CellShown SlotView))
+pub fresh_roots : {P : Type 0} (own : Address) (commissions : List Start) (cells : List (CellShown SlotView))
     (roots : List (Shown SlotView Event Outcome)) (strangers : CellShown P) (n : ℕ) (s : Shown P Address Unit)
     → AreFresh own commissions cells roots → IsPassOf strangers s → IsFirstPass 0 s → AreRoots cells strangers n n roots s
 fresh_roots own commissions cells roots strangers n s h of new =
@@ -105,7 +111,7 @@ module _ (own : Address) (all_addresses : List Address) (ps : List Part) (apart 
   abbrev Left : List (CellShown SlotView) → List (Shown SlotView Event Outcome) → List SlotView → Type 0
   Left = AreLeft opening_of (λ (b : SlotView). map act_of b.journal) IsLegalJournal
 
-  pub meters_from : (k : ℕ) (front : List Address) (cs : List Commissioned) (cells : List (CellShown SlotView))
+  pub meters_from : (k : ℕ) (front : List Address) (cs : List Start) (cells : List (CellShown SlotView))
       (roots : List (Shown SlotView Event Outcome)) (books : List SlotView) → all_addresses ≡ front ++ map address_of cs → length front ≡ k
       → map (λ (c : CellShown SlotView). opening_of c.opening) cells ≡ map (opening own) cs → Left cells roots books
       → ((i : ℕ) (c : CellShown SlotView) (d : Shown SlotView Event Outcome) → i < length cells
@@ -195,7 +201,7 @@ module _ {P : Type 0} (cells : List (CellShown SlotView)) (strangers : CellShown
   each_run directory (r ∷ rs) (c ∷ cs) (c' ∷ cs') h = (h.0.worked.ran, each_run directory rs cs cs' h.1)
   each_run directory _ _ _ h = absurd h
 
-  pub collected : (own : Address) (commissions : List Commissioned) (runs : List ReceiverRun) (roots : List (Shown SlotView Event Outcome))
+  pub collected : (own : Address) (commissions : List Start) (runs : List ReceiverRun) (roots : List (Shown SlotView Event Outcome))
       (s : Shown P Address Unit) (books : List SlotView) (heard : List Heard)
       → AreApart (map address_of commissions) → map (λ (c : CellShown SlotView). opening_of c.opening) cells ≡ map (opening own) commissions
       → HaveRunOn (map address_of commissions) cells strangers runs roots s

@@ -1,8 +1,8 @@
 -- From the runs of a session to the lines that were taken.
 use Rattle.std.proofs.Common.{◌≡◌, List, [], ◌∷◌, map, refl, subst}
 use Rattle.outer_io.specs.Each.{Each, EachWith}
+use Rattle.meter_slots.specs.Journal.{Start}
 use Rattle.meter_address.specs.declared.address.Address.{Address}
-use Rattle.meter_address.specs.Commission.{Commissioned}
 use Rattle.meter_slots.specs.World.{WorldView}
 use Rattle.receivers.specs.Classes.{counts_of}
 use Rattle.receivers.specs.Collected.{address_of, heard_in, IsCollected}
@@ -51,7 +51,7 @@ module _ (directory : List Address) where
   all_sent (run ∷ runs) (p ∷ parts) h = (record { how = h.0.how; ended = h.0.ended; sent = h.0.has_sent }, all_sent runs parts h.1)
 
 -- a session that was collected, where all sources are known, is one of the lines taken
-pub heard_session : (own : Address) (commissions : List Commissioned) (runs : List ReceiverRun) (world : WorldView) → Each IsKnown runs
+pub heard_session : (own : Address) (commissions : List Start) (runs : List ReceiverRun) (world : WorldView) → Each IsKnown runs
     → IsCollected own commissions runs world → IsHeardSession own commissions runs world
 heard_session own commissions runs world known c =
     let directory = map address_of commissions in

@@ -11,7 +11,9 @@ pub mod Numbers
 pub mod OneSession
 pub mod OrderLaws
 pub mod Runs
+pub mod SessionCuts
 pub mod SessionLines
+pub mod SessionParts
 pub mod Sessions
 pub mod Stacks
 pub mod Tellings

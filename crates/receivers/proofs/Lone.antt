@@ -81,9 +81,9 @@ class_any p xs = by_test (nat_lt (position_or_len p xs) (length xs)) (position_o
     by_test false j = refl
 
 any_map : (n : ℕ) (slots : List SlotView)
-    → list_any (λ (a : Address). a.0 == n) (map address_of_slot slots) ≡ list_any (λ (b : SlotView). b.commission.address.0 == n) slots
+    → list_any (λ (a : Address). a.0 == n) (map address_of_slot slots) ≡ list_any (λ (b : SlotView). b.start.address.0 == n) slots
 any_map n [] = refl
-any_map n (b ∷ slots) = ap (λ t. (b.commission.address.0 == n) || t) (any_map n slots)
+any_map n (b ∷ slots) = ap (λ t. (b.start.address.0 == n) || t) (any_map n slots)
 
 -- the class of a step's line, by whether some slot has its address
 step_class : (world : WorldView) (s : Step)

@@ -3,8 +3,8 @@ use Rattle.std.proofs.Common.{◌≡◌, ◌==◌, ℕ, List, [], ◌∷◌, ◌
 use Rattle.std.specs.List.{filter_map, cons_option, enumerate_from}
 use Rattle.std.proofs.lemmas.Bool.Decides.{nat_tests}
 use Rattle.std.proofs.lemmas.List.{reverse-append, reverse-reverse, map-append}
+use Rattle.meter_slots.specs.Journal.{Start}
 use Rattle.meter_address.specs.declared.address.Address.{Address}
-use Rattle.meter_address.specs.Commission.{Commissioned}
 use Rattle.meter_slots.specs.declared.entry.Entry.{Entry}
 use Rattle.meter_slots.specs.declared.entry.Event.{Event}
 use Rattle.meter_slots.specs.declared.step.Step.{Step}
@@ -22,7 +22,7 @@ use Rattle.receivers.specs.Session.{heard_by, event_at, lines_for, stranger_at, 
 
 -- ---- a world after some steps
 
-pub world_after : (own : Address) (cs : List Commissioned) (before steps : List Step)
+pub world_after : (own : Address) (cs : List Start) (before steps : List Step)
     → after_steps (world_of own cs before) steps ≡ world_of own cs (before ++ steps)
 world_after own cs before [] = ap (world_of own cs) (sym (append-nil before))
 world_after own cs before (s ∷ steps) =
@@ -37,11 +37,11 @@ map-reverse f (x ∷ xs) =
     ap (map f) (reverse-append (x ∷ []) xs)
     ∙ (map-append f (reverse xs) (x ∷ []) ∙ (ap (λ ys. ys ++ f x ∷ []) (map-reverse f xs) ∙ sym (reverse-append (f x ∷ []) (map f xs))))
 
-judged_calls : (c : Commissioned) (own : Address) (calls : List Call) → map call_in (judged_journal c own calls) ≡ calls
+judged_calls : (c : Start) (own : Address) (calls : List Call) → map call_in (judged_journal c own calls) ≡ calls
 judged_calls c own [] = refl
 judged_calls c own (s ∷ calls) = ap (λ l. s ∷ l) (judged_calls c own calls)
 
-pub journal_calls : (c : Commissioned) (own : Address) (calls : List Call) → map call_in (journal_of c own calls) ≡ calls
+pub journal_calls : (c : Start) (own : Address) (calls : List Call) → map call_in (journal_of c own calls) ≡ calls
 journal_calls c own calls = map-reverse call_in (judged_journal c own (reverse calls))
     ∙ (ap reverse (judged_calls c own (reverse calls)) ∙ reverse-reverse calls)
 
@@ -121,7 +121,7 @@ strange_step w source line address event false false rest lines e h =
 strange_step w source line address event true true rest lines e h = h
 strange_step w source line address event true false rest lines e h = h
 
-strange_lines : (cs : List Commissioned) (w source : ℕ) (by : Bool) (ls : List (ℕ × Told)) → (source == w) ≡ by
+strange_lines : (cs : List Start) (w source : ℕ) (by : Bool) (ls : List (ℕ × Told)) → (source == w) ≡ by
     → notes_by w (strangers_of cs (steps_among source ls)) ≡ cond by (filter_map (λ l. stranger_at cs l.0 l.1) ls) []
 unfolding steps_among
 strange_lines cs w source true [] e = refl
@@ -143,7 +143,7 @@ only_one f w heard none = at (1 == w)
     at true = refl
     at false = sym none
 
-slot_alone : (own : Address) (c : Commissioned) (heard : List Told) → IsMetersSlot own (heard ∷ []) c (slot_of own (steps_of 1 heard) c)
+slot_alone : (own : Address) (c : Start) (heard : List Told) → IsMetersSlot own (heard ∷ []) c (slot_of own (steps_of 1 heard) c)
 slot_alone own c heard = record {
   own_is = refl;
   commission_is = refl;
@@ -154,12 +154,12 @@ slot_alone own c heard = record {
       ∙ (own_lines c.address w 1 (1 == w) (enumerate_from 1 heard) refl ∙ only_one (lines_for c.address) w heard refl));
 }
 
-slots_alone : (own : Address) (cs : List Commissioned) (heard : List Told)
+slots_alone : (own : Address) (cs : List Start) (heard : List Told)
     → EachWith (IsMetersSlot own (heard ∷ [])) cs (map (slot_of own (steps_of 1 heard)) cs)
 slots_alone own [] heard = tt
 slots_alone own (c ∷ cs) heard = (slot_alone own c heard, slots_alone own cs heard)
 
-pub session_alone : (own : Address) (cs : List Commissioned) (heard : List Told)
+pub session_alone : (own : Address) (cs : List Start) (heard : List Told)
     → IsSession own cs (heard ∷ []) (world_of own cs (steps_of 1 heard))
 unfolding world_of
 session_alone own cs heard = record {
@@ -167,21 +167,21 @@ session_alone own cs heard = record {
   strangers = λ w. strange_lines cs w 1 (1 == w) (enumerate_from 1 heard) refl ∙ only_one (lines_of_strangers cs) w heard refl;
 }
 
-addresses_alone : (own : Address) (cs : List Commissioned) → addresses_in (world_of own cs []) ≡ map (λ c. c.address) cs
+addresses_alone : (own : Address) (cs : List Start) → addresses_in (world_of own cs []) ≡ map (λ c. c.address) cs
 unfolding world_of
 addresses_alone own cs = at cs
   where
-    at : (cs : List Commissioned) → map address_of_slot (map (slot_of own []) cs) ≡ map (λ (c : Commissioned). c.address) cs
+    at : (cs : List Start) → map address_of_slot (map (slot_of own []) cs) ≡ map (λ (c : Start). c.address) cs
     at [] = refl
     at (c ∷ cs) = ap (λ l. c.address ∷ l) (at cs)
 
 -- what one receiver heard alone for the meters of some commissions
-pub record IsHeardAlone (own : Address) (cs : List Commissioned) (h : Hearing) (world' : WorldView) (heard : List Told) : Type 0 where
+pub record IsHeardAlone (own : Address) (cs : List Start) (h : Hearing) (world' : WorldView) (heard : List Told) : Type 0 where
   pub has_heard : HasHeard (map (λ c. c.address) cs) h heard
   pub world_is : world' ≡ world_of own cs (steps_of 1 heard)
   pub session : IsSession own cs (heard ∷ []) world'
 
-pub heard_alone : (own : Address) (cs : List Commissioned) (h : Hearing) (world world' : WorldView) → world ≡ world_of own cs []
+pub heard_alone : (own : Address) (cs : List Start) (h : Hearing) (world world' : WorldView) → world ≡ world_of own cs []
     → (x : HasHeardAlone 1 h world world') → IsHeardAlone own cs h world' x.heard
 heard_alone own cs h world world' fresh x =
     let after : world' ≡ world_of own cs (steps_of 1 x.heard) =

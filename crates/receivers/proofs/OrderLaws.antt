@@ -2,10 +2,9 @@
 use Rattle.std.proofs.Common.{◌≡◌, ◌==◌, ℕ, List, [], ◌∷◌, map, filter, Bool, true, false, cond, if◌then◌else◌, refl, sym, ap, ◌∙◌, arith}
 use Rattle.std.proofs.lemmas.Bool.Decides.{nat_tests}
 use Rattle.meter_address.specs.declared.address.Address.{Address}
-use Rattle.meter_address.specs.Commission.{Commissioned}
 use Rattle.meter_slots.specs.declared.entry.Entry.{Entry}
 use Rattle.meter_slots.specs.declared.entry.Event.{Event}
-use Rattle.meter_slots.specs.Journal.{SlotView}
+use Rattle.meter_slots.specs.Journal.{Start, SlotView}
 use Rattle.meter_slots.specs.Laws.{call_in}
 use Rattle.meter_slots.specs.World.{Call, journal_of}
 use Rattle.meter_slots.proofs.JournalLaws.{journal_is, journal_of_legal}
@@ -165,7 +164,7 @@ steps_are : (w : ℕ) (journal : List Entry) → steps_by w journal ≡ by_one w
 steps_are w journal = steps_of_calls w journal ∙ calls_by w (map call_in journal)
 
 -- a meter's slot is fixed by its own lines and the order of its journal
-pub one_slot : (own : Address) (c : Commissioned) (all all' : List (List Told)) (s s' : SlotView) → IsMetersSlot own all c s
+pub one_slot : (own : Address) (c : Start) (all all' : List (List Told)) (s s' : SlotView) → IsMetersSlot own all c s
     → IsMetersSlot own all' c s'
     → ((w : ℕ) → lines_for c.address (heard_by w all) ≡ lines_for c.address (heard_by w all')) → order_of s.journal ≡ order_of s'.journal
     → s ≡ s'
@@ -178,17 +177,17 @@ one_slot own c all all' s s' h h' lines order =
     sym (calls_back (map call_in s.journal)) ∙ (ap (map call_with) things ∙ calls_back (map call_in s'.journal)) in
     let journal : s.journal ≡ s'.journal =
     journal_is c own s.journal h.legal ∙ (ap (journal_of c own) calls ∙ sym (journal_is c own s'.journal h'.legal)) in
-    (λ i. record { own = (h.own_is ∙ sym h'.own_is) i; commission = (h.commission_is ∙ sym h'.commission_is) i; journal = journal i })
+    (λ i. record { own = (h.own_is ∙ sym h'.own_is) i; start = (h.commission_is ∙ sym h'.commission_is) i; journal = journal i })
 
 -- each order of a meter's own lines has a slot with a journal in that order
-pub slot_exists : (own : Address) (c : Commissioned) (all : List (List Told)) (order : List (ℕ × ℕ)) → IsOrderOf c.address all order
+pub slot_exists : (own : Address) (c : Start) (all : List (List Told)) (order : List (ℕ × ℕ)) → IsOrderOf c.address all order
     → (slot : SlotView) × IsOrderedSlot own all c order slot
 slot_exists own c all order fits =
     let made = list_exists order (λ w. lines_for c.address (heard_by w all)) fits in
     let journal = journal_of c own (map call_with made.0) in
     let things : map thing_of (map call_in journal) ≡ made.0 = ap (map thing_of) (journal_calls c own (map call_with made.0))
     ∙ things_back made.0 in (
-      record { own = own; commission = c; journal = journal },
+      record { own = own; start = c; journal = journal },
       record {
         meters = record {
           own_is = refl;
@@ -201,7 +200,7 @@ slot_exists own c all order fits =
     )
 
 -- the order of a journal is one of its meter's own lines
-pub in_order : (own : Address) (c : Commissioned) (all : List (List Told)) (slot : SlotView) → IsMetersSlot own all c slot
+pub in_order : (own : Address) (c : Start) (all : List (List Told)) (slot : SlotView) → IsMetersSlot own all c slot
     → IsOrderOf c.address all (order_of slot.journal)
 in_order own c all slot h = λ w. numbers_of w slot.journal ∙ ap (map (λ (l : ℕ × Event). l.0)) (h.lines w)
   where
@@ -263,7 +262,7 @@ one_strangers lines xs ys x y order =
     ∙ (order ∙ order_of_notes ys)) (λ w. sym (notes_are w xs) ∙ (x w ∙ (sym (y w) ∙ notes_are w ys)))) ∙ notes_back ys)
 
 -- each order of the strangers' lines has a list
-pub strangers_exist : (commissions : List Commissioned) (all : List (List Told)) (order : List (ℕ × ℕ))
+pub strangers_exist : (commissions : List Start) (all : List (List Told)) (order : List (ℕ × ℕ))
     → IsOrderOfStrangers commissions all order → (heard : List Heard) × AreOrderedStrangers commissions all order heard
 strangers_exist commissions all order fits =
     let made = list_exists order (λ w. lines_of_strangers commissions (heard_by w all)) fits in

@@ -7,11 +7,10 @@ use Rattle.std.proofs.lemmas.List.Quantifiers.{position-Some}
 use mathlib.Core.Logic.{dite}
 use native.Mathlib.Decide.{ℕ_discrete}
 use Rattle.meter_address.specs.declared.address.Address.{Address}
-use Rattle.meter_address.specs.Commission.{Commissioned}
 use Rattle.meter_slots.specs.declared.entry.Entry.{Entry}
 use Rattle.meter_slots.specs.declared.entry.Event.{Event}
 use Rattle.meter_slots.specs.Directory.{AreApart}
-use Rattle.meter_slots.specs.Journal.{SlotView, Legal}
+use Rattle.meter_slots.specs.Journal.{Start, SlotView, Legal}
 use Rattle.stranger_ring.specs.declared.strangers.Heard.{Heard}
 use Rattle.slot_cells.specs.declared.act.Act.{Act}
 use Rattle.slot_cells.specs.Acts.{acts_by}
@@ -144,12 +143,12 @@ lines_at addresses k d (l ∷ ls) apart within =
 abbrev note_in : StrangeLine → ℕ × Address
 note_in s = (s.line, s.address)
 
-any_map : (n : ℕ) (cs : List Commissioned)
-    → list_any (λ (a : Address). a.0 == n) (map (λ c. c.address) cs) ≡ list_any (λ (c : Commissioned). c.address.0 == n) cs
+any_map : (n : ℕ) (cs : List Start)
+    → list_any (λ (a : Address). a.0 == n) (map (λ c. c.address) cs) ≡ list_any (λ (c : Start). c.address.0 == n) cs
 any_map n [] = refl
 any_map n (c ∷ cs) = ap (λ t. (c.address.0 == n) || t) (any_map n cs)
 
-pub strange_at_all : (cs : List Commissioned) (ls : List (ℕ × Told))
+pub strange_at_all : (cs : List Start) (ls : List (ℕ × Told))
     → map note_in (strange_lines (map (λ c. c.address) cs) ls) ≡ filter_map (λ l. stranger_at cs l.0 l.1) ls
 unfolding strange_lines
 strange_at_all cs [] = refl
@@ -171,7 +170,7 @@ strange_at_all cs (l ∷ ls) =
     head : (t : Told) → option_map note_in (strange_by (map (λ c. c.address) cs) l.0 t) ≡ stranger_at cs l.0 t
     head (told.Event address event) =
         by_test address (nat_lt (position_or_len (λ (a : Address). a.0 == address.0) (map (λ c. c.address) cs))
-        (length (map (λ (c : Commissioned). c.address) cs)))
+        (length (map (λ (c : Start). c.address) cs)))
         (position_or_len (λ (a : Address). a.0 == address.0) (map (λ c. c.address) cs))
         ∙ ap (λ b. cond b None (Some (l.0, address))) (any_there (λ (a : Address). a.0 == address.0) (map (λ c. c.address) cs)
         ∙ any_map address.0 cs)
@@ -233,15 +232,15 @@ steps_made addresses w k d journal did heard apart within made asked =
 
 -- a closed cell's slot is its meter's part of the session
 pub meters_part : (own : Address) (all : List (List Told)) (did : ℕ
-    → List Answered) (addresses : List Address) (k : ℕ) (d : Address) (c : Commissioned) (b : SlotView) → AreApart addresses
+    → List Answered) (addresses : List Address) (k : ℕ) (d : Address) (c : Start) (b : SlotView) → AreApart addresses
     → k < length addresses → get_or addresses k d ≡ c.address
-    → opening_of b ≡ record { own = own; commission = c } → IsLegalJournal (record { own = own; commission = c }) (map act_of b.journal)
+    → opening_of b ≡ record { own = own; start = c } → IsLegalJournal (record { own = own; start = c }) (map act_of b.journal)
     → ((w : ℕ) → acts_by w (map act_of b.journal) ≡ acts_at w k (did w))
     → ((w : ℕ) → map (λ (x : Answered). x.own) (did w) ≡ own_lines addresses (enumerate_from 1 (heard_by w all)))
     → IsMetersSlot own all c b
 meters_part own all did addresses k d c b apart within is opening legal made asked = record {
   own_is = ap (λ (o : Opening). o.own) opening;
-  commission_is = ap (λ (o : Opening). o.commission) opening;
+  commission_is = ap (λ (o : Opening). o.start) opening;
   legal = subst (Legal c own) (entries_back b.journal) legal;
   lines = λ w. steps_made addresses w k d b.journal (did w) (heard_by w all) apart within (made w) (asked w)
       ∙ ap (λ (a : Address). lines_for a (heard_by w all)) is;
@@ -270,7 +269,7 @@ pairs_of_lines : (w : ℕ) (ls : List StrangeLine) → map pair_of (map (note_by
 pairs_of_lines w [] = refl
 pairs_of_lines w (s ∷ ss) = ap (λ l. (s.line, s.address) ∷ l) (pairs_of_lines w ss)
 
-pub notes_made : (cs : List Commissioned) (w : ℕ) (strangers : List Heard) (heard : List Told)
+pub notes_made : (cs : List Start) (w : ℕ) (strangers : List Heard) (heard : List Told)
     → acts_by w (map note_of strangers) ≡ map (note_by w) (strange_lines (map (λ c. c.address) cs) (enumerate_from 1 heard))
     → notes_by w strangers ≡ lines_of_strangers cs heard
 notes_made cs w strangers heard made =

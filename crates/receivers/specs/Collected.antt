@@ -2,11 +2,10 @@
 use Rattle.std.specs.Prelude.{◌≡◌, ℕ, ◌+◌, ◌<◌, ◌==◌, List, [], ◌∷◌, map, filter, length, slice_index_or, if◌then◌else◌}
 use Rattle.std.specs.List.{enumerate_from}
 use Rattle.meter_address.specs.declared.address.Address.{Address}
-use Rattle.meter_address.specs.Commission.{Commissioned}
 use Rattle.meter_slots.specs.declared.entry.Entry.{Entry}
 use Rattle.meter_slots.specs.declared.entry.Event.{Event}
 use Rattle.meter_slots.specs.declared.entry.Outcome.{Outcome}
-use Rattle.meter_slots.specs.Journal.{SlotView}
+use Rattle.meter_slots.specs.Journal.{Start, SlotView}
 use Rattle.meter_slots.specs.World.{WorldView}
 use Rattle.slot_cells.specs.Acts.{Shown, CellShown, IsFirstPass}
 use Rattle.slot_cells.specs.Books.{Opening, opening_of}
@@ -48,12 +47,12 @@ pub record IsAnswered (directory : List Address) (slots : List SlotView) (w : �
 
 -- ---- the session
 
-abbrev pub address_of : Commissioned → Address
+abbrev pub address_of : Start → Address
 address_of c = c.address
 
 -- The runs of some receivers, numbered from 1, for the meters of these commissions: each ended with its cause, and sent the downlinks of
 -- what its own lines were answered; what they heard is one session, of these slots and strangers, whose journals have those answers.
-pub record IsCollected (own : Address) (commissions : List Commissioned) (runs : List ReceiverRun) (world : WorldView) : Type 0 where
+pub record IsCollected (own : Address) (commissions : List Start) (runs : List ReceiverRun) (world : WorldView) : Type 0 where
   pub parts : List Part
   pub each_run : EachWith (HasRun (map address_of commissions)) runs parts
   pub session : IsSession own commissions (map heard_in parts) world
@@ -61,11 +60,11 @@ pub record IsCollected (own : Address) (commissions : List Commissioned) (runs :
 
 -- ---- words of private contracts
 
-abbrev pub opening : Address → Commissioned → Opening
-opening own c = record { own = own; commission = c }
+abbrev pub opening : Address → Start → Opening
+opening own c = record { own = own; start = c }
 
 -- a cell for each commission, with its pass
-pub record AreFresh (own : Address) (commissions : List Commissioned) (cells : List (CellShown SlotView))
+pub record AreFresh (own : Address) (commissions : List Start) (cells : List (CellShown SlotView))
     (roots : List (Shown SlotView Event Outcome)) : Type 0 where
   pub openings : map (λ c. opening_of c.opening) cells ≡ map (opening own) commissions
   pub each_cell : ArePassesOf cells roots

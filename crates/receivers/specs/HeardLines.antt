@@ -3,7 +3,7 @@ use Rattle.std.specs.Prelude.{ℕ, ◌≡◌, List, map, Some, IsTrue}
 use Rattle.outer_io.specs.Each.{EachWith}
 use Rattle.outer_io.specs.Shown.{ReadFailed, WriteFailed, LosesNothing}
 use Rattle.meter_address.specs.declared.address.Address.{Address}
-use Rattle.meter_address.specs.Commission.{Commissioned}
+use Rattle.meter_slots.specs.Journal.{Start}
 use Rattle.meter_slots.specs.declared.counts.Ended.{Ended}
 use Rattle.meter_slots.specs.declared.counts.Ended.TheVariants as ends
 use Rattle.meter_slots.specs.World.{WorldView}
@@ -46,7 +46,7 @@ pub record SendsAnswers (run : ReceiverRun) (p : Part) : Type 0 where
   pub sent : HasSent how run p
 
 -- the session of the lines taken
-pub record IsHeardSession (own : Address) (commissions : List Commissioned) (runs : List ReceiverRun) (world : WorldView) : Type 0 where
+pub record IsHeardSession (own : Address) (commissions : List Start) (runs : List ReceiverRun) (world : WorldView) : Type 0 where
   pub receivers : List HeardLines
   pub taken : EachWith (HasTaken (map address_of commissions)) runs receivers
   pub session : IsSession own commissions (map tellings receivers) world

@@ -14,4 +14,6 @@ pub mod Roots
 pub mod Crews
 pub mod Running
 pub mod Collected
+pub mod Cuts
+pub mod Parts
 pub mod HeardLines

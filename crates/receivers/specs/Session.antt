@@ -3,10 +3,9 @@ use Rattle.std.specs.Prelude.{ℕ, ◌≡◌, ◌==◌, ◌+◌, List, [], ◌�
 use Rattle.std.specs.List.{filter_map, enumerate_from}
 use Rattle.outer_io.specs.Each.{EachWith}
 use Rattle.meter_address.specs.declared.address.Address.{Address}
-use Rattle.meter_address.specs.Commission.{Commissioned}
 use Rattle.meter_slots.specs.declared.entry.Entry.{Entry}
 use Rattle.meter_slots.specs.declared.entry.Event.{Event}
-use Rattle.meter_slots.specs.Journal.{SlotView, Legal}
+use Rattle.meter_slots.specs.Journal.{Start, SlotView, Legal}
 use Rattle.meter_slots.specs.World.{WorldView, is_commissioned}
 use Rattle.stranger_ring.specs.declared.strangers.Heard.{Heard}
 use Rattle.receivers.specs.declared.told.Told.{Told}
@@ -34,13 +33,13 @@ abbrev pub lines_for : Address → List Told → List (ℕ × Event)
 lines_for a heard = filter_map (λ l. event_at a l.0 l.1) (enumerate_from 1 heard)
 
 -- a stranger's line: its number, and the address
-abbrev pub stranger_at : List Commissioned → ℕ → Told → Option (ℕ × Address)
+abbrev pub stranger_at : List Start → ℕ → Told → Option (ℕ × Address)
 stranger_at commissions line (told.Event address event) = if is_commissioned commissions address then None else Some (line, address)
 stranger_at commissions line told.Unframed = None
 stranger_at commissions line told.Bad = None
 
 -- the strangers' lines among those of a receiver
-abbrev pub lines_of_strangers : List Commissioned → List Told → List (ℕ × Address)
+abbrev pub lines_of_strangers : List Start → List Told → List (ℕ × Address)
 lines_of_strangers commissions heard = filter_map (λ l. stranger_at commissions l.0 l.1) (enumerate_from 1 heard)
 
 -- ---- journals
@@ -61,14 +60,14 @@ notes_by w heard = map (λ h. (h.line, h.address)) (filter (λ h. h.source == w)
 
 -- A meter's slot after a session: it has the meter's commission, each answer in its journal is the one that the entries before it give,
 -- and of each receiver the journal has just the meter's own lines, each once and in that receiver's order.
-pub record IsMetersSlot (own : Address) (all : List (List Told)) (c : Commissioned) (slot : SlotView) : Type 0 where
+pub record IsMetersSlot (own : Address) (all : List (List Told)) (c : Start) (slot : SlotView) : Type 0 where
   pub own_is : slot.own ≡ own
-  pub commission_is : slot.commission ≡ c
+  pub commission_is : slot.start ≡ c
   pub legal : Legal c own slot.journal
   pub lines : (w : ℕ) → steps_by w slot.journal ≡ lines_for c.address (heard_by w all)
 
 -- A session of receivers that heard all this, for the meters of some commissions: each meter has its slot, and the strangers' list has
 -- of each receiver just its strangers' lines, each once and in that receiver's order.
-pub record IsSession (own : Address) (commissions : List Commissioned) (all : List (List Told)) (world : WorldView) : Type 0 where
+pub record IsSession (own : Address) (commissions : List Start) (all : List (List Told)) (world : WorldView) : Type 0 where
   pub meters : EachWith (IsMetersSlot own all) commissions world.slots
   pub strangers : (w : ℕ) → notes_by w world.strangers ≡ lines_of_strangers commissions (heard_by w all)

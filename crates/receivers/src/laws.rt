@@ -2,15 +2,16 @@
 ghost use Rattle.std.specs.Prelude.{◌≡◌, ◌↔◌, ℕ, List, [], ◌∷◌, ◌++◌, reverse, Some, option_map};
 ghost use Rattle.meter_address.specs.declared.address.Address.{Address};
 ghost use Rattle.meter_address.specs.declared.commission.Mode.TheVariants.{Seven};
-ghost use Rattle.meter_address.specs.Commission.{Commissioned};
 ghost use Rattle.meter_slots.specs.declared.entry.Entry.{Entry};
-ghost use Rattle.meter_slots.specs.Journal.{SlotView, genuine, stored_counter};
+ghost use Rattle.meter_slots.specs.Journal.{Start, SlotView, genuine, stored_counter};
 ghost use Rattle.meter_slots.specs.Laws.{IsAbove, IsRising, last_stored, stored_counters, sent_counters};
 ghost use Rattle.meter_slots.specs.World.{WorldView, world_of};
 ghost use Rattle.outer_io.specs.Each.{Each};
 ghost use Rattle.receivers.specs.declared.told.Told.{Told};
 ghost use Rattle.receivers.specs.Alone.{steps_of};
 ghost use Rattle.receivers.specs.Collected.{IsCollected};
+ghost use Rattle.receivers.specs.Cuts.{CutSessionsAreOne};
+ghost use Rattle.receivers.specs.Parts.{PartsAreOfTheWhole, PartsLeaveTheSame, PartsMakeTheWhole};
 ghost use Rattle.receivers.specs.HeardLines.{IsKnown, IsHeardSession};
 ghost use Rattle.receivers.specs.Orders.{order_of, IsOrderOf, IsOrderedSlot, IsOrderOfStrangers, AreOrderedStrangers};
 ghost use Rattle.stranger_ring.specs.declared.strangers.Heard.{Heard};
@@ -19,19 +20,19 @@ ghost use Rattle.receivers.specs.Session.{heard_by, lines_for, IsMetersSlot, IsS
 
 /// The world of one receiver's lines is a session of that receiver.
 pub fn one_receiver_makes_a_session()
-    ensures { (own : Address) (commissions : List Commissioned) (heard : List Told)
+    ensures { (own : Address) (commissions : List Start) (heard : List Told)
         → IsSession own commissions (heard ∷ []) (world_of own commissions (steps_of 1 heard)) }
 {}
 
 /// What `collect` says, where contracts know the bytes of all sources: one session of the lines that were taken from each receiver.
 pub fn runs_are_a_session_of_their_lines()
-    ensures { (own : Address) (commissions : List Commissioned) (runs : List ReceiverRun) (world : WorldView)
+    ensures { (own : Address) (commissions : List Start) (runs : List ReceiverRun) (world : WorldView)
         → Each IsKnown runs → IsCollected own commissions runs world → IsHeardSession own commissions runs world }
 {}
 
 /// A meter's slot is fixed by the meter's own lines and by the order in which its journal has them, whatever else the receivers heard.
 pub fn own_lines_alone()
-    ensures { (own : Address) (c : Commissioned) (all others : List (List Told)) (slot again : SlotView)
+    ensures { (own : Address) (c : Start) (all others : List (List Told)) (slot again : SlotView)
         → IsMetersSlot own all c slot → IsMetersSlot own others c again
         → ((w : ℕ) → lines_for c.address (heard_by w all) ≡ lines_for c.address (heard_by w others))
         → order_of slot.journal ≡ order_of again.journal → slot ≡ again }
@@ -40,13 +41,13 @@ pub fn own_lines_alone()
 /// The order of a journal has of each receiver just the meter's own lines, each once and in that receiver's order; and each such order
 /// has a slot with a journal in that order. The same holds of the strangers' list. So the orders that a report prints fix its session.
 pub fn orders_make_journals()
-    ensures order { (own : Address) (c : Commissioned) (all : List (List Told)) (slot : SlotView)
+    ensures order { (own : Address) (c : Start) (all : List (List Told)) (slot : SlotView)
         → IsMetersSlot own all c slot → IsOrderOf c.address all (order_of slot.journal) }
-    ensures journal { (own : Address) (c : Commissioned) (all : List (List Told)) (order : List (ℕ × ℕ))
+    ensures journal { (own : Address) (c : Start) (all : List (List Told)) (order : List (ℕ × ℕ))
         → IsOrderOf c.address all order → (slot : SlotView) × IsOrderedSlot own all c order slot }
-    ensures strangers { (commissions : List Commissioned) (all : List (List Told)) (order : List (ℕ × ℕ))
+    ensures strangers { (commissions : List Start) (all : List (List Told)) (order : List (ℕ × ℕ))
         → IsOrderOfStrangers commissions all order → (heard : List Heard) × AreOrderedStrangers commissions all order heard }
-    ensures one { (commissions : List Commissioned) (all : List (List Told)) (order : List (ℕ × ℕ)) (heard again : List Heard)
+    ensures one { (commissions : List Start) (all : List (List Told)) (order : List (ℕ × ℕ)) (heard again : List Heard)
         → AreOrderedStrangers commissions all order heard → AreOrderedStrangers commissions all order again → heard ≡ again }
 {}
 
@@ -54,12 +55,34 @@ pub fn orders_make_journals()
 /// exactly where it is genuine and its counter exceeds that of the message stored last; the counters of the downlinks, over all sinks
 /// together, strictly rise.
 pub fn counters_rise_over_all_receivers()
-    ensures stored { (own : Address) (c : Commissioned) (all : List (List Told)) (slot : SlotView)
+    ensures stored { (own : Address) (c : Start) (all : List (List Told)) (slot : SlotView)
         → IsMetersSlot own all c slot → c.mode ≡ Seven → IsRising c.last (stored_counters slot.journal) }
-    ensures exactly { (own : Address) (c : Commissioned) (all : List (List Told)) (slot : SlotView) (before : List Entry) (x : Entry)
+    ensures exactly { (own : Address) (c : Start) (all : List (List Told)) (slot : SlotView) (before : List Entry) (x : Entry)
         (after : List Entry) (n : ℕ) → IsMetersSlot own all c slot → c.mode ≡ Seven → slot.journal ≡ before ++ x ∷ after
         → (stored_counter x.outcome ≡ Some n)
         ↔ ((option_map (λ f. f.counter) (genuine c (reverse before) x.event) ≡ Some n) × IsAbove n (last_stored c before)) }
-    ensures sent { (own : Address) (c : Commissioned) (all : List (List Told)) (slot : SlotView)
-        → IsMetersSlot own all c slot → IsRising (Some c.down) (sent_counters slot.journal) }
+    ensures sent { (own : Address) (c : Start) (all : List (List Told)) (slot : SlotView)
+        → IsMetersSlot own all c slot → IsRising (Some c.orders.down) (sent_counters slot.journal) }
+{}
+
+/// For each cut of the receivers' lines into two sessions, of which the second begins with what is known of the meters behind the first:
+/// both are one session of all lines. Each meter's journal is the first one's and then the second one's, its lines numbered on.
+pub fn cut_sessions_are_one()
+    ensures { CutSessionsAreOne }
+{}
+
+/// A session of some meters over the lines that are for them gives these meters what a session of all lines gives them, but for the numbers
+/// of lines, which are those among all lines.
+pub fn parts_are_of_the_whole()
+    ensures { PartsAreOfTheWhole }
+{}
+
+/// What is known of its meters behind a part, with which its next session begins, is what is known of them behind the whole.
+pub fn parts_leave_the_same()
+    ensures { PartsLeaveTheSame }
+{}
+
+/// The sessions of a part and of all other meters, put together, give every meter what the whole session gives it.
+pub fn parts_make_the_whole()
+    ensures { PartsMakeTheWhole }
 {}

@@ -8,11 +8,12 @@ ghost use Rattle.receivers.specs.Collected.{address_of, AreFresh, IsCollected};
 use crate::receiver::Receiver;
 use crate::roots::close_each;
 use crate::running::run_cells;
-use meter_address::{Address, Commission};
-use meter_slots::{Directory, SlotBook};
+use meter_address::Address;
+use meter_slots::{Directory, MeterStart, SlotBook};
 use outer_io::{Memory, Sink, Source};
 use slot_cells::{Book, BookCell, Pass, SlotCell, StrangerCell};
 use std::alloc::Global;
+use std::snapshot::Snapshot;
 use std::sync::Wait;
 use std::thread::Threads;
 use stranger_ring::Strangers;
@@ -32,20 +33,20 @@ pub(crate) fn enclose<B: Book + Drop>(
     }
 }
 
-// A cell for each commission, with its pass.
+// A cell for each meter, with its pass.
 #[derive(Drop)]
 struct Fresh {
     cells: Vec<SlotCell>,
     roots: Vec<Pass<SlotBook>>,
 }
 
-fn make_cells(alloc: Global, own: Address, commissions: &[Commission]) -> Result<Fresh, Memory>
-    ensures { IfOk result (λ f. AreFresh own commissions.now f.cells.items f.roots.items) }
+fn make_cells(alloc: Global, own: Address, starts: Vec<MeterStart>) -> Result<Fresh, Memory>
+    ensures { IfOk result (λ f. AreFresh own starts.items f.cells.items f.roots.items) }
 {
     let mut cells = Vec::new(alloc);
     let mut roots = Vec::new(alloc);
-    for place in 0..commissions.len() {
-        let book = SlotBook::new(alloc, own, commissions[place]);
+    for start in starts {
+        let book = SlotBook::resume(alloc, own, start);
         let (cell, root) = enclose(alloc, book)?;
         cells.push(cell)?;
         roots.push(root)?;
@@ -53,10 +54,13 @@ fn make_cells(alloc: Global, own: Address, commissions: &[Commission]) -> Result
     Ok(Fresh { cells, roots })
 }
 
-fn addresses_of(alloc: Global, commissions: &[Commission]) -> Result<Vec<Address>, Memory>
-    ensures { IfOk result (λ addresses. addresses.items ≡ map address_of commissions.now) }
+fn addresses_of(alloc: Global, starts: &[MeterStart]) -> Result<Vec<Address>, Memory>
+    ensures { IfOk result (λ addresses. addresses.items ≡ map address_of starts.now) }
 {
-    let addresses = commissions.iter().map(|c| c.address).collect(alloc)?;
+    let mut addresses = Vec::new(alloc);
+    for place in 0..starts.len() {
+        addresses.push(starts[place].address())?;
+    }
     Ok(addresses)
 }
 
@@ -74,20 +78,20 @@ fn collect_over<R: Threads + Wait + Sync, S: Source + Send + Drop, K: Sink + Sen
     rt: &R,
     alloc: Global,
     own: Address,
-    commissions: &[Commission],
+    starts: Snapshot<Vec<MeterStart>>,
     directory: &Directory,
     fresh: Fresh,
     strangers: StrangerCell,
     mut stranger_root: Pass<Strangers>,
     receivers: &mut Vec<Receiver<S, K>>,
 ) -> Result<Collected, Memory>
-    requires apart { AreApart (map address_of commissions.now) }
-    requires directory { directory.now ≡ map address_of commissions.now }
-    requires cells { AreFresh own commissions.now fresh.cells.items fresh.roots.items }
+    requires apart { AreApart (map address_of starts.value.items) }
+    requires directory { directory.now ≡ map address_of starts.value.items }
+    requires cells { AreFresh own starts.value.items fresh.cells.items fresh.roots.items }
     requires strangers { IsPassOf strangers stranger_root × IsFirstPass 0 stranger_root }
     requires few_receivers { vec_len receivers.old < 2 ^ 32 }
     requires fresh { All (λ r. r.ended ≡ None) receivers.old.items }
-    ensures collected { IfOk result (λ c. IsCollected own commissions.now
+    ensures collected { IfOk result (λ c. IsCollected own starts.value.items
         (receiver_runs S.Source K.Sink receivers.old.items receivers.new.items)
         (record { slots = c.slots.items; strangers = c.strangers })) }
     ensures as_many { OnOk result (length receivers.new.items ≡ length receivers.old.items) }
@@ -117,32 +121,33 @@ fn make_strangers(alloc: Global) -> Result<(StrangerCell, Pass<Strangers>), Memo
     enclose(alloc, Strangers::new(alloc)?)
 }
 
-/// Has all receivers work over the slots of these commissions, each in a thread of its own where one can be made.
+/// Has all receivers work over slots of meters of which this is known, each in a thread of its own where one can be made.
 pub fn collect<R: Threads + Wait + Sync, S: Source + Send + Drop, K: Sink + Send + Drop>(
     rt: &R,
     alloc: Global,
     own: Address,
-    commissions: &[Commission],
+    starts: Vec<MeterStart>,
     receivers: &mut Vec<Receiver<S, K>>,
 ) -> Result<Collected, Memory>
-    requires apart { AreApart (map address_of commissions.now) }
-    requires few { length commissions.now < 2 ^ 32 }
+    requires apart { AreApart (map address_of starts.items) }
+    requires few { length starts.items < 2 ^ 32 }
     requires few_receivers { vec_len receivers.old < 2 ^ 32 }
     requires fresh { All (λ r. r.ended ≡ None) receivers.old.items }
-    ensures collected { IfOk result (λ c. IsCollected own commissions.now
+    ensures collected { IfOk result (λ c. IsCollected own starts.items
         (receiver_runs S.Source K.Sink receivers.old.items receivers.new.items)
         (record { slots = c.slots.items; strangers = c.strangers })) }
     ensures as_many { OnOk result (length receivers.new.items ≡ length receivers.old.items) }
 {
-    let addresses = addresses_of(alloc, commissions)?;
+    let addresses = addresses_of(alloc, starts.as_slice())?;
     let directory = Directory::new(alloc, addresses.as_slice())?;
-    let fresh = make_cells(alloc, own, commissions)?;
+    let begun = Snapshot::of(&starts);
+    let fresh = make_cells(alloc, own, starts)?;
     let (strangers, stranger_root) = make_strangers(alloc)?;
     collect_over(
         rt,
         alloc,
         own,
-        commissions,
+        begun,
         &directory,
         fresh,
         strangers,

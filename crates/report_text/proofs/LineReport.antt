@@ -124,9 +124,9 @@ journal_tells kept journal commands small =
 meter_tells : (b : SlotView) → AllByRecursion IsCounted (order_of b) → Tells (meter_text b) (λ t. meter_heading (with_steps (order_of b) t))
 unfolding meter_text
 meter_tells b small =
-    meter_line b.commission.address b.commission.mode (last_counter b.commission (reverse b.journal)) (orders_now b).down
-    (length b.journal) (length (readings b.commission b.journal))
-    ⨾ journal_tells (readings b.commission b.journal) b.journal (orders_now b).queue.commands small
+    meter_line b.start.address b.start.mode (last_counter b.start (reverse b.journal)) (orders_now b).down
+    (length b.journal) (length (readings b.start b.journal))
+    ⨾ journal_tells (readings b.start b.journal) b.journal (orders_now b).queue.commands small
 
 -- the meters, one after another
 abbrev with_meters : List SlotView → Told → Told

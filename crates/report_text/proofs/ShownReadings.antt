@@ -24,9 +24,9 @@ use Rattle.record_values.specs.declared.values.Value.{Value}
 use Rattle.record_values.specs.Units.{primary, after_fd, after_fb, is_scaled, unit_by, unit_in, unit}
 use Rattle.record_values.specs.Values.{value}
 use Rattle.meter_slots.specs.declared.reading.Reading.{Reading}
-use Rattle.meter_slots.specs.Journal.{SlotView, readings}
+use Rattle.meter_slots.specs.Journal.{SlotView}
+use Rattle.meter_slots.specs.Resuming.{last_known}
 use Rattle.record_text.specs.Lines.{fault_text}
-use Rattle.report_text.specs.Report.{last_reading}
 use Rattle.report_text.specs.Readings.{listed, next_listed, is_full, fault_behind, more_behind, members, record_members, maker_members}
 use Rattle.report_text.specs.Readings.{maker_tree, record_tree, span_tree}
 use Rattle.report_text.specs.Readings.{mode_number, payload_of, meter_members, meter_tree, readings_tree, IsNumbered, LastIsNumbered}
@@ -166,8 +166,8 @@ meter_shown address mode last payload h =
 slots_shown : (slots : List SlotView) → AllByRecursion LastIsNumbered slots → AllByRecursion (λ b. IsShown 3 (meter_tree b)) slots
 slots_shown [] h = tt
 slots_shown (b ∷ slots) h =
-    let last = last_reading (readings b.commission b.journal) in
-    (meter_shown b.commission.address b.commission.mode last (payload_of last) h.0, slots_shown slots h.1)
+    let last = last_known b.start b.journal in
+    (meter_shown b.start.address b.start.mode last (payload_of last) h.0, slots_shown slots h.1)
 
 pub readings_shown : (slots : List SlotView) → AllByRecursion LastIsNumbered slots → IsShown 5 (readings_tree slots)
 readings_shown slots h = object_shown _ (list_shown meter_tree slots (slots_shown slots h) ⟫ none_left)

@@ -23,8 +23,8 @@ use Rattle.unit_text.specs.Words.{function_text, quantity_text, name_text}
 use Rattle.record_text.specs.Lines.{bytes_at, fault_text}
 use Rattle.record_text.specs.Values.{value_text}
 use Rattle.meter_slots.specs.declared.reading.Reading.{Reading}
-use Rattle.meter_slots.specs.Journal.{SlotView, readings}
-use Rattle.report_text.specs.Report.{last_reading}
+use Rattle.meter_slots.specs.Journal.{SlotView}
+use Rattle.meter_slots.specs.Resuming.{last_known}
 
 -- ---- the records of a payload that are listed
 
@@ -132,8 +132,8 @@ meter_members address mode last payload =
 
 abbrev pub meter_tree : SlotView → Data
 meter_tree b =
-    let last = last_reading (readings b.commission b.journal) in
-    object (members (meter_members b.commission.address b.commission.mode last (payload_of last)))
+    let last = last_known b.start b.journal in
+    object (members (meter_members b.start.address b.start.mode last (payload_of last)))
 
 -- ---- all meters
 
@@ -153,7 +153,7 @@ IsNumbered reading = (reading.at < 2 ^ 64) × (reading.counter < 2 ^ 32)
 
 -- those of the last reading are, if there is one
 abbrev pub LastIsNumbered : SlotView → Type 0
-LastIsNumbered b = IfSome (last_reading (readings b.commission b.journal)) IsNumbered
+LastIsNumbered b = IfSome (last_known b.start b.journal) IsNumbered
 
 -- the byte which a fault names is one
 abbrev pub NamesByte : RecordFault → Type 0

@@ -101,24 +101,24 @@ journal_text kept journal commands = steps_text kept journal ++ last_text kept +
 
 -- the commands after the journal
 abbrev pub orders_now : SlotView → Orders
-orders_now b = orders b.commission (reverse b.journal)
+orders_now b = orders b.start (reverse b.journal)
 
 -- what the line of a slot says
 abbrev pub line_of : SlotView → MeterLine
 line_of b = record {
-  address = b.commission.address;
-  mode = b.commission.mode;
-  last = last_counter b.commission (reverse b.journal);
+  address = b.start.address;
+  mode = b.start.mode;
+  last = last_counter b.start (reverse b.journal);
   down = (orders_now b).down;
   steps = length b.journal;
-  readings = length (readings b.commission b.journal);
+  readings = length (readings b.start b.journal);
 }
 
 unfoldable pub meter_text : SlotView → List ℕ
 meter_text b =
-    let last = last_counter b.commission (reverse b.journal) in
-    let kept = readings b.commission b.journal in
-    commission_text b.commission.address b.commission.mode
+    let last = last_counter b.start (reverse b.journal) in
+    let kept = readings b.start b.journal in
+    commission_text b.start.address b.start.mode
     ++ numbers_text last (orders_now b).down (length b.journal) (length kept)
     ++ journal_text kept b.journal (orders_now b).queue.commands
 

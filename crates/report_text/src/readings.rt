@@ -99,7 +99,7 @@ fn put_slot<P: Paper>(paper: &mut P, slot: &SlotBook)
     ensures { Puts P.takes paper.old (compact_text (meter_tree slot.now)) paper.new }
 {
     let now = slot.commission();
-    let last = slot.readings().last();
+    let last = slot.last_reading();
     put_meter(paper, now.address, now.mode, last, payload_of(last));
 }
 
@@ -162,7 +162,7 @@ fn show_reading(reading: Option<&Reading>)
 fn show_last(slot: &SlotBook)
     ensures { LastIsNumbered slot.now }
 {
-    show_reading(slot.readings().last());
+    show_reading(slot.last_reading());
 }
 
 fn show_slots(slots: &[SlotBook])

@@ -132,14 +132,14 @@ last_word : (last : Option ℕ) → IsWord (last_text last)
 last_word None = record { passed = refl }
 last_word (Some n) = number_above 32 n (omega arith)
 
-abbrev behind_meter : Commissioned → List (List ℕ)
+abbrev pub behind_meter : Commissioned → List (List ℕ)
 behind_meter c =
     text_of c.address ∷ mode_text c.mode ∷ encode_lower c.key ∷ other_text c.other ∷ last_text c.last ∷ decimal c.down ∷ decimal c.ids ∷ []
 
-meter_word : IsWord (codes "meter")
+pub meter_word : IsWord (codes "meter")
 meter_word = record { passed = refl }
 
-meter_words : (c : Commissioned) → IsCommission c → Each IsWord (behind_meter c)
+pub meter_words : (c : Commissioned) → IsCommission c → Each IsWord (behind_meter c)
 meter_words c is = (
   hex_word (bytes_of c.address) (IsBytes-bytes_of c.address),
   (
@@ -154,14 +154,14 @@ meter_words c is = (
   ),
 )
 
-abbrev meter_line : Commissioned → List ℕ
+abbrev pub meter_line : Commissioned → List ℕ
 meter_line c = join_with_byte 32 (meter_fields c)
 
 columns_behind : (c : Commissioned) → columns_of Two (behind_meter c) ≡ Some (columns_for c)
 unfolding columns_of
 columns_behind c = refl
 
-meter_back : (c : Commissioned) → IsCommission c → meter_of Two (meter_line c) ≡ Ok c
+pub meter_back : (c : Commissioned) → IsCommission c → meter_of Two (meter_line c) ≡ Ok c
 meter_back c is =
     ap (meter_of_kind Two) (fields_joined (codes "meter") (behind_meter c) meter_word (meter_words c is))
     ∙ ap (λ o. ok_or o causes.Fields >>= meter_of_columns) (columns_behind c)
@@ -173,7 +173,7 @@ or_false : (x y : Bool) → (x || y) ≡ false → (x ≡ false) × (y ≡ false
 or_false true y h = absurd cc
 or_false false y h = (refl, h)
 
-eqb_swap : (a b : ℕ) → (a == b) ≡ (b == a)
+pub eqb_swap : (a b : ℕ) → (a == b) ≡ (b == a)
 eqb_swap a b = grind (arith, nat_tests)
 
 any_at : (n : ℕ) (before : List Commissioned) (c : Commissioned) (after : List Commissioned)
@@ -218,16 +218,16 @@ meters_back n before (c ∷ after) apart few each =
 
 -- ---- the roster
 
-own_word : IsWord (codes "own")
+pub own_word : IsWord (codes "own")
 own_word = record { passed = refl }
 
-abbrev own_line : Address → List ℕ
+abbrev pub own_line : Address → List ℕ
 own_line own = join_with_byte 32 (codes "own" ∷ text_of own ∷ [])
 
-own_words : (own : Address) → Each IsWord (text_of own ∷ [])
+pub own_words : (own : Address) → Each IsWord (text_of own ∷ [])
 own_words own = (hex_word (bytes_of own) (IsBytes-bytes_of own), tt)
 
-own_back : (own : Address) → own.0 < 2 ^ 64 → own_of (own_line own) ≡ Ok own
+pub own_back : (own : Address) → own.0 < 2 ^ 64 → own_of (own_line own) ≡ Ok own
 own_back own fits =
     ap own_of_fields (fields_joined (codes "own") (text_of own ∷ []) own_word (own_words own))
     ∙ ap (λ o. ok_or o causes.Own) (written_address own fits)
@@ -265,7 +265,7 @@ other_len : (other : Option (List ℕ)) → ForSome other IsKey → length (othe
 other_len None keys = omega arith
 other_len (Some key) keys = let long = (keys key refl).long in omega (arith, length-encode_with lower_digits key)
 
-number_len : (n : ℕ) → n < 2 ^ 32 → length (decimal n) ≤ 10
+pub number_len : (n : ℕ) → n < 2 ^ 32 → length (decimal n) ≤ 10
 number_len n small = length-decimal-le 10 n (omega arith) (omega arith) (omega arith)
 
 most_fits : (mode : Mode) → most_last mode < 2 ^ 32
@@ -276,7 +276,7 @@ last_len : (mode : Mode) (last : Option ℕ) → ForSome last (λ n. n ≤ most_
 last_len mode None fits = omega arith
 last_len mode (Some n) fits = let within = fits n refl in let most = most_fits mode in number_len n (omega arith)
 
-joined_len : (word next : List ℕ) (words : List (List ℕ))
+pub joined_len : (word next : List ℕ) (words : List (List ℕ))
     → length (join_with_byte 32 (word ∷ next ∷ words)) ≡ length word + 1 + length (join_with_byte 32 (next ∷ words))
 joined_len word next words = omega (arith, length-append word (32 ∷ join_with_byte 32 (next ∷ words)))
 
@@ -294,7 +294,7 @@ eight_len w a m k o l d i =
     let end = length-append (join_with_byte 32 (w ∷ a ∷ m ∷ k ∷ o ∷ l ∷ d ∷ i ∷ [])) (10 ∷ []) in
     omega arith
 
-meter_len : (c : Commissioned) → IsCommission c → length (meter_text c) ≤ 200
+pub meter_len : (c : Commissioned) → IsCommission c → length (meter_text c) ≤ 200
 unfolding meter_text
 meter_len c is =
     let all =

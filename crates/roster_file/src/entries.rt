@@ -5,16 +5,18 @@ ghost use Rattle.roster_file.specs.Roster.{is_passed_over};
 use plain_text::TextLines;
 use std::marker::Model;
 
-// A line that counts, with its number.
+/// A line that counts, with its number.
 #[derive(Clone, Copy, Debug)]
-pub(crate) struct Entry<'a> {
-    pub(crate) line: u32,
-    pub(crate) text: &'a [u8],
+pub struct Entry<'a> {
+    /// Its number.
+    pub line: u32,
+    /// Its bytes.
+    pub text: &'a [u8],
 }
 
-// The lines that are still to come.
+/// The lines that are still to come.
 #[derive(Debug, Drop)]
-pub(crate) struct Entries<'a> {
+pub struct Entries<'a> {
     lines: TextLines<'a>,
     line: u32,
 }
@@ -35,9 +37,9 @@ impl<'a> Entries<'a> {
     ghost use Rattle.std.specs.Str.Lines.{lines};
     ghost use Rattle.roster_file.specs.Roster.{entries_from};
 
-    // The lines of a text that count.
-    pub(crate) fn of_text(text: &'a [u8]) -> Self
-        requires { length text.now ≤ 2 ^ 20 }
+    /// The lines of a text that count.
+    pub fn of_text(text: &'a [u8]) -> Self
+        requires { length text.now ≤ 2 ^ 27 }
         ensures { result ≡ record { entries = entries_from 1 (lines text.now); end = length (lines text.now) + 1 } }
     {
         Entries {
@@ -46,8 +48,8 @@ impl<'a> Entries<'a> {
         }
     }
 
-    // The next line that counts, or the number after that of the text's last line.
-    pub(crate) fn next(&mut self) -> Result<Entry<'a>, u32>
+    /// The next line that counts, or the number after that of the text's last line.
+    pub fn next(&mut self) -> Result<Entry<'a>, u32>
         ensures entry { MatchResult result
             (λ e. self.old.entries ≡ (e.line, e.text.now) ∷ self.new.entries)
             (λ end. (self.old.entries ≡ []) × (end ≡ self.old.end)) }

@@ -11,7 +11,7 @@ use plain_text::{Fields, read_number};
 
 /// The version of a roster's text, which its head says.
 #[derive(Clone, Copy, Debug, PartialEq, Eq)]
-pub(crate) enum Version {
+pub enum Version {
     /// A meter has one key.
     One,
     /// A meter may have a second key.
@@ -168,8 +168,8 @@ fn read_columns(columns: &Columns<'_>) -> Result<Commission, LineCause>
     })
 }
 
-// What a meter's line says by itself.
-pub(crate) fn read_meter(version: Version, line: &[u8]) -> Result<Commission, LineCause>
+/// What a meter's line says by itself.
+pub fn read_meter(version: Version, line: &[u8]) -> Result<Commission, LineCause>
     ensures { result ≡ meter_of version line.now }
 {
     let mut fields = Fields::of_line(line);
@@ -183,8 +183,8 @@ pub(crate) fn read_meter(version: Version, line: &[u8]) -> Result<Commission, Li
     read_columns(&columns)
 }
 
-// What the own line says.
-pub(crate) fn read_own_line(line: &[u8]) -> Result<Address, LineCause>
+/// What the own line says.
+pub fn read_own_line(line: &[u8]) -> Result<Address, LineCause>
     ensures { result ≡ own_of line.now }
 {
     let mut fields = Fields::of_line(line);

@@ -11,11 +11,13 @@ mod roster;
 mod writing;
 
 pub use all_faults::{first_fault_refuses, roster_faults};
+pub use entries::{Entries, Entry};
+pub use fields::{Version, read_meter, read_own_line};
 pub use laws::{read_rosters_are_enrolled, written_rosters_are_read_back};
 pub use load::{LoadFault, load_roster};
 pub use reader::{MOST_BYTES, MOST_METERS, read_roster};
 pub use roster::{LineCause, Roster, RosterFault};
-pub use writing::write_roster;
+pub use writing::{put_meter, put_own, write_roster};
 
 #[cfg(test)]
 mod tests;

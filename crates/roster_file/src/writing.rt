@@ -71,8 +71,9 @@ fn put_counts<P: Paper>(paper: &mut P, meter: &Commission)
     put_text(paper, "\n");
 }
 
+/// Prints the line of a meter.
 #[tactic(auto, using(crate::proofs::LinePieces::meter_line))]
-fn put_meter<P: Paper>(paper: &mut P, meter: &Commission)
+pub fn put_meter<P: Paper>(paper: &mut P, meter: &Commission)
     ensures { Puts P.takes paper.old (meter_text meter.now) paper.new }
 {
     put_name(paper, meter);
@@ -89,8 +90,9 @@ fn put_meters<P: Paper>(paper: &mut P, meters: &[Commission])
     }
 }
 
+/// Prints the own line.
 #[tactic(auto, using(crate::proofs::LinePieces::own_line))]
-fn put_own<P: Paper>(paper: &mut P, own: Address)
+pub fn put_own<P: Paper>(paper: &mut P, own: Address)
     ensures { Puts P.takes paper.old (own_text own) paper.new }
 {
     put_text(paper, "own ");

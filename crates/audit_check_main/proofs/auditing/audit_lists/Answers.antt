@@ -1,5 +1,5 @@
-use Rattle.std.proofs.Common.{◌≡◌, ◌+◌, ◌∙◌, ℕ, List, [], Ok, ap, sym, subst, map, length, get_or, arith}
-use Rattle.meter_address.specs.Commission.{Commissioned}
+use Rattle.std.proofs.Common.{◌≡◌, ◌∙◌, ℕ, List, [], Ok, refl, ap, sym, subst, map, length, get_or, arith}
+use Rattle.meter_slots.specs.Journal.{Start}
 use Rattle.audit_check_main.specs.Audit.{IsVerdict}
 use Rattle.audit_check_main.specs.Auditing.{IsStepped}
 use Rattle.audit_check_main.specs.declared.verdict.Verdict.{Verdict}
@@ -13,14 +13,14 @@ pub overflow_cast-result : goal.overflow_cast-result
 overflow_cast-result c =
     let wrong = c.in_ok-list.ensures.wrong c.in-Some.list c.in-Some.place (ap Ok c.in-Some.is) in
     let within = wrong.within in
-    let long = ap length c.requires.lists_are ∙ length-lists_printed (length c.args.roster.now.meters) _ in
-    let few = c.requires.enrolled.few in omega arith
+    let long = ap length c.requires.lists_are ∙ length-lists_printed (length c.args.meters.items) _ in
+    let few = c.requires.few in omega arith
 
 pub overflow_cast-result-in-Some : goal.overflow_cast-result-in-Some
 overflow_cast-result-in-Some c =
     let wrong = c.in_ok-list.ensures.wrong c.in-Some.list c.in-Some.place (ap Ok c.in-Some.is) in
     let within = wrong.wrong.within in
-    let short = list_short (length c.args.roster.now.meters) c.args.report.now c.in-Some.list in
+    let short = list_short (length c.args.meters.items) c.args.report.now c.in-Some.list in
     let same = ap (λ (ls : List (List (ℕ × ℕ))). length (get_or ls c.in-Some.list [])) c.requires.lists_are in
     let lines = c.requires.few_lines in omega arith
 
@@ -28,45 +28,44 @@ pub returns-in-Some : goal.returns-in-Some
 returns-in-Some c = λ text is.
     let heard =
     c.as_slice.ensures.value ∙ (c.in_ok-heard.ensures
-    ∙ ap (λ (m : List Commissioned). map (heard_input m) c.args.inputs.now) c.meters-meters.ensures) in
+    ∙ ap (λ (m : List Start). map (heard_input m) c.args.inputs.now) c.as_slice-starts.ensures.value) in
     let wrong = c.in_ok-list.ensures.wrong c.in-Some.list c.in-Some.place (ap Ok c.in-Some.is) in
-    first_wrong_is c.args.roster.now text c.args.report.now c.args.inputs.now is c.requires.within c.requires.in_form c.args.lists.now
+    first_wrong_is (record { own = c.args.own; starts = c.args.meters.items }) text c.args.report.now c.args.inputs.now is c.requires.within c.requires.in_form c.args.lists.now
     c.requires.lists_are c.in-Some.list c.in-Some.place
     (subst (λ (h : List HeardInput). IsFirstWrong (numbers_in_list h) c.args.lists.now c.in-Some.list c.in-Some.place) heard wrong)
 
 pub audit_orders-requires-clause-long : goal.audit_orders-requires-clause-long
 audit_orders-requires-clause-long c =
-    ap length c.requires.lists_are ∙ (length-lists_printed (length c.args.roster.now.meters) _
-    ∙ ap (λ (m : List Commissioned). length m + 1) (sym c.meters-meters.ensures))
+    ap length c.requires.lists_are ∙ length-lists_printed (length c.args.meters.items) _
 
 pub told_verdict-requires : goal.told_verdict-requires
 told_verdict-requires c = λ stray.
     let same = c.as_slice.ensures.value ∙ sym c.as_slice-in-None.ensures.value in
-    let long = ap length c.requires.lists_are ∙ (length-lists_printed (length c.args.roster.now.meters) _
-    ∙ ap (λ (m : List Commissioned). length m + 1) (sym c.meters-meters.ensures)) in
+    let long = ap length c.requires.lists_are ∙ length-lists_printed (length c.args.meters.items) _ in
     c.audit_orders.ensures.stray stray
-    (orders_are c.meters-meters.result.now c.args.inputs.now c.as_slice.result.now c.as_slice-in-None.result.now c.args.lists.now
-    c.requires.within same (c.as_slice-in-None.ensures.value ∙ c.in_ok-heard.ensures) long
+    (orders_are c.args.meters.items c.args.inputs.now c.as_slice.result.now c.as_slice-in-None.result.now c.args.lists.now
+    c.requires.within same (c.as_slice-in-None.ensures.value ∙ (c.in_ok-heard.ensures
+    ∙ ap (λ (m : List Start). map (heard_input m) c.args.inputs.now) c.as_slice-starts.ensures.value)) long
     (c.in_ok-list.ensures.right (ap Ok c.in-None.is)))
 
-pub returns : goal.returns
-returns c =
+pub returns-in-None : goal.returns-in-None
+returns-in-None c =
     let same = c.as_slice.ensures.value ∙ sym c.as_slice-in-None.ensures.value in
-    let long = ap length c.requires.lists_are ∙ (length-lists_printed (length c.args.roster.now.meters) _
-    ∙ ap (λ (m : List Commissioned). length m + 1) (sym c.meters-meters.ensures)) in
-    let heard = c.as_slice-in-None.ensures.value ∙ c.in_ok-heard.ensures in
+    let long = ap length c.requires.lists_are ∙ length-lists_printed (length c.args.meters.items) _ in
+    let heard = c.as_slice-in-None.ensures.value ∙ (c.in_ok-heard.ensures
+    ∙ ap (λ (m : List Start). map (heard_input m) c.args.inputs.now) c.as_slice-starts.ensures.value) in
     let orders =
-    orders_are c.meters-meters.result.now c.args.inputs.now c.as_slice.result.now c.as_slice-in-None.result.now c.args.lists.now
+    orders_are c.args.meters.items c.args.inputs.now c.as_slice.result.now c.as_slice-in-None.result.now c.args.lists.now
     c.requires.within same heard long (c.in_ok-list.ensures.right (ap Ok c.in-None.is)) in
     for_each_text c.told_verdict.result (λ (text : List ℕ) (v : Verdict). IsVerdict
     (record { roster = text; report = c.args.report.now; inputs = c.args.inputs.now }) v)
-    (λ text is. stepped_is c.args.roster.now text c.args.report.now c.args.inputs.now is c.requires.within c.requires.in_form
-    c.args.lists.now c.requires.lists_are c.told_verdict.result c.own.result c.meters-meters.result.now c.as_slice-in-None.result.now
-    c.own.ensures c.meters-meters.ensures
-    (if_orders c.told_verdict.result (AreOrders c.meters-meters.result.now c.as_slice-in-None.result.now c.args.lists.now)
-    (c.as_slice-in-None.result.now ≡ map (heard_input c.meters-meters.result.now) c.args.inputs.now)
-    (IsStepped c.own.result c.meters-meters.result.now c.as_slice-in-None.result.now c.args.lists.now c.args.report.now) heard orders
+    (λ text is. stepped_is (record { own = c.args.own; starts = c.args.meters.items }) text c.args.report.now c.args.inputs.now is c.requires.within c.requires.in_form
+    c.args.lists.now c.requires.lists_are c.told_verdict.result c.args.own c.args.meters.items c.as_slice-in-None.result.now
+    refl refl
+    (if_orders c.told_verdict.result (AreOrders c.args.meters.items c.as_slice-in-None.result.now c.args.lists.now)
+    (c.as_slice-in-None.result.now ≡ map (heard_input c.args.meters.items) c.args.inputs.now)
+    (IsStepped c.args.own c.args.meters.items c.as_slice-in-None.result.now c.args.lists.now c.args.report.now) heard orders
     (told_are c.audit_orders.result c.told_verdict.result
-    (λ (v : Verdict). AreOrders c.meters-meters.result.now c.as_slice-in-None.result.now c.args.lists.now
-    → IsStepped c.own.result c.meters-meters.result.now c.as_slice-in-None.result.now c.args.lists.now c.args.report.now v)
+    (λ (v : Verdict). AreOrders c.args.meters.items c.as_slice-in-None.result.now c.args.lists.now
+    → IsStepped c.args.own c.args.meters.items c.as_slice-in-None.result.now c.args.lists.now c.args.report.now v)
     c.told_verdict.ensures c.audit_orders.ensures.stepped)))

@@ -3,7 +3,7 @@ use Rattle.std.specs.List.{slice_get}
 use Rattle.std.specs.Str.Lines.{lines}
 use Rattle.std.proofs.lemmas.List.{length-map}
 use Rattle.meter_address.specs.Address.{AreApart}
-use Rattle.meter_address.specs.Commission.{Commissioned}
+use Rattle.meter_slots.specs.Journal.{Start}
 use Rattle.receivers.specs.Told.{told_of}
 use Rattle.audit_check_main.specs.Hearing.{counts_in, list_in, sort_by, told_by_text}
 use Rattle.audit_check_main.proofs.HeardLists.{HaveComeTo, come_next, few_lines, first_few, heard_is, sorted_within}
@@ -25,7 +25,7 @@ pub note-requires-clause-within : goal.note-requires-clause-within
 note-requires-clause-within c =
     subst (λ s. list_in s ≤ length c.args.meters.now) (sym c.sort_of-sort.ensures)
     (sorted_within c.args.directory.now (length c.args.meters.now) c.whose_at.result
-    (ap length c.requires.directory ∙ length-map c.args.meters.now (λ (m : Commissioned). m.address)))
+    (ap length c.requires.directory ∙ length-map c.args.meters.now (λ (m : Start). m.address)))
 
 pub loop-place-preserved : goal.loop-place-preserved
 loop-place-preserved c =

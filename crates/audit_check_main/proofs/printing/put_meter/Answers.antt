@@ -9,7 +9,7 @@ use Rattle.audit_check_main.proofs.printing.put_meter.Goals as goal
 
 pub returns-clause-put : goal.returns-clause-put
 returns-clause-put c = λ right.
-    let target = slot_exists c.args.own c.args.commission (map tells c.args.heard.now) c.args.order.now right in
+    let target = slot_exists c.args.own c.args.start (map tells c.args.heard.now) c.args.order.now right in
     let stepped = c.in_ok-steps.ensures.stepped target.0 target.1 in
     let line = subst (λ (p : Compared). Puts Compares p (meter_line_text c.line.result) c.put_meter_line.new.paper)
     c.pass_line-line.ensures.line c.put_meter_line.ensures in

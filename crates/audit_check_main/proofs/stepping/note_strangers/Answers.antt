@@ -2,7 +2,7 @@ use Rattle.std.proofs.Common.{◌≡◌, ◌==◌, ◌∙◌, ℕ, map, length, 
 use Rattle.std.proofs.lemmas.List.{length-map}
 use Rattle.std.specs.List.{position_or_len}
 use Rattle.meter_address.specs.declared.address.Address.{Address}
-use Rattle.meter_address.specs.Commission.{Commissioned}
+use Rattle.meter_slots.specs.Journal.{Start}
 use Rattle.receivers.specs.declared.told.Told.TheVariants as told
 use Rattle.receivers.proofs.OrderLaws.{strangers_exist}
 use Rattle.audit_check_main.specs.declared.hearing.Sort.TheVariants as sorts
@@ -44,7 +44,7 @@ loop-pair-preserved c =
           c.args.order.now c.loop-pair.pair-index _ (0, 0) so.own_lines c.loop-pair-test.true refl
           (strange_listed c.args.directory.now (length c.args.meters.now) c.list_of.result _ c.in-Event.address c.in-Event.field-1
           (sym c.told_at.ensures ∙ c.in-Event.is) c.list_of.ensures
-          (sym (ap length c.requires ∙ length-map c.args.meters.now (λ (m : Commissioned). m.address)))
+          (sym (ap length c.requires ∙ length-map c.args.meters.now (λ (m : Start). m.address)))
           (let past = c.if-list_of-meters.false in omega arith));
     }
 

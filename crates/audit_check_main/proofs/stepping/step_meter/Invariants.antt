@@ -9,10 +9,10 @@ use Rattle.audit_check_main.proofs.stepping.step_meter.Given as goal
 
 abbrev pub invariant-loop-pair : goal.invariant-loop-pair
 invariant-loop-pair l = record {
-  so : (target : SlotView) → IsOrderedSlot l.fn.own (map tells l.heard) l.fn.commission l.order target
-      → HasStepped (record { own = l.fn.own; commission = l.fn.commission; journal = take l.pair-index target.journal }) l.initial.paper
+  so : (target : SlotView) → IsOrderedSlot l.fn.own (map tells l.heard) l.fn.start l.order target
+      → HasStepped (record { own = l.fn.own; start = l.fn.start; journal = take l.pair-index target.journal }) l.initial.paper
       l.steps l.paper;
-  own_lines : Each (λ p. IsEventFor l.fn.commission.address (told_at l.heard p.0 p.1)) (take l.pair-index l.order);
+  own_lines : Each (λ p. IsEventFor l.fn.start.address (told_at l.heard p.0 p.1)) (take l.pair-index l.order);
   steps_are : l.steps.steps ≡ l.pair-index;
   few : l.steps.readings ≤ l.steps.steps;
 }

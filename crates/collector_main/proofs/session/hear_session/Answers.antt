@@ -1,4 +1,5 @@
-use Rattle.std.proofs.Common.{Some, None, [], ap, refl, ◌∙◌, rules}
+use Rattle.std.proofs.Common.{Some, None, [], ap, map, refl, ◌∙◌, rules}
+use Rattle.meter_slots.specs.Journal.{fresh_start}
 use Rattle.meter_slots.specs.declared.counts.Ended.TheVariants as ends
 use Rattle.meter_slots.specs.World.{world_of}
 use Rattle.collector_main.specs.declared.status.Status.TheVariants as statuses
@@ -25,8 +26,8 @@ returns-clause-run g c =
     c.in-Ok-new.world c.work_alone.new.world
     refl c.counts-counts.ensures c.in-Ok.ensures.found c.in-Ok.ensures.read c.enrolled.ensures.no_loss
     c.work_alone.ensures.ended
-    (c.in-Ok-new.ensures ∙ ap (λ own. world_of own c.into_meters.result.items []) c.own-own.ensures
-    ∙ ap (λ meters. world_of c.in-Ok.roster.own meters []) c.into_meters.ensures)
+    (c.in-Ok-new.ensures ∙ ap (λ own. world_of own (map fresh_start c.into_meters.result.items) []) c.own-own.ensures
+    ∙ ap (λ meters. world_of c.in-Ok.roster.own (map fresh_start meters) []) c.into_meters.ensures)
     (search rules)
     c.work_alone.ensures.heard c.work_alone.ensures.untaken (c.work_alone.ensures.never, c.in_default-work_alone.not-Memory)
     c.finish_one.ensures.status c.finish_one.ensures.written c.finish_one.ensures.done

@@ -5,20 +5,19 @@ use Rattle.paper.proofs.Items.{is_put}
 use Rattle.meter_address.specs.declared.address.Address.{Address}
 use Rattle.meter_address.specs.declared.commission.Mode.{Mode}
 use Rattle.meter_slots.specs.declared.reading.Reading.{Reading}
-use Rattle.report_text.specs.Report.{last_reading}
 use Rattle.report_text.specs.Readings.{payload_of, members, meter_members}
 use Rattle.report_text.proofs.readings.put_slot.Goals as goal
 
 pub returns : goal.returns
 returns g c =
-    let commission = c.args.slot.now.commission in
+    let start = c.args.slot.now.start in
     let now = c.now.inside in
     let payload = c.payload_of.result.now in
-    let last = option_copied c.last-last.result in
+    let last = option_copied c.last_reading-last.result in
     let tree : Address → Mode → Option Reading → List ℕ → Data = λ a mode r text. object (members (meter_members a mode r text)) in
-    let of_address : now.address ≡ commission.address = ap (λ k. k.address) (c.now.view_is ∙ c.commission-now.ensures.now) in
-    let of_mode : now.mode ≡ commission.mode = ap (λ k. k.mode) (c.now.view_is ∙ c.commission-now.ensures.now) in
-    let are = ap (λ a. tree a now.mode last payload) of_address ∙ ap (λ mode. tree commission.address mode last payload) of_mode
-    ∙ ap (tree commission.address commission.mode last) c.payload_of.ensures
-    ∙ ap (λ r. tree commission.address commission.mode r (payload_of r)) (c.last-last.ensures.value ∙ ap last_reading c.readings.ensures) in
+    let of_address : now.address ≡ start.address = ap (λ k. k.address) (c.now.view_is ∙ c.commission-now.ensures.now) in
+    let of_mode : now.mode ≡ start.mode = ap (λ k. k.mode) (c.now.view_is ∙ c.commission-now.ensures.now) in
+    let are = ap (λ a. tree a now.mode last payload) of_address ∙ ap (λ mode. tree start.address mode last payload) of_mode
+    ∙ ap (tree start.address start.mode last) c.payload_of.ensures
+    ∙ ap (λ r. tree start.address start.mode r (payload_of r)) c.last_reading-last.ensures in
     is_put _ _ (ap compact_text (sym are)) c.put_meter.ensures

@@ -12,7 +12,7 @@ invariant_of-self-2 c =
     let given = c.in_ok-served.served.outcome in
     let x : Entry = record { source = c.args.source; line = c.args.line; event = c.args.event; outcome = given } in
     let judged =
-    answer_kept b.opening b.own b.entries.items b.standing b.readings.items c.args.event given c.self.invariant
+    answer_kept b.start.value b.own b.entries.items b.standing b.readings.items c.args.event given c.self.invariant.0
     c.in_ok-served.ensures.outcome in
     rw (
       c.push_reserved.ensures.items,
@@ -21,20 +21,22 @@ invariant_of-self-2 c =
       c.reserve-2.ensures.items,
       c.copied.ensures,
       c.of.ensures,
+    ) (
+      kept_after b.start.value b.own b.entries.items b.standing b.readings.items x c.answer.new.self _ c.self.invariant.0 c.show_payload.ensures
+          judged
+          c.in_ok-served.ensures.number c.in_ok-served.ensures.reading c.in_ok-served.ensures.moves,
+      c.self.invariant.1,
     )
-    (kept_after b.opening b.own b.entries.items b.standing b.readings.items x c.answer.new.self _ c.self.invariant c.show_payload.ensures
-    judged
-    c.in_ok-served.ensures.number c.in_ok-served.ensures.reading c.in_ok-served.ensures.moves)
 
 pub returns-clause-outcome : goal.returns-clause-outcome
 returns-clause-outcome c =
     let b = c.self.inside in
-    answer_kept b.opening b.own b.entries.items b.standing b.readings.items c.args.event c.in_ok-served.served.outcome c.self.invariant
+    answer_kept b.start.value b.own b.entries.items b.standing b.readings.items c.args.event c.in_ok-served.served.outcome c.self.invariant.0
     c.in_ok-served.ensures.outcome
-    ∙ ap (λ v. outcome v.commission v.own (reverse v.journal) c.args.event) c.self.view_is
+    ∙ ap (λ v. outcome v.start v.own (reverse v.journal) c.args.event) c.self.view_is
 
 pub returns-clause-legal : goal.returns-clause-legal
-returns-clause-legal c = (invariant_of-self-2 c).legal
+returns-clause-legal c = (invariant_of-self-2 c).0.legal
 
 pub returns-clause-refused : goal.returns-clause-refused
 returns-clause-refused c r =
@@ -42,9 +44,9 @@ returns-clause-refused c r =
     let x : Entry = record { source = c.args.source; line = c.args.line; event = c.args.event; outcome = c.in_ok-served.served.outcome } in
     let made : c.push_reserved.new.self.items ≡ b.entries.items ++ x ∷ [] =
     rw (c.push_reserved.ensures.items, c.reserve.ensures.items, c.copied.ensures, c.of.ensures) refl in
-    let old : SlotView = record { own = b.own; commission = b.opening; journal = b.entries.items } in
-    let legal = subst (Legal b.opening b.own) made (invariant_of-self-2 c).legal in
-    let left = refused_left b.opening b.own b.entries.items x legal r in
-    subst (λ (v : SlotView). IsLeft v (record { own = b.own; commission = b.opening; journal = c.push_reserved.new.self.items }))
+    let old : SlotView = record { own = b.own; start = b.start.value; journal = b.entries.items } in
+    let legal = subst (Legal b.start.value b.own) made (invariant_of-self-2 c).0.legal in
+    let left = refused_left b.start.value b.own b.entries.items x legal r in
+    subst (λ (v : SlotView). IsLeft v (record { own = b.own; start = b.start.value; journal = c.push_reserved.new.self.items }))
     c.self.view_is
-    (subst (λ (js : List Entry). IsLeft old (record { own = b.own; commission = b.opening; journal = js })) (sym made) left)
+    (subst (λ (js : List Entry). IsLeft old (record { own = b.own; start = b.start.value; journal = js })) (sym made) left)

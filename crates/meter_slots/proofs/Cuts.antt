@@ -1,0 +1,372 @@
+-- A slot that goes on where another one ended is the one slot of both journals.
+use Rattle.std.proofs.Common.{◌≡◌, ◌↔◌, ℕ, Bool, List, [], ◌∷◌, ◌++◌, reverse, Option, Some, None, Result, Ok, Err, refl, ap, sym, ◌∙◌, subst}
+use Rattle.std.specs.Prelude.{option_to_list, option_map, slice_index}
+use Rattle.std.specs.Result.{result_ok}
+use Rattle.std.proofs.lemmas.List.{reverse-append, append_assoc, append-nil}
+use Rattle.meter_address.specs.declared.address.Address.{Address}
+use Rattle.meter_address.specs.declared.commission.Mode.{Mode}
+use Rattle.meter_address.specs.declared.commission.Mode.TheVariants.{Five, Seven}
+use Rattle.meter_address.specs.Commission.{Commissioned}
+use Rattle.ell_layer.specs.declared.access.Access.{Access}
+use Rattle.command_queue.specs.declared.command.Command.{Command}
+use Rattle.access_window.specs.Orders.{Orders, confirmed, sent_at, after_stored}
+use Rattle.afl_fragments.specs.Held.{Told, Piece, Message, held, assembled}
+use Rattle.afl_fragments.specs.Short.{told_of, cut_down}
+use Rattle.afl_fragments.proofs.Shortening.{cut_holds, held_goes_on}
+use Rattle.message_check.specs.Steps.{◌>>=◌}
+use Rattle.message_check.specs.Opening.{Found, opened5, opened7, decrypted5}
+use Rattle.message_check.specs.declared.headers.Layers.{Layers}
+use Rattle.message_check.specs.declared.refusal.Reason.{Reason}
+use Rattle.downlink_maker.specs.Downlink.{encrypted_content, message_bytes, mac_of, telegram_to, downlink}
+use Rattle.meter_slots.specs.declared.entry.Entry.{Entry}
+use Rattle.meter_slots.specs.declared.entry.Event.{Event}
+use Rattle.meter_slots.specs.declared.entry.Event.TheVariants.{Hear, Tick, Put, Cancel, Rekey}
+use Rattle.meter_slots.specs.declared.entry.Outcome.{Outcome}
+use Rattle.meter_slots.specs.declared.entry.Outcome.TheVariants.{Stored}
+use Rattle.meter_slots.specs.declared.reading.Reading.{Reading}
+use Rattle.meter_slots.specs.Hearing.{Content, Whole, Part, content_behind, is_response, message_in, received, brought}
+use Rattle.meter_slots.specs.Journal.{Start, commission_of, told, told_by, other_after, other_key, rekeyed, opened_in, compared, genuine_in}
+use Rattle.meter_slots.specs.Journal.{genuine, counters, greater, greatest, last_among, last_counter, Standing, stored_or_refused}
+use Rattle.meter_slots.specs.Journal.{judged, verdict, access_of, access_at, orders_after, standing_with, orders, standing, downlink_with}
+use Rattle.meter_slots.specs.Journal.{heard, answer, outcome, IsJudged, Legal, stored_in, stored, reading_of, readings_back, readings}
+use Rattle.meter_slots.specs.Resuming.{last_of, last_known, resumed, IsSameStanding, resumed_behind, joined, AreLegal, readings_through}
+
+-- what is known behind some entries, of which the latest stands first, with this last reading
+abbrev pub behind : Start → List Entry → Option Reading → Start
+behind c earlier reading = record {
+  address = c.address;
+  mode = c.mode;
+  key = c.key;
+  other = other_key c earlier;
+  last = last_counter c earlier;
+  told = cut_down (told c earlier);
+  orders = orders c earlier;
+  reading = reading;
+}
+
+-- ---- two commissions that differ in numbers alone, and in the second key, where the standing has its own
+
+abbrev numbered : Commissioned → Option ℕ → ℕ → ℕ → Commissioned
+numbered a last down ids = record a { last = last; down = down; ids = ids }
+
+abbrev alike : Commissioned → Option (List ℕ) → Option ℕ → ℕ → ℕ → Commissioned
+alike a other last down ids = record a { other = other; last = last; down = down; ids = ids }
+
+opened_alike : (mode : Mode) (a : Commissioned) (last : Option ℕ) (down ids : ℕ) (m : Message)
+    → opened_in mode (numbered a last down ids) m ≡ opened_in mode a m
+unfolding opened5 opened7 decrypted5
+opened_alike Five a last down ids m = refl
+opened_alike Seven a last down ids m = refl
+
+judged_alike : (a : Commissioned) (last : Option ℕ) (down ids : ℕ) (floor : Option ℕ) (b : Result (Option Message) Reason)
+    → judged (numbered a last down ids) floor b ≡ judged a floor b
+judged_alike a last down ids floor (Err reason) = refl
+judged_alike a last down ids floor (Ok None) = refl
+judged_alike a last down ids floor (Ok (Some m)) =
+    ap (λ (g : Result Found Reason). stored_or_refused (g >>= compared a.mode floor)) (opened_alike a.mode a last down ids m)
+
+genuine_alike : (a : Commissioned) (last : Option ℕ) (down ids : ℕ) (b : Result (Option Message) Reason)
+    → genuine_in (numbered a last down ids) b ≡ genuine_in a b
+genuine_alike a last down ids (Err reason) = refl
+genuine_alike a last down ids (Ok None) = refl
+genuine_alike a last down ids (Ok (Some m)) = ap result_ok (opened_alike a.mode a last down ids m)
+
+verdict_alike : (a : Commissioned) (other : Option (List ℕ)) (last : Option ℕ) (down ids : ℕ) (s : Standing) (t : List ℕ)
+    → verdict (alike a other last down ids) s t ≡ verdict a s t
+verdict_alike a other last down ids s t = judged_alike (rekeyed a s.other) last down ids s.last (brought s.told t (received a.mode t))
+
+told_alike : (a : Commissioned) (other : Option (List ℕ)) (last : Option ℕ) (down ids : ℕ) (event : Event) (o : Outcome)
+    → told_by (alike a other last down ids) event o ≡ told_by a event o
+told_alike a other last down ids (Hear format at t) o = refl
+told_alike a other last down ids Tick o = refl
+told_alike a other last down ids (Put payload) o = refl
+told_alike a other last down ids (Cancel id) o = refl
+told_alike a other last down ids (Rekey key) o = refl
+
+access_alike : (a : Commissioned) (other : Option (List ℕ)) (last : Option ℕ) (down ids : ℕ) (s : Standing) (event : Event)
+    → access_at (alike a other last down ids) s event ≡ access_at a s event
+access_alike a other last down ids s (Hear format at t) =
+    ap (access_of (received a.mode t)) (verdict_alike a other last down ids s t)
+access_alike a other last down ids s Tick = refl
+access_alike a other last down ids s (Put payload) = refl
+access_alike a other last down ids s (Cancel id) = refl
+access_alike a other last down ids s (Rekey key) = refl
+
+stored_alike : (a : Commissioned) (other : Option (List ℕ)) (last : Option ℕ) (down ids : ℕ) (s : Standing) (event : Event)
+    → stored (alike a other last down ids) s event ≡ stored a s event
+stored_alike a other last down ids s (Hear format at t) = ap stored_in (verdict_alike a other last down ids s t)
+stored_alike a other last down ids s Tick = refl
+stored_alike a other last down ids s (Put payload) = refl
+stored_alike a other last down ids s (Cancel id) = refl
+stored_alike a other last down ids s (Rekey key) = refl
+
+downlink_alike : (own : Address) (a : Commissioned) (other : Option (List ℕ)) (last : Option ℕ) (down ids : ℕ) (n : ℕ) (payload : List ℕ)
+    → downlink own (alike a other last down ids) n payload ≡ downlink own a n payload
+unfolding telegram_to message_bytes encrypted_content mac_of
+downlink_alike own a other last down ids n payload = refl
+
+sent_alike : (own : Address) (a : Commissioned) (other : Option (List ℕ)) (last : Option ℕ) (down ids : ℕ) (n : ℕ) (command : Option Command)
+    → option_map (downlink_with own (alike a other last down ids) n) command ≡ option_map (downlink_with own a n) command
+sent_alike own a other last down ids n None = refl
+sent_alike own a other last down ids n (Some command) =
+    ap (λ bytes. Some (record { bytes = bytes; id = command.id; down = n })) (downlink_alike own a other last down ids n command.payload)
+
+heard_alike : (own : Address) (a : Commissioned) (other : Option (List ℕ)) (last : Option ℕ) (down ids : ℕ) (k : Orders) (access : Access)
+    (response : Bool) (v : Result (Option Found) Reason)
+    → heard own (alike a other last down ids) k access response v ≡ heard own a k access response v
+heard_alike own a other last down ids k access response (Err reason) = refl
+heard_alike own a other last down ids k access response (Ok None) = refl
+heard_alike own a other last down ids k access response (Ok (Some f)) =
+    ap (λ sent. Stored f.counter (confirmed k response) sent)
+    (sent_alike own a other last down ids (after_stored k access response).down (sent_at k access response))
+
+answer_alike : (a : Commissioned) (other : Option (List ℕ)) (last : Option ℕ) (down ids : ℕ) (own : Address) (s : Standing) (event : Event)
+    → answer (alike a other last down ids) own s event ≡ answer a own s event
+answer_alike a other last down ids own s (Hear format at t) =
+    let b = alike a other last down ids in
+    let response = is_response (slice_index t 1) in
+    heard_alike own a other last down ids s.orders (access_at b s (Hear format at t)) response (verdict b s t)
+    ∙ ap (λ (x : Access). heard own a s.orders x response (verdict b s t)) (access_alike a other last down ids s (Hear format at t))
+    ∙ ap (heard own a s.orders (access_at a s (Hear format at t)) response) (verdict_alike a other last down ids s t)
+answer_alike a other last down ids own s Tick = refl
+answer_alike a other last down ids own s (Put payload) = refl
+answer_alike a other last down ids own s (Cancel id) = refl
+answer_alike a other last down ids own s (Rekey key) = refl
+
+-- ---- two standings that hold the same
+
+message_same : (xs ys : List Told) (content : Content) → held xs ≡ held ys → message_in xs content ≡ message_in ys content
+message_same xs ys (Whole message) e = refl
+message_same xs ys (Part part) e = ap assembled (held_goes_on (Piece part ∷ []) xs ys e)
+
+brought_same : (xs ys : List Told) (t : List ℕ) (r : Result Layers Reason) → held xs ≡ held ys → brought xs t r ≡ brought ys t r
+brought_same xs ys t (Err reason) e = refl
+brought_same xs ys t (Ok l) e = ap Ok (message_same xs ys (content_behind t l) e)
+
+verdict_same : (a : Commissioned) (s s' : Standing) (t : List ℕ) → IsSameStanding s s' → verdict a s t ≡ verdict a s' t
+verdict_same a s s' t h =
+    ap (λ (o : Option (List ℕ)). judged (rekeyed a o) s.last (brought s.told t (received a.mode t))) h.other
+    ∙ ap (λ (l : Option ℕ). judged (rekeyed a s'.other) l (brought s.told t (received a.mode t))) h.last
+    ∙ ap (judged (rekeyed a s'.other) s'.last) (brought_same s.told s'.told t (received a.mode t) h.held)
+
+access_same : (a : Commissioned) (s s' : Standing) (event : Event) → IsSameStanding s s' → access_at a s event ≡ access_at a s' event
+access_same a s s' (Hear format at t) h = ap (access_of (received a.mode t)) (verdict_same a s s' t h)
+access_same a s s' Tick h = refl
+access_same a s s' (Put payload) h = refl
+access_same a s s' (Cancel id) h = refl
+access_same a s s' (Rekey key) h = refl
+
+stored_same : (a : Commissioned) (s s' : Standing) (event : Event) → IsSameStanding s s' → stored a s event ≡ stored a s' event
+stored_same a s s' (Hear format at t) h = ap stored_in (verdict_same a s s' t h)
+stored_same a s s' Tick h = refl
+stored_same a s s' (Put payload) h = refl
+stored_same a s s' (Cancel id) h = refl
+stored_same a s s' (Rekey key) h = refl
+
+-- no event tells them apart
+pub answer_same : (a : Commissioned) (own : Address) (s s' : Standing) (event : Event) → IsSameStanding s s'
+    → answer a own s event ≡ answer a own s' event
+answer_same a own s s' (Hear format at t) h =
+    let response = is_response (slice_index t 1) in
+    ap (λ (k : Orders). heard own a k (access_at a s (Hear format at t)) response (verdict a s t)) h.orders
+    ∙ ap (λ (x : Access). heard own a s'.orders x response (verdict a s t)) (access_same a s s' (Hear format at t) h)
+    ∙ ap (heard own a s'.orders (access_at a s' (Hear format at t)) response) (verdict_same a s s' t h)
+answer_same a own s s' Tick h = ap (λ (k : Orders). answer a own (record s { orders = k }) Tick) h.orders
+answer_same a own s s' (Put payload) h = ap (λ (k : Orders). answer a own (record s { orders = k }) (Put payload)) h.orders
+answer_same a own s s' (Cancel id) h = ap (λ (k : Orders). answer a own (record s { orders = k }) (Cancel id)) h.orders
+answer_same a own s s' (Rekey key) h = refl
+
+-- ---- what both journals come to
+
+last_floor : (mode : Mode) (xs ys : List ℕ) → last_among mode (xs ++ option_to_list (last_among mode ys)) ≡ last_among mode (xs ++ ys)
+last_floor Five [] [] = refl
+last_floor Five [] (y ∷ ys) = refl
+last_floor Five (x ∷ xs) ys = refl
+last_floor Seven [] ys = alone (greatest ys)
+  where
+    alone : (o : Option ℕ) → greatest (option_to_list o) ≡ o
+    alone None = refl
+    alone (Some n) = refl
+last_floor Seven (x ∷ xs) ys = ap (greater x) (last_floor Seven xs ys)
+
+module _ (c : Start) (earlier : List Entry) (reading : Option Reading) where
+  abbrev next : Start
+  next = behind c earlier reading
+
+  other_cut : (later : List Entry) → other_key next later ≡ other_key c (later ++ earlier)
+  other_cut [] = refl
+  other_cut (x ∷ later) = ap (other_after c.mode x.event) (other_cut later)
+
+  held_cut : (later : List Entry) → held (told next later) ≡ held (told c (later ++ earlier))
+  unfolding told
+  held_cut [] = cut_holds (told c earlier)
+  held_cut (x ∷ later) =
+      ap (λ ts. held (ts ++ told next later))
+      (told_alike (commission_of c) (other_key c earlier) (last_counter c earlier) (orders c earlier).down (orders c earlier).queue.ids
+      x.event x.outcome)
+      ∙ held_goes_on (told_by (commission_of c) x.event x.outcome) (told next later) (told c (later ++ earlier)) (held_cut later)
+
+  genuine_cut : (later : List Entry) (event : Event) → genuine next later event ≡ genuine c (later ++ earlier) event
+  genuine_cut later (Hear format at t) =
+      let l = last_counter c earlier in
+      let k = orders c earlier in
+      let both = later ++ earlier in
+      ap (λ (o : Option (List ℕ)). genuine_in (rekeyed (commission_of next) o) (brought (told next later) t (received c.mode t)))
+      (other_cut later)
+      ∙ ap (genuine_in (rekeyed (commission_of next) (other_key c both)))
+      (brought_same (told next later) (told c both) t (received c.mode t) (held_cut later))
+      ∙ genuine_alike (rekeyed (commission_of c) (other_key c both)) l k.down k.queue.ids (brought (told c both) t (received c.mode t))
+  genuine_cut later Tick = refl
+  genuine_cut later (Put payload) = refl
+  genuine_cut later (Cancel id) = refl
+  genuine_cut later (Rekey key) = refl
+
+  abbrev counter_in : Option Found → List ℕ
+  counter_in found = option_to_list (option_map (λ f. f.counter) found)
+
+  counters_cut : (later : List Entry) → counters next later ++ counters c earlier ≡ counters c (later ++ earlier)
+  counters_cut [] = refl
+  counters_cut (x ∷ later) =
+      append_assoc (counter_in (genuine next later x.event)) (counters next later) (counters c earlier)
+      ∙ ap (λ (f : Option Found). counter_in f ++ (counters next later ++ counters c earlier)) (genuine_cut later x.event)
+      ∙ ap (λ ns. counter_in (genuine c (later ++ earlier) x.event) ++ ns) (counters_cut later)
+
+  last_cut : (later : List Entry) → last_counter next later ≡ last_counter c (later ++ earlier)
+  unfolding last_counter
+  last_cut later =
+      last_floor c.mode (counters next later) (counters c earlier ++ option_to_list c.last)
+      ∙ ap (last_among c.mode) (sym (append_assoc (counters next later) (counters c earlier) (option_to_list c.last)))
+      ∙ ap (λ ns. last_among c.mode (ns ++ option_to_list c.last)) (counters_cut later)
+
+  access_cut : (later : List Entry) (k : Orders) (event : Event)
+      → access_at (commission_of next) (standing_with next later k) event ≡ access_at (commission_of c) (standing_with c (later ++ earlier) k) event
+  access_cut later k event =
+      access_alike (commission_of c) (other_key c earlier) (last_counter c earlier) (orders c earlier).down (orders c earlier).queue.ids
+      (standing_with next later k) event
+      ∙ access_same (commission_of c) (standing_with next later k) (standing_with c (later ++ earlier) k) event
+      (record { other = other_cut later; last = last_cut later; held = held_cut later; orders = refl })
+
+  orders_cut : (later : List Entry) → orders next later ≡ orders c (later ++ earlier)
+  orders_cut [] = refl
+  orders_cut (x ∷ later) =
+      ap (λ (k : Orders). orders_after k (access_at (commission_of next) (standing_with next later k) x.event) x.event x.outcome)
+      (orders_cut later)
+      ∙ ap (λ (a : Access). orders_after (orders c (later ++ earlier)) a x.event x.outcome)
+      (access_cut later (orders c (later ++ earlier)) x.event)
+
+  -- what the later entries come to is what all entries come to
+  pub standing_cut : (later : List Entry) → IsSameStanding (standing next later) (standing c (later ++ earlier))
+  standing_cut later = record { other = other_cut later; last = last_cut later; held = held_cut later; orders = orders_cut later }
+
+  outcome_cut : (own : Address) (later : List Entry) (event : Event) → outcome next own later event ≡ outcome c own (later ++ earlier) event
+  unfolding outcome
+  outcome_cut own later event =
+      answer_alike (commission_of c) (other_key c earlier) (last_counter c earlier) (orders c earlier).down (orders c earlier).queue.ids own
+      (standing next later) event
+      ∙ answer_same (commission_of c) own (standing next later) (standing c (later ++ earlier)) event (standing_cut later)
+
+  stored_cut : (later : List Entry) (event : Event)
+      → stored (commission_of next) (standing next later) event ≡ stored (commission_of c) (standing c (later ++ earlier)) event
+  stored_cut later event =
+      stored_alike (commission_of c) (other_key c earlier) (last_counter c earlier) (orders c earlier).down (orders c earlier).queue.ids
+      (standing next later) event
+      ∙ stored_same (commission_of c) (standing next later) (standing c (later ++ earlier)) event (standing_cut later)
+
+  judged_parts : (own : Address) (later : List Entry) → IsJudged c own (later ++ earlier) → IsJudged c own earlier × IsJudged next own later
+  judged_parts own [] j = (j, tt)
+  judged_parts own (x ∷ later) j =
+      let rest = judged_parts own later j.1 in
+      (rest.0, (j.0 ∙ sym (outcome_cut own later x.event), rest.1))
+
+  judged_joined : (own : Address) (later : List Entry) → IsJudged c own earlier → IsJudged next own later → IsJudged c own (later ++ earlier)
+  judged_joined own [] before j = before
+  judged_joined own (x ∷ later) before j = (j.0 ∙ outcome_cut own later x.event, judged_joined own later before j.1)
+
+  readings_cut : (later : List Entry) → readings_back c (later ++ earlier) ≡ readings_back c earlier ++ readings_back next later
+  readings_cut [] = sym (append-nil (readings_back c earlier))
+  readings_cut (x ∷ later) =
+      ap (λ rs. rs ++ reading_of x.event (stored (commission_of c) (standing c (later ++ earlier)) x.event)) (readings_cut later)
+      ∙ ap (λ (f : Option Found). (readings_back c earlier ++ readings_back next later) ++ reading_of x.event f)
+      (sym (stored_cut later x.event))
+      ∙ append_assoc (readings_back c earlier) (readings_back next later)
+      (reading_of x.event (stored (commission_of next) (standing next later) x.event))
+
+  behind_cut : (later : List Entry) (r : Option Reading) → behind next later r ≡ behind c (later ++ earlier) r
+  behind_cut later r =
+      let both = later ++ earlier in
+      ap (λ (o : Option (List ℕ)). record (behind next later r) { other = o }) (other_cut later)
+      ∙ ap (λ (l : Option ℕ). record (behind next later r) { other = other_key c both; last = l }) (last_cut later)
+      ∙ ap (λ hs. record (behind next later r) { other = other_key c both; last = last_counter c both; told = told_of hs }) (held_cut later)
+      ∙ ap (λ (k : Orders). record (behind c both r) { orders = k }) (orders_cut later)
+
+-- ---- journals, the oldest entry first
+
+module _ (c : Start) (before : List Entry) where
+  pub outcome_goes_on : (own : Address) (after : List Entry) (event : Event)
+      → outcome (resumed c before) own (reverse after) event ≡ outcome c own (reverse (before ++ after)) event
+  outcome_goes_on own after event =
+      outcome_cut c (reverse before) (last_known c before) own (reverse after) event
+      ∙ ap (λ (es : List Entry). outcome c own es event) (sym (reverse-append before after))
+
+  pub legal_parts : (own : Address) (after : List Entry) → Legal c own (before ++ after) → Legal c own before × Legal (resumed c before) own after
+  legal_parts own after j =
+      judged_parts c (reverse before) (last_known c before) own (reverse after) (subst (IsJudged c own) (reverse-append before after) j)
+
+  pub legal_joined : (own : Address) (after : List Entry) → Legal c own before → Legal (resumed c before) own after → Legal c own (before ++ after)
+  legal_joined own after j k =
+      subst (IsJudged c own) (sym (reverse-append before after))
+      (judged_joined c (reverse before) (last_known c before) own (reverse after) j k)
+
+  pub readings_go_on : (after : List Entry) → readings c (before ++ after) ≡ readings c before ++ readings (resumed c before) after
+  unfolding readings
+  readings_go_on after =
+      ap (readings_back c) (reverse-append before after) ∙ readings_cut c (reverse before) (last_known c before) (reverse after)
+
+  last_of-append : (o : Option Reading) (xs ys : List Reading) → last_of o (xs ++ ys) ≡ last_of (last_of o xs) ys
+  last_of-append o [] ys = refl
+  last_of-append o (x ∷ xs) ys = last_of-append (Some x) xs ys
+
+  pub resumed_goes_on : (after : List Entry) → resumed (resumed c before) after ≡ resumed c (before ++ after)
+  resumed_goes_on after =
+      let next = resumed c before in
+      behind_cut c (reverse before) (last_known c before) (reverse after) (last_known next after)
+      ∙ ap (λ (es : List Entry). behind c es (last_known next after)) (sym (reverse-append before after))
+      ∙ ap (behind c (reverse (before ++ after)))
+      (sym (last_of-append c.reading (readings c before) (readings next after)) ∙ ap (last_of c.reading) (sym (readings_go_on after)))
+
+-- ---- many journals
+
+-- nothing is lost where nothing was heard, but what isn't held
+pub resumed_through : (c : Start) (first : List Entry) (journals : List (List Entry))
+    → resumed_behind (resumed c first) journals ≡ resumed c (first ++ joined journals)
+resumed_through c first [] = ap (resumed c) (sym (append-nil first))
+resumed_through c first (journal ∷ later) =
+    ap (λ (s : Start). resumed_behind s later) (resumed_goes_on c first journal)
+    ∙ resumed_through c (first ++ journal) later
+    ∙ ap (resumed c) (append_assoc first journal (joined later))
+
+pub legal_through : (c : Start) (own : Address) (first : List Entry) (journals : List (List Entry))
+    → (Legal c own first × AreLegal (resumed c first) own journals) ↔ Legal c own (first ++ joined journals)
+legal_through c own first [] =
+    (λ p. subst (Legal c own) (sym (append-nil first)) p.0, λ j. (subst (Legal c own) (append-nil first) j, tt))
+legal_through c own first (journal ∷ later) =
+    let rest = legal_through c own (first ++ journal) later in
+    let same = append_assoc first journal (joined later) in
+    let next = resumed_goes_on c first journal in (
+      λ p. subst (Legal c own) same
+          (rest.0 (legal_joined c first own journal p.0 p.1.0, subst (λ (s : Start). AreLegal s own later) next p.1.1)),
+      λ j. let both = rest.1 (subst (Legal c own) (sym same) j) in
+          let parts = legal_parts c first own journal both.0 in
+          (parts.0, (parts.1, subst (λ (s : Start). AreLegal s own later) (sym next) both.1)),
+    )
+
+pub readings_of_all : (c : Start) (first : List Entry) (journals : List (List Entry))
+    → readings c (first ++ joined journals) ≡ readings c first ++ readings_through (resumed c first) journals
+readings_of_all c first [] = ap (readings c) (append-nil first) ∙ sym (append-nil (readings c first))
+readings_of_all c first (journal ∷ later) =
+    let next = resumed c first in
+    ap (readings c) (sym (append_assoc first journal (joined later)))
+    ∙ readings_of_all c (first ++ journal) later
+    ∙ ap (λ (s : Start). readings c (first ++ journal) ++ readings_through s later) (sym (resumed_goes_on c first journal))
+    ∙ ap (λ rs. rs ++ readings_through (resumed next journal) later) (readings_go_on c first journal)
+    ∙ append_assoc (readings c first) (readings next journal) (readings_through (resumed next journal) later)

@@ -1,0 +1,42 @@
+-- What a slot begins with, and what is known behind its journal.
+use Rattle.std.proofs.Common.{◌≡◌, ℕ, zero, suc, ◌+◌, List, [], ◌∷◌, ◌++◌, take, Option, Some, refl, ap, sym, arith, add-one}
+use Rattle.std.specs.Prelude.{◌-◌, length, slice_get, IfSome}
+use Rattle.std.specs.List.{All}
+use Rattle.std.proofs.lemmas.List.Elements.{All-nil, All-cons, All-head, All-tail}
+use Rattle.afl_fragments.specs.declared.places.HeldPart.{HeldPart}
+use Rattle.afl_fragments.specs.Held.{Told, StandsFor}
+use Rattle.afl_fragments.specs.Short.{told_of, cut_down}
+use Rattle.meter_slots.specs.declared.reading.Reading.{Reading}
+use Rattle.meter_slots.specs.Resuming.{last_of}
+
+-- what holds of each of the first n holds of one more
+all_suc : {X : Type 0} (P : X → Type 0) (xs : List X) (n : ℕ) → IfSome (slice_get xs n) P → All P (take n xs) → All P (take (suc n) xs)
+all_suc P [] n h all = All-nil P
+all_suc P (x ∷ xs) zero h all = All-cons P x [] h (All-nil P)
+all_suc P (x ∷ xs) (suc n) h all =
+    All-cons P x (take (suc n) xs) (All-head P x (take n xs) all) (all_suc P xs n h (All-tail P x (take n xs) all))
+
+pub all_more : {X : Type 0} (P : X → Type 0) (xs : List X) (n : ℕ) → IfSome (slice_get xs n) P → All P (take n xs) → All P (take (n + 1) xs)
+all_more P xs n h all = rw add-one (all_suc P xs n h all)
+
+-- the last of some readings
+pub last_of-push : (before : Option Reading) (rs : List Reading) (r : Reading) → last_of before (rs ++ r ∷ []) ≡ Some r
+last_of-push before [] r = refl
+last_of-push before (x ∷ rs) r = last_of-push (Some x) rs r
+
+-- what is held after a history is told as this history is, cut down
+pub told_is : (hs : List HeldPart) (told : List Told) → StandsFor hs told → told_of hs ≡ cut_down told
+told_is hs told stands = ap told_of stands
+
+last_at : (before : Option Reading) (rs : List Reading) (i : ℕ) (r : Reading) → length rs ≡ suc i → Some r ≡ slice_get rs i
+    → last_of before rs ≡ Some r
+last_at before [] i r long h = absurd cc
+last_at before (x ∷ []) zero r long h = sym h
+last_at before (x ∷ []) (suc i) r long h = absurd (omega arith)
+last_at before (x ∷ y ∷ rs) zero r long h = absurd (omega arith)
+last_at before (x ∷ y ∷ rs) (suc i) r long h = last_at (Some x) (y ∷ rs) i r (omega arith) h
+
+pub last_of-last : (before : Option Reading) (rs : List Reading) (r : Reading) → Some r ≡ slice_get rs (length rs - 1)
+    → last_of before rs ≡ Some r
+last_of-last before [] r h = absurd cc
+last_of-last before (x ∷ rs) r h = last_at before (x ∷ rs) (length (x ∷ rs) - 1) r (omega arith) h

@@ -1,0 +1,194 @@
+//! What a slot begins with.
+ghost use Rattle.std.specs.Prelude.{◌≡◌, ◌≤◌, length, take};
+ghost use Rattle.meter_slots.specs.Laws.{IsPayload, HasPayload, AreReady};
+
+use crate::commands::Commands;
+use crate::fragments::{Fragments, hold, part_at, part_count, tick};
+use crate::reading::{Bytes, Reading, Room};
+use crate::standing::fill;
+use access_window::Window;
+use afl_fragments::{HeldPart, Part};
+use command_queue::{Command, Queue};
+use meter_address::{Address, Commission, Mode};
+use outer_io::Memory;
+use std::alloc::Global;
+use std::marker::Model;
+
+/// What is known of a meter when its slot is made: what is commissioned of it, and what the end of an earlier session left: the fragments
+/// that are held, the commands that wait with their window, and the last reading.
+#[derive(Drop)]
+pub struct MeterStart {
+    pub(crate) commission: Commission,
+    pub(crate) parts: Fragments,
+    pub(crate) commands: Commands,
+    pub(crate) reading: Option<Reading>,
+}
+
+impl Model for MeterStart {
+    ghost use Rattle.afl_fragments.specs.Held.{StandsFor};
+    ghost use Rattle.afl_fragments.specs.Short.{told_of};
+    ghost use Rattle.meter_slots.specs.Journal.{Start};
+    ghost use Rattle.meter_slots.specs.Keeping.{held_by};
+
+    ghost Value = { Start };
+
+    ghost view = { λ s. record {
+      address = s.commission.address;
+      mode = s.commission.mode;
+      key = s.commission.key;
+      other = s.commission.other;
+      last = s.commission.last;
+      told = told_of (held_by s.parts);
+      orders = s.commands;
+      reading = s.reading;
+    } };
+
+    ghost invariant = { λ s. StandsFor (held_by s.parts) (told_of (held_by s.parts)) };
+}
+
+impl MeterStart {
+    ghost use Rattle.std.specs.Prelude.{◌≡◌, ◌≤◌, ◌∷◌, Some, OnOk, OnErr, IfSome, length, slice_get, option_copied};
+    ghost use Rattle.access_window.specs.Orders.{Agrees};
+    ghost use Rattle.command_queue.specs.Pending.{IsSound};
+    ghost use Rattle.afl_fragments.specs.Held.{Piece, Tick, held};
+    ghost use Rattle.afl_fragments.specs.Short.{cut_down};
+    ghost use Rattle.meter_slots.specs.Journal.{commission_of, fresh_start};
+    ghost use Rattle.meter_slots.specs.Restoring.{may_restore, restored};
+
+    /// The start of a commissioned meter of which nothing is known but its commission.
+    pub fn new(commission: Commission) -> MeterStart
+        ensures { result ≡ fresh_start commission }
+    {
+        MeterStart {
+            commission,
+            parts: None,
+            commands: Commands::new(commission.ids, commission.down),
+            reading: None,
+        }
+    }
+
+    /// A fragment that is held, later than those before it.
+    pub fn hold(&mut self, alloc: Global, part: Part) -> Result<(), Memory>
+        ensures ok { OnOk result (self.new ≡ record self.old { told = cut_down (Piece part ∷ self.old.told) }) }
+        ensures err { OnErr result (self.new ≡ self.old) }
+    {
+        hold(alloc, &mut self.parts, part)?;
+        Ok(())
+    }
+
+    /// A tick that came after them.
+    pub fn tick(&mut self)
+        ensures { self.new ≡ record self.old { told = cut_down (Tick ∷ self.old.told) } }
+    {
+        tick(&mut self.parts);
+    }
+
+    /// A command that waited before, behind the others; `waits` says whether the window waits for it. Where it may not stand there nothing
+    /// changes.
+    pub fn restore(&mut self, command: Command, waits: bool) -> bool
+        ensures answer { result ≡ may_restore self.old.orders command waits }
+        ensures after { self.new ≡ record self.old { orders = restored self.old.orders command waits } }
+    {
+        self.commands.restore(command, waits)
+    }
+
+    /// A reading, which is the last one from now on. For want of memory nothing changes.
+    pub fn keep(
+        &mut self,
+        alloc: Global,
+        at: u64,
+        counter: u32,
+        payload: &[u8],
+    ) -> Result<(), Memory>
+        requires { length payload.now ≤ 4096 }
+        ensures ok { OnOk result (self.new ≡ record self.old {
+          reading = Some (record { at = at; counter = counter; payload = payload.now });
+        }) }
+        ensures err { OnErr result (self.new ≡ self.old) }
+    {
+        let room = Room::with_capacity(alloc, payload.len())?;
+        self.reading = Some(Reading {
+            at,
+            counter,
+            payload: Bytes::from_room(fill(room, payload)),
+        });
+        Ok(())
+    }
+
+    /// How the meter's messages are secured.
+    pub fn mode(&self) -> Mode
+        ensures { result ≡ self.now.mode }
+    {
+        self.commission.mode
+    }
+
+    /// The meter's address.
+    pub fn address(&self) -> Address
+        ensures { result ≡ self.now.address }
+    {
+        self.commission.address
+    }
+
+    /// What is commissioned of it now.
+    pub fn commission(&self) -> Commission
+        ensures { result ≡ commission_of self.now }
+    {
+        let mut commission = self.commission;
+        commission.down = self.commands.down();
+        commission.ids = self.commands.queue().ids();
+        commission
+    }
+
+    /// How many fragments are held.
+    pub fn part_count(&self) -> usize
+        ensures count { result ≡ length (held self.now.told) }
+        ensures few { length (held self.now.told) ≤ 16 }
+    {
+        part_count(&self.parts)
+    }
+
+    /// The fragment at a place, of which the one heard last has the first.
+    pub fn part_at(&self, place: usize) -> Option<&HeldPart>
+        ensures held { option_copied result ≡ slice_get (held self.now.told) place }
+        ensures counted { IfSome result (λ h. h.now.part.afl.fid ≤ 16) }
+    {
+        part_at(&self.parts, place)
+    }
+
+    /// What was told is cut down to what is held, and the window agrees with the queue. Nothing is done: what is written needs it.
+    pub fn show(&self)
+        ensures short { cut_down self.now.told ≡ self.now.told }
+        ensures agrees { Agrees self.now.orders.window self.now.orders.queue }
+        ensures sound { IsSound self.now.orders.queue }
+    {
+        self.commands.show();
+    }
+
+    /// The commands that wait.
+    pub fn queue(&self) -> &Queue
+        ensures { result.now ≡ self.now.orders.queue }
+    {
+        self.commands.queue()
+    }
+
+    /// Whether one of them was sent and waits for a response.
+    pub fn window(&self) -> Window
+        ensures { result ≡ self.now.orders.window }
+    {
+        self.commands.window()
+    }
+
+    /// The last reading.
+    pub fn reading(&self) -> Option<&Reading>
+        ensures { option_copied result ≡ self.now.reading }
+    {
+        self.reading.as_ref()
+    }
+
+    // Each command that waits has 1 to 94 bytes. Nothing is done: the journal's proof needs it.
+    pub(crate) fn show_commands(&self)
+        ensures { AreReady self.now.orders }
+    {
+        self.commands.show_payloads();
+    }
+}

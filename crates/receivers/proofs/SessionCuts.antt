@@ -1,0 +1,202 @@
+-- Two sessions, of which the second goes on where the first one ended, are one session.
+use Rattle.std.proofs.Common.{◌≡◌, ℕ, ◌+◌, ◌==◌, ◌||◌, Bool, true, false, cond, List, [], ◌∷◌, ◌++◌, length, map, filter, Option, Some, None, refl, ap, sym, ◌∙◌, arith, subst}
+use Rattle.std.specs.Prelude.{option_map}
+use Rattle.std.specs.List.{filter_map, enumerate_from, cons_option}
+use Rattle.std.proofs.lemmas.Bool.Decides.{nat_tests}
+use Rattle.std.proofs.lemmas.List.{map-append}
+use Rattle.std.proofs.lemmas.List.Elements.{filter-append, filter_map-append}
+use Rattle.outer_io.specs.Each.{EachWith}
+use Rattle.meter_address.specs.declared.address.Address.{Address}
+use Rattle.meter_slots.specs.declared.entry.Entry.{Entry}
+use Rattle.meter_slots.specs.declared.entry.Event.{Event}
+use Rattle.meter_slots.specs.Journal.{Start, SlotView, Legal}
+use Rattle.meter_slots.specs.Resuming.{resumed}
+use Rattle.meter_slots.specs.World.{WorldView, is_commissioned}
+use Rattle.meter_slots.proofs.Cuts.{legal_joined}
+use Rattle.meter_slots.proofs.Renumbering.{legal_renumbered}
+use Rattle.stranger_ring.specs.declared.strangers.Heard.{Heard}
+use Rattle.receivers.specs.declared.told.Told.{Told}
+use Rattle.receivers.specs.declared.told.Told.TheVariants as told
+use Rattle.receivers.specs.Session.{heard_by, event_at, lines_for, stranger_at, lines_of_strangers, entries_by, steps_by, notes_by}
+use Rattle.receivers.specs.Session.{IsMetersSlot, IsSession}
+use Rattle.receivers.specs.Cuts.{AreHeardOn, starts_behind, numbered_on, noted_on, slot_on, slots_on, world_on, CutSessionsAreOne}
+
+-- ---- numbered lines
+
+enumerate_on : {X : Type 0} (m : ℕ) (xs ys : List X) → enumerate_from m (xs ++ ys) ≡ enumerate_from m xs ++ enumerate_from (m + length xs) ys
+enumerate_on m [] ys = let e : m ≡ m + 0 = omega arith in ap (λ k. enumerate_from k ys) e
+enumerate_on {X} m (x ∷ xs) ys =
+    let e : (m + 1) + length xs ≡ m + length (x ∷ xs) = omega arith in
+    ap (λ (ls : List (ℕ × X)). (m, x) ∷ ls)
+    (enumerate_on (m + 1) xs ys ∙ ap (λ k. enumerate_from (m + 1) xs ++ enumerate_from k ys) e)
+
+abbrev later_by : {E : Type 0} → ℕ → ℕ × E → ℕ × E
+later_by n p = (n + p.0, p.1)
+
+cons_map : {X Y : Type 0} (f : X → Y) (o : Option X) (xs : List X) → cons_option (option_map f o) (map f xs) ≡ map f (cons_option o xs)
+cons_map f None xs = refl
+cons_map f (Some x) xs = refl
+
+module _ {E : Type 0} (f : ℕ → Told → Option (ℕ × E)) (n : ℕ) (natural : (m : ℕ) (t : Told) → f (n + m) t ≡ option_map (later_by n) (f m t)) where
+  later_lines : (m : ℕ) (h : List Told)
+      → filter_map (λ l. f l.0 l.1) (enumerate_from (n + m) h) ≡ map (later_by n) (filter_map (λ l. f l.0 l.1) (enumerate_from m h))
+  later_lines m [] = refl
+  later_lines m (t ∷ h) =
+      let e : (n + m) + 1 ≡ n + (m + 1) = omega arith in
+      ap (λ k. cons_option (f (n + m) t) (filter_map (λ l. f l.0 l.1) (enumerate_from k h))) e
+      ∙ ap (cons_option (f (n + m) t)) (later_lines (m + 1) h)
+      ∙ ap (λ o. cons_option o (map (later_by n) (filter_map (λ l. f l.0 l.1) (enumerate_from (m + 1) h)))) (natural m t)
+      ∙ cons_map (later_by n) (f m t) (filter_map (λ l. f l.0 l.1) (enumerate_from (m + 1) h))
+
+-- the lines of a receiver that heard some and then others
+lines_on : {E : Type 0} (f : ℕ → Told → Option (ℕ × E)) (before after : List Told)
+    → ((m : ℕ) (t : Told) → f (length before + m) t ≡ option_map (later_by (length before)) (f m t))
+    → filter_map (λ l. f l.0 l.1) (enumerate_from 1 (before ++ after))
+    ≡ filter_map (λ l. f l.0 l.1) (enumerate_from 1 before)
+    ++ map (later_by (length before)) (filter_map (λ l. f l.0 l.1) (enumerate_from 1 after))
+lines_on f before after natural =
+    let n = length before in
+    let e : 1 + n ≡ n + 1 = omega arith in
+    ap (filter_map (λ l. f l.0 l.1)) (enumerate_on 1 before after ∙ ap (λ k. enumerate_from 1 before ++ enumerate_from k after) e)
+    ∙ filter_map-append (λ l. f l.0 l.1) (enumerate_from 1 before) (enumerate_from (n + 1) after)
+    ∙ ap (λ ls. filter_map (λ l. f l.0 l.1) (enumerate_from 1 before) ++ ls) (later_lines f n natural 1 after)
+
+event_if : (n m : ℕ) (event : Event) (b : Bool)
+    → cond b (Some (n + m, event)) None ≡ option_map (later_by n) (cond b (Some (m, event)) None)
+event_if n m event true = refl
+event_if n m event false = refl
+
+event_later : (a : Address) (n m : ℕ) (t : Told) → event_at a (n + m) t ≡ option_map (later_by n) (event_at a m t)
+event_later a n m (told.Event address event) = event_if n m event (a.0 == address.0)
+event_later a n m told.Unframed = refl
+event_later a n m told.Bad = refl
+
+stranger_if : (n m : ℕ) (address : Address) (b : Bool)
+    → cond b None (Some (n + m, address)) ≡ option_map (later_by n) (cond b None (Some (m, address)))
+stranger_if n m address true = refl
+stranger_if n m address false = refl
+
+stranger_later : (cs : List Start) (n m : ℕ) (t : Told) → stranger_at cs (n + m) t ≡ option_map (later_by n) (stranger_at cs m t)
+stranger_later cs n m (told.Event address event) = stranger_if n m address (is_commissioned cs address)
+stranger_later cs n m told.Unframed = refl
+stranger_later cs n m told.Bad = refl
+
+-- ---- a receiver's part of a journal, and of the strangers' lines
+
+is_number : (a w : ℕ) → (a == w) ≡ true → a ≡ w
+is_number a w h = grind (arith, nat_tests)
+
+module _ (before : List (List Told)) (w : ℕ) where
+  abbrev n : ℕ
+  n = length (heard_by w before)
+
+  abbrev step : Entry → ℕ × Event
+  step x = (x.line, x.event)
+
+  step_on : (x : Entry) (xs ys : List Entry) (b : Bool) → (x.source == w) ≡ b → map step ys ≡ map (later_by n) (map step xs)
+      → map step (cond b (numbered_on before x ∷ ys) ys) ≡ map (later_by n) (map step (cond b (x ∷ xs) xs))
+  step_on x xs ys true h e =
+      let same : (length (heard_by x.source before) + x.line, x.event) ≡ later_by n (step x) =
+      ap (λ v. (length (heard_by v before) + x.line, x.event)) (is_number x.source w h) in
+      ap (λ (p : ℕ × Event). p ∷ map step ys) same ∙ ap (λ (ps : List (ℕ × Event)). later_by n (step x) ∷ ps) e
+  step_on x xs ys false h e = e
+
+  steps_on : (journal : List Entry) → steps_by w (map (numbered_on before) journal) ≡ map (later_by n) (steps_by w journal)
+  steps_on [] = refl
+  steps_on (x ∷ journal) =
+      step_on x (entries_by w journal) (entries_by w (map (numbered_on before) journal)) (x.source == w) refl (steps_on journal)
+
+  abbrev note : Heard → ℕ × Address
+  note h = (h.line, h.address)
+
+  note_on : (x : Heard) (xs ys : List Heard) (b : Bool) → (x.source == w) ≡ b → map note ys ≡ map (later_by n) (map note xs)
+      → map note (cond b (noted_on before x ∷ ys) ys) ≡ map (later_by n) (map note (cond b (x ∷ xs) xs))
+  note_on x xs ys true h e =
+      let same : (length (heard_by x.source before) + x.line, x.address) ≡ later_by n (note x) =
+      ap (λ v. (length (heard_by v before) + x.line, x.address)) (is_number x.source w h) in
+      ap (λ (p : ℕ × Address). p ∷ map note ys) same ∙ ap (λ (ps : List (ℕ × Address)). later_by n (note x) ∷ ps) e
+  note_on x xs ys false h e = e
+
+  notes_on : (heard : List Heard) → notes_by w (map (noted_on before) heard) ≡ map (later_by n) (notes_by w heard)
+  notes_on [] = refl
+  notes_on (x ∷ heard) =
+      note_on x (filter (λ h. h.source == w) heard) (filter (λ h. h.source == w) (map (noted_on before) heard)) (x.source == w) refl
+      (notes_on heard)
+
+-- ---- one meter
+
+module _ (own : Address) (before after all : List (List Told)) (on : AreHeardOn before after all) where
+  slot_cut : (c : Start) (b d : SlotView) → IsMetersSlot own before c b → IsMetersSlot own after (resumed b.start b.journal) d
+      → IsMetersSlot own all c (slot_on before b d)
+  slot_cut c b d first second =
+      let next : resumed b.start b.journal ≡ resumed c b.journal = ap (λ (s : Start). resumed s b.journal) first.commission_is in
+      let legal : Legal (resumed c b.journal) own d.journal = subst (λ (s : Start). Legal s own d.journal) next second.legal in
+      record {
+        own_is = first.own_is;
+        commission_is = first.commission_is;
+        legal = legal_joined c b.journal own (map (numbered_on before) d.journal) first.legal
+            (legal_renumbered (numbered_on before) (λ x. refl) (λ x. refl) (resumed c b.journal) own d.journal legal);
+        lines = λ w.
+            ap (map (λ (x : Entry). (x.line, x.event)))
+            (filter-append (λ (x : Entry). x.source == w) b.journal (map (numbered_on before) d.journal))
+            ∙ map-append (λ (x : Entry). (x.line, x.event)) (entries_by w b.journal) (entries_by w (map (numbered_on before) d.journal))
+            ∙ ap (λ ls. steps_by w b.journal ++ ls) (steps_on before w d.journal)
+            ∙ ap (λ ls. ls ++ map (later_by (length (heard_by w before))) (steps_by w d.journal)) (first.lines w)
+            ∙ ap (λ ls. lines_for c.address (heard_by w before) ++ map (later_by (length (heard_by w before))) ls) (second.lines w ∙ same b first w)
+            ∙ sym (lines_on (event_at c.address) (heard_by w before) (heard_by w after) (event_later c.address (length (heard_by w before))))
+            ∙ ap (lines_for c.address) (sym (on w));
+      }
+    where
+      same : (b : SlotView) → IsMetersSlot own before c b → (w : ℕ) → lines_for b.start.address (heard_by w after) ≡ lines_for c.address (heard_by w after)
+      same b first w = ap (λ (s : Start). lines_for s.address (heard_by w after)) first.commission_is
+
+  slots_cut : (cs : List Start) (bs ds : List SlotView) → EachWith (IsMetersSlot own before) cs bs
+      → EachWith (IsMetersSlot own after) (starts_behind bs) ds → EachWith (IsMetersSlot own all) cs (slots_on before bs ds)
+  slots_cut [] [] [] first second = tt
+  slots_cut [] [] (d ∷ ds) first second = absurd second
+  slots_cut [] (b ∷ bs) ds first second = absurd first
+  slots_cut (c ∷ cs) [] ds first second = absurd first
+  slots_cut (c ∷ cs) (b ∷ bs) [] first second = absurd second
+  slots_cut (c ∷ cs) (b ∷ bs) (d ∷ ds) first second = (slot_cut c b d first.0 second.0, slots_cut cs bs ds first.1 second.1)
+
+  -- the same addresses are commissioned
+  any_behind : (address : Address) (cs : List Start) (bs : List SlotView) → EachWith (IsMetersSlot own before) cs bs
+      → is_commissioned (starts_behind bs) address ≡ is_commissioned cs address
+  any_behind address [] [] first = refl
+  any_behind address [] (b ∷ bs) first = absurd first
+  any_behind address (c ∷ cs) [] first = absurd first
+  any_behind address (c ∷ cs) (b ∷ bs) first =
+      ap (λ (s : Start). (s.address.0 == address.0) || is_commissioned (starts_behind bs) address) first.0.commission_is
+      ∙ ap (λ t. (c.address.0 == address.0) || t) (any_behind address cs bs first.1)
+
+  stranger_behind : (cs : List Start) (bs : List SlotView) → EachWith (IsMetersSlot own before) cs bs → (line : ℕ) (t : Told)
+      → stranger_at (starts_behind bs) line t ≡ stranger_at cs line t
+  stranger_behind cs bs first line (told.Event address event) =
+      ap (λ b. cond b None (Some (line, address))) (any_behind address cs bs first)
+  stranger_behind cs bs first line told.Unframed = refl
+  stranger_behind cs bs first line told.Bad = refl
+
+  filter_same : {X Y : Type 0} (f g : X → Option Y) → ((x : X) → f x ≡ g x) → (xs : List X) → filter_map f xs ≡ filter_map g xs
+  filter_same f g e [] = refl
+  filter_same f g e (x ∷ xs) = ap (λ o. cons_option o (filter_map f xs)) (e x) ∙ ap (cons_option (g x)) (filter_same f g e xs)
+
+  session_cut : (cs : List Start) (w later : WorldView) → IsSession own cs before w → IsSession own (starts_behind w.slots) after later
+      → IsSession own cs all (world_on before w later)
+  session_cut cs w later first second = record {
+    meters = slots_cut cs w.slots later.slots first.meters second.meters;
+    strangers = λ v.
+        ap (map (λ (h : Heard). (h.line, h.address)))
+        (filter-append (λ (h : Heard). h.source == v) w.strangers (map (noted_on before) later.strangers))
+        ∙ map-append (λ (h : Heard). (h.line, h.address)) (filter (λ (h : Heard). h.source == v) w.strangers)
+        (filter (λ (h : Heard). h.source == v) (map (noted_on before) later.strangers))
+        ∙ ap (λ ls. notes_by v w.strangers ++ ls) (notes_on before v later.strangers)
+        ∙ ap (λ ls. ls ++ map (later_by (length (heard_by v before))) (notes_by v later.strangers)) (first.strangers v)
+        ∙ ap (λ ls. lines_of_strangers cs (heard_by v before) ++ map (later_by (length (heard_by v before))) ls)
+        (second.strangers v ∙ filter_same (λ (l : ℕ × Told). stranger_at (starts_behind w.slots) l.0 l.1) (λ (l : ℕ × Told). stranger_at cs l.0 l.1)
+        (λ l. stranger_behind cs w.slots first.meters l.0 l.1) (enumerate_from 1 (heard_by v after)))
+        ∙ sym (lines_on (stranger_at cs) (heard_by v before) (heard_by v after) (stranger_later cs (length (heard_by v before))))
+        ∙ ap (lines_of_strangers cs) (sym (on v));
+  }
+
+pub cut_sessions : CutSessionsAreOne
+cut_sessions own starts before after all w later on first second = session_cut own before after all on starts w later first second

@@ -1,0 +1,9 @@
+pub mod LineBack
+pub mod CommandsBack
+pub mod ReadBack
+pub mod WholeBack
+pub mod WholeLength
+pub mod StateLines
+pub mod StatePieces
+pub mod Telling
+pub mod Rooms

@@ -1,0 +1,197 @@
+-- How long the text of a state is.
+use Rattle.std.proofs.Common.{◌≡◌, ℕ, ◌+◌, ◌*◌, ◌≤◌, Bool, true, false, List, [], ◌∷◌, ◌++◌, length, map, reverse, codes, Option, Some, None, arith, length-append}
+use Rattle.std.specs.Prelude.{IfSome, is_some}
+use Rattle.std.specs.List.{flat_map}
+use Rattle.std.specs.Fmt.{decimal}
+use Rattle.std.proofs.lemmas.Fmt.{length-decimal-le}
+use Rattle.std.proofs.lemmas.List.{length-reverse}
+use Rattle.hex.specs.Hex.{encode_lower, lower_digits}
+use Rattle.hex.proofs.HexLemmas.{length-encode_with}
+use Rattle.outer_io.specs.Each.{Each}
+use Rattle.std.specs.Int.{w16, w32, to_le_bytes}
+use Rattle.meter_address.specs.Address.{text_of, bytes_of}
+use Rattle.meter_address.proofs.Texts.{length-bytes_of}
+use Rattle.afl_layer.specs.Fields.{where_so, field_bytes, one_byte, fcl_of, fields_bytes}
+use Rattle.afl_layer.specs.Header.{afl_bytes}
+use Rattle.afl_layer.proofs.FieldLaws.{length-one, length-two, length-four, length-eight}
+use Rattle.afl_fragments.specs.Fragment.{Fragment}
+use Rattle.afl_fragments.specs.Held.{Told, Piece, Tick, Clear}
+use Rattle.command_queue.specs.declared.command.Command.{Command}
+use Rattle.access_window.specs.declared.window.Window.{Window}
+use Rattle.access_window.specs.declared.window.Window.TheVariants.{Idle, Waiting}
+use Rattle.meter_slots.specs.declared.reading.Reading.{Reading}
+use Rattle.meter_slots.specs.Journal.{Start, commission_of}
+use Rattle.roster_file.specs.Text.{own_text, meter_text}
+use Rattle.roster_file.proofs.ReadBack.{joined_len, number_len, meter_len, own_line}
+use Rattle.state_file.specs.Text.{line_with, bytes_text, spelt, reading_line, reading_lines, mark_line, command_fields, commands_lines, start_lines}
+use Rattle.state_file.specs.Text.{IsSpeltReading, IsSpeltPart, IsSpeltMark, IsSpeltCommand}
+use Rattle.state_file.specs.Whole.{Known}
+use Rattle.state_file.specs.Written.{ended_text, block_text, state_text, IsStart, IsState, WrittenAreRead}
+use Rattle.state_file.proofs.ReadBack.{each_reverse}
+use Rattle.state_file.proofs.WholeBack.{read_where_short}
+
+-- ---- lines
+
+where_le : (b : Bool) (n : ℕ) → where_so b n ≤ n
+where_le true n = omega arith
+where_le false n = omega arith
+
+spelt_len : (part : Fragment) → IsSpeltPart part → length (spelt part) ≤ 263
+spelt_len part is =
+    let a = part.afl in
+    let mcl = field_bytes one_byte a.mcl in
+    let ki = field_bytes (to_le_bytes w16) a.ki in
+    let mcr = field_bytes (to_le_bytes w32) a.mcr in
+    let mac = field_bytes (λ (m : List ℕ). m) a.mac in
+    let ml = field_bytes (to_le_bytes w16) a.ml in
+    let l1 = length-one a.mcl in
+    let l2 = length-two a.ki in
+    let l3 = length-four a.mcr in
+    let l4 = length-eight a.mac is.fits.mac in
+    let l5 = length-two a.ml in
+    let w1 = where_le (is_some a.mcl) 1 in
+    let w2 = where_le (is_some a.ki) 2 in
+    let w3 = where_le (is_some a.mcr) 4 in
+    let w4 = where_le (is_some a.mac) 8 in
+    let w5 = where_le (is_some a.ml) 2 in
+    let a1 = length-append mcl (ki ++ (mcr ++ (mac ++ ml))) in
+    let a2 = length-append ki (mcr ++ (mac ++ ml)) in
+    let a3 = length-append mcr (mac ++ ml) in
+    let a4 = length-append mac ml in
+    let word = length-two (Some (fcl_of a)) in
+    let a5 = length-append (to_le_bytes w16 (fcl_of a)) (fields_bytes a) in
+    let a6 = length-append (afl_bytes (fcl_of a) a) part.bytes in
+    let most = is.most in
+    omega arith
+
+part_len : (part : Fragment) → IsSpeltPart part → length (line_with (codes "part") (encode_lower (spelt part) ∷ [])) ≤ 531
+part_len part is =
+    let one = joined_len (codes "part") (encode_lower (spelt part)) [] in
+    let digits = length-encode_with lower_digits (spelt part) in
+    let few = spelt_len part is in
+    omega arith
+
+mark_len : (m : Told) → IsSpeltMark m → length (mark_line m) ≤ 531
+mark_len (Piece part) is = part_len part is
+mark_len Tick is = omega arith
+mark_len Clear is = absurd is
+
+bytes_len : (bytes : List ℕ) → length bytes ≤ 4096 → length (bytes_text bytes) ≤ 8192
+bytes_len [] few = omega arith
+bytes_len (b ∷ bytes) few = omega (arith, length-encode_with lower_digits (b ∷ bytes))
+
+reading_len : (r : Reading) → IsSpeltReading r → length (reading_line r) ≤ 8240
+reading_len r is =
+    let one = joined_len (codes "reading") (decimal r.at) (decimal r.counter ∷ bytes_text r.payload ∷ []) in
+    let two = joined_len (decimal r.at) (decimal r.counter) (bytes_text r.payload ∷ []) in
+    let three = joined_len (decimal r.counter) (bytes_text r.payload) [] in
+    let small = is.at in
+    let at = length-decimal-le 20 r.at (omega arith) (omega arith) (omega arith) in
+    let counter = number_len r.counter is.counter in
+    let payload = bytes_len r.payload is.most in
+    omega arith
+
+command_len : (word : List ℕ) (d : Command) → length word ≤ 7 → IsSpeltCommand d → length (line_with word (command_fields d)) ≤ 220
+command_len word d short is =
+    let one = joined_len word (decimal d.id) (decimal d.tries ∷ encode_lower d.payload ∷ []) in
+    let two = joined_len (decimal d.id) (decimal d.tries) (encode_lower d.payload ∷ []) in
+    let three = joined_len (decimal d.tries) (encode_lower d.payload) [] in
+    let small = is.id in
+    let id = number_len d.id small in
+    let few = is.tries in
+    let tries = number_len d.tries (omega arith) in
+    let digits = length-encode_with lower_digits d.payload in
+    let most = is.most in
+    omega arith
+
+-- ---- lines with their newlines
+
+ended_len : (line : List ℕ) (rest : List ℕ) → length (ended_text line ++ rest) ≡ length line + 1 + length rest
+ended_len line rest = let one = length-append (line ++ 10 ∷ []) rest in let two = length-append line (10 ∷ []) in omega arith
+
+texts_split : (xs ys : List (List ℕ)) → length (flat_map ended_text (xs ++ ys)) ≡ length (flat_map ended_text xs) + length (flat_map ended_text ys)
+texts_split [] ys = omega arith
+texts_split (x ∷ xs) ys =
+    let one = ended_len x (flat_map ended_text (xs ++ ys)) in
+    let two = ended_len x (flat_map ended_text xs) in
+    let rest = texts_split xs ys in
+    omega arith
+
+readings_len : (o : Option Reading) → IfSome o IsSpeltReading → length (flat_map ended_text (reading_lines o)) ≤ 8241
+readings_len None is = omega arith
+readings_len (Some r) is = let one = ended_len (reading_line r) [] in let most = reading_len r is in omega arith
+
+marks_len : (ms : List Told) → Each IsSpeltMark ms → length (flat_map ended_text (map mark_line ms)) ≤ 532 * length ms
+marks_len [] each = omega arith
+marks_len (m ∷ ms) each =
+    let one = ended_len (mark_line m) (flat_map ended_text (map mark_line ms)) in
+    let most = mark_len m each.0 in
+    let rest = marks_len ms each.1 in
+    omega arith
+
+later_len : (ds : List Command) → Each IsSpeltCommand ds
+    → length (flat_map ended_text (map (λ d. line_with (codes "command") (command_fields d)) ds)) ≤ 221 * length ds
+later_len [] each = omega arith
+later_len (d ∷ ds) each =
+    let one = ended_len (line_with (codes "command") (command_fields d))
+    (flat_map ended_text (map (λ d. line_with (codes "command") (command_fields d)) ds)) in
+    let most = command_len (codes "command") d (omega arith) each.0 in
+    let rest = later_len ds each.1 in
+    omega arith
+
+commands_len : (w : Window) (ds : List Command) → Each IsSpeltCommand ds → length (flat_map ended_text (commands_lines w ds)) ≤ 221 * length ds
+commands_len Idle [] each = omega arith
+commands_len (Waiting id) [] each = omega arith
+commands_len Idle (d ∷ ds) each = later_len (d ∷ ds) each
+commands_len (Waiting id) (d ∷ ds) each =
+    let one = ended_len (line_with (codes "waits") (command_fields d))
+    (flat_map ended_text (map (λ d. line_with (codes "command") (command_fields d)) ds)) in
+    let most = command_len (codes "waits") d (omega arith) each.0 in
+    let rest = later_len ds each.1 in
+    omega arith
+
+-- ---- meters
+
+block_len : (c : Start) → IsStart c → length (block_text c) ≤ 19300
+unfolding block_text
+block_len c is =
+    let marks = map mark_line (reverse c.told) in
+    let commands = commands_lines c.orders.window c.orders.queue.commands in
+    let whole = length-append (meter_text (commission_of c)) (flat_map ended_text (start_lines c)) in
+    let line = meter_len (commission_of c) is.commission in
+    let one = texts_split (reading_lines c.reading ++ marks) commands in
+    let two = texts_split (reading_lines c.reading) marks in
+    let read = readings_len c.reading is.told.reading in
+    let told = marks_len (reverse c.told) (each_reverse c.told is.told.marks) in
+    let same = length-reverse c.told in
+    let few = is.few in
+    let put = commands_len c.orders.window c.orders.queue.commands is.told.commands in
+    let eight = is.told.sound.few in
+    omega arith
+
+blocks_len : (cs : List Start) → Each IsStart cs → length (flat_map block_text cs) ≤ 19300 * length cs
+blocks_len [] each = omega arith
+blocks_len (c ∷ cs) each =
+    let one = block_len c each.0 in
+    let others = blocks_len cs each.1 in
+    let all = length-append (block_text c) (flat_map block_text cs) in
+    omega arith
+
+-- 79 million bytes at most
+state_len : (s : Known) → IsState s → length (state_text s) ≤ 134217728
+unfolding state_text own_text
+state_len s is =
+    let blocks = flat_map block_text s.starts in
+    let own = joined_len (codes "own") (text_of s.own) [] in
+    let address = length-encode_with lower_digits (bytes_of s.own) in
+    let eight = length-bytes_of s.own in
+    let own_end = length-append (own_line s.own) (10 ∷ []) in
+    let front = length-append (codes "wmbus-state 1\n") (own_line s.own ++ 10 ∷ []) in
+    let most = length-append (codes "wmbus-state 1\n" ++ (own_line s.own ++ 10 ∷ [])) blocks in
+    let all = length-append ((codes "wmbus-state 1\n" ++ (own_line s.own ++ 10 ∷ [])) ++ blocks) (codes "end\n") in
+    let meters = blocks_len s.starts is.each in
+    let few = is.few in
+    omega arith
+
+pub written_is_read : WrittenAreRead
+written_is_read s is = read_where_short s is (state_len s is)

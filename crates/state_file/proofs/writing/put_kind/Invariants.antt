@@ -1,0 +1,14 @@
+use Rattle.std.proofs.Common.{◌≡◌, ◌≤◌, drop, length}
+use Rattle.paper.specs.Puts.{Puts}
+use Rattle.afl_fragments.specs.Held.{held}
+use Rattle.state_file.specs.Printing.{kind_text, has_kind}
+use Rattle.state_file.proofs.writing.put_kind.Given as goal
+
+abbrev pub invariant-parts : goal.invariant-parts
+invariant-parts g l =
+    Puts g.P.Paper.takes l.initial.paper (kind_text l.fresh (drop l.left (held l.start.told))) l.paper
+    × (l.any ≡ has_kind l.fresh (drop l.left (held l.start.told)))
+    × (l.left ≤ length (held l.start.told))
+
+abbrev pub decreases-parts : goal.decreases-parts
+decreases-parts g l = l.left

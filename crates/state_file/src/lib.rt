@@ -1,0 +1,24 @@
+//! The text of a state: what a session begins from, and what it leaves.
+#![tactic(auto)]
+
+mod bytes;
+mod cause;
+mod commands;
+mod fault;
+pub mod laws;
+mod line;
+mod meters;
+mod parts;
+mod reader;
+mod readings;
+mod showing;
+mod state;
+mod writing;
+
+pub use cause::{LineFault, StateCause};
+pub use fault::{FileCause, StateFault};
+pub use line::read_line;
+pub use reader::{STATE_MOST, read_state};
+pub use showing::{show_start, show_state};
+pub use state::State;
+pub use writing::write_state;
