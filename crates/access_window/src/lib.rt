@@ -9,6 +9,3 @@ mod window;
 
 pub use laws::{moves_keep_agreement, sent_over_time};
 pub use window::{Moved, Window};
-
-#[cfg(test)]
-mod tests;

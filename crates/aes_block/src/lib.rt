@@ -19,8 +19,6 @@ pub mod laws;
 mod rounds;
 /// The tables of the substitution and of the mixing.
 pub mod tables;
-#[cfg(test)]
-mod tests;
 
 /// A key of 16 bytes, ready for use: the 44 words of its round keys (FIPS 197, section 5.2).
 #[derive(Clone, Copy)]

@@ -12,6 +12,3 @@ pub use laws::{
 pub use part::{PART_MAX, Part, SPELT_MAX};
 pub use parts::{Held, Parts};
 pub use places::{HeldPart, PARTS_MAX};
-
-#[cfg(test)]
-mod tests;

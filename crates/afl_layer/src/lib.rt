@@ -9,6 +9,3 @@ mod writing;
 pub use header::{AFL_CI, Afl, AflFault, Auth, read_afl};
 pub use scratch::{SCRATCH_MAX, Scratch};
 pub use writing::write_afl;
-
-#[cfg(test)]
-mod tests;

@@ -26,6 +26,3 @@ pub use laws::reports_are_in_form;
 pub use running::{FilesNamed, REPORT_MAX, audit_run, files_named};
 pub use status::AuditStatus;
 pub use verdict::{Cause, Verdict};
-
-#[cfg(test)]
-mod tests;

@@ -11,6 +11,3 @@ mod queue;
 pub use command::{Command, NoSuch, QueueFault, TRIES_MAX};
 pub use laws::older_commands_have_lower_ids;
 pub use queue::{QUEUE_MAX, Queue};
-
-#[cfg(test)]
-mod tests;

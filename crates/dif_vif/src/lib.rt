@@ -16,6 +16,3 @@ pub use laws::{
 };
 pub use records::next_record;
 pub use span::RecordSpan;
-
-#[cfg(test)]
-mod tests;

@@ -12,6 +12,3 @@ pub use downlink::{DOWNLINK_MAX, Downlink};
 pub use laws::{content_is_read_back, downlinks_are_laid_out};
 pub use layers::{authentication_layer, link_layer, transport_header};
 pub use making::make_downlink;
-
-#[cfg(test)]
-mod tests;

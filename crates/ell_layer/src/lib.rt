@@ -6,6 +6,3 @@ mod extension;
 
 pub use access::Access;
 pub use extension::{Ell, EllFault, read_ell};
-
-#[cfg(test)]
-mod tests;

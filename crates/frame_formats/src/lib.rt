@@ -19,6 +19,3 @@ pub use laws::{
     frames_are_decoded, one_crc, one_frame_a, one_telegram_a, one_telegram_b, telegrams_are_bytes,
 };
 pub use telegram::Telegram;
-
-#[cfg(test)]
-mod tests;

@@ -20,6 +20,3 @@ pub use room::Room;
 pub use running::{inspect_run, workers};
 pub use shown::Shown;
 pub use status::InspectStatus;
-
-#[cfg(test)]
-mod tests;

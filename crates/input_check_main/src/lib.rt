@@ -16,6 +16,3 @@ pub use hints::{Hint, Note, print_notes};
 pub use noticing::{hearing_notes, key_notes};
 pub use receivers::check_receiver;
 pub use rosters::{CheckedRoster, Stop, check_roster};
-
-#[cfg(test)]
-mod tests;

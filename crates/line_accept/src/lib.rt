@@ -8,6 +8,3 @@ mod senders;
 pub use fence::{Answer, Asked, Fence, Numbered};
 pub use laws::{cut_runs_are_one, each_sender_alone, sent_again_is_taken, taken_are_fronts};
 pub use senders::{Sender, Senders};
-
-#[cfg(test)]
-mod tests;

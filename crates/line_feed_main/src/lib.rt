@@ -28,6 +28,3 @@ pub use printings::Printing;
 pub use reasons::NotTaken;
 pub use running::feed_lines;
 pub use status::FeedStatus;
-
-#[cfg(test)]
-mod tests;

@@ -6,6 +6,3 @@ mod laws;
 
 pub use choice::{least, moment_of};
 pub use laws::{carried_rise, merges_are_one, merges_keep_each, merges_rise};
-
-#[cfg(test)]
-mod tests;

@@ -18,6 +18,3 @@ pub use line::{BadLine, Line};
 pub use lines::{BYTES_MAX, LINES_MAX, Lines};
 pub use next::{Next, NextText, ReadFault};
 pub use text_reader::TextReader;
-
-#[cfg(test)]
-mod tests;

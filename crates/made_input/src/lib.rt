@@ -22,6 +22,3 @@ pub use made::{Made, OWN, make};
 pub use streams::{HeardText, NoDownlinks};
 pub use summary::Summary;
 pub use texts::MadeText;
-
-#[cfg(test)]
-mod tests;

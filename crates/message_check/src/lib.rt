@@ -23,5 +23,3 @@ pub use refusal::{LayerFault, Reason};
 
 /// What holds of the definitions in the contracts.
 pub mod laws;
-#[cfg(test)]
-mod tests;

@@ -10,6 +10,3 @@ pub use address::{Address, AddressFault};
 pub use commission::{Commission, Mode, read_key};
 pub use laws::text_and_address_agree;
 pub use payload::{PAYLOAD_MAX, Payload};
-
-#[cfg(test)]
-mod tests;

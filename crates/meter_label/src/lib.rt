@@ -12,6 +12,3 @@ pub use label::Label;
 pub use laws::labels_and_addresses_agree;
 pub use reading::{LabelFault, read_label};
 pub use texts::put_label;
-
-#[cfg(test)]
-mod tests;

@@ -25,6 +25,3 @@ pub use session::Ended;
 pub use side::MeterSide;
 pub use status::SideStatus;
 pub use top::{meter_run, names_meter};
-
-#[cfg(test)]
-mod tests;

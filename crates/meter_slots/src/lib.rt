@@ -37,6 +37,3 @@ pub use start::MeterStart;
 pub use step::{Landed, Step};
 pub use telling::event_of;
 pub use world::World;
-
-#[cfg(test)]
-mod tests;

@@ -15,6 +15,3 @@ pub use labelled::{
 pub use pieces::{Paper, Printed, put_hex, put_number, put_signed, put_text};
 pub use sink_paper::SinkPaper;
 pub use whole::write;
-
-#[cfg(test)]
-mod tests;

@@ -6,6 +6,3 @@ mod parts;
 
 pub use numbers::read_number;
 pub use parts::{Fields, TextLines, first_place};
-
-#[cfg(test)]
-mod tests;

@@ -9,6 +9,3 @@ mod words;
 pub use ending::{Numbered, cannot_open, end};
 pub use own_texts::{OwnText, own_text, tell};
 pub use words::{NoWords, command_words};
-
-#[cfg(test)]
-mod tests;

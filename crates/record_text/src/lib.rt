@@ -10,6 +10,3 @@ pub use laws::records_are_listed;
 pub use lines::{bytes_at, put_fault_words};
 pub use listing::put_records;
 pub use value_text::{put_bytes, put_value};
-
-#[cfg(test)]
-mod tests;

@@ -11,6 +11,3 @@ mod values;
 pub use laws::each_row_counts;
 pub use units::{Quantity, Unit, UnitName, unit_of};
 pub use values::{Value, value_of};
-
-#[cfg(test)]
-mod tests;

@@ -18,6 +18,3 @@ pub use writing::{
     put_end, put_head, put_last_records, put_meter, put_meter_line, put_pending, put_step,
     put_strangers, report,
 };
-
-#[cfg(test)]
-mod tests;

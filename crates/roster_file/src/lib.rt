@@ -18,6 +18,3 @@ pub use load::{LoadFault, load_roster};
 pub use reader::{MOST_BYTES, MOST_METERS, read_roster};
 pub use roster::{LineCause, Roster, RosterFault};
 pub use writing::{put_meter, put_own, write_roster};
-
-#[cfg(test)]
-mod tests;

@@ -7,3 +7,9 @@ pub mod StateLines
 pub mod StatePieces
 pub mod Telling
 pub mod Rooms
+pub mod TooLong
+pub mod ReadSteps
+pub mod ReadMeters
+pub mod ReadHeld
+pub mod ReadLines
+pub mod ReadStates

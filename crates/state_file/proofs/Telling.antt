@@ -54,7 +54,7 @@ ticked_told : (hs : List HeldPart) → Each IsSpeltMark (pieces hs) → Each IsS
 ticked_told [] each = tt
 ticked_told (h ∷ hs) each = (tt, each)
 
-marks_told : (hs : List HeldPart) → Each HasSpelt hs → Each IsSpeltMark (told_of hs)
+pub marks_told : (hs : List HeldPart) → Each HasSpelt hs → Each IsSpeltMark (told_of hs)
 marks_told hs each =
     marks_join (pieces (filter is_fresh hs)) (ticked (filter (λ h. not (is_fresh h)) hs)) (pieces_told is_fresh hs each)
     (ticked_told (filter (λ h. not (is_fresh h)) hs) (pieces_told (λ h. not (is_fresh h)) hs each))
@@ -78,7 +78,7 @@ parted_len f (h ∷ hs) =
     let one = parted_where (f h) h (filter f hs) (filter (λ h. not (f h)) hs) (length hs) (parted_len f hs) in
     one ∙ (omega arith)
 
-told_len : (hs : List HeldPart) → length hs ≤ 16 → length (told_of hs) ≤ 17
+pub told_len : (hs : List HeldPart) → length hs ≤ 16 → length (told_of hs) ≤ 17
 told_len hs few =
     let olds = filter (λ h. not (is_fresh h)) hs in
     let all = length-append (pieces (filter is_fresh hs)) (ticked olds) in

@@ -37,3 +37,11 @@ pub record IsState (s : Known) : Type 0 where
 -- a state of which this holds is read back from its text
 abbrev pub WrittenAreRead : Type 0
 WrittenAreRead = (s : Known) → IsState s → state_of (state_text s) ≡ Ok s
+
+-- a text gives no other states
+abbrev pub ReadAreStates : Type 0
+ReadAreStates = (bytes : List ℕ) (s : Known) → state_of bytes ≡ Ok s → IsState s
+
+-- each state that can be read is read again from its text
+abbrev pub ReadAreReadAgain : Type 0
+ReadAreReadAgain = (bytes : List ℕ) (s : Known) → state_of bytes ≡ Ok s → state_of (state_text s) ≡ Ok s

@@ -4,9 +4,6 @@
 
 ghost use Rattle.std.specs.Prelude.{◌≡◌, ◌+◌, ◌≤◌, ◌++◌, length, take, drop};
 
-#[cfg(test)]
-mod tests;
-
 /// Writes bytes at this place, and answers the place behind them. What stands in front of them and behind them stays.
 pub fn put(out: &mut [u8], at: usize, bytes: &[u8]) -> usize
     requires { at + length bytes.now ≤ length out.old }

@@ -4,6 +4,3 @@
 mod strangers;
 
 pub use strangers::{Heard, RING_MAX, Strangers};
-
-#[cfg(test)]
-mod tests;

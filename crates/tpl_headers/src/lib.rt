@@ -7,6 +7,3 @@ mod writing;
 
 pub use header::{Tpl, TplFault, read_tpl};
 pub use writing::write_tpl;
-
-#[cfg(test)]
-mod tests;

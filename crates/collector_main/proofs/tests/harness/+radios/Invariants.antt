@@ -1,5 +1,0 @@
-use Rattle.std.proofs.Common.{length}
-use Rattle.collector_main.proofs.tests.harness.+radios.Given as goal
-
-abbrev pub decreases-radios : goal.decreases-radios
-decreases-radios l = length l.listeners.now

@@ -1,0 +1,21 @@
+//! Tests of whole sessions of the collector, over sources and sinks in memory, and of their audit.
+#![tactic(auto)]
+
+#[cfg(test)]
+mod audit_calls;
+#[cfg(test)]
+mod command_line;
+#[cfg(test)]
+mod faults;
+#[cfg(test)]
+mod gates;
+#[cfg(test)]
+mod harness;
+#[cfg(test)]
+mod hostile;
+#[cfg(test)]
+mod made;
+#[cfg(test)]
+mod one_receiver;
+#[cfg(test)]
+mod sessions;

@@ -1,0 +1,21 @@
+//! Tests of the slots and of what stands round them: queues, windows, strangers, receivers, reports, made sessions and the meter's side.
+#![tactic(auto)]
+
+#[cfg(test)]
+mod access_window_calls;
+#[cfg(test)]
+mod command_queue_calls;
+#[cfg(test)]
+mod made_input_calls;
+#[cfg(test)]
+mod meter_side_calls;
+#[cfg(test)]
+mod meter_slots_calls;
+#[cfg(test)]
+mod receivers_calls;
+#[cfg(test)]
+mod report_text_calls;
+#[cfg(test)]
+mod stranger_ring_calls;
+#[cfg(test)]
+mod tables;

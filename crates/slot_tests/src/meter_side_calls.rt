@@ -1,0 +1,170 @@
+//! A downlink as another implementation made it, and runs over sources and sinks in memory.
+use hex::FromHex;
+use line_reader::TextReader;
+use meter_address::{Address, Commission, Mode};
+use meter_side_main::{Delivery, Did, LINE_MAX, MeterSide, SideReason, SideStatus, meter_run};
+use outer_io::{MemorySink, MemorySource};
+use std::alloc::{AllocError, Global};
+use std::process::Abort;
+use std::test::Fail;
+
+// A meter, its key, and the frame of a downlink to it under the counter 65535, as another implementation made it.
+const METER: Address = Address(0x9315_eb90_2f40_0107);
+
+const KEY: &str = "b721a3132a46bb267612a37197b7a721";
+
+const PAYLOAD: &str = "3ab2de515082c74cdc2133712a96";
+
+const FRAME: &str =
+    "38439315010000000131247b900f002c25ffff0000f85da5a4a4de65551b095beb902f4093150107ff00100710fca34c141c0a42aad33f0155e3c84e670e12cf38";
+
+#[test]
+fn a_downlink_is_executed_once(rt: HostRuntime) -> Result<(), Fail> {
+    let alloc = rt.alloc();
+    let commission = Commission {
+        address: METER,
+        mode: Mode::Seven,
+        key: <[u8; 16] as FromHex>::from_hex(KEY)?,
+        other: None,
+        last: None,
+        down: 0,
+        ids: 0,
+    };
+    let mut side = MeterSide::new(alloc, Address(0x9315_0100_0000_0131), commission);
+    let frame = hex::decode(alloc, FRAME)?;
+    let payload = hex::decode(alloc, PAYLOAD)?;
+    let Did::Executed(executed) = side.hear(Delivery::new(&frame).ok_or("long")?)? else {
+        return Err("refused".into());
+    };
+    assert_eq!(rt; executed.down, 65535);
+    assert_eq!(rt; executed.content.bytes(), payload.as_slice());
+    let again = side.hear(Delivery::new(&frame).ok_or("long")?)?;
+    let stale = SideReason::Stale {
+        got: 65535,
+        last: 65535,
+    };
+    assert!(rt; matches!(again, Did::Refused(reason) if reason == stale));
+    assert_eq!(rt; side.last(), 65535);
+    assert_eq!(rt; side.executed().len(), 1);
+    assert!(rt; Delivery::new(&[0; 291]).is_none());
+    Ok(())
+}
+
+const ROSTER: &str =
+    "wmbus-roster 1\nown 9315010000000131\nmeter 9315010203040107 7 000102030405060708090a0b0c0d0e0f - 0 0\n";
+
+// Four downlinks to the meter, as another implementation made them, and the first one with a bit of its MAC changed.
+const SENT: &str = "\
+D 38439315010000000131247b900f002c25010000007cdc9b50de7dca9cdbda5b01020304931501070100100710744c8678dbb10103da50b76d22ae4e8f67427c6e
+D 38439315010000000131247b900f002c25020000001ac5813f910c6fe04ba95b01020304931501070200100710da9cc39cb22b61a7e06ac86017f5a0303fb593f4
+D 38439315010000000131247b900f002c250300000011100aaf13d8d7cd92465b010203049315010703001007109162ab99cfa8d5693be13b3fd6fb40ced43808cf
+D 38439315010000000131247b900f002c2504000000dfb4dafc41d5c3ef1a075b010203049315010704001007108e816517cad469879dd6be549d8804c91044e8fc
+D 38439315010000000131247b900f002c25010000007ddc9b50de7dca6ee4da5b01020304931501070100100710744c8678dbb10103da50b76d22ae4e8f67427c6e
+";
+
+// Each run: its roster, the meter's address, the places of the downlinks in their order, which read of the roster, which read of the
+// downlinks and which write fails, none of which has the number 0, and the status; below it what is printed. The first two are the four
+// in their order, and in the order 1, 3, 2, 3, 4.
+const RUNS: &str = "\
+run whole 9315010203040107 0123 000 Done
+executed 1 012f2f2f2f2f2f2f2f2f2f2f2f2f
+executed 2 012f2f2f2f2f2f2f2f2f2f2f2f2f
+executed 3 012f2f2f2f2f2f2f2f2f2f2f2f2f
+executed 4 022f2f2f2f2f2f2f2f2f2f2f2f2f
+last 4
+run whole 9315010203040107 02123 000 Done
+executed 1 012f2f2f2f2f2f2f2f2f2f2f2f2f
+executed 3 012f2f2f2f2f2f2f2f2f2f2f2f2f
+refused stale 2 3
+refused stale 3 3
+executed 4 022f2f2f2f2f2f2f2f2f2f2f2f2f
+last 4
+run whole 9315010203040107 4 000 Done
+refused mac
+last 0
+run whole 931501020304010 0 000 Words
+run whole 9315010203040107 0 100 ReadRoster
+run faulty 9315010203040107 0 000 Roster(1, Head)
+run whole 9315010203040108 0 000 Uncommissioned
+run whole 9315010203040107 01 030 Read
+executed 1 012f2f2f2f2f2f2f2f2f2f2f2f2f
+last 1
+run whole 9315010203040107 0 001 Write
+";
+
+// The downlinks at these places, each a digit.
+fn sent(alloc: Global, places: &str) -> Result<Vec<u8>, AllocError> {
+    let mut lines = Vec::new(alloc);
+    for place in places.bytes() {
+        if let Some(line) = SENT.lines().nth(digit(place)) {
+            lines.extend_from_slice(line.as_bytes())?;
+            lines.push(b'\n')?;
+        }
+    }
+    Ok(lines)
+}
+
+fn digit(byte: u8) -> usize {
+    usize::from(byte.saturating_sub(b'0'))
+}
+
+// The number of the call that fails, at a place of the digits.
+fn fails(alloc: Global, digits: &str, place: usize) -> Result<Vec<u64>, AllocError> {
+    let number = match digits.as_bytes().get(place) {
+        Some(byte) => digit(*byte) as u64,
+        None => 0,
+    };
+    Ok(vec![in alloc; number]?)
+}
+
+// Runs the meter's side over these downlinks, where the reads and the write with these numbers fail.
+fn run(
+    alloc: Global,
+    roster: &str,
+    address: &str,
+    order: &str,
+    fail: &str,
+) -> Result<(SideStatus, MemorySink), AllocError> {
+    let mut words = Vec::new(alloc);
+    for word in ["roster", address, "tx"] {
+        words.push(String::from_str(alloc, word)?)?;
+    }
+    let bytes = roster.as_bytes().to_vec(alloc)?;
+    let mut roster = MemorySource::new(bytes, fails(alloc, fail, 0)?);
+    let tx = MemorySource::pieces(sent(alloc, order)?, 100, fails(alloc, fail, 1)?);
+    let mut tx = TextReader::new(tx, LINE_MAX);
+    let mut out = MemorySink::new(alloc, fails(alloc, fail, 2)?);
+    let status = meter_run(alloc, &words, &mut roster, &mut tx, &mut out);
+    Ok((status, out))
+}
+
+// Asserts what a run comes to: its first row says what it is over, and its status.
+fn assert_run(rt: &impl Abort, alloc: Global, head: &str, printed: &str) -> Result<(), Fail> {
+    let words: Vec<&str> = head.split_whitespace().collect(alloc)?;
+    let [roster, address, order, fail, ..] = words.as_slice() else {
+        return Err("no run".into());
+    };
+    let roster = if *roster == "whole" {
+        ROSTER
+    } else {
+        "wmbus-roster 9"
+    };
+    let (status, out) = run(alloc, roster, address, order, fail)?;
+    let status = format!(in alloc; " {status:?}")?;
+    assert!(rt; head.ends_with(status.as_str()), "{head}: {status}");
+    assert_eq!(rt; out.bytes(), printed.as_bytes(), "{head}");
+    Ok(())
+}
+
+#[test]
+fn runs_end_by_their_status(rt: HostRuntime) -> Result<(), Fail> {
+    let mut runs = 0_u32;
+    for text in RUNS.split("run ") {
+        if let Some((head, printed)) = text.split_once('\n') {
+            assert_run(&rt, rt.alloc(), head, printed)?;
+            runs = runs.saturating_add(1);
+        }
+    }
+    assert_eq!(rt; runs, 9);
+    Ok(())
+}

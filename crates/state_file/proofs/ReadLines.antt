@@ -1,0 +1,293 @@
+-- A line below a meter's line leaves what can be told.
+use Rattle.std.proofs.Common.{◌≡◌, ℕ, ◌-◌, ◌^◌, ◌≤◌, ◌==◌, ◌&&◌, nat_le, zero, suc, Bool, true, false, cond, List, [], ◌∷◌, ◌++◌, length, drop, codes, Option, Some, None, Result, Ok, Err, refl, ap, sym, subst, ◌∙◌, arith}
+use Rattle.std.specs.Prelude.{slice_get, slice_index}
+use Rattle.std.specs.Result.{result_ok}
+use Rattle.std.proofs.lemmas.Bool.Decides.{nat_tests}
+use Rattle.std.proofs.lemmas.List.{drop_at}
+use Rattle.hex.specs.Hex.{decode_of, IsBytes}
+use Rattle.plain_text.specs.Numbers.{number_of}
+use Rattle.plain_text.specs.Parts.{fields_of, is_word}
+use Rattle.afl_layer.specs.declared.header.Afl.{Afl}
+use Rattle.afl_layer.specs.declared.header.AflFault.{AflFault}
+use Rattle.afl_layer.specs.Fields.{is_fragment, fcl_of}
+use Rattle.afl_layer.specs.Header.{BeginsWithAfl, afl_at, afl_bytes}
+use Rattle.afl_layer.proofs.HeaderLaws.{takes}
+use Rattle.afl_fragments.specs.Fragment.{Fragment}
+use Rattle.afl_fragments.specs.Held.{Told, Piece, Tick, held}
+use Rattle.afl_fragments.specs.Short.{told_of, cut_down}
+use Rattle.afl_fragments.proofs.Shortening.{cut_holds}
+use Rattle.command_queue.specs.declared.command.Command.{Command}
+use Rattle.command_queue.specs.Pending.{IsSound, may_follow, with_follower}
+use Rattle.command_queue.proofs.Moves.{sound_follower}
+use Rattle.meter_slots.specs.declared.reading.Reading.{Reading}
+use Rattle.meter_slots.specs.Journal.{Start}
+use Rattle.meter_slots.specs.Restoring.{window_fits, window_for, may_restore, with_restored, restored}
+use Rattle.meter_slots.proofs.Restorings.{agrees_waiting, agrees_still}
+use Rattle.access_window.specs.Orders.{Orders, Agrees}
+use Rattle.state_file.specs.declared.cause.StateCause.TheVariants as causes
+use Rattle.state_file.specs.State.{bytes_in, payload_in, reading_of, with_reading_in, fragment_with, fragment_of, fragment_in, part_of, with_part, with_part_in, with_tick, command_bytes, command_of, with_command, with_command_in, with_fields, with_line}
+use Rattle.state_file.specs.Text.{spelt, IsSpeltReading, IsSpeltPart, IsSpeltMark, IsSpeltCommand}
+use Rattle.state_file.specs.Written.{IsStart}
+use Rattle.state_file.proofs.Telling.{marks_told, told_len}
+use Rattle.state_file.proofs.ReadSteps.{Gives, gives_ok, gives_err, gives_where, gives_then, gives_some, gives_field, number_within, decoded, each_push}
+use Rattle.state_file.proofs.ReadHeld.{held_spelt, few_held}
+
+both : (a b : Bool) → (a && b) ≡ true → (a ≡ true) × (b ≡ true)
+both true b h = (refl, h)
+both false b h = absurd cc
+
+at_most : (m n : ℕ) → nat_le m n ≡ true → m ≤ n
+at_most m n h = grind (arith, nat_tests)
+
+-- ---- a reading
+
+bytes_fit : (text bytes : List ℕ) → bytes_in text ≡ Some bytes → IsBytes bytes
+bytes_fit text bytes h = by_dash (is_word text (codes "-")) h
+  where
+    by_dash : (b : Bool) → cond b (Some []) (result_ok (decode_of text)) ≡ Some bytes → IsBytes bytes
+    by_dash true given = let none : [] ≡ bytes = cc in subst IsBytes none (λ i. omega arith)
+    by_dash false given = decoded text bytes given
+
+payload_fits : (text payload : List ℕ) → payload_in text (bytes_in text) ≡ Some payload → IsBytes payload × (length payload ≤ 4096)
+payload_fits text payload h = by_bytes (bytes_in text) refl h
+  where
+    by_test : (bytes : List ℕ) (b : Bool) → nat_le (length bytes) 4096 ≡ b → bytes_in text ≡ Some bytes
+        → cond b (Some bytes) None ≡ Some payload → IsBytes payload × (length payload ≤ 4096)
+    by_test bytes true few is given =
+        let same : bytes ≡ payload = cc in
+        subst (λ xs. IsBytes xs × (length xs ≤ 4096)) same (bytes_fit text bytes is, at_most (length bytes) 4096 few)
+    by_test bytes false few is given = absurd cc
+
+    by_bytes : (o : Option (List ℕ)) → bytes_in text ≡ o → payload_in text o ≡ Some payload → IsBytes payload × (length payload ≤ 4096)
+    by_bytes None is given = absurd cc
+    by_bytes (Some bytes) is given = by_test bytes (nat_le (length bytes) 4096) refl is given
+
+reading_fits : (fields : List (List ℕ)) → Gives IsSpeltReading (reading_of fields)
+unfolding reading_of
+reading_fits [] = gives_err IsSpeltReading _
+reading_fits (a ∷ []) = gives_err IsSpeltReading _
+reading_fits (a ∷ n ∷ []) = gives_err IsSpeltReading _
+reading_fits (a ∷ n ∷ p ∷ []) =
+    gives_field IsSpeltReading (number_of (2 ^ 64 - 1) a) causes.At _ (λ at is_at.
+    gives_field IsSpeltReading (number_of (2 ^ 32 - 1) n) causes.Counter _ (λ counter is_counter.
+    gives_field IsSpeltReading (payload_in p (bytes_in p)) causes.Payload _ (λ payload is_payload.
+    let at_within = number_within (2 ^ 64 - 1) a at is_at in
+    let counter_within = number_within (2 ^ 32 - 1) n counter is_counter in
+    let fits = payload_fits p payload is_payload in
+    gives_ok IsSpeltReading (record { at = at; counter = counter; payload = payload })
+    (record { at = omega arith; counter = omega arith; bytes = fits.0; most = fits.1 }))))
+reading_fits (a ∷ n ∷ p ∷ q ∷ more) = gives_err IsSpeltReading _
+
+start_read : (c : Start) (r : Reading) → IsStart c → IsSpeltReading r → IsStart (record c { reading = Some r })
+start_read c r is reading = record {
+  commission = is.commission;
+  told = record {
+    reading = reading;
+    marks = is.told.marks;
+    short = is.told.short;
+    commands = is.told.commands;
+    sound = is.told.sound;
+    agrees = is.told.agrees;
+  };
+  few = is.few;
+}
+
+reading_leaves : (c : Start) (o : Option Reading) (fields : List (List ℕ)) → IsStart c → Gives IsStart (with_reading_in c o fields)
+reading_leaves c None fields is =
+    gives_then IsStart (reading_of fields) _ (λ r h.
+    gives_ok IsStart (record c { reading = Some r }) (start_read c r is (reading_fits fields r h)))
+reading_leaves c (Some before) fields is = gives_err IsStart _
+
+-- ---- a fragment, and a tick
+
+-- the same header with other unused bits, before the same bytes
+other_bits : (fcl other : ℕ) (a : Afl) (rest : List ℕ) → IsBytes (afl_bytes fcl a ++ rest) → IsBytes (afl_bytes other a ++ rest)
+other_bits fcl other a rest is zero = is zero
+other_bits fcl other a rest is (suc zero) = is (suc zero)
+other_bits fcl other a rest is (suc (suc zero)) = omega arith
+other_bits fcl other a rest is (suc (suc (suc zero))) = omega arith
+other_bits fcl other a rest is (suc (suc (suc (suc i)))) = is (suc (suc (suc (suc i))))
+
+spelt_bytes : (bytes : List ℕ) (a : Afl) → IsBytes bytes → BeginsWithAfl bytes a
+    → IsBytes (spelt (record { afl = a; bytes = drop a.len bytes }))
+spelt_bytes bytes a is begins =
+    let behind : drop a.len bytes ≡ begins.rest =
+    ap (drop a.len) begins.parts ∙ drop_at (afl_bytes begins.fcl a) begins.rest a.len (sym begins.len) in
+    subst (λ rest. IsBytes (afl_bytes (fcl_of a) a ++ rest)) (sym behind)
+    (other_bits begins.fcl (fcl_of a) a begins.rest (subst IsBytes begins.parts is))
+
+spelt_part : (bytes : List ℕ) (a : Afl) → IsBytes bytes → BeginsWithAfl bytes a → is_fragment a ≡ true → a.fid ≤ 16
+    → length (drop a.len bytes) ≤ 242 → IsSpeltPart (record { afl = a; bytes = drop a.len bytes })
+spelt_part bytes a is begins fragment few most = record {
+  fragment = record {
+    fragment = fragment;
+    numbered = begins.placed.fid;
+    placed = begins.placed.fields;
+    len = (let len = begins.len in omega arith);
+  };
+  few = few;
+  fits = begins.fits;
+  most = most;
+  bytes = spelt_bytes bytes a is begins;
+}
+
+first_is : (bytes : List ℕ) (b : Bool) → (slice_index bytes 0 == 0x90) ≡ b → b ≡ true → slice_get bytes 0 ≡ Some 0x90
+first_is [] b is h = absurd (grind (arith, nat_tests))
+first_is (x ∷ xs) b is h = let same : x ≡ 0x90 = grind (arith, nat_tests) in ap Some same
+
+three : (a b c : Bool) → (a && b && c) ≡ true → (a ≡ true) × (b ≡ true) × (c ≡ true)
+three true true c h = (refl, refl, h)
+three true false c h = absurd cc
+three false b c h = absurd cc
+
+headed_fits : (bytes : List ℕ) (part : Fragment) (a : Afl) (b : Bool)
+    → (is_fragment a && nat_le a.fid 16 && nat_le (length (drop a.len bytes)) 242) ≡ b → IsBytes bytes → BeginsWithAfl bytes a
+    → cond b (Some (record { afl = a; bytes = drop a.len bytes })) None ≡ Some part → IsSpeltPart part
+headed_fits bytes part a true test is begins given =
+    let made : Fragment = record { afl = a; bytes = drop a.len bytes } in
+    let same : made ≡ part = cc in
+    let tests = three (is_fragment a) (nat_le a.fid 16) (nat_le (length (drop a.len bytes)) 242) test in
+    subst IsSpeltPart same
+    (spelt_part bytes a is begins tests.0 (at_most a.fid 16 tests.1) (at_most (length (drop a.len bytes)) 242 tests.2))
+headed_fits bytes part a false test is begins given = absurd cc
+
+with_header : (bytes : List ℕ) (part : Fragment) (r : Result Afl AflFault) → afl_at bytes ≡ r → IsBytes bytes
+    → slice_get bytes 0 ≡ Some 0x90 → fragment_with bytes r ≡ Some part → IsSpeltPart part
+with_header bytes part (Err fault) at is first given = absurd cc
+with_header bytes part (Ok a) at is first given = headed_fits bytes part a _ refl is (takes bytes a first is at) given
+
+by_first : (bytes : List ℕ) (part : Fragment) (b : Bool) → (slice_index bytes 0 == 0x90) ≡ b → IsBytes bytes
+    → cond b (fragment_with bytes (afl_at bytes)) None ≡ Some part → IsSpeltPart part
+by_first bytes part true first is given = with_header bytes part (afl_at bytes) refl is (first_is bytes true first refl) given
+by_first bytes part false first is given = absurd cc
+
+fragment_fits : (bytes : List ℕ) (part : Fragment) → IsBytes bytes → fragment_of bytes ≡ Some part → IsSpeltPart part
+unfolding fragment_of
+fragment_fits bytes part is h = by_first bytes part (slice_index bytes 0 == 0x90) refl is h
+
+fragment_in_fits : (text : List ℕ) (part : Fragment) (o : Option (List ℕ)) → result_ok (decode_of text) ≡ o → fragment_in o ≡ Some part
+    → IsSpeltPart part
+fragment_in_fits text part None read h = absurd cc
+fragment_in_fits text part (Some bytes) read h = fragment_fits bytes part (decoded text bytes read) h
+
+part_fits : (fields : List (List ℕ)) → Gives IsSpeltPart (part_of fields)
+unfolding part_of
+part_fits [] = gives_err IsSpeltPart _
+part_fits (text ∷ []) = gives_some IsSpeltPart _ causes.Part (λ part h. fragment_in_fits text part (result_ok (decode_of text)) refl h)
+part_fits (text ∷ next ∷ more) = gives_err IsSpeltPart _
+
+start_told : (c : Start) (m : Told) → IsStart c → IsSpeltMark m → IsStart (record c { told = cut_down (m ∷ c.told) })
+start_told c m is mark =
+    let spelt = held_spelt (m ∷ c.told) (mark, is.told.marks) in
+    record {
+      commission = is.commission;
+      told = record {
+        reading = is.told.reading;
+        marks = marks_told (held (m ∷ c.told)) spelt;
+        short = ap told_of (cut_holds (m ∷ c.told));
+        commands = is.told.commands;
+        sound = is.told.sound;
+        agrees = is.told.agrees;
+      };
+      few = told_len (held (m ∷ c.told)) (few_held (m ∷ c.told) spelt);
+    }
+
+part_leaves : (c : Start) (fields : List (List ℕ)) → IsStart c → Gives IsStart (with_part_in c fields)
+part_leaves c fields is =
+    gives_then IsStart (part_of fields) _ (λ part h.
+    gives_ok IsStart (with_part c part) (start_told c (Piece part) is (part_fits fields part h)))
+
+tick_leaves : (c : Start) (fields : List (List ℕ)) → IsStart c → Gives IsStart (with_tick c fields)
+tick_leaves c [] is = gives_ok IsStart (record c { told = cut_down (Tick ∷ c.told) }) (start_told c Tick is tt)
+tick_leaves c (f ∷ fields) is = gives_err IsStart _
+
+-- ---- a command
+
+abbrev IsSaid : List ℕ → Type 0
+IsSaid bytes = IsBytes bytes × (1 ≤ length bytes) × (length bytes ≤ 94)
+
+said_fits : (text payload : List ℕ) → command_bytes (result_ok (decode_of text)) ≡ Some payload → IsSaid payload
+said_fits text payload h = by_bytes (result_ok (decode_of text)) refl h
+  where
+    by_test : (bytes : List ℕ) (b : Bool) → (nat_le 1 (length bytes) && nat_le (length bytes) 94) ≡ b
+        → result_ok (decode_of text) ≡ Some bytes → cond b (Some bytes) None ≡ Some payload → IsSaid payload
+    by_test bytes true test is given =
+        let same : bytes ≡ payload = cc in
+        let tests = both (nat_le 1 (length bytes)) (nat_le (length bytes) 94) test in
+        subst IsSaid same (decoded text bytes is, at_most 1 (length bytes) tests.0, at_most (length bytes) 94 tests.1)
+    by_test bytes false test is given = absurd cc
+
+    by_bytes : (o : Option (List ℕ)) → result_ok (decode_of text) ≡ o → command_bytes o ≡ Some payload → IsSaid payload
+    by_bytes None is given = absurd cc
+    by_bytes (Some bytes) is given = by_test bytes _ refl is given
+
+command_fits : (fields : List (List ℕ)) → Gives IsSpeltCommand (command_of fields)
+unfolding command_of
+command_fits [] = gives_err IsSpeltCommand _
+command_fits (i ∷ []) = gives_err IsSpeltCommand _
+command_fits (i ∷ t ∷ []) = gives_err IsSpeltCommand _
+command_fits (i ∷ t ∷ p ∷ []) =
+    gives_field IsSpeltCommand (number_of (2 ^ 32 - 1) i) causes.Id _ (λ id is_id.
+    gives_field IsSpeltCommand (number_of 3 t) causes.Tries _ (λ tries is_tries.
+    gives_field IsSpeltCommand (command_bytes (result_ok (decode_of p))) causes.Payload _ (λ payload is_payload.
+    let id_within = number_within (2 ^ 32 - 1) i id is_id in
+    let fits = said_fits p payload is_payload in
+    gives_ok IsSpeltCommand (record { id = id; tries = tries; payload = payload })
+    (record { id = omega arith; tries = number_within 3 t tries is_tries; least = fits.1; most = fits.2; bytes = fits.0 }))))
+command_fits (i ∷ t ∷ p ∷ q ∷ more) = gives_err IsSpeltCommand _
+
+followed : (k : Orders) (d : Command) → may_follow k.queue d ≡ true
+    → record k.queue { commands = k.queue.commands ++ d ∷ [] } ≡ with_follower k.queue d
+unfolding with_follower
+followed k d may = sym (ap (λ b. cond b (record k.queue { commands = k.queue.commands ++ d ∷ [] }) k.queue) may)
+
+window_agrees : (k : Orders) (d : Command) (waits : Bool) → IsSound k.queue → Agrees k.window k.queue → may_follow k.queue d ≡ true
+    → window_fits k.queue.commands d waits ≡ true
+    → Agrees (window_for d waits k.window) (record k.queue { commands = k.queue.commands ++ d ∷ [] })
+window_agrees k d true sound agrees may fits = agrees_waiting k.queue _ d sound (followed k d may) may fits
+window_agrees k d false sound agrees may fits = agrees_still k.queue _ d sound (followed k d may) may k.window agrees fits
+
+start_asked : (c : Start) (waits : Bool) (d : Command) → IsStart c → IsSpeltCommand d → window_fits c.orders.queue.commands d waits ≡ true
+    → may_follow c.orders.queue d ≡ true → IsStart (record c { orders = with_restored c.orders d waits })
+start_asked c waits d is command fits may = record {
+  commission = is.commission;
+  told = record {
+    reading = is.told.reading;
+    marks = is.told.marks;
+    short = is.told.short;
+    commands = each_push IsSpeltCommand c.orders.queue.commands d is.told.commands command;
+    sound = sound_follower c.orders.queue d is.told.sound may;
+    agrees = window_agrees c.orders d waits is.told.sound is.told.agrees may fits;
+  };
+  few = is.few;
+}
+
+command_leaves : (c : Start) (waits : Bool) (d : Command) → IsStart c → IsSpeltCommand d → Gives IsStart (with_command c waits d)
+unfolding may_restore restored
+command_leaves c waits d is command =
+    by_test (window_fits c.orders.queue.commands d waits && may_follow c.orders.queue d) refl
+  where
+    by_test : (b : Bool) → (window_fits c.orders.queue.commands d waits && may_follow c.orders.queue d) ≡ b
+        → Gives IsStart (cond b (Ok (record c { orders = cond b (with_restored c.orders d waits) c.orders })) (Err causes.Command))
+    by_test true test =
+        let tests = both (window_fits c.orders.queue.commands d waits) (may_follow c.orders.queue d) test in
+        gives_ok IsStart (record c { orders = with_restored c.orders d waits }) (start_asked c waits d is command tests.0 tests.1)
+    by_test false test = gives_err IsStart _
+
+asked_leaves : (c : Start) (waits : Bool) (fields : List (List ℕ)) → IsStart c → Gives IsStart (with_command_in c waits fields)
+asked_leaves c waits fields is =
+    gives_then IsStart (command_of fields) _ (λ d h. command_leaves c waits d is (command_fits fields d h))
+
+-- ---- all
+
+fields_leave : (c : Start) (fields : List (List ℕ)) → IsStart c → Gives IsStart (with_fields c fields)
+fields_leave c [] is = gives_err IsStart _
+fields_leave c (kind ∷ fields) is =
+    gives_where IsStart (is_word kind (codes "reading")) _ _ (reading_leaves c c.reading fields is)
+    (gives_where IsStart (is_word kind (codes "part")) _ _ (part_leaves c fields is)
+    (gives_where IsStart (is_word kind (codes "tick")) _ _ (tick_leaves c fields is)
+    (gives_where IsStart (is_word kind (codes "waits")) _ _ (asked_leaves c true fields is)
+    (gives_where IsStart (is_word kind (codes "command")) _ _ (asked_leaves c false fields is) (gives_err IsStart _)))))
+
+pub line_leaves : (c : Start) (line : List ℕ) → IsStart c → Gives IsStart (with_line c line)
+line_leaves c line is = fields_leave c (fields_of line) is

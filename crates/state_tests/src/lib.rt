@@ -1,0 +1,5 @@
+//! Tests of states as texts.
+#![tactic(auto)]
+
+#[cfg(test)]
+mod states;

@@ -1,0 +1,27 @@
+//! The public calls of the crates that read, write and carry texts, on values that come from outside.
+#![tactic(auto)]
+
+#[cfg(test)]
+mod line_accept_calls;
+#[cfg(test)]
+mod line_merge_calls;
+#[cfg(test)]
+mod line_reader_calls;
+#[cfg(test)]
+mod meter_address_calls;
+#[cfg(test)]
+mod meter_label_calls;
+#[cfg(test)]
+mod outer_io_calls;
+#[cfg(test)]
+mod paper_calls;
+#[cfg(test)]
+mod plain_text_calls;
+#[cfg(test)]
+mod program_words_calls;
+#[cfg(test)]
+mod roster_file_calls;
+#[cfg(test)]
+mod rows;
+#[cfg(test)]
+mod steps_calls;
