@@ -1,0 +1,100 @@
+"""A session: the classes of lines, the slots after each meter's steps in an order, and the outputs (`IsSession`)."""
+from dataclasses import dataclass, field
+
+from reference.layers import read_layers
+from reference.lines import Heard, Order, heard_lines, line_of
+from reference.readings import readings_text
+from reference.reports import meter_lines, strangers_lines
+from reference.roster import Roster, roster_text
+from reference.slots import Slot, Telegram
+
+Place = tuple[int, int]
+CLASSES = ("lines", "own", "strangers", "unframed", "bad")
+
+
+@dataclass
+class Receiver:
+    """A receiver's lines by class, its end, and the downlinks of its own lines with their places."""
+
+    counts: dict[str, int] = field(default_factory=lambda: dict.fromkeys(CLASSES, 0))
+    is_cut: bool = False
+    sent: list[tuple[int, bytes]] = field(default_factory=list)
+
+    def line(self, number: int) -> str:
+        """The report's line of a receiver."""
+        counts = " ".join(f"{name} {count}" for name, count in self.counts.items())
+        return f"receiver {number} {counts} {'cut' if self.is_cut else 'end'}"
+
+
+@dataclass
+class Session:
+    """What the receivers heard: each meter's own lines by their places, and the strangers'."""
+
+    roster: Roster
+    receivers: list[Receiver] = field(default_factory=list)
+    events: dict[bytes, dict[Place, Telegram | Order]] = field(default_factory=dict)
+    strangers: dict[Place, bytes] = field(default_factory=dict)
+
+    def hear(self, text: bytes) -> None:
+        """`heard_by`: one more receiver's lines, each in its class."""
+        receiver, (lines, over) = Receiver(), heard_lines(text)
+        self.receivers.append(receiver)
+        receiver.is_cut = over
+        for number, line in enumerate(lines, 1):
+            receiver.counts["lines"] += 1
+            receiver.counts[self._take((len(self.receivers), number), line)] += 1
+
+    def _take(self, place: Place, line: bytes) -> str:
+        """`class_by` and `event_of_line`: notes a line for the meter that it is for; its class."""
+        said = line_of(line)
+        if said is None:
+            return "bad"
+        if isinstance(said, Heard):
+            if said.telegram is None:
+                return "unframed"
+            event: Telegram | Order = Telegram(said.moment, read_layers(said.telegram))
+            address = event.layers.target
+        else:
+            event, address = said, said.address
+        if address not in self.events:
+            self.strangers[place] = address
+            return "strangers"
+        self.events[address][place] = event
+        return "own"
+
+
+@dataclass(frozen=True)
+class Outputs:
+    """What a session prints and writes."""
+
+    report: str
+    next_roster: str
+    readings: str
+    sent: list[str]
+
+
+def session_of(roster: Roster, texts: list[bytes]) -> Session:
+    """A session over receivers' texts."""
+    session = Session(roster, events={meter.address: {} for meter in roster.meters})
+    for text in texts:
+        session.hear(text)
+    return session
+
+
+def outputs_of(session: Session, orders: dict[bytes, list[Place]], order_of_strangers: list[Place]) -> Outputs:
+    """The outputs where each meter's steps are made in its order."""
+    slots, parts = [], []
+    for meter in session.roster.meters:
+        slot, steps = Slot.of(session.roster.own, meter), []
+        for place in orders[meter.address]:
+            words, frame = slot.step(session.events[meter.address][place])
+            steps.append((*place, words))
+            if frame is not None:
+                session.receivers[place[0] - 1].sent.append((place[1], frame))
+        slots.append(slot)
+        parts += meter_lines(slot, steps)
+    lines = ["wmbus-report 1"] + [it.line(number) for number, it in enumerate(session.receivers, 1)] + parts
+    lines += strangers_lines([(*place, session.strangers[place]) for place in order_of_strangers]) + ["end"]
+    following = roster_text(Roster(session.roster.own, [slot.commission_now() for slot in slots]))
+    sent = ["".join(f"D {frame.hex()}\n" for _, frame in sorted(it.sent)) for it in session.receivers]
+    return Outputs("".join(f"{line}\n" for line in lines), following, readings_text(slots), sent)
