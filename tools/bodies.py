@@ -1,0 +1,228 @@
+"""Wrong bodies of the crates, as must-fail/ has them: which function each changes, and what of a crate the crates above it see.
+
+A body is a file of lines `file: src/a.rt`, `old: TEXT` (standing once in that file) and `new: TEXT`; further pairs apply to what the earlier ones made. A line
+`alone: WHY` says that it can't be tried together with others."""
+import functools
+import hashlib
+import os
+import re
+from collections import namedtuple
+
+from libraries import TOP, below, known_crates, toolchain
+
+PARTS = ("src", "specs", "proofs")
+
+# A function of a source file: what it is called by there, the words of which rattle makes its name, where its text, its body and its end are, and the cycle that it is of.
+Function = namedtuple("Function", "key words start body end cycle")
+
+# what is no code: comments, texts and characters
+BLANKED = re.compile(r'//[^\n]*|/\*.*?\*/|b?r(#*)".*?"\1|b?"(?:\\.|[^"\\])*"|(?<![A-Za-z0-9_])b?\'(?:\\[^\n\']*|[^\\\'\n])\'', re.S)
+# braces behind these words are a clause's, and no body
+CLAUSE = re.compile(r"\b(requires|ensures|ghost)\b[^{};]*$")
+TOKEN = re.compile(r"\bfn\s+(\w+)|\bimpl\b|\b(?:mod|trait)\s+(\w+)|[{}]")
+CYCLE = re.compile(r"#\[cycle\((\w+)\)\]")
+
+
+def read(path):
+    with open(path, encoding="utf-8") as file:
+        return file.read()
+
+
+def files_below(folder):
+    return sorted(os.path.join(place, name) for place, _, names in os.walk(folder) for name in names)
+
+
+def type_word(text):
+    """A type as rattle names it in a function's name: its last word, without its arguments."""
+    plain = re.sub(r"'\w+\s*,?\s*|&|\bmut\b", "", text).strip()
+    return re.sub(r"<.*", "", plain, flags=re.S).split("::")[-1].strip()
+
+
+def impl_word(head):
+    """What stands for an impl in the names of its functions (a pattern): the type, and behind it the trait."""
+    head = re.sub(r"\bwhere\b.*", "", head, flags=re.S).strip()
+    if head.startswith("<"):
+        depth = 0
+        for place, char in enumerate(head):
+            if char == "<":
+                depth += 1
+            elif char == ">" and head[place - 1] != "-":
+                depth -= 1
+            if depth == 0:
+                head = head[place + 1:].strip()
+                break
+    trait, is_for, of = head.partition(" for ")
+    if not is_for:
+        return type_word(trait)
+    return type_word(of) + type_word(trait) + ("\\w*" if "<" in trait else "")
+
+
+def closing(text, brace):
+    """The place behind the brace that closes the one at a place."""
+    depth = 0
+    for it in re.finditer(r"[{}]", text[brace:]):
+        depth += 1 if it[0] == "{" else -1
+        if depth == 0:
+            return brace + it.end()
+    return len(text)
+
+
+def body_of(text, start):
+    """Where the body of a function begins and ends whose name ends at a place; a function without one is all before its semicolon."""
+    depth, behind = 0, start
+    for mark in re.finditer(r"[()\[\]{;]", text[start:]):
+        place = start + mark.start()
+        if place < behind:
+            continue
+        depth += {"(": 1, "[": 1, ")": -1, "]": -1}.get(mark[0], 0)
+        if depth == 0 and mark[0] == ";":
+            return place + 1, place + 1
+        if depth == 0 and mark[0] == "{":
+            if not CLAUSE.search(text[behind:place]):
+                return place, closing(text, place)
+            behind = closing(text, place)
+    return len(text), len(text)
+
+
+@functools.lru_cache(maxsize=2048)
+def functions(path, text):
+    """The functions of a source file that stand in no function, in their order."""
+    text = BLANKED.sub(lambda it: re.sub(r"[^\n]", " ", it[0]), text)
+    module = path.removeprefix("src/").removesuffix(".rt").removesuffix("/mod").split("/")
+    around, found, at, opening = [[] if module in (["lib"], ["main"]) else module], [], 0, None
+    while it := TOKEN.search(text, at):
+        at = it.end()
+        if it[0] == "{":
+            around.append(opening)
+            opening = None
+        elif it[0] == "}":
+            around.pop()
+        elif around[-1] is None:
+            continue
+        elif it[1]:
+            body, end = body_of(text, at)
+            # (rattle's notes name the line at which a function's attributes begin)
+            head = text[max(text.rfind(mark, 0, it.start()) for mark in "{};") + 1:it.start()]
+            start = it.start() - len(head.lstrip())
+            cycle = CYCLE.search(head)
+            words = [*around[-1], it[1]]
+            found.append(Function("::".join(words), words, start, body, end, cycle and cycle[1]))
+            at = end
+        elif it[2]:
+            opening = [*around[-1], it[2]] if text[at:].lstrip()[:1] != ";" else None
+        else:
+            brace = text.index("{", at)
+            opening = [*around[-1], "@" + impl_word(text[at:brace])]
+            at = brace
+    return found
+
+
+def stated(path, text):
+    """A source file without the bodies of its functions: what the crates above can see of it."""
+    kept, at = [], 0
+    for function in functions(path, text):
+        kept.append(text[at:function.body])
+        at = function.end
+    return "".join([*kept, text[at:]])
+
+
+@functools.cache
+def sum_of_statements(crate):
+    """A sum of what the crates above a crate see of it: its definitions, its lemmas, and its sources without bodies."""
+    folder, total = f"{TOP}/crates/{crate}", hashlib.sha256()
+    for path in files_below(f"{folder}/src"):
+        inside = os.path.relpath(path, folder)
+        total.update(f"{inside}\n{stated(inside, read(path))}".encode())
+    lemmas = [it for it in files_below(f"{folder}/proofs") if os.path.dirname(it) == f"{folder}/proofs"]
+    for path in [*files_below(f"{folder}/specs"), *lemmas]:
+        total.update(f"{os.path.relpath(path, folder)}\n{read(path)}".encode())
+    return total.hexdigest()
+
+
+def sum_of_trial(crate):
+    """A sum of all that a trial of a crate's bodies rests on: its files, the bodies, and the statements of the crates below."""
+    folder, total = f"{TOP}/crates/{crate}", hashlib.sha256(f"{toolchain()} {known_crates()[crate]}\n".encode())
+    for part in (*PARTS, "must-fail"):
+        for path in files_below(f"{folder}/{part}"):
+            total.update(f"{os.path.relpath(path, folder)}\n{read(path)}".encode())
+    for name in below(crate):
+        total.update(f"{name} {sum_of_statements(name)}\n".encode())
+    return total.hexdigest()
+
+
+class Body:
+    """A wrong body: its file of must-fail, the texts that it changes, the functions in which they stand, and why it stands alone, if it does."""
+
+    def __init__(self, crate, file):
+        self.crate, self.file, self.pairs, self.places, self.alone, self.bad = crate, file, [], [], None, None
+        folder, path, old = f"{TOP}/crates/{crate}", "", None
+        for line in read(f"{folder}/must-fail/{file}").split("\n"):
+            word, _, rest = line.partition(": ")
+            if word == "file":
+                path = rest.strip()
+            elif word == "old":
+                old = rest
+            elif line.startswith("new:") and path and old:
+                self.pairs.append((path, old, line.removeprefix("new:").removeprefix(" ")))
+                old = None
+            elif word == "alone":
+                self.alone = rest
+        self.texts, self.taken = {}, set()
+        if not self.pairs:
+            self.bad = "it has no old and new text"
+        for pair in self.pairs:
+            self.bad = self.bad or self.add(folder, *pair)
+        for path, key in self.places:
+            self.taken |= {it.cycle or (path, key) for it in functions(path, self.texts[path]) if it.key == key}
+
+    def add(self, folder, path, old, new):
+        """Applies a pair and notes the function that it changes; why it can't be applied, else nothing."""
+        if path not in self.texts:
+            if not os.path.isfile(f"{folder}/{path}"):
+                return f"there is no {path}"
+            self.texts[path] = read(f"{folder}/{path}")
+        text = self.texts[path]
+        if text.count(old) != 1:
+            return f"its old text stands {text.count(old)} times in {path}"
+        same = len(os.path.commonprefix([old, new]))
+        # (where a text is added, the last letter that stays tells the place)
+        changed = text.index(old) + min(same, len(old) - 1)
+        inside = [it for it in functions(path, text) if it.body <= changed < it.end]
+        if not inside:
+            line = text[:changed].count("\n") + 1
+            self.alone = self.alone or f"it changes no function's body, but {path}:{line}"
+        self.places += [(path, it.key) for it in inside if (path, it.key) not in self.places]
+        self.texts[path] = text.replace(old, new)
+        return None
+
+
+def bodies_of(crate):
+    folder = f"{TOP}/crates/{crate}/must-fail"
+    names = sorted(os.listdir(folder)) if os.path.isdir(folder) else []
+    return [Body(crate, name) for name in names if name.endswith((".edit", ".md"))]
+
+
+def together(crate, bodies):
+    """The bodies in batches, of which each has at most one body a function; those that stand alone come last, each by itself."""
+    made = []
+    for body in bodies:
+        if body.alone:
+            continue
+        for batch in made:
+            if not any(body.taken & other.taken for other in batch) and texts_with(crate, [*batch, body]):
+                batch.append(body)
+                break
+        else:
+            made.append([body])
+    return made + [[body] for body in bodies if body.alone]
+
+
+def texts_with(crate, bodies):
+    """The texts of the files that bodies change, with all of them put in; nothing where an old text doesn't stand once there any more."""
+    texts = {}
+    for path, old, new in (pair for body in bodies for pair in body.pairs):
+        text = texts.get(path) or read(f"{TOP}/crates/{crate}/{path}")
+        if text.count(old) != 1:
+            return None
+        texts[path] = text.replace(old, new)
+    return texts
