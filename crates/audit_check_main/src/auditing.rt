@@ -20,7 +20,7 @@ use crate::printing::put_session;
 use crate::stepping::Unmade;
 use crate::verdict::{Cause, Verdict};
 use meter_address::{Address, Commission};
-use meter_slots::{Directory, MeterStart};
+use meter_slots::{Directory, MeterStart, addresses_of};
 use outer_io::Memory;
 use roster_file::{RosterFault, read_roster};
 use std::alloc::Global;
@@ -48,17 +48,6 @@ fn starts_of(alloc: Global, meters: &[Commission]) -> Result<Vec<MeterStart>, Me
         starts.push(MeterStart::new(meters[place]))?;
     }
     Ok(starts)
-}
-
-// The addresses of the meters.
-fn addresses_of(alloc: Global, meters: &[MeterStart]) -> Result<Vec<Address>, Memory>
-    ensures { IfOk result (λ addresses. addresses.items ≡ map (λ c. c.address) meters.now) }
-{
-    let mut addresses = Vec::new(alloc);
-    for place in 0..meters.len() {
-        addresses.push(meters[place].address())?;
-    }
-    Ok(addresses)
 }
 
 // The directory of the meters.

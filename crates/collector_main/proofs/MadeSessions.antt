@@ -22,9 +22,11 @@ use Rattle.receivers.specs.Run.{ReceiverRun, receiver_run, receiver_runs}
 use Rattle.receivers.proofs.HeardRuns.{heard_session}
 use Rattle.report_text.specs.declared.lent.ReceiverEnd.{ReceiverEnd}
 use Rattle.report_text.specs.Report.{report_text}
-use Rattle.roster_file.specs.Roster.{Enrolled, roster_of}
+use Rattle.state_file.specs.Whole.{Known}
 use Rattle.collector_main.specs.declared.together.HeardTogether.{HeardTogether}
-use Rattle.collector_main.specs.Heard.{starts, Heard, receiver_end}
+use Rattle.collector_main.specs.declared.form.Form.TheVariants.{Roster}
+use Rattle.collector_main.specs.Begin.{known_of}
+use Rattle.collector_main.specs.Heard.{Heard, receiver_end}
 use Rattle.collector_main.specs.MadeRun.{heard_whole, heard_texts}
 use Rattle.collector_main.specs.Ready.{IsEndOf, HaveHeard, HearsText, IsMadeTogether}
 use Rattle.collector_main.specs.Showing.{IsFresh}
@@ -92,18 +94,18 @@ module _ {S K : Type 0} (s : sources.Ghosts S) (k : sinks.Ghosts K) (reads : (x 
 
   -- ---- what they heard together
 
-  pub made_together : (session : Session) (e : Enrolled) (olds news : List (Receiving S K)) (h : HeardTogether) → IsTrue s.tells
-      → roster_of session.roster ≡ Ok e
+  pub made_together : (session : Session) (e : Known) (olds news : List (Receiving S K)) (h : HeardTogether) → IsTrue s.tells
+      → known_of Roster session.roster ≡ Ok e
       → EachWith IsOver olds (heard_texts session) → HaveHeard s k e olds news h → IsMadeTogether session h
   made_together session e olds news h told is over have =
       let runs : List ReceiverRun = receiver_runs s k olds news in
       let world : WorldView = record { slots = h.collected.slots.items; strangers = h.collected.strangers } in
       let known = runs_known s k olds news in
-      let t : IsHeardSession e.own (starts e) runs world =
-      heard_session e.own (starts e) runs world (each_known s.tells runs known told) have.collected in
-      let directory : List Address = map address_of (starts e) in
+      let t : IsHeardSession e.own e.starts runs world =
+      heard_session e.own e.starts runs world (each_known s.tells runs known told) have.collected in
+      let directory : List Address = map address_of e.starts in
       let ended : EachWith IsEnd runs h.ends.items = runs_ended s k olds news h.ends.items have.as_many have.receiver_ends in
-      let heard : Heard = record { enrolled = e; receivers = t.receivers; world = world } in
+      let heard : Heard = record { known = e; receivers = t.receivers; world = world } in
       let four : length (heard_texts session) ≡ length olds = each_many IsOver olds (heard_texts session) over in
       let many : length (map tellings t.receivers) ≡ length runs = length-map t.receivers tellings
       ∙ each_many (HasTaken directory) runs t.receivers t.taken in
@@ -111,12 +113,12 @@ module _ {S K : Type 0} (s : sources.Ghosts S) (k : sinks.Ghosts K) (reads : (x 
       record {
         heard = heard;
         is_heard = record {
-          roster_is = is;
+          known_is = is;
           receivers = all_whole directory olds news (heard_texts session)
               h.ends.items t.receivers over have.as_many have.receiver_ends t.taken;
           session = t.session;
           told = order_is_told e.own (map tellings t.receivers) (omega arith)
-              (each_short s.tells directory runs h.ends.items t.receivers ended t.taken) (starts e) world
+              (each_short s.tells directory runs h.ends.items t.receivers ended t.taken) e.starts world
               (map (receiver_end heard) t.receivers) t.session;
         };
         report = ap (λ l. report_text l world.slots world.strangers)
@@ -150,7 +152,7 @@ module _ {K : Type 0} (s : sources.Ghosts Text) (k : sinks.Ghosts K) (told : IsT
   pub made_heard : {E : Type 0} (count telegrams number : ℕ) → count ≤ 1024 → telegrams ≤ 16384
       → (session : Session) (roster first second third fourth bytes : List ℕ)
       → session_of roster first second third fourth ≡ session → session ≡ made count telegrams number → bytes ≡ roster
-      → (e : Enrolled) → roster_of bytes ≡ Ok e → (olds news : List (Receiving Text K))
+      → (e : Known) → known_of Roster bytes ≡ Ok e → (olds news : List (Receiving Text K))
       → EachWith HearsText olds (first ∷ second ∷ third ∷ fourth ∷ [])
       → (result : Result HeardTogether E) → IfOk result (HaveHeard s k e olds news)
       → IfOk result (IsMadeTogether (made count telegrams number))
@@ -162,7 +164,7 @@ module _ {K : Type 0} (s : sources.Ghosts Text) (k : sinks.Ghosts K) (told : IsT
       let readable : IsReadable count telegrams number whole = made_is_readable count telegrams number few_meters few in
       let so : session_of roster first second third fourth ≡ whole = view ∙ same in
       let texts : EachWith HearsText olds (heard_texts whole) = subst (λ (x : Session). EachWith HearsText olds (heard_texts x)) so each in
-      let roster_is : roster_of whole.roster ≡ Ok e = ap roster_of (sym (at ∙ ap (λ (x : Session). x.roster) so)) ∙ is in
+      let roster_is : known_of Roster whole.roster ≡ Ok e = ap (known_of Roster) (sym (at ∙ ap (λ (x : Session). x.roster) so)) ∙ is in
       made_together s k reads writes whole e olds news h told roster_is
       (over_texts olds (heard_texts whole) texts
       (readable.first.within, (readable.second.within, (readable.third.within, (readable.fourth.within, tt))))) have

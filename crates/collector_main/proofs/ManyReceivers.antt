@@ -15,9 +15,7 @@ use Rattle.meter_address.specs.declared.address.Address.{Address}
 use Rattle.meter_slots.specs.declared.counts.Counts.{Counts}
 use Rattle.meter_slots.specs.declared.counts.Ended.{Ended}
 use Rattle.meter_slots.specs.declared.counts.Ended.TheVariants as ends
-use Rattle.meter_address.specs.Commission.{Commissioned}
-use Rattle.meter_slots.specs.Directory.{AreApart}
-use Rattle.meter_slots.specs.Journal.{Start, SlotView, fresh_start}
+use Rattle.meter_slots.specs.Journal.{Start}
 use Rattle.meter_slots.specs.World.{WorldView}
 use Rattle.stranger_ring.specs.declared.strangers.Heard.{Heard as Stranger}
 use Rattle.receivers.specs.Classes.{counts_of}
@@ -32,13 +30,13 @@ use Rattle.receivers.proofs.HeardRuns.{heard_session}
 use Rattle.report_text.specs.declared.lent.ReceiverEnd.{ReceiverEnd}
 use Rattle.report_text.specs.Readings.{readings_text}
 use Rattle.report_text.specs.Report.{report_text}
-use Rattle.roster_file.specs.Roster.{Enrolled, roster_of}
-use Rattle.roster_file.specs.Text.{roster_text}
+use Rattle.state_file.specs.Whole.{Known}
 use Rattle.collector_main.specs.declared.status.Status.{Status}
 use Rattle.collector_main.specs.declared.status.Status.TheVariants as statuses
-use Rattle.collector_main.specs.Heard.{starts, Heard, next_roster, next_of, readings_of, receiver_end, report_of}
-use Rattle.collector_main.specs.Ready.{IsEndOf, HaveHeard, IsReady}
-use Rattle.collector_main.specs.declared.collecting.Ready.{Ready}
+use Rattle.collector_main.specs.declared.form.Form.{Form}
+use Rattle.collector_main.specs.Begin.{known_of}
+use Rattle.collector_main.specs.Heard.{Heard, next_text, next_of, readings_of, receiver_end, report_of}
+use Rattle.collector_main.specs.Ready.{IsEndOf, HaveHeard}
 use Rattle.collector_main.specs.declared.together.HeardTogether.{HeardTogether}
 use Rattle.collector_main.specs.Run.{Run, Output, IsRun, EndsSo, HasEnded, IsWhole, IsUnwritten, EndIsCaused, IsCausedBy}
 use Rattle.collector_main.specs.Showing.{IsFresh, report_output, all_outputs}
@@ -72,6 +70,7 @@ stops_later n r runs statuses.Done ended later = absurd later
 stops_later n r runs (statuses.Words fault) ended later = absurd later
 stops_later n r runs statuses.ReadRoster ended later = absurd later
 stops_later n r runs (statuses.Roster line cause) ended later = absurd later
+stops_later n r runs (statuses.State line cause) ended later = absurd later
 stops_later n r runs (statuses.Write which) ended later = absurd later
 stops_later n r runs statuses.Memory ended later = absurd later
 
@@ -247,21 +246,6 @@ each_more P [] (z ∷ ys) x y each one = absurd each
 each_more P (z ∷ xs) [] x y each one = absurd each
 each_more P (z ∷ xs) (w ∷ ys) x y each one = (each.0, each_more P xs ys x y each.1 one)
 
--- the starts of meters whose addresses differ
-pub starts_apart : (cs : List Commissioned) (ss : List Start) → ss ≡ map fresh_start cs → AreApart (map (λ c. c.address) cs)
-    → AreApart (map address_of ss)
-starts_apart cs ss is apart =
-    subst AreApart (sym (ap (map address_of) is ∙ map-map address_of fresh_start cs)) apart
-
-pub as_many_starts : (cs : List Commissioned) (ss : List Start) → ss ≡ map fresh_start cs → length ss ≡ length cs
-as_many_starts cs ss is = ap length is ∙ length-map cs fresh_start
-
-pub mapped_more : {A B : Type 0} (f : A → B) (xs : List A) (i : ℕ) (d : A) (ys : List B) (y : B) → i < length xs → ys ≡ map f (take i xs)
-    → y ≡ f (get_or xs i d) → ys ++ y ∷ [] ≡ map f (take (i + 1) xs)
-mapped_more f xs i d ys y inside so one =
-    ap (λ t. t ++ y ∷ []) so ∙ (ap (λ z. map f (take i xs) ++ z ∷ []) one
-    ∙ (sym (map-append f (take i xs) (get_or xs i d ∷ [])) ∙ ap (map f) (sym (take_more xs i d inside))))
-
 pub each_known : (st : Bool) (runs : List ReceiverRun) → Each (λ r. r.source_tells ≡ st) runs → IsTrue st → Each IsKnown runs
 each_known st [] knows told = tt
 each_known st (r ∷ runs) knows told = (knows.0 ∙ told, each_known st runs knows.1 told)
@@ -289,22 +273,23 @@ wrote_same kt text text' sink came same wrote = subst (λ t. Wrote kt t sink cam
 
 -- ---- the run
 
-module _ (st kt : Bool) (roster : Change SourceShown) (runs : List ReceiverRun) (next readings report : Change SinkShown) (e : Enrolled)
+module _ (form : Form) (st kt : Bool) (beginning : Change SourceShown) (runs : List ReceiverRun) (next readings report : Change SinkShown) (e : Known)
     (world : WorldView)
     (es : List ReceiverEnd) where
   abbrev this : Status → Run
   this result = record {
     sources_tell = st;
     sinks_tell = kt;
-    roster = roster;
+    form = form;
+    beginning = beginning;
     receivers = runs;
     sends = true;
-    outputs = all_outputs next readings report;
+    outputs = all_outputs form next readings report;
     status = result;
   }
 
   abbrev next_is : List ℕ
-  next_is = roster_text (next_roster e.own world.slots)
+  next_is = next_text form e.own world.slots
 
   abbrev readings_are : List ℕ
   readings_are = readings_text world.slots
@@ -358,6 +343,7 @@ module _ (st kt : Bool) (roster : Change SourceShown) (runs : List ReceiverRun) 
     caused_stop result (statuses.Words fault) stops = absurd stops
     caused_stop result statuses.ReadRoster stops = absurd stops
     caused_stop result (statuses.Roster line cause) stops = absurd stops
+    caused_stop result (statuses.State line cause) stops = absurd stops
     caused_stop result (statuses.Write which) stops = absurd stops
     caused_stop result statuses.Memory stops = absurd stops
 
@@ -375,6 +361,7 @@ module _ (st kt : Bool) (roster : Change SourceShown) (runs : List ReceiverRun) 
     heard_stop (statuses.Words fault) stops = absurd stops
     heard_stop statuses.ReadRoster stops = absurd stops
     heard_stop (statuses.Roster line cause) stops = absurd stops
+    heard_stop (statuses.State line cause) stops = absurd stops
     heard_stop (statuses.Write which) stops = absurd stops
     heard_stop statuses.Memory stops = absurd stops
 
@@ -416,15 +403,15 @@ module _ (st kt : Bool) (roster : Change SourceShown) (runs : List ReceiverRun) 
 
     pub collected_run : (st_is : Each (λ r. r.source_tells ≡ st) runs) → Each (λ r. IsTrue st → r.source.before.taken ≡ []) runs
         → length runs < 2 ^ 32
-        → IsCollected e.own (starts e) runs world → (IsTrue st → roster_of roster.before.left ≡ Ok e) → (IsTrue st → IsReadOut roster)
-        → (IsTrue st → LosesNothing roster) → IsRun (this result)
+        → IsCollected e.own e.starts runs world → (IsTrue st → known_of form beginning.before.left ≡ Ok e) → (IsTrue st → IsReadOut beginning)
+        → (IsTrue st → LosesNothing beginning) → IsRun (this result)
     collected_run knows none few collected found read kept =
-        let directory = map address_of (starts e) in
+        let directory = map address_of e.starts in
         record {
           headline = λ was told.
-              let s : IsHeardSession e.own (starts e) runs world =
-              heard_session e.own (starts e) runs world (each_known st runs knows told) collected in
-              let heard : Heard = record { enrolled = e; receivers = s.receivers; world = world } in
+              let s : IsHeardSession e.own e.starts runs world =
+              heard_session e.own e.starts runs world (each_known st runs knows told) collected in
+              let heard : Heard = record { known = e; receivers = s.receivers; world = world } in
               let same : plain ≡ report_of heard =
               ap (λ l. report_text l world.slots world.strangers) (ends_are st directory runs es s.receivers each s.taken) in
               let many : length (map tellings s.receivers) ≡ length runs = length-map s.receivers tellings
@@ -432,12 +419,12 @@ module _ (st kt : Bool) (roster : Change SourceShown) (runs : List ReceiverRun) 
               let is_report : Wrote kt (report_of heard) report c = wrote_same kt plain (report_of heard) report c same w.wrote_report in
               record {
                 heard = heard;
-                roster_read = read told;
-                roster_is = found told;
+                begun = read told;
+                known_is = found told;
                 receivers = each_so st directory runs s.receivers none told s.taken;
                 session = s.session;
                 told = order_is_told e.own (map tellings s.receivers) (omega arith)
-                    (each_short st directory runs es s.receivers each s.taken) (starts e) world
+                    (each_short st directory runs es s.receivers each s.taken) e.starts world
                     (map (receiver_end heard) s.receivers) s.session;
                 sent = λ sends. record { parts = s.parts; lines = s.heard; answers = s.answers; sent = s.sent };
                 written = λ writes. (
@@ -450,7 +437,7 @@ module _ (st kt : Bool) (roster : Change SourceShown) (runs : List ReceiverRun) 
                 whole = λ writes all. let o = all_whole plain a b c w (no_stop statuses.Done (λ stops. stops) all) writes in
                     (o.0, (o.1, (o.2 ∙ same, tt)));
                 stopped = λ writes which is.
-                    first_unwritten plain (IsWhole heard) a b c which (record { number = 1; text = next_of; sink = next })
+                    first_unwritten plain (IsWhole heard) a b c which (record { number = 1; text = next_of form; sink = next })
                     (record { number = 2; text = readings_of; sink = readings }) (report_output report) refl refl refl refl refl refl w
                     (λ o. ⊎_elim (λ t. t) (λ n. absurd (let y = writes in cc)) o) (λ o.
                     ⊎_elim (λ t. t) (λ n. absurd (let y = writes in cc)) o)
@@ -458,7 +445,7 @@ module _ (st kt : Bool) (roster : Change SourceShown) (runs : List ReceiverRun) 
               };
           status_caused = caused;
           ends_caused = λ told. each_caused st directory runs collected.parts knows collected.each_run;
-          refused = λ told line why bad. let yes = found told in absurd cc;
+          refused = λ told fault bad. let yes = found told in absurd cc;
           complete = λ told f. inl (let all =
               all_faultless st directory runs es collected.parts knows none each collected.each_run told f.within f.receivers_steady
               (f.sinks_steady refl) in
@@ -473,6 +460,7 @@ not_unread statuses.Done heard unread = unread
 not_unread (statuses.Words fault) heard unread = cc
 not_unread statuses.ReadRoster heard unread = cc
 not_unread (statuses.Roster line cause) heard unread = cc
+not_unread (statuses.State line cause) heard unread = cc
 not_unread (statuses.Read w) heard unread = unread
 not_unread (statuses.Transmit w) heard unread = unread
 not_unread (statuses.Cut w) heard unread = unread
@@ -524,79 +512,50 @@ module _ {S K : Type 0} (s : sources.Ghosts S) (k : sinks.Ghosts K) where
   same_keeps (r ∷ rs) = (refl, same_keeps rs)
 
   -- what receivers heard together
-  pub heard_is : (e : Enrolled) (own : Address) (meters : List Start) (olds olds' news news' : List (Receiving S K))
-      (h : HeardTogether)
-      → own ≡ e.own → meters ≡ starts e → olds' ≡ olds → news' ≡ news → Each (λ r. IsTrue s.tells → s.taken r.source ≡ []) olds'
-      → IsCollected own meters (receiver_runs s k olds news) (record { slots = h.collected.slots.items; strangers = h.collected.strangers })
+  pub heard_is : (e : Known) (olds olds' news news' : List (Receiving S K)) (h : HeardTogether)
+      → olds' ≡ olds → news' ≡ news → Each (λ r. IsTrue s.tells → s.taken r.source ≡ []) olds'
+      → IsCollected e.own e.starts (receiver_runs s k olds news)
+      (record { slots = h.collected.slots.items; strangers = h.collected.strangers })
       → length news ≡ length olds → EachWith IsEndOf news' h.ends.items → HaveHeard s k e olds news h
-  heard_is e own meters olds olds' news news' h same same_meters o n untaken collected many ended =
-      let world : WorldView = record { slots = h.collected.slots.items; strangers = h.collected.strangers } in
-      record {
-        untaken = subst (λ l. Each (λ r. IsTrue s.tells → s.taken r.source ≡ []) l) o untaken;
-        collected = subst (λ x. IsCollected x (starts e) (receiver_runs s k olds news) world) same
-            (subst (λ m. IsCollected own m (receiver_runs s k olds news) world) same_meters collected);
-        as_many = many;
-        receiver_ends = subst (λ l. EachWith IsEndOf l h.ends.items) n ended;
-      }
+  heard_is e olds olds' news news' h o n untaken collected many ended = record {
+    untaken = subst (λ l. Each (λ r. IsTrue s.tells → s.taken r.source ≡ []) l) o untaken;
+    collected = collected;
+    as_many = many;
+    receiver_ends = subst (λ l. EachWith IsEndOf l h.ends.items) n ended;
+  }
 
-  -- what is ready of a session
-  pub ready_is : {E : Type 0} (e : Enrolled) (own : Address) (olds news : List (Receiving S K)) (h : HeardTogether)
-      (result : Result Ready E) → own ≡ e.own
-      → HaveHeard s k e olds news h → IfOk result (λ r. r.collected.slots.items ≡ h.collected.slots.items)
-      → IfOk result (λ r. r.collected.strangers ≡ h.collected.strangers) → IfOk result (λ r. r.ends.items ≡ h.ends.items)
-      → IfOk result (λ r. r.next ≡ next_roster own h.collected.slots.items)
-      → IfOk result (IsReady s k e olds news)
-  ready_is e own olds news h (Err _) same have a b c d = tt
-  ready_is e own olds news h (Ok r) same have a b c d =
-      let W : List SlotView → List Stranger → WorldView = λ x y. record { slots = x; strangers = y } in
-      let P : WorldView → Type 0 = λ w. IsCollected e.own (starts e) (receiver_runs s k olds news) w in
-      record {
-        heard = record {
-          untaken = have.untaken;
-          collected = subst (λ x. P (W x r.collected.strangers)) (sym a)
-              (subst (λ y. P (W h.collected.slots.items y)) (sym b) have.collected);
-          as_many = have.as_many;
-          receiver_ends = subst (λ l. EachWith IsEndOf news l) (sym c) have.receiver_ends;
-        };
-        next = d ∙ (ap (λ x. next_roster x h.collected.slots.items) same ∙ ap (next_roster e.own) (sym a));
-      }
-
-  module _ (roster : Change SourceShown) (next readings report : Change SinkShown) (e : Enrolled) (olds news : List (Receiving S K))
-      (ready : Ready)
-      (is : IsReady s k e olds news ready) (few : length olds < 2 ^ 32) (a b c : Result Unit Failed)
-      (wrote_next : Wrote k.tells (roster_text ready.next) next a)
-      (wrote_readings : Wrote k.tells (readings_text ready.collected.slots.items) readings b)
-      (wrote_report : Wrote k.tells (report_text ready.ends.items ready.collected.slots.items ready.collected.strangers) report c)
-      (stop : Option Status) (stop_is : stop ≡ stop_from 1 ready.ends.items) (result : Status)
+  module _ (form : Form) (beginning : Change SourceShown) (next readings report : Change SinkShown) (e : Known) (olds news : List (Receiving S K))
+      (heard : HeardTogether)
+      (is : HaveHeard s k e olds news heard) (few : length olds < 2 ^ 32) (a b c : Result Unit Failed)
+      (wrote_next : Wrote k.tells (next_text form e.own heard.collected.slots.items) next a)
+      (wrote_readings : Wrote k.tells (readings_text heard.collected.slots.items) readings b)
+      (wrote_report : Wrote k.tells (report_text heard.ends.items heard.collected.slots.items heard.collected.strangers) report c)
+      (stop : Option Status) (stop_is : stop ≡ stop_from 1 heard.ends.items) (result : Status)
       (result_is : result ≡ status_after stop (unwritten a b c)) where
     abbrev runs : List ReceiverRun
     runs = receiver_runs s k olds news
 
     abbrev world : WorldView
-    world = record { slots = ready.collected.slots.items; strangers = ready.collected.strangers }
+    world = record { slots = heard.collected.slots.items; strangers = heard.collected.strangers }
 
-    abbrev result_so : result ≡ status_after (stop_from 1 ready.ends.items) (unwritten a b c)
+    abbrev result_so : result ≡ status_after (stop_from 1 heard.ends.items) (unwritten a b c)
     result_so = result_is ∙ ap (λ o. status_after o (unwritten a b c)) stop_is
 
-    ended : EachWith IsEnd runs ready.ends.items
-    ended = runs_ended olds news ready.ends.items is.heard.as_many is.heard.receiver_ends
+    ended : EachWith IsEnd runs heard.ends.items
+    ended = runs_ended olds news heard.ends.items is.as_many is.receiver_ends
 
-    writes : Writes s.tells k.tells roster runs next readings report e world ready.ends.items
-        (report_text ready.ends.items ready.collected.slots.items ready.collected.strangers) a b c
-    writes = record {
-      wrote_next = wrote_same k.tells _ _ next a (ap roster_text is.next) wrote_next;
-      wrote_readings = wrote_readings;
-      wrote_report = wrote_report;
-    }
+    writes : Writes form s.tells k.tells beginning runs next readings report e world heard.ends.items
+        (report_text heard.ends.items heard.collected.slots.items heard.collected.strangers) a b c
+    writes = record { wrote_next = wrote_next; wrote_readings = wrote_readings; wrote_report = wrote_report }
 
-    pub ready_run : (IsTrue s.tells → roster_of roster.before.left ≡ Ok e) → (IsTrue s.tells → IsReadOut roster)
-        → (IsTrue s.tells → LosesNothing roster)
-        → IsRun (this s.tells k.tells roster runs next readings report e world ready.ends.items result)
-    ready_run found read kept =
-        let many = runs_many olds news is.heard.as_many in
-        collected_run s.tells k.tells roster runs next readings report e world ready.ends.items a b c writes ended result result_so
-        (runs_known olds news) (runs_untaken olds news is.heard.untaken) (omega arith) is.heard.collected found read kept
+    pub together_run : (IsTrue s.tells → known_of form beginning.before.left ≡ Ok e) → (IsTrue s.tells → IsReadOut beginning)
+        → (IsTrue s.tells → LosesNothing beginning)
+        → IsRun (this form s.tells k.tells beginning runs next readings report e world heard.ends.items result)
+    together_run found read kept =
+        let many = runs_many olds news is.as_many in
+        collected_run form s.tells k.tells beginning runs next readings report e world heard.ends.items a b c writes ended result result_so
+        (runs_known olds news) (runs_untaken olds news is.untaken) (omega arith) is.collected found read kept
 
-    pub ready_heard : IsUnread result → ⊥
-    ready_heard unread = not_unread result
-        (heard_result s.tells k.tells roster runs next readings report e world ready.ends.items a b c writes ended result result_so) unread
+    pub together_heard : IsUnread result → ⊥
+    together_heard unread = not_unread result
+        (heard_result form s.tells k.tells beginning runs next readings report e world heard.ends.items a b c writes ended result result_so) unread

@@ -16,13 +16,14 @@ use Rattle.receivers.specs.declared.told.Told.{Told}
 use Rattle.receivers.specs.Told.{told_of}
 use Rattle.receivers.proofs.OneSession.{heard_alone}
 use Rattle.report_text.specs.Report.{report_text}
-use Rattle.roster_file.specs.Roster.{Enrolled, roster_of}
-use Rattle.roster_file.specs.declared.roster.LineCause.{LineCause}
-use Rattle.roster_file.specs.declared.roster.RosterFault.TheVariants.{Line}
+use Rattle.state_file.specs.Whole.{Known}
+use Rattle.state_file.specs.declared.fault.StateFault.{StateFault}
+use Rattle.state_file.specs.declared.fault.StateFault.TheVariants as faults
 use Rattle.collector_main.specs.declared.status.Status.{Status}
 use Rattle.collector_main.specs.declared.status.Status.TheVariants as statuses
-use Rattle.collector_main.specs.Heard.{starts, Heard, report_of}
-use Rattle.collector_main.specs.Rosters.{IsRosterStatus}
+use Rattle.collector_main.specs.declared.form.Form.{Form}
+use Rattle.collector_main.specs.Begin.{IsRefusal, known_of, status_of}
+use Rattle.collector_main.specs.Heard.{Heard, report_of}
 use Rattle.outer_io.specs.Each.{Each}
 use Rattle.collector_main.specs.Run.{Run, Output, IsRun, EndIsCaused, IsCausedBy, IsFaultless, AreTold}
 use Rattle.collector_main.specs.Showing.{report_output}
@@ -35,11 +36,12 @@ unfolding counts_of
 counted directory heard counts is = ap (λ (n : Counts). n.lines) is
 
 -- a run of one receiver, whose one output is the report
-abbrev run_of : Bool → Bool → Change SourceShown → ReceiverRun → Change SinkShown → Status → Run
-run_of st kt roster r report status = record {
+abbrev run_of : Form → Bool → Bool → Change SourceShown → ReceiverRun → Change SinkShown → Status → Run
+run_of form st kt beginning r report status = record {
   sources_tell = st;
   sinks_tell = kt;
-  roster = roster;
+  form = form;
+  beginning = beginning;
   receivers = r ∷ [];
   sends = false;
   outputs = report_output report ∷ [];
@@ -66,21 +68,23 @@ unended_caused st r (Some ends.Cut) is = absurd is
 unended_caused st r (Some ends.ReadFault) is = absurd is
 unended_caused st r (Some ends.TxFault) is = absurd is
 
-module _ (st kt : Bool) (roster : Change SourceShown) (runs : List ReceiverRun) (sends : Bool) (outputs : List Output) where
+module _ (form : Form) (st kt : Bool) (beginning : Change SourceShown) (runs : List ReceiverRun) (sends : Bool) (outputs : List Output) where
   abbrev run_with : Status → Run
   run_with status = record {
     sources_tell = st;
     sinks_tell = kt;
-    roster = roster;
+    form = form;
+    beginning = beginning;
     receivers = runs;
     sends = sends;
     outputs = outputs;
     status = status;
   }
 
-  unheard_caused : (status : Status) → IsRosterStatus st roster status → IsCausedBy (run_with status) status
+  unheard_caused : (status : Status) → IsRefusal form st beginning status → IsCausedBy (run_with status) status
   unheard_caused statuses.ReadRoster why = why
   unheard_caused (statuses.Roster line cause) why = why
+  unheard_caused (statuses.State line cause) why = why
   unheard_caused statuses.Memory why = tt
   unheard_caused statuses.Done why = absurd why
   unheard_caused (statuses.Words fault) why = absurd why
@@ -89,9 +93,10 @@ module _ (st kt : Bool) (roster : Change SourceShown) (runs : List ReceiverRun) 
   unheard_caused (statuses.Cut w) why = absurd why
   unheard_caused (statuses.Write which) why = absurd why
 
-  unheard : (status : Status) → IsRosterStatus st roster status → was_heard status ≡ false
+  unheard : (status : Status) → IsRefusal form st beginning status → was_heard status ≡ false
   unheard statuses.ReadRoster why = refl
   unheard (statuses.Roster line cause) why = refl
+  unheard (statuses.State line cause) why = refl
   unheard statuses.Memory why = refl
   unheard statuses.Done why = absurd why
   unheard (statuses.Words fault) why = absurd why
@@ -100,22 +105,25 @@ module _ (st kt : Bool) (roster : Change SourceShown) (runs : List ReceiverRun) 
   unheard (statuses.Cut w) why = absurd why
   unheard (statuses.Write which) why = absurd why
 
-  unheard_refused : (status : Status) → IsRosterStatus st roster status → IsTrue st → (line : ℕ) (cause : LineCause)
-      → roster_of roster.before.left ≡ Err (Line line cause) → IsRefused line cause status
-  unheard_refused statuses.ReadRoster why told line cause bad = inr (inl refl)
-  unheard_refused (statuses.Roster line' cause') why told line cause bad =
-      inl (let is = why told in let same : Line line' cause' ≡ Line line cause = cc in cc)
-  unheard_refused statuses.Memory why told line cause bad = inr (inr refl)
-  unheard_refused statuses.Done why told line cause bad = absurd why
-  unheard_refused (statuses.Words fault) why told line cause bad = absurd why
-  unheard_refused (statuses.Read w) why told line cause bad = absurd why
-  unheard_refused (statuses.Transmit w) why told line cause bad = absurd why
-  unheard_refused (statuses.Cut w) why told line cause bad = absurd why
-  unheard_refused (statuses.Write which) why told line cause bad = absurd why
+  unheard_refused : (status : Status) → IsRefusal form st beginning status → IsTrue st → (fault : StateFault)
+      → known_of form beginning.before.left ≡ Err fault → IsRefused fault status
+  unheard_refused statuses.ReadRoster why told fault bad = inr (inl refl)
+  unheard_refused (statuses.Roster line cause) why told fault bad =
+      inl (let is = why told in let same : faults.Roster line cause ≡ fault = cc in ap status_of same)
+  unheard_refused (statuses.State line cause) why told fault bad =
+      inl (let is = why told in let same : faults.Line line cause ≡ fault = cc in ap status_of same)
+  unheard_refused statuses.Memory why told fault bad = inr (inr refl)
+  unheard_refused statuses.Done why told fault bad = absurd why
+  unheard_refused (statuses.Words words) why told fault bad = absurd why
+  unheard_refused (statuses.Read w) why told fault bad = absurd why
+  unheard_refused (statuses.Transmit w) why told fault bad = absurd why
+  unheard_refused (statuses.Cut w) why told fault bad = absurd why
+  unheard_refused (statuses.Write which) why told fault bad = absurd why
 
-  unheard_complete : (status : Status) → IsRosterStatus st roster status → IsTrue st → IsFaultless (run_with status) → IsDone status
-  unheard_complete statuses.ReadRoster why told f = absurd (f.roster_steady why)
-  unheard_complete (statuses.Roster line cause) why told f = absurd (let bad = why told in let good = f.roster_is in cc)
+  unheard_complete : (status : Status) → IsRefusal form st beginning status → IsTrue st → IsFaultless (run_with status) → IsDone status
+  unheard_complete statuses.ReadRoster why told f = absurd (f.beginning_steady why)
+  unheard_complete (statuses.Roster line cause) why told f = absurd (let bad = why told in let good = f.known_is in cc)
+  unheard_complete (statuses.State line cause) why told f = absurd (let bad = why told in let good = f.known_is in cc)
   unheard_complete statuses.Memory why told f = inr refl
   unheard_complete statuses.Done why told f = absurd why
   unheard_complete (statuses.Words fault) why told f = absurd why
@@ -124,9 +132,9 @@ module _ (st kt : Bool) (roster : Change SourceShown) (runs : List ReceiverRun) 
   unheard_complete (statuses.Cut w) why told f = absurd why
   unheard_complete (statuses.Write which) why told f = absurd why
 
-  pub unheard_run : (status : Status) → IsRosterStatus st roster status
+  pub unheard_run : (status : Status) → IsRefusal form st beginning status
       → (AreTold (run_with status) → Each (λ r. EndIsCaused st r r.ended) runs)
-      → (IsTrue st → LosesNothing roster) → (IsTrue st → AreTold (run_with status) → Each (λ r. LosesNothing r.source) runs)
+      → (IsTrue st → LosesNothing beginning) → (IsTrue st → AreTold (run_with status) → Each (λ r. LosesNothing r.source) runs)
       → Each (λ o. IsSilent o.sink) outputs → IsRun (run_with status)
   unheard_run status why caused kept lost silent = record {
     headline = λ heard. absurd (let not = unheard status why in cc);
@@ -139,20 +147,20 @@ module _ (st kt : Bool) (roster : Change SourceShown) (runs : List ReceiverRun) 
   }
 
 -- the same of one receiver that is heard alone
-pub alone_unheard : (st kt : Bool) (roster : Change SourceShown) (r : ReceiverRun) (report : Change SinkShown) (status : Status)
+pub alone_unheard : (form : Form) (st kt : Bool) (beginning : Change SourceShown) (r : ReceiverRun) (report : Change SinkShown) (status : Status)
     (ended : Option Ended)
-    → IsRosterStatus st roster status → r.ended ≡ ended → IsUnended ended → (IsTrue st → LosesNothing roster)
+    → IsRefusal form st beginning status → r.ended ≡ ended → IsUnended ended → (IsTrue st → LosesNothing beginning)
     → (IsTrue st → LosesNothing r.source)
-    → IsSilent report → IsRun (run_of st kt roster r report status)
-alone_unheard st kt roster r report status ended why is none kept lost silent =
-    unheard_run st kt roster (r ∷ []) false (report_output report ∷ []) status why
+    → IsSilent report → IsRun (run_of form st kt beginning r report status)
+alone_unheard form st kt beginning r report status ended why is none kept lost silent =
+    unheard_run form st kt beginning (r ∷ []) false (report_output report ∷ []) status why
     (λ told. (subst (EndIsCaused st r) (sym is) (unended_caused st r ended none), tt)) kept (λ told shown. (lost told, tt)) (silent, tt)
 
 -- ---- a run in which it was heard
 
-module _ (st kt : Bool) (roster : Change SourceShown) (r : ReceiverRun) (report : Change SinkShown) (result : Status) where
+module _ (form : Form) (st kt : Bool) (beginning : Change SourceShown) (r : ReceiverRun) (report : Change SinkShown) (result : Status) where
   abbrev this : Run
-  this = run_of st kt roster r report result
+  this = run_of form st kt beginning r report result
 
   caused : (ended : Ended) → r.ended ≡ Some ended → IsHeardEnd ended → IsFinished ended report result → IsCausedBy this result
   caused ends.End is never finished =
@@ -192,10 +200,10 @@ module _ (st kt : Bool) (roster : Change SourceShown) (r : ReceiverRun) (report 
   completed ends.Memory lines f cause never ending bytes finished = absurd (never.1 refl)
 
   -- the receiver was heard
-  pub heard_run : (e : Enrolled) (ended ended' : Ended) (counts counts' : Counts) (fresh world : WorldView) → ended ≡ ended'
+  pub heard_run : (e : Known) (ended ended' : Ended) (counts counts' : Counts) (fresh world : WorldView) → ended ≡ ended'
       → counts ≡ counts'
-      → (IsTrue st → roster_of roster.before.left ≡ Ok e) → (IsTrue st → IsReadOut roster) → (IsTrue st → LosesNothing roster)
-      → r.ended ≡ Some ended' → fresh ≡ world_of e.own (starts e) [] → counts.lines < 2 ^ 32
+      → (IsTrue st → known_of form beginning.before.left ≡ Ok e) → (IsTrue st → IsReadOut beginning) → (IsTrue st → LosesNothing beginning)
+      → r.ended ≡ Some ended' → fresh ≡ world_of e.own e.starts [] → counts.lines < 2 ^ 32
       → HasHeardAlone 1 (record { tells = st; source = r.source; counts = counts'; ended = ended' }) fresh world
       → (IsTrue st → r.source.before.taken ≡ []) → IsHeardEnd ended'
       → IsFinished ended report result
@@ -212,30 +220,30 @@ module _ (st kt : Bool) (roster : Change SourceShown) (r : ReceiverRun) (report 
       let hears : HasHeardAlone 1 (record { tells = st; source = r.source; counts = counts; ended = ended }) fresh world =
       subst (λ (n : Counts). Hears n ended) (sym same_counts) (subst (λ (end : Ended). Hears counts' end) (sym same_end) hears') in
       let h : Hearing = record { tells = st; source = r.source; counts = counts; ended = ended } in
-      let alone = heard_alone e.own (starts e) h fresh world before hears in
+      let alone = heard_alone e.own e.starts h fresh world before hears in
       let lines = lines_of h in
       let bytes : IsTrue st → r.source.now.taken ++ r.source.now.left ≡ r.source.before.left =
       λ told. alone.has_heard.no_loss told ∙ ap (λ t. t ++ r.source.before.left) (untaken told) in
       record {
         headline = λ was_so told.
-            let heard : Heard = record { enrolled = e; receivers = record { lines = lines; ended = ended } ∷ []; world = world } in
+            let heard : Heard = record { known = e; receivers = record { lines = lines; ended = ended } ∷ []; world = world } in
             let tells = alone.has_heard.lines told in
             let same : report_text (record { counts = counts; ended = ended } ∷ []) world.slots world.strangers ≡ report_of heard =
             ap (λ n. report_text (record { counts = n; ended = ended } ∷ []) world.slots world.strangers)
-            (alone.has_heard.counts ∙ ap (counts_of (map (λ c. c.address) (starts e))) tells) in
+            (alone.has_heard.counts ∙ ap (counts_of (map (λ c. c.address) e.starts)) tells) in
             let short : length (map told_of lines) < 2 ^ 32 =
             subst (λ (t : List Told). length t < 2 ^ 32) tells
-            (subst (λ n. n < 2 ^ 32) (counted (map (λ c. c.address) (starts e)) _ counts alone.has_heard.counts) few) in
-            let session = subst (λ (t : List Told). IsSession e.own (starts e) (t ∷ []) world) tells alone.session in
+            (subst (λ n. n < 2 ^ 32) (counted (map (λ c. c.address) e.starts) _ counts alone.has_heard.counts) few) in
+            let session = subst (λ (t : List Told). IsSession e.own e.starts (t ∷ []) world) tells alone.session in
             record {
               heard = heard;
-              roster_read = read told;
-              roster_is = found told;
+              begun = read told;
+              known_is = found told;
               receivers = (record { ended = is; lines = alone.has_heard.ending told; first_bytes = bytes told }, tt);
               session = session;
               sent = λ sends. absurd (let e = sends in cc);
-              told = order_is_told e.own (map told_of lines ∷ []) (omega arith) (short, tt) (starts e) world
-                  (record { counts = counts_of (map (λ c. c.address) (starts e)) (map told_of lines); ended = ended } ∷ []) session;
+              told = order_is_told e.own (map told_of lines ∷ []) (omega arith) (short, tt) e.starts world
+                  (record { counts = counts_of (map (λ c. c.address) e.starts) (map told_of lines); ended = ended } ∷ []) session;
               written = λ writes. (subst (λ t. HasText t report) same (written writes), tt);
               whole = λ writes all. (done all writes ∙ same, tt);
               stopped = λ writes which stop.
@@ -244,7 +252,7 @@ module _ (st kt : Bool) (roster : Change SourceShown) (r : ReceiverRun) (report 
         status_caused = caused ended is never finished;
         ends_caused = λ shown.
             (subst (EndIsCaused st r) (sym is) (end_caused ended lines alone.has_heard.read_fault never alone.has_heard.ending), tt);
-        refused = λ told line why bad. let yes = found told in absurd cc;
+        refused = λ told fault bad. let yes = found told in absurd cc;
         complete = λ told f. completed ended lines f alone.has_heard.read_fault never (alone.has_heard.ending told) (bytes told) finished;
         no_loss = λ told. (kept told, λ shown. (alone.has_heard.no_loss told, tt));
         silent = λ unheard. let heard = was ended never finished in absurd cc;

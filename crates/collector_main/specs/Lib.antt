@@ -1,7 +1,7 @@
+pub mod Begin
 pub mod Heard
 pub mod MadeRun
 pub mod Ready
-pub mod Rosters
 pub mod Run
 pub mod Showing
 pub mod Statuses

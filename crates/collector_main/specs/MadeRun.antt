@@ -9,10 +9,11 @@ use Rattle.meter_slots.specs.declared.counts.Ended.TheVariants as ends
 use Rattle.receivers.specs.HeardLines.{HeardLines, tellings}
 use Rattle.receivers.specs.Session.{IsSession}
 use Rattle.report_text.specs.Orders.{orders}
-use Rattle.roster_file.specs.Roster.{roster_of}
 use Rattle.collector_main.specs.declared.status.Status.{Status}
 use Rattle.collector_main.specs.declared.status.Status.TheVariants as statuses
-use Rattle.collector_main.specs.Heard.{starts, Heard, report_of, order_of}
+use Rattle.collector_main.specs.declared.form.Form.TheVariants.{Roster}
+use Rattle.collector_main.specs.Begin.{known_of}
+use Rattle.collector_main.specs.Heard.{Heard, report_of, order_of}
 use Rattle.collector_main.specs.Run.{Output, IsWhole, IsUnwritten}
 use Rattle.collector_main.specs.Statuses.{was_heard, IsDone}
 
@@ -42,9 +43,9 @@ heard_whole text = record { lines = all_lines text; ended = ends.End }
 -- The made roster is that of these meters, each receiver heard all lines of its text and ended at its end, each meter's slot is that of its
 -- own lines alone and the strangers' list has the others, and the report's text tells their order.
 pub record IsMadeHeard (made : Session) (heard : Heard) : Type 0 where
-  pub roster_is : roster_of made.roster ≡ Ok heard.enrolled
+  pub known_is : known_of Roster made.roster ≡ Ok heard.known
   pub receivers : heard.receivers ≡ map heard_whole (heard_texts made)
-  pub session : IsSession heard.enrolled.own (starts heard.enrolled) (map tellings heard.receivers) heard.world
+  pub session : IsSession heard.known.own heard.known.starts (map tellings heard.receivers) heard.world
   pub told : orders (report_of heard) ≡ order_of heard
 
 -- ---- all that is promised

@@ -11,10 +11,9 @@ use Rattle.receivers.specs.Receiver.{Receiving}
 use Rattle.receivers.specs.Run.{receiver_runs}
 use Rattle.report_text.specs.declared.lent.ReceiverEnd.{ReceiverEnd}
 use Rattle.report_text.specs.Report.{report_text}
-use Rattle.roster_file.specs.Roster.{Enrolled}
-use Rattle.collector_main.specs.Heard.{starts, Heard, next_roster, report_of}
+use Rattle.state_file.specs.Whole.{Known}
+use Rattle.collector_main.specs.Heard.{Heard, report_of}
 use Rattle.collector_main.specs.MadeRun.{IsMadeHeard}
-use Rattle.collector_main.specs.declared.collecting.Ready.{Ready}
 use Rattle.collector_main.specs.declared.together.HeardTogether.{HeardTogether}
 
 -- a receiver that worked, and found memory for all its lines, ended so
@@ -24,20 +23,14 @@ pub record IsEndOf {S K : Type 0} (r : Receiving S K) (e : ReceiverEnd) : Type 0
   pub few : e.counts.lines < 2 ^ 32
   pub found_memory : e.ended ≢ ends.Memory
 
--- some receivers worked at once for the meters of a roster, and each found memory for all its lines
-pub record HaveHeard {S K : Type 0} (s : sources.Ghosts S) (k : sinks.Ghosts K) (e : Enrolled) (olds news : List (Receiving S K))
+-- some receivers worked at once for these meters, and each found memory for all its lines
+pub record HaveHeard {S K : Type 0} (s : sources.Ghosts S) (k : sinks.Ghosts K) (e : Known) (olds news : List (Receiving S K))
     (heard : HeardTogether) : Type 0 where
   pub untaken : Each (λ r. IsTrue s.tells → s.taken r.source ≡ []) olds
-  pub collected : IsCollected e.own (starts e) (receiver_runs s k olds news)
+  pub collected : IsCollected e.own e.starts (receiver_runs s k olds news)
       (record { slots = heard.collected.slots.items; strangers = heard.collected.strangers })
   pub as_many : length news ≡ length olds
   pub receiver_ends : EachWith IsEndOf news heard.ends.items
-
--- the same, and what is written of that is ready
-pub record IsReady {S K : Type 0} (s : sources.Ghosts S) (k : sinks.Ghosts K) (e : Enrolled) (olds news : List (Receiving S K))
-    (ready : Ready) : Type 0 where
-  pub heard : HaveHeard s k e olds news (record { collected = ready.collected; ends = ready.ends })
-  pub next : ready.next ≡ next_roster e.own ready.collected.slots.items
 
 -- a fresh receiver that hears a text
 pub record HearsText {K : Type 0} (r : Receiving Text K) (text : List ℕ) : Type 0 where

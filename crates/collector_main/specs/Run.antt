@@ -12,12 +12,14 @@ use Rattle.receivers.specs.Run.{ReceiverRun}
 use Rattle.receivers.specs.Session.{IsSession}
 use Rattle.receivers.specs.Works.{Part}
 use Rattle.report_text.specs.Orders.{orders}
-use Rattle.roster_file.specs.Roster.{Enrolled, roster_of}
-use Rattle.roster_file.specs.declared.roster.LineCause.{LineCause}
-use Rattle.roster_file.specs.declared.roster.RosterFault.TheVariants.{Line}
+use Rattle.state_file.specs.Whole.{Known}
+use Rattle.state_file.specs.declared.fault.StateFault.{StateFault}
+use Rattle.state_file.specs.declared.fault.StateFault.TheVariants as faults
+use Rattle.collector_main.specs.declared.form.Form.{Form}
 use Rattle.collector_main.specs.declared.status.Status.{Status}
 use Rattle.collector_main.specs.declared.status.Status.TheVariants as statuses
-use Rattle.collector_main.specs.Heard.{Heard, starts, addresses, report_of, order_of}
+use Rattle.collector_main.specs.Begin.{known_of}
+use Rattle.collector_main.specs.Heard.{Heard, addresses, report_of, order_of}
 use Rattle.collector_main.specs.Statuses.{was_heard, IsDone, IsRefused}
 
 -- a sink that the command writes: its number in status 7, the text that it is to have of what was heard, and what it shows
@@ -26,12 +28,13 @@ pub record Output : Type 0 where
   pub text : Heard → List ℕ
   pub sink : Change SinkShown
 
--- a run: whether contracts know the bytes of sources, and of sinks; the roster; the receivers, and whether they work at once and send
--- downlinks; the outputs in the order of their writing; the status
+-- a run: whether contracts know the bytes of sources, and of sinks; the form of the text that it begins from, and the source that has it;
+-- the receivers, and whether they work at once and send downlinks; the outputs in the order of their writing; the status
 pub record Run : Type 0 where
   pub sources_tell : Bool
   pub sinks_tell : Bool
-  pub roster : Change SourceShown
+  pub form : Form
+  pub beginning : Change SourceShown
   pub receivers : List ReceiverRun
   pub sends : Bool
   pub outputs : List Output
@@ -50,7 +53,7 @@ pub record EndsSo (r : ReceiverRun) (heard : HeardLines) : Type 0 where
 pub record HaveSent (runs : List ReceiverRun) (heard : Heard) : Type 0 where
   pub parts : List Part
   pub lines : map heard_in parts ≡ map tellings heard.receivers
-  pub answers : (w : ℕ) → IsAnswered (addresses heard.enrolled) heard.world.slots w (part_by w parts)
+  pub answers : (w : ℕ) → IsAnswered (addresses heard.known) heard.world.slots w (part_by w parts)
   pub sent : EachWith SendsAnswers runs parts
 
 -- an output has its whole text
@@ -61,16 +64,16 @@ IsWhole heard o = o.sink.now.written ≡ o.text heard
 abbrev pub IsUnwritten : ℕ → Output → Type 0
 IsUnwritten which o = (o.number ≡ which) × WriteFailed o.sink
 
--- The headline: the roster was read to its end and is one, each receiver was heard, each meter's slot is that of its own lines alone and
+-- The headline: the beginning was read to its end and is one, each receiver was heard, each meter's slot is that of its own lines alone and
 -- the strangers' list has the others, the report's text tells their order, the receivers' sinks have the downlinks of just this, and the
 -- outputs their texts: after status 0 whole, after status 7 whole before the one that the status names, and else a front where a write
 -- failed.
 pub record Headline (run : Run) : Type 0 where
   pub heard : Heard
-  pub roster_read : IsReadOut run.roster
-  pub roster_is : roster_of run.roster.before.left ≡ Ok heard.enrolled
+  pub begun : IsReadOut run.beginning
+  pub known_is : known_of run.form run.beginning.before.left ≡ Ok heard.known
   pub receivers : EachWith EndsSo run.receivers heard.receivers
-  pub session : IsSession heard.enrolled.own (starts heard.enrolled) (map tellings heard.receivers) heard.world
+  pub session : IsSession heard.known.own heard.known.starts (map tellings heard.receivers) heard.world
   pub told : orders (report_of heard) ≡ order_of heard
   pub sent : IsTrue run.sends → HaveSent run.receivers heard
   pub written : IsTrue run.sinks_tell → Each (λ o. HasText (o.text heard) o.sink) run.outputs
@@ -92,25 +95,28 @@ EndIsCaused tells r (Some ends.TxFault) = WriteFailed r.tx
 EndIsCaused tells r (Some ends.Memory) = Unit {0}
 EndIsCaused tells r None = Unit {0}
 
--- the cause of a status: bytes of the roster, the first receiver that didn't end at its source's end, or the first output that couldn't be
+-- the cause of a status: bytes of the beginning, the first receiver that didn't end at its source's end, or the first output that couldn't be
 -- written
 abbrev pub IsCausedBy : Run → Status → Type 0
 IsCausedBy run statuses.Done = Each (HasEnded ends.End) run.receivers
 IsCausedBy run (statuses.Words fault) = ⊥
-IsCausedBy run statuses.ReadRoster = ReadFailed run.roster
-IsCausedBy run (statuses.Roster line cause) = IsTrue run.sources_tell → roster_of run.roster.before.left ≡ Err (Line line cause)
+IsCausedBy run statuses.ReadRoster = ReadFailed run.beginning
+IsCausedBy run (statuses.Roster line cause) =
+    IsTrue run.sources_tell → known_of run.form run.beginning.before.left ≡ Err (faults.Roster line cause)
+IsCausedBy run (statuses.State line cause) =
+    IsTrue run.sources_tell → known_of run.form run.beginning.before.left ≡ Err (faults.Line line cause)
 IsCausedBy run (statuses.Read w) = IsFirst (HasEnded ends.End) (HasEnded ends.ReadFault) w run.receivers
 IsCausedBy run (statuses.Transmit w) = IsTrue run.sends × IsFirst (HasEnded ends.End) (HasEnded ends.TxFault) w run.receivers
 IsCausedBy run (statuses.Cut w) = IsFirst (HasEnded ends.End) (HasEnded ends.Cut) w run.receivers
 IsCausedBy run (statuses.Write which) = Each (HasEnded ends.End) run.receivers × PassUntil (λ o. Unit {0}) (IsUnwritten which) run.outputs
 IsCausedBy run statuses.Memory = Unit {0}
 
--- nothing stands in the way: the roster is one, each receiver's bytes are within the limits, and no read and no write failed
+-- nothing stands in the way: the beginning is one, each receiver's bytes are within the limits, and no read and no write failed
 pub record IsFaultless (run : Run) : Type 0 where
-  pub enrolled : Enrolled
-  pub roster_is : roster_of run.roster.before.left ≡ Ok enrolled
+  pub known : Known
+  pub known_is : known_of run.form run.beginning.before.left ≡ Ok known
   pub within : Each (λ r. is_over r.source.before.left ≡ false) run.receivers
-  pub roster_steady : ¬ ReadFailed run.roster
+  pub beginning_steady : ¬ ReadFailed run.beginning
   pub receivers_steady : Each (λ r. ¬ ReadFailed r.source) run.receivers
   pub sinks_steady : IsTrue run.sends → Each (λ r. ¬ WriteFailed r.tx) run.receivers
   pub outputs_steady : Each (λ o. ¬ WriteFailed o.sink) run.outputs
@@ -127,10 +133,10 @@ pub record IsRun (run : Run) : Type 0 where
   -- each status, and each receiver's end, has its cause
   pub status_caused : IsCausedBy run run.status
   pub ends_caused : AreTold run → Each (λ r. EndIsCaused run.sources_tell r r.ended) run.receivers
-  -- a faulty roster is refused for its first faulty line, and where nothing stands in the way all is done
-  pub refused : IsTrue run.sources_tell → (line : ℕ) (cause : LineCause) →
-      roster_of run.roster.before.left ≡ Err (Line line cause) → IsRefused line cause run.status
+  -- a faulty beginning is refused for its first faulty line, and where nothing stands in the way all is done
+  pub refused : IsTrue run.sources_tell → (fault : StateFault) → known_of run.form run.beginning.before.left ≡ Err fault →
+      IsRefused fault run.status
   pub complete : IsTrue run.sources_tell → IsFaultless run → IsDone run.status
   -- whatever happens no byte is lost, and after the other statuses nothing was written
-  pub no_loss : IsTrue run.sources_tell → LosesNothing run.roster × (AreTold run → Each (λ r. LosesNothing r.source) run.receivers)
+  pub no_loss : IsTrue run.sources_tell → LosesNothing run.beginning × (AreTold run → Each (λ r. LosesNothing r.source) run.receivers)
   pub silent : was_heard run.status ≡ false → Each (λ o. IsSilent o.sink) run.outputs

@@ -2,6 +2,8 @@
 use Rattle.std.specs.Prelude.{ℕ, ◌≡◌, Bool, true, false, List, [], ◌∷◌, None, Result, Ok, Err}
 use Rattle.outer_io.specs.Shown.{Change, SinkShown}
 use Rattle.receivers.specs.Receiver.{Receiving}
+use Rattle.collector_main.specs.declared.form.Form.{Form}
+use Rattle.collector_main.specs.declared.form.Form.TheVariants as forms
 use Rattle.collector_main.specs.declared.command_words.Plan.{Plan}
 use Rattle.collector_main.specs.declared.command_words.Plan.TheVariants as plans
 use Rattle.collector_main.specs.declared.command_words.WordsFault.{WordsFault}
@@ -17,10 +19,10 @@ IsFresh r = r.ended ≡ None
 abbrev pub report_output : Change SinkShown → Output
 report_output report = record { number = 3; text = report_of; sink = report }
 
--- all outputs: the next roster, the readings, the report
-abbrev pub all_outputs : (next readings report : Change SinkShown) → List Output
-all_outputs next readings report =
-    record { number = 1; text = next_of; sink = next } ∷ record {
+-- all outputs: what is left for the next session, the readings, the report
+abbrev pub all_outputs : Form → (next readings report : Change SinkShown) → List Output
+all_outputs form next readings report =
+    record { number = 1; text = next_of form; sink = next } ∷ record {
       number = 2;
       text = readings_of;
       sink = readings;
@@ -30,12 +32,21 @@ all_outputs next readings report =
 abbrev pub receiver_count : Plan → ℕ
 receiver_count plans.Hear = 1
 receiver_count (plans.Collect count) = count
+receiver_count (plans.Continue count) = count
 receiver_count (plans.Made meters telegrams number) = 0
 
--- whether a plan reads a roster and has receivers hear, and doesn't make all that itself
+-- the text that a plan's session begins from, and leaves
+abbrev pub form_of : Plan → Form
+form_of plans.Hear = forms.State
+form_of (plans.Collect count) = forms.Roster
+form_of (plans.Continue count) = forms.State
+form_of (plans.Made meters telegrams number) = forms.Roster
+
+-- whether a plan begins from a text and has receivers hear, and doesn't make all that itself
 abbrev pub hears : Plan → Bool
 hears plans.Hear = true
 hears (plans.Collect count) = true
+hears (plans.Continue count) = true
 hears (plans.Made meters telegrams number) = false
 
 -- of a made session, with its meters, its telegrams and its number, this holds
@@ -47,6 +58,7 @@ IfMade P plan = Unit {0}
 abbrev pub sends_downlinks : Plan → Bool
 sends_downlinks plans.Hear = false
 sends_downlinks (plans.Collect count) = true
+sends_downlinks (plans.Continue count) = true
 sends_downlinks (plans.Made meters telegrams number) = false
 
 -- whether words ask for that
@@ -58,6 +70,7 @@ collects (Err fault) = false
 abbrev pub writes_readings : Plan → Bool
 writes_readings plans.Hear = false
 writes_readings (plans.Collect count) = true
+writes_readings (plans.Continue count) = true
 writes_readings (plans.Made meters telegrams number) = true
 
 -- whether words ask for that
@@ -68,5 +81,6 @@ asks_for_readings (Err fault) = false
 -- the outputs of a plan, in the order in which they are written
 abbrev pub outputs_of : Plan → (next readings report : Change SinkShown) → List Output
 outputs_of plans.Hear next readings report = report_output report ∷ []
-outputs_of (plans.Collect count) next readings report = all_outputs next readings report
+outputs_of (plans.Collect count) next readings report = all_outputs forms.Roster next readings report
+outputs_of (plans.Continue count) next readings report = all_outputs forms.State next readings report
 outputs_of (plans.Made meters telegrams number) next readings report = made_outputs meters telegrams readings report

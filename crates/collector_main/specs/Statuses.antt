@@ -6,7 +6,8 @@ use Rattle.outer_io.specs.declared.failures.Failed.{Failed}
 use Rattle.meter_slots.specs.declared.counts.Ended.{Ended}
 use Rattle.meter_slots.specs.declared.counts.Ended.TheVariants as ends
 use Rattle.report_text.specs.declared.lent.ReceiverEnd.{ReceiverEnd}
-use Rattle.roster_file.specs.declared.roster.LineCause.{LineCause}
+use Rattle.state_file.specs.declared.fault.StateFault.{StateFault}
+use Rattle.collector_main.specs.Begin.{status_of}
 use Rattle.collector_main.specs.declared.status.Status.{Status}
 use Rattle.collector_main.specs.declared.status.Status.TheVariants as statuses
 
@@ -16,6 +17,7 @@ code_of statuses.Done = 0
 code_of (statuses.Words fault) = 2
 code_of statuses.ReadRoster = 4
 code_of (statuses.Roster line cause) = 3
+code_of (statuses.State line cause) = 3
 code_of (statuses.Read w) = 5
 code_of (statuses.Transmit w) = 6
 code_of (statuses.Cut w) = 8
@@ -35,15 +37,16 @@ was_heard _ = false
 abbrev pub IsDone : Status → Type 0
 IsDone status = (status ≡ statuses.Done) ⊎ (status ≡ statuses.Memory)
 
--- a roster with this first faulty line is refused for it, unless it can't be read or there is no memory
-abbrev pub IsRefused : ℕ → LineCause → Status → Type 0
-IsRefused line cause status = (status ≡ statuses.Roster line cause) ⊎ (status ≡ statuses.ReadRoster) ⊎ (status ≡ statuses.Memory)
+-- a beginning with this first fault is refused for it, unless it can't be read or there is no memory
+abbrev pub IsRefused : StateFault → Status → Type 0
+IsRefused fault status = (status ≡ status_of fault) ⊎ (status ≡ statuses.ReadRoster) ⊎ (status ≡ statuses.Memory)
 
 -- no receiver was read
 abbrev pub IsUnread : Status → Type 0
 IsUnread (statuses.Words fault) = Unit {0}
 IsUnread statuses.ReadRoster = Unit {0}
 IsUnread (statuses.Roster line cause) = Unit {0}
+IsUnread (statuses.State line cause) = Unit {0}
 IsUnread _ = ⊥
 
 -- ---- words of private contracts

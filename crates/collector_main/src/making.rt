@@ -19,6 +19,7 @@ use outer_io::{Memory, Sink};
 use receivers::Receiver;
 use report_text::Session;
 use roster_file::read_roster;
+use state_file::State;
 use std::alloc::Global;
 use std::sync::Wait;
 use std::thread::Threads;
@@ -72,8 +73,10 @@ fn hear_made<R: Threads + Wait + Sync>(
     let Ok(roster) = read_roster(alloc, roster.as_slice()) else {
         return Err(Memory);
     };
+    let state = State::of_roster(alloc, &roster)?;
+    let own = state.own();
     let mut receivers = receivers_of(alloc, first, second, third, fourth)?;
-    hear_together(rt, alloc, &roster, &mut receivers)
+    hear_together(rt, alloc, own, state.into_starts(), &mut receivers)
 }
 
 // Writes the report of a made session and its summary, the second whatever became of the first. What memory there is for parts of the

@@ -3,11 +3,13 @@ ghost use Rattle.std.specs.Prelude.{◌≡◌, ◌≢◌, [], ◌∷◌, false, 
 ghost use Rattle.outer_io.specs.Shown.{HasText, source_change, sink_change};
 ghost use Rattle.receivers.specs.Run.{receiver_run};
 ghost use Rattle.report_text.specs.Report.{report_text};
+ghost use Rattle.collector_main.specs.declared.form.Form.TheVariants.{State as AState};
 ghost use Rattle.collector_main.specs.Run.{IsRun};
 ghost use Rattle.collector_main.specs.Showing.{IsFresh, report_output};
 ghost use Rattle.collector_main.specs.Statuses.{IsUnread, IsFinished, status_at, after_failed_write};
 
-use crate::rosters::enrolled;
+use crate::begin::known;
+use crate::form::Form;
 use crate::status::Status;
 use meter_slots::World;
 use outer_io::{Sink, Source};
@@ -76,12 +78,12 @@ fn finish_one<K: Sink>(sink: &mut K, end: ReceiverEnd, world: &World) -> Status
     finish(sink, &session, ended)
 }
 
-/// Hears all lines of one fresh receiver for the meters of a roster, and writes the report. It returns.
+/// Hears all lines of one fresh receiver for the meters of a state, which may be a roster, and writes the report. It returns.
 ///
 /// Nothing is written to the receiver's `tx`.
 pub fn hear_session<S: Source, K: Sink>(
     alloc: Global,
-    roster: &mut S,
+    beginning: &mut S,
     receiver: &mut Receiver<S, K>,
     report: &mut K,
 ) -> Status
@@ -92,7 +94,8 @@ pub fn hear_session<S: Source, K: Sink>(
     ensures run { IsRun (record {
       sources_tell = S.tells;
       sinks_tell = K.tells;
-      roster = source_change S.Source roster.old roster.new;
+      form = AState;
+      beginning = source_change S.Source beginning.old beginning.new;
       receivers = receiver_run S.Source K.Sink receiver.old receiver.new ∷ [];
       sends = false;
       outputs = report_output (sink_change K.Sink report.old report.new) ∷ [];
@@ -103,12 +106,12 @@ pub fn hear_session<S: Source, K: Sink>(
     ensures unread { IsUnread result → receiver.new ≡ receiver.old }
     ensures tx { receiver.new.tx ≡ receiver.old.tx }
 {
-    let roster = match enrolled(alloc, roster) {
-        Ok(roster) => roster,
+    let state = match known(alloc, Form::State, beginning) {
+        Ok(state) => state,
         Err(status) => return status,
     };
-    let own = roster.own();
-    let Ok(mut world) = World::new(alloc, own, roster.into_meters()) else {
+    let own = state.own();
+    let Ok(mut world) = World::new(alloc, own, state.into_starts()) else {
         return Status::Memory;
     };
     match receiver.work_alone(1, &mut world) {

@@ -7,7 +7,7 @@ ghost use Rattle.made_input.specs.Made.{made};
 ghost use Rattle.receivers.specs.Run.{receiver_runs};
 ghost use Rattle.collector_main.specs.MadeRun.{IsMadeRun, made_outputs};
 ghost use Rattle.collector_main.specs.Run.{IsRun};
-ghost use Rattle.collector_main.specs.Showing.{IsFresh, IfMade, receiver_count, hears, collects};
+ghost use Rattle.collector_main.specs.Showing.{IsFresh, IfMade, form_of, receiver_count, hears, collects};
 ghost use Rattle.collector_main.specs.Showing.{asks_for_readings, sends_downlinks, outputs_of};
 ghost use Rattle.collector_main.specs.Statuses.{IsUnread};
 ghost use Rattle.collector_main.specs.Words.{plan_of};
@@ -15,6 +15,7 @@ ghost use Rattle.collector_main.specs.declared.command_words.WordsFault.{WordsFa
 
 use crate::collecting::collect_session;
 use crate::command_words::{Plan, words};
+use crate::form::Form;
 use crate::making::made_session;
 use crate::session::hear_session;
 use crate::status::Status;
@@ -25,14 +26,14 @@ use std::sync::Wait;
 use std::thread::Threads;
 
 /// Runs what the words ask for, over sources and sinks. For `hear` the receiver is the one of the vector; `next` and
-/// `readings` stay as they are, and so does the receiver's `tx`. For `collect` all receivers of the vector are heard at once, in the
-/// order of their numbers, and it may wait; after `Memory` nothing is said of them. For `made` there is no receiver in the vector: a
-/// session is made, its report goes to `readings` and its summary to `report`, and `next` and the roster stay as they are.
+/// `readings` stay as they are, and so does the receiver's `tx`. For `collect` and `continue` all receivers of the vector are heard at once,
+/// in the order of their numbers, and it may wait; after `Memory` nothing is said of them. For `made` there is no receiver in the vector: a
+/// session is made, its report goes to `readings` and its summary to `report`, and `next` and the beginning stay as they are.
 pub fn run<R: Threads + Wait + Sync, S: Source + Send + Drop, K: Sink + Send + Drop>(
     rt: &R,
     alloc: Global,
     command: &[String],
-    roster: &mut S,
+    beginning: &mut S,
     receivers: &mut Vec<Receiver<S, K>>,
     next: &mut K,
     readings: &mut K,
@@ -49,11 +50,12 @@ pub fn run<R: Threads + Wait + Sync, S: Source + Send + Drop, K: Sink + Send + D
     ensures words { IfErr (plan_of (map string_bytes command.now)) (λ fault. result ≡ Status.Words fault) }
     ensures only_words { (fault : WordsFault) → result ≡ Status.Words fault → plan_of (map string_bytes command.now) ≡ Err fault }
 
-    // For `hear` and `collect` a run of the receivers, with the outputs that the plan names.
+    // For `hear`, `collect` and `continue` a run of the receivers, with the outputs that the plan names.
     ensures run { IfOk (plan_of (map string_bytes command.now)) (λ plan. IsTrue (hears plan) → IsRun (record {
       sources_tell = S.tells;
       sinks_tell = K.tells;
-      roster = source_change S.Source roster.old roster.new;
+      form = form_of plan;
+      beginning = source_change S.Source beginning.old beginning.new;
       receivers = receiver_runs S.Source K.Sink receivers.old.items receivers.new.items;
       sends = sends_downlinks plan;
       outputs = outputs_of plan (sink_change K.Sink next.old next.new) (sink_change K.Sink readings.old readings.new)
@@ -69,11 +71,11 @@ pub fn run<R: Threads + Wait + Sync, S: Source + Send + Drop, K: Sink + Send + D
       status = result;
     }))) }
 
-    // What stays as it was: all after faulty words, the roster and the receivers for `made`, the receivers after statuses 3 and 4, their
+    // What stays as it was: all after faulty words, the beginning and the receivers for `made`, the receivers after statuses 3 and 4, their
     // number, and each `tx` and the outputs that the plan doesn't name.
-    ensures roster { IfErr (plan_of (map string_bytes command.now)) (λ _. roster.new ≡ roster.old) }
+    ensures beginning { IfErr (plan_of (map string_bytes command.now)) (λ _. beginning.new ≡ beginning.old) }
     ensures aside { IfOk (plan_of (map string_bytes command.now)) (IfMade (λ meters telegrams number.
-        (roster.new ≡ roster.old) × (receivers.new.items ≡ receivers.old.items))) }
+        (beginning.new ≡ beginning.old) × (receivers.new.items ≡ receivers.old.items))) }
     ensures report { IfErr (plan_of (map string_bytes command.now)) (λ _. report.new ≡ report.old) }
     ensures unread { IsUnread result → receivers.new.items ≡ receivers.old.items }
     ensures receivers { (IsTrue (collects (plan_of (map string_bytes command.now))) → result ≢ Status.Memory)
@@ -87,11 +89,28 @@ pub fn run<R: Threads + Wait + Sync, S: Source + Send + Drop, K: Sink + Send + D
         Err(fault) => Status::Words(fault),
         Ok(Plan::Hear) => {
             let receiver = &mut receivers[0];
-            hear_session(alloc, roster, receiver, report)
+            hear_session(alloc, beginning, receiver, report)
         }
-        Ok(Plan::Collect(_)) => {
-            collect_session(rt, alloc, roster, receivers, next, readings, report)
-        }
+        Ok(Plan::Collect(_)) => collect_session(
+            rt,
+            alloc,
+            Form::Roster,
+            beginning,
+            receivers,
+            next,
+            readings,
+            report,
+        ),
+        Ok(Plan::Continue(_)) => collect_session(
+            rt,
+            alloc,
+            Form::State,
+            beginning,
+            receivers,
+            next,
+            readings,
+            report,
+        ),
         Ok(
             Plan::Made {
                 meters,

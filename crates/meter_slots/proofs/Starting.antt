@@ -1,7 +1,8 @@
 -- What a slot begins with, and what is known behind its journal.
-use Rattle.std.proofs.Common.{◌≡◌, ℕ, zero, suc, ◌+◌, List, [], ◌∷◌, ◌++◌, take, Option, Some, refl, ap, sym, arith, add-one}
+use Rattle.std.proofs.Common.{◌≡◌, ℕ, zero, suc, ◌+◌, ◌<◌, List, [], ◌∷◌, ◌++◌, get_or, map, take, Option, Some, refl, ap, sym, ◌∙◌, arith, add-one}
 use Rattle.std.specs.Prelude.{◌-◌, length, slice_get, IfSome}
 use Rattle.std.specs.List.{All}
+use Rattle.std.proofs.lemmas.List.{map-append, take_more}
 use Rattle.std.proofs.lemmas.List.Elements.{All-nil, All-cons, All-head, All-tail}
 use Rattle.afl_fragments.specs.declared.places.HeldPart.{HeldPart}
 use Rattle.afl_fragments.specs.Held.{Told, StandsFor}
@@ -19,11 +20,6 @@ all_suc P (x ∷ xs) (suc n) h all =
 pub all_more : {X : Type 0} (P : X → Type 0) (xs : List X) (n : ℕ) → IfSome (slice_get xs n) P → All P (take n xs) → All P (take (n + 1) xs)
 all_more P xs n h all = rw add-one (all_suc P xs n h all)
 
--- the last of some readings
-pub last_of-push : (before : Option Reading) (rs : List Reading) (r : Reading) → last_of before (rs ++ r ∷ []) ≡ Some r
-last_of-push before [] r = refl
-last_of-push before (x ∷ rs) r = last_of-push (Some x) rs r
-
 -- what is held after a history is told as this history is, cut down
 pub told_is : (hs : List HeldPart) (told : List Told) → StandsFor hs told → told_of hs ≡ cut_down told
 told_is hs told stands = ap told_of stands
@@ -40,3 +36,12 @@ pub last_of-last : (before : Option Reading) (rs : List Reading) (r : Reading) �
     → last_of before rs ≡ Some r
 last_of-last before [] r h = absurd cc
 last_of-last before (x ∷ rs) r h = last_at before (x ∷ rs) (length (x ∷ rs) - 1) r (omega arith) h
+
+-- ---- lists
+
+-- a list that was mapped so far, with one more
+pub mapped_more : {A B : Type 0} (f : A → B) (xs : List A) (i : ℕ) (d : A) (ys : List B) (y : B) → i < length xs → ys ≡ map f (take i xs)
+    → y ≡ f (get_or xs i d) → ys ++ y ∷ [] ≡ map f (take (i + 1) xs)
+mapped_more f xs i d ys y inside so one =
+    ap (λ t. t ++ y ∷ []) so ∙ (ap (λ z. map f (take i xs) ++ z ∷ []) one
+    ∙ (sym (map-append f (take i xs) (get_or xs i d ∷ [])) ∙ ap (map f) (sym (take_more xs i d inside))))

@@ -5,7 +5,7 @@ use Rattle.afl_fragments.specs.Held.{held}
 use Rattle.afl_fragments.specs.Short.{cut_down}
 use Rattle.meter_slots.specs.declared.entry.Entry.{Entry}
 use Rattle.meter_slots.specs.declared.reading.Reading.{Reading}
-use Rattle.meter_slots.specs.Journal.{Start, Standing, told, other_key, last_counter, orders, readings, Legal}
+use Rattle.meter_slots.specs.Journal.{Start, SlotView, Standing, told, other_key, last_counter, orders, readings, Legal}
 
 -- the last of some readings, or the one before them where there are none
 abbrev pub last_of : Option Reading → List Reading → Option Reading
@@ -28,6 +28,10 @@ resumed c journal = let earlier = reverse journal in record {
   orders = orders c earlier;
   reading = last_known c journal;
 }
+
+-- what is known of a slot's meter now
+abbrev pub known_now : SlotView → Start
+known_now b = resumed b.start b.journal
 
 -- two standings that no event tells apart: what was told may differ, but not what is held
 pub record IsSameStanding (s t : Standing) : Type 0 where

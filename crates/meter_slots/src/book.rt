@@ -1,9 +1,9 @@
 //! A slot's book.
 ghost use Rattle.std.specs.Prelude.{◌≡◌, ◌<◌, ◌++◌, length, vec_len, vec_capacity, option_to_list};
 ghost use Rattle.aes_block.specs.Block.{IsBlock};
-ghost use Rattle.meter_slots.specs.Resuming.{last_of};
 
 use crate::entry::{Entry, Event, Outcome};
+use crate::known::KnownMeter;
 use crate::past::PastEvent;
 use crate::reading::Reading;
 use crate::sent::take_room;
@@ -65,22 +65,12 @@ fn show_key(key: &[u8])
     let (_front, _rest) = key.split_at(0);
 }
 
-// The last reading: the latest of these, or the one before them.
-fn last_of(before: Option<Reading>, mut readings: Vec<Reading>) -> Option<Reading>
-    ensures { result ≡ last_of before readings.items }
-{
-    match readings.pop() {
-        Some(reading) => Some(reading),
-        None => before,
-    }
-}
-
 impl SlotBook {
     ghost use Rattle.std.specs.Prelude.{◌≡◌, [], ◌∷◌, ◌++◌, reverse, All, IfOk, OnErr};
     ghost use Rattle.meter_slots.specs.Laws.{PutsPayload, AreReady, IsRefused, IsLeft};
     ghost use Rattle.meter_slots.specs.Journal.{SlotView, Legal, commission_of, fresh_start, outcome, readings, other_key, last_counter, orders};
     ghost use Rattle.std.specs.Option.{option_copied};
-    ghost use Rattle.meter_slots.specs.Resuming.{last_known, resumed};
+    ghost use Rattle.meter_slots.specs.Resuming.{known_now, last_known, resumed};
 
     /// A slot with an empty journal, of a meter of which nothing is known but its commission.
     pub fn new(alloc: Global, own: Address, commission: Commission) -> Self
@@ -107,19 +97,6 @@ impl SlotBook {
         }
     }
 
-    /// What its meter's next slot begins with, which goes on where this one ends.
-    pub fn end(self) -> MeterStart
-        ensures { result ≡ resumed self.start self.journal }
-    {
-        let SlotBook {
-            standing,
-            readings,
-            before,
-            ..
-        } = self;
-        standing.end(last_of(before, readings))
-    }
-
     /// All steps, the first one first.
     pub fn journal(&self) -> &[Entry]
         ensures entries { result.now ≡ self.now.journal }
@@ -138,6 +115,13 @@ impl SlotBook {
             Some(reading) => Some(reading),
             None => self.before.as_ref(),
         }
+    }
+
+    /// What is known of its meter now: the meter's next slot begins with it.
+    pub fn known(&self) -> KnownMeter<'_>
+        ensures { result ≡ known_now self.now }
+    {
+        self.standing.known(self.last_reading())
     }
 
     /// What was stored, the first reading first.

@@ -10,6 +10,7 @@ use crate::entry::{Event, Outcome};
 use crate::fragments::{Fragments, held_bytes, take_place, tick};
 use crate::hearing::{has_response_control, hear, receive};
 use crate::judge::{Judge, Verdict};
+use crate::known::KnownMeter;
 use crate::reading::{Bytes, Reading, Room};
 use crate::repeated::LastWhole;
 use crate::sent::take_room;
@@ -125,7 +126,7 @@ fn plain(outcome: Outcome) -> Served
 
 impl Standing {
     ghost use Rattle.std.specs.Prelude.{◌≡◌, ◌≤◌, ◌++◌, List, option_to_list, IfOk, IfSome, OnErr};
-    ghost use Rattle.std.specs.Option.{ForSome};
+    ghost use Rattle.std.specs.Option.{ForSome, option_copied};
     ghost use Rattle.meter_address.specs.Commission.{most_last};
     ghost use Rattle.afl_fragments.specs.Held.{Told, StandsFor};
     ghost use Rattle.afl_fragments.specs.Short.{cut_down};
@@ -167,26 +168,24 @@ impl Standing {
     }
 
     /// What is known behind the last entry, with this last reading.
-    pub(crate) fn end(self, reading: Option<Reading>) -> MeterStart
-        requires held { (told : List Told) × StandsFor self.parts told }
-        requires fits { ForSome self.last (λ n. n ≤ most_last self.commission.mode) }
-        ensures told { (told : List Told) → StandsFor self.parts told → result.told ≡ cut_down told }
-        ensures commission { commission_of result ≡ record self.commission { last = self.last; down = self.orders.down; ids = self.orders.queue.ids } }
-        ensures orders { result.orders ≡ self.orders }
-        ensures reading { result.reading ≡ reading }
+    pub(crate) fn known<'a>(&'a self, reading: Option<&'a Reading>) -> KnownMeter<'a>
+        requires held { (told : List Told) × StandsFor self.now.parts told }
+        requires fits { ForSome self.now.last (λ n. n ≤ most_last self.now.commission.mode) }
+        ensures told { (told : List Told) → StandsFor self.now.parts told → result.told ≡ cut_down told }
+        ensures commission { commission_of result ≡ record self.now.commission {
+          last = self.now.last;
+          down = self.now.orders.down;
+          ids = self.now.orders.queue.ids;
+        } }
+        ensures orders { result.orders ≡ self.now.orders }
+        ensures reading { result.reading ≡ option_copied reading.entry }
     {
-        let Standing {
-            judge,
-            commands,
-            parts,
-            ..
-        } = self;
-        let mut commission = *judge.commission();
-        commission.last = judge.last();
-        MeterStart {
+        let mut commission = *self.judge.commission();
+        commission.last = self.judge.last();
+        KnownMeter {
             commission,
-            parts,
-            commands,
+            parts: &self.parts,
+            commands: &self.commands,
             reading,
         }
     }

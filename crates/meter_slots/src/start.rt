@@ -1,14 +1,14 @@
 //! What a slot begins with.
-ghost use Rattle.std.specs.Prelude.{◌≡◌, ◌≤◌, length, take};
+ghost use Rattle.std.specs.Prelude.{◌≡◌, ◌≤◌, IfOk, length, map, take};
 ghost use Rattle.meter_slots.specs.Laws.{IsPayload, HasPayload, AreReady};
 
 use crate::commands::Commands;
-use crate::fragments::{Fragments, hold, part_at, part_count, tick};
+use crate::fragments::{Fragments, hold, tick};
+use crate::known::KnownMeter;
 use crate::reading::{Bytes, Reading, Room};
 use crate::standing::fill;
-use access_window::Window;
-use afl_fragments::{HeldPart, Part};
-use command_queue::{Command, Queue};
+use afl_fragments::Part;
+use command_queue::Command;
 use meter_address::{Address, Commission, Mode};
 use outer_io::Memory;
 use std::alloc::Global;
@@ -47,12 +47,10 @@ impl Model for MeterStart {
 }
 
 impl MeterStart {
-    ghost use Rattle.std.specs.Prelude.{◌≡◌, ◌≤◌, ◌∷◌, Some, OnOk, OnErr, IfSome, length, slice_get, option_copied};
-    ghost use Rattle.access_window.specs.Orders.{Agrees};
-    ghost use Rattle.command_queue.specs.Pending.{IsSound};
-    ghost use Rattle.afl_fragments.specs.Held.{Piece, Tick, held};
+    ghost use Rattle.std.specs.Prelude.{◌≡◌, ◌≤◌, ◌∷◌, Some, OnOk, OnErr, length, option_copied};
+    ghost use Rattle.afl_fragments.specs.Held.{Piece, Tick};
     ghost use Rattle.afl_fragments.specs.Short.{cut_down};
-    ghost use Rattle.meter_slots.specs.Journal.{commission_of, fresh_start};
+    ghost use Rattle.meter_slots.specs.Journal.{fresh_start};
     ghost use Rattle.meter_slots.specs.Restoring.{may_restore, restored};
 
     /// The start of a commissioned meter of which nothing is known but its commission.
@@ -129,60 +127,23 @@ impl MeterStart {
         self.commission.address
     }
 
-    /// What is commissioned of it now.
-    pub fn commission(&self) -> Commission
-        ensures { result ≡ commission_of self.now }
-    {
-        let mut commission = self.commission;
-        commission.down = self.commands.down();
-        commission.ids = self.commands.queue().ids();
-        commission
-    }
-
-    /// How many fragments are held.
-    pub fn part_count(&self) -> usize
-        ensures count { result ≡ length (held self.now.told) }
-        ensures few { length (held self.now.told) ≤ 16 }
-    {
-        part_count(&self.parts)
-    }
-
-    /// The fragment at a place, of which the one heard last has the first.
-    pub fn part_at(&self, place: usize) -> Option<&HeldPart>
-        ensures held { option_copied result ≡ slice_get (held self.now.told) place }
-        ensures counted { IfSome result (λ h. h.now.part.afl.fid ≤ 16) }
-    {
-        part_at(&self.parts, place)
-    }
-
-    /// What was told is cut down to what is held, and the window agrees with the queue. Nothing is done: what is written needs it.
-    pub fn show(&self)
-        ensures short { cut_down self.now.told ≡ self.now.told }
-        ensures agrees { Agrees self.now.orders.window self.now.orders.queue }
-        ensures sound { IsSound self.now.orders.queue }
-    {
-        self.commands.show();
-    }
-
-    /// The commands that wait.
-    pub fn queue(&self) -> &Queue
-        ensures { result.now ≡ self.now.orders.queue }
-    {
-        self.commands.queue()
-    }
-
-    /// Whether one of them was sent and waits for a response.
-    pub fn window(&self) -> Window
-        ensures { result ≡ self.now.orders.window }
-    {
-        self.commands.window()
-    }
-
     /// The last reading.
     pub fn reading(&self) -> Option<&Reading>
         ensures { option_copied result ≡ self.now.reading }
     {
         self.reading.as_ref()
+    }
+
+    /// All of it.
+    pub fn known(&self) -> KnownMeter<'_>
+        ensures { result ≡ self.now }
+    {
+        KnownMeter {
+            commission: self.commission,
+            parts: &self.parts,
+            commands: &self.commands,
+            reading: self.reading.as_ref(),
+        }
     }
 
     // Each command that waits has 1 to 94 bytes. Nothing is done: the journal's proof needs it.
@@ -191,4 +152,15 @@ impl MeterStart {
     {
         self.commands.show_payloads();
     }
+}
+
+/// The addresses of some meters, in their order.
+pub fn addresses_of(alloc: Global, starts: &[MeterStart]) -> Result<Vec<Address>, Memory>
+    ensures { IfOk result (λ addresses. addresses.items ≡ map (λ c. c.address) starts.now) }
+{
+    let mut addresses = Vec::new(alloc);
+    for place in 0..starts.len() {
+        addresses.push(starts[place].address())?;
+    }
+    Ok(addresses)
 }

@@ -1,14 +1,15 @@
 //! All slots, and the strangers that none of them is for.
 ghost use Rattle.std.specs.Prelude.{◌≡◌, ◌<◌, List, map, length, vec_len, IfOk, OnErr, slice_index_or, slice_set, reverse};
 ghost use Rattle.meter_address.specs.declared.address.Address.{Address};
-ghost use Rattle.meter_slots.specs.Journal.{SlotView, fresh_start};
+ghost use Rattle.meter_slots.specs.Journal.{SlotView};
 ghost use Rattle.meter_slots.specs.World.{fresh_slot, outcome_at, stepped_slot};
 
 use crate::book::SlotBook;
 use crate::directory::Directory;
 use crate::entry::Outcome;
+use crate::start::{MeterStart, addresses_of};
 use crate::step::{Landed, Step};
-use meter_address::{Address, Commission};
+use meter_address::Address;
 use outer_io::Memory;
 use std::alloc::Global;
 use std::marker::Model;
@@ -36,23 +37,15 @@ impl Model for World {
 fn fresh_slots(
     alloc: Global,
     own: Address,
-    commissions: &[Commission],
+    starts: Vec<MeterStart>,
 ) -> Result<Vec<SlotBook>, Memory>
-    ensures { IfOk result (λ slots. slots.items ≡ map (λ c. fresh_slot own (fresh_start c)) commissions.now) }
+    ensures { IfOk result (λ slots. slots.items ≡ map (fresh_slot own) starts.items) }
 {
-    let slots = commissions
-        .iter()
-        .map(|c| SlotBook::new(alloc, own, *c))
-        .collect(alloc)?;
+    let mut slots = Vec::new(alloc);
+    for start in starts {
+        slots.push(SlotBook::resume(alloc, own, start))?;
+    }
     Ok(slots)
-}
-
-// The addresses of commissions.
-fn addresses_of(alloc: Global, commissions: &[Commission]) -> Result<Vec<Address>, Memory>
-    ensures { IfOk result (λ addresses. addresses.items ≡ map (λ c. c.address) commissions.now) }
-{
-    let addresses = commissions.iter().map(|c| c.address).collect(alloc)?;
-    Ok(addresses)
 }
 
 // One step of the slot at a place.
@@ -69,21 +62,22 @@ fn step_at(slots: &mut Vec<SlotBook>, place: usize, step: Step) -> Result<Outcom
 
 impl World {
     ghost use Rattle.std.specs.Prelude.{◌≡◌, ◌↔◌, ◌<◌, ◌^◌, false, [], ◌∷◌, ◌++◌, List, map, length, slice_get, option_copied, IfOk, OnErr};
-    ghost use Rattle.meter_slots.specs.Journal.{Start, fresh_start};
+    ghost use Rattle.meter_slots.specs.Journal.{Start};
     ghost use Rattle.meter_slots.specs.Directory.{AreApart};
     ghost use Rattle.meter_slots.specs.declared.step.Step.{Step};
     ghost use Rattle.meter_slots.specs.World.{world_of, Lands, has_slot, after_step, AnsweredBy};
 
-    /// A slot for each commission, in their order. Their addresses differ.
-    pub fn new(alloc: Global, own: Address, commissions: Vec<Commission>) -> Result<World, Memory>
-        requires apart { AreApart (map (λ c. c.address) commissions.items) }
-        requires few { length commissions.items < 2 ^ 32 }
-        ensures { IfOk result (λ world. world ≡ world_of own (map fresh_start commissions.items) []) }
+    /// A slot for each meter of which this is known, in their order. Their addresses differ.
+    pub fn new(alloc: Global, own: Address, starts: Vec<MeterStart>) -> Result<World, Memory>
+        requires apart { AreApart (map (λ c. c.address) starts.items) }
+        requires few { length starts.items < 2 ^ 32 }
+        ensures { IfOk result (λ world. world ≡ world_of own starts.items []) }
     {
-        let addresses = addresses_of(alloc, commissions.as_slice())?;
+        let addresses = addresses_of(alloc, starts.as_slice())?;
+        let directory = Directory::new(alloc, addresses.as_slice())?;
         Ok(World {
-            slots: fresh_slots(alloc, own, commissions.as_slice())?,
-            directory: Directory::new(alloc, addresses.as_slice())?,
+            slots: fresh_slots(alloc, own, starts)?,
+            directory,
             strangers: Strangers::new(alloc)?,
         })
     }
@@ -114,7 +108,7 @@ impl World {
         }
     }
 
-    /// The slots, in the order of the commissions.
+    /// The slots, in the order of the meters.
     pub fn slots(&self) -> &[SlotBook]
         ensures { result.now ≡ self.now.slots }
     {

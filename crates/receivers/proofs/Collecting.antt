@@ -3,7 +3,7 @@ use Rattle.std.proofs.Common.{◌≡◌, ℕ, zero, suc, ◌+◌, ◌<◌, ◌�
 use Rattle.std.specs.List.{enumerate_from}
 use Rattle.std.proofs.Math.ListN.{get_or-append}
 use Rattle.std.proofs.Math.Seq.{get_or-append_seam}
-use Rattle.std.proofs.lemmas.List.{map-append, take_more}
+use Rattle.std.proofs.lemmas.List.{map-append}
 use mathlib.Core.Logic.{dite}
 use native.Mathlib.Decide.{ℕ_discrete}
 use Rattle.meter_address.specs.declared.address.Address.{Address}
@@ -26,13 +26,6 @@ use Rattle.receivers.specs.Works.{Part, HasRun}
 use Rattle.receivers.specs.Collected.{address_of, heard_in, did_from, entries_at, opening, AreFresh, IsCollected}
 use Rattle.receivers.proofs.SessionLines.{meters_part, entries_made, notes_made}
 use Rattle.receivers.proofs.Sessions.{IsJoinedRoot, parts_of, asked_by, run_parts, run_are_parts, run_root, run_stranger}
-
--- one more of what is made of a list
-pub mapped_more : {A B : Type 0} (f : A → B) (xs : List A) (i : ℕ) (d : A) (ys : List B) (y : B) → i < length xs → ys ≡ map f (take i xs)
-    → y ≡ f (get_or xs i d) → ys ++ y ∷ [] ≡ map f (take (i + 1) xs)
-mapped_more f xs i d ys y inside so one =
-    ap (λ t. t ++ y ∷ []) so ∙ (ap (λ z. map f (take i xs) ++ z ∷ []) one
-    ∙ (sym (map-append f (take i xs) (get_or xs i d ∷ [])) ∙ ap (map f) (sym (take_more xs i d inside))))
 
 -- ---- making the cells
 

@@ -9,7 +9,7 @@ use crate::receiver::Receiver;
 use crate::roots::close_each;
 use crate::running::run_cells;
 use meter_address::Address;
-use meter_slots::{Directory, MeterStart, SlotBook};
+use meter_slots::{Directory, MeterStart, SlotBook, addresses_of};
 use outer_io::{Memory, Sink, Source};
 use slot_cells::{Book, BookCell, Pass, SlotCell, StrangerCell};
 use std::alloc::Global;
@@ -52,16 +52,6 @@ fn make_cells(alloc: Global, own: Address, starts: Vec<MeterStart>) -> Result<Fr
         roots.push(root)?;
     }
     Ok(Fresh { cells, roots })
-}
-
-fn addresses_of(alloc: Global, starts: &[MeterStart]) -> Result<Vec<Address>, Memory>
-    ensures { IfOk result (λ addresses. addresses.items ≡ map address_of starts.now) }
-{
-    let mut addresses = Vec::new(alloc);
-    for place in 0..starts.len() {
-        addresses.push(starts[place].address())?;
-    }
-    Ok(addresses)
 }
 
 /// The slots and the strangers after a session.

@@ -1,3 +1,4 @@
+pub mod LeftPieces
 pub mod LineBack
 pub mod CommandsBack
 pub mod ReadBack
@@ -13,3 +14,4 @@ pub mod ReadMeters
 pub mod ReadHeld
 pub mod ReadLines
 pub mod ReadStates
+pub mod RosterStates

@@ -13,8 +13,8 @@ use Rattle.meter_slots.specs.Journal.{Start, fresh_start}
 use Rattle.meter_slots.specs.Restoring.{may_restore}
 use Rattle.roster_file.specs.declared.fields.Version.TheVariants.{Two}
 use Rattle.roster_file.specs.declared.roster.LineCause.{LineCause}
-use Rattle.roster_file.specs.Roster.{Enrolled, meter_of, roster_of}
-use Rattle.roster_file.proofs.Enrolling.{read_is_enrolled}
+use Rattle.roster_file.specs.Enrolled.{IsEnrolled}
+use Rattle.roster_file.specs.Roster.{Enrolled, meter_of}
 use Rattle.std.specs.List.{All}
 use Rattle.state_file.specs.Written.{IsStart, IsState}
 use Rattle.state_file.proofs.Telling.{each_of}
@@ -186,10 +186,9 @@ fresh_have_room ms ss is few apart =
 pub starts_have_room : (entries : List (ℕ × List ℕ)) (end : ℕ) (ss : List Start) → starts_of no_meters entries end ≡ Ok ss → HasRoom ss
 starts_have_room entries end ss h = starts_end_apart no_meters entries end none_yet ss h
 
-pub roster_has_room : (bytes : List ℕ) (r : Enrolled) (ms : List Commissioned) (ss : List Start) → roster_of bytes ≡ Ok r → ms ≡ r.meters
-    → ss ≡ map fresh_start ms → HasRoom ss
-roster_has_room bytes r ms ss h same is =
-    let enrolled = read_is_enrolled bytes r h in
+pub enrolled_have_room : (r : Enrolled) (ms : List Commissioned) (ss : List Start) → IsEnrolled r → ms ≡ r.meters → ss ≡ map fresh_start ms
+    → HasRoom ss
+enrolled_have_room r ms ss enrolled same is =
     fresh_have_room r.meters ss (is ∙ ap (map fresh_start) same) enrolled.few enrolled.apart
 
 pub state_can_be_written : (s : Known) → s.own.0 < 2 ^ 64 → HasRoom s.starts → All IsStart s.starts → IsState s

@@ -29,7 +29,7 @@ use Rattle.roster_file.proofs.Words.{IsWord, IsPrinted, fields_joined, joined_pr
 use Rattle.state_file.specs.declared.fault.FileCause.TheVariants as causes
 use Rattle.state_file.specs.declared.cause.StateCause.{StateCause}
 use Rattle.state_file.specs.declared.fault.StateFault.{StateFault}
-use Rattle.state_file.specs.declared.fault.StateFault.TheVariants.{Line}
+use Rattle.state_file.specs.declared.fault.StateFault.TheVariants.{Roster, Line}
 use Rattle.state_file.specs.State.{with_line, with_lines}
 use Rattle.state_file.specs.Text.{line_with, bytes_text, spelt, reading_line, reading_lines, mark_line, command_fields, commands_lines, start_lines, bare}
 use Rattle.state_file.specs.Text.{IsSpeltReading, IsSpeltMark, IsSpeltCommand, IsTold}
@@ -294,6 +294,6 @@ read_where_short s is few =
     let short : nat_lt 134217728 (length (state_text s)) ≡ false = grind (arith, nat_tests) in
     let n : ℕ = length (lines (state_text s)) + 1 in
     let otherwise = of_roster (roster_of (state_text s)) in
-    ap (λ b. cond b (Err (Line 0 (causes.Roster roster.TooLong))) (headed (entries_from 1 (lines (state_text s))) n otherwise)) short
+    ap (λ b. cond b (Err (Roster 0 roster.TooLong)) (headed (entries_from 1 (lines (state_text s))) n otherwise)) short
     ∙ ap (λ ls. headed (entries_from 1 ls) n otherwise) (state_lines s is)
     ∙ headed_back s n otherwise is

@@ -3,6 +3,7 @@ pub mod State
 pub mod Text
 pub mod Whole
 pub mod Written
+pub mod Left
 pub mod Printing
 pub mod Telling
 pub mod Rooms

@@ -13,5 +13,6 @@ IsRefusedFor r Memory = Unit {0}
 
 -- this is refused for the cause in a line, unless there is no memory
 abbrev pub IsFaultOf : {A : Type 0} → Result A StateFault → StateFault → Type 0
+IsFaultOf r (state.Roster line cause) = r ≡ Err (state.Roster line cause)
 IsFaultOf r (state.Line line cause) = r ≡ Err (state.Line line cause)
 IsFaultOf r state.Memory = Unit {0}

@@ -17,7 +17,7 @@ use Rattle.state_file.specs.declared.cause.StateCause.{StateCause}
 use Rattle.state_file.specs.declared.fault.FileCause.{FileCause}
 use Rattle.state_file.specs.declared.fault.FileCause.TheVariants as causes
 use Rattle.state_file.specs.declared.fault.StateFault.{StateFault}
-use Rattle.state_file.specs.declared.fault.StateFault.TheVariants.{Line, Memory}
+use Rattle.state_file.specs.declared.fault.StateFault.TheVariants.{Roster, Line, Memory}
 use Rattle.state_file.specs.State.{with_line}
 
 -- the collector's own address, and what is known of each meter
@@ -102,12 +102,15 @@ owned [] end = Err (Line end (causes.Roster roster.Missing))
 owned (e ∷ entries) end = at_line e.0 (by_roster (own_of e.1)) >>= λ own. with_own own (starts_of no_meters entries end)
 
 abbrev pub by_fault : RosterFault → StateFault
-by_fault (faulty.Line line cause) = Line line (causes.Roster cause)
+by_fault (faulty.Line line cause) = Roster line cause
 by_fault faulty.Memory = Memory
 
 -- a roster is a state: its meters are just commissioned
+abbrev pub fresh_known : Enrolled → Known
+fresh_known r = record { own = r.own; starts = map fresh_start r.meters }
+
 abbrev pub of_roster : Result Enrolled RosterFault → Result Known StateFault
-of_roster (Ok r) = Ok (record { own = r.own; starts = map fresh_start r.meters })
+of_roster (Ok r) = Ok (fresh_known r)
 of_roster (Err fault) = Err (by_fault fault)
 
 -- the head, and what follows it; what hasn't the head of a state is read as a roster
@@ -118,5 +121,5 @@ headed (e ∷ entries) end otherwise = if is_word e.1 (codes "wmbus-state 1") th
 -- the state of a text, or its first fault
 unfoldable pub state_of : List ℕ → Result Known StateFault
 state_of bytes =
-    if nat_lt 134217728 (length bytes) then Err (Line 0 (causes.Roster roster.TooLong))
+    if nat_lt 134217728 (length bytes) then Err (Roster 0 roster.TooLong)
     else headed (entries_from 1 (lines bytes)) (length (lines bytes) + 1) (of_roster (roster_of bytes))

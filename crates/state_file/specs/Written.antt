@@ -4,10 +4,11 @@ use Rattle.std.specs.List.{flat_map}
 use Rattle.outer_io.specs.Each.{Each}
 use Rattle.meter_address.specs.Address.{AreApart}
 use Rattle.meter_address.specs.Commission.{IsCommission}
+use Rattle.roster_file.specs.Roster.{Enrolled, roster_of}
 use Rattle.roster_file.specs.Text.{own_text, meter_text}
 use Rattle.meter_slots.specs.Journal.{Start, commission_of}
 use Rattle.state_file.specs.Text.{start_lines, IsTold}
-use Rattle.state_file.specs.Whole.{Known, state_of}
+use Rattle.state_file.specs.Whole.{Known, fresh_known, state_of}
 
 -- a line and its newline
 abbrev pub ended_text : List ℕ → List ℕ
@@ -33,6 +34,10 @@ pub record IsState (s : Known) : Type 0 where
   pub few : length s.starts ≤ 4096
   pub apart : AreApart (map (λ c. c.address) s.starts)
   pub each : Each IsStart s.starts
+
+-- a roster is a state
+abbrev pub RostersAreStates : Type 0
+RostersAreStates = (bytes : List ℕ) (r : Enrolled) → roster_of bytes ≡ Ok r → state_of bytes ≡ Ok (fresh_known r)
 
 -- a state of which this holds is read back from its text
 abbrev pub WrittenAreRead : Type 0

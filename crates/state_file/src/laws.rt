@@ -1,6 +1,6 @@
 //! Laws of the text.
 ghost use Rattle.state_file.specs.Text.{LinesAreReadBack};
-ghost use Rattle.state_file.specs.Written.{ReadAreReadAgain, ReadAreStates, WrittenAreRead};
+ghost use Rattle.state_file.specs.Written.{ReadAreReadAgain, ReadAreStates, RostersAreStates, WrittenAreRead};
 
 /// What is known of a meter is read back from its lines.
 pub fn lines_are_read_back()
@@ -10,6 +10,11 @@ pub fn lines_are_read_back()
 /// In each state that is read the addresses differ, there are at most 4,096 meters, and what is known of each can be told.
 pub fn read_states_are_states()
     ensures { ReadAreStates }
+{}
+
+/// A roster is a state, whose meters are just commissioned.
+pub fn rosters_are_states()
+    ensures { RostersAreStates }
 {}
 
 /// A state that was read is read again from its text, whatever text it was read from.

@@ -1,7 +1,6 @@
 //! Reading a state.
-ghost use Rattle.std.specs.Prelude.{◌≡◌, Ok, IfOk, IfErr, map, codes};
+ghost use Rattle.std.specs.Prelude.{◌≡◌, Ok, IfOk, IfErr, codes};
 ghost use Rattle.plain_text.specs.Parts.{is_word};
-ghost use Rattle.meter_slots.specs.Journal.{fresh_start};
 ghost use Rattle.roster_file.specs.Roster.{roster_of};
 ghost use Rattle.state_file.specs.Whole.{all_of, ended, no_meters, of_roster, owned, starts_of, state_of};
 ghost use Rattle.state_file.specs.Reading.{IsFaultOf};
@@ -9,7 +8,6 @@ ghost use Rattle.state_file.specs.Reading.{IsFaultOf};
 use crate::fault::{FileCause, StateFault};
 use crate::meters::Meters;
 use crate::state::State;
-use meter_address::Commission;
 use meter_slots::MeterStart;
 use roster_file::{Entries, LineCause, RosterFault, read_own_line, read_roster};
 use std::alloc::Global;
@@ -77,38 +75,21 @@ fn read_owned(alloc: Global, entries: &mut Entries<'_>) -> Result<State, StateFa
     }
 }
 
-// The meters that were just commissioned.
-fn fresh_starts(alloc: Global, meters: &[Commission]) -> Result<Vec<MeterStart>, StateFault>
-    ensures found { IfOk result (λ starts. starts.items ≡ map fresh_start meters.now) }
-    ensures fault { IfErr result (λ fault. fault ≡ StateFault.Memory) }
-{
-    match meters
-        .iter()
-        .map(|meter| MeterStart::new(*meter))
-        .collect(alloc)
-    {
-        Ok(starts) => Ok(starts),
-        Err(_) => Err(StateFault::Memory),
-    }
-}
-
 // A roster is a state.
-#[tactic(auto, using(crate::proofs::Rooms::roster_has_room))]
+#[tactic(auto, using(roster_file::proofs::Enrolling::read_is_enrolled))]
 fn read_as_roster(alloc: Global, bytes: &[u8]) -> Result<State, StateFault>
     ensures found { IfOk result (λ state. of_roster (roster_of bytes.now) ≡ Ok state) }
     ensures fault { IfErr result (λ fault. IsFaultOf (of_roster (roster_of bytes.now)) fault) }
 {
     let roster = match read_roster(alloc, bytes) {
         Ok(roster) => roster,
-        Err(fault) => match fault {
-            RosterFault::Line(line, cause) => {
-                return Err(StateFault::Line(line, FileCause::Roster(cause)));
-            }
-            RosterFault::Memory => return Err(StateFault::Memory),
-        },
+        Err(RosterFault::Line(line, cause)) => return Err(StateFault::Roster(line, cause)),
+        Err(RosterFault::Memory) => return Err(StateFault::Memory),
     };
-    let starts = fresh_starts(alloc, roster.meters())?;
-    Ok(State::new(roster.own(), starts))
+    match State::of_roster(alloc, &roster) {
+        Ok(state) => Ok(state),
+        Err(_) => Err(StateFault::Memory),
+    }
 }
 
 /// Reads a state, or a roster, whose meters are just commissioned.
@@ -120,7 +101,7 @@ pub fn read_state(alloc: Global, bytes: &[u8]) -> Result<State, StateFault>
     ensures fault { IfErr result (λ fault. IsFaultOf (state_of bytes.now) fault) }
 {
     if bytes.len() > STATE_MOST {
-        return Err(StateFault::Line(0, FileCause::Roster(LineCause::TooLong)));
+        return Err(StateFault::Roster(0, LineCause::TooLong));
     }
     let mut entries = Entries::of_text(bytes);
     match entries.next() {

@@ -13,7 +13,7 @@ use crate::state::State;
 use afl_fragments::{HeldPart, SPELT_MAX};
 use command_queue::{Command, Queue};
 use meter_address::{Address, Commission};
-use meter_slots::{MeterStart, Reading};
+use meter_slots::{KnownMeter, MeterStart, Reading};
 
 fn show_bytes(bytes: &[u8])
     ensures { IsBytes bytes.now }
@@ -72,19 +72,19 @@ fn show_part(part: &HeldPart)
     show_bytes(&out[..len]);
 }
 
-fn show_part_at(start: &MeterStart, place: usize)
-    ensures { IfSome (slice_get (held start.now.told) place) HasSpelt }
+fn show_part_at(known: &KnownMeter<'_>, place: usize)
+    ensures { IfSome (slice_get (held known.now.told) place) HasSpelt }
 {
-    if let Some(part) = start.part_at(place) {
+    if let Some(part) = known.part_at(place) {
         show_part(part);
     }
 }
 
-fn show_parts(start: &MeterStart)
-    ensures { All HasSpelt (held start.now.told) }
+fn show_parts(known: &KnownMeter<'_>)
+    ensures { All HasSpelt (held known.now.told) }
 {
-    for place in 0..start.part_count() {
-        show_part_at(start, place);
+    for place in 0..known.part_count() {
+        show_part_at(known, place);
     }
 }
 
@@ -113,22 +113,22 @@ fn show_commands(queue: &Queue)
 
 /// What is known of a meter can be told, whatever it is. Nothing is done: the type says it.
 #[tactic(auto, using(crate::proofs::Telling::can_be_told))]
-pub fn show_start(start: &MeterStart)
-    ensures { IsStart start.now }
+pub fn show_known(known: &KnownMeter<'_>)
+    ensures { IsStart known.now }
 {
-    start.show();
-    show_commission(&start.commission());
-    show_reading(start.reading());
-    let _ = start.part_count();
-    show_parts(start);
-    show_commands(start.queue());
+    known.show();
+    show_commission(&known.commission());
+    show_reading(known.reading());
+    let _ = known.part_count();
+    show_parts(known);
+    show_commands(known.queue());
 }
 
 fn show_start_at(starts: &[MeterStart], place: usize)
     ensures { IfSome (slice_get starts.now place) IsStart }
 {
     if let Some(start) = starts.get(place) {
-        show_start(start);
+        show_known(&start.known());
     }
 }
 

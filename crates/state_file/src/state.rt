@@ -1,6 +1,9 @@
 //! A state.
 use meter_address::Address;
 use meter_slots::MeterStart;
+use outer_io::Memory;
+use roster_file::Roster;
+use std::alloc::Global;
 use std::marker::Model;
 
 /// The collector's own address, and what is known of each meter, in the order of their lines.
@@ -22,8 +25,10 @@ impl Model for State {
 }
 
 impl State {
-    ghost use Rattle.std.specs.Prelude.{◌≡◌};
+    ghost use Rattle.std.specs.Prelude.{◌≡◌, IfOk};
+    ghost use Rattle.roster_file.specs.Enrolled.{IsEnrolled};
     ghost use Rattle.state_file.specs.Rooms.{HasRoom};
+    ghost use Rattle.state_file.specs.Whole.{fresh_known};
 
     /// The state of these meters.
     pub fn new(own: Address, starts: Vec<MeterStart>) -> Self
@@ -31,6 +36,23 @@ impl State {
         ensures { result ≡ record { own = own; starts = starts.items } }
     {
         State { own, starts }
+    }
+
+    /// The meters of a roster, which are just commissioned.
+    #[tactic(auto, using(crate::proofs::Rooms::enrolled_have_room))]
+    pub fn of_roster(alloc: Global, roster: &Roster) -> Result<Self, Memory>
+        requires { IsEnrolled roster.now }
+        ensures { IfOk result (λ state. state ≡ fresh_known roster.now) }
+    {
+        let starts = roster
+            .meters()
+            .iter()
+            .map(|meter| MeterStart::new(*meter))
+            .collect(alloc)?;
+        Ok(State {
+            own: roster.own(),
+            starts,
+        })
     }
 
     /// The collector's own address.
@@ -50,7 +72,8 @@ impl State {
 
     /// Gives the meters back.
     pub fn into_starts(self) -> Vec<MeterStart>
-        ensures { result.items ≡ self.starts }
+        ensures starts { result.items ≡ self.starts }
+        ensures room { HasRoom self.starts }
     {
         self.starts
     }

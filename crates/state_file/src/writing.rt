@@ -12,7 +12,7 @@ use crate::state::State;
 use access_window::Window;
 use afl_fragments::{HeldPart, Part, SPELT_MAX};
 use command_queue::{Command, Queue};
-use meter_slots::{MeterStart, Reading};
+use meter_slots::{KnownMeter, MeterStart, Reading};
 use outer_io::Memory;
 use paper::{Paper, Printed, put_hex, put_number, put_text, written};
 use roster_file::{put_meter, put_own};
@@ -93,15 +93,15 @@ fn either(a: bool, b: bool) -> bool
 }
 
 // The fragments that saw no tick, or those that saw one, the oldest first, and whether there is one.
-fn put_kind<P: Paper>(paper: &mut P, start: &MeterStart, fresh: bool) -> bool
-    ensures puts { Puts P.takes paper.old (kind_text fresh (held start.now.told)) paper.new }
-    ensures any { result ≡ has_kind fresh (held start.now.told) }
+fn put_kind<P: Paper>(paper: &mut P, known: &KnownMeter<'_>, fresh: bool) -> bool
+    ensures puts { Puts P.takes paper.old (kind_text fresh (held known.now.told)) paper.new }
+    ensures any { result ≡ has_kind fresh (held known.now.told) }
 {
     let mut any = false;
-    let mut left = start.part_count();
+    let mut left = known.part_count();
     'parts: while left > 0 {
         left -= 1;
-        let one = put_if_kind(paper, start.part_at(left), fresh);
+        let one = put_if_kind(paper, known.part_at(left), fresh);
         any = either(one, any);
     }
     any
@@ -116,12 +116,12 @@ fn put_tick<P: Paper>(paper: &mut P, old: bool)
 }
 
 #[tactic(auto, unfolding(crate::specs::Printing::marks_text), using(paper::proofs::Calls::three_make))]
-fn put_marks<P: Paper>(paper: &mut P, start: &MeterStart)
-    ensures { Puts P.takes paper.old (marks_text (held start.now.told)) paper.new }
+fn put_marks<P: Paper>(paper: &mut P, known: &KnownMeter<'_>)
+    ensures { Puts P.takes paper.old (marks_text (held known.now.told)) paper.new }
 {
-    let old = put_kind(paper, start, false);
+    let old = put_kind(paper, known, false);
     put_tick(paper, old);
-    let _ = put_kind(paper, start, true);
+    let _ = put_kind(paper, known, true);
 }
 
 #[tactic(auto, unfolding(crate::specs::Printing::said_text), using(paper::proofs::Calls::four_make))]
@@ -180,21 +180,21 @@ fn put_commands<P: Paper>(paper: &mut P, window: Window, queue: &Queue)
 }
 
 #[tactic(auto, using(crate::proofs::StatePieces::block_pieces))]
-fn put_block<P: Paper>(paper: &mut P, start: &MeterStart)
-    ensures { Puts P.takes paper.old (block_text start.now) paper.new }
+pub(crate) fn put_block<P: Paper>(paper: &mut P, known: &KnownMeter<'_>)
+    ensures { Puts P.takes paper.old (block_text known.now) paper.new }
 {
-    start.show();
-    put_meter(paper, &start.commission());
-    put_readings(paper, start.reading());
-    put_marks(paper, start);
-    put_commands(paper, start.window(), start.queue());
+    known.show();
+    put_meter(paper, &known.commission());
+    put_readings(paper, known.reading());
+    put_marks(paper, known);
+    put_commands(paper, known.window(), known.queue());
 }
 
 fn put_blocks<P: Paper>(paper: &mut P, starts: &[MeterStart])
     ensures { Puts P.takes paper.old (flat_map block_text starts.now) paper.new }
 {
     for start in starts {
-        put_block(paper, start);
+        put_block(paper, &start.known());
     }
 }
 

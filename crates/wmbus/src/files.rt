@@ -24,7 +24,7 @@ const PRIVATE: u32 = 0o600;
 /// What a plan reads and writes but for the report.
 #[derive(Drop)]
 pub(crate) struct Opened {
-    pub(crate) roster: StdSource,
+    pub(crate) beginning: StdSource,
     pub(crate) next: StdSink,
     pub(crate) readings: StdSink,
     pub(crate) receivers: Vec<Receiver<StdSource, StdSink>>,
@@ -104,32 +104,33 @@ fn add_receivers<R: Eprint + Files<File = File>>(
     add_receivers(rt, receivers, later)
 }
 
-// Opens the roster and the receiver of `hear`.
+// Opens the state and the receiver of `hear`.
 fn open_hear<R: Eprint + Files<File = File> + AllocGlobal>(
     rt: &R,
-    roster: &str,
+    beginning: &str,
     rx: &str,
 ) -> Result<Opened, ExitCode>
     ensures fresh { IfOk result (λ files. Each IsFresh files.receivers.items) }
     ensures count { IfOk result (λ files. vec_len files.receivers ≡ 1) }
     ensures unopened { IfErr result (λ code. IsUnopened (exit_status code)) }
 {
-    let roster = open_to_read(rt, roster)?;
+    let beginning = open_to_read(rt, beginning)?;
     let rx = open_to_read(rt, rx)?;
     let mut receivers = Vec::new(rt.alloc());
     add_receiver(rt, &mut receivers, rx, StdSink::nothing())?;
     Ok(Opened {
-        roster,
+        beginning,
         next: StdSink::nothing(),
         readings: StdSink::nothing(),
         receivers,
     })
 }
 
-// Opens all files of `collect`, in the order of the words. The next roster has keys, so where it is new its owner alone may read it.
-fn open_collect<R: Eprint + Files<File = File> + AllocGlobal>(
+// Opens all files of `collect` or `continue`, in the order of the words. What is left for the next session has keys, so where it is new its
+// owner alone may read it.
+fn open_receivers<R: Eprint + Files<File = File> + AllocGlobal>(
     rt: &R,
-    roster: &str,
+    beginning: &str,
     next: &str,
     readings: &str,
     names: &[String],
@@ -138,10 +139,10 @@ fn open_collect<R: Eprint + Files<File = File> + AllocGlobal>(
     ensures count { IfOk result (λ files. vec_len files.receivers ≡ length names.now / 2) }
     ensures unopened { IfErr result (λ code. IsUnopened (exit_status code)) }
 {
-    let roster = open_to_read(rt, roster)?;
+    let beginning = open_to_read(rt, beginning)?;
 
-    // Where the program was started with standard streams closed, their numbers would be those of files. The roster and these take them,
-    // so that nothing that is printed goes into a file that is written; they can't be written, and so the report fails as over a closed
+    // Where the program was started with standard streams closed, their numbers would be those of files. The beginning and these take
+    // them, so that nothing that is printed goes into a file that is written; they can't be written, and so the report fails as over a closed
     // stream.
     let _streams = (File::open(rt, "/dev/null"), File::open(rt, "/dev/null"));
     let next = open_to_write(rt, next, PRIVATE)?;
@@ -149,7 +150,7 @@ fn open_collect<R: Eprint + Files<File = File> + AllocGlobal>(
     let mut receivers = Vec::new(rt.alloc());
     add_receivers(rt, &mut receivers, names)?;
     Ok(Opened {
-        roster,
+        beginning,
         next,
         readings,
         receivers,
@@ -162,7 +163,7 @@ fn open_nothing<R: AllocGlobal>(rt: &R) -> Opened
     ensures count { vec_len result.receivers ≡ 0 }
 {
     Opened {
-        roster: StdSource::nothing(),
+        beginning: StdSource::nothing(),
         next: StdSink::nothing(),
         readings: StdSink::nothing(),
         receivers: Vec::new(rt.alloc()),
@@ -183,10 +184,14 @@ fn open_all<R: Eprint + Files<File = File> + AllocGlobal>(
 {
     match plan {
         Plan::Hear => open_hear(rt, command[1].as_str(), command[2].as_str()),
-        Plan::Collect(_) => match command {
-            [_, roster, next, readings, names @ ..] => {
-                open_collect(rt, roster.as_str(), next.as_str(), readings.as_str(), names)
-            }
+        Plan::Collect(_) | Plan::Continue(_) => match command {
+            [_, beginning, next, readings, names @ ..] => open_receivers(
+                rt,
+                beginning.as_str(),
+                next.as_str(),
+                readings.as_str(),
+                names,
+            ),
             _ => unreachable!(),
         },
         Plan::Made { .. } => Ok(open_nothing(rt)),

@@ -24,14 +24,16 @@ use std::thread::Threads;
 
 const HELP: &str = "wmbus: a collector for wireless M-Bus and OMS meters
 
-usage: wmbus hear ROSTER RX
+usage: wmbus hear STATE RX
        wmbus collect ROSTER NEXT READINGS RX TX [RX TX ..]
+       wmbus continue STATE NEXT READINGS RX TX [RX TX ..]
        wmbus made METERS TELEGRAMS NUMBER
        wmbus --help
        wmbus --version
 
-hear reads the commissioned meters from the file ROSTER and the lines of one
-receiver from the file RX, and writes the report to the standard output.
+hear reads the commissioned meters from the file STATE, a roster or a state, and
+the lines of one receiver from the file RX, and writes the report to the standard
+output.
 
 collect does the same for one to sixteen receivers at once, each in a thread.
 From each RX it reads a receiver's lines, and to the TX behind it it writes the
@@ -42,6 +44,14 @@ made empty first; a FIFO or a terminal may stand for any of them.
 
   wmbus collect meters.roster next.roster readings.json a.rx a.tx b.rx b.tx
 
+continue does what collect does, and goes on where the session before it ended:
+STATE is what that one wrote to NEXT, and for the first session a roster. NEXT
+gets the state behind this session: with what a roster has also the commands that
+wait, the window in which a response is waited for, the fragments that are held,
+and each meter's last reading.
+
+  wmbus continue meters.state next.state readings.json a.rx a.tx
+
 made needs no meter and no file: it draws 1 to 1024 meters with their keys from
 NUMBER (below 2^64), makes 1 to 16384 telegrams of them and of a stranger, has
 four receivers hear all of these at once, as collect does, and writes a summary
@@ -49,8 +59,8 @@ to the standard output. The same words give the same summary everywhere.
 
   wmbus made 50 5000 7
 
-exit status: 0 done, 2 faulty words, 3 faulty roster, 4 roster not read,
-5 receiver not read, 6 downlink not written, 7 next, readings or report not
+exit status: 0 done, 2 faulty words, 3 faulty roster or state, 4 roster or state not
+read, 5 receiver not read, 6 downlink not written, 7 next, readings or report not
 written, 8 receiver past its limit, 10 no memory, 11 a file that can't be opened
 
 docs/FORMATS.md says what each fault, refusal and message means and what to do about
@@ -73,7 +83,7 @@ fn run_plan<R: Threads + Wait + Sync + Eprint + Files<File = File> + AllocGlobal
         Ok(mut files) => run_over(
             rt,
             command,
-            &mut files.roster,
+            &mut files.beginning,
             &mut files.receivers,
             &mut files.next,
             &mut files.readings,

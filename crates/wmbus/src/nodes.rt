@@ -61,7 +61,7 @@ pub(crate) fn differ<R: Eprint + Files<File = File>>(
     ensures { IfErr result (λ code. IsUnopened (exit_status code)) }
 {
     match (plan, command) {
-        (Plan::Collect(_), [_, names @ ..]) => match named_twice(rt, names) {
+        (Plan::Collect(_) | Plan::Continue(_), [_, names @ ..]) => match named_twice(rt, names) {
             None => Ok(()),
             Some(name) => {
                 let _ = eprintln!(rt; "wmbus: the file {name} is named twice");

@@ -9,7 +9,7 @@ ghost use Rattle.receivers.specs.Run.{receiver_runs};
 ghost use Rattle.collector_main.specs.declared.status.Status.{Status as RunStatus};
 ghost use Rattle.collector_main.specs.MadeRun.{IsMadeRun, made_outputs};
 ghost use Rattle.collector_main.specs.Run.{IsRun};
-ghost use Rattle.collector_main.specs.Showing.{IsFresh, IfMade, receiver_count, hears, collects};
+ghost use Rattle.collector_main.specs.Showing.{IsFresh, IfMade, form_of, receiver_count, hears, collects};
 ghost use Rattle.collector_main.specs.Showing.{asks_for_readings, sends_downlinks, outputs_of};
 ghost use Rattle.collector_main.specs.Statuses.{code_of};
 ghost use Rattle.collector_main.specs.Words.{plan_of};
@@ -36,7 +36,7 @@ pub(crate) fn run_over<
 >(
     rt: &R,
     command: &[String],
-    roster: &mut S,
+    beginning: &mut S,
     receivers: &mut Vec<Receiver<S, K>>,
     next: &mut K,
     readings: &mut K,
@@ -53,7 +53,8 @@ pub(crate) fn run_over<
         IfOk (plan_of (map string_bytes command.now)) (λ plan. IsTrue (hears plan) → IsRun (record {
           sources_tell = S.tells;
           sinks_tell = K.tells;
-          roster = source_change S.Source roster.old roster.new;
+          form = form_of plan;
+          beginning = source_change S.Source beginning.old beginning.new;
           receivers = receiver_runs S.Source K.Sink receivers.old.items receivers.new.items;
           sends = sends_downlinks plan;
           outputs = outputs_of plan (sink_change K.Sink next.old next.new) (sink_change K.Sink readings.old readings.new)
@@ -77,7 +78,7 @@ pub(crate) fn run_over<
         rt,
         rt.alloc(),
         command,
-        roster,
+        beginning,
         receivers,
         next,
         readings,

@@ -1,6 +1,6 @@
 use Rattle.std.proofs.Common.{rules, ◌≡◌, ◌<◌, ℕ, [], ◌∷◌, ◌++◌, length, get_or, ◌∙◌}
 use Rattle.meter_slots.specs.Journal.{fresh_start}
-use Rattle.receivers.proofs.Collecting.{mapped_more}
+use Rattle.meter_slots.proofs.Starting.{mapped_more}
 use Rattle.audit_check_main.proofs.auditing.starts_of.Goals as goal
 
 pub loop-place-preserved : goal.loop-place-preserved

@@ -8,9 +8,9 @@ use Rattle.state_file.proofs.showing.show_parts.Goals as goal
 
 pub loop-place-preserved : goal.loop-place-preserved
 loop-place-preserved c =
-    all_more HasSpelt (held c.args.start.now.told) c.loop-place.place c.show_part_at.ensures c.loop-place.invariant
+    all_more HasSpelt (held c.args.known.now.told) c.loop-place.place c.show_part_at.ensures c.loop-place.invariant
 
 pub returns : goal.returns
 returns c =
-    subst (All HasSpelt) (take_all c.loop-place.place (held c.args.start.now.told)
+    subst (All HasSpelt) (take_all c.loop-place.place (held c.args.known.now.told)
     (let done = c.loop-place-test.false in let count = c.part_count-place-end.ensures.count in omega arith)) c.loop-place.invariant

@@ -4,7 +4,7 @@ use Rattle.meter_address.specs.declared.commission.Mode.{Mode}
 use Rattle.meter_address.specs.Commission.{Commissioned, most_last}
 use Rattle.afl_fragments.proofs.Shortening.{short_stands}
 use Rattle.meter_slots.specs.Keeping.{Kept, held_by}
-use Rattle.meter_slots.proofs.standing.Standing.end.Goals as goal
+use Rattle.meter_slots.proofs.standing.Standing.known.Goals as goal
 
 pub invariant_of-commission : goal.invariant_of-commission
 invariant_of-commission c =

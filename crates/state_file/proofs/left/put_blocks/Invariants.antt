@@ -1,0 +1,8 @@
+use Rattle.std.proofs.Common.{take}
+use Rattle.std.specs.List.{flat_map}
+use Rattle.paper.specs.Puts.{Puts}
+use Rattle.state_file.specs.Left.{slot_block}
+use Rattle.state_file.proofs.left.put_blocks.Given as goal
+
+abbrev pub invariant-loop-slot : goal.invariant-loop-slot
+invariant-loop-slot g l = Puts g.P.Paper.takes l.initial.paper (flat_map slot_block (take l.slot-index l.slots)) l.paper
