@@ -6,7 +6,7 @@ use access_window::Window;
 use line_reader::read_line;
 use meter_address::{Address, Commission, Mode};
 use meter_slots::{
-    Directory, Event, Landed, Outcome, Reason, SentDownlink, SlotBook, Step, World, event_of,
+    Directory, Event, Landed, MeterStart, Outcome, Reason, SentDownlink, SlotBook, Step, World, event_of,
 };
 use std::alloc::{AllocError, Global};
 use std::process::Abort;
@@ -370,7 +370,8 @@ fn lines_of_two_meters_and_a_stranger(rt: HostRuntime) -> Result<(), Fail> {
     let alloc = rt.alloc();
     let gas = commission(GAS, Mode::Five, GAS_KEY);
     let heat = commission(HEAT, Mode::Seven, HEAT_KEY);
-    let mut world = World::new(alloc, Address(1), vec![in alloc; gas, heat]?)?;
+    let meters = vec![in alloc; MeterStart::new(gas), MeterStart::new(heat)]?;
+    let mut world = World::new(alloc, Address(1), meters)?;
     for (text, wanted) in answered(alloc, WORLD_LINES)? {
         let (address, event) = event_of(&read_line(text.as_bytes())?)?;
         let landed = world.step(Step {

@@ -1,6 +1,6 @@
 //! Reports and readings of sessions without steps.
 use meter_address::{Address, Commission, Mode};
-use meter_slots::{Counts, Ended, World};
+use meter_slots::{Counts, Ended, MeterStart, World};
 use outer_io::MemorySink;
 use report_text::{ReceiverEnd, Session, readings_json, report};
 use std::test::Fail;
@@ -31,7 +31,7 @@ fn a_session_of_four_receivers_is_reported(rt: HostRuntime) -> Result<(), Fail> 
         down: 3,
         ids: 0,
     };
-    let world = World::new(rt.alloc(), own, vec![in rt.alloc(); commission]?)?;
+    let world = World::new(rt.alloc(), own, vec![in rt.alloc(); MeterStart::new(commission)]?)?;
     let ends = [
         end(Ended::End),
         end(Ended::Cut),
@@ -71,7 +71,7 @@ fn a_meter_without_readings_has_no_records(rt: HostRuntime) -> Result<(), Fail> 
         down: 0,
         ids: 0,
     };
-    let world = World::new(rt.alloc(), own, vec![in rt.alloc(); commission]?)?;
+    let world = World::new(rt.alloc(), own, vec![in rt.alloc(); MeterStart::new(commission)]?)?;
     let session = Session {
         ends: &[],
         slots: world.slots(),

@@ -77,7 +77,7 @@ fn a_roster_is_a_state(rt: HostRuntime) -> Result<(), Fail> {
 
 // The first fault of a text, and below it the text, whose first two lines are a state's and whose `M` is a meter's line.
 const FAULTS: &str = "\
-Line(1, Roster(Head))
+Roster(1, Head)
 wmbus-state 2
 
 Line(3, Roster(Missing))
