@@ -1,3 +1,4 @@
+pub mod Chains
 mod ManyReceivers
 pub mod OneReceiver
 pub mod Orders

@@ -1,5 +1,5 @@
 -- A run of several receivers.
-use Rattle.std.proofs.Common.{get_or, IfOk, suc, ◌≡◌, ◌≢◌, ◌⊎◌, ◌++◌, ◌+◌, ◌<◌, ◌^◌, ℕ, List, [], ◌∷◌, Bool, true, false, Option, Some, None, Result, Ok, Err, inl, inr, ⊎_elim, refl, sym, ap, subst, ◌∙◌, IsTrue, map, length, take, arith}
+use Rattle.std.proofs.Common.{get_or, IfOk, suc, ◌≡◌, ◌≢◌, ◌⊎◌, ◌++◌, ◌+◌, ◌<◌, ◌≤◌, ◌^◌, ℕ, List, [], ◌∷◌, Bool, true, false, Option, Some, None, Result, Ok, Err, inl, inr, ⊎_elim, refl, sym, ap, subst, ◌∙◌, IsTrue, map, length, take, arith}
 use Rattle.std.specs.List.{enumerate_from}
 use Rattle.std.specs.List.{All}
 use Rattle.std.proofs.lemmas.List.{length-map, map-append, take_more}
@@ -15,7 +15,9 @@ use Rattle.meter_address.specs.declared.address.Address.{Address}
 use Rattle.meter_slots.specs.declared.counts.Counts.{Counts}
 use Rattle.meter_slots.specs.declared.counts.Ended.{Ended}
 use Rattle.meter_slots.specs.declared.counts.Ended.TheVariants as ends
-use Rattle.meter_slots.specs.Journal.{Start}
+use Rattle.meter_slots.specs.Journal.{Start, SlotView}
+use Rattle.meter_slots.specs.Resuming.{known_now}
+use Rattle.meter_address.specs.Address.{AreApart}
 use Rattle.meter_slots.specs.World.{WorldView}
 use Rattle.stranger_ring.specs.declared.strangers.Heard.{Heard as Stranger}
 use Rattle.receivers.specs.Classes.{counts_of}
@@ -30,12 +32,18 @@ use Rattle.receivers.proofs.HeardRuns.{heard_session}
 use Rattle.report_text.specs.declared.lent.ReceiverEnd.{ReceiverEnd}
 use Rattle.report_text.specs.Readings.{readings_text}
 use Rattle.report_text.specs.Report.{report_text}
-use Rattle.state_file.specs.Whole.{Known}
+use Rattle.roster_file.specs.Roster.{roster_of}
+use Rattle.roster_file.specs.Text.{roster_text}
+use Rattle.state_file.specs.Left.{left_roster, left_state}
+use Rattle.state_file.specs.Rooms.{HasRoom}
+use Rattle.state_file.specs.Whole.{Known, of_roster, state_of}
+use Rattle.state_file.specs.Written.{state_text}
 use Rattle.collector_main.specs.declared.status.Status.{Status}
 use Rattle.collector_main.specs.declared.status.Status.TheVariants as statuses
 use Rattle.collector_main.specs.declared.form.Form.{Form}
+use Rattle.collector_main.specs.declared.form.Form.TheVariants as forms
 use Rattle.collector_main.specs.Begin.{known_of}
-use Rattle.collector_main.specs.Heard.{Heard, next_text, next_of, readings_of, receiver_end, report_of}
+use Rattle.collector_main.specs.Heard.{Heard, left_known, next_text, next_of, readings_of, receiver_end, report_of}
 use Rattle.collector_main.specs.Ready.{IsEndOf, HaveHeard}
 use Rattle.collector_main.specs.declared.together.HeardTogether.{HeardTogether}
 use Rattle.collector_main.specs.Run.{Run, Output, IsRun, EndsSo, HasEnded, IsWhole, IsUnwritten, EndIsCaused, IsCausedBy}
@@ -404,8 +412,9 @@ module _ (form : Form) (st kt : Bool) (beginning : Change SourceShown) (runs : L
     pub collected_run : (st_is : Each (λ r. r.source_tells ≡ st) runs) → Each (λ r. IsTrue st → r.source.before.taken ≡ []) runs
         → length runs < 2 ^ 32
         → IsCollected e.own e.starts runs world → (IsTrue st → known_of form beginning.before.left ≡ Ok e) → (IsTrue st → IsReadOut beginning)
-        → (IsTrue st → LosesNothing beginning) → IsRun (this result)
-    collected_run knows none few collected found read kept =
+        → (IsTrue st → LosesNothing beginning) → known_of form (next_text form e.own world.slots) ≡ Ok (left_known form e.own world.slots)
+        → IsRun (this result)
+    collected_run knows none few collected found read kept left =
         let directory = map address_of e.starts in
         record {
           headline = λ was told.
@@ -427,6 +436,7 @@ module _ (form : Form) (st kt : Bool) (beginning : Change SourceShown) (runs : L
                     (each_short st directory runs es s.receivers each s.taken) e.starts world
                     (map (receiver_end heard) s.receivers) s.session;
                 sent = λ sends. record { parts = s.parts; lines = s.heard; answers = s.answers; sent = s.sent };
+                left = λ sends. left;
                 written = λ writes. (
                   text_of kt next_is next a w.wrote_next writes,
                   (
@@ -471,6 +481,27 @@ pub all_fresh : {S K : Type 0} (rs : List (Receiving S K)) → Each IsFresh rs �
 all_fresh [] each = All-nil (λ r. r.ended ≡ None)
 all_fresh (r ∷ rs) each = All-cons (λ r. r.ended ≡ None) r rs each.0 (all_fresh rs each.1)
 
+-- ---- what slots leave for the meters that they were made for
+
+same_addresses : {P : Start → SlotView → Type 0} → ((c : Start) (b : SlotView) → P c b → b.start ≡ c) → (cs : List Start) (bs : List SlotView)
+    → EachWith P cs bs → map address_of (map known_now bs) ≡ map address_of cs
+same_addresses is [] [] each = refl
+same_addresses is [] (b ∷ bs) each = absurd each
+same_addresses is (c ∷ cs) [] each = absurd each
+same_addresses is (c ∷ cs) (b ∷ bs) each =
+    ap (λ (s : Start). s.address ∷ map address_of (map known_now bs)) (is c b each.0) ∙ ap (λ as. c.address ∷ as) (same_addresses is cs bs each.1)
+
+pub left_have_room : (own : Address) (cs : List Start) (runs : List ReceiverRun) (world : WorldView) → HasRoom cs → IsCollected own cs runs world
+    → HasRoom (map known_now world.slots)
+left_have_room own cs runs world room collected =
+    let same = same_addresses (λ c b slot. slot.commission_is) cs world.slots collected.session.meters in
+    let many : length (map known_now world.slots) ≡ length cs =
+    sym (length-map (map known_now world.slots) address_of) ∙ ap length same ∙ length-map cs address_of in
+    record {
+      few = subst (λ n. n ≤ 4096) (sym many) room.few;
+      apart = subst AreApart (sym same) room.apart;
+    }
+
 -- ---- from receivers to their runs
 
 module _ {S K : Type 0} (s : sources.Ghosts S) (k : sinks.Ghosts K) where
@@ -512,14 +543,23 @@ module _ {S K : Type 0} (s : sources.Ghosts S) (k : sinks.Ghosts K) where
   same_keeps (r ∷ rs) = (refl, same_keeps rs)
 
   -- what receivers heard together
+  left_is : (e : Known) (slots : List SlotView) → state_of (state_text (left_state e.own slots)) ≡ Ok (left_state e.own slots)
+      → roster_of (roster_text (left_roster e.own slots)) ≡ Ok (left_roster e.own slots)
+      → (form : Form) → known_of form (next_text form e.own slots) ≡ Ok (left_known form e.own slots)
+  left_is e slots state roster forms.Roster = ap of_roster roster
+  left_is e slots state roster forms.State = state
+
   pub heard_is : (e : Known) (olds olds' news news' : List (Receiving S K)) (h : HeardTogether)
+      → state_of (state_text (left_state e.own h.collected.slots.items)) ≡ Ok (left_state e.own h.collected.slots.items)
+      → roster_of (roster_text (left_roster e.own h.collected.slots.items)) ≡ Ok (left_roster e.own h.collected.slots.items)
       → olds' ≡ olds → news' ≡ news → Each (λ r. IsTrue s.tells → s.taken r.source ≡ []) olds'
       → IsCollected e.own e.starts (receiver_runs s k olds news)
       (record { slots = h.collected.slots.items; strangers = h.collected.strangers })
       → length news ≡ length olds → EachWith IsEndOf news' h.ends.items → HaveHeard s k e olds news h
-  heard_is e olds olds' news news' h o n untaken collected many ended = record {
+  heard_is e olds olds' news news' h state roster o n untaken collected many ended = record {
     untaken = subst (λ l. Each (λ r. IsTrue s.tells → s.taken r.source ≡ []) l) o untaken;
     collected = collected;
+    left = left_is e h.collected.slots.items state roster;
     as_many = many;
     receiver_ends = subst (λ l. EachWith IsEndOf l h.ends.items) n ended;
   }
@@ -554,7 +594,7 @@ module _ {S K : Type 0} (s : sources.Ghosts S) (k : sinks.Ghosts K) where
     together_run found read kept =
         let many = runs_many olds news is.as_many in
         collected_run form s.tells k.tells beginning runs next readings report e world heard.ends.items a b c writes ended result result_so
-        (runs_known olds news) (runs_untaken olds news is.untaken) (omega arith) is.collected found read kept
+        (runs_known olds news) (runs_untaken olds news is.untaken) (omega arith) is.collected found read kept (is.left form)
 
     pub together_heard : IsUnread result → ⊥
     together_heard unread = not_unread result

@@ -242,6 +242,7 @@ module _ (form : Form) (st kt : Bool) (beginning : Change SourceShown) (r : Rece
               receivers = (record { ended = is; lines = alone.has_heard.ending told; first_bytes = bytes told }, tt);
               session = session;
               sent = λ sends. absurd (let e = sends in cc);
+              left = λ sends. absurd (let e = sends in cc);
               told = order_is_told e.own (map told_of lines ∷ []) (omega arith) (short, tt) e.starts world
                   (record { counts = counts_of (map (λ c. c.address) e.starts) (map told_of lines); ended = ended } ∷ []) session;
               written = λ writes. (subst (λ t. HasText t report) same (written writes), tt);

@@ -12,7 +12,7 @@ use Rattle.report_text.specs.Readings.{readings_text}
 use Rattle.report_text.specs.Report.{report_text}
 use Rattle.roster_file.specs.Text.{roster_text}
 use Rattle.state_file.specs.Left.{left_roster, left_state}
-use Rattle.state_file.specs.Whole.{Known}
+use Rattle.state_file.specs.Whole.{Known, fresh_known}
 use Rattle.state_file.specs.Written.{state_text}
 use Rattle.collector_main.specs.declared.form.Form.{Form}
 use Rattle.collector_main.specs.declared.form.Form.TheVariants as forms
@@ -42,6 +42,11 @@ readings_of heard = readings_text heard.world.slots
 abbrev pub next_text : Form → Address → List SlotView → List ℕ
 next_text forms.Roster own slots = roster_text (left_roster own slots)
 next_text forms.State own slots = state_text (left_state own slots)
+
+-- what the next session knows of the meters where it begins from that: a roster forgets what isn't commissioned
+abbrev pub left_known : Form → Address → List SlotView → Known
+left_known forms.Roster own slots = fresh_known (left_roster own slots)
+left_known forms.State own slots = left_state own slots
 
 abbrev pub next_of : Form → Heard → List ℕ
 next_of form heard = next_text form heard.known.own heard.world.slots

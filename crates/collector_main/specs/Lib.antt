@@ -1,4 +1,5 @@
 pub mod Begin
+pub mod Chains
 pub mod Heard
 pub mod MadeRun
 pub mod Ready

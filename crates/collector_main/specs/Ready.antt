@@ -1,5 +1,5 @@
 -- Words of private contracts: what a session of several receivers came to, before it is written.
-use Rattle.std.specs.Prelude.{ℕ, ◌≡◌, ◌≢◌, ◌<◌, ◌^◌, List, [], Some, None, IsTrue, length}
+use Rattle.std.specs.Prelude.{ℕ, ◌≡◌, ◌≢◌, ◌<◌, ◌^◌, List, [], Some, None, Ok, IsTrue, length}
 use Rattle.outer_io.specs.Each.{Each, EachWith}
 use Rattle.outer_io.specs.declared.sources.Source as sources
 use Rattle.outer_io.specs.declared.sinks.Sink as sinks
@@ -12,7 +12,9 @@ use Rattle.receivers.specs.Run.{receiver_runs}
 use Rattle.report_text.specs.declared.lent.ReceiverEnd.{ReceiverEnd}
 use Rattle.report_text.specs.Report.{report_text}
 use Rattle.state_file.specs.Whole.{Known}
-use Rattle.collector_main.specs.Heard.{Heard, report_of}
+use Rattle.collector_main.specs.declared.form.Form.{Form}
+use Rattle.collector_main.specs.Begin.{known_of}
+use Rattle.collector_main.specs.Heard.{Heard, left_known, next_text, report_of}
 use Rattle.collector_main.specs.MadeRun.{IsMadeHeard}
 use Rattle.collector_main.specs.declared.together.HeardTogether.{HeardTogether}
 
@@ -29,6 +31,8 @@ pub record HaveHeard {S K : Type 0} (s : sources.Ghosts S) (k : sinks.Ghosts K) 
   pub untaken : Each (λ r. IsTrue s.tells → s.taken r.source ≡ []) olds
   pub collected : IsCollected e.own e.starts (receiver_runs s k olds news)
       (record { slots = heard.collected.slots.items; strangers = heard.collected.strangers })
+  pub left : (form : Form) → known_of form (next_text form e.own heard.collected.slots.items) ≡
+      Ok (left_known form e.own heard.collected.slots.items)
   pub as_many : length news ≡ length olds
   pub receiver_ends : EachWith IsEndOf news heard.ends.items
 

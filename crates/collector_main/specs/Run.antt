@@ -19,7 +19,7 @@ use Rattle.collector_main.specs.declared.form.Form.{Form}
 use Rattle.collector_main.specs.declared.status.Status.{Status}
 use Rattle.collector_main.specs.declared.status.Status.TheVariants as statuses
 use Rattle.collector_main.specs.Begin.{known_of}
-use Rattle.collector_main.specs.Heard.{Heard, addresses, report_of, order_of}
+use Rattle.collector_main.specs.Heard.{Heard, addresses, left_known, next_of, report_of, order_of}
 use Rattle.collector_main.specs.Statuses.{was_heard, IsDone, IsRefused}
 
 -- a sink that the command writes: its number in status 7, the text that it is to have of what was heard, and what it shows
@@ -65,8 +65,8 @@ abbrev pub IsUnwritten : ℕ → Output → Type 0
 IsUnwritten which o = (o.number ≡ which) × WriteFailed o.sink
 
 -- The headline: the beginning was read to its end and is one, each receiver was heard, each meter's slot is that of its own lines alone and
--- the strangers' list has the others, the report's text tells their order, the receivers' sinks have the downlinks of just this, and the
--- outputs their texts: after status 0 whole, after status 7 whole before the one that the status names, and else a front where a write
+-- the strangers' list has the others, the report's text tells their order, the receivers' sinks have the downlinks of just this, what is
+-- left for the next session is read as what is known of the meters now, and the outputs have their texts: after status 0 whole, after status 7 whole before the one that the status names, and else a front where a write
 -- failed.
 pub record Headline (run : Run) : Type 0 where
   pub heard : Heard
@@ -76,6 +76,7 @@ pub record Headline (run : Run) : Type 0 where
   pub session : IsSession heard.known.own heard.known.starts (map tellings heard.receivers) heard.world
   pub told : orders (report_of heard) ≡ order_of heard
   pub sent : IsTrue run.sends → HaveSent run.receivers heard
+  pub left : IsTrue run.sends → known_of run.form (next_of run.form heard) ≡ Ok (left_known run.form heard.known.own heard.world.slots)
   pub written : IsTrue run.sinks_tell → Each (λ o. HasText (o.text heard) o.sink) run.outputs
   pub whole : IsTrue run.sinks_tell → run.status ≡ statuses.Done → Each (IsWhole heard) run.outputs
   pub stopped : IsTrue run.sinks_tell → (which : ℕ) → run.status ≡ statuses.Write which →

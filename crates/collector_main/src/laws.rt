@@ -1,4 +1,5 @@
 //! Laws of runs: each function's contract is one.
+ghost use Rattle.collector_main.specs.Chains.{ContinuedRunsAreOne};
 ghost use Rattle.std.specs.Prelude.{◌≡◌, List, [], ◌∷◌};
 ghost use Rattle.meter_address.specs.declared.address.Address.{Address};
 ghost use Rattle.meter_slots.specs.Journal.{Start};
@@ -12,4 +13,9 @@ ghost use Rattle.receivers.specs.Session.{IsSession};
 pub fn one_receivers_lines_fix_the_session()
     ensures { (own : Address) (commissions : List Start) (heard : List Told) (world : WorldView)
         → IsSession own commissions (heard ∷ []) world → world ≡ world_of own commissions (steps_of 1 heard) }
+{}
+
+/// A run of `continue` and one that begins from what it left are one session of all lines, wherever each receiver's lines were cut.
+pub fn continued_runs_are_one()
+    ensures { ContinuedRunsAreOne }
 {}

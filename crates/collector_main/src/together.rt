@@ -11,6 +11,7 @@ use meter_slots::MeterStart;
 use outer_io::{Memory, Sink, Source};
 use receivers::{Collected, Receiver, collect, show_untaken};
 use report_text::ReceiverEnd;
+use state_file::show_left;
 use std::alloc::Global;
 use std::sync::Wait;
 use std::thread::Threads;
@@ -42,6 +43,7 @@ pub(crate) fn hear_together<
 {
     show_untaken(receivers.as_slice());
     let collected = collect(rt, alloc, own, starts, receivers)?;
+    show_left(own, collected.slots.as_slice());
     let ends = ends_of(alloc, receivers.as_slice())?;
     Ok(HeardTogether { collected, ends })
 }

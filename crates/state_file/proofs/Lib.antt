@@ -1,3 +1,4 @@
+pub mod LeftBack
 pub mod LeftPieces
 pub mod LineBack
 pub mod CommandsBack

@@ -7,7 +7,7 @@ use Rattle.meter_slots.specs.Resuming.{known_now}
 use Rattle.roster_file.specs.Roster.{Enrolled}
 use Rattle.roster_file.specs.Text.{meter_text}
 use Rattle.state_file.specs.Whole.{Known}
-use Rattle.state_file.specs.Written.{block_text}
+use Rattle.state_file.specs.Written.{block_text, IsStart}
 
 -- the collector's own address, and what is known of each meter now
 abbrev pub left_state : Address → List SlotView → Known
@@ -22,6 +22,10 @@ abbrev pub left_roster : Address → List SlotView → Enrolled
 left_roster own slots = record { own = own; meters = map commission_now slots }
 
 -- ---- words of private contracts
+
+-- what a slot leaves can be told
+abbrev pub IsLeft : SlotView → Type 0
+IsLeft b = IsStart (known_now b)
 
 -- the block of a slot's meter in a state
 abbrev pub slot_block : SlotView → List ℕ

@@ -23,6 +23,6 @@ pub use left::{LeftRoster, LeftState};
 pub use line::read_line;
 pub use load::{StateLoadFault, load_state};
 pub use reader::{STATE_MOST, read_state};
-pub use showing::{show_known, show_state};
+pub use showing::{show_known, show_left, show_state};
 pub use state::State;
 pub use writing::write_state;

@@ -1,19 +1,25 @@
 //! What is known of a meter can be told.
-ghost use Rattle.std.specs.Prelude.{◌≡◌, ◌≤◌, ◌<◌, ◌^◌, length, slice_get, All, IfSome};
+ghost use Rattle.std.specs.Prelude.{◌≡◌, ◌≤◌, ◌<◌, ◌^◌, length, map, slice_get, All, IfSome, Ok};
 ghost use Rattle.std.specs.Option.{ForSome};
 ghost use Rattle.std.specs.Option.{option_copied};
 ghost use Rattle.hex.specs.Hex.{IsBytes};
 ghost use Rattle.afl_fragments.specs.Held.{held};
 ghost use Rattle.meter_address.specs.Commission.{IsCommission, IsKey};
 ghost use Rattle.state_file.specs.Text.{IsSpeltReading, IsSpeltPart};
-ghost use Rattle.state_file.specs.Written.{IsStart, IsState};
+ghost use Rattle.meter_slots.specs.Resuming.{known_now};
+ghost use Rattle.roster_file.specs.Roster.{roster_of};
+ghost use Rattle.roster_file.specs.Text.{roster_text};
+ghost use Rattle.state_file.specs.Left.{IsLeft, left_roster, left_state};
+ghost use Rattle.state_file.specs.Rooms.{HasRoom};
+ghost use Rattle.state_file.specs.Whole.{state_of};
+ghost use Rattle.state_file.specs.Written.{IsStart, IsState, state_text};
 ghost use Rattle.state_file.specs.Telling.{HasSpelt, IsSayable};
 
 use crate::state::State;
 use afl_fragments::{HeldPart, SPELT_MAX};
 use command_queue::{Command, Queue};
 use meter_address::{Address, Commission};
-use meter_slots::{KnownMeter, MeterStart, Reading};
+use meter_slots::{KnownMeter, MeterStart, Reading, SlotBook};
 
 fn show_bytes(bytes: &[u8])
     ensures { IsBytes bytes.now }
@@ -138,6 +144,32 @@ fn show_starts(starts: &[MeterStart])
     for place in 0..starts.len() {
         show_start_at(starts, place);
     }
+}
+
+fn show_slot_at(slots: &[SlotBook], place: usize)
+    ensures { IfSome (slice_get slots.now place) IsLeft }
+{
+    if let Some(slot) = slots.get(place) {
+        show_known(&slot.known());
+    }
+}
+
+fn show_slots(slots: &[SlotBook])
+    ensures { All IsLeft slots.now }
+{
+    for place in 0..slots.len() {
+        show_slot_at(slots, place);
+    }
+}
+
+/// What slots leave is read back from its texts. Nothing is done: the types say it.
+pub fn show_left(own: Address, slots: &[SlotBook])
+    requires { HasRoom (map known_now slots.now) }
+    ensures state { state_of (state_text (left_state own slots.now)) ≡ Ok (left_state own slots.now) }
+    ensures roster { roster_of (roster_text (left_roster own slots.now)) ≡ Ok (left_roster own slots.now) }
+{
+    show_long(own.0);
+    show_slots(slots);
 }
 
 /// Each state can be written, and is read back from its text then.
