@@ -10,7 +10,7 @@ use std::marker::Model;
 
 /// What is known of a meter, lent by what its slot begins with or by the slot itself: what is commissioned of it now, the fragments that
 /// are held, the commands that wait with their window, and the last reading.
-#[derive(Clone, Copy)]
+#[derive(Drop)]
 pub struct KnownMeter<'a> {
     pub(crate) commission: Commission,
     pub(crate) parts: &'a Fragments,

@@ -74,10 +74,9 @@ impl World {
         ensures { IfOk result (λ world. world ≡ world_of own starts.items []) }
     {
         let addresses = addresses_of(alloc, starts.as_slice())?;
-        let directory = Directory::new(alloc, addresses.as_slice())?;
         Ok(World {
             slots: fresh_slots(alloc, own, starts)?,
-            directory,
+            directory: Directory::new(alloc, addresses.as_slice())?,
             strangers: Strangers::new(alloc)?,
         })
     }
