@@ -31,7 +31,7 @@ commissions_told (b ∷ bs) all =
 same_addresses : (bs : List SlotView)
     → map (λ (c : Start). c.address) (map known_now bs) ≡ map (λ (c : Commissioned). c.address) (map commission_now bs)
 same_addresses [] = refl
-same_addresses (b ∷ bs) = ap (λ as. b.start.address ∷ as) (same_addresses bs)
+same_addresses (b ∷ bs) = ap (λ xs. b.start.address ∷ xs) (same_addresses bs)
 
 pub left_state_is_read : (own : Address) (bs : List SlotView) → own.0 < 2 ^ 64 → HasRoom (map known_now bs) → All IsLeft bs
     → state_of (state_text (left_state own bs)) ≡ Ok (left_state own bs)

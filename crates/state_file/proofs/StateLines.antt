@@ -4,7 +4,7 @@ use Rattle.plain_text.specs.Parts.{is_word}
 use Rattle.roster_file.specs.declared.roster.LineCause.TheVariants as roster
 use Rattle.state_file.specs.declared.fault.FileCause.TheVariants as causes
 use Rattle.state_file.specs.declared.fault.StateFault.{StateFault}
-use Rattle.state_file.specs.declared.fault.StateFault.TheVariants.{Line, Memory}
+use Rattle.state_file.specs.declared.fault.StateFault.TheVariants.{Roster, Line, Memory}
 use Rattle.state_file.specs.Whole.{Progress, all_of, at_line, ended, read_more, starts_of}
 use Rattle.state_file.specs.Reading.{IsFaultOf}
 
@@ -26,5 +26,6 @@ starts_next p q e entries all end first is more = rw (first, is, more) refl
 pub starts_fault : (p : Progress) (fault : StateFault) (e : ℕ × List ℕ) (entries all : List (ℕ × List ℕ)) (end : ℕ) → all ≡ e ∷ entries
     → is_word e.1 (codes "end") ≡ false → IsFaultOf (at_line e.0 (read_more p e.1)) fault → IsFaultOf (starts_of p all end) fault
 unfolding starts_of
+starts_fault p (Roster line cause) e entries all end first is fails = rw (first, is, fails) refl
 starts_fault p (Line line cause) e entries all end first is fails = rw (first, is, fails) refl
 starts_fault p Memory e entries all end first is fails = tt

@@ -1,5 +1,8 @@
 //! A state.
-use meter_address::Address;
+ghost use Rattle.std.specs.Prelude.{◌≡◌, IfOk, map};
+ghost use Rattle.meter_slots.specs.Journal.{fresh_start};
+
+use meter_address::{Address, Commission};
 use meter_slots::MeterStart;
 use outer_io::Memory;
 use roster_file::Roster;
@@ -24,6 +27,17 @@ impl Model for State {
     ghost invariant = { λ s. HasRoom s.starts.items };
 }
 
+// What is known of meters that were just commissioned.
+fn fresh_starts(alloc: Global, meters: &[Commission]) -> Result<Vec<MeterStart>, Memory>
+    ensures { IfOk result (λ starts. starts.items ≡ map fresh_start meters.now) }
+{
+    let starts = meters
+        .iter()
+        .map(|meter| MeterStart::new(*meter))
+        .collect(alloc)?;
+    Ok(starts)
+}
+
 impl State {
     ghost use Rattle.std.specs.Prelude.{◌≡◌, IfOk};
     ghost use Rattle.roster_file.specs.Enrolled.{IsEnrolled};
@@ -44,11 +58,7 @@ impl State {
         requires { IsEnrolled roster.now }
         ensures { IfOk result (λ state. state ≡ fresh_known roster.now) }
     {
-        let starts = roster
-            .meters()
-            .iter()
-            .map(|meter| MeterStart::new(*meter))
-            .collect(alloc)?;
+        let starts = fresh_starts(alloc, roster.meters())?;
         Ok(State {
             own: roster.own(),
             starts,
