@@ -489,7 +489,7 @@ same_addresses is [] [] each = refl
 same_addresses is [] (b ∷ bs) each = absurd each
 same_addresses is (c ∷ cs) [] each = absurd each
 same_addresses is (c ∷ cs) (b ∷ bs) each =
-    ap (λ (s : Start). s.address ∷ map address_of (map known_now bs)) (is c b each.0) ∙ ap (λ as. c.address ∷ as) (same_addresses is cs bs each.1)
+    ap (λ (s : Start). s.address ∷ map address_of (map known_now bs)) (is c b each.0) ∙ ap (λ xs. c.address ∷ xs) (same_addresses is cs bs each.1)
 
 pub left_have_room : (own : Address) (cs : List Start) (runs : List ReceiverRun) (world : WorldView) → HasRoom cs → IsCollected own cs runs world
     → HasRoom (map known_now world.slots)

@@ -37,7 +37,10 @@ returns-clause-run g c =
     c.in-Ok-hear_together.heard) same c.in-Ok-hear_together.ensures in
     together_run g.S.Source g.K.Sink c.args.form _ _ _ _ known c.args.receivers.now.items c.hear_together.new.receivers.items
     c.in-Ok-hear_together.heard heard few _ _ _
-    (wrote_same _ _ _ _ _ (ap (λ (own : Address). next_text c.args.form own c.in-Ok-hear_together.heard.collected.slots.items) c.own-own.ensures) wrote.next)
+    (wrote_same g.K.Sink.tells (next_text c.args.form c.own-own.result c.in-Ok-hear_together.heard.collected.slots.items)
+    (next_text c.args.form known.own c.in-Ok-hear_together.heard.collected.slots.items)
+    (sink_change g.K.Sink c.args.next.now c.write_outputs-writes.new.next) c.write_outputs-writes.result.next
+    (ap (λ (own : Address). next_text c.args.form own c.in-Ok-hear_together.heard.collected.slots.items) c.own-own.ensures) wrote.next)
     wrote.readings wrote.report c.first_stop-stop.result (search rules) c.status_after.result c.status_after.ensures
     c.in-Ok.ensures.found c.in-Ok.ensures.read c.known.ensures.no_loss
 

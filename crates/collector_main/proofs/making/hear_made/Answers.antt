@@ -1,4 +1,4 @@
-use Rattle.std.proofs.Common.{rules, ◌≡◌, ◌<◌, ◌^◌, Result, Ok, length, refl, ap, subst, ◌∙◌, arith}
+use Rattle.std.proofs.Common.{rules, ◌≡◌, ◌<◌, ◌^◌, Result, Ok, length, refl, ap, sym, ◌∙◌, arith}
 use Rattle.roster_file.proofs.Enrolling.{read_is_enrolled}
 use Rattle.state_file.specs.Whole.{Known, fresh_known, of_roster}
 use Rattle.collector_main.specs.Ready.{HearsText}
