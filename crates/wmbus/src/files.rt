@@ -1,5 +1,5 @@
 //! The files that the words name.
-ghost use Rattle.std.specs.Prelude.{◌≡◌, ◌+◌, ◌/◌, Ok, length, map, vec_len, IfOk, IfErr, OnOk};
+ghost use Rattle.std.specs.Prelude.{◌≡◌, ◌+◌, ◌-◌, ◌/◌, ◌≤◌, Ok, length, map, vec_len, IfOk, IfErr, OnOk};
 ghost use Rattle.std.specs.String.{string_bytes};
 ghost use Rattle.std.specs.Process.{exit_status};
 ghost use Rattle.outer_io.specs.Each.{Each};
@@ -157,6 +157,28 @@ fn open_receivers<R: Eprint + Files<File = File> + AllocGlobal>(
     })
 }
 
+// The same of all words, the command among them.
+fn open_named<R: Eprint + Files<File = File> + AllocGlobal>(
+    rt: &R,
+    command: &[String],
+) -> Result<Opened, ExitCode>
+    requires { 6 ≤ length command.now }
+    ensures fresh { IfOk result (λ files. Each IsFresh files.receivers.items) }
+    ensures count { IfOk result (λ files. vec_len files.receivers ≡ (length command.now - 4) / 2) }
+    ensures unopened { IfErr result (λ code. IsUnopened (exit_status code)) }
+{
+    match command {
+        [_, beginning, next, readings, names @ ..] => open_receivers(
+            rt,
+            beginning.as_str(),
+            next.as_str(),
+            readings.as_str(),
+            names,
+        ),
+        _ => unreachable!(),
+    }
+}
+
 // A made session reads and writes no file but the standard output.
 fn open_nothing<R: AllocGlobal>(rt: &R) -> Opened
     ensures fresh { Each IsFresh result.receivers.items }
@@ -184,16 +206,8 @@ fn open_all<R: Eprint + Files<File = File> + AllocGlobal>(
 {
     match plan {
         Plan::Hear => open_hear(rt, command[1].as_str(), command[2].as_str()),
-        Plan::Collect(_) | Plan::Continue(_) => match command {
-            [_, beginning, next, readings, names @ ..] => open_receivers(
-                rt,
-                beginning.as_str(),
-                next.as_str(),
-                readings.as_str(),
-                names,
-            ),
-            _ => unreachable!(),
-        },
+        Plan::Collect(_) => open_named(rt, command),
+        Plan::Continue(_) => open_named(rt, command),
         Plan::Made { .. } => Ok(open_nothing(rt)),
     }
 }

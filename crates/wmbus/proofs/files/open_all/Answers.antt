@@ -1,6 +1,6 @@
-use Rattle.std.proofs.Common.{◌≡◌, ◌-◌, ◌/◌, ◌∙◌, ℕ, IfOk, length, drop, take, map, vec_len, sym, ap, subst, arith}
+use Rattle.std.proofs.Common.{◌≡◌, ◌-◌, ◌/◌, ◌∙◌, length, map, vec_len, sym, ap, subst, arith}
 use Rattle.std.specs.String.{string_bytes}
-use Rattle.std.proofs.lemmas.List.{length-map, length-drop, take_rest}
+use Rattle.std.proofs.lemmas.List.{length-map}
 use Rattle.collector_main.specs.Showing.{receiver_count}
 use Rattle.wmbus.proofs.Plans.{IsCounted, words_counted, counted_so}
 use Rattle.wmbus.proofs.files.open_all.Goals as goal
@@ -23,16 +23,32 @@ bounds-command-2 g c =
     (words_counted (map string_bytes command) c.args.plan c.requires) in
     omega (arith, many, three)
 
-pub returns-in-len4-up-clause-count : goal.returns-in-len4-up-clause-count
-returns-in-len4-up-clause-count g c =
+pub open_named-requires : goal.open_named-requires
+open_named-requires g c =
     let command = c.args.command.now in
     let many : length (map string_bytes command) ≡ length command = length-map command string_bytes in
     let counted =
     subst (IsCounted (length (map string_bytes command))) c.in-Collect.is
     (words_counted (map string_bytes command) c.args.plan c.requires) in
-    let count : IfOk c.open_collect.result (λ files. vec_len files.receivers ≡ length (take (length command - 4) (drop 4 command)) / 2) =
-    c.open_collect.ensures.count in
-    let whole : length (take (length command - 4) (drop 4 command)) ≡ length (drop 4 command) = ap length (take_rest command 4) in
-    counted_so c.open_collect.result (λ files. vec_len files.receivers) _ _
-    (ap (λ n. n / 2) (whole ∙ length-drop 4 command ∙ ap (λ n. n - 4) (sym many)) ∙ sym counted.1
-    ∙ ap receiver_count (sym c.in-Collect.is)) count
+    let six = counted.0 in
+    omega (arith, many, six)
+
+pub returns-in-Collect-clause-count : goal.returns-in-Collect-clause-count
+returns-in-Collect-clause-count g c =
+    let command = c.args.command.now in
+    let many : length (map string_bytes command) ≡ length command = length-map command string_bytes in
+    let counted =
+    subst (IsCounted (length (map string_bytes command))) c.in-Collect.is
+    (words_counted (map string_bytes command) c.args.plan c.requires) in
+    counted_so c.open_named.result (λ files. vec_len files.receivers) _ _
+    (ap (λ n. (n - 4) / 2) (sym many) ∙ sym counted.1 ∙ ap receiver_count (sym c.in-Collect.is)) c.open_named.ensures.count
+
+pub returns-in-Continue-clause-count : goal.returns-in-Continue-clause-count
+returns-in-Continue-clause-count g c =
+    let command = c.args.command.now in
+    let many : length (map string_bytes command) ≡ length command = length-map command string_bytes in
+    let counted =
+    subst (IsCounted (length (map string_bytes command))) c.in-Continue.is
+    (words_counted (map string_bytes command) c.args.plan c.requires) in
+    counted_so c.open_named-in-Continue.result (λ files. vec_len files.receivers) _ _
+    (ap (λ n. (n - 4) / 2) (sym many) ∙ sym counted.1 ∙ ap receiver_count (sym c.in-Continue.is)) c.open_named-in-Continue.ensures.count
