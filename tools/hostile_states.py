@@ -129,13 +129,15 @@ def other_spelling(draw: random.Random, lines: list[bytes]) -> None:
     line = lines[at]
     fields = line.split(b" ")
     lines[at] = draw.choice([
-        line + b" ", b" " + line, line.replace(b" ", b"  ", 1), line.replace(b" ", b"\t", 1), line + b"\r", line + b"\r\r", line[:3] + b"\r" + line[3:],
-        line + b" 0", b" ".join(fields[:-1]), line.upper(), b"#" + line, b"\xef\xbb\xbf" + line, line + b"\0", line[:draw.randrange(len(line) + 1)]])
+        line + b" ", b" " + line, line.replace(b" ", b"  ", 1), line.replace(b" ", b"\t", 1), line + b" 0", b" ".join(fields[:-1]), line.upper(),
+        line + b"\r", line + b"\r\r", line[:3] + b"\r" + line[3:], b"#" + line, b"\xef\xbb\xbf" + line, line + b"\0",
+        line[:draw.randrange(len(line) + 1)]])
 
 
 def one_more(draw: random.Random, lines: list[bytes]) -> None:
     """A line of another place, or one that may stand anywhere or nowhere."""
-    other = draw.choice([*KNOWN, b"tick", b"tick", b"end", b"clear", b"ring 9315010203040107", b"part", b"waits", b"", b"#", b"tick 1", b"end ", b"wmbus-roster 2", b"wmbus-state 2"])
+    others = [b"tick", b"tick", b"end", b"clear", b"ring 9315010203040107", b"part", b"waits", b"", b"#", b"tick 1", b"end ", b"wmbus-roster 2"]
+    other = draw.choice([*KNOWN, *others])
     lines.insert(draw.randrange(len(lines) + 1), other)
 
 
@@ -143,7 +145,8 @@ def other_head(draw: random.Random, lines: list[bytes]) -> None:
     """Another head: that of a roster, or none."""
     heads = [at for at, line in enumerate(lines) if line.startswith(b"wmbus-")]
     if heads:
-        lines[heads[0]] = draw.choice([b"wmbus-roster 2", b"wmbus-roster 2", b"wmbus-roster 1", b"wmbus-state 2", b"wmbus-state", b"wmbus-state 1 ", b""])
+        others = [b"wmbus-roster 2", b"wmbus-roster 2", b"wmbus-roster 1", b"wmbus-state 2", b"wmbus-state", b"wmbus-state 1 ", b""]
+        lines[heads[0]] = draw.choice(others)
 
 
 def roster_alone(draw: random.Random, lines: list[bytes]) -> None:
@@ -151,7 +154,10 @@ def roster_alone(draw: random.Random, lines: list[bytes]) -> None:
     lines[:] = [b"wmbus-roster 2", *(line for line in lines if line.startswith((b"own ", b"meter ")))]
 
 
-CHANGES = [other_byte, doubled, left_out, exchanged, other_number, other_number, other_bytes, other_part, other_part, more_commands, other_spelling, one_more, one_more, other_head, roster_alone]
+CHANGES = [
+    other_byte, doubled, left_out, exchanged, other_number, other_number, other_bytes, other_part, other_part, more_commands, other_spelling, one_more,
+    one_more, other_head, roster_alone,
+]
 RARE = {other_head, roster_alone}
 
 
