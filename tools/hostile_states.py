@@ -227,6 +227,39 @@ LIMITS = [
 ]
 
 
+def _block(*below: str, ids: int = 9, mode: int = 7) -> bytes:
+    """A state of one meter with these lines below its own."""
+    line = f"meter {ADDRESS} {mode} 000102030405060708090a0b0c0d0e0f - - 0 {ids}"
+    return _ended([it.encode() for it in (*HEAD, line, *below, "end")])
+
+
+def _commands(count: int, first: str = "command 1 0 01") -> list[str]:
+    return [first, *(f"command {number} 0 01" for number in range(2, count + 1))]
+
+
+# blocks at a limit and just past it, and lines with more than one fault, of which the first counts
+EDGES = [
+    *(_block(f"reading {at} {counter} {'5a' * size}") for at, counter, size in [
+        (2**64 - 1, 2**32 - 1, 4096), (0, 0, 4097), (2**64, 2**32, 4097), (1, 2**32, 4097), ("00", "00", 0), ("", "", 0)]),
+    *(_block("reading 1 1 -", second) for second in ["reading 1 1 -", "reading x", "reading"]),
+    *(_block(f"{word} {ident} {tries} {payload}") for word in ["waits", "command"] for ident, tries, payload in [
+        (1, 0, "01"), (1, 1, "01"), (1, 2, "01"), (1, 3, "01"), (1, 4, "01"), (0, 1, "01"), (9, 1, "5a" * 94), (9, 1, "5a" * 95), (10, 1, "01"),
+        (2**32 - 1, 1, "01"), (2**32, 4, "-"), (10, 4, "-"), (10, 3, ""), (10, 3, "-"), (1, 1, "0"), ("01", 1, "01"), (1, "01", "01")]),
+    *(_block(*_commands(count, first)) for count in (8, 9) for first in ("waits 1 3 01", "command 1 2 01")),
+    *(_block(*_commands(2), last) for last in ["command 2 0 01", "command 3 1 01", "waits 3 1 01", "waits 3 0 01", "command 9 0 01", "command 3 0 01"]),
+    _block(f"command {2**32 - 1} 0 01", ids=2**32 - 1),
+    *(_block(f"part {layer}{'5a' * size}", mode=mode) for mode in (5, 7) for layer, size in [
+        ("90020140", 242), ("90020140", 243), ("90021040", 1), ("90021140", 1), ("90020040", 1), ("90020000", 1), ("90020100", 1), ("90020200", 0),
+        ("900a030400000000000000ff", 1), ("900a034400000000000000ff", 1), ("9003024001", 1), ("90030140", 1), ("900201c1", 1), ("91020140", 1),
+        ("900201", 0), ("", 0)]),
+    *(_block(*below) for below in [["tick", "tick"], ["part 9002014001", "tick", "tick"], ["part 9002014001", "tick", "part 9002014002"],
+                                   ["part 9002014001", "tick", "part 9002024002", "tick", "part 9002034003"], ["part", "tick 1"], ["tick "]]),
+    *(_ended([it.encode() for it in (*HEAD, line, "end")]) for line in [
+        "meter", f"meter {ADDRESS}", "meter a 6 k o l d i", f"meter {ADDRESS} 6 k o l d i", f"meter {ADDRESS} 5 {'00' * 16} {'00' * 16} l d i",
+        f"meter {ADDRESS} 5 {'00' * 16} - 256 d i", f"meter {ADDRESS} 7 {'00' * 16} - 256 d i", f"meter {ADDRESS} 7 {'00' * 16} - - 1 i", "tick", "end "]),
+]
+
+
 def hostile_bytes(draw: random.Random) -> bytes:
     """Bytes by chance behind the head of a state, or a state with a piece changed."""
     text = b"\n".join(KNOWN)
