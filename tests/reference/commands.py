@@ -38,6 +38,20 @@ class Commands:
         self.waiting.append(Command(self.ids, payload))
         return self.ids
 
+    def restore(self, command: Command, is_open: bool) -> bool:
+        """`may_restore`: puts a command that waited before behind the others, where it may stand there.
+
+        The window is open for the oldest one alone, and then it was sent; where it isn't open, a try is left."""
+        newest = self.waiting[-1].ident if self.waiting else 0
+        least, most = (1, TRIES) if is_open else (0, 0 if self.waiting else TRIES - 1)
+        if len(self.waiting) == MOST_WAITING or (is_open and self.waiting):
+            return False
+        if not newest < command.ident <= self.ids or not least <= command.tries <= most:
+            return False
+        self.waiting.append(command)
+        self.open_for = command.ident if is_open else self.open_for
+        return True
+
     def cancel(self, ident: int) -> None:
         """Takes a command out; if it was the one that was sent, the window closes."""
         if all(it.ident != ident for it in self.waiting):

@@ -8,7 +8,7 @@ MOST = 16
 
 
 @dataclass
-class _Piece:
+class Piece:
     """A held fragment, with the ticks that it saw."""
 
     afl: Afl
@@ -20,14 +20,14 @@ class _Piece:
 class Fragments:
     """The latest fragment of each number, in the order in which they were heard."""
 
-    pieces: dict[int, _Piece] = field(default_factory=dict)
+    pieces: dict[int, Piece] = field(default_factory=dict)
 
     def hold(self, afl: Afl, content: bytes) -> None:
         """Holds a fragment in the place of an earlier one of its number."""
         if afl.number > MOST:
             raise Refusal(f"parts {afl.number}")
         self.pieces.pop(afl.number, None)
-        self.pieces[afl.number] = _Piece(afl, content)
+        self.pieces[afl.number] = Piece(afl, content)
 
     def tick(self) -> None:
         """A held fragment is given up at the second tick after it."""

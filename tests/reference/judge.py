@@ -2,10 +2,11 @@
 import os
 from dataclasses import dataclass, field
 
-from reference.roster import Roster, RosterFault, read_roster
+from reference.roster import RosterFault, read_roster
 from reference.sessions import Place, Session, outputs_of, session_of
+from reference.states import State, read_state, state_of
 
-ROSTER_FAULTY, PAST_LIMIT = 3, 8
+FAULTY, PAST_LIMIT = 3, 8
 BEFORE, SHOWN = 100, 160
 
 
@@ -58,22 +59,28 @@ def order_of(told: list[tuple[Place, int]], own: list[Place], name: str) -> tupl
 
 def _orders(session: Session, report: str) -> tuple[dict[bytes, list[Place]], list[Place], list[str]]:
     """The order of each meter's steps and of the strangers' lines, as the report tells them."""
-    told = told_by(report, len(session.roster.meters))
+    told = told_by(report, len(session.state.meters))
     orders, notes = {}, []
-    for meter, lines in zip(session.roster.meters, told.lists):
-        own = list(session.events[meter.address])
-        orders[meter.address], said = order_of(lines, own, f"meter {meter.address.hex()}")
+    for known, lines in zip(session.state.meters, told.lists):
+        address = known.commission.address
+        orders[address], said = order_of(lines, list(session.events[address]), f"meter {address.hex()}")
         notes += said
     strangers, said = order_of(told.lists[-1], list(session.strangers), "strangers")
     return orders, strangers, notes + said
 
 
-def wanted_of(roster: Roster, inputs: list[bytes], report: str) -> tuple[Run, list[str]]:
+def known_to(command: str, text: bytes) -> State:
+    """What `collect` reads of a roster, and `hear` and `continue` of a roster or a state."""
+    return state_of(read_roster(text)) if command == "collect" else read_state(text)
+
+
+def wanted_of(command: str, state: State, inputs: list[bytes], report: str) -> tuple[Run, list[str]]:
     """The run that the inputs and the orders of this report fix, and what is wrong with the orders."""
-    session = session_of(roster, inputs)
+    session = session_of(state, inputs)
     orders, strangers, notes = _orders(session, report)
     outputs = outputs_of(session, orders, strangers)
-    texts = {"report": outputs.report, "stderr": "", "next": outputs.next_roster, "readings": outputs.readings}
+    following = outputs.next_state if command == "continue" else outputs.next_roster
+    texts = {"report": outputs.report, "stderr": "", "next": following, "readings": outputs.readings}
     texts |= {f"tx{number}": sent for number, sent in enumerate(outputs.sent, 1)}
     over = next((number for number, it in enumerate(session.receivers, 1) if it.is_cut), None)
     if over is None:
@@ -101,12 +108,12 @@ def differences(wanted: Run, given: Run, most: int = 3) -> list[str]:
     return found
 
 
-def judged(roster: bytes, inputs: list[bytes], given: Run) -> list[str]:
-    """All that is wrong with a run over a roster and receivers' texts."""
+def judged(command: str, known: bytes, inputs: list[bytes], given: Run) -> list[str]:
+    """All that is wrong with a run of a command over a roster or a state and receivers' texts."""
     try:
-        commissioned = read_roster(roster)
+        state = known_to(command, known)
     except RosterFault as fault:
         nothing = dict.fromkeys(given.texts, "")
-        return differences(Run(ROSTER_FAULTY, nothing | {"stderr": f"wmbus: {fault}\n"}), given)
-    wanted, notes = wanted_of(commissioned, inputs, given.texts["report"])
+        return differences(Run(FAULTY, nothing | {"stderr": f"wmbus: {fault}\n"}), given)
+    wanted, notes = wanted_of(command, state, inputs, given.texts["report"])
     return notes + differences(wanted, given)

@@ -10,6 +10,7 @@ ELL_SHORT, ELL_LONG, ELL_OTHERS, AFL = 0x8C, 0x8E, (0x8D, 0x8F), 0x90
 ELL_SIZES = {ELL_SHORT: 3, ELL_LONG: 11}
 TPL_SIZES = {0x7A: 5, 0x8A: 5, 0x72: 13, 0x8B: 13}
 MORE, MCL, ML, MCR, MAC, KI = 0x4000, 0x2000, 0x1000, 0x0800, 0x0400, 0x0200
+UNUSED = 0x8100
 AFL_FIELDS = ((MCL, 1), (KI, 2), (MCR, 4), (MAC, 8), (ML, 2))
 
 
@@ -142,6 +143,12 @@ def read_afl(content: bytes) -> tuple[Afl, bytes]:
     if afl.is_fragment and afl.number == 0:
         raise LayerFault("fidzero")
     return afl, content[place:]
+
+
+def afl_bytes(afl: Afl) -> bytes:
+    """`afl_bytes`: the layer as it is sent, without the bits of FCL that say nothing."""
+    fields = b"".join(afl.fields.values())
+    return bytes([AFL, 2 + len(fields)]) + (afl.control & ~UNUSED).to_bytes(2, "little") + fields
 
 
 def is_misplaced(afl: Afl) -> bool:

@@ -3,6 +3,7 @@ from reference.ciphers import BLOCK, METER_CIPHER, METER_MAC, cbc_encrypted, cma
 from reference.frames import frame_a
 from reference.roster import Commission, Roster
 from reference.sessions import outputs_of, session_of
+from reference.states import state_of
 
 OWN = bytes.fromhex("9315010000000131")
 FACTOR, STEP, MASK = 6364136223846793005, 1442695040888963407, (1 << 64) - 1
@@ -65,7 +66,7 @@ def made_summary(meters: int, telegrams: int, seed: int) -> str:
     """`summary_text`, by hearing the session."""
     roster = Roster(OWN, meters_of(meters, seed))
     lines = _lines(roster.meters, telegrams)
-    session = session_of(roster, [_heard(lines, receiver) for receiver in range(RECEIVERS)])
+    session = session_of(state_of(roster), [_heard(lines, receiver) for receiver in range(RECEIVERS)])
     outputs_of(session, {address: list(events) for address, events in session.events.items()}, list(session.strangers))
     steps, highest = sum(len(it) for it in session.events.values()), sum(it.last or 0 for it in roster.meters)
     counted = sum(it.counts["lines"] for it in session.receivers)

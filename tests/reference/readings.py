@@ -2,7 +2,7 @@
 import json
 
 from reference.records import Listing, MakerData, Record, listing_of
-from reference.slots import Slot
+from reference.states import Start
 from reference.values import FUNCTIONS, unit_of, value_of
 
 
@@ -18,18 +18,18 @@ def _record_tree(item: Record | MakerData) -> dict[str, object]:
     }
 
 
-def _meter_tree(slot: Slot) -> dict[str, object]:
+def _meter_tree(known: Start) -> dict[str, object]:
     """`meter_tree`."""
-    reading = slot.last_reading
+    reading = known.reading
     listing = listing_of(reading.payload) if reading else Listing()
     return {
-        "address": slot.commission.address.hex(), "at": reading and reading.moment,
-        "counter": reading and reading.counter, "fault": listing.fault, "mode": slot.commission.mode,
+        "address": known.commission.address.hex(), "at": reading and reading.moment,
+        "counter": reading and reading.counter, "fault": listing.fault, "mode": known.commission.mode,
         "more": listing.more, "records": [_record_tree(it) for it in listing.items],
     }
 
 
-def readings_text(slots: list[Slot]) -> str:
+def readings_text(meters: list[Start]) -> str:
     """`readings_text`: the compact text of the tree whose members stand in the order of their names, and a newline."""
-    tree = {"meters": [_meter_tree(slot) for slot in slots]}
+    tree = {"meters": [_meter_tree(known) for known in meters]}
     return json.dumps(tree, sort_keys=True, separators=(",", ":")) + "\n"

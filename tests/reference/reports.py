@@ -45,14 +45,15 @@ def _pending(command: Command) -> str:
 
 
 def meter_lines(slot: Slot, steps: list[tuple[int, int, str]]) -> list[str]:
-    """`meter_text`: a meter's line, its steps, the records of its last reading, the commands that wait."""
-    it, last = slot.commission, "-" if slot.commission.last is None else slot.commission.last
-    counted = f"last {last} down {slot.commands.down} steps {len(steps)} readings {slot.readings}"
+    """`meter_text`: a meter's line, its steps, the records of the last reading stored here, the commands that wait."""
+    it, commands = slot.known.commission, slot.known.commands
+    last = "-" if it.last is None else it.last
+    counted = f"last {last} down {commands.down} steps {len(steps)} readings {slot.readings}"
     lines = [f"meter {it.address.hex()} {letters_of(it.address[:2])} mode {it.mode} {counted}"]
     lines += [f"step {receiver} {line} {words}" for receiver, line, words in steps]
-    if slot.last_reading:
-        lines += records_text(slot.last_reading.payload)
-    return lines + [_pending(command) for command in slot.commands.waiting]
+    if slot.last_stored:
+        lines += records_text(slot.last_stored.payload)
+    return lines + [_pending(command) for command in commands.waiting]
 
 
 def strangers_lines(strangers: list[tuple[int, int, bytes]]) -> list[str]:

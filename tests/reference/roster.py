@@ -13,8 +13,10 @@ HEADS = {b"wmbus-roster 1": 7, b"wmbus-roster 2": 8}
 class RosterFault(Exception):
     """The first faulty line of a roster and its cause."""
 
+    kind = "roster"
+
     def __init__(self, line: int, cause: str) -> None:
-        super().__init__(f"roster line {line} {cause}")
+        super().__init__(f"{self.kind} line {line} {cause}")
 
 
 @dataclass
@@ -58,7 +60,12 @@ def unhex(pattern: re.Pattern[bytes], text: bytes) -> bytes | None:
     return bytes.fromhex(text.decode()) if pattern.fullmatch(text) else None
 
 
-def _meter_of(fields: list[bytes], wanted: int) -> Commission | str:
+def told_of(lines: list[bytes]) -> list[tuple[int, bytes]]:
+    """The lines that aren't passed over, with their numbers."""
+    return [(number, line) for number, line in enumerate(lines, 1) if line and not line.startswith(b"#")]
+
+
+def meter_of(fields: list[bytes], wanted: int) -> Commission | str:
     """What a meter's line commissions, or the cause why it doesn't, the first of the table's."""
     if fields[0] != b"meter":
         return "kind"
@@ -86,7 +93,7 @@ def _meter_of(fields: list[bytes], wanted: int) -> Commission | str:
     return Commission(address, int(mode), key, other, last, down, ids)
 
 
-def _own_of(line: bytes) -> bytes | None:
+def own_of(line: bytes) -> bytes | None:
     """The collector's own address."""
     word, _, digits = line.partition(b" ")
     return unhex(ADDRESS, digits) if word == b"own" else None
@@ -97,17 +104,17 @@ def read_roster(text: bytes) -> Roster:
     if len(text) > LIMIT:
         raise RosterFault(0, "toolong")
     lines = lines_of(text)
-    told = [(number, line) for number, line in enumerate(lines, 1) if line and not line.startswith(b"#")]
+    told = told_of(lines)
     if told and told[0][1] not in HEADS:
         raise RosterFault(told[0][0], "head")
-    own = _own_of(told[1][1]) if len(told) > 1 else None
+    own = own_of(told[1][1]) if len(told) > 1 else None
     if len(told) < 2:
         raise RosterFault(len(lines) + 1, "missing")
     if own is None:
         raise RosterFault(told[1][0], "own")
     meters: dict[bytes, Commission] = {}
     for number, line in told[2:]:
-        meter = _meter_of(line.split(b" "), HEADS[told[0][1]])
+        meter = meter_of(line.split(b" "), HEADS[told[0][1]])
         if isinstance(meter, Commission) and meter.address in meters:
             meter = "same"
         if isinstance(meter, Commission) and len(meters) == MOST_METERS:
@@ -118,10 +125,18 @@ def read_roster(text: bytes) -> Roster:
     return Roster(own, list(meters.values()))
 
 
+def own_line(own: bytes) -> str:
+    """`own_text`."""
+    return f"own {own.hex()}"
+
+
+def meter_line(it: Commission) -> str:
+    """`meter_text`: a meter's line in version 2."""
+    other, last = it.other.hex() if it.other else "-", "-" if it.last is None else it.last
+    return f"meter {it.address.hex()} {it.mode} {it.key.hex()} {other} {last} {it.down} {it.ids}"
+
+
 def roster_text(roster: Roster) -> str:
     """`roster_text`: the text of a roster, in version 2."""
-    lines = ["wmbus-roster 2", f"own {roster.own.hex()}"]
-    for it in roster.meters:
-        other, last = it.other.hex() if it.other else "-", "-" if it.last is None else it.last
-        lines.append(f"meter {it.address.hex()} {it.mode} {it.key.hex()} {other} {last} {it.down} {it.ids}")
+    lines = ["wmbus-roster 2", own_line(roster.own), *map(meter_line, roster.meters)]
     return "".join(f"{line}\n" for line in lines)

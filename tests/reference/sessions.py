@@ -7,6 +7,7 @@ from reference.readings import readings_text
 from reference.reports import meter_lines, strangers_lines
 from reference.roster import Roster, roster_text
 from reference.slots import Slot, Telegram
+from reference.states import State, state_text
 
 Place = tuple[int, int]
 CLASSES = ("lines", "own", "strangers", "unframed", "bad")
@@ -30,7 +31,7 @@ class Receiver:
 class Session:
     """What the receivers heard: each meter's own lines by their places, and the strangers'."""
 
-    roster: Roster
+    state: State
     receivers: list[Receiver] = field(default_factory=list)
     events: dict[bytes, dict[Place, Telegram | Order]] = field(default_factory=dict)
     strangers: dict[Place, bytes] = field(default_factory=dict)
@@ -69,32 +70,33 @@ class Outputs:
 
     report: str
     next_roster: str
+    next_state: str
     readings: str
     sent: list[str]
 
 
-def session_of(roster: Roster, texts: list[bytes]) -> Session:
-    """A session over receivers' texts."""
-    session = Session(roster, events={meter.address: {} for meter in roster.meters})
+def session_of(state: State, texts: list[bytes]) -> Session:
+    """A session over receivers' texts, which begins from this state."""
+    session = Session(state, events={known.commission.address: {} for known in state.meters})
     for text in texts:
         session.hear(text)
     return session
 
 
 def outputs_of(session: Session, orders: dict[bytes, list[Place]], order_of_strangers: list[Place]) -> Outputs:
-    """The outputs where each meter's steps are made in its order."""
-    slots, parts = [], []
-    for meter in session.roster.meters:
-        slot, steps = Slot.of(session.roster.own, meter), []
-        for place in orders[meter.address]:
-            words, frame = slot.step(session.events[meter.address][place])
+    """The outputs where each meter's steps are made in its order; the state goes on to the session's end."""
+    own, meters, parts = session.state.own, session.state.meters, []
+    for known in meters:
+        slot, steps, address = Slot(own, known), [], known.commission.address
+        for place in orders[address]:
+            words, frame = slot.step(session.events[address][place])
             steps.append((*place, words))
             if frame is not None:
                 session.receivers[place[0] - 1].sent.append((place[1], frame))
-        slots.append(slot)
         parts += meter_lines(slot, steps)
     lines = ["wmbus-report 1"] + [it.line(number) for number, it in enumerate(session.receivers, 1)] + parts
     lines += strangers_lines([(*place, session.strangers[place]) for place in order_of_strangers]) + ["end"]
-    following = roster_text(Roster(session.roster.own, [slot.commission_now() for slot in slots]))
+    roster = roster_text(Roster(own, [known.commission_now() for known in meters]))
     sent = ["".join(f"D {frame.hex()}\n" for _, frame in sorted(it.sent)) for it in session.receivers]
-    return Outputs("".join(f"{line}\n" for line in lines), following, readings_text(slots), sent)
+    report = "".join(f"{line}\n" for line in lines)
+    return Outputs(report, roster, state_text(session.state), readings_text(meters), sent)

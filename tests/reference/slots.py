@@ -1,22 +1,13 @@
 """A meter's slot: what each event is answered, with the refusals in their order (`outcome`, `Standing`)."""
-from dataclasses import dataclass, field
+from dataclasses import dataclass
 
-from reference.commands import Commands, access_in
+from reference.commands import access_in
 from reference.downlinks import downlink
 from reference.fragments import Fragments
 from reference.layers import RESPONSES, UPLINKS, Layers
 from reference.lines import Order
 from reference.messages import Keys, Message, Refusal, open5, open7
-from reference.roster import Commission
-
-
-@dataclass(frozen=True)
-class Reading:
-    """A stored message: its counter or access number, its moment, its payload."""
-
-    counter: int
-    moment: int
-    payload: bytes
+from reference.states import Reading, Start
 
 
 @dataclass(frozen=True)
@@ -29,19 +20,12 @@ class Telegram:
 
 @dataclass
 class Slot:
-    """What is known of a commissioned meter, and the answers to its events in their order."""
+    """What is known of a commissioned meter now, the answers to its events in their order, and what this session stored."""
 
     own: bytes
-    commission: Commission
-    commands: Commands
-    fragments: Fragments = field(default_factory=Fragments)
+    known: Start
     readings: int = 0
-    last_reading: Reading | None = None
-
-    @staticmethod
-    def of(own: bytes, commission: Commission) -> "Slot":
-        """`fresh_start`: the slot of a meter of which only its commission is known."""
-        return Slot(own, commission, Commands(commission.ids, commission.down))
+    last_stored: Reading | None = None
 
     def step(self, event: Telegram | Order) -> tuple[str, bytes | None]:
         """`outcome`: the words of the answer, and the downlink that is sent."""
@@ -52,35 +36,29 @@ class Slot:
         except Refusal as refusal:
             return f"refused {refusal}", None
 
-    def commission_now(self) -> Commission:
-        """`commission_now`: as the next roster has it."""
-        it = self.commission
-        return Commission(it.address, it.mode, it.key, it.other, it.last, self.commands.down, self.commands.ids)
-
     def _order(self, order: Order) -> str:
         if order.letter == "T":
-            self.fragments.tick()
-            expired = self.commands.tick()
+            self.known.fragments.tick()
+            expired = self.known.commands.tick()
             return "ticked" if expired is None else f"ticked expired {expired}"
         if order.letter == "Q":
-            return f"queued {self.commands.put(order.content)}"
+            return f"queued {self.known.commands.put(order.content)}"
         if order.letter == "X":
-            self.commands.cancel(order.number)
+            self.known.commands.cancel(order.number)
             return f"cancelled {order.number}"
-        if self.commission.mode == 5:
+        if self.known.commission.mode == 5:
             raise Refusal("key5")
-        self.commission.other = order.content
+        self.known.commission.other = order.content
         return "rekeyed"
 
     def _telegram(self, telegram: Telegram) -> tuple[str, bytes | None]:
-        layers = telegram.layers
+        layers, it = telegram.layers, self.known.commission
         message = self._brought(layers)
         if message is None:
             return "part", None
-        keys = Keys(self.commission.address, self.commission.key, self.commission.other)
-        opened = (open5 if self.commission.mode == 5 else open7)(message, keys, self.commission.last)
+        opened = (open5 if it.mode == 5 else open7)(message, Keys(it.address, it.key, it.other), it.last)
         if layers.tpl is None:
-            self.fragments = Fragments()
+            self.known.fragments = Fragments()
         return self._stored(Reading(opened[0], telegram.moment, opened[1]), layers, access_in(layers, message.tpl))
 
     def _brought(self, layers: Layers) -> Message | None:
@@ -91,21 +69,21 @@ class Slot:
             raise Refusal(f"layers {layers.fault}")
         if layers.tpl:
             return Message(layers.tpl, layers.afl.fields if layers.afl else {})
-        if self.commission.mode == 5:
+        if self.known.commission.mode == 5:
             raise Refusal("part5")
-        self.fragments.hold(layers.afl, layers.piece)
-        return self.fragments.message(layers.link)
+        self.known.fragments.hold(layers.afl, layers.piece)
+        return self.known.fragments.message(layers.link)
 
     def _stored(self, reading: Reading, layers: Layers, access: int) -> tuple[str, bytes | None]:
-        self.commission.last = reading.counter
-        self.readings, self.last_reading = self.readings + 1, reading
+        it, commands = self.known.commission, self.known.commands
+        it.last, self.known.reading = reading.counter, reading
+        self.readings, self.last_stored = self.readings + 1, reading
         words = f"stored {reading.counter} {reading.moment} {reading.payload.hex() or '-'}"
-        confirmed = self.commands.confirm(layers.control in RESPONSES)
+        confirmed = commands.confirm(layers.control in RESPONSES)
         if confirmed is not None:
             words += f" confirmed {confirmed}"
-        command = self.commands.send(access)
+        command = commands.send(access)
         if command is None:
             return words, None
-        it = self.commission
-        sent = downlink(self.own, it.address, it.key, self.commands.down, command.payload)
-        return f"{words} sent {self.commands.down}", sent
+        sent = downlink(self.own, it.address, it.key, commands.down, command.payload)
+        return f"{words} sent {commands.down}", sent
