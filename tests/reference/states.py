@@ -152,9 +152,11 @@ def _read_more(meters: dict[bytes, Start], line: bytes) -> None:
 
 
 def read_state(text: bytes) -> State:
-    """`state_of`: the state of a text, or its first faulty line and cause; without a state's head it is a roster."""
+    """`state_of`: the state of a text, or its first faulty line and cause; without a state's head it is a roster.
+
+    Of a text that is too long the head isn't looked at, and it is named as a roster."""
     if len(text) > LIMIT:
-        raise StateFault(0, "toolong")
+        raise RosterFault(0, "toolong")
     lines = lines_of(text)
     told = iter(told_of(lines))
     if next(told, (0, b""))[1] != HEAD:
