@@ -96,7 +96,13 @@ fn assert_audit(rt: &impl Abort, alloc: Global, head: &str, printed: &str) -> Re
     };
     let fail = u64::from(fail == "1");
     let mut out = MemorySink::steady(alloc);
-    let status = audited(alloc, state_named(state)?, report_named(report)?, fail, &mut out)?;
+    let status = audited(
+        alloc,
+        state_named(state)?,
+        report_named(report)?,
+        fail,
+        &mut out,
+    )?;
     let status = format!(in alloc; " {status:?}")?;
     assert!(rt; head.ends_with(status.as_str()), "{head}: {status}");
     assert_eq!(rt; out.bytes(), printed.as_bytes(), "{head}");
