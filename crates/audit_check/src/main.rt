@@ -17,23 +17,24 @@ use std::fs::{File, Files};
 use std::process::ExitCode;
 
 const HELP: &str =
-    "audit_check: checks a printed session against the roster and what the receivers heard
+    "audit_check: checks a printed session against its state and what the receivers heard
 
-usage: audit_check ROSTER REPORT RX..
+usage: audit_check STATE REPORT RX..
        audit_check --help
        audit_check --version
 
-ROSTER and REPORT are the files of a session, RX.. its 1 to 16 receivers' files in
-their order. On the standard output stands `yes` where the report is just what a
-collector prints of them, each receiver heard to its end, in the order that the
-report tells; else `no` and the first cause:
-roster LINE CAUSE      the first faulty line of the roster
+STATE, which may be a roster, and REPORT are the files of a session, RX.. its 1 to
+16 receivers' files in their order. On the standard output stands `yes` where the
+report is just what a collector prints of them, each receiver heard to its end, in
+the order that the report tells; else `no` and the first cause:
+roster LINE CAUSE      STATE is no state, and this is its first faulty line as a roster
+state LINE CAUSE       the first faulty line of the state
 over W                 receiver W goes past its limit of lines or bytes
 form LINE              this line of the report is out of form
 order LIST PLACE       this list, from 0, isn't the order of its lines
 text PLACE             the report differs from the session's text at this byte
 
-exit status: 0 yes, 12 no, 2 faulty words, 4 roster not read, 5 receiver not
+exit status: 0 yes, 12 no, 2 faulty words, 4 state not read, 5 receiver not
 read, 7 answer not written, 8 report too long, 10 no memory, 11 a file that
 can't be opened, 13 report not read
 
@@ -78,7 +79,7 @@ fn cannot_open(rt: &impl Eprint) -> ExitCode
 fn answer<R: Eprint + AllocGlobal, S: Source, K: Sink>(
     rt: &R,
     command: &[String],
-    roster: &mut S,
+    state: &mut S,
     report: &mut S,
     inputs: &mut Vec<S>,
     out: &mut K,
@@ -89,14 +90,14 @@ fn answer<R: Eprint + AllocGlobal, S: Source, K: Sink>(
       sources_tell = S.tells;
       sinks_tell = K.tells;
       words = map string_bytes command.now;
-      roster = source_change S.Source roster.old roster.new;
+      state = source_change S.Source state.old state.new;
       report = source_change S.Source report.old report.new;
       inputs = source_changes S.Source inputs.old.items inputs.new.items;
       out = sink_change K.Sink out.old out.new;
       status = status;
     }) }
 {
-    let status = audit_run(rt.alloc(), command, roster, report, inputs, out);
+    let status = audit_run(rt.alloc(), command, state, report, inputs, out);
     end(rt, status)
 }
 
@@ -135,7 +136,7 @@ fn perform<R: Print + Eprint + Files<File = File> + AllocGlobal>(
     let Some(named) = files_named(command) else {
         return end(rt, AuditStatus::Words);
     };
-    let Ok(roster) = File::open(rt, named.roster) else {
+    let Ok(state) = File::open(rt, named.state) else {
         return cannot_open(rt);
     };
     let Ok(report) = File::open(rt, named.report) else {
@@ -145,8 +146,8 @@ fn perform<R: Print + Eprint + Files<File = File> + AllocGlobal>(
         Ok(inputs) => inputs,
         Err(exit) => return exit,
     };
-    let (mut roster, mut report) = (StdSource::file(roster), StdSource::file(report));
-    answer(rt, command, &mut roster, &mut report, &mut inputs, &mut out)
+    let (mut state, mut report) = (StdSource::file(state), StdSource::file(report));
+    answer(rt, command, &mut state, &mut report, &mut inputs, &mut out)
 }
 
 // What it means that the words can't be had.

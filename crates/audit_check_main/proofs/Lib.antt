@@ -1,4 +1,3 @@
-pub mod Begun
 pub mod Claimed
 pub mod Compared
 pub mod ComparedLater

@@ -18,8 +18,8 @@ use Rattle.receivers.specs.Session.{heard_by, lines_for, lines_of_strangers, not
 use Rattle.receivers.proofs.OrderLaws.{one_slot, one_strangers, in_order}
 use Rattle.report_text.specs.Orders.{orders, lines_in}
 use Rattle.report_text.specs.OrdersLaw.{orders_of}
-use Rattle.audit_check_main.specs.Known.{Known, known_of}
-use Rattle.roster_file.specs.declared.roster.RosterFault.{RosterFault}
+use Rattle.state_file.specs.declared.fault.StateFault.{StateFault}
+use Rattle.state_file.specs.Whole.{Known, state_of}
 use Rattle.audit_check_main.specs.declared.verdict.Cause.{Cause}
 use Rattle.audit_check_main.specs.declared.verdict.Cause.TheVariants as causes
 use Rattle.audit_check_main.specs.declared.verdict.Verdict.{Verdict}
@@ -267,22 +267,22 @@ one_difference text other p q h k = by_order ⊥ p q (not_nearer text other p q 
 
 -- ---- one verdict
 
-same_roster : (a : Audited) (r r' : Known) → known_of a.roster ≡ Ok r → known_of a.roster ≡ Ok r' → r' ≡ r
-same_roster a r r' h k = cc
+same_state : (a : Audited) (r r' : Known) → state_of a.state ≡ Ok r → state_of a.state ≡ Ok r' → r' ≡ r
+same_state a r r' h k = cc
 
 module _ (a : Audited) where
   abbrev Over : ℕ → Type 0
   Over w = IsFirst (λ input. is_over input ≡ false) (λ input. is_over input ≡ true) w a.inputs
 
-  no_roster : {f : RosterFault} (r : Known) → known_of a.roster ≡ Err f → known_of a.roster ≡ Ok r → ⊥
-  no_roster r h k = absurd cc
+  no_state : {f : StateFault} (r : Known) → state_of a.state ≡ Err f → state_of a.state ≡ Ok r → ⊥
+  no_state r h k = absurd cc
 
   over_not : (w : ℕ) (r : Known) → Over w → IsReadable a r → ⊥
   over_not w r h k = until_not (λ input. is_over input ≡ false) (λ input. is_over input ≡ true) not_both 1 w a.inputs h k.within
 
   form_not : (line : ℕ) (r r' : Known) → IsReadable a r → IsFirstFaulty (length r.starts) (lines_in a.report) line → IsInForm a r' → ⊥
   form_not line r r' read h k =
-      let same = same_roster a r r' read.roster_is k.readable.roster_is in
+      let same = same_state a r r' read.state_is k.readable.state_is in
       faulty_not (length r.starts) line (lines_in a.report) h (subst (λ e. AreInForm (length e.starts) (reverse (lines_in a.report)))
       same k.in_form)
 
@@ -290,13 +290,13 @@ module _ (a : Audited) where
       → IsFirstWrong (wanted r.starts (heard_of a)) (lists_printed (length r.starts) (orders a.report)) list place → IsOrdered a r' world
       → ⊥
   order_not list place r r' world form h k =
-      let same = same_roster a r r' form.readable.roster_is k.form.readable.roster_is in
+      let same = same_state a r r' form.readable.state_is k.form.readable.state_is in
       wrong_not_ordered a r world list place h (subst (λ e. IsOrdered a e world) same k)
 
   same_text : (r r' : Known) (world world' : WorldView) → IsOrdered a r world → IsOrdered a r' world'
       → report_of a r' world' ≡ report_of a r world
   same_text r r' world world' h k =
-      let same = same_roster a r r' h.form.readable.roster_is k.form.readable.roster_is in
+      let same = same_state a r r' h.form.readable.state_is k.form.readable.state_is in
       let worlds = one_world a r world' world (subst (λ e. IsOrdered a e world') same k) h in
       (λ i. report_of a (same i) (worlds i))
 
@@ -306,7 +306,8 @@ module _ (a : Audited) where
       h.differs.differs (ap (λ t. slice_get t place) same)
 
   not_faithful : (c : Cause) → IsCause a c → IsFaithful a → ⊥
-  not_faithful (causes.Roster line cause) h k = no_roster k.known h k.ordered.form.readable.roster_is
+  not_faithful (causes.Roster line cause) h k = no_state k.known h k.ordered.form.readable.state_is
+  not_faithful (causes.State line cause) h k = no_state k.known h k.ordered.form.readable.state_is
   not_faithful (causes.Over w) h k = over_not w k.known h.2 k.ordered.form.readable
   not_faithful (causes.Form line) h k = form_not line h.0 k.known h.1 h.2 k.ordered.form
   not_faithful (causes.Order list place) h k = order_not list place h.0 k.known k.world h.1 h.2 k.ordered
@@ -314,7 +315,7 @@ module _ (a : Audited) where
 
   one_order : (l p m q : ℕ) → IsCause a (causes.Order l p) → IsCause a (causes.Order m q) → causes.Order l p ≡ causes.Order m q
   one_order l p m q h k =
-      let same = same_roster a h.0 k.0 h.1.readable.roster_is k.1.readable.roster_is in
+      let same = same_state a h.0 k.0 h.1.readable.state_is k.1.readable.state_is in
       let k' = subst (λ (e : Known). IsFirstWrong (wanted e.starts (heard_of a)) (lists_printed (length e.starts) (orders a.report))
       m q) same k.2 in
       let lists = one_list (wanted h.0.starts (heard_of a)) (lists_printed (length h.0.starts) (orders a.report)) l m p q h.2 k' in
@@ -330,33 +331,44 @@ module _ (a : Audited) where
 
   one_form : (l m : ℕ) → IsCause a (causes.Form l) → IsCause a (causes.Form m) → causes.Form l ≡ causes.Form m
   one_form l m h k =
-      let same = same_roster a h.0 k.0 h.1.roster_is k.1.roster_is in
+      let same = same_state a h.0 k.0 h.1.state_is k.1.state_is in
       ap causes.Form (one_faulty (length h.0.starts) l m (lines_in a.report) h.2
       (subst (λ (e : Known). IsFirstFaulty (length e.starts) (lines_in a.report) m) same k.2))
 
   one_cause : (c d : Cause) → IsCause a c → IsCause a d → c ≡ d
   one_cause (causes.Roster line cause) (causes.Roster line' cause') h k = cc
-  one_cause (causes.Roster line cause) (causes.Over w) h k = absurd (no_roster k.0 h k.1)
-  one_cause (causes.Roster line cause) (causes.Form l) h k = absurd (no_roster k.0 h k.1.roster_is)
-  one_cause (causes.Roster line cause) (causes.Order l p) h k = absurd (no_roster k.0 h k.1.readable.roster_is)
-  one_cause (causes.Roster line cause) (causes.Text p) h k = absurd (no_roster k.known h k.ordered.form.readable.roster_is)
-  one_cause (causes.Over w) (causes.Roster line cause) h k = absurd (no_roster h.0 k h.1)
+  one_cause (causes.Roster line cause) (causes.State line' cause') h k = absurd cc
+  one_cause (causes.Roster line cause) (causes.Over w) h k = absurd (no_state k.0 h k.1)
+  one_cause (causes.Roster line cause) (causes.Form l) h k = absurd (no_state k.0 h k.1.state_is)
+  one_cause (causes.Roster line cause) (causes.Order l p) h k = absurd (no_state k.0 h k.1.readable.state_is)
+  one_cause (causes.Roster line cause) (causes.Text p) h k = absurd (no_state k.known h k.ordered.form.readable.state_is)
+  one_cause (causes.State line cause) (causes.Roster line' cause') h k = absurd cc
+  one_cause (causes.State line cause) (causes.State line' cause') h k = cc
+  one_cause (causes.State line cause) (causes.Over w) h k = absurd (no_state k.0 h k.1)
+  one_cause (causes.State line cause) (causes.Form l) h k = absurd (no_state k.0 h k.1.state_is)
+  one_cause (causes.State line cause) (causes.Order l p) h k = absurd (no_state k.0 h k.1.readable.state_is)
+  one_cause (causes.State line cause) (causes.Text p) h k = absurd (no_state k.known h k.ordered.form.readable.state_is)
+  one_cause (causes.Over w) (causes.Roster line cause) h k = absurd (no_state h.0 k h.1)
+  one_cause (causes.Over w) (causes.State line cause) h k = absurd (no_state h.0 k h.1)
   one_cause (causes.Over w) (causes.Over v) h k =
       ap causes.Over (until_one (λ input. is_over input ≡ false) (λ input. is_over input ≡ true) not_both 1 w v a.inputs h.2 k.2)
   one_cause (causes.Over w) (causes.Form l) h k = absurd (over_not w k.0 h.2 k.1)
   one_cause (causes.Over w) (causes.Order l p) h k = absurd (over_not w k.0 h.2 k.1.readable)
   one_cause (causes.Over w) (causes.Text p) h k = absurd (over_not w k.known h.2 k.ordered.form.readable)
-  one_cause (causes.Form l) (causes.Roster line cause) h k = absurd (no_roster h.0 k h.1.roster_is)
+  one_cause (causes.Form l) (causes.Roster line cause) h k = absurd (no_state h.0 k h.1.state_is)
+  one_cause (causes.Form l) (causes.State line cause) h k = absurd (no_state h.0 k h.1.state_is)
   one_cause (causes.Form l) (causes.Over w) h k = absurd (over_not w h.0 k.2 h.1)
   one_cause (causes.Form l) (causes.Form m) h k = one_form l m h k
   one_cause (causes.Form l) (causes.Order m p) h k = absurd (form_not l h.0 k.0 h.1 h.2 k.1)
   one_cause (causes.Form l) (causes.Text p) h k = absurd (form_not l h.0 k.known h.1 h.2 k.ordered.form)
-  one_cause (causes.Order l p) (causes.Roster line cause) h k = absurd (no_roster h.0 k h.1.readable.roster_is)
+  one_cause (causes.Order l p) (causes.Roster line cause) h k = absurd (no_state h.0 k h.1.readable.state_is)
+  one_cause (causes.Order l p) (causes.State line cause) h k = absurd (no_state h.0 k h.1.readable.state_is)
   one_cause (causes.Order l p) (causes.Over w) h k = absurd (over_not w h.0 k.2 h.1.readable)
   one_cause (causes.Order l p) (causes.Form m) h k = absurd (form_not m k.0 h.0 k.1 k.2 h.1)
   one_cause (causes.Order l p) (causes.Order m q) h k = one_order l p m q h k
   one_cause (causes.Order l p) (causes.Text q) h k = absurd (order_not l p h.0 k.known k.world h.1 h.2 k.ordered)
-  one_cause (causes.Text p) (causes.Roster line cause) h k = absurd (no_roster h.known k h.ordered.form.readable.roster_is)
+  one_cause (causes.Text p) (causes.Roster line cause) h k = absurd (no_state h.known k h.ordered.form.readable.state_is)
+  one_cause (causes.Text p) (causes.State line cause) h k = absurd (no_state h.known k h.ordered.form.readable.state_is)
   one_cause (causes.Text p) (causes.Over w) h k = absurd (over_not w h.known k.2 h.ordered.form.readable)
   one_cause (causes.Text p) (causes.Form m) h k = absurd (form_not m k.0 h.known k.1 k.2 h.ordered.form)
   one_cause (causes.Text p) (causes.Order m q) h k = absurd (order_not m q k.0 h.known h.world k.1 k.2 h.ordered)

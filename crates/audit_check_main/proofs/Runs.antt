@@ -35,7 +35,7 @@ pub read_long_of : (most : ℕ) (source : Change SourceShown) (bytes : List ℕ)
     → most < length source.before.left
 read_long_of most source bytes h long = let whole = ap length h.moved.front ∙ length-append bytes source.now.left in omega arith
 
-module _ (sources_tell sinks_tell : Bool) (words : List (List ℕ)) (roster report : Change SourceShown) (inputs : List (Change SourceShown))
+module _ (sources_tell sinks_tell : Bool) (words : List (List ℕ)) (state report : Change SourceShown) (inputs : List (Change SourceShown))
     (out : Change SinkShown) where
   abbrev pub run_with : AuditStatus → Run
   run_with status =
@@ -43,7 +43,7 @@ module _ (sources_tell sinks_tell : Bool) (words : List (List ℕ)) (roster repo
         sources_tell = sources_tell;
         sinks_tell = sinks_tell;
         words = words;
-        roster = roster;
+        state = state;
         report = report;
         inputs = inputs;
         out = out;
@@ -51,7 +51,7 @@ module _ (sources_tell sinks_tell : Bool) (words : List (List ℕ)) (roster repo
       }
 
   abbrev pub Keeps : Type 0
-  Keeps = IsTrue sources_tell → LosesNothing roster × LosesNothing report × Each LosesNothing inputs
+  Keeps = IsTrue sources_tell → LosesNothing state × LosesNothing report × Each LosesNothing inputs
 
   abbrev pub IsShort : Type 0
   IsShort = IsTrue sources_tell → length report.before.left ≤ 1073741824
@@ -66,12 +66,12 @@ module _ (sources_tell sinks_tell : Bool) (words : List (List ℕ)) (roster repo
     silent = λ h. silent;
   }
 
-  pub run_roster : are_files words ≡ true → ReadFailed roster → Keeps → IsSilent out → IsRun (run_with statuses.ReadRoster)
-  run_roster files failed keeps silent = record {
+  pub run_state : are_files words ≡ true → ReadFailed state → Keeps → IsSilent out → IsRun (run_with statuses.ReadState)
+  run_state files failed keeps silent = record {
     caused = failed;
     refused = λ h. absurd (not_both (are_files words) files h);
     too_long = λ t right long. tt;
-    complete = λ t f. absurd (f.roster_steady failed);
+    complete = λ t f. absurd (f.state_steady failed);
     no_loss = keeps;
     silent = λ h. silent;
   }

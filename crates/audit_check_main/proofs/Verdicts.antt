@@ -22,12 +22,12 @@ use Rattle.report_text.specs.Orders.{Orders, orders, lines_in, pair_in, meter_he
 use Rattle.report_text.specs.Orders as text
 use Rattle.report_text.specs.OrdersLaw.{orders_of}
 use Rattle.report_text.specs.Report.{report_text}
-use Rattle.audit_check_main.specs.Known.{Known, known_of}
+use Rattle.state_file.specs.Whole.{Known, state_of}
 use Rattle.audit_check_main.specs.declared.verdict.Cause.TheVariants as causes
 use Rattle.audit_check_main.specs.declared.verdict.Verdict.{Verdict}
 use Rattle.audit_check_main.specs.declared.verdict.Verdict.TheVariants.{Yes, No}
 use Rattle.audit_check_main.specs.Audit.{Audited, told_in, heard_out, report_of, IsReadable, IsInForm, IsOrdered, IsVerdict}
-use Rattle.audit_check_main.specs.Auditing.{IsCompared, IsStepped}
+use Rattle.audit_check_main.specs.Auditing.{IsCompared, IsStepped, IsVerdictBy}
 use Rattle.audit_check_main.specs.Printing.{end_of}
 use Rattle.audit_check_main.specs.Difference.{DiffersAt}
 use Rattle.audit_check_main.specs.Hearing.{HeardInput, heard_input, tells, no_input, numbers_in_list}
@@ -210,13 +210,13 @@ list_short n report k =
 
 -- ---- verdicts
 
-module _ (r : Known) (text report : List ℕ) (inputs : List (List ℕ)) (roster_is : known_of text ≡ Ok r)
+module _ (r : Known) (text report : List ℕ) (inputs : List (List ℕ)) (state_is : state_of text ≡ Ok r)
     (within : Each (λ input. is_over input ≡ false) inputs) where
   abbrev audited : Audited
-  audited = record { roster = text; report = report; inputs = inputs }
+  audited = record { state = text; report = report; inputs = inputs }
 
   readable : IsReadable audited r
-  readable = record { roster_is = roster_is; within = within }
+  readable = record { state_is = state_is; within = within }
 
   module _ (in_form : AreInForm (length r.starts) (reverse (lines_in report))) (lists : List (List (ℕ × ℕ)))
       (lists_are : lists ≡ lists_printed (length r.starts) (orders report)) where
@@ -276,6 +276,7 @@ module _ (r : Known) (text report : List ℕ) (inputs : List (List ℕ)) (roster
       compared_is (No (causes.Text place)) h =
           record { known = r; world = world; ordered = ordered; differs = subst (λ t. DiffersAt place report t) text_is h }
       compared_is (No (causes.Roster line cause)) h = absurd h
+      compared_is (No (causes.State line cause)) h = absurd h
       compared_is (No (causes.Over w)) h = absurd h
       compared_is (No (causes.Form line)) h = absurd h
       compared_is (No (causes.Order list place)) h = absurd h
@@ -292,8 +293,17 @@ module _ (r : Known) (text report : List ℕ) (inputs : List (List ℕ)) (roster
         (subst (λ k. IsStepped own meters k lists report verdict) heard_is h.1)) in
         compared_is there.slots there.strangers there.so there.noted verdict there.compared
 
--- the verdict of each roster's text
+-- the verdict of each state's text
 pub for_each_text : {E T : Type 0} {Q : T → Type 0} (result : Result Verdict E) (P : T → Verdict → Type 0)
     → ((t : T) → Q t → IfOk result (P t)) → IfOk result (λ v. (t : T) → Q t → P t v)
 for_each_text (Err e) P h = tt
 for_each_text (Ok v) P h = h
+
+-- the verdict on the text of a state that was read
+pub verdict_by : {E : Type 0} (result : Result Verdict E) (s : Known) (own : Address) (starts : List Start) (text report : List ℕ)
+    (inputs : List (List ℕ)) → own ≡ s.own → starts ≡ s.starts → state_of text ≡ Ok s
+    → IfOk result (IsVerdictBy (record { own = own; starts = starts }) report inputs)
+    → IfOk result (IsVerdict (record { state = text; report = report; inputs = inputs }))
+verdict_by (Err e) s own starts text report inputs own_is starts_are found h = tt
+verdict_by (Ok v) s own starts text report inputs own_is starts_are found h =
+    h text (found ∙ (λ i. Ok (record { own = sym own_is i; starts = sym starts_are i })))

@@ -13,8 +13,8 @@ use Rattle.report_text.specs.declared.lent.ReceiverEnd.{ReceiverEnd}
 use Rattle.report_text.specs.Orders.{orders, lines_in}
 use Rattle.report_text.specs.OrdersLaw.{orders_of}
 use Rattle.report_text.specs.Report.{report_text}
-use Rattle.audit_check_main.specs.Known.{Known, known_of}
-use Rattle.roster_file.specs.declared.roster.RosterFault.TheVariants.{Line}
+use Rattle.state_file.specs.declared.fault.StateFault.TheVariants as faults
+use Rattle.state_file.specs.Whole.{Known, state_of}
 use Rattle.audit_check_main.specs.declared.verdict.Cause.{Cause}
 use Rattle.audit_check_main.specs.declared.verdict.Cause.TheVariants as causes
 use Rattle.audit_check_main.specs.declared.verdict.Verdict.{Verdict}
@@ -23,9 +23,9 @@ use Rattle.audit_check_main.specs.Lists.{AreInForm, IsFirstFaulty, lists_printed
 use Rattle.audit_check_main.specs.Order.{wanted, IsFirstWrong}
 use Rattle.audit_check_main.specs.Difference.{DiffersAt}
 
--- the bytes that are looked at: the roster, the report, and what each receiver heard
+-- the bytes that are looked at: the state from which the session began, which may be a roster, the report, and what each receiver heard
 pub record Audited : Type 0 where
-  pub roster : List ℕ
+  pub state : List ℕ
   pub report : List ℕ
   pub inputs : List (List ℕ)
 
@@ -48,9 +48,9 @@ report_of a r world = report_text (map (heard_out (map (λ c. c.address) r.start
 
 -- ---- one stage after another
 
--- the roster's bytes are one, and no input goes past the limits
+-- the state's bytes are one, and no input goes past the limits
 pub record IsReadable (a : Audited) (r : Known) : Type 0 where
-  pub roster_is : known_of a.roster ≡ Ok r
+  pub state_is : state_of a.state ≡ Ok r
   pub within : Each (λ input. is_over input ≡ false) a.inputs
 
 -- and each line of the report that belongs to a list stands in its own
@@ -83,8 +83,9 @@ pub record IsUnfaithfulAt (place : ℕ) (a : Audited) : Type 0 where
 
 -- the first cause of a `no`: each stands only where none of those before it does
 abbrev pub IsCause : Audited → Cause → Type 0
-IsCause a (causes.Roster line cause) = known_of a.roster ≡ Err (Line line cause)
-IsCause a (causes.Over w) = (r : Known) × (known_of a.roster ≡ Ok r)
+IsCause a (causes.Roster line cause) = state_of a.state ≡ Err (faults.Roster line cause)
+IsCause a (causes.State line cause) = state_of a.state ≡ Err (faults.Line line cause)
+IsCause a (causes.Over w) = (r : Known) × (state_of a.state ≡ Ok r)
     × IsFirst (λ input. is_over input ≡ false) (λ input. is_over input ≡ true) w a.inputs
 IsCause a (causes.Form line) = (r : Known) × IsReadable a r × IsFirstFaulty (length r.starts) (lines_in a.report) line
 IsCause a (causes.Order list place) = (r : Known) × IsInForm a r

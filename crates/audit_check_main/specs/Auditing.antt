@@ -2,14 +2,14 @@
 use Rattle.std.specs.Prelude.{ℕ, ◌≡◌, ◌<◌, ◌≤◌, ◌^◌, false, List, [], map, length, reverse, slice_index_or, Ok}
 use Rattle.outer_io.specs.Each.{Each}
 use Rattle.line_reader.specs.Lines.{is_over}
+use Rattle.meter_address.specs.Address.{AreApart}
 use Rattle.meter_address.specs.declared.address.Address.{Address}
 use Rattle.meter_slots.specs.Journal.{Start, SlotView}
 use Rattle.stranger_ring.specs.declared.strangers.Heard.{Heard}
 use Rattle.receivers.specs.Orders.{AreOrderedStrangers}
 use Rattle.report_text.specs.Orders.{lines_in, orders}
 use Rattle.report_text.specs.Report.{report_text}
-use Rattle.meter_address.specs.Address.{AreApart}
-use Rattle.audit_check_main.specs.Known.{Known, known_of}
+use Rattle.state_file.specs.Whole.{Known, state_of}
 use Rattle.audit_check_main.specs.declared.verdict.Cause.TheVariants as causes
 use Rattle.audit_check_main.specs.declared.verdict.Verdict.{Verdict}
 use Rattle.audit_check_main.specs.declared.verdict.Verdict.TheVariants.{Yes, No}
@@ -44,7 +44,7 @@ pub record AreListsRead (r : Known) (report : List ℕ) (inputs : List (List ℕ
   pub in_form : AreInForm (length r.starts) (reverse (lines_in report))
   pub lists_are : lists ≡ lists_printed (length r.starts) (orders report)
 
--- the verdict on a report by each file that says this of the meters
+-- the verdict on a report by each text that says this of the meters
 abbrev pub IsVerdictBy : Known → (report : List ℕ) → (inputs : List (List ℕ)) → Verdict → Type 0
 IsVerdictBy r report inputs verdict =
-    (text : List ℕ) → known_of text ≡ Ok r → IsVerdict (record { roster = text; report = report; inputs = inputs }) verdict
+    (text : List ℕ) → state_of text ≡ Ok r → IsVerdict (record { state = text; report = report; inputs = inputs }) verdict

@@ -6,7 +6,6 @@ pub mod Difference
 pub mod FormLaw
 pub mod Hearing
 pub mod Kept
-pub mod Known
 pub mod Lists
 pub mod MeterSteps
 pub mod Order

@@ -18,7 +18,7 @@ pub record Run : Type 0 where
   pub sources_tell : Bool
   pub sinks_tell : Bool
   pub words : List (List ℕ)
-  pub roster : Change SourceShown
+  pub state : Change SourceShown
   pub report : Change SourceShown
   pub inputs : List (Change SourceShown)
   pub out : Change SinkShown
@@ -30,7 +30,7 @@ source_changes s [] news = []
 source_changes s (old ∷ olds) [] = []
 source_changes s (old ∷ olds) (new ∷ news) = source_change s old new ∷ source_changes s olds news
 
--- the words are a roster, a report, and 1 to 16 inputs
+-- the words are a state, a report, and 1 to 16 inputs
 abbrev pub are_files : List (List ℕ) → Bool
 are_files words = nat_le 3 (length words) && nat_le (length words) 18
 
@@ -41,11 +41,11 @@ pub record IsReadPast (most : ℕ) (source : Change SourceShown) (bytes : List �
   pub moved : Moves bytes source.before.taken source.before.left source.now.taken source.now.left
   pub ended : length bytes ≤ most → source.now.left ≡ []
 
--- The roster was read to its end or past 1,048,576 bytes, the report to its end, each input to its end or past 67,108,864 bytes, which
+-- The state was read to its end or past 134,217,728 bytes, the report to its end, each input to its end or past 67,108,864 bytes, which
 -- is over a receiver's limit, and this is the verdict on just these bytes.
 pub record HasVerdict (run : Run) (verdict : Verdict) : Type 0 where
   pub read : Audited
-  pub roster : IsReadPast 1048576 run.roster read.roster
+  pub state : IsReadPast 134217728 run.state read.state
   pub report : IsReadPast 1073741824 run.report read.report
   pub short : length read.report ≤ 1073741824
   pub inputs : EachWith (IsReadPast 67108864) run.inputs read.inputs
@@ -69,7 +69,7 @@ abbrev pub IsCausedBy : Run → AuditStatus → Type 0
 IsCausedBy run statuses.Yes = IsAnswered run Yes
 IsCausedBy run (statuses.No cause) = IsAnswered run (No cause)
 IsCausedBy run statuses.Words = are_files run.words ≡ false
-IsCausedBy run statuses.ReadRoster = ReadFailed run.roster
+IsCausedBy run statuses.ReadState = ReadFailed run.state
 IsCausedBy run statuses.ReadReport = ReadFailed run.report
 IsCausedBy run statuses.LongReport = IsTrue run.sources_tell → 1073741824 < length run.report.before.left
 IsCausedBy run (statuses.Read w) = IsFirst (λ source. Unit {0}) ReadFailed w run.inputs
@@ -93,7 +93,7 @@ IsDone _ = ⊥
 -- a report past the limit is refused, unless something before it can't be read or there is no memory
 abbrev pub IsTooLong : AuditStatus → Type 0
 IsTooLong statuses.LongReport = Unit {0}
-IsTooLong statuses.ReadRoster = Unit {0}
+IsTooLong statuses.ReadState = Unit {0}
 IsTooLong statuses.ReadReport = Unit {0}
 IsTooLong statuses.Memory = Unit {0}
 IsTooLong _ = ⊥
@@ -102,7 +102,7 @@ IsTooLong _ = ⊥
 pub record IsFaultless (run : Run) : Type 0 where
   pub words : are_files run.words ≡ true
   pub short : length run.report.before.left ≤ 1073741824
-  pub roster_steady : ReadFailed run.roster → ⊥
+  pub state_steady : ReadFailed run.state → ⊥
   pub report_steady : ReadFailed run.report → ⊥
   pub inputs_steady : Each (λ source. ReadFailed source → ⊥) run.inputs
   pub out_steady : WriteFailed run.out → ⊥
@@ -117,5 +117,5 @@ pub record IsRun (run : Run) : Type 0 where
   pub too_long : IsTrue run.sources_tell → are_files run.words ≡ true → 1073741824 < length run.report.before.left → IsTooLong run.status
   pub complete : IsTrue run.sources_tell → IsFaultless run → IsDone run.status
   -- whatever happens no byte is lost, and nothing is written but a verdict
-  pub no_loss : IsTrue run.sources_tell → LosesNothing run.roster × LosesNothing run.report × Each LosesNothing run.inputs
+  pub no_loss : IsTrue run.sources_tell → LosesNothing run.state × LosesNothing run.report × Each LosesNothing run.inputs
   pub silent : writes run.status ≡ false → IsSilent run.out

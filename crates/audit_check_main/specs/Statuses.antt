@@ -10,7 +10,7 @@ abbrev pub code_of : AuditStatus → ℕ
 code_of statuses.Yes = 0
 code_of (statuses.No cause) = 12
 code_of statuses.Words = 2
-code_of statuses.ReadRoster = 4
+code_of statuses.ReadState = 4
 code_of statuses.ReadReport = 13
 code_of statuses.LongReport = 8
 code_of (statuses.Read w) = 5

@@ -3,7 +3,6 @@ ghost use Rattle.std.specs.Prelude.{◌≡◌, ◌<◌, ◌≤◌, ◌+◌, ◌^
 ghost use Rattle.outer_io.specs.Each.{Each, IsFirst};
 ghost use Rattle.line_reader.specs.Lines.{is_over};
 ghost use Rattle.report_text.specs.Orders.{lines_in};
-ghost use Rattle.meter_slots.specs.Journal.{fresh_start};
 ghost use Rattle.audit_check_main.specs.Audit.{IsVerdict};
 ghost use Rattle.meter_address.specs.Address.{AreApart};
 ghost use Rattle.audit_check_main.specs.Auditing.{AreListsRead, IsStepped, IsVerdictBy};
@@ -19,10 +18,10 @@ use crate::printed::Order;
 use crate::printing::put_session;
 use crate::stepping::Unmade;
 use crate::verdict::{Cause, Verdict};
-use meter_address::{Address, Commission};
+use meter_address::Address;
 use meter_slots::{Directory, MeterStart, addresses_of};
 use outer_io::Memory;
-use roster_file::{RosterFault, read_roster};
+use state_file::{StateFault, read_state};
 use std::alloc::Global;
 
 // The first input, from 1, that goes past the limits.
@@ -37,17 +36,6 @@ fn first_over(inputs: &[Input]) -> Option<u32>
         }
     }
     None
-}
-
-// What is known of the meters of a roster.
-fn starts_of(alloc: Global, meters: &[Commission]) -> Result<Vec<MeterStart>, Memory>
-    ensures { IfOk result (λ starts. starts.items ≡ map fresh_start meters.now) }
-{
-    let mut starts = Vec::new(alloc);
-    for place in 0..meters.len() {
-        starts.push(MeterStart::new(meters[place]))?;
-    }
-    Ok(starts)
 }
 
 // The directory of the meters.
@@ -150,47 +138,46 @@ fn audit_readable(
 // The verdict on a report.
 fn verdict_on(
     alloc: Global,
-    roster: &[u8],
+    state: &[u8],
     report: &[u8],
     inputs: &[Input],
 ) -> Result<Verdict, Memory>
     requires lines { length (lines_in report.now) < 2 ^ 32 }
     requires few { length inputs.now < 2 ^ 32 }
-    ensures verdict { IfOk result (IsVerdict (record { roster = roster.now; report = report.now; inputs = inputs.now })) }
+    ensures verdict { IfOk result (IsVerdict (record { state = state.now; report = report.now; inputs = inputs.now })) }
 {
-    let roster = match read_roster(alloc, roster) {
-        Ok(roster) => roster,
-        Err(RosterFault::Line(line, cause)) => {
+    let state = match read_state(alloc, state) {
+        Ok(state) => state,
+        Err(StateFault::Roster(line, cause)) => {
             return Ok(Verdict::No(Cause::Roster(line, cause)));
         }
-        Err(RosterFault::Memory) => return Err(Memory),
+        Err(StateFault::Line(line, cause)) => return Ok(Verdict::No(Cause::State(line, cause))),
+        Err(StateFault::Memory) => return Err(Memory),
     };
+    let own = state.own();
     match first_over(inputs) {
         Some(w) => Ok(Verdict::No(Cause::Over(w))),
-        None => {
-            let starts = starts_of(alloc, roster.meters())?;
-            audit_readable(alloc, roster.own(), starts, report, inputs)
-        }
+        None => audit_readable(alloc, own, state.into_starts(), report, inputs),
     }
 }
 
-/// Whether a report is what a collector prints of a roster and of what its receivers heard, each input to its end, and if not,
-/// the first cause.
+/// Whether a report is what a collector prints of a state, which may be a roster, and of what its receivers heard, each input to its end,
+/// and if not, the first cause.
 ///
-/// It believes nothing but the roster and the inputs, and takes memory for the slots, not for a second report.
+/// It believes nothing but the state and the inputs, and takes memory for the slots, not for a second report.
 pub fn audit(
     alloc: Global,
-    roster: &[u8],
+    state: &[u8],
     report: &[u8],
     inputs: &[Input],
 ) -> Result<Verdict, Memory>
     requires lines { length (lines_in report.now) < 2 ^ 32 }
     requires few { length inputs.now < 2 ^ 32 }
-    ensures verdict { IfOk result (IsVerdict (record { roster = roster.now; report = report.now; inputs = inputs.now })) }
+    ensures verdict { IfOk result (IsVerdict (record { state = state.now; report = report.now; inputs = inputs.now })) }
 
     // No other verdict holds: each comes exactly where its definition does.
     ensures only { IfOk result (λ verdict. (other : Verdict)
-        → IsVerdict (record { roster = roster.now; report = report.now; inputs = inputs.now }) other → other ≡ verdict) }
+        → IsVerdict (record { state = state.now; report = report.now; inputs = inputs.now }) other → other ≡ verdict) }
 {
-    verdict_on(alloc, roster, report, inputs)
+    verdict_on(alloc, state, report, inputs)
 }

@@ -1,4 +1,5 @@
-//! The audit of a printed session: whether a report is what a collector prints of a roster and of what its receivers heard.
+//! The audit of a printed session: whether a report is what a collector prints of a state, which may be a roster, and of what its
+//! receivers heard.
 #![tactic(auto)]
 
 mod auditing;

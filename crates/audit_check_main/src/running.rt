@@ -16,7 +16,7 @@ use crate::verdict::Verdict;
 use line_reader::BYTES_MAX;
 use outer_io::{Memory, Sink, Source};
 use paper::write;
-use roster_file::MOST_BYTES;
+use state_file::STATE_MOST;
 use std::alloc::Global;
 
 /// The most bytes of a report.
@@ -122,27 +122,27 @@ fn read_inputs<S: Source>(
 /// The files that the words name.
 #[derive(Clone, Copy, Debug)]
 pub struct FilesNamed<'a> {
-    /// The roster.
-    pub roster: &'a str,
+    /// The state from which the session began, which may be a roster.
+    pub state: &'a str,
     /// The report.
     pub report: &'a str,
     /// What the receivers heard, in their order.
     pub inputs: &'a [String],
 }
 
-/// The files that the words `ROSTER REPORT RX..` name: none where they aren't 3 to 18 words.
+/// The files that the words `STATE REPORT RX..` name: none where they aren't 3 to 18 words.
 pub fn files_named(words: &[String]) -> Option<FilesNamed<'_>>
     ensures named { is_some result ≡ are_files (map string_bytes words.now) }
     ensures inputs { IfSome result (λ files. length files.inputs.now + 2 ≡ length words.now) }
 {
-    let [roster, report, inputs @ ..] = words else {
+    let [state, report, inputs @ ..] = words else {
         return None;
     };
     if inputs.is_empty() || inputs.len() > 16 {
         return None;
     }
     Some(FilesNamed {
-        roster: roster.as_str(),
+        state: state.as_str(),
         report: report.as_str(),
         inputs,
     })
@@ -163,13 +163,13 @@ fn finish<K: Sink>(out: &mut K, verdict: Verdict) -> AuditStatus
 }
 
 /// Audits a report that is read from a source, and writes the verdict: `yes`, or `no` and its cause. Each source is read to its end,
-/// a roster and an input until they are too long.
+/// a state and an input until they are too long.
 ///
-/// The words are those of the program, without its name: `ROSTER REPORT` and 1 to 16 inputs.
+/// The words are those of the program, without its name: `STATE REPORT` and 1 to 16 inputs.
 pub fn audit_run<S: Source, K: Sink>(
     alloc: Global,
     words: &[String],
-    roster: &mut S,
+    state: &mut S,
     report: &mut S,
     inputs: &mut Vec<S>,
     out: &mut K,
@@ -182,7 +182,7 @@ pub fn audit_run<S: Source, K: Sink>(
       sources_tell = S.tells;
       sinks_tell = K.tells;
       words = map string_bytes words.now;
-      roster = source_change S.Source roster.old roster.new;
+      state = source_change S.Source state.old state.new;
       report = source_change S.Source report.old report.new;
       inputs = source_changes S.Source inputs.old.items inputs.new.items;
       out = sink_change K.Sink out.old out.new;
@@ -191,16 +191,16 @@ pub fn audit_run<S: Source, K: Sink>(
 
     // After faulty words all is as it was, and where there is no verdict the output is.
     ensures unread { result ≡ AuditStatus.Words →
-        (roster.new ≡ roster.old) × (report.new ≡ report.old) × (inputs.new.items ≡ inputs.old.items) }
+        (state.new ≡ state.old) × (report.new ≡ report.old) × (inputs.new.items ≡ inputs.old.items) }
     ensures unwritten { writes result ≡ false → out.new ≡ out.old }
 {
     match files_named(words) {
         None => return AuditStatus::Words,
         Some(_) => {}
     }
-    let roster = match read_past(alloc, roster, MOST_BYTES) {
+    let state = match read_past(alloc, state, STATE_MOST) {
         Ok(bytes) => bytes,
-        Err(Unread::Failed) => return AuditStatus::ReadRoster,
+        Err(Unread::Failed) => return AuditStatus::ReadState,
         Err(Unread::Memory) => return AuditStatus::Memory,
     };
     // The report is read behind the inputs and into the same room, so that no more is held than what the inputs told.
@@ -221,7 +221,7 @@ pub fn audit_run<S: Source, K: Sink>(
             InputFault::Memory => return AuditStatus::Memory,
         },
     };
-    match audit(alloc, roster.as_slice(), text.as_slice(), heard.as_slice()) {
+    match audit(alloc, state.as_slice(), text.as_slice(), heard.as_slice()) {
         Ok(verdict) => finish(out, verdict),
         Err(Memory) => AuditStatus::Memory,
     }

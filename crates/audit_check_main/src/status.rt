@@ -1,7 +1,7 @@
 //! How a run of the audit ended.
 use crate::verdict::{Cause, Verdict};
 
-/// How a run ended: `Words`, `ReadRoster`, `ReadReport`, `LongReport` and `Read` in this order before all others, then a verdict,
+/// How a run ended: `Words`, `ReadState`, `ReadReport`, `LongReport` and `Read` in this order before all others, then a verdict,
 /// or `Write` in its place.
 #[derive(Clone, Copy, Debug, PartialEq, Eq)]
 pub enum AuditStatus {
@@ -9,10 +9,10 @@ pub enum AuditStatus {
     Yes,
     /// Status 12: it isn't, for this cause, which is written.
     No(Cause),
-    /// Status 2: the words aren't a roster, a report, and 1 to 16 inputs.
+    /// Status 2: the words aren't a state, a report, and 1 to 16 inputs.
     Words,
-    /// Status 4: the roster can't be read.
-    ReadRoster,
+    /// Status 4: the state can't be read.
+    ReadState,
     /// Status 13: the report can't be read.
     ReadReport,
     /// Status 8: the report has more than 1,073,741,824 bytes.
@@ -46,7 +46,7 @@ impl AuditStatus {
         match self {
             AuditStatus::Yes => 0,
             AuditStatus::Words => 2,
-            AuditStatus::ReadRoster => 4,
+            AuditStatus::ReadState => 4,
             AuditStatus::Read(_) => 5,
             AuditStatus::Write => 7,
             AuditStatus::LongReport => 8,

@@ -1,33 +1,12 @@
 //! What is printed of a verdict.
 ghost use Rattle.std.specs.Prelude.{◌≡◌};
 ghost use Rattle.paper.specs.Puts.{Puts};
-ghost use Rattle.audit_check_main.specs.Texts.{line_cause_text, roster_cause_text, cause_text, no_text};
+ghost use Rattle.audit_check_main.specs.Texts.{roster_cause_text, state_cause_text, cause_text, no_text};
 
 use crate::verdict::{Cause, Verdict};
 use paper::{Paper, Printed, put_labelled, put_labelled_two, put_text};
 use roster_file::LineCause;
-
-fn line_cause_word(cause: LineCause) -> &'static str
-    ensures { result.now ≡ line_cause_text cause }
-{
-    match cause {
-        LineCause::TooLong => "toolong",
-        LineCause::Head => "head",
-        LineCause::Own => "own",
-        LineCause::Kind => "kind",
-        LineCause::Fields => "fields",
-        LineCause::Address => "address",
-        LineCause::Mode => "mode",
-        LineCause::Key => "key",
-        LineCause::Other => "other",
-        LineCause::Last => "last",
-        LineCause::Down => "down",
-        LineCause::Ids => "ids",
-        LineCause::Same => "same",
-        LineCause::TooMany => "toomany",
-        LineCause::Missing => "missing",
-    }
-}
+use state_file::{FileCause, roster_word, state_word};
 
 #[tactic(auto, unfolding(crate::specs::Texts::roster_cause_text), using(paper::proofs::Calls::three_make))]
 fn put_roster_cause<P: Paper>(paper: &mut P, line: u32, cause: LineCause)
@@ -35,7 +14,16 @@ fn put_roster_cause<P: Paper>(paper: &mut P, line: u32, cause: LineCause)
 {
     put_labelled(paper, "roster ", u64::from(line));
     put_text(paper, " ");
-    put_text(paper, line_cause_word(cause));
+    put_text(paper, roster_word(cause));
+}
+
+#[tactic(auto, unfolding(crate::specs::Texts::state_cause_text), using(paper::proofs::Calls::three_make))]
+fn put_state_cause<P: Paper>(paper: &mut P, line: u32, cause: FileCause)
+    ensures { Puts P.takes paper.old (state_cause_text line cause) paper.new }
+{
+    put_labelled(paper, "state ", u64::from(line));
+    put_text(paper, " ");
+    put_text(paper, state_word(cause));
 }
 
 fn put_cause<P: Paper>(paper: &mut P, cause: Cause)
@@ -43,6 +31,7 @@ fn put_cause<P: Paper>(paper: &mut P, cause: Cause)
 {
     match cause {
         Cause::Roster(line, cause) => put_roster_cause(paper, line, cause),
+        Cause::State(line, cause) => put_state_cause(paper, line, cause),
         Cause::Over(w) => put_labelled(paper, "over ", u64::from(w)),
         Cause::Form(line) => put_labelled(paper, "form ", u64::from(line)),
         Cause::Order { list, place } => {

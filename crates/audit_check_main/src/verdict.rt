@@ -1,5 +1,6 @@
 //! What the audit answers.
 use roster_file::LineCause;
+use state_file::FileCause;
 
 /// What the audit of a report answers.
 #[derive(Clone, Copy, Debug, PartialEq, Eq)]
@@ -13,8 +14,11 @@ pub enum Verdict {
 /// Why a report isn't what it should be: the first of these that applies.
 #[derive(Clone, Copy, Debug, PartialEq, Eq)]
 pub enum Cause {
-    /// The first faulty line of the roster, and what is wrong with it.
+    /// The text that is to be a state hasn't the head of one and is no roster either, or has too many bytes: the roster's first faulty
+    /// line, and what is wrong with it.
     Roster(u32, LineCause),
+    /// The first faulty line of the state, and what is wrong with it.
+    State(u32, FileCause),
     /// The first input, from 1, that goes past the limit of lines or bytes.
     Over(u32),
     /// The first line of the report, from 1, that is out of form: a meter's heading too many, a line outside its list, or one

@@ -4,7 +4,7 @@ use meter_address::Address;
 /// Whose a line is.
 #[derive(Clone, Copy, Debug, PartialEq, Eq)]
 pub enum Whose {
-    /// It tells something for a meter, one of the roster or a stranger.
+    /// It tells something for a meter, one of the state or a stranger.
     Meter(Address),
     /// Bytes that are no frame.
     Unframed,

@@ -1,5 +1,5 @@
 -- What the collector wrote is faithful.
-use Rattle.std.proofs.Common.{◌≡◌, ◌⊎◌, ℕ, zero, suc, ◌<◌, ◌≤◌, ◌^◌, ◌||◌, nat_lt, Bool, true, false, cond, IsTrue, List, [], ◌∷◌, ◌++◌, map, length, get_or, Option, Some, Ok, inl, inr, refl, sym, ap, ◌∙◌, subst, arith, append-nil, length-append}
+use Rattle.std.proofs.Common.{◌≡◌, ◌⊎◌, ℕ, zero, suc, ◌<◌, ◌≤◌, ◌^◌, ◌||◌, nat_lt, Bool, true, false, cond, IsTrue, List, [], ◌∷◌, ◌++◌, map, length, get_or, Option, Some, Result, Ok, Err, inl, inr, refl, sym, ap, ◌∙◌, subst, arith, append-nil, length-append}
 use Rattle.std.specs.List.{Contains}
 use Rattle.std.specs.Str.Lines.{lines}
 use Rattle.std.proofs.lemmas.Bool.Decides.{nat_tests}
@@ -24,14 +24,19 @@ use Rattle.report_text.specs.Orders.{orders}
 use Rattle.report_text.specs.OrdersLaw.{orders_of}
 use Rattle.report_text.specs.Report.{report_text}
 use Rattle.roster_file.specs.Roster.{Enrolled, roster_of}
-use Rattle.roster_file.proofs.Enrolling.{too_long}
+use Rattle.roster_file.specs.declared.roster.RosterFault.{RosterFault}
+use Rattle.state_file.specs.Whole.{Known, fresh_known, of_roster, state_of}
+use Rattle.state_file.proofs.RosterStates.{rosters_are_states}
+use Rattle.state_file.proofs.TooLong.{too_long}
+use Rattle.collector_main.specs.declared.form.Form.{Form}
+use Rattle.collector_main.specs.declared.form.Form.TheVariants as forms
+use Rattle.collector_main.specs.Begin.{known_of}
 use Rattle.collector_main.specs.Heard.{addresses, report_of}
 use Rattle.collector_main.specs.Run as collector
 use Rattle.collector_main.specs.Showing.{report_output}
 use Rattle.collector_main.specs.Statuses.{was_heard}
 use Rattle.collector_main.proofs.Orders.{slots_counted, strangers_counted}
 use Rattle.audit_check_main.specs.Audit.{Audited, told_in, heard_out, IsReadable, IsInForm, IsFaithful, IsVerdict}
-use Rattle.audit_check_main.specs.Known.{Known, begun, begun_by, known_of}
 use Rattle.audit_check_main.specs.Lists.{lists_printed}
 use Rattle.audit_check_main.specs.Run as audit
 use Rattle.audit_check_main.specs.Run.{IsReadPast, HasVerdict}
@@ -125,23 +130,34 @@ few_told (i ∷ inputs) h = (
   few_told inputs h.1,
 )
 
-is_roster_short : (text : List ℕ) (r : Enrolled) → roster_of text ≡ Ok r → length text ≤ 1048576
-is_roster_short text r h = at (nat_lt 1048576 (length text)) refl
+is_short : (text : List ℕ) (r : Known) → state_of text ≡ Ok r → length text ≤ 134217728
+is_short text r h = at (nat_lt 134217728 (length text)) refl
   where
-    at : (b : Bool) → nat_lt 1048576 (length text) ≡ b → length text ≤ 1048576
+    at : (b : Bool) → nat_lt 134217728 (length text) ≡ b → length text ≤ 134217728
     at true test = absurd (let bad = too_long text (grind (arith, nat_tests)) in let good = h in cc)
     at false test = grind (arith, nat_tests)
 
+-- ---- what a session begins from is a state
+
+roster_known : (text : List ℕ) (r : Known) (roster : Result Enrolled RosterFault) → roster_of text ≡ roster → of_roster roster ≡ Ok r
+    → state_of text ≡ Ok r
+roster_known text r (Ok e) is h = let same : fresh_known e ≡ r = cc in rosters_are_states text e is ∙ ap Ok same
+roster_known text r (Err fault) is h = absurd cc
+
+form_known : (form : Form) (text : List ℕ) (r : Known) → known_of form text ≡ Ok r → state_of text ≡ Ok r
+form_known forms.Roster text r h = roster_known text r (roster_of text) refl h
+form_known forms.State text r h = h
+
 -- ---- a session of what some inputs tell
 
-module _ (roster : List ℕ) (inputs : List (List ℕ)) (r : Known) (world : WorldView) (roster_is : known_of roster ≡ Ok r)
+module _ (state : List ℕ) (inputs : List (List ℕ)) (r : Known) (world : WorldView) (state_is : state_of state ≡ Ok r)
     (within : Each (λ input. is_over input ≡ false) inputs) (few : length inputs ≤ 16)
     (session : IsSession r.own r.starts (map told_in inputs) world) where
   abbrev text : List ℕ
   text = report_text (map (heard_out (map (λ c. c.address) r.starts)) inputs) world.slots world.strangers
 
   abbrev audited : Audited
-  audited = record { roster = roster; report = text; inputs = inputs }
+  audited = record { state = state; report = text; inputs = inputs }
 
   few_receivers : length (map told_in inputs) < 2 ^ 32
   few_receivers = let same = length-map inputs told_in in omega arith
@@ -154,7 +170,7 @@ module _ (roster : List ℕ) (inputs : List (List ℕ)) (r : Known) (world : Wor
   as_many (c ∷ cs) (b ∷ slots) h = let rest = as_many cs slots h.1 in omega arith
 
   readable : IsReadable audited r
-  readable = record { roster_is = roster_is; within = within }
+  readable = record { state_is = state_is; within = within }
 
   in_form : IsInForm audited r
   in_form = record {
@@ -219,10 +235,10 @@ module _ (c : collector.Run) (a : audit.Run) (given : IsAudited c a) where
       headline.receivers
 
   abbrev r : Known
-  r = begun headline.heard.enrolled
+  r = headline.heard.known
 
-  known : known_of c.roster.before.left ≡ Ok r
-  known = ap begun_by headline.roster_is
+  known : state_of c.beginning.before.left ≡ Ok r
+  known = form_known c.form c.beginning.before.left r headline.known_is
 
   within : Each (λ input. is_over input ≡ false) inputs
   within = all_within inputs headline.heard.receivers heard_all
@@ -235,12 +251,12 @@ module _ (c : collector.Run) (a : audit.Run) (given : IsAudited c a) where
   few = let same = length-map c.receivers bytes_heard in let most = given.audit_of.few in omega arith
 
   abbrev faithful_text : List ℕ
-  faithful_text = text c.roster.before.left inputs r headline.heard.world known within few session
+  faithful_text = text c.beginning.before.left inputs r headline.heard.world known within few session
 
   text_is : report_of headline.heard ≡ faithful_text
   text_is =
       ap (λ e. report_text e headline.heard.world.slots headline.heard.world.strangers)
-      (all_ends (addresses headline.heard.enrolled) inputs headline.heard.receivers heard_all)
+      (all_ends (addresses headline.heard.known) inputs headline.heard.receivers heard_all)
 
   -- the report was written whole
   written : given.audit_of.report.now.written ≡ report_of headline.heard
@@ -249,25 +265,25 @@ module _ (c : collector.Run) (a : audit.Run) (given : IsAudited c a) where
       (headline.whole given.audit_of.sinks_tell given.done) given.audit_of.is_output
 
   abbrev audited_bytes : Audited
-  audited_bytes = audited c.roster.before.left inputs r headline.heard.world known within few session
+  audited_bytes = audited c.beginning.before.left inputs r headline.heard.world known within few session
 
   is_faithful : IsFaithful audited_bytes
   is_faithful =
-      faithful c.roster.before.left inputs r headline.heard.world known within few session
+      faithful c.beginning.before.left inputs r headline.heard.world known within few session
       (ap orders (sym text_is) ∙ headline.told)
 
   -- what the audit read is this
   read_is : (verdict : Verdict) (h : HasVerdict a verdict) → h.read ≡ audited_bytes
   read_is verdict h =
       let g = given.audit_of in
-      let roster =
-      all_read 1048576 a.roster h.read.roster h.roster
-      (is_roster_short a.roster.before.left headline.heard.enrolled (ap roster_of g.same_roster ∙ headline.roster_is)) ∙ g.same_roster in
+      let state =
+      all_read 134217728 a.state h.read.state h.state (is_short a.state.before.left r (ap state_of g.same_beginning ∙ known))
+      ∙ g.same_beginning in
       let report = read_whole 1073741824 a.report h.read.report h.report h.short ∙ (g.same_report ∙ (written ∙ text_is)) in
       let lines =
       inputs_read a.inputs h.read.inputs h.inputs (subst (Each (λ input. is_over input ≡ false)) (sym g.same_lines) within)
       ∙ g.same_lines in
-      λ i. record { roster = roster i; report = report i; inputs = lines i }
+      λ i. record { state = state i; report = report i; inputs = lines i }
 
   no_other : (cause : Cause) → HasVerdict a (No cause) → ⊥
   no_other cause h =
@@ -286,7 +302,7 @@ module _ (c : collector.Run) (a : audit.Run) (given : IsAudited c a) where
       at (answers.No cause) is done = absurd (never_no cause is)
       at answers.Memory is done = inr is
       at answers.Words is done = absurd done
-      at answers.ReadRoster is done = absurd done
+      at answers.ReadState is done = absurd done
       at answers.ReadReport is done = absurd done
       at answers.LongReport is done = absurd done
       at (answers.Read w) is done = absurd done

@@ -9,9 +9,8 @@ use Rattle.audit_check_main.specs.Run as audit
 use Rattle.audit_check_main.specs.declared.status.AuditStatus.TheVariants.{Yes, No, Memory}
 use Rattle.audit_check_main.specs.declared.verdict.Cause.{Cause}
 
--- The audit is given what the collector was given and what it wrote: the bytes of the roster, the report, and the bytes of each
--- receiver, of
--- at most sixteen, in their order. Contracts know all these bytes.
+-- The audit is given what the collector was given and what it wrote: the bytes of the roster or state from which the session began, the
+-- report, and the bytes of each receiver, of at most sixteen, in their order. Contracts know all these bytes.
 pub record IsAuditOf (c : collector.Run) (a : audit.Run) : Type 0 where
   pub sources_tell : IsTrue c.sources_tell
   pub sinks_tell : IsTrue c.sinks_tell
@@ -19,7 +18,7 @@ pub record IsAuditOf (c : collector.Run) (a : audit.Run) : Type 0 where
   pub report : Change SinkShown
   pub is_output : Contains c.outputs (report_output report)
   pub same_report : a.report.before.left ≡ report.now.written
-  pub same_roster : a.roster.before.left ≡ c.roster.before.left
+  pub same_beginning : a.state.before.left ≡ c.beginning.before.left
   pub same_lines : map (λ input. input.before.left) a.inputs ≡ map (λ r. r.source.before.left) c.receivers
   pub few : length c.receivers ≤ 16
 

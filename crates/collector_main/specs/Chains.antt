@@ -21,4 +21,4 @@ abbrev pub ContinuedRunsAreOne : Type 0
 ContinuedRunsAreOne = (first later : Run) (one : Headline first) (two : Headline later) (all : List (List Told)) → GoesOn first later one
     → AreHeardOn (map tellings one.heard.receivers) (map tellings two.heard.receivers) all
     → IsSession one.heard.known.own one.heard.known.starts all
-      (world_on (map tellings one.heard.receivers) one.heard.world two.heard.world)
+    (world_on (map tellings one.heard.receivers) one.heard.world two.heard.world)

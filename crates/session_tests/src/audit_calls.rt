@@ -9,6 +9,8 @@ use std::test::Fail;
 
 const ROSTER: &str = "wmbus-roster 1\nown 9315010000000131\n";
 
+const STATE: &str = "wmbus-state 1\nown 9315010000000131\nend\n";
+
 const LINES: &[u8] = b"T 488826e981530304\n";
 
 const REPORT: &str = "\
@@ -23,7 +25,7 @@ end
 // Audits a report of one receiver.
 fn audited(
     alloc: Global,
-    roster: &str,
+    state: &str,
     report: &str,
     fail: u64,
     out: &mut MemorySink,
@@ -31,14 +33,14 @@ fn audited(
     requires { out.old.written ≡ [] }
 {
     let mut words = Vec::new(alloc);
-    words.push(String::from_str(alloc, "roster")?)?;
+    words.push(String::from_str(alloc, "state")?)?;
     words.push(String::from_str(alloc, "report")?)?;
     words.push(String::from_str(alloc, "rx")?)?;
-    let mut roster = MemorySource::new(roster.as_bytes().to_vec(alloc)?, Vec::new(alloc));
+    let mut state = MemorySource::new(state.as_bytes().to_vec(alloc)?, Vec::new(alloc));
     let mut report = MemorySource::new(report.as_bytes().to_vec(alloc)?, Vec::new(alloc));
     let mut inputs = Vec::new(alloc);
     inputs.push(MemorySource::new(LINES.to_vec(alloc)?, vec![in alloc; fail]?))?;
-    Ok(audit_run(alloc, &words, &mut roster, &mut report, &mut inputs, out))
+    Ok(audit_run(alloc, &words, &mut state, &mut report, &mut inputs, out))
 }
 
 // Reports by their names.
@@ -52,8 +54,20 @@ fn report_named(name: &str) -> Result<&'static str, Fail> {
     }
 }
 
-// Each audit: whether the roster is whole, which report it is of, which read of the receiver's lines fails, where none has the number 0, and
-// how it ends; below it what is printed.
+// Rosters and states by their names.
+fn state_named(name: &str) -> Result<&'static str, Fail> {
+    match name {
+        "whole" => Ok(ROSTER),
+        "half" => Ok("wmbus-roster 1\n"),
+        "state" => Ok(STATE),
+        "endless" => Ok("wmbus-state 1\nown 9315010000000131\n"),
+        "meterless" => Ok("wmbus-state 1\nown 9315010000000131\ntick\nend\n"),
+        _ => Err("no state of the name".into()),
+    }
+}
+
+// Each audit: which roster or state the session began from, which report it is of, which read of the receiver's lines fails, where none has
+// the number 0, and how it ends; below it what is printed.
 const AUDITS: &str = "\
 audit whole whole 0 Yes
 yes
@@ -66,22 +80,29 @@ no text 0
 audit whole whole 1 Read(1)
 audit half whole 0 No(Roster(2, Missing))
 no roster 2 missing
+audit state whole 0 Yes
+yes
+audit endless whole 0 No(State(3, Roster(Missing)))
+no state 3 missing
+audit meterless whole 0 No(State(3, Place))
+no state 3 place
 ";
 
 // Asserts what an audit comes to, whose first row is this.
 fn assert_audit(rt: &impl Abort, alloc: Global, head: &str, printed: &str) -> Result<(), Fail> {
     let words: Vec<&str> = head.split_whitespace().collect(alloc)?;
-    let [roster, report, fail, ..] = *words.as_slice() else {
+    let [state, report, fail, ..] = *words.as_slice() else {
         return Err("no audit".into());
-    };
-    let roster = if roster == "whole" {
-        ROSTER
-    } else {
-        "wmbus-roster 1\n"
     };
     let fail = u64::from(fail == "1");
     let mut out = MemorySink::steady(alloc);
-    let status = audited(alloc, roster, report_named(report)?, fail, &mut out)?;
+    let status = audited(
+        alloc,
+        state_named(state)?,
+        report_named(report)?,
+        fail,
+        &mut out,
+    )?;
     let status = format!(in alloc; " {status:?}")?;
     assert!(rt; head.ends_with(status.as_str()), "{head}: {status}");
     assert_eq!(rt; out.bytes(), printed.as_bytes(), "{head}");
@@ -97,6 +118,6 @@ fn each_verdict_is_printed(rt: HostRuntime) -> Result<(), Fail> {
             count = count.saturating_add(1);
         }
     }
-    assert_eq!(rt; count, 6);
+    assert_eq!(rt; count, 9);
     Ok(())
 }

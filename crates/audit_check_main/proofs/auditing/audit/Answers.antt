@@ -3,5 +3,5 @@ use Rattle.audit_check_main.proofs.auditing.audit.Goals as goal
 
 pub returns-clause-only : goal.returns-clause-only
 returns-clause-only c =
-    only_verdict (record { roster = c.args.roster.now; report = c.args.report.now; inputs = c.args.inputs.now })
+    only_verdict (record { state = c.args.state.now; report = c.args.report.now; inputs = c.args.inputs.now })
     c.verdict_on.result c.verdict_on.ensures.verdict

@@ -58,7 +58,7 @@ returns-in-None c =
     orders_are c.args.meters.items c.args.inputs.now c.as_slice.result.now c.as_slice-in-None.result.now c.args.lists.now
     c.requires.within same heard long (c.in_ok-list.ensures.right (ap Ok c.in-None.is)) in
     for_each_text c.told_verdict.result (λ (text : List ℕ) (v : Verdict). IsVerdict
-    (record { roster = text; report = c.args.report.now; inputs = c.args.inputs.now }) v)
+    (record { state = text; report = c.args.report.now; inputs = c.args.inputs.now }) v)
     (λ text is. stepped_is (record { own = c.args.own; starts = c.args.meters.items }) text c.args.report.now c.args.inputs.now is c.requires.within c.requires.in_form
     c.args.lists.now c.requires.lists_are c.told_verdict.result c.args.own c.args.meters.items c.as_slice-in-None.result.now
     refl refl

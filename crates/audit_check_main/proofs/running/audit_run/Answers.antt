@@ -1,6 +1,6 @@
 use Rattle.std.proofs.Common.{Err, refl, sym, ap, length, arith}
 use Rattle.audit_check_main.proofs.InputReads.{untouched}
-use Rattle.audit_check_main.proofs.Runs.{run_words, run_roster, run_report, run_long, run_read, run_memory, read_all_of, read_long_of, lines_few}
+use Rattle.audit_check_main.proofs.Runs.{run_words, run_state, run_report, run_long, run_read, run_memory, read_all_of, read_long_of, lines_few}
 use Rattle.audit_check_main.proofs.running.audit_run.Goals as goal
 
 pub returns-in-None-clause-run : goal.returns-in-None-clause-run
@@ -10,7 +10,7 @@ returns-in-None-clause-run g c =
 
 pub returns-in-Err-Failed-clause-run : goal.returns-in-Err-Failed-clause-run
 returns-in-Err-Failed-clause-run g c =
-    run_roster g.S.Source.tells g.K.Sink.tells _ _ _ _ _ (sym c.in-Some.ensures.named)
+    run_state g.S.Source.tells g.K.Sink.tells _ _ _ _ _ (sym c.in-Some.ensures.named)
     (c.in-Err-Failed.ensures.failed (ap Err c.in-Err-Failed.field-0-is))
     (λ t. (c.read_past.ensures.no_loss t, refl, untouched g.S.Source c.args.inputs.now.items)) refl
 
