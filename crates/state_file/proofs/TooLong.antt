@@ -8,7 +8,7 @@ use Rattle.roster_file.specs.Roster.{entries_from, roster_of}
 use Rattle.state_file.specs.declared.fault.StateFault.TheVariants.{Roster}
 use Rattle.state_file.specs.Whole.{headed, of_roster, state_of}
 
-too_long : (bytes : List ℕ) → 134217728 < length bytes → state_of bytes ≡ Err (Roster 0 roster.TooLong)
+pub too_long : (bytes : List ℕ) → 134217728 < length bytes → state_of bytes ≡ Err (Roster 0 roster.TooLong)
 unfolding state_of
 too_long bytes long =
     let test : nat_lt 134217728 (length bytes) ≡ true = grind (arith, nat_tests) in

@@ -2,6 +2,7 @@ pub mod Reading
 pub mod State
 pub mod Text
 pub mod Whole
+pub mod Words
 pub mod Written
 pub mod Left
 pub mod Printing

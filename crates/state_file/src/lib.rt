@@ -15,6 +15,7 @@ mod reader;
 mod readings;
 mod showing;
 mod state;
+mod words;
 mod writing;
 
 pub use cause::{LineFault, StateCause};
@@ -25,4 +26,5 @@ pub use load::{StateLoadFault, load_state};
 pub use reader::{STATE_MOST, read_state};
 pub use showing::{show_known, show_left, show_state};
 pub use state::State;
+pub use words::{roster_word, state_word};
 pub use writing::write_state;
