@@ -41,7 +41,7 @@ pub record Run : Type 0 where
 
 -- ---- what is promised of it
 
--- the words name an address, and this is known of the meters: of those of a roster that they are commissioned
+-- the words name an address, and this is known of the meters
 pub record Names (run : Run) (a : Address) (known : Known) : Type 0 where
   pub named : address_in run.words ≡ Some a
   pub known_is : state_of run.beginning.before.left ≡ Ok known
@@ -134,8 +134,8 @@ pub record IsRun (run : Run) : Type 0 where
   -- after statuses 0, 5, 7 and 8
   pub headline : IsTrue (was_heard run.status) → IsTrue run.sources_tell → Headline run
   pub status_caused : IsCausedBy run run.status
-  -- faulty words, a faulty roster or state and an address that isn't commissioned are refused, in this order, then deliveries past their limit;
-  -- and where nothing stands in the way all is done
+  -- faulty words, a faulty roster or state and an address that isn't commissioned are refused, in this order, then deliveries past their
+  -- limit; and where nothing stands in the way all is done
   pub words_refused : address_in run.words ≡ None → run.status ≡ statuses.Words
   pub beginning_refused : IsTrue run.sources_tell → (a : Address) (fault : StateFault) → address_in run.words ≡ Some a
       → state_of run.beginning.before.left ≡ Err fault → IsUnlessUnread (status_of fault) run.status
