@@ -13,6 +13,7 @@ pub run_exit : (status : SideStatus) → (status ≡ statuses.Words → ⊥) →
 run_exit statuses.Done other = (0, omega arith, refl)
 run_exit statuses.Words other = absurd (other refl)
 run_exit (statuses.Roster line cause) other = (1, omega arith, refl)
+run_exit (statuses.State line cause) other = (1, omega arith, refl)
 run_exit statuses.ReadRoster other = (2, omega arith, refl)
 run_exit statuses.Read other = (3, omega arith, refl)
 run_exit statuses.Write other = (4, omega arith, refl)

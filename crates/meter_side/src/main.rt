@@ -20,16 +20,17 @@ use std::process::ExitCode;
 
 const HELP: &str = "meter_side: a meter's end of the downlinks that a collector sends
 
-usage: meter_side ROSTER ADDRESS TX
+usage: meter_side STATE ADDRESS TX
        meter_side --help
        meter_side --version
 
-Reads the commissioned meters from the file ROSTER and the downlinks that are
-delivered to the meter ADDRESS from the file TX, a line `D HEX` each, and
-prints what the meter executes of them and why it refuses the others.
+Reads what is known of the meters from the file STATE, with which the session
+began, and which may be a roster, and the downlinks that are delivered to the
+meter ADDRESS from the file TX, a line `D HEX` each, and prints what the meter
+executes of them and why it refuses the others.
 
-exit status: 0 done, 2 faulty words, 3 faulty roster, 4 roster not read,
-5 deliveries not read, 7 output not written, 8 deliveries past their limit,
+exit status: 0 done, 2 faulty words, 3 faulty roster or state, 4 it can't be
+read, 5 deliveries not read, 7 output not written, 8 deliveries past their limit,
 10 no memory, 11 a file that can't be opened, 12 no such meter
 
 docs/FORMATS.md says what each fault, refusal and message means and what to do about
@@ -38,7 +39,7 @@ it; docs/meter_side.1 is the man page.
 
 const VERSION: &str = "meter_side 0.1.0\n";
 
-// How a status is said.
+// How a status of the program's own is said.
 fn said(code: u8) -> Numbered {
     Numbered {
         program: "meter_side",
@@ -46,12 +47,11 @@ fn said(code: u8) -> Numbered {
     }
 }
 
-// Says the exit status, unless all is done, and ends with it.
+// Says the status, unless all is done, and ends with it.
 fn end(rt: &impl Eprint, status: SideStatus) -> ExitCode
     ensures { exit_status result ≡ code_of status }
 {
-    let code = status.code();
-    program_words::end(rt, code, said(code))
+    program_words::end(rt, status.code(), status)
 }
 
 // Prints a text of the program's own.
@@ -75,27 +75,27 @@ fn cannot_open(rt: &impl Eprint) -> ExitCode
 fn hear<R: Eprint + AllocGlobal, S: Source, K: Sink>(
     rt: &R,
     words: &[String],
-    roster: &mut S,
+    beginning: &mut S,
     tx: &mut TextReader<S>,
     out: &mut K,
 ) -> ExitCode
     requires fresh { tx.old.reader.line ≡ 0 }
     requires goes_on { tx.old.reader.done ≡ false }
     requires longest { tx.old.longest ≡ 582 }
-    requires untaken { IsTrue S.tells → (S.taken roster.old ≡ []) × (S.taken tx.old.reader.source ≡ []) }
+    requires untaken { IsTrue S.tells → (S.taken beginning.old ≡ []) × (S.taken tx.old.reader.source ≡ []) }
     requires empty { IsTrue K.tells → K.written out.old ≡ [] }
     ensures run { (status : SideStatus) × (exit_status result ≡ code_of status) × IsRun (record {
       words = map string_bytes words.now;
       sources_tell = S.tells;
       sinks_tell = K.tells;
-      roster = source_change S.Source roster.old roster.new;
+      beginning = source_change S.Source beginning.old beginning.new;
       tx = source_change S.Source tx.old.reader.source tx.new.reader.source;
       out = sink_change K.Sink out.old out.new;
       status = status;
     }) }
     ensures exit { names_meter (map string_bytes words.now) ≡ true → IsRunExit (exit_status result) }
 {
-    let status = meter_run(rt.alloc(), words, roster, tx, out);
+    let status = meter_run(rt.alloc(), words, beginning, tx, out);
     end(rt, status)
 }
 
@@ -108,7 +108,7 @@ fn perform<R: Print + Eprint + Files<File = File> + AllocGlobal>(
     ensures text { asks_for_text (map string_bytes words.now) ≡ true → IsTold 7 (exit_status result) }
     ensures faulty { asks_for_text (map string_bytes words.now) ≡ false → names_meter (map string_bytes words.now) ≡ false →
         exit_status result ≡ 2 }
-    ensures run { names_meter (map string_bytes words.now) ≡ true → IsRunExit (exit_status result) }
+    ensures exit { names_meter (map string_bytes words.now) ≡ true → IsRunExit (exit_status result) }
 {
     if let Some(own) = own_text(words) {
         return show(rt, own);
@@ -116,7 +116,7 @@ fn perform<R: Print + Eprint + Files<File = File> + AllocGlobal>(
     if !names_meter(words) {
         return end(rt, SideStatus::Words);
     }
-    let Ok(roster) = File::open(rt, words[0].as_str()) else {
+    let Ok(beginning) = File::open(rt, words[0].as_str()) else {
         return cannot_open(rt);
     };
     let Ok(tx) = File::open(rt, words[2].as_str()) else {
@@ -126,14 +126,17 @@ fn perform<R: Print + Eprint + Files<File = File> + AllocGlobal>(
     hear(
         rt,
         words,
-        &mut StdSource::file(roster),
+        &mut StdSource::file(beginning),
         &mut deliveries,
         &mut out,
     )
 }
 
 // What it means that the words can't be had.
-fn status_without_words(reason: NoWords) -> SideStatus {
+fn status_without_words(reason: NoWords) -> SideStatus
+    ensures memory { reason ≡ NoWords.Memory → result ≡ SideStatus.Memory }
+    ensures not_text { reason ≡ NoWords.NotText → result ≡ SideStatus.Words }
+{
     match reason {
         NoWords::Memory => SideStatus::Memory,
         NoWords::NotText => SideStatus::Words,

@@ -8,3 +8,4 @@ pub mod LinesHeard
 pub mod Answering
 pub mod Runs
 pub mod Places
+pub mod Commissions

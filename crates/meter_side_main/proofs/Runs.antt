@@ -6,10 +6,9 @@ use Rattle.meter_address.specs.declared.address.Address.{Address}
 use Rattle.meter_address.specs.Commission.{Commissioned}
 use Rattle.outer_io.specs.Bytes.{AppendsFront}
 use Rattle.outer_io.specs.Shown.{Change, SourceShown, SinkShown, ReadFailed, WriteFailed, LosesNothing, IsReadOut, IsSilent, HasText}
-use Rattle.roster_file.specs.Roster.{Enrolled, roster_of}
-use Rattle.roster_file.specs.declared.roster.LineCause.{LineCause}
-use Rattle.roster_file.specs.declared.roster.RosterFault.{RosterFault}
-use Rattle.roster_file.specs.declared.roster.RosterFault.TheVariants.{Line}
+use Rattle.state_file.specs.Whole.{Known, state_of}
+use Rattle.state_file.specs.declared.fault.StateFault.{StateFault}
+use Rattle.state_file.specs.declared.fault.StateFault.TheVariants as faults
 use Rattle.meter_side_main.specs.declared.session.Ended.{Ended}
 use Rattle.meter_side_main.specs.declared.session.Ended.TheVariants.{End, Cut, Fault}
 use Rattle.meter_side_main.specs.declared.status.SideStatus.{SideStatus}
@@ -17,7 +16,7 @@ use Rattle.meter_side_main.specs.declared.status.SideStatus.TheVariants as statu
 use Rattle.meter_side_main.specs.declared.top.Meter.{Meter}
 use Rattle.meter_side_main.specs.Answers.{answers_to}
 use Rattle.meter_side_main.specs.Session.{EndsSo, text_of}
-use Rattle.meter_side_main.specs.Statuses.{was_heard, status_at}
+use Rattle.meter_side_main.specs.Statuses.{was_heard, status_at, status_of}
 use Rattle.meter_side_main.specs.Run.{Run, address_in, meter_with, Names, IsStatusOf, Hears, Headline, IsUncommissioned, IsTooLong, IsCut, IsCausedBy, IsFaultless, IsUnlessUnread, IsRun}
 use Rattle.meter_side_main.specs.Refused.{IsNamed, IsRefused, IsHeardFor}
 use Rattle.meter_side_main.proofs.Answering.{are_answers, answers_execute}
@@ -114,33 +113,34 @@ pub front_is : (text same old new : List ℕ) → text ≡ same → old ≡ [] �
 front_is text same old new is none h =
     subst (λ (o : List ℕ). AppendsFront same o new) none (subst (λ (t : List ℕ). AppendsFront t old new) is h)
 
-pub headline_is : (run : Run) (meter : Meter) → IsNamed run.words run.roster meter
+pub headline_is : (run : Run) (meter : Meter) → IsNamed run.words run.beginning meter
     → Hears meter.own meter.commission run.tx run.sinks_tell run.out run.status → Headline run
 headline_is run meter n h = record {
   address = n.address;
-  enrolled = n.enrolled;
+  known = n.known;
   meter = meter.commission;
-  names = record { named = n.named; roster_is = n.roster_is };
+  names = record { named = n.named; known_is = n.known_is };
   commissioned = n.commissioned;
-  roster_read = n.read;
+  begun = n.read;
   hears = subst (λ (own : Address). Hears own meter.commission run.tx run.sinks_tell run.out run.status) n.own_is h;
 }
 
 -- ---- causes
 
-pub refusal_cause : (run : Run) (status : SideStatus) → IsRefused run.words run.sources_tell run.roster status
+pub refusal_cause : (run : Run) (status : SideStatus) → IsRefused run.words run.sources_tell run.beginning status
     → (was_heard status ≡ false) × IsCausedBy run status
 refusal_cause run statuses.Done h = absurd h
 refusal_cause run statuses.Words h = (refl, h)
 refusal_cause run statuses.ReadRoster h = (refl, h)
 refusal_cause run (statuses.Roster line cause) h = (refl, h)
+refusal_cause run (statuses.State line cause) h = (refl, h)
 refusal_cause run statuses.Uncommissioned h = (
   refl,
   λ t. let m = h t in
       record {
         address = m.address;
-        enrolled = m.enrolled;
-        names = record { named = m.named; roster_is = m.roster_is };
+        known = m.known;
+        names = record { named = m.named; known_is = m.known_is };
         missing = m.missing;
       },
 )
@@ -154,6 +154,7 @@ hearing_cause run statuses.Done h = h
 hearing_cause run statuses.Words h = absurd h
 hearing_cause run statuses.ReadRoster h = absurd h
 hearing_cause run (statuses.Roster line cause) h = absurd h
+hearing_cause run (statuses.State line cause) h = absurd h
 hearing_cause run statuses.Uncommissioned h = absurd h
 hearing_cause run statuses.Read h = h
 hearing_cause run statuses.Cut h = h
@@ -167,6 +168,7 @@ was_unheard tells tx out statuses.Done h unheard = absurd cc
 was_unheard tells tx out statuses.Words h unheard = absurd h
 was_unheard tells tx out statuses.ReadRoster h unheard = absurd h
 was_unheard tells tx out (statuses.Roster line cause) h unheard = absurd h
+was_unheard tells tx out (statuses.State line cause) h unheard = absurd h
 was_unheard tells tx out statuses.Uncommissioned h unheard = absurd h
 was_unheard tells tx out statuses.Read h unheard = absurd cc
 was_unheard tells tx out statuses.Cut h unheard = absurd cc
@@ -178,63 +180,68 @@ was_unheard tells tx out statuses.Memory h unheard = absurd h
 some_none : (o : Option Address) (a : Address) → o ≡ Some a → o ≡ None → ⊥
 some_none o a s n = absurd cc
 
-ok_err : (r : Result Enrolled RosterFault) (x : Enrolled) (e : RosterFault) → r ≡ Ok x → r ≡ Err e → ⊥
+ok_err : (r : Result Known StateFault) (x : Known) (e : StateFault) → r ≡ Ok x → r ≡ Err e → ⊥
 ok_err r x e o f = absurd cc
 
 found_missing : (o : Option Commissioned) (m : Commissioned) → o ≡ Some m → o ≡ None → ⊥
 found_missing o m s n = absurd cc
 
-abbrev bad_roster : RosterFault → Result Enrolled RosterFault
-bad_roster fault = Err fault
+abbrev no_state : StateFault → Result Known StateFault
+no_state fault = Err fault
 
-abbrev good_roster : Enrolled → Result Enrolled RosterFault
-good_roster enrolled = Ok enrolled
+abbrev a_state : Known → Result Known StateFault
+a_state known = Ok known
 
--- the words and the roster name one meter
-same_meter : (run : Run) (a b : Address) (x y : Enrolled) → Names run a x → Names run b y → meter_with b y.meters ≡ meter_with a x.meters
+-- the words and the state name one meter
+same_meter : (run : Run) (a b : Address) (x y : Known) → Names run a x → Names run b y → meter_with b y.starts ≡ meter_with a x.starts
 same_meter run a b x y n m =
     let both : Some a ≡ Some b = sym n.named ∙ m.named in
     let address : a ≡ b = cc in
-    let rosters : good_roster x ≡ good_roster y = sym n.roster_is ∙ m.roster_is in
-    let enrolled : x ≡ y = cc in
-    ap₂ (λ (k : Address) (e : Enrolled). meter_with k e.meters) (sym address) (sym enrolled)
+    let states : a_state x ≡ a_state y = sym n.known_is ∙ m.known_is in
+    let known : x ≡ y = cc in
+    ap₂ (λ (k : Address) (e : Known). meter_with k e.starts) (sym address) (sym known)
+
+-- a text has one first fault
+one_fault : (r : Result Known StateFault) (e f : StateFault) → r ≡ Err e → r ≡ Err f → e ≡ f
+one_fault r e f is other = let both : no_state e ≡ no_state f = sym is ∙ other in cc
 
 module _ (run : Run) (headline : IsTrue (was_heard run.status) → IsTrue run.sources_tell → Headline run) (tells : IsTrue run.sources_tell)
   where
     heard : (s : SideStatus) → run.status ≡ s → IsTrue (was_heard s) → Headline run
     heard s is h = headline (subst (λ (x : SideStatus). IsTrue (was_heard x)) (sym is) h) tells
 
-    roster_heard : (line : ℕ) (cause : LineCause) → roster_of run.roster.before.left ≡ Err (Line line cause) → Headline run → ⊥
-    roster_heard line cause bad h = ok_err (roster_of run.roster.before.left) h.enrolled (Line line cause) h.names.roster_is bad
+    faulty_heard : (fault : StateFault) → state_of run.beginning.before.left ≡ Err fault → Headline run → ⊥
+    faulty_heard fault bad h = ok_err (state_of run.beginning.before.left) h.known fault h.names.known_is bad
 
-    roster_by : (a : Address) (line : ℕ) (cause : LineCause) → address_in run.words ≡ Some a
-        → roster_of run.roster.before.left ≡ Err (Line line cause)
-        → (s : SideStatus) → run.status ≡ s → IsCausedBy run s → IsUnlessUnread (statuses.Roster line cause) s
-    roster_by a line cause named bad statuses.Done is c = absurd (roster_heard line cause bad (heard statuses.Done is refl))
-    roster_by a line cause named bad statuses.Words is c = absurd (some_none (address_in run.words) a named c)
-    roster_by a line cause named bad statuses.ReadRoster is c = inr (inl refl)
-    roster_by a line cause named bad (statuses.Roster l k) is c =
-        let both : bad_roster (Line l k) ≡ bad_roster (Line line cause) = sym (c tells) ∙ bad in
-        let same : statuses.Roster l k ≡ statuses.Roster line cause = cc in
-        inl same
-    roster_by a line cause named bad statuses.Uncommissioned is c = let m = c tells in
-        absurd (ok_err (roster_of run.roster.before.left) m.enrolled (Line line cause) m.names.roster_is bad)
-    roster_by a line cause named bad statuses.Read is c = absurd (roster_heard line cause bad (heard statuses.Read is refl))
-    roster_by a line cause named bad statuses.Cut is c = absurd (roster_heard line cause bad (heard statuses.Cut is refl))
-    roster_by a line cause named bad statuses.Write is c = absurd (roster_heard line cause bad (heard statuses.Write is refl))
-    roster_by a line cause named bad statuses.Memory is c = inr (inr refl)
+    beginning_by : (a : Address) (fault : StateFault) → address_in run.words ≡ Some a → state_of run.beginning.before.left ≡ Err fault
+        → (s : SideStatus) → run.status ≡ s → IsCausedBy run s → IsUnlessUnread (status_of fault) s
+    beginning_by a fault named bad statuses.Done is c = absurd (faulty_heard fault bad (heard statuses.Done is refl))
+    beginning_by a fault named bad statuses.Words is c = absurd (some_none (address_in run.words) a named c)
+    beginning_by a fault named bad statuses.ReadRoster is c = inr (inl refl)
+    beginning_by a fault named bad (statuses.Roster l k) is c =
+        inl (ap status_of (one_fault (state_of run.beginning.before.left) (faults.Roster l k) fault (c tells) bad))
+    beginning_by a fault named bad (statuses.State l k) is c =
+        inl (ap status_of (one_fault (state_of run.beginning.before.left) (faults.Line l k) fault (c tells) bad))
+    beginning_by a fault named bad statuses.Uncommissioned is c = let m = c tells in
+        absurd (ok_err (state_of run.beginning.before.left) m.known fault m.names.known_is bad)
+    beginning_by a fault named bad statuses.Read is c = absurd (faulty_heard fault bad (heard statuses.Read is refl))
+    beginning_by a fault named bad statuses.Cut is c = absurd (faulty_heard fault bad (heard statuses.Cut is refl))
+    beginning_by a fault named bad statuses.Write is c = absurd (faulty_heard fault bad (heard statuses.Write is refl))
+    beginning_by a fault named bad statuses.Memory is c = inr (inr refl)
 
     meter_heard : IsUncommissioned run → Headline run → ⊥
     meter_heard u h =
-        let same = same_meter run u.address h.address u.enrolled h.enrolled u.names h.names in
-        found_missing (meter_with h.address h.enrolled.meters) h.meter h.commissioned (same ∙ u.missing)
+        let same = same_meter run u.address h.address u.known h.known u.names h.names in
+        found_missing (meter_with h.address h.known.starts) h.meter h.commissioned (same ∙ u.missing)
 
     meter_by : IsUncommissioned run → (s : SideStatus) → run.status ≡ s → IsCausedBy run s → IsUnlessUnread statuses.Uncommissioned s
     meter_by u statuses.Done is c = absurd (meter_heard u (heard statuses.Done is refl))
     meter_by u statuses.Words is c = absurd (some_none (address_in run.words) u.address u.names.named c)
     meter_by u statuses.ReadRoster is c = inr (inl refl)
     meter_by u (statuses.Roster l k) is c =
-        absurd (ok_err (roster_of run.roster.before.left) u.enrolled (Line l k) u.names.roster_is (c tells))
+        absurd (ok_err (state_of run.beginning.before.left) u.known (faults.Roster l k) u.names.known_is (c tells))
+    meter_by u (statuses.State l k) is c =
+        absurd (ok_err (state_of run.beginning.before.left) u.known (faults.Line l k) u.names.known_is (c tells))
     meter_by u statuses.Uncommissioned is c = inl refl
     meter_by u statuses.Read is c = absurd (meter_heard u (heard statuses.Read is refl))
     meter_by u statuses.Cut is c = absurd (meter_heard u (heard statuses.Cut is refl))
@@ -244,13 +251,15 @@ module _ (run : Run) (headline : IsTrue (was_heard run.status) → IsTrue run.so
     complete_by : IsFaultless run → (s : SideStatus) → IsCausedBy run s → (s ≡ statuses.Done) ⊎ (s ≡ statuses.Memory)
     complete_by f statuses.Done c = inl refl
     complete_by f statuses.Words c = absurd (some_none (address_in run.words) f.address f.names.named c)
-    complete_by f statuses.ReadRoster c = absurd (f.roster_steady c)
+    complete_by f statuses.ReadRoster c = absurd (f.beginning_steady c)
     complete_by f (statuses.Roster l k) c =
-        absurd (ok_err (roster_of run.roster.before.left) f.enrolled (Line l k) f.names.roster_is (c tells))
+        absurd (ok_err (state_of run.beginning.before.left) f.known (faults.Roster l k) f.names.known_is (c tells))
+    complete_by f (statuses.State l k) c =
+        absurd (ok_err (state_of run.beginning.before.left) f.known (faults.Line l k) f.names.known_is (c tells))
     complete_by f statuses.Uncommissioned c =
         let m = c tells in
-        let same = same_meter run m.address f.address m.enrolled f.enrolled m.names f.names in
-        absurd (found_missing (meter_with f.address f.enrolled.meters) f.meter f.commissioned (same ∙ m.missing))
+        let same = same_meter run m.address f.address m.known f.known m.names f.names in
+        absurd (found_missing (meter_with f.address f.known.starts) f.meter f.commissioned (same ∙ m.missing))
     complete_by f statuses.Read c = absurd (f.tx_steady c)
     complete_by f statuses.Cut c = let over = c tells in let within = f.within in absurd cc
     complete_by f statuses.Write c = absurd (f.out_steady c)
@@ -305,11 +314,13 @@ module _ (run : Run) (headline : IsTrue (was_heard run.status) → IsTrue run.so
   cut_by statuses.Words is c = absurd (some_none (address_in run.words) long.address long.names.named c)
   cut_by statuses.ReadRoster is c = inr (inr (inl refl))
   cut_by (statuses.Roster l k) is c =
-      absurd (ok_err (roster_of run.roster.before.left) long.enrolled (Line l k) long.names.roster_is (c tells))
+      absurd (ok_err (state_of run.beginning.before.left) long.known (faults.Roster l k) long.names.known_is (c tells))
+  cut_by (statuses.State l k) is c =
+      absurd (ok_err (state_of run.beginning.before.left) long.known (faults.Line l k) long.names.known_is (c tells))
   cut_by statuses.Uncommissioned is c =
       let m = c tells in
-      let same = same_meter run m.address long.address m.enrolled long.enrolled m.names long.names in
-      absurd (found_missing (meter_with long.address long.enrolled.meters) long.meter long.commissioned (same ∙ m.missing))
+      let same = same_meter run m.address long.address m.known long.known m.names long.names in
+      absurd (found_missing (meter_with long.address long.known.starts) long.meter long.commissioned (same ∙ m.missing))
   cut_by statuses.Read is c = inr (inl refl)
   cut_by statuses.Cut is c = inl refl
   cut_by statuses.Write is c = absurd (not_ended statuses.Write is refl write_cut write_read)
@@ -317,18 +328,18 @@ module _ (run : Run) (headline : IsTrue (was_heard run.status) → IsTrue run.so
 
 pub run_is : (run : Run) → (IsTrue (was_heard run.status) → IsTrue run.sources_tell → Headline run) → IsCausedBy run run.status
     → (address_in run.words ≡ None → run.status ≡ statuses.Words)
-    → (IsTrue run.sources_tell → run.tx.before.taken ≡ []) → (IsTrue run.sources_tell → LosesNothing run.roster)
+    → (IsTrue run.sources_tell → run.tx.before.taken ≡ []) → (IsTrue run.sources_tell → LosesNothing run.beginning)
     → (IsTrue run.sources_tell → LosesNothing run.tx) → (was_heard run.status ≡ false → run.tx.now ≡ run.tx.before)
     → (was_heard run.status ≡ false → IsSilent run.out) → IsRun run
-run_is run headline caused words fresh roster tx unread silent = record {
+run_is run headline caused words fresh beginning tx unread silent = record {
   headline = headline;
   status_caused = caused;
   words_refused = words;
-  roster_refused = λ t a line cause named bad. roster_by run headline t a line cause named bad run.status refl caused;
+  beginning_refused = λ t a fault named bad. beginning_by run headline t a fault named bad run.status refl caused;
   meter_refused = λ t u. meter_by run headline t u run.status refl caused;
   too_long_cut = λ t long. cut_by run headline t (fresh t) (tx t) long run.status refl caused;
   complete = λ t f. complete_by run headline t f run.status caused;
-  roster_kept = roster;
+  beginning_kept = beginning;
   tx_kept = tx;
   unread = unread;
   silent = silent;

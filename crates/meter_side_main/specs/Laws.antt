@@ -1,14 +1,17 @@
 -- Laws of what a meter executes, whatever is lost, repeated or reordered.
-use Rattle.std.specs.Prelude.{ℕ, ◌≡◌, ◌≢◌, ◌^◌, ◌<◌, ◌↔◌, if◌then◌else◌, Bool, true, false, IsTrue, List, [], ◌∷◌, filter}
+use Rattle.std.specs.Prelude.{ℕ, ◌≡◌, ◌≢◌, ◌==◌, ◌^◌, ◌<◌, ◌↔◌, if◌then◌else◌, Bool, true, false, IsTrue, List, [], ◌∷◌, filter, find}
 use Rattle.std.specs.List.{All}
 use Rattle.aes_block.specs.Block.{IsBlock}
 use Rattle.meter_address.specs.declared.address.Address.{Address}
 use Rattle.meter_address.specs.Commission.{Commissioned}
 use Rattle.downlink_maker.specs.Downlink.{downlink}
 use Rattle.downlink_maker.specs.Parts.{IsPayload}
+use Rattle.roster_file.specs.Roster.{Enrolled}
+use Rattle.state_file.specs.Whole.{fresh_known}
 use Rattle.meter_side_main.specs.declared.delivery.Executed.{Executed}
 use Rattle.meter_side_main.specs.Genuine.{AreExecuted, RiseAbove}
 use Rattle.meter_side_main.specs.Reading.{executed_after}
+use Rattle.meter_side_main.specs.Run.{meter_with}
 use Rattle.meter_side_main.specs.Side.{AllBytes}
 
 -- what is executed of some deliveries, computed, is what should be, and nothing else is
@@ -43,3 +46,7 @@ abbrev pub OthersChangeNothing : Type 0
 OthersChangeNothing = (own : Address) (c : Commissioned) (other : List ℕ → Bool) (deliveries : List (List ℕ)) → IsBlock c.key
     → AllBytes deliveries → All (λ d. IsTrue (other d) → IsForOther own c d) deliveries
     → executed_after own c c.down deliveries ≡ executed_after own c c.down (left_without other deliveries)
+
+-- where a run begins from a roster, which is a state of this, the meter is as the roster commissions it
+abbrev pub RostersCommission : Type 0
+RostersCommission = (r : Enrolled) (a : Address) → meter_with a (fresh_known r).starts ≡ find (λ m. m.address.0 == a.0) r.meters

@@ -1,41 +1,44 @@
--- What the words and the roster of a run come to, before any delivery is heard.
+-- What the words of a run, and the state that it begins from, come to before any delivery is heard.
 use Rattle.std.specs.Prelude.{ℕ, ◌≡◌, Bool, true, List, Some, None, Ok, Err, IsTrue}
 use Rattle.line_reader.specs.Lines.{is_over}
 use Rattle.meter_address.specs.declared.address.Address.{Address}
 use Rattle.outer_io.specs.Shown.{Change, SourceShown, SinkShown, ReadFailed, WriteFailed, IsReadOut}
-use Rattle.roster_file.specs.Roster.{Enrolled, roster_of}
-use Rattle.roster_file.specs.declared.roster.RosterFault.TheVariants.{Line}
+use Rattle.state_file.specs.Whole.{Known, state_of}
+use Rattle.state_file.specs.declared.fault.StateFault.TheVariants as faults
 use Rattle.meter_side_main.specs.declared.status.SideStatus.{SideStatus}
 use Rattle.meter_side_main.specs.declared.status.SideStatus.TheVariants as statuses
 use Rattle.meter_side_main.specs.declared.top.Meter.{Meter}
 use Rattle.meter_side_main.specs.Run.{address_in, meter_with}
 
--- the words name this meter of the roster, which was read to its end
-pub record IsNamed (words : List (List ℕ)) (roster : Change SourceShown) (meter : Meter) : Type 0 where
+-- the words name this meter of the state, which was read to its end
+pub record IsNamed (words : List (List ℕ)) (beginning : Change SourceShown) (meter : Meter) : Type 0 where
   pub address : Address
-  pub enrolled : Enrolled
+  pub known : Known
   pub named : address_in words ≡ Some address
-  pub roster_is : roster_of roster.before.left ≡ Ok enrolled
-  pub own_is : meter.own ≡ enrolled.own
-  pub commissioned : meter_with address enrolled.meters ≡ Some meter.commission
-  pub read : IsReadOut roster
+  pub known_is : state_of beginning.before.left ≡ Ok known
+  pub own_is : meter.own ≡ known.own
+  pub commissioned : meter_with address known.starts ≡ Some meter.commission
+  pub read : IsReadOut beginning
 
--- the words name an address that no meter of the roster has
-pub record IsMissing (words : List (List ℕ)) (roster : Change SourceShown) : Type 0 where
+-- the words name an address that no meter of the state has
+pub record IsMissing (words : List (List ℕ)) (beginning : Change SourceShown) : Type 0 where
   pub address : Address
-  pub enrolled : Enrolled
+  pub known : Known
   pub named : address_in words ≡ Some address
-  pub roster_is : roster_of roster.before.left ≡ Ok enrolled
-  pub missing : meter_with address enrolled.meters ≡ None
+  pub known_is : state_of beginning.before.left ≡ Ok known
+  pub missing : meter_with address known.starts ≡ None
 
 -- why no delivery is heard
 abbrev pub IsRefused : List (List ℕ) → Bool → Change SourceShown → SideStatus → Type 0
-IsRefused words tells roster statuses.Words = address_in words ≡ None
-IsRefused words tells roster statuses.ReadRoster = ReadFailed roster
-IsRefused words tells roster (statuses.Roster line cause) = IsTrue tells → roster_of roster.before.left ≡ Err (Line line cause)
-IsRefused words tells roster statuses.Uncommissioned = IsTrue tells → IsMissing words roster
-IsRefused words tells roster statuses.Memory = Unit {0}
-IsRefused words tells roster _ = ⊥
+IsRefused words tells beginning statuses.Words = address_in words ≡ None
+IsRefused words tells beginning statuses.ReadRoster = ReadFailed beginning
+IsRefused words tells beginning (statuses.Roster line cause) =
+    IsTrue tells → state_of beginning.before.left ≡ Err (faults.Roster line cause)
+IsRefused words tells beginning (statuses.State line cause) =
+    IsTrue tells → state_of beginning.before.left ≡ Err (faults.Line line cause)
+IsRefused words tells beginning statuses.Uncommissioned = IsTrue tells → IsMissing words beginning
+IsRefused words tells beginning statuses.Memory = Unit {0}
+IsRefused words tells beginning _ = ⊥
 
 -- why hearing the deliveries came to a status
 abbrev pub IsHeardFor : Bool → Change SourceShown → Change SinkShown → SideStatus → Type 0

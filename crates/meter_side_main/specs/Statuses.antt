@@ -1,7 +1,9 @@
 -- Statuses and their codes.
 use Rattle.std.specs.Prelude.{ℕ, Bool, true, false}
-use Rattle.roster_file.specs.declared.load.LoadFault.{LoadFault}
-use Rattle.roster_file.specs.declared.load.LoadFault.TheVariants as loads
+use Rattle.state_file.specs.declared.fault.StateFault.{StateFault}
+use Rattle.state_file.specs.declared.fault.StateFault.TheVariants as faults
+use Rattle.state_file.specs.declared.load.StateLoadFault.{StateLoadFault}
+use Rattle.state_file.specs.declared.load.StateLoadFault.TheVariants as loads
 use Rattle.meter_side_main.specs.declared.session.Ended.{Ended}
 use Rattle.meter_side_main.specs.declared.session.Ended.TheVariants as ends
 use Rattle.meter_side_main.specs.declared.status.SideStatus.{SideStatus}
@@ -12,6 +14,7 @@ abbrev pub code_of : SideStatus → ℕ
 code_of statuses.Done = 0
 code_of statuses.Words = 2
 code_of (statuses.Roster line cause) = 3
+code_of (statuses.State line cause) = 3
 code_of statuses.ReadRoster = 4
 code_of statuses.Read = 5
 code_of statuses.Write = 7
@@ -34,8 +37,15 @@ status_at ends.Fault failed = statuses.Read
 status_at ends.End true = statuses.Write
 status_at ends.End false = statuses.Done
 
--- the status of a roster that can't be loaded
-abbrev pub refused_at : LoadFault → SideStatus
+-- the status of a text that is no state, and no roster
+abbrev pub status_of : StateFault → SideStatus
+status_of (faults.Roster line cause) = statuses.Roster line cause
+status_of (faults.Line line cause) = statuses.State line cause
+status_of faults.Memory = statuses.Memory
+
+-- the status of a state that can't be loaded
+abbrev pub refused_at : StateLoadFault → SideStatus
 refused_at loads.Read = statuses.ReadRoster
-refused_at (loads.Line line cause) = statuses.Roster line cause
+refused_at (loads.Roster line cause) = statuses.Roster line cause
+refused_at (loads.Line line cause) = statuses.State line cause
 refused_at loads.Memory = statuses.Memory

@@ -1,7 +1,7 @@
 //! Laws of what a meter executes: each function's contract is a law.
 ghost use Rattle.meter_side_main.specs.Genuine.{GenuineAreTold, ContentsArePayloads};
 ghost use Rattle.meter_side_main.specs.Refusals.{RefusedExactly, PlacesAreJudged};
-ghost use Rattle.meter_side_main.specs.Laws.{ExecutedExactly, ExecutedRise, OthersChangeNothing};
+ghost use Rattle.meter_side_main.specs.Laws.{ExecutedExactly, ExecutedRise, OthersChangeNothing, RostersCommission};
 
 /// What passes all but the comparison of its counter is a genuine downlink, and no other delivery is.
 pub fn genuine_are_told()
@@ -38,4 +38,9 @@ pub fn others_change_nothing()
 /// or the MAC; at the place of L exactly where L isn't that of one to six blocks.
 pub fn places_are_judged()
     ensures { PlacesAreJudged }
+{}
+
+/// A meter of a roster, which is a state (state_file `rosters_are_states`), begins as the roster commissions it.
+pub fn rosters_commission()
+    ensures { RostersCommission }
 {}

@@ -6,6 +6,7 @@ mod laws;
 mod layers;
 mod lines;
 mod listener;
+mod message;
 mod opening;
 mod reason;
 mod session;
@@ -17,7 +18,7 @@ mod top;
 pub use delivery::{CONTENT_MAX, Content, DELIVERY_MAX, Delivery, Executed};
 pub use laws::{
     contents_are_payloads, executed_exactly, executed_rise, genuine_are_told,
-    others_change_nothing, places_are_judged, refused_exactly,
+    others_change_nothing, places_are_judged, refused_exactly, rosters_commission,
 };
 pub use lines::{Answer, LINE_MAX};
 pub use reason::{Did, SideReason};

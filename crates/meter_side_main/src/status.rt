@@ -1,5 +1,6 @@
 //! How a run of the meter's side ended.
 use roster_file::LineCause;
+use state_file::FileCause;
 
 /// How a run of the meter's side ended: the first of these that applies, in this order, but for `Done` and `Memory`.
 #[derive(Clone, Copy, Debug, PartialEq, Eq)]
@@ -8,11 +9,13 @@ pub enum SideStatus {
     Done,
     /// Status 2: there aren't three words, or the second is no address.
     Words,
-    /// Status 4: the roster can't be read.
+    /// Status 4: the roster, or the state, can't be read.
     ReadRoster,
     /// Status 3: the first faulty line of the roster, and what is wrong with it.
     Roster(u32, LineCause),
-    /// Status 12: no meter of the roster has the address.
+    /// Status 3: the first faulty line of the state, and what is wrong with it.
+    State(u32, FileCause),
+    /// Status 12: no meter of the roster, or of the state, has the address.
     Uncommissioned,
     /// Status 5: the deliveries can't be read.
     Read,
@@ -20,7 +23,7 @@ pub enum SideStatus {
     Cut,
     /// Status 7: the output can't be written.
     Write,
-    /// Status 10: there is no memory for the roster, in place of any but `Words`.
+    /// Status 10: there is no memory for the roster or the state, in place of any but `Words`.
     Memory,
 }
 
@@ -35,7 +38,7 @@ impl SideStatus {
         match self {
             SideStatus::Done => 0,
             SideStatus::Words => 2,
-            SideStatus::Roster(..) => 3,
+            SideStatus::Roster(..) | SideStatus::State(..) => 3,
             SideStatus::ReadRoster => 4,
             SideStatus::Read => 5,
             SideStatus::Write => 7,

@@ -10,9 +10,10 @@ use crate::session::{Ended, hear_source};
 use crate::status::SideStatus;
 use line_reader::TextReader;
 use meter_address::{Address, Commission};
+use meter_slots::MeterStart;
 use outer_io::{Sink, Source};
 use paper::SinkPaper;
-use roster_file::{LoadFault, load_roster};
+use state_file::{StateLoadFault, load_state};
 use std::alloc::Global;
 
 // The address in the words.
@@ -34,60 +35,61 @@ pub fn names_meter(words: &[String]) -> bool
     named_address(words).is_some()
 }
 
-// The meter with this address.
-fn meter_of(meters: &[Commission], address: Address) -> Option<Commission>
-    ensures { result ≡ meter_with address meters.now }
+// What is commissioned now of the meter with this address.
+fn meter_of(starts: &[MeterStart], address: Address) -> Option<Commission>
+    ensures { result ≡ meter_with address starts.now }
 {
-    for meter in meters {
-        if meter.address.0 == address.0 {
-            return Some(*meter);
+    for start in starts {
+        if start.address().0 == address.0 {
+            return Some(start.known().commission());
         }
     }
     None
 }
 
-// The status of a roster that can't be loaded.
-fn unloaded(fault: LoadFault) -> SideStatus
+// The status of a state that can't be loaded.
+fn unloaded(fault: StateLoadFault) -> SideStatus
     ensures { result ≡ refused_at fault }
 {
     match fault {
-        LoadFault::Read => SideStatus::ReadRoster,
-        LoadFault::Line(line, cause) => SideStatus::Roster(line, cause),
-        LoadFault::Memory => SideStatus::Memory,
+        StateLoadFault::Read => SideStatus::ReadRoster,
+        StateLoadFault::Roster(line, cause) => SideStatus::Roster(line, cause),
+        StateLoadFault::Line(line, cause) => SideStatus::State(line, cause),
+        StateLoadFault::Memory => SideStatus::Memory,
     }
 }
 
-// A meter of a roster, and the collector's own address.
+// A meter of a state, and the collector's own address.
 #[derive(Drop)]
 pub(crate) struct Meter {
     own: Address,
     commission: Commission,
 }
 
-// The meter that the words name, of a roster's source, or the status that says why there is none.
+// The meter that the words name, of a state's source, or the status that says why there is none.
 fn find_meter<S: Source>(
     alloc: Global,
     words: &[String],
-    roster: &mut S,
+    beginning: &mut S,
 ) -> Result<Meter, SideStatus>
     ensures found { IfOk result (λ meter. IsTrue S.tells →
-        IsNamed (map string_bytes words.now) (source_change S.Source roster.old roster.new) meter) }
+        IsNamed (map string_bytes words.now) (source_change S.Source beginning.old beginning.new) meter) }
     ensures refused { IfErr result (λ status.
-        IsRefused (map string_bytes words.now) S.tells (source_change S.Source roster.old roster.new) status) }
-    ensures words { address_in (map string_bytes words.now) ≡ None → (result ≡ Err SideStatus.Words) × (roster.new ≡ roster.old) }
-    ensures no_loss { IsTrue S.tells → LosesNothing (source_change S.Source roster.old roster.new) }
+        IsRefused (map string_bytes words.now) S.tells (source_change S.Source beginning.old beginning.new) status) }
+    ensures words { address_in (map string_bytes words.now) ≡ None → (result ≡ Err SideStatus.Words) × (beginning.new ≡ beginning.old) }
+    ensures no_loss { IsTrue S.tells → LosesNothing (source_change S.Source beginning.old beginning.new) }
 {
     let Some(address) = named_address(words) else {
         return Err(SideStatus::Words);
     };
-    let roster = match load_roster(alloc, roster) {
-        Ok(roster) => roster,
+    let state = match load_state(alloc, beginning) {
+        Ok(state) => state,
         Err(fault) => return Err(unloaded(fault)),
     };
-    let Some(commission) = meter_of(roster.meters(), address) else {
+    let Some(commission) = meter_of(state.starts(), address) else {
         return Err(SideStatus::Uncommissioned);
     };
-    let own = roster.own();
+    let own = state.own();
     Ok(Meter { own, commission })
 }
 
@@ -146,38 +148,39 @@ fn hear<S: Source, K: Sink>(meter: &Meter, tx: &mut TextReader<S>, out: &mut K) 
     hear_on(meter, tx, &mut paper)
 }
 
-/// Hears the deliveries of `tx` for the meter of the roster that the words `ROSTER ADDRESS TX` name, and writes what is answered to each
-/// as it is heard. Memory is taken for the roster alone, before the first delivery is read.
+/// Hears the deliveries of `tx` for the meter of the state that the words `STATE ADDRESS TX` name, and writes what is answered to each
+/// as it is heard. A roster is a state, whose meters are just commissioned. The last counter is at first the one that the state
+/// says of the meter. Memory is taken for the state alone, before the first delivery is read.
 ///
 /// The reader is one that was just made over the deliveries, for lines of at most `LINE_MAX` bytes.
 pub fn meter_run<S: Source, K: Sink>(
     alloc: Global,
     words: &[String],
-    roster: &mut S,
+    beginning: &mut S,
     tx: &mut TextReader<S>,
     out: &mut K,
 ) -> SideStatus
     requires fresh { tx.old.reader.line ≡ 0 }
     requires goes_on { tx.old.reader.done ≡ false }
     requires longest { tx.old.longest ≡ 582 }
-    requires untaken { IsTrue S.tells → (S.taken roster.old ≡ []) × (S.taken tx.old.reader.source ≡ []) }
+    requires untaken { IsTrue S.tells → (S.taken beginning.old ≡ []) × (S.taken tx.old.reader.source ≡ []) }
     requires empty { IsTrue K.tells → K.written out.old ≡ [] }
     ensures run { IsRun (record {
       words = map string_bytes words.now;
       sources_tell = S.tells;
       sinks_tell = K.tells;
-      roster = source_change S.Source roster.old roster.new;
+      beginning = source_change S.Source beginning.old beginning.new;
       tx = source_change S.Source tx.old.reader.source tx.new.reader.source;
       out = sink_change K.Sink out.old out.new;
       status = result;
     }) }
 
-    // What stays as it was: the deliveries and the output where none was heard, and the roster after faulty words.
+    // What stays as it was: the deliveries and the output where none was heard, and the state after faulty words.
     ensures tx { was_heard result ≡ false → tx.new ≡ tx.old }
     ensures out { was_heard result ≡ false → out.new ≡ out.old }
-    ensures roster { address_in (map string_bytes words.now) ≡ None → roster.new ≡ roster.old }
+    ensures beginning { address_in (map string_bytes words.now) ≡ None → beginning.new ≡ beginning.old }
 {
-    match find_meter(alloc, words, roster) {
+    match find_meter(alloc, words, beginning) {
         Ok(meter) => hear(&meter, tx, out),
         Err(status) => status,
     }

@@ -53,6 +53,10 @@ fn a_downlink_is_executed_once(rt: HostRuntime) -> Result<(), Fail> {
 const ROSTER: &str =
     "wmbus-roster 1\nown 9315010000000131\nmeter 9315010203040107 7 000102030405060708090a0b0c0d0e0f - 0 0\n";
 
+// What is known of the meter behind a session with two downlinks, the later of which has no answer yet.
+const STATE: &str =
+    "wmbus-state 1\nown 9315010000000131\nmeter 9315010203040107 7 000102030405060708090a0b0c0d0e0f - 6 2 1\nreading 9 6 -\nwaits 1 2 01\nend\n";
+
 // Four downlinks to the meter, as another implementation made them, and the first one with a bit of its MAC changed.
 const SENT: &str = "\
 D 38439315010000000131247b900f002c25010000007cdc9b50de7dca9cdbda5b01020304931501070100100710744c8678dbb10103da50b76d22ae4e8f67427c6e
@@ -62,7 +66,7 @@ D 38439315010000000131247b900f002c2504000000dfb4dafc41d5c3ef1a075b01020304931501
 D 38439315010000000131247b900f002c25010000007ddc9b50de7dca6ee4da5b01020304931501070100100710744c8678dbb10103da50b76d22ae4e8f67427c6e
 ";
 
-// Each run: its roster, the meter's address, the places of the downlinks in their order, which read of the roster, which read of the
+// Each run: what it begins from, the meter's address, the places of the downlinks in their order, which read of that, which read of the
 // downlinks and which write fails, none of which has the number 0, and the status; below it what is printed. The first two are the four
 // in their order, and in the order 1, 3, 2, 3, 4.
 const RUNS: &str = "\
@@ -82,9 +86,16 @@ last 4
 run whole 9315010203040107 4 000 Done
 refused mac
 last 0
+run state 9315010203040107 0123 000 Done
+refused stale 1 2
+refused stale 2 2
+executed 3 012f2f2f2f2f2f2f2f2f2f2f2f2f
+executed 4 022f2f2f2f2f2f2f2f2f2f2f2f2f
+last 4
 run whole 931501020304010 0 000 Words
 run whole 9315010203040107 0 100 ReadRoster
 run faulty 9315010203040107 0 000 Roster(1, Head)
+run placeless 9315010203040107 0 000 State(3, Place)
 run whole 9315010203040108 0 000 Uncommissioned
 run whole 9315010203040107 01 030 Read
 executed 1 012f2f2f2f2f2f2f2f2f2f2f2f2f
@@ -120,36 +131,41 @@ fn fails(alloc: Global, digits: &str, place: usize) -> Result<Vec<u64>, AllocErr
 // Runs the meter's side over these downlinks, where the reads and the write with these numbers fail.
 fn run(
     alloc: Global,
-    roster: &str,
+    beginning: &str,
     address: &str,
     order: &str,
     fail: &str,
 ) -> Result<(SideStatus, MemorySink), AllocError> {
     let mut words = Vec::new(alloc);
-    for word in ["roster", address, "tx"] {
+    for word in ["state", address, "tx"] {
         words.push(String::from_str(alloc, word)?)?;
     }
-    let bytes = roster.as_bytes().to_vec(alloc)?;
-    let mut roster = MemorySource::new(bytes, fails(alloc, fail, 0)?);
+    let bytes = beginning.as_bytes().to_vec(alloc)?;
+    let mut beginning = MemorySource::new(bytes, fails(alloc, fail, 0)?);
     let tx = MemorySource::pieces(sent(alloc, order)?, 100, fails(alloc, fail, 1)?);
     let mut tx = TextReader::new(tx, LINE_MAX);
     let mut out = MemorySink::new(alloc, fails(alloc, fail, 2)?);
-    let status = meter_run(alloc, &words, &mut roster, &mut tx, &mut out);
+    let status = meter_run(alloc, &words, &mut beginning, &mut tx, &mut out);
     Ok((status, out))
+}
+
+// What a run of this kind begins from.
+fn beginning(kind: &str) -> &'static str {
+    match kind {
+        "whole" => ROSTER,
+        "state" => STATE,
+        "placeless" => "wmbus-state 1\nown 9315010000000131\ntick\nend\n",
+        _ => "wmbus-roster 9",
+    }
 }
 
 // Asserts what a run comes to: its first row says what it is over, and its status.
 fn assert_run(rt: &impl Abort, alloc: Global, head: &str, printed: &str) -> Result<(), Fail> {
     let words: Vec<&str> = head.split_whitespace().collect(alloc)?;
-    let [roster, address, order, fail, ..] = words.as_slice() else {
+    let [kind, address, order, fail, ..] = words.as_slice() else {
         return Err("no run".into());
     };
-    let roster = if *roster == "whole" {
-        ROSTER
-    } else {
-        "wmbus-roster 9"
-    };
-    let (status, out) = run(alloc, roster, address, order, fail)?;
+    let (status, out) = run(alloc, beginning(kind), address, order, fail)?;
     let status = format!(in alloc; " {status:?}")?;
     assert!(rt; head.ends_with(status.as_str()), "{head}: {status}");
     assert_eq!(rt; out.bytes(), printed.as_bytes(), "{head}");
@@ -165,6 +181,6 @@ fn runs_end_by_their_status(rt: HostRuntime) -> Result<(), Fail> {
             runs = runs.saturating_add(1);
         }
     }
-    assert_eq!(rt; runs, 9);
+    assert_eq!(rt; runs, 11);
     Ok(())
 }

@@ -6,7 +6,8 @@ use access_window::Window;
 use line_reader::read_line;
 use meter_address::{Address, Commission, Mode};
 use meter_slots::{
-    Directory, Event, Landed, MeterStart, Outcome, Reason, SentDownlink, SlotBook, Step, World, event_of,
+    Directory, Event, Landed, MeterStart, Outcome, Reason, SentDownlink, SlotBook, Step, World,
+    event_of,
 };
 use std::alloc::{AllocError, Global};
 use std::process::Abort;

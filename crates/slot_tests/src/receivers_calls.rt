@@ -136,7 +136,11 @@ fn two_receivers_of_one_meter(rt: HostRuntime) -> Result<(), Fail> {
 fn a_receiver_alone(rt: HostRuntime) -> Result<(), Fail> {
     let alloc = rt.alloc();
     let mut receiver = radio(alloc, COMMANDED, &[], &[])?;
-    let mut world = World::new(alloc, Address(OWN), vec![in alloc; MeterStart::new(water())]?)?;
+    let mut world = World::new(
+        alloc,
+        Address(OWN),
+        vec![in alloc; MeterStart::new(water())]?,
+    )?;
     assert_eq!(rt; receiver.work_alone(1, &mut world), Ended::End);
     assert_eq!(rt; receiver.counts().own, 3);
     assert_eq!(rt; receiver.tx().bytes().len(), 0);

@@ -31,7 +31,11 @@ fn a_session_of_four_receivers_is_reported(rt: HostRuntime) -> Result<(), Fail> 
         down: 3,
         ids: 0,
     };
-    let world = World::new(rt.alloc(), own, vec![in rt.alloc(); MeterStart::new(commission)]?)?;
+    let world = World::new(
+        rt.alloc(),
+        own,
+        vec![in rt.alloc(); MeterStart::new(commission)]?,
+    )?;
     let ends = [
         end(Ended::End),
         end(Ended::Cut),
@@ -71,7 +75,11 @@ fn a_meter_without_readings_has_no_records(rt: HostRuntime) -> Result<(), Fail> 
         down: 0,
         ids: 0,
     };
-    let world = World::new(rt.alloc(), own, vec![in rt.alloc(); MeterStart::new(commission)]?)?;
+    let world = World::new(
+        rt.alloc(),
+        own,
+        vec![in rt.alloc(); MeterStart::new(commission)]?,
+    )?;
     let session = Session {
         ends: &[],
         slots: world.slots(),
