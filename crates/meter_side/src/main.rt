@@ -108,7 +108,7 @@ fn perform<R: Print + Eprint + Files<File = File> + AllocGlobal>(
     ensures text { asks_for_text (map string_bytes words.now) ≡ true → IsTold 7 (exit_status result) }
     ensures faulty { asks_for_text (map string_bytes words.now) ≡ false → names_meter (map string_bytes words.now) ≡ false →
         exit_status result ≡ 2 }
-    ensures run { names_meter (map string_bytes words.now) ≡ true → IsRunExit (exit_status result) }
+    ensures exit { names_meter (map string_bytes words.now) ≡ true → IsRunExit (exit_status result) }
 {
     if let Some(own) = own_text(words) {
         return show(rt, own);
@@ -133,7 +133,10 @@ fn perform<R: Print + Eprint + Files<File = File> + AllocGlobal>(
 }
 
 // What it means that the words can't be had.
-fn status_without_words(reason: NoWords) -> SideStatus {
+fn status_without_words(reason: NoWords) -> SideStatus
+    ensures memory { reason ≡ NoWords.Memory → result ≡ SideStatus.Memory }
+    ensures not_text { reason ≡ NoWords.NotText → result ≡ SideStatus.Words }
+{
     match reason {
         NoWords::Memory => SideStatus::Memory,
         NoWords::NotText => SideStatus::Words,
