@@ -1,7 +1,7 @@
 //! The program `audit_check`: opens the files that its words name, and audits a report.
 #![tactic(auto)]
 
-ghost use Rattle.std.specs.Prelude.{◌≡◌, ◌+◌, [], true, false, length, map, vec_len, IsTrue, IfOk};
+ghost use Rattle.std.specs.Prelude.{◌≡◌, ◌+◌, [], true, false, length, map, vec_len, IsTrue, IfOk, IfErr};
 ghost use Rattle.std.specs.String.{string_bytes};
 ghost use Rattle.std.specs.Process.{exit_status};
 ghost use Rattle.outer_io.specs.Shown.{source_change, sink_change};
@@ -9,6 +9,7 @@ ghost use Rattle.audit_check_main.specs.declared.status.AuditStatus.{AuditStatus
 ghost use Rattle.audit_check_main.specs.Run.{IsRun, source_changes, are_files};
 ghost use Rattle.audit_check_main.specs.Statuses.{code_of};
 ghost use Rattle.program_words.specs.OwnTexts.{asks_for_text, IsTold};
+ghost use Rattle.audit_check.specs.Exit.{IsRunExit, IsUnopened};
 
 use audit_check_main::{AuditStatus, audit_run, files_named};
 use outer_io::{Sink, Source, StdSink, StdSource};
@@ -70,7 +71,9 @@ fn show<R: Print + Eprint>(rt: &R, own: OwnText) -> ExitCode
 
 // Says that a file can't be opened.
 fn cannot_open(rt: &impl Eprint) -> ExitCode
-    ensures { exit_status result ≡ 11 }
+    ensures unopened { exit_status result ≡ 11 }
+    ensures stops { IsUnopened (exit_status result) }
+    ensures exit { IsRunExit (exit_status result) }
 {
     program_words::end(rt, 11, said(11))
 }
@@ -86,7 +89,9 @@ fn answer<R: Eprint + AllocGlobal, S: Source, K: Sink>(
 ) -> ExitCode
     requires count { are_files (map string_bytes command.now) ≡ true → vec_len inputs.old + 2 ≡ length command.now }
     requires empty { IsTrue K.tells → K.written out.old ≡ [] }
-    ensures { (status : AuditStatus) × (exit_status result ≡ code_of status) × IsRun (record {
+
+    // The exit status is that of a run over these files, and one of those that the program has for a run.
+    ensures run { (status : AuditStatus) × (exit_status result ≡ code_of status) × IsRun (record {
       sources_tell = S.tells;
       sinks_tell = K.tells;
       words = map string_bytes command.now;
@@ -96,6 +101,7 @@ fn answer<R: Eprint + AllocGlobal, S: Source, K: Sink>(
       out = sink_change K.Sink out.old out.new;
       status = status;
     }) }
+    ensures exit { are_files (map string_bytes command.now) ≡ true → IsRunExit (exit_status result) }
 {
     let status = audit_run(rt.alloc(), command, state, report, inputs, out);
     end(rt, status)
@@ -106,7 +112,9 @@ fn open_all<R: Eprint + Files<File = File> + AllocGlobal>(
     rt: &R,
     names: &[String],
 ) -> Result<Vec<StdSource>, ExitCode>
-    ensures { IfOk result (λ sources. vec_len sources ≡ length names.now) }
+    ensures count { IfOk result (λ sources. vec_len sources ≡ length names.now) }
+    ensures stops { IfErr result (λ exit. IsUnopened (exit_status exit)) }
+    ensures exit { IfErr result (λ exit. IsRunExit (exit_status exit)) }
 {
     let mut sources = Vec::new(rt.alloc());
     for name in names {
@@ -129,6 +137,8 @@ fn perform<R: Print + Eprint + Files<File = File> + AllocGlobal>(
     ensures text { asks_for_text (map string_bytes command.now) ≡ true → IsTold 7 (exit_status result) }
     ensures faulty { asks_for_text (map string_bytes command.now) ≡ false → are_files (map string_bytes command.now) ≡ false →
         exit_status result ≡ 2 }
+    ensures exit { asks_for_text (map string_bytes command.now) ≡ false → are_files (map string_bytes command.now) ≡ true →
+        IsRunExit (exit_status result) }
 {
     if let Some(own) = own_text(command) {
         return show(rt, own);
@@ -151,7 +161,10 @@ fn perform<R: Print + Eprint + Files<File = File> + AllocGlobal>(
 }
 
 // What it means that the words can't be had.
-fn status_without_words(reason: NoWords) -> AuditStatus {
+fn status_without_words(reason: NoWords) -> AuditStatus
+    ensures memory { reason ≡ NoWords.Memory → result ≡ AuditStatus.Memory }
+    ensures not_text { reason ≡ NoWords.NotText → result ≡ AuditStatus.Words }
+{
     match reason {
         NoWords::Memory => AuditStatus::Memory,
         NoWords::NotText => AuditStatus::Words,

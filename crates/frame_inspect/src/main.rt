@@ -1,11 +1,15 @@
 //! The program `frame_inspect`: opens the file that its words name, and shows every layer of its frames.
 #![tactic(auto)]
 
-ghost use Rattle.std.specs.Prelude.{◌≡◌, ◌++◌, [], true, false, IsTrue, IsSome, map, None};
+ghost use Rattle.std.specs.Prelude.{◌≡◌, ◌++◌, [], true, false, IsTrue, IsSome, IfErr, map, None};
 ghost use Rattle.std.specs.String.{string_bytes};
 ghost use Rattle.std.specs.Process.{exit_status};
+ghost use Rattle.outer_io.specs.Shown.{source_change, sink_change};
 ghost use Rattle.line_reader.specs.Lines.{all_lines};
-ghost use Rattle.frame_inspect_main.specs.Run.{inspected};
+ghost use Rattle.line_reader.specs.Reader.{given};
+ghost use Rattle.frame_inspect_main.specs.declared.status.InspectStatus.{InspectStatus};
+ghost use Rattle.frame_inspect_main.specs.Run.{IsRun, inspected};
+ghost use Rattle.frame_inspect_main.specs.Statuses.{code_of};
 ghost use Rattle.frame_inspect_main.specs.Words.{workers_of};
 ghost use Rattle.program_words.specs.OwnTexts.{asks_for_text, IsTold};
 ghost use Rattle.frame_inspect.specs.Exit.{IsRunExit};
@@ -47,11 +51,12 @@ fn said(code: u8) -> Numbered {
     }
 }
 
-// Ends with a status, and says which unless all is done.
-fn end(rt: &impl Eprint, status: u8) -> ExitCode
-    ensures { exit_status result ≡ status }
+// Says the exit status, unless all is done, and ends with it.
+fn end(rt: &impl Eprint, status: InspectStatus) -> ExitCode
+    ensures { exit_status result ≡ code_of status }
 {
-    program_words::end(rt, status, said(status))
+    let code = status.code();
+    program_words::end(rt, code, said(code))
 }
 
 // Shows the frames of a file, and ends with the status of that.
@@ -65,14 +70,36 @@ fn show<R: Threads + Sync + Eprint + AllocGlobal, S: Source, K: Sink>(
     requires fresh { (frames.old.reader.line ≡ 0) × (frames.old.reader.done ≡ false) }
     requires longest { frames.old.longest ≡ 1024 }
     requires empty { IsTrue K.tells → K.written out.old ≡ [] }
-    ensures run { IsRunExit (exit_status result) }
+
+    // The exit status is that of a run over the lines of the file, and one of those that the program has for a run.
+    ensures run { (status : InspectStatus) × (exit_status result ≡ code_of status) × IsRun (record {
+      workers = workers_of (map string_bytes command.now);
+      source_tells = S.tells;
+      sink_tells = K.tells;
+      frames = source_change S.Source frames.old.reader.source frames.new.reader.source;
+      lines = given S.taken frames.new.reader;
+      output = sink_change K.Sink out.old out.new;
+      status = status;
+    }) }
+    ensures exit { IsRunExit (exit_status result) }
 
     // After status 0 the output is the text of all lines.
     ensures done { exit_status result ≡ 0 → IsTrue S.tells → IsTrue K.tells →
         K.written out.new ≡ inspected (all_lines (S.taken frames.old.reader.source ++ S.left frames.old.reader.source)) }
 {
     let status = inspect_run(rt, rt.alloc(), command, frames, out);
-    end(rt, status.code())
+    end(rt, status)
+}
+
+// Opens the file of frames, or ends with status 11.
+fn open_frames<R: Eprint + Files<File = File>>(rt: &R, name: &str) -> Result<File, ExitCode>
+    ensures unopened { IfErr result (λ ended. exit_status ended ≡ 11) }
+    ensures exit { IfErr result (λ ended. IsRunExit (exit_status ended)) }
+{
+    match File::open(rt, name) {
+        Ok(file) => Ok(file),
+        Err(_unopened) => Err(program_words::end(rt, 11, said(11))),
+    }
 }
 
 // Does what the words behind the program's name ask for.
@@ -84,24 +111,28 @@ fn perform<R: Threads + Sync + Print + Eprint + Files<File = File> + AllocGlobal
     ensures text { asks_for_text (map string_bytes command.now) ≡ true → IsTold 7 (exit_status result) }
     ensures faulty { asks_for_text (map string_bytes command.now) ≡ false → workers_of (map string_bytes command.now) ≡ None
         → exit_status result ≡ 2 }
-    ensures run { IsSome (workers_of (map string_bytes command.now)) → IsRunExit (exit_status result) }
+    ensures exit { IsSome (workers_of (map string_bytes command.now)) → IsRunExit (exit_status result) }
 {
     if let Some(own) = own_text(command) {
         let unwritten = InspectStatus::Write.code();
         return tell(rt, own.text(HELP, VERSION), unwritten, said(unwritten));
     }
     let (Some(_), [name, ..]) = (workers(command), command) else {
-        return end(rt, InspectStatus::Words.code());
+        return end(rt, InspectStatus::Words);
     };
-    let Ok(file) = File::open(rt, name.as_str()) else {
-        return end(rt, 11);
+    let file = match open_frames(rt, name.as_str()) {
+        Ok(file) => file,
+        Err(ended) => return ended,
     };
     let mut frames = TextReader::new(StdSource::file(file), LINE_MAX);
     show(rt, command, &mut frames, &mut out)
 }
 
 // What it means that the words can't be had.
-fn status_without_words(reason: NoWords) -> InspectStatus {
+fn status_without_words(reason: NoWords) -> InspectStatus
+    ensures memory { reason ≡ NoWords.Memory → result ≡ InspectStatus.Memory }
+    ensures not_text { reason ≡ NoWords.NotText → result ≡ InspectStatus.Words }
+{
     match reason {
         NoWords::Memory => InspectStatus::Memory,
         NoWords::NotText => InspectStatus::Words,
@@ -111,6 +142,6 @@ fn status_without_words(reason: NoWords) -> InspectStatus {
 fn main(rt: HostRuntime) -> ExitCode {
     match command_words(&rt) {
         Ok(command) => perform(&rt, &command, StdSink::standard(rt.stdout())),
-        Err(reason) => end(&rt, status_without_words(reason).code()),
+        Err(reason) => end(&rt, status_without_words(reason)),
     }
 }

@@ -1,21 +1,23 @@
 //! The program `input_check`: opens the files that its words name, and says in words what is wrong with them.
 #![tactic(auto)]
 
-ghost use Rattle.std.specs.Prelude.{◌≡◌, ◌==◌, [], true, false, map, if◌then◌else◌};
+ghost use Rattle.std.specs.Prelude.{◌≡◌, [], true, false, length, map, Bool, Result, IsTrue, IfOk, IfErr};
 ghost use Rattle.std.specs.String.{string_bytes};
 ghost use Rattle.std.specs.Process.{exit_status};
+ghost use Rattle.outer_io.specs.Each.{Each};
+ghost use Rattle.outer_io.specs.Shown.{source_change, sink_change};
+ghost use Rattle.input_check_main.specs.declared.rosters.Stop.{Stop};
+ghost use Rattle.input_check_main.specs.Receivers.{IsFresh, reader_changes, bytes_of_each};
+ghost use Rattle.input_check_main.specs.Run.{IsRun};
 ghost use Rattle.program_words.specs.OwnTexts.{asks_for_text, IsTold};
-ghost use Rattle.input_check.specs.Exit.{code_of};
+ghost use Rattle.input_check.specs.Exit.{code_of, status_of, names_roster, IsRunExit, IsUnopened};
 
 mod status;
 
-use input_check_main::{
-    CheckedRoster, Note, Stop, check_receiver, check_roster, hearing_notes, key_notes, print_notes,
-};
+use input_check_main::{Stop, check_inputs};
 use line_reader::Lines;
-use meter_address::Address;
-use outer_io::{Memory, StdSink, StdSource};
-use program_words::{NoWords, command_words, own_text, tell};
+use outer_io::{Sink, Source, StdSink, StdSource};
+use program_words::{NoWords, OwnText, command_words, own_text, tell};
 use status::CheckStatus;
 use std::fs::{File, Files};
 use std::process::ExitCode;
@@ -50,85 +52,84 @@ fn end(rt: &impl Eprint, status: CheckStatus) -> ExitCode
     program_words::end(rt, status.code(), status)
 }
 
-// How a check ends that found so many faulty lines.
-fn status_of(faulty: u64) -> CheckStatus
-    ensures { result ≡ (if faulty == 0 then CheckStatus.Done else CheckStatus.Found) }
+// Prints a text of the program's own.
+fn show<R: Print + Eprint>(rt: &R, own: OwnText) -> ExitCode
+    ensures { IsTold 7 (exit_status result) }
 {
-    if faulty == 0 {
-        CheckStatus::Done
-    } else {
-        CheckStatus::Found
+    let unwritten = CheckStatus::Stopped(Stop::Write);
+    tell(rt, own.text(HELP, VERSION), unwritten.code(), unwritten)
+}
+
+// How a check ends that answered this.
+fn status_of(checked: Result<bool, Stop>) -> CheckStatus
+    ensures { result ≡ status_of checked }
+{
+    match checked {
+        Ok(false) => CheckStatus::Done,
+        Ok(true) => CheckStatus::Found,
+        Err(stop) => CheckStatus::Stopped(stop),
     }
 }
 
-// Prints notes that there may be no memory for.
-fn print_noted(notes: Result<Vec<Note>, Memory>, out: &mut StdSink) -> Result<(), CheckStatus> {
-    let Ok(notes) = notes else {
-        return Err(CheckStatus::Stopped(Stop::Memory));
-    };
-    print_notes(&notes, out).map_err(CheckStatus::Stopped)
-}
-
-// Checks the file of a roster.
-fn check_roster_file<R: Files<File = File> + AllocGlobal>(
+// Checks a roster and receivers, and ends with the status of that.
+fn check<R: Eprint + AllocGlobal, S: Source, K: Sink>(
     rt: &R,
-    name: &str,
-    out: &mut StdSink,
-) -> Result<CheckedRoster, CheckStatus> {
-    let Ok(file) = File::open(rt, name) else {
-        return Err(CheckStatus::Unopened);
-    };
-    let checked = check_roster(rt.alloc(), &mut StdSource::file(file), out).map_err(
-        CheckStatus::Stopped,
-    )?;
-    print_noted(key_notes(rt.alloc(), &checked.meters), out)?;
-    Ok(checked)
+    roster: &mut S,
+    receivers: &mut [Lines<S>],
+    out: &mut K,
+) -> ExitCode
+    requires fresh { Each IsFresh receivers.old }
+    requires untaken { IsTrue S.tells → Each (λ r. S.taken r.source ≡ []) receivers.old }
+
+    // The exit status is that of a check of all of them, and one of those that the program has for a check.
+    ensures run { (checked : Result Bool Stop) × (exit_status result ≡ code_of (status_of checked)) × IsRun (record {
+      sources_tell = S.tells;
+      sinks_tell = K.tells;
+      roster = source_change S.Source roster.old roster.new;
+      receivers = reader_changes S.Source receivers.old receivers.new;
+      bytes = bytes_of_each S.Source receivers.old;
+      out = sink_change K.Sink out.old out.new;
+      checked = checked;
+    }) }
+    ensures exit { IsRunExit (exit_status result) }
+{
+    let checked = check_inputs(rt.alloc(), roster, receivers, out);
+    end(rt, status_of(checked))
 }
 
-// Checks the file of a receiver, adds the addresses that it heard, and answers how many of its lines are faulty.
-fn check_receiver_file<R: Files<File = File> + AllocGlobal>(
+// Opens a file, or ends with status 11.
+fn open<R: Eprint + Files<File = File>>(rt: &R, name: &str) -> Result<StdSource, ExitCode>
+    ensures unopened { IfErr result (λ ended. exit_status ended ≡ 11) }
+{
+    match File::open(rt, name) {
+        Ok(file) => Ok(StdSource::file(file)),
+        Err(_unopened) => Err(end(rt, CheckStatus::Unopened)),
+    }
+}
+
+// Opens the files of receivers, in their order.
+fn open_receivers<R: Eprint + Files<File = File> + AllocGlobal>(
     rt: &R,
-    receiver: u32,
-    name: &str,
-    heard: &mut Vec<Address>,
-    out: &mut StdSink,
-) -> Result<u64, CheckStatus> {
-    let Ok(file) = File::open(rt, name) else {
-        return Err(CheckStatus::Unopened);
-    };
-    let mut lines = Lines::new(StdSource::file(file));
-    let mut found = check_receiver(rt.alloc(), receiver, &mut lines, out).map_err(
-        CheckStatus::Stopped,
-    )?;
-    if heard.append(&mut found.heard).is_err() {
-        return Err(CheckStatus::Stopped(Stop::Memory));
+    names: &[String],
+) -> Result<Vec<Lines<StdSource>>, ExitCode>
+    ensures fresh { IfOk result (λ receivers. Each IsFresh receivers.items) }
+    ensures count { IfOk result (λ receivers. length receivers.items ≡ length names.now) }
+    ensures stops { IfErr result (λ ended. IsUnopened (exit_status ended)) }
+{
+    let mut receivers = Vec::new(rt.alloc());
+    for name in names {
+        let source = match open(rt, name.as_str()) {
+            Ok(source) => source,
+            Err(ended) => return Err(ended),
+        };
+        if receivers.push(Lines::new(source)).is_err() {
+            return Err(end(rt, CheckStatus::Stopped(Stop::Memory)));
+        }
     }
-    Ok(found.count as u64)
+    Ok(receivers)
 }
 
-// Checks all files, and answers how many lines are faulty.
-fn check_files<R: Files<File = File> + AllocGlobal>(
-    rt: &R,
-    roster: &str,
-    receivers: &[String],
-    out: &mut StdSink,
-) -> Result<u64, CheckStatus> {
-    let checked = check_roster_file(rt, roster, out)?;
-    let mut faulty = checked.faulty as u64;
-    let mut heard = Vec::new(rt.alloc());
-    let mut receiver: u32 = 1;
-    for name in receivers {
-        let count = check_receiver_file(rt, receiver, name.as_str(), &mut heard, out)?;
-        faulty = faulty.saturating_add(count);
-        receiver = receiver.saturating_add(1);
-    }
-    if checked.faulty == 0 && !receivers.is_empty() {
-        print_noted(hearing_notes(rt.alloc(), &checked.meters, &mut heard), out)?;
-    }
-    Ok(faulty)
-}
-
-// Does what the words behind the program's name ask for.
+// Does what the words behind the program's name ask for. All files are opened before one is read.
 fn perform<R: Print + Eprint + Files<File = File> + AllocGlobal>(
     rt: &R,
     command: &[String],
@@ -136,22 +137,30 @@ fn perform<R: Print + Eprint + Files<File = File> + AllocGlobal>(
 ) -> ExitCode
     ensures text { asks_for_text (map string_bytes command.now) ≡ true → IsTold 7 (exit_status result) }
     ensures faulty { command.now ≡ [] → exit_status result ≡ 2 }
+    ensures exit { asks_for_text (map string_bytes command.now) ≡ false → names_roster command.now ≡ true → IsRunExit (exit_status result) }
 {
     if let Some(own) = own_text(command) {
-        let unwritten = CheckStatus::Stopped(Stop::Write);
-        return tell(rt, own.text(HELP, VERSION), unwritten.code(), unwritten);
+        return show(rt, own);
     }
     let [roster, receivers @ ..] = command else {
         return end(rt, CheckStatus::Words);
     };
-    match check_files(rt, roster.as_str(), receivers, &mut out) {
-        Ok(faulty) => end(rt, status_of(faulty)),
-        Err(status) => end(rt, status),
-    }
+    let mut roster = match open(rt, roster.as_str()) {
+        Ok(roster) => roster,
+        Err(ended) => return ended,
+    };
+    let mut receivers = match open_receivers(rt, receivers) {
+        Ok(receivers) => receivers,
+        Err(ended) => return ended,
+    };
+    check(rt, &mut roster, &mut receivers, &mut out)
 }
 
 // What it means that the words can't be had.
-fn status_without_words(reason: NoWords) -> CheckStatus {
+fn status_without_words(reason: NoWords) -> CheckStatus
+    ensures memory { reason ≡ NoWords.Memory → result ≡ CheckStatus.Stopped Stop.Memory }
+    ensures not_text { reason ≡ NoWords.NotText → result ≡ CheckStatus.Words }
+{
     match reason {
         NoWords::Memory => CheckStatus::Stopped(Stop::Memory),
         NoWords::NotText => CheckStatus::Words,

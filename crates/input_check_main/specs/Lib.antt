@@ -6,3 +6,5 @@ pub mod Findings
 pub mod Hints
 pub mod Rosters
 pub mod Bytes
+pub mod Receivers
+pub mod Run

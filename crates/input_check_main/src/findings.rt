@@ -67,10 +67,10 @@ impl Printed for RosterFindings<'_> {
 
 // Puts a faulty line of a receiver.
 #[tactic(auto, unfolding(crate::specs::Findings::receiver_line), using(paper::proofs::Calls::five_make))]
-fn put_receiver_line<P: Paper>(paper: &mut P, receiver: u32, faulty: &FaultyLine)
+fn put_receiver_line<P: Paper>(paper: &mut P, receiver: u64, faulty: &FaultyLine)
     ensures { Puts P.takes paper.old (receiver_line receiver faulty.now) paper.new }
 {
-    put_labelled(paper, "receiver ", receiver as u64);
+    put_labelled(paper, "receiver ", receiver);
     put_labelled(paper, " line ", faulty.line as u64);
     put_text(paper, ": ");
     put_line_words(paper, faulty.fault);
@@ -78,7 +78,7 @@ fn put_receiver_line<P: Paper>(paper: &mut P, receiver: u32, faulty: &FaultyLine
 }
 
 #[tactic(auto, using(paper::proofs::Calls::none))]
-fn put_receiver_lines<P: Paper>(paper: &mut P, receiver: u32, first: &[FaultyLine])
+fn put_receiver_lines<P: Paper>(paper: &mut P, receiver: u64, first: &[FaultyLine])
     ensures { Puts P.takes paper.old (flat_map (receiver_line receiver) first.now) paper.new }
 {
     for faulty in first {
@@ -88,14 +88,14 @@ fn put_receiver_lines<P: Paper>(paper: &mut P, receiver: u32, first: &[FaultyLin
 
 // Puts how many faulty lines a receiver has, where not all are shown.
 #[tactic(auto, using(paper::proofs::Calls::none))]
-fn put_count_line<P: Paper>(paper: &mut P, receiver: u32, count: u32)
+fn put_count_line<P: Paper>(paper: &mut P, receiver: u64, count: u32)
     ensures { Puts P.takes paper.old (count_line receiver count) paper.new }
 {
     if count > 100 {
         put_between_two(
             paper,
             "receiver ",
-            receiver as u64,
+            receiver,
             ": ",
             count as u64,
             " lines are faulty, of which the first 100 are shown\n",
@@ -106,7 +106,7 @@ fn put_count_line<P: Paper>(paper: &mut P, receiver: u32, count: u32)
 /// The faulty lines of a receiver.
 #[derive(Drop)]
 pub(crate) struct ReceiverFindings<'a> {
-    pub(crate) receiver: u32,
+    pub(crate) receiver: u64,
     pub(crate) found: &'a FaultyLines,
 }
 

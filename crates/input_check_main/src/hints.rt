@@ -1,5 +1,5 @@
 //! What a person most often did wrong, though each line by itself may be right.
-ghost use Rattle.std.specs.Prelude.{◌≡◌, ◌++◌, Err, IsTrue, OnOk};
+ghost use Rattle.std.specs.Prelude.{◌≡◌, ◌≤◌, ◌++◌, Err, IsTrue, OnOk};
 ghost use Rattle.paper.specs.Puts.{Puts};
 ghost use Rattle.outer_io.specs.Shown.{WriteFailed, sink_change};
 ghost use Rattle.input_check_main.specs.declared.rosters.Stop.{Stop};
@@ -139,6 +139,7 @@ impl Printed for Notes<'_> {
 pub fn print_notes<K: Sink>(notes: &[Note], out: &mut K) -> Result<(), Stop>
     ensures printed { OnOk result (IsTrue K.tells → K.written out.new ≡ K.written out.old ++ notes_text notes.now) }
     ensures write { (stop : Stop) → result ≡ Err stop → (stop ≡ Stop.Write) × WriteFailed (sink_change K.Sink out.old out.new) }
+    ensures later { K.faults out.old ≤ K.faults out.new }
 {
     match write(out, &Notes { notes }) {
         Ok(()) => Ok(()),

@@ -6,6 +6,7 @@ mod causes;
 mod faulty;
 mod findings;
 mod hints;
+mod inputs;
 mod noticing;
 mod pieces;
 mod receivers;
@@ -13,6 +14,7 @@ mod rosters;
 
 pub use faulty::{FaultyLine, FaultyLines, LineFault, MOST_SHOWN};
 pub use hints::{Hint, Note, print_notes};
+pub use inputs::check_inputs;
 pub use noticing::{hearing_notes, key_notes};
 pub use receivers::check_receiver;
 pub use rosters::{CheckedRoster, Stop, check_roster};

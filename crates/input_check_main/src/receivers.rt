@@ -112,7 +112,7 @@ fn check_lines<S: Source>(alloc: Global, lines: &mut Lines<S>) -> Result<FaultyL
 /// lines come to. The lines are those of a source of which nothing was taken yet.
 pub fn check_receiver<S: Source, K: Sink>(
     alloc: Global,
-    receiver: u32,
+    receiver: u64,
     lines: &mut Lines<S>,
     out: &mut K,
 ) -> Result<FaultyLines, Stop>
@@ -130,6 +130,7 @@ pub fn check_receiver<S: Source, K: Sink>(
     ensures read { result ≡ Err Stop.Read → ReadFailed (source_change S.Source lines.old.source lines.new.source) }
     ensures write { result ≡ Err Stop.Write → WriteFailed (sink_change K.Sink out.old out.new) }
     ensures cut { result ≡ Err Stop.Cut → IsTrue S.tells → is_over (S.left lines.old.source) ≡ true }
+    ensures later { K.faults out.old ≤ K.faults out.new }
 {
     let found = match check_lines(alloc, lines) {
         Ok(found) => found,

@@ -1,5 +1,5 @@
 //! The faulty lines of a roster.
-ghost use Rattle.std.specs.Prelude.{◌≡◌, ◌++◌, ◌<◌, length, Err, IsTrue, IfOk, IfErr};
+ghost use Rattle.std.specs.Prelude.{◌≡◌, ◌++◌, ◌<◌, ◌≤◌, length, Err, IsTrue, IfOk, IfErr};
 ghost use Rattle.outer_io.specs.Shown.{ReadFailed, WriteFailed, source_change, sink_change};
 ghost use Rattle.roster_file.specs.Roster.{roster_of};
 ghost use Rattle.roster_file.specs.Faults.{faults_of};
@@ -63,6 +63,7 @@ pub fn check_roster<S: Source, K: Sink>(
     ensures read { result ≡ Err Stop.Read → ReadFailed (source_change S.Source roster.old roster.new) }
     ensures write { result ≡ Err Stop.Write → WriteFailed (sink_change K.Sink out.old out.new) }
     ensures cut { result ≡ Err Stop.Cut → IsTrue S.tells → 1048576 < length (S.left roster.old) }
+    ensures later { K.faults out.old ≤ K.faults out.new }
 {
     let bytes = match read_all(alloc, roster, MOST_BYTES) {
         Ok(bytes) => bytes,

@@ -1,13 +1,14 @@
 //! The program `line_feed`: prints the lines of a radio receiver on the standard input as lines that `wmbus` reads.
 #![tactic(auto)]
 
-ghost use Rattle.std.specs.Prelude.{◌≡◌, [], true, false, map, IsTrue};
+ghost use Rattle.std.specs.Prelude.{◌≡◌, true, false, map, None, IfSome};
 ghost use Rattle.std.specs.String.{string_bytes};
 ghost use Rattle.std.specs.Process.{exit_status};
 ghost use Rattle.outer_io.specs.Shown.{source_change, sink_change};
 ghost use Rattle.line_feed_main.specs.declared.status.FeedStatus.{FeedStatus};
 ghost use Rattle.line_feed_main.specs.Run.{IsRun, code_of};
 ghost use Rattle.program_words.specs.OwnTexts.{asks_for_text, IsTold};
+ghost use Rattle.line_feed.specs.Words.{printing_asked};
 
 mod host_clock;
 mod status_words;
@@ -17,7 +18,7 @@ use host_clock::HostClock;
 use line_feed_main::{Clock, FeedStatus, LINE_MAX, Printing, feed_lines};
 use line_reader::TextReader;
 use outer_io::{Sink, Source, StdSink, StdSource};
-use program_words::{NoWords, command_words, own_text, tell};
+use program_words::{NoWords, OwnText, command_words, own_text, tell};
 use status_words::{Said, Stopped};
 use std::process::ExitCode;
 
@@ -56,10 +57,40 @@ fn end(rt: &impl Eprint, status: FeedStatus) -> ExitCode
     program_words::end(rt, code, Said { status })
 }
 
-// Feeds the lines of an input, and ends with the status of that.
-fn feed<R: Eprint + AllocGlobal, S: Source, K: Sink, E: Sink, C: Clock + Drop>(
+// Ends with the status of faulty words, and says what they have to be.
+fn end_faulty(rt: &impl Eprint) -> ExitCode
+    ensures { exit_status result ≡ 2 }
+{
+    program_words::end(rt, 2, Stopped)
+}
+
+// Prints a text of the program's own.
+fn show<R: Print + Eprint>(rt: &R, own: OwnText) -> ExitCode
+    ensures { IsTold 7 (exit_status result) }
+{
+    let unwritten = FeedStatus::Write;
+    tell(
+        rt,
+        own.text(HELP, VERSION),
+        unwritten.code(),
+        Said { status: unwritten },
+    )
+}
+
+// The format that the words ask for: its name is the only word.
+fn printing_asked(command: &[String]) -> Option<Printing>
+    ensures { result ≡ printing_asked (map string_bytes command.now) }
+{
+    let [word] = command else {
+        return None;
+    };
+    Printing::of_word(word.as_bytes())
+}
+
+// Does what the words behind the program's name ask for, over an input of which nothing was taken.
+fn perform<R: Print + Eprint + AllocGlobal, S: Source, K: Sink, E: Sink, C: Clock + Drop>(
     rt: &R,
-    printing: Printing,
+    command: &[String],
     clock: C,
     input: &mut TextReader<S>,
     out: &mut K,
@@ -68,75 +99,60 @@ fn feed<R: Eprint + AllocGlobal, S: Source, K: Sink, E: Sink, C: Clock + Drop>(
     requires fresh { input.old.reader.line ≡ 0 }
     requires goes_on { input.old.reader.done ≡ false }
     requires longest { input.old.longest ≡ 4096 }
-    ensures { (status : FeedStatus) × (exit_status result ≡ code_of status) × IsRun (record {
-      printing = printing;
-      input_tells = S.tells;
-      out_tells = K.tells;
-      notes_tell = E.tells;
-      input = source_change S.Source input.old.reader.source input.new.reader.source;
-      out = sink_change K.Sink out.old out.new;
-      notes = sink_change E.Sink notes.old notes.new;
-      status = status;
-    }) }
+    ensures text { asks_for_text (map string_bytes command.now) ≡ true → IsTold 7 (exit_status result) }
+    ensures faulty { asks_for_text (map string_bytes command.now) ≡ false → printing_asked (map string_bytes command.now) ≡ None →
+        exit_status result ≡ 2 }
+
+    // The exit status is that of a feed of the input, in the format that the words ask for.
+    ensures run { asks_for_text (map string_bytes command.now) ≡ false →
+        IfSome (printing_asked (map string_bytes command.now)) (λ printing.
+        (status : FeedStatus) × (exit_status result ≡ code_of status) × IsRun (record {
+          printing = printing;
+          input_tells = S.tells;
+          out_tells = K.tells;
+          notes_tell = E.tells;
+          input = source_change S.Source input.old.reader.source input.new.reader.source;
+          out = sink_change K.Sink out.old out.new;
+          notes = sink_change E.Sink notes.old notes.new;
+          status = status;
+        })) }
 {
+    if let Some(own) = own_text(command) {
+        return show(rt, own);
+    }
+    let Some(printing) = printing_asked(command) else {
+        return end_faulty(rt);
+    };
     let status = feed_lines(rt.alloc(), printing, clock, input, out, notes);
     end(rt, status)
 }
 
-// Does what the words behind the program's name ask for.
-fn perform<R: Print + Eprint + std::time::Clock + AllocGlobal>(
-    rt: &R,
-    command: &[String],
-    input: StdSource,
-    mut out: StdSink,
-    mut notes: ErrorSink,
-) -> ExitCode
-    ensures text { asks_for_text (map string_bytes command.now) ≡ true → IsTold 7 (exit_status result) }
-    ensures faulty { command.now ≡ [] → exit_status result ≡ 2 }
-{
-    if let Some(own) = own_text(command) {
-        let unwritten = FeedStatus::Write;
-        return tell(
-            rt,
-            own.text(HELP, VERSION),
-            unwritten.code(),
-            Said { status: unwritten },
-        );
-    }
-    let [word] = command else {
-        return program_words::end(rt, 2, Stopped);
-    };
-    let Some(printing) = Printing::of_word(word.as_bytes()) else {
-        return program_words::end(rt, 2, Stopped);
-    };
-    let mut lines = TextReader::new(input, LINE_MAX);
-    feed(
-        rt,
-        printing,
-        HostClock::new(rt),
-        &mut lines,
-        &mut out,
-        &mut notes,
-    )
-}
-
 // Ends where the words can't be had.
-fn end_without_words(rt: &impl Eprint, reason: NoWords) -> ExitCode {
+fn end_without_words(rt: &impl Eprint, reason: NoWords) -> ExitCode
+    ensures memory { reason ≡ NoWords.Memory → exit_status result ≡ 10 }
+    ensures not_text { reason ≡ NoWords.NotText → exit_status result ≡ 2 }
+{
     match reason {
         NoWords::Memory => end(rt, FeedStatus::Memory),
-        NoWords::NotText => program_words::end(rt, 2, Stopped),
+        NoWords::NotText => end_faulty(rt),
     }
 }
 
 fn main(rt: HostRuntime) -> ExitCode {
     match command_words(&rt) {
-        Ok(command) => perform(
-            &rt,
-            &command,
-            StdSource::standard(rt.stdin()),
-            StdSink::standard(rt.stdout()),
-            ErrorSink::new(rt.stderr()),
-        ),
+        Ok(command) => {
+            let mut input = TextReader::new(StdSource::standard(rt.stdin()), LINE_MAX);
+            let mut out = StdSink::standard(rt.stdout());
+            let mut notes = ErrorSink::new(rt.stderr());
+            perform(
+                &rt,
+                &command,
+                HostClock::new(&rt),
+                &mut input,
+                &mut out,
+                &mut notes,
+            )
+        }
         Err(reason) => end_without_words(&rt, reason),
     }
 }

@@ -62,7 +62,10 @@ fn perform<R: Print + Eprint>(rt: &R, command: &[String], mut out: StdSink) -> E
 }
 
 // What it means that the words can't be had.
-fn status_without_words(reason: NoWords) -> NameStatus {
+fn status_without_words(reason: NoWords) -> NameStatus
+    ensures memory { reason ≡ NoWords.Memory → result ≡ NameStatus.Memory }
+    ensures not_text { reason ≡ NoWords.NotText → result ≡ NameStatus.Words NameFault.NotText }
+{
     match reason {
         NoWords::Memory => NameStatus::Memory,
         NoWords::NotText => NameStatus::Words(NameFault::NotText),

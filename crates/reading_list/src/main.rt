@@ -1,20 +1,22 @@
 //! The program `reading_list`: opens the report that its words name, and lists the readings of each stored step.
 #![tactic(auto)]
 
-ghost use Rattle.std.specs.Prelude.{◌≡◌, [], true, false, map, IsTrue};
+ghost use Rattle.std.specs.Prelude.{◌≡◌, [], true, false, map, None, IsTrue, IsSome, IfSome, IfErr};
 ghost use Rattle.std.specs.String.{string_bytes};
 ghost use Rattle.std.specs.Process.{exit_status};
 ghost use Rattle.outer_io.specs.Shown.{source_change, sink_change};
 ghost use Rattle.reading_list_main.specs.declared.status.ListStatus.{ListStatus};
 ghost use Rattle.reading_list_main.specs.Run.{IsRun, code_of};
 ghost use Rattle.program_words.specs.OwnTexts.{asks_for_text, IsTold};
+ghost use Rattle.reading_list.specs.Exit.{IsRunExit};
+ghost use Rattle.reading_list.specs.Words.{form_asked};
 
 mod status_words;
 
 use error_sink::ErrorSink;
 use line_reader::TextReader;
 use outer_io::{Sink, Source, StdSink, StdSource};
-use program_words::{NoWords, cannot_open, command_words, own_text, tell};
+use program_words::{NoWords, OwnText, cannot_open, command_words, own_text, tell};
 use reading_list_main::{Form, LINE_MAX, ListStatus, list_report};
 use status_words::{Said, Stopped};
 use std::fs::{File, Files};
@@ -50,10 +52,47 @@ fn end(rt: &impl Eprint, status: ListStatus) -> ExitCode
     program_words::end(rt, code, Said { status })
 }
 
-// Lists the readings of a report, and ends with the status of that.
+// Ends with the status of faulty words, and says what they have to be.
+fn end_faulty(rt: &impl Eprint) -> ExitCode
+    ensures { exit_status result ≡ 2 }
+{
+    program_words::end(rt, 2, Stopped)
+}
+
+// Prints a text of the program's own.
+fn show<R: Print + Eprint>(rt: &R, own: OwnText) -> ExitCode
+    ensures { IsTold 7 (exit_status result) }
+{
+    let unwritten = ListStatus::Write;
+    tell(
+        rt,
+        own.text(HELP, VERSION),
+        unwritten.code(),
+        Said { status: unwritten },
+    )
+}
+
+// The form that the words ask for: JSON for a report alone, comma separated values where `--csv` stands before it.
+fn form_asked(command: &[String]) -> Option<Form>
+    ensures { result ≡ form_asked (map string_bytes command.now) }
+{
+    match command {
+        [_report] => Some(Form::Json),
+        [flag, _report] => {
+            if flag.as_str() == "--csv" {
+                Some(Form::Csv)
+            } else {
+                None
+            }
+        }
+        _ => None,
+    }
+}
+
+// Lists the readings of a report in the form that the words ask for, and ends with the status of that.
 fn list<R: Eprint + AllocGlobal, S: Source, K: Sink, E: Sink>(
     rt: &R,
-    form: Form,
+    command: &[String],
     report: &mut TextReader<S>,
     out: &mut K,
     notes: &mut E,
@@ -64,69 +103,75 @@ fn list<R: Eprint + AllocGlobal, S: Source, K: Sink, E: Sink>(
     requires untaken { IsTrue S.tells → S.taken report.old.reader.source ≡ [] }
     requires empty { IsTrue K.tells → K.written out.old ≡ [] }
     requires unnoted { IsTrue E.tells → E.written notes.old ≡ [] }
-    ensures { (status : ListStatus) × (exit_status result ≡ code_of status) × IsRun (record {
-      form = form;
-      report_tells = S.tells;
-      list_tells = K.tells;
-      notes_tell = E.tells;
-      report = source_change S.Source report.old.reader.source report.new.reader.source;
-      out = sink_change K.Sink out.old out.new;
-      notes = sink_change E.Sink notes.old notes.new;
-      status = status;
-    }) }
+    ensures faulty { form_asked (map string_bytes command.now) ≡ None → exit_status result ≡ 2 }
+
+    // The exit status is that of a run over the report, and one of those that the program has for a run.
+    ensures run { IfSome (form_asked (map string_bytes command.now)) (λ form.
+        (status : ListStatus) × (exit_status result ≡ code_of status) × IsRun (record {
+          form = form;
+          report_tells = S.tells;
+          list_tells = K.tells;
+          notes_tell = E.tells;
+          report = source_change S.Source report.old.reader.source report.new.reader.source;
+          out = sink_change K.Sink out.old out.new;
+          notes = sink_change E.Sink notes.old notes.new;
+          status = status;
+        })) }
+    ensures exit { IsSome (form_asked (map string_bytes command.now)) → IsRunExit (exit_status result) }
 {
+    let Some(form) = form_asked(command) else {
+        return end_faulty(rt);
+    };
     let status = list_report(rt.alloc(), form, report, out, notes);
     end(rt, status)
 }
 
-// Lists the readings of the report of this name.
-fn list_file<R: Eprint + Files<File = File> + AllocGlobal>(
-    rt: &R,
-    form: Form,
-    name: &str,
-    mut out: StdSink,
-    mut notes: ErrorSink,
-) -> ExitCode {
-    let Ok(file) = File::open(rt, name) else {
-        return cannot_open(rt, "reading_list", name);
-    };
-    let mut report = TextReader::new(StdSource::file(file), LINE_MAX);
-    list(rt, form, &mut report, &mut out, &mut notes)
+// Opens the report of this name, or ends with status 11.
+fn open_report<R: Eprint + Files<File = File>>(rt: &R, name: &str) -> Result<File, ExitCode>
+    ensures unopened { IfErr result (λ ended. exit_status ended ≡ 11) }
+    ensures exit { IfErr result (λ ended. IsRunExit (exit_status ended)) }
+{
+    match File::open(rt, name) {
+        Ok(file) => Ok(file),
+        Err(_unopened) => Err(cannot_open(rt, "reading_list", name)),
+    }
 }
 
 // Does what the words behind the program's name ask for.
 fn perform<R: Print + Eprint + Files<File = File> + AllocGlobal>(
     rt: &R,
     command: &[String],
-    out: StdSink,
-    notes: ErrorSink,
+    mut out: StdSink,
+    mut notes: ErrorSink,
 ) -> ExitCode
     ensures text { asks_for_text (map string_bytes command.now) ≡ true → IsTold 7 (exit_status result) }
-    ensures faulty { command.now ≡ [] → exit_status result ≡ 2 }
+    ensures faulty { asks_for_text (map string_bytes command.now) ≡ false → form_asked (map string_bytes command.now) ≡ None →
+        exit_status result ≡ 2 }
+    ensures exit { asks_for_text (map string_bytes command.now) ≡ false → IsSome (form_asked (map string_bytes command.now)) →
+        IsRunExit (exit_status result) }
 {
     if let Some(own) = own_text(command) {
-        let unwritten = ListStatus::Write;
-        return tell(
-            rt,
-            own.text(HELP, VERSION),
-            unwritten.code(),
-            Said { status: unwritten },
-        );
+        return show(rt, own);
     }
-    match command {
-        [report] => list_file(rt, Form::Json, report.as_str(), out, notes),
-        [flag, report] if flag.as_str() == "--csv" => {
-            list_file(rt, Form::Csv, report.as_str(), out, notes)
-        }
-        _ => program_words::end(rt, 2, Stopped),
-    }
+    let (Some(_), [.., name]) = (form_asked(command), command) else {
+        return end_faulty(rt);
+    };
+    let file = match open_report(rt, name.as_str()) {
+        Ok(file) => file,
+        Err(ended) => return ended,
+    };
+    let mut report = TextReader::new(StdSource::file(file), LINE_MAX);
+    list(rt, command, &mut report, &mut out, &mut notes)
 }
 
 // Ends where the words can't be had.
-fn end_without_words(rt: &impl Eprint, reason: NoWords) -> ExitCode {
+fn end_without_words(rt: &impl Eprint, reason: NoWords) -> ExitCode
+    ensures memory { reason ≡ NoWords.Memory → exit_status result ≡ 10 }
+    ensures not_text { reason ≡ NoWords.NotText → exit_status result ≡ 2 }
+{
     match reason {
         NoWords::Memory => end(rt, ListStatus::Memory),
-        NoWords::NotText => program_words::end(rt, 2, Stopped),
+        NoWords::NotText => end_faulty(rt),
     }
 }
 

@@ -5,9 +5,11 @@ ghost use Rattle.std.specs.Prelude.{◌≡◌, ◌≢◌, [], true, false, lengt
 ghost use Rattle.std.specs.String.{string_bytes};
 ghost use Rattle.std.specs.Process.{exit_status};
 ghost use Rattle.outer_io.specs.Shown.{source_change, sink_change};
+ghost use Rattle.line_reader.specs.Reader.{given};
 ghost use Rattle.usage_totals_main.specs.declared.status.TotalsStatus.{TotalsStatus};
 ghost use Rattle.usage_totals_main.specs.Run.{IsRun, code_of};
 ghost use Rattle.program_words.specs.OwnTexts.{asks_for_text, IsTold};
+ghost use Rattle.usage_totals.specs.Exit.{IsRunExit};
 
 use line_reader::TextReader;
 use outer_io::{Sink, Source, StdSink, StdSource};
@@ -68,14 +70,18 @@ fn answer<R: Eprint + AllocGlobal, S: Source, K: Sink>(
     requires longest { edits.old.longest ≡ 7774 }
     requires untaken { IsTrue S.tells → S.taken edits.old.reader.source ≡ [] }
     requires empty { IsTrue K.tells → K.written out.old ≡ [] }
-    ensures { (status : TotalsStatus) × (exit_status result ≡ code_of status) × IsRun (record {
+
+    // The exit status is that of a run over the lines of the file, and one of those that the program has for a run.
+    ensures run { (status : TotalsStatus) × (exit_status result ≡ code_of status) × IsRun (record {
       sources_tell = S.tells;
       sinks_tell = K.tells;
       words = map string_bytes command.now;
       edits = source_change S.Source edits.old.reader.source edits.new.reader.source;
+      lines = given S.taken edits.new.reader;
       out = sink_change K.Sink out.old out.new;
       status = status;
     }) }
+    ensures exit { length command.now ≡ 1 → IsRunExit (exit_status result) }
 {
     let status = totals_run(rt.alloc(), command, edits, out);
     end(rt, status)
@@ -83,7 +89,8 @@ fn answer<R: Eprint + AllocGlobal, S: Source, K: Sink>(
 
 // Opens the file of edits, or ends with status 11.
 fn open_edits<R: Eprint + Files<File = File>>(rt: &R, name: &str) -> Result<File, ExitCode>
-    ensures { IfErr result (λ ended. exit_status ended ≡ 11) }
+    ensures unopened { IfErr result (λ ended. exit_status ended ≡ 11) }
+    ensures exit { IfErr result (λ ended. IsRunExit (exit_status ended)) }
 {
     match File::open(rt, name) {
         Ok(file) => Ok(file),
@@ -99,6 +106,7 @@ fn perform<R: Print + Eprint + Files<File = File> + AllocGlobal>(
 ) -> ExitCode
     ensures text { asks_for_text (map string_bytes command.now) ≡ true → IsTold 7 (exit_status result) }
     ensures faulty { length command.now ≢ 1 → exit_status result ≡ 2 }
+    ensures exit { length command.now ≡ 1 → asks_for_text (map string_bytes command.now) ≡ false → IsRunExit (exit_status result) }
 {
     if let Some(own) = own_text(command) {
         let unwritten = TotalsStatus::Write.code();
@@ -116,7 +124,10 @@ fn perform<R: Print + Eprint + Files<File = File> + AllocGlobal>(
 }
 
 // What it means that the words can't be had.
-fn status_without_words(reason: NoWords) -> TotalsStatus {
+fn status_without_words(reason: NoWords) -> TotalsStatus
+    ensures memory { reason ≡ NoWords.Memory → result ≡ TotalsStatus.Memory }
+    ensures not_text { reason ≡ NoWords.NotText → result ≡ TotalsStatus.Words }
+{
     match reason {
         NoWords::Memory => TotalsStatus::Memory,
         NoWords::NotText => TotalsStatus::Words,

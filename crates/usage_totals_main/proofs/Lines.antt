@@ -20,7 +20,7 @@ use Rattle.usage_totals_main.specs.declared.status.TotalsStatus.TheVariants as s
 use Rattle.usage_totals_main.specs.Requests.{request_of, by_sign}
 use Rattle.usage_totals_main.specs.Texts.{answer_text, answers, rows_by, rows_after_line, rows_told}
 use Rattle.usage_totals_main.specs.Answering.{Keeps, Writes}
-use Rattle.usage_totals_main.specs.Run.{printed}
+use Rattle.usage_totals_main.specs.Run.{printed, IsAnsweredBefore}
 use Rattle.usage_totals_main.specs.Running.{AreAnswered, ended_by}
 
 -- ---- one line more
@@ -88,16 +88,11 @@ module _ (stop : Result (Unit {0}) Stop) (lines : List (List ℕ)) (line : List 
 all_are : (all lines : List (List ℕ)) (line : List ℕ) (n : ℕ) → lines ++ line ∷ [] ≡ take n all → all ≡ (lines ++ line ∷ []) ++ drop n all
 all_are all lines line n e = sym (take-append-drop n all) ∙ ap (λ t. t ++ drop n all) (sym e)
 
-first_lines : (all lines : List (List ℕ)) (line : List ℕ) (n : ℕ) → lines ++ line ∷ [] ≡ take n all → lines ≡ take (length lines) all
-first_lines all lines line n e =
-    sym (ap (take (length lines)) (all_are all lines line n e ∙ append_assoc lines (line ∷ []) (drop n all))
-    ∙ take-append_seam lines (line ∷ drop n all))
-
 -- without memory the answers to the lines before are there
-pub stopped_memory : (lines all : List (List ℕ)) (line : List ℕ) (n : ℕ) (before now : List ℕ) → lines ++ line ∷ [] ≡ take n all
-    → before ≡ printed lines → now ≡ before
-    → (count : ℕ) × (now ≡ printed (take count all))
-stopped_memory lines all line n before now e text same = (length lines, same ∙ text ∙ ap printed (first_lines all lines line n e))
+pub stopped_memory : (lines given : List (List ℕ)) (line before now : List ℕ) → given ≡ lines ++ line ∷ [] → before ≡ printed lines
+    → now ≡ before → IsAnsweredBefore given now
+stopped_memory lines given line before now more text same =
+    record { before = lines; last = line; lines_are = more; answered = same ∙ text }
 
 -- where a write failed, a front of all answers is there
 front_of : (p answer more : List ℕ) (count : ℕ) → count ≤ length answer

@@ -16,7 +16,7 @@ clash b t f = let no_way : true ≡ false = sym t ∙ f in absurd cc
 pub record Ended (run : Run) : Type 0 where
   pub one : length run.words ≡ 1
   pub source : IsTrue run.sources_tell → SourceEnds run.status run.edits.now.taken run.edits.now.left
-  pub ends : IsTrue run.sources_tell → IsTrue run.sinks_tell → IsAnswered run.status run.edits.now.taken run.out.now.written
+  pub ends : IsTrue run.sources_tell → IsTrue run.sinks_tell → IsAnswered run.status run.lines run.edits.now.taken run.out.now.written
   pub others : run.status ≢ statuses.Words
   pub read : run.status ≡ statuses.Read → ReadFailed run.edits
   pub write : run.status ≡ statuses.Write → WriteFailed run.out
@@ -37,7 +37,7 @@ module _ (run : Run) (e : Ended run) where
         read = record { took_all = taken ∙ e.bytes tells; nothing_left = ended.0 };
         within = ap is_over (sym all) ∙ ended.1;
         answered =
-            λ sinks_tell. subst (λ s. IsAnswered s run.edits.now.taken run.out.now.written) is (e.ends tells sinks_tell)
+            λ sinks_tell. subst (λ s. IsAnswered s run.lines run.edits.now.taken run.out.now.written) is (e.ends tells sinks_tell)
             ∙ ap (λ t. printed (all_lines t)) all;
       }
 

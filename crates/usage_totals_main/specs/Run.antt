@@ -1,5 +1,5 @@
 -- A run over a file of edits and questions: what its source and its sink showed before and after it, and what is promised of it.
-use Rattle.std.specs.Prelude.{ℕ, ◌≡◌, ◌≢◌, ◌⊎◌, ◌↔◌, Bool, true, false, List, [], length, take, IsTrue}
+use Rattle.std.specs.Prelude.{ℕ, ◌≡◌, ◌≢◌, ◌⊎◌, ◌↔◌, Bool, true, false, List, [], ◌∷◌, ◌++◌, length, IsTrue}
 use Rattle.outer_io.specs.Bytes.{AppendsFront}
 use Rattle.outer_io.specs.Shown.{Change, SourceShown, SinkShown, ReadFailed, WriteFailed, LosesNothing, IsReadOut, IsSilent}
 use Rattle.line_reader.specs.Lines.{is_over, whole_lines, all_lines}
@@ -22,6 +22,8 @@ pub record Run : Type 0 where
   pub sinks_tell : Bool
   pub words : List (List ℕ)
   pub edits : Change SourceShown
+  -- the lines taken of the file
+  pub lines : List (List ℕ)
   pub out : Change SinkShown
   pub status : TotalsStatus
 
@@ -37,14 +39,22 @@ pub record IsDone (run : Run) : Type 0 where
   pub within : is_over run.edits.before.left ≡ false
   pub answered : IsTrue run.sinks_tell → run.out.now.written ≡ printed (all_lines run.edits.before.left)
 
--- what is there, by the bytes taken of the file: after status 7 a front of the answers, and after 10 those to some first lines
-abbrev pub IsAnswered : TotalsStatus → (taken written : List ℕ) → Type 0
-IsAnswered statuses.Done taken written = written ≡ printed (all_lines taken)
-IsAnswered statuses.Read taken written = written ≡ printed (whole_lines taken)
-IsAnswered statuses.Cut taken written = written ≡ printed (whole_lines taken)
-IsAnswered statuses.Write taken written = AppendsFront (printed (all_lines taken)) [] written
-IsAnswered statuses.Memory taken written = (count : ℕ) × (written ≡ printed (take count (all_lines taken)))
-IsAnswered statuses.Words taken written = written ≡ []
+-- there was no memory for the last of the lines taken: the answers to those before it are there, and nothing of one to it
+pub record IsAnsweredBefore (lines : List (List ℕ)) (written : List ℕ) : Type 0 where
+  pub before : List (List ℕ)
+  pub last : List ℕ
+  pub lines_are : lines ≡ before ++ last ∷ []
+  pub answered : written ≡ printed before
+
+-- what is there, by the bytes and the lines taken of the file: after status 7 a front of the answers, and after 10 those to all lines
+-- taken but the last
+abbrev pub IsAnswered : TotalsStatus → (lines : List (List ℕ)) → (taken written : List ℕ) → Type 0
+IsAnswered statuses.Done lines taken written = written ≡ printed (all_lines taken)
+IsAnswered statuses.Read lines taken written = written ≡ printed (whole_lines taken)
+IsAnswered statuses.Cut lines taken written = written ≡ printed (whole_lines taken)
+IsAnswered statuses.Write lines taken written = AppendsFront (printed (all_lines taken)) [] written
+IsAnswered statuses.Memory lines taken written = IsAnsweredBefore lines written
+IsAnswered statuses.Words lines taken written = written ≡ []
 
 -- the cause of a status
 abbrev pub IsCausedBy : Run → TotalsStatus → Type 0
@@ -66,7 +76,7 @@ pub record IsRun (run : Run) : Type 0 where
   -- after status 0 each line of the file has its answer, in order: an edit is done or refused by the rows that the edits before it left
   pub done : run.status ≡ statuses.Done → IsTrue run.sources_tell → IsDone run
   -- after each status the answers to the lines taken are there, as far as it says
-  pub answered : IsTrue run.sources_tell → IsTrue run.sinks_tell → IsAnswered run.status run.edits.now.taken run.out.now.written
+  pub answered : IsTrue run.sources_tell → IsTrue run.sinks_tell → IsAnswered run.status run.lines run.edits.now.taken run.out.now.written
   -- each status has its cause; other words than one file are refused, and nothing is read then
   pub caused : IsCausedBy run run.status
   pub refused : length run.words ≢ 1 → run.status ≡ statuses.Words

@@ -44,7 +44,7 @@ fn answer_next<S: Source, K: Sink>(
         SourceEnds status (S.taken edits.new.reader.source) (S.left edits.new.reader.source)) }
     ensures ends { IfErr result (λ status. IsTrue S.tells → IsTrue K.tells →
         AreAnswered (given S.taken edits.old.reader) totals.old (K.written out.old) →
-        IsAnswered status (S.taken edits.new.reader.source) (K.written out.new)) }
+        IsAnswered status (given S.taken edits.new.reader) (S.taken edits.new.reader.source) (K.written out.new)) }
     ensures words { IfErr result (λ status. status ≢ TotalsStatus.Words) }
     ensures read { result ≡ Err TotalsStatus.Read → Rose (S.faults edits.old.reader.source) (S.faults edits.new.reader.source) }
     ensures write { result ≡ Err TotalsStatus.Write → Rose (K.faults out.old) (K.faults out.new) }
@@ -75,7 +75,7 @@ fn answer_lines<S: Source, K: Sink>(
     ensures source { IsTrue S.tells →
         SourceEnds result (S.taken edits.new.reader.source) (S.left edits.new.reader.source) }
     ensures ends { IsTrue S.tells → IsTrue K.tells →
-        IsAnswered result (S.taken edits.new.reader.source) (K.written out.new) }
+        IsAnswered result (given S.taken edits.new.reader) (S.taken edits.new.reader.source) (K.written out.new) }
     ensures words { result ≢ TotalsStatus.Words }
     ensures read { result ≡ TotalsStatus.Read → Rose (S.faults edits.old.reader.source) (S.faults edits.new.reader.source) }
     ensures write { result ≡ TotalsStatus.Write → Rose (K.faults out.old) (K.faults out.new) }
@@ -110,6 +110,7 @@ pub fn totals_run<S: Source, K: Sink>(
       sinks_tell = K.tells;
       words = map string_bytes words.now;
       edits = source_change S.Source edits.old.reader.source edits.new.reader.source;
+      lines = given S.taken edits.new.reader;
       out = sink_change K.Sink out.old out.new;
       status = result;
     }) }

@@ -115,7 +115,10 @@ fn perform<R: Threads + Wait + Sync + Print + Eprint + Files<File = File> + Allo
 }
 
 // What it means that the words can't be had.
-fn status_without_words(reason: NoWords) -> Status {
+fn status_without_words(reason: NoWords) -> Status
+    ensures memory { reason ≡ NoWords.Memory → result ≡ Status.Memory }
+    ensures not_text { reason ≡ NoWords.NotText → result ≡ Status.Words WordsFault.Command }
+{
     match reason {
         NoWords::Memory => Status::Memory,
         NoWords::NotText => Status::Words(WordsFault::Command),

@@ -35,8 +35,9 @@ returns-in-Ok-Line-clause-ends g c =
     (subst (λ r. Writes (answer_text (rows_told before) (request_of text)) sink r) is
     (c.answer_line.ensures.writes sink_tells (rows_told before) told.rows)))
     (λ is tells sink_tells told.
-    stopped_memory before all text c.next.new.self.reader.line (g.K.Sink.written c.args.out.now) (g.K.Sink.written c.answer_line.new.out)
-    (sym (lent _ _ _ _ _ c.in-Ok-Line.field-0-is (c.in-Ok-Line.ensures.lines tells) ∙ ap (λ t. before ++ t ∷ []) (sym c.text.ensures)))
+    stopped_memory before (given g.S.Source.taken c.next.new.self.reader) text (g.K.Sink.written c.args.out.now)
+    (g.K.Sink.written c.answer_line.new.out)
+    (lent _ _ _ _ _ c.in-Ok-Line.field-0-is (c.in-Ok-Line.ensures.lines tells) ∙ ap (λ t. before ++ t ∷ []) (sym c.text.ensures))
     told.text
     (subst (λ r. Writes (answer_text (rows_told before) (request_of text)) sink r) is
     (c.answer_line.ensures.writes sink_tells (rows_told before) told.rows)))
@@ -70,7 +71,7 @@ returns-in-Ok-TooLong-clause-ends g c =
     (λ is tells sink_tells told.
     let long = too_long _ _ _ _ _ c.in-Ok-TooLong.field-0-is (c.in-Ok-TooLong.ensures.lines tells) in
     let none = long_line long.line (subst (λ n. n < length long.line) c.requires.longest long.long) in
-    stopped_memory before all long.line c.next.new.self.reader.line (g.K.Sink.written c.args.out.now) (g.K.Sink.written c.write_bad.new.out)
-    (sym long.more) told.text
+    stopped_memory before (given g.S.Source.taken c.next.new.self.reader) long.line (g.K.Sink.written c.args.out.now)
+    (g.K.Sink.written c.write_bad.new.out) long.more told.text
     (subst (λ r. Writes (answer_text (rows_told before) (request_of long.line)) sink r) is
     (bad_writes long.line sink stop none (c.write_bad.ensures.writes sink_tells) (rows_told before))))
