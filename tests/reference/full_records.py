@@ -1,4 +1,4 @@
-"""Every data record of EN 13757-3 (2018), read from the standard's tables alone: clause 6, tables 10 to 16, and annex A.
+"""Every data record of EN 13757-3 (2018), read from the standard's tables alone: clause 6 and annex A.
 
 What a record says is given as exact numbers: a decimal as its digits and its power of ten, a real by its bits."""
 import math
@@ -148,7 +148,7 @@ def _duration_qualifier(code: int) -> Qualifier | None:
 
 
 def qualifier_of(code: int) -> Qualifier:
-    """Tables 15 and 18: a combinable VIFE; one that isn't there is kept."""
+    """A combinable VIFE, or what the meter reports; one that isn't there is kept."""
     if 0x70 <= code <= 0x77:
         return Qualifier(code, "factor", scales=code - 0x76)
     if 0x78 <= code <= 0x7B:

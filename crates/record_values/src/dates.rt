@@ -15,7 +15,8 @@ fn bits(word: u32, from: u32, count: u32) -> u8
     ((word >> from) % (1 << count)) as u8
 }
 
-fn year_of(hundreds: u8, year: u8) -> u16
+/// The year from 1900 on of hundreds and of a number of two digits (EN 13757-3, annex A, type F).
+pub fn year_of(hundreds: u8, year: u8) -> u16
     ensures { result ≡ year_of hundreds year }
 {
     if hundreds == 0 && year <= 80 {

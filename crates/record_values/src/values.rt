@@ -113,7 +113,7 @@ fn lvar_value(lvar: u8, sent: &[u8]) -> Value
 }
 
 /// The value of a number with its data field, or with its LVAR where there is one.
-fn number_value(dif: u8, lvar: Option<u8>, sent: &[u8]) -> Value
+pub fn number_value(dif: u8, lvar: Option<u8>, sent: &[u8]) -> Value
     requires { data_width dif lvar ≡ Some (length sent.now) }
     ensures { result ≡ number_value (dif % 16) lvar sent.now }
 {

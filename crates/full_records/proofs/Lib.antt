@@ -1,0 +1,6 @@
+pub mod Rows
+pub mod Short
+pub mod Agreeing
+pub mod Plain
+pub mod Places
+pub mod PlainPowers
