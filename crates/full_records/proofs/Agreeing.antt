@@ -1,9 +1,8 @@
 -- What the profile says of a record, and what the whole standard says of it.
-use Rattle.std.proofs.Common.{◌≡◌, ℕ, ◌+◌, ◌-◌, ◌*◌, ◌%◌, ◌<◌, ◌≤◌, Bool, true, false, eqb, leb, ltb, ◌&&◌, cond, List, [], ◌∷◌, length, take, Option, Some, None, refl, sym, ap, subst, ◌∙◌, arith}
-use Rattle.std.specs.Prelude.{ℤ, slice_index, nat_le, nat_lt, ◌==◌}
+use Rattle.std.proofs.Common.{◌≡◌, ℕ, ◌+◌, ◌-◌, ◌*◌, ◌%◌, ◌≤◌, Bool, true, false, eqb, leb, ltb, ◌&&◌, cond, List, [], ◌∷◌, length, take, Option, Some, None, refl, sym, ap, subst, ◌∙◌, arith}
+use Rattle.std.specs.Prelude.{ℤ, slice_index}
 use Rattle.std.proofs.lemmas.Bool.{leb-true, le-leb, and_parts, and_from, cond-true, cond-false, eqb-true, ne_eqb}
 use Rattle.std.proofs.lemmas.Option.{same_Some}
-use Rattle.dif_vif.specs.declared.span.RecordSpan.{RecordSpan}
 use Rattle.dif_vif.specs.Numbers.{low_first}
 use Rattle.dif_vif.specs.Spelling.{data_width, field_width}
 use Rattle.record_values.specs.declared.units.Quantity.{Quantity}
@@ -11,7 +10,7 @@ use Rattle.record_values.specs.declared.units.Quantity.TheVariants as quantities
 use Rattle.record_values.specs.declared.units.Unit.{Unit as ProfileUnit}
 use Rattle.record_values.specs.declared.values.Value.{Value}
 use Rattle.record_values.specs.declared.values.Value.TheVariants as profile
-use Rattle.record_values.specs.Values.{bits, year_of, is_day, number_value, field_value, lvar_value, bcd_value, positive, negative, decimal_of, digits_of, signed_of, reading_of, value_as as profile_value}
+use Rattle.record_values.specs.Values.{bits, year_of, is_day, number_value, bcd_value, positive, negative, decimal_of, digits_of, signed_of, reading_of, value_as as profile_value}
 use Rattle.record_values.specs.Values.{unread as profile_unread, day_value as profile_day, moment_value as profile_moment}
 use Rattle.full_records.specs.declared.quantities.Measure.{Measure}
 use Rattle.full_records.specs.declared.further_tables.FurtherRow.{FurtherRow}
@@ -23,7 +22,7 @@ use Rattle.full_records.specs.declared.values.FullValue.TheVariants as values
 use Rattle.full_records.specs.Measures.{as_profile, measured, measure_in, named_or}
 use Rattle.full_records.specs.Readings.{profile_kind, number_type, moment_type, data_type}
 use Rattle.full_records.specs.Moments.{◌>>=◌, field, year_field, day_in, moment_in}
-use Rattle.full_records.specs.Values.{unread, numbered, found, real_value, day_value, moment_value, value_as}
+use Rattle.full_records.specs.Values.{unread, numbered, found, real_value, value_as}
 use Rattle.full_records.specs.Records.{Agrees}
 
 -- ---- quantities

@@ -1,6 +1,5 @@
 -- The value of a span before any qualifier, and the profile's.
 use Rattle.std.proofs.Common.{◌≡◌, ℕ, ◌%◌, Bool, true, false, cond, List, length, drop, Some, refl, sym, ap, subst, ◌∙◌, arith}
-use Rattle.std.specs.Prelude.{ℤ}
 use Rattle.std.proofs.lemmas.Bool.{cond-true}
 use Rattle.std.proofs.lemmas.List.{length-take, length-drop}
 use Rattle.dif_vif.specs.declared.span.RecordSpan.{RecordSpan}

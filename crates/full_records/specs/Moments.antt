@@ -1,5 +1,5 @@
 -- Dates and times (EN 13757-3, annex A, types F, G, I and J).
-use Rattle.std.specs.Prelude.{ℕ, ◌+◌, ◌*◌, ◌&&◌, nat_lt, nat_le, ◌==◌, if◌then◌else◌, Option, Some, None}
+use Rattle.std.specs.Prelude.{ℕ, ◌+◌, ◌*◌, ◌&&◌, nat_le, ◌==◌, if◌then◌else◌, Option, Some, None}
 use Rattle.record_values.specs.Values.{bits, year_of}
 use Rattle.full_records.specs.declared.moments.Day.{Day}
 use Rattle.full_records.specs.declared.moments.TimeOfDay.{TimeOfDay}

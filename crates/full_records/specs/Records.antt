@@ -1,17 +1,15 @@
 -- What a data record says, by the whole standard (EN 13757-3, clause 6 and annex A).
-use Rattle.std.specs.Prelude.{◌≡◌, ◌≢◌, ℕ, ◌%◌, Bool, false, List, [], take, drop, Option, Some, None, ℤ, if◌then◌else◌}
+use Rattle.std.specs.Prelude.{◌≡◌, ℕ, ◌%◌, Bool, List, take, drop, Option, Some, None, ℤ, if◌then◌else◌}
 use Rattle.dif_vif.specs.declared.span.RecordSpan.{RecordSpan}
-use Rattle.record_values.specs.declared.units.Quantity.TheVariants.{Unknown, ErrorFlags}
 use Rattle.record_values.specs.declared.values.Value.{Value}
 use Rattle.record_values.specs.declared.values.Value.TheVariants as profile
-use Rattle.record_values.specs.Units.{unit}
-use Rattle.record_values.specs.Values.{data_of, value}
+use Rattle.record_values.specs.Values.{data_of}
 use Rattle.full_records.specs.declared.qualifiers.Qualifier.{Qualifier}
 use Rattle.full_records.specs.declared.readings.Reading.{Reading}
 use Rattle.full_records.specs.declared.readings.DataType.{DataType}
 use Rattle.full_records.specs.declared.values.FullValue.{FullValue}
 use Rattle.full_records.specs.declared.values.FullValue.TheVariants as values
-use Rattle.full_records.specs.Measures.{code_behind, measure, as_profile}
+use Rattle.full_records.specs.Measures.{code_behind, measure}
 use Rattle.full_records.specs.Qualifiers.{first_place, qualifiers_from}
 use Rattle.full_records.specs.Readings.{reading, reading_after, data_type}
 use Rattle.full_records.specs.Values.{unread, value_as, is_unset}
