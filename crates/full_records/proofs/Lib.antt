@@ -1,4 +1,3 @@
-pub mod Rows
 pub mod Short
 pub mod Agreeing
 pub mod Plain

@@ -1,5 +1,5 @@
 -- What a record measures and in which unit, by all codes of a VIF and of its first VIFE (EN 13757-3, 6.4).
-use Rattle.std.specs.Prelude.{◌≡◌, ◌≤◌, Option, Some, None, slice_get, ℕ, ◌+◌, ◌-◌, ◌%◌, Bool, ◌&&◌, ◌||◌, List, [], ◌∷◌, ℤ, pos, neg_ℤ, ◌+ℤ◌, int_le, nat_le, ◌==◌, if◌then◌else◌, slice_index}
+use Rattle.std.specs.Prelude.{Option, Some, None, ℕ, ◌+◌, ◌-◌, ◌%◌, Bool, true, ◌&&◌, ◌||◌, List, [], ◌∷◌, ℤ, pos, neg_ℤ, ◌+ℤ◌, int_le, nat_le, ◌==◌, if◌then◌else◌, slice_index}
 use Rattle.dif_vif.specs.declared.span.RecordSpan.{RecordSpan}
 use Rattle.record_values.specs.declared.units.Quantity.{Quantity}
 use Rattle.record_values.specs.declared.units.Quantity.TheVariants as profile
@@ -141,11 +141,10 @@ measure_in (r ∷ rows) code =
     then measure_by r code
     else measure_in rows code
 
--- Each code of each row is measured as that row says, whatever rows stand before it.
-abbrev pub EachRowMeasures : List FurtherRow → Type 0
-EachRowMeasures rows =
-    (place : ℕ) (r : FurtherRow) (code : ℕ) → slice_get rows place ≡ Some r → r.first ≤ code → code ≤ r.last
-    → measure_in rows code ≡ measure_by r code
+-- Each row begins at a code or behind it, and the next ones behind its last: no code is in two rows, so that each row holds as it stands.
+abbrev pub ascends : ℕ → List FurtherRow → Bool
+ascends next [] = true
+ascends next (r ∷ rows) = nat_le next r.first && (nat_le r.first r.last && ascends (r.last + 1) rows)
 
 -- The exponents of a row are small.
 abbrev pub is_scaled : FurtherRow → Bool

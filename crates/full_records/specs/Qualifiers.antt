@@ -1,5 +1,5 @@
 -- What the further VIFEs say of a record (EN 13757-3, 6.4).
-use Rattle.std.specs.Prelude.{ℕ, ◌%◌, ◌||◌, List, [], ◌∷◌, ℤ, pos, neg_ℤ, ◌==◌, if◌then◌else◌}
+use Rattle.std.specs.Prelude.{ℕ, ◌+◌, ◌%◌, Bool, true, ◌&&◌, nat_le, ◌||◌, List, [], ◌∷◌, ℤ, pos, neg_ℤ, ◌==◌, if◌then◌else◌}
 use Rattle.record_values.specs.declared.units.UnitName.TheVariants as names
 use Rattle.full_records.specs.declared.qualifiers.QualifierName.{QualifierName}
 use Rattle.full_records.specs.declared.qualifiers.QualifierName.TheVariants as qualifiers
@@ -132,6 +132,11 @@ combinable =
     qualifier 0x7e qualifiers.Future effects.Stays ∷
     qualifier 0x7f qualifiers.MakersOwn effects.Opaque ∷
     []
+
+-- Each code stands behind those before it, so that none is there twice.
+abbrev pub codes_ascend : ℕ → List Qualifier → Bool
+codes_ascend next [] = true
+codes_ascend next (q ∷ rows) = nat_le next q.code && codes_ascend (q.code + 1) rows
 
 -- a code that has no meaning here
 abbrev pub kept : ℕ → Qualifier

@@ -1,18 +1,20 @@
 //! What holds of all records.
 
-ghost use Rattle.std.specs.Prelude.{◌≡◌, ◌≢◌, List, [], ℕ, false};
+ghost use Rattle.std.specs.Prelude.{◌≡◌, ◌≢◌, IsTrue, List, [], ℕ, false};
 ghost use Rattle.dif_vif.specs.declared.span.RecordSpan.{RecordSpan};
 ghost use Rattle.dif_vif.specs.Spans.{IsSpanOf};
 ghost use Rattle.record_values.specs.declared.units.Quantity.TheVariants.{Unknown, ErrorFlags};
 ghost use Rattle.record_values.specs.Units.{unit};
 ghost use Rattle.record_values.specs.Values.{value};
-ghost use Rattle.full_records.specs.Measures.{as_profile, further_fb, further_fd, measure, EachRowMeasures};
+ghost use Rattle.full_records.specs.Measures.{ascends, as_profile, further_fb, further_fd, measure};
+ghost use Rattle.full_records.specs.Qualifiers.{codes_ascend, combinable};
 ghost use Rattle.full_records.specs.Records.{full_qualifiers, full_value, unqualified_value, Agrees};
 
 /// No code is in two rows of a table, so that each row holds as it stands there.
-pub fn each_row_measures()
-    ensures after_fd { EachRowMeasures further_fd }
-    ensures after_fb { EachRowMeasures further_fb }
+pub fn no_code_in_two_rows()
+    ensures after_fd { IsTrue (ascends 0 further_fd) }
+    ensures after_fb { IsTrue (ascends 0 further_fb) }
+    ensures combinable { IsTrue (codes_ascend 0 combinable) }
 {}
 
 /// Where the profile names a quantity, the whole standard names the same one, with the same unit and power of ten.

@@ -15,7 +15,7 @@ mod records;
 mod values;
 
 pub use laws::{
-    each_row_measures, quantities_are_the_profiles, values_are_the_profiles,
+    no_code_in_two_rows, quantities_are_the_profiles, values_are_the_profiles,
     values_without_qualifiers,
 };
 pub use measures::measure_of;

@@ -1,10 +1,9 @@
 //! Dates and times (EN 13757-3, annex A, types F, G, I and J).
 
 ghost use Rattle.std.specs.Prelude.{◌≡◌, ◌+◌, ◌^◌, ◌<◌, ◌≤◌};
-ghost use Rattle.record_values.specs.Values.{bits};
 ghost use Rattle.full_records.specs.Moments.{day_in, field, long_moment_in, moment_in, time_in, year_field};
 
-use record_values::year_of;
+use record_values::{bits, year_of};
 
 /// A date. A part that is `None` stands for every one, as every year.
 #[derive(Clone, Copy, Debug, PartialEq, Eq)]
@@ -64,16 +63,6 @@ pub struct LongMoment {
     pub deviation_sign: bool,
     /// The hours of the deviation of daylight saving.
     pub deviation: u8,
-}
-
-fn bits(word: u64, from: u32, count: u32) -> u8
-    requires within { from + count ≤ 64 }
-    requires few { count ≤ 8 }
-    requires last { from < 64 }
-    ensures value { result ≡ bits word from count }
-    ensures below { result < 2 ^ count }
-{
-    ((word >> from) % (1 << count)) as u8
 }
 
 /// A part of a date or a time; `None` where it is out of its range.

@@ -50,6 +50,7 @@ pub enum FullValue {
     Raw,
 }
 
+/// Data that are not read, if there are any.
 pub fn unread(sent: &[u8]) -> FullValue
     ensures { result ≡ unread sent.now }
 {

@@ -8,7 +8,7 @@ mod unit_tables;
 mod units;
 mod values;
 
-pub use dates::year_of;
+pub use dates::{bits, year_of};
 pub use digits::unsigned_of;
 pub use laws::each_row_counts;
 pub use units::{Quantity, Unit, UnitName, unit_of};
