@@ -4,6 +4,8 @@
 #[cfg(test)]
 mod dif_vif_calls;
 #[cfg(test)]
+mod full_records_calls;
+#[cfg(test)]
 mod meter_usage_calls;
 #[cfg(test)]
 mod record_text_calls;

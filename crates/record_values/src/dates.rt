@@ -5,17 +5,19 @@ ghost use Rattle.record_values.specs.Values.{bits, year_of, is_day, day_value, m
 
 use crate::values::Value;
 
-fn bits(word: u32, from: u32, count: u32) -> u8
-    requires within { from + count ≤ 32 }
+/// So many bits of a word, from one on.
+pub fn bits(word: u64, from: u32, count: u32) -> u8
+    requires within { from + count ≤ 64 }
     requires few { count ≤ 8 }
-    requires last { from < 32 }
+    requires last { from < 64 }
     ensures value { result ≡ bits word from count }
     ensures below { result < 2 ^ count }
 {
     ((word >> from) % (1 << count)) as u8
 }
 
-fn year_of(hundreds: u8, year: u8) -> u16
+/// The year from 1900 on of hundreds and of a number of two digits (EN 13757-3, annex A, type F).
+pub fn year_of(hundreds: u8, year: u8) -> u16
     ensures { result ≡ year_of hundreds year }
 {
     if hundreds == 0 && year <= 80 {
@@ -32,7 +34,7 @@ fn is_day(year: u8, month: u8, day: u8) -> bool
 }
 
 /// The day of a word of 16 bits.
-pub fn day_value(word: u32) -> Value
+pub fn day_value(word: u64) -> Value
     ensures { result ≡ day_value word }
 {
     let day = bits(word, 0, 5);
@@ -49,7 +51,7 @@ pub fn day_value(word: u32) -> Value
 }
 
 /// The day and the time of day of a word of 32 bits.
-pub fn moment_value(word: u32) -> Value
+pub fn moment_value(word: u64) -> Value
     ensures { result ≡ moment_value word }
 {
     let minute = bits(word, 0, 6);

@@ -8,6 +8,8 @@ mod unit_tables;
 mod units;
 mod values;
 
+pub use dates::{bits, year_of};
+pub use digits::unsigned_of;
 pub use laws::each_row_counts;
 pub use units::{Quantity, Unit, UnitName, unit_of};
-pub use values::{Value, value_of};
+pub use values::{Value, number_value, value_of};

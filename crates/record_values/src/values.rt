@@ -113,7 +113,7 @@ fn lvar_value(lvar: u8, sent: &[u8]) -> Value
 }
 
 /// The value of a number with its data field, or with its LVAR where there is one.
-fn number_value(dif: u8, lvar: Option<u8>, sent: &[u8]) -> Value
+pub fn number_value(dif: u8, lvar: Option<u8>, sent: &[u8]) -> Value
     requires { data_width dif lvar ≡ Some (length sent.now) }
     ensures { result ≡ number_value (dif % 16) lvar sent.now }
 {
@@ -143,9 +143,9 @@ pub fn value_of(bytes: &[u8], span: &RecordSpan) -> Value
     let (sent, _) = rest.split_at(span.data_len);
     match reading_of(unit_of(bytes, span).quantity) {
         Reading::Unread => unread(sent),
-        Reading::Day if span.dif % 16 == 2 => day_value(unsigned_of(sent) as u32),
+        Reading::Day if span.dif % 16 == 2 => day_value(unsigned_of(sent) as u64),
         Reading::Day => unread(sent),
-        Reading::Moment if span.dif % 16 == 4 => moment_value(unsigned_of(sent) as u32),
+        Reading::Moment if span.dif % 16 == 4 => moment_value(unsigned_of(sent) as u64),
         Reading::Moment => unread(sent),
         Reading::Number => number_value(span.dif, span.lvar, sent),
     }

@@ -1,0 +1,5 @@
+pub mod Short
+pub mod Agreeing
+pub mod Plain
+pub mod Places
+pub mod PlainPowers
