@@ -319,10 +319,10 @@ def _number(record: Record, exponent: int, bits: bool, qualifiers: list[Qualifie
 def _dated(record: Record) -> tuple[str, str, bool]:
     """A date or a time, by the width of a binary data field; type M by an LVAR isn't taken apart."""
     raw, data_field = record.raw, record.dif & 15
+    if data_field == VARIABLE:
+        return "raw" if raw else "-", "M", False
     if not raw:
         return "-", "-", False
-    if data_field == VARIABLE:
-        return "raw", "M", False
     if data_field not in (2, 3, 4, 6):
         return "raw", "-", False
     said, kind = _moment(len(raw), int.from_bytes(raw, "little"))
@@ -338,8 +338,8 @@ def read_in_full(record: Record | MakerData) -> FullRecord:
     qualifiers = qualifiers_of(record.vif[0], record.modifiers)
     reads = "raw" if quantity in OPAQUE else "moment" if quantity in MOMENTS else "withheld" if quantity in WITHHELD else "number"
     bits, kind = quantity in BITS, OPAQUE.get(quantity, "-")
-    for qualifier in qualifiers:
-        if reads != "withheld" and qualifier.reads:
+    for qualifier in qualifiers if reads != "withheld" else ():
+        if qualifier.reads:
             reads, bits, kind = qualifier.reads, False, "-"
             unit, exponent = (qualifier.unit or "-"), 0
         elif qualifier.unit:
