@@ -137,7 +137,8 @@ fn perform<R: Print + Eprint + Files<File = File> + AllocGlobal>(
 ) -> ExitCode
     ensures text { asks_for_text (map string_bytes command.now) ≡ true → IsTold 7 (exit_status result) }
     ensures faulty { command.now ≡ [] → exit_status result ≡ 2 }
-    ensures exit { asks_for_text (map string_bytes command.now) ≡ false → names_roster command.now ≡ true → IsRunExit (exit_status result) }
+    ensures exit { asks_for_text (map string_bytes command.now) ≡ false → names_roster command.now ≡ true →
+        IsRunExit (exit_status result) }
 {
     if let Some(own) = own_text(command) {
         return show(rt, own);
