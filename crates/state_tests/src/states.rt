@@ -244,5 +244,8 @@ fn a_state_is_read_from_a_source(rt: HostRuntime) -> Result<(), Fail> {
     let mut faulty = MemorySource::steady(alloc, b"wmbus-state 1\n".to_vec(alloc)?);
     let missing = StateLoadFault::Line(2, FileCause::Roster(LineCause::Missing));
     assert_eq!(rt; load_state(alloc, &mut faulty).err(), Some(missing));
+    let mut headless = MemorySource::steady(alloc, b"wmbus-state 2\n".to_vec(alloc)?);
+    let head = StateLoadFault::Roster(1, LineCause::Head);
+    assert_eq!(rt; load_state(alloc, &mut headless).err(), Some(head));
     Ok(())
 }
