@@ -11,7 +11,7 @@ exit_of : (status : AuditStatus) → (status ≡ statuses.Words → ⊥) → IsR
 exit_of statuses.Yes other = (0, omega arith, refl)
 exit_of (statuses.No cause) other = (7, omega arith, refl)
 exit_of statuses.Words other = absurd (other refl)
-exit_of statuses.ReadRoster other = (1, omega arith, refl)
+exit_of statuses.ReadState other = (1, omega arith, refl)
 exit_of statuses.ReadReport other = (8, omega arith, refl)
 exit_of statuses.LongReport other = (4, omega arith, refl)
 exit_of (statuses.Read w) other = (2, omega arith, refl)
