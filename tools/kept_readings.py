@@ -4,6 +4,7 @@ What a report says of stored steps is kept for ever, each step once. What it say
 how its receivers ended) is kept for each report, and goes with it when a later report takes its place."""
 import os
 import sqlite3
+import sys
 
 APPLICATION = 0x6D627573
 VERSION = 1
@@ -144,3 +145,19 @@ def check_tables(database, path):
         raise NoDatabase(f"{path}: this is no database of readings")
     if version != VERSION:
         raise NoDatabase(f"{path}: it was made by another version: its tables are of version {version}, these tools know {VERSION}")
+
+
+def ended(name, main):
+    """Runs a script, and answers its exit status. An interruption, and an output that nobody reads any more, end it in words."""
+    try:
+        status = main()
+        sys.stdout.flush()
+        return status
+    except KeyboardInterrupt:
+        print(f"{name}: stopped; what was kept so far stands", file=sys.stderr)
+        return 130
+    except BrokenPipeError:
+        # (what is still to be said goes nowhere, so that the interpreter's end says nothing of it)
+        os.dup2(os.open(os.devnull, os.O_WRONLY), sys.stdout.fileno())
+        print(f"{name}: nobody reads the standard output any more; what was kept so far stands", file=sys.stderr)
+        return 1
