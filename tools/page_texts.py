@@ -29,6 +29,8 @@ QUANTITIES = {
     "unknown": "unknown quantity",
 }
 UNITS = {"m3": "m³", "m3/h": "m³/h", "m3/min": "m³/min", "m3/s": "m³/s", "C": "°C", "-": ""}
+# quantities whose numbers name something: they are no counts
+NAMES = {"identification", "fabrication", "address", "accessnumber", "errorflags"}
 # units that are shown with a prefix
 PREFIXED = {"Wh", "J", "W"}
 PREFIXES = (("G", 9), ("M", 6), ("k", 3))
@@ -148,6 +150,8 @@ def prefix_for(most):
 
 def value_text(quantity, unit, value, prefix, raw=None):
     """A value as a person reads it, with its unit."""
+    if is_number(value) and quantity in NAMES:
+        return value
     if is_number(value):
         letter, power = prefix
         # a prefix is an exact shift of the point, behind which no zeros are left
