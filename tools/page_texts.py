@@ -74,6 +74,11 @@ def number_cell(*inside):
     return tag("td", *inside, class_="number")
 
 
+def text_cell(*inside):
+    """A cell of what is no number, which may be long and without a space."""
+    return tag("td", *inside, class_="text")
+
+
 def words_of_page(text):
     """Words of the page of formats, which stand there in Markdown."""
     parts, end = [], 0
@@ -139,8 +144,11 @@ def times(count):
     return "once" if count == 1 else f"{grouped(count)} times"
 
 
+DECIMAL = re.compile(r"-?[0-9]+(?:\.[0-9]+)?")
+
+
 def is_number(value):
-    return re.fullmatch(r"-?[0-9]+(?:\.[0-9]+)?", value) is not None
+    return DECIMAL.fullmatch(value) is not None
 
 
 def prefix_for(most):
