@@ -126,10 +126,6 @@ def time_text(moment):
     return f"moment {moment}"
 
 
-def now_text():
-    return datetime.datetime.now(datetime.timezone.utc).strftime("%Y-%m-%d %H:%M UTC")
-
-
 def grouped(digits):
     """A decimal number of five digits or more with its thousands apart."""
     whole, point, rest = str(digits).partition(".")
