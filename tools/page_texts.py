@@ -2,6 +2,7 @@
 import datetime
 import os
 import re
+import time
 from decimal import Decimal
 from html import escape
 
@@ -122,8 +123,23 @@ def time_text(moment):
     if moment is None:
         return "never"
     if is_time(moment):
-        return datetime.datetime.fromtimestamp(moment, datetime.timezone.utc).strftime("%Y-%m-%d %H:%M UTC")
+        return time.strftime("%Y-%m-%d %H:%M %Z", time.localtime(moment))
     return f"moment {moment}"
+
+
+def kept_text(when):
+    """When a report was kept, which the database has in UTC."""
+    try:
+        return time_text(int(datetime.datetime.strptime(when, "%Y-%m-%dT%H:%M:%S%z").timestamp()))
+    except ValueError:
+        return when
+
+
+def zone_text():
+    """What the zone of this machine, or of TZ, is called."""
+    names = " and ".join(dict.fromkeys(time.tzname if time.daylight else time.tzname[:1]))
+    given = os.environ.get("TZ", "")
+    return f"{names} ({given})" if given not in ("", names) else names
 
 
 def grouped(digits):
