@@ -127,12 +127,17 @@ def time_text(moment):
     return f"moment {moment}"
 
 
-def kept_text(when):
-    """When a report was kept, which the database has in UTC."""
+def kept_moment(when):
+    """The moment at which a report was kept, which the database has as a text."""
     try:
-        return time_text(int(datetime.datetime.strptime(when, "%Y-%m-%dT%H:%M:%S%z").timestamp()))
+        return int(datetime.datetime.strptime(when, "%Y-%m-%dT%H:%M:%S%z").timestamp())
     except ValueError:
-        return when
+        return None
+
+
+def kept_text(when):
+    moment = kept_moment(when)
+    return when if moment is None else time_text(moment)
 
 
 def zone_text():
