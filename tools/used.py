@@ -43,9 +43,9 @@ def rising_points(points):
 
 
 def used_of(points, parts):
-    """What was used by day (of 3 parts) or by month (of 2), in their order. Where the register fell the meter was reset or replaced, and nothing is counted."""
+    """What was used by day (of 3 parts) or by month (of 2), in their order, of rising points. Where the register fell the meter was reset or replaced, and nothing is counted."""
     used = {}
-    for (before, old), (moment, new) in pairwise(rising_points(points)):
+    for (before, old), (moment, new) in pairwise(points):
         day = day_of(moment)
         entry = used.setdefault(day[:parts], Used(before, day))
         if new < old:
