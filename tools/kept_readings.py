@@ -94,6 +94,22 @@ CREATE VIEW series AS
     FROM reading JOIN record ON record.reading = reading.id JOIN register ON register.id = record.register;
 """
 
+# which reports are of the same lines; databases that were made without these tables are given them
+SAME_LINES = """
+CREATE TABLE IF NOT EXISTS heard (
+    report INTEGER NOT NULL REFERENCES report (id) ON DELETE CASCADE,
+    receiver INTEGER NOT NULL,
+    first TEXT NOT NULL,       -- the line of its first step, and the meter's address
+    steps BLOB NOT NULL,       -- its steps, as same_lines.py packs them
+    PRIMARY KEY (report, receiver)
+) WITHOUT ROWID;
+CREATE TABLE IF NOT EXISTS covered (
+    report INTEGER PRIMARY KEY REFERENCES report (id) ON DELETE CASCADE,
+    by INTEGER NOT NULL REFERENCES report (id) ON DELETE CASCADE
+);
+CREATE INDEX IF NOT EXISTS covered_by ON covered (by);
+"""
+
 
 class NoDatabase(Exception):
     """Why a file isn't used as a database of readings."""
@@ -111,6 +127,8 @@ def open_database(path, create):
         if create:
             make_tables(database)
         check_tables(database, path)
+        if create:
+            run_all(database, SAME_LINES)
         return database
     except (sqlite3.Error, NoDatabase) as error:
         if database is not None:
@@ -120,6 +138,15 @@ def open_database(path, create):
 
 def marks(database):
     return [database.execute(f"PRAGMA {name}").fetchone()[0] for name in ("application_id", "user_version")]
+
+
+def has_table(database, name):
+    return database.execute("SELECT count(*) FROM sqlite_master WHERE type = 'table' AND name = ?", (name,)).fetchone()[0] == 1
+
+
+def run_all(database, statements):
+    for statement in statements.split(";\n"):
+        database.execute(statement)
 
 
 def is_empty(database):
@@ -132,8 +159,7 @@ def make_tables(database):
         return
     database.execute("BEGIN IMMEDIATE")
     if is_empty(database):
-        for statement in TABLES.split(";\n"):
-            database.execute(statement)
+        run_all(database, TABLES)
         database.execute(f"PRAGMA application_id = {APPLICATION}")
         database.execute(f"PRAGMA user_version = {VERSION}")
     database.execute("COMMIT")

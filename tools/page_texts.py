@@ -2,6 +2,7 @@
 import datetime
 import os
 import re
+import time
 from decimal import Decimal
 from html import escape
 
@@ -29,6 +30,8 @@ QUANTITIES = {
     "unknown": "unknown quantity",
 }
 UNITS = {"m3": "m³", "m3/h": "m³/h", "m3/min": "m³/min", "m3/s": "m³/s", "C": "°C", "-": ""}
+# quantities whose numbers name something: they are no counts
+NAMES = {"identification", "fabrication", "address", "accessnumber", "errorflags"}
 # units that are shown with a prefix
 PREFIXED = {"Wh", "J", "W"}
 PREFIXES = (("G", 9), ("M", 6), ("k", 3))
@@ -70,6 +73,11 @@ def table(heads, rows):
 
 def number_cell(*inside):
     return tag("td", *inside, class_="number")
+
+
+def text_cell(*inside):
+    """A cell of what is no number, which may be long and without a space."""
+    return tag("td", *inside, class_="text")
 
 
 def words_of_page(text):
@@ -115,12 +123,28 @@ def time_text(moment):
     if moment is None:
         return "never"
     if is_time(moment):
-        return datetime.datetime.fromtimestamp(moment, datetime.timezone.utc).strftime("%Y-%m-%d %H:%M UTC")
+        return time.strftime("%Y-%m-%d %H:%M %Z", time.localtime(moment))
     return f"moment {moment}"
 
 
-def now_text():
-    return datetime.datetime.now(datetime.timezone.utc).strftime("%Y-%m-%d %H:%M UTC")
+def kept_moment(when):
+    """The moment at which a report was kept, which the database has as a text."""
+    try:
+        return int(datetime.datetime.strptime(when, "%Y-%m-%dT%H:%M:%S%z").timestamp())
+    except ValueError:
+        return None
+
+
+def kept_text(when):
+    moment = kept_moment(when)
+    return when if moment is None else time_text(moment)
+
+
+def zone_text():
+    """What the zone of this machine, or of TZ, is called."""
+    names = " and ".join(dict.fromkeys(time.tzname if time.daylight else time.tzname[:1]))
+    given = os.environ.get("TZ", "")
+    return f"{names} ({given})" if given not in ("", names) else names
 
 
 def grouped(digits):
@@ -137,8 +161,11 @@ def times(count):
     return "once" if count == 1 else f"{grouped(count)} times"
 
 
+DECIMAL = re.compile(r"-?[0-9]+(?:\.[0-9]+)?")
+
+
 def is_number(value):
-    return re.fullmatch(r"-?[0-9]+(?:\.[0-9]+)?", value) is not None
+    return DECIMAL.fullmatch(value) is not None
 
 
 def prefix_for(most):
@@ -148,6 +175,8 @@ def prefix_for(most):
 
 def value_text(quantity, unit, value, prefix, raw=None):
     """A value as a person reads it, with its unit."""
+    if is_number(value) and quantity in NAMES:
+        return value
     if is_number(value):
         letter, power = prefix
         # a prefix is an exact shift of the point, behind which no zeros are left

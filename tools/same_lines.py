@@ -1,0 +1,55 @@
+"""Which reports are of the same lines: a receiver's file that was heard twice, once perhaps further than before.
+
+A report has no lines, but it has the place of each step's line and the step's meter. Of two reports the one that has all steps of the other's
+receivers covers it, and of two that have the same ones the later does. What a covered report says beside its readings is said twice, and
+so isn't counted."""
+import zlib
+
+# so many steps of two or more meters in the same lines are no chance
+SURE_STEPS = 16
+
+
+def packed(steps):
+    """The steps of a receiver as a blob: each its line, its address and its words, for a stored one its counter and its moment."""
+    return zlib.compress("\n".join(f"{line} {address} {words}" for line, address, words in sorted(steps)).encode("ascii"))
+
+
+def unpacked(blob):
+    """The words of each step by its line and address."""
+    texts = (text.split(" ", 2) for text in zlib.decompress(blob).decode("ascii").split("\n"))
+    return {f"{line} {address}": words for line, address, words in texts}
+
+
+def are_same(some, all_of):
+    """Whether the steps of a receiver are among those of another one, so that both are of the same lines; another roster may have more of them."""
+    if not some.keys() <= all_of.keys():
+        return False
+    stored = [at for at in some if some[at].startswith("stored ") and all_of[at].startswith("stored ")]
+    if stored:
+        return all(some[at] == all_of[at] for at in stored)
+    return some == all_of or len(some) >= SURE_STEPS and len({at.split(" ")[1] for at in some}) > 1
+
+
+def covers(one, other):
+    """Whether a report's receivers have all that those of another one have."""
+    return all(any(are_same(steps, more) for more in one) for steps in other)
+
+
+def put_heard(database, number, heard):
+    """Puts the steps of a report's receivers, and finds the reports that it covers, or one that covers it."""
+    before = database.execute("SELECT report, first FROM heard").fetchall()
+    firsts = {receiver: " ".join(map(str, min(steps)[:2])) for receiver, steps in heard.items()}
+    database.executemany("INSERT INTO heard VALUES (?, ?, ?, ?)", [(number, receiver, firsts[receiver], packed(steps)) for receiver, steps in heard.items()])
+    own = heard_of(database, number)
+    # only these can be of the same lines
+    near = {report for report, first in before if any(first in steps for steps in own)}
+    for report in sorted(near):
+        steps = heard_of(database, report)
+        if covers(own, steps):
+            database.execute("INSERT OR REPLACE INTO covered VALUES (?, ?)", (report, number))
+        elif covers(steps, own):
+            database.execute("INSERT OR REPLACE INTO covered VALUES (?, ?)", (number, report))
+
+
+def heard_of(database, number):
+    return [unpacked(blob) for blob, in database.execute("SELECT steps FROM heard WHERE report = ?", (number,))]
