@@ -62,6 +62,12 @@ def true(what: str, holds: object) -> None:
 
 
 @functools.cache
+def ready(name: str) -> str:
+    """The path of a program, which is looked for once."""
+    return programs.path(name)
+
+
+@functools.cache
 def rows() -> list[Row]:
     """The rows of docs/FORMATS.md that say what to do."""
     return explained_rows()
@@ -99,7 +105,7 @@ class Walk:
         """The path of a program or a script."""
         if name in self.stand_ins:
             return self.stand_ins[name]
-        return programs.path(name) if name in PROGRAMS else str(TOP / "tools" / name)
+        return ready(name) if name in PROGRAMS else str(TOP / "tools" / name)
 
     def path(self, name: str) -> Path:
         """The path of a file of the folder."""
