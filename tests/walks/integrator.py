@@ -168,7 +168,7 @@ def records_of(stored: list[str]) -> list[tuple[int, str, str]]:
 
 
 def lists_and_totals(walk: Walk) -> None:
-    """Every record of both rounds, and what was used: by meter and in sum the last less the first."""
+    """Every record of both rounds is listed, and what was used is the last less the first, by meter and in sum."""
     rows: dict[str, list[tuple[int, str]]] = {}
     for number in (1, 2):
         report = walk.text(f"site/reports/{number:06}")

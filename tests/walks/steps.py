@@ -5,7 +5,8 @@ import functools
 import os
 import re
 import subprocess
-from collections.abc import Callable, Iterable
+import sys
+from collections.abc import Callable
 from dataclasses import dataclass
 from pathlib import Path
 
@@ -107,6 +108,11 @@ class Walk:
             return self.stand_ins[name]
         return ready(name) if name in PROGRAMS else str(TOP / "tools" / name)
 
+    def command(self, name: str) -> list[str]:
+        """The words that start a program, or a script by the Python that runs here."""
+        is_script = name in SCRIPTS and name not in self.stand_ins
+        return [sys.executable, self.program(name)] if is_script else [self.program(name)]
+
     def path(self, name: str) -> Path:
         """The path of a file of the folder."""
         return self.folder / name
@@ -133,13 +139,13 @@ class Walk:
         self.left_out.append(words)
 
     def environment(self) -> dict[str, str]:
-        """What scripts need to find stand-ins of programs that they start."""
-        return os.environ | ({"READING_LIST": self.stand_ins["reading_list"]} if "reading_list" in self.stand_ins else {})
+        """Scripts start the program that lies ready, or its stand-in, without looking for it each time; what they print is buffered, as it is by itself."""
+        return {name: value for name, value in os.environ.items() if name != "PYTHONUNBUFFERED"} | {"READING_LIST": self.program("reading_list")}
 
-    def tried(self, name: str, *words: str, feed: bytes = b"", output: int = subprocess.PIPE, before: Callable[[], object] | None = None,
-              command: Iterable[str] = ()) -> Ran:
+    def tried(self, name: str, *words: str, feed: bytes = b"", output: int = subprocess.PIPE,
+              before: Callable[[], object] | None = None) -> Ran:
         """Runs a program, and looks at what holds of every run: a documented status, words on the standard error, neither a traceback nor a key."""
-        asked = [*(command or [self.program(name)]), *words]
+        asked = [*self.command(name), *words]
         told = f"{name} {' '.join(words)}"
         try:
             done = subprocess.run(asked, cwd=self.folder, input=feed, stdout=output, stderr=subprocess.PIPE, timeout=MOST_SECONDS, check=False,
