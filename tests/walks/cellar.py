@@ -1,7 +1,7 @@
 """A technician in a cellar with a stick: from what the stick prints to the page, day after day, with a second key and a command.
 
-The first day's telegrams are those of examples/receivers; the gas meter's is published (OMS Volume 2, annex N). The later days' are made here by the rules of the
-standard, of payloads that are known, so what a report, a page or a meter has to say of them is known too."""
+The first day's telegrams are those of examples/receivers; the gas meter's is published (OMS Volume 2, annex N). The later days' are made
+here by the rules of the standard, of payloads that are known, so what a report, a page or a meter has to say of them is known too."""
 import contextlib
 import re
 import sqlite3
@@ -21,7 +21,7 @@ SECOND_KEY = "a0a1a2a3a4a5a6a7a8a9aaabacadaeaf"
 STRANGERS = {"4304341200702107": "ABC 70001234 21 07", "4304785634121002": "ABC 12345678 10 02"}
 RTL_433 = ["-f", "868.95M", "-s", "1200k", "-R", "104", "-F", "json", "-M", "time:utc", "-T", "3600"]
 COMMAND, RESPONSE, LISTENS = "0f01", 0x08, 0x80
-ROSTER = f"wmbus-roster 2\nown {OWN}\n"
+EMPTY = f"wmbus-roster 2\nown {OWN}\n"
 # litres that the heat meter says on the later days, by its counters
 LITRES = {9: 235910, 10: 236040, 11: 236170, 12: 236300, 13: 236430}
 
@@ -34,6 +34,11 @@ def at(day: int, hour: int) -> int:
 def payload(counter: int) -> bytes:
     """A volume in eight BCD digits, of litres (VIF 13)."""
     return bytes.fromhex("2f2f0c13") + bytes.fromhex(f"{LITRES[counter]:08d}")[::-1]
+
+
+def roster(gas_key: str, heat_key: str) -> str:
+    """The roster of both meters, as new ones."""
+    return f"{EMPTY}meter {GAS} 5 {gas_key} - - 0 0\nmeter {HEAT} 7 {heat_key} - - 0 0\n"
 
 
 def printed(telegram: bytes, moment: int) -> str:
@@ -90,7 +95,7 @@ def what_the_sticks_print(walk: Walk) -> None:
 
 def what_is_there(walk: Walk) -> None:
     """An empty roster and the hour three times: four meters were heard."""
-    walk.write("roster", ROSTER)
+    walk.write("roster", EMPTY)
     ran = walk.run("input_check", "roster", "day1.rx", "day1.rx", "day1.rx")
     found = dict(re.findall(r"^meter ([0-9a-f]{16}) \((\w{3} \d{8} \w\w \w\w) .*heard \d+ times$", ran.text, re.M))
     equal("the meters that were heard", {GAS: GAS_LABEL, HEAT: HEAT_LABEL} | STRANGERS, found)
@@ -113,11 +118,11 @@ def a_wrong_key(walk: Walk) -> None:
     """Keys of one digit, a digit that was copied wrongly, and another meter's key: the hints, the report, what to do, the page."""
     walk.keys |= {HEAT_KEY, GAS_KEY, SECOND_KEY}
     for key, words in (("00" * 16, "its key is sixteen equal bytes"), (GAS_KEY, "another meter has the same key")):
-        walk.write("roster", f"{ROSTER}meter {GAS} 5 {GAS_KEY} - - 0 0\nmeter {HEAT} 7 {key} - - 0 0\n")
+        walk.write("roster", roster(GAS_KEY, key))
         hints = walk.run("input_check", "roster", "day1.rx").text
         true(f"input_check doesn't say {words!r}: {hints}", re.search(rf"^meter {HEAT} .*: {words}", hints, re.M))
         what_to_do("What is wrong with an input", words)
-    walk.write("roster", f"{ROSTER}meter {GAS} 5 {GAS_KEY.replace('0102', '0103', 1)} - - 0 0\nmeter {HEAT} 7 {HEAT_KEY.replace('0011', '0012', 1)} - - 0 0\n")
+    walk.write("roster", roster(GAS_KEY.replace("0102", "0103", 1), HEAT_KEY.replace("0011", "0012", 1)))
     report = walk.session("hear", "roster", "day1.rx")
     equal("the heat meter under a wrong key", ["refused mac"] * 2, steps_of(report, HEAT))
     true("the gas meter under a wrong key", re.fullmatch(r"refused check (?!2f2f)[0-9a-f]{4}", steps_of(report, GAS)[0]))
@@ -131,7 +136,7 @@ def a_wrong_key(walk: Walk) -> None:
 
 def the_right_keys(walk: Walk) -> None:
     """The keys come into the roster: readings, and the published value on the page."""
-    walk.write("roster", f"{ROSTER}meter {GAS} 5 {GAS_KEY} - - 0 0\nmeter {HEAT} 7 {HEAT_KEY} - - 0 0\n")
+    walk.write("roster", roster(GAS_KEY, HEAT_KEY))
     hints = walk.run("input_check", "roster", "day1.rx", told="").text
     true(f"input_check says of the roster {hints!r}", "key" not in hints and "was not heard" not in hints)
     report = walk.session("hear", "roster", "day1.rx")
@@ -193,8 +198,10 @@ def and_confirmed(walk: Walk) -> None:
     walk.write("day5.report", report)
     kept(walk, "day5.report", "236.43", GAS_VOLUME, GAS_LABEL, HEAT_LABEL)
     with contextlib.closing(sqlite3.connect(walk.path("cellar.db"))) as database:
-        rows = database.execute("SELECT counter, value FROM series WHERE address = ? AND quantity = 'volume' AND counter > 8 ORDER BY moment", [HEAT]).fetchall()
+        asked = "SELECT counter, value FROM series WHERE address = ? AND quantity = 'volume' AND counter > 8 ORDER BY moment"
+        rows = database.execute(asked, [HEAT]).fetchall()
     equal("the volumes that are kept", [(counter, f"{litres // 1000}.{litres % 1000:03}") for counter, litres in LITRES.items()], rows)
 
 
-STEPS = [what_the_sticks_print, what_is_there, names_from_labels, a_wrong_key, the_right_keys, the_first_days, a_second_key, a_command_is_sent, and_confirmed]
+STEPS = [what_the_sticks_print, what_is_there, names_from_labels, a_wrong_key, the_right_keys, the_first_days,
+         a_second_key, a_command_is_sent, and_confirmed]

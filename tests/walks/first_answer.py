@@ -125,7 +125,9 @@ def a_mistake_in_each_field(walk: Walk) -> None:
     """Each is named with its line and cause, which the second implementation gives too, and has its row; mended, the roster is heard."""
     right = walk.text("clone/own.roster")
     wmbus, input_check = (unpacked(walk, name) for name in ("wmbus", "input_check"))
-    for stands, typed, line, cause in [*MISTAKES, (right, right + right.splitlines()[2] + "\n", 4, "same"), (right, right.splitlines()[0] + "\n", 2, "missing")]:
+    lines = right.splitlines(keepends=True)
+    of_lines = [(right, right + lines[2], 4, "same"), (right, lines[0], 2, "missing")]
+    for stands, typed, line, cause in MISTAKES + of_lines:
         wrong = right.replace(stands, typed, 1)
         true(f"{stands!r} stands in the roster", wrong != right)
         try:
@@ -142,4 +144,5 @@ def a_mistake_in_each_field(walk: Walk) -> None:
     true("the roster is mended", in_clone(walk, wmbus, "hear", "wrong.roster", "own.rx").stdout.decode() == walk.text("clone/own.report"))
 
 
-STEPS = [a_fresh_clone, the_two_commands_of_the_readme, each_help_and_its_statuses, what_is_typed_wrongly, a_telegram_of_their_own, a_mistake_in_each_field]
+STEPS = [a_fresh_clone, the_two_commands_of_the_readme, each_help_and_its_statuses, what_is_typed_wrongly,
+         a_telegram_of_their_own, a_mistake_in_each_field]

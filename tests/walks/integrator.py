@@ -1,7 +1,7 @@
-"""An integrator: two receivers over pipes, the readings as JSON, a chain of sessions, rounds over a folder, audits, lists, totals, and statuses that are handled.
+"""An integrator: two receivers over pipes, the readings as JSON, a chain of sessions, rounds over a folder, audits, lists, totals, statuses.
 
-The sessions are made (tools/made_sessions.py), with a meter beside them that is sent a command while the lines come. What they have to give is that of the second
-implementation, or known from the payloads: each says its counter as a volume in litres."""
+The sessions are made (tools/made_sessions.py), with a meter beside them that is sent a command while the lines come. What they have to give
+is that of the second implementation, or known from the payloads: each says its counter as a volume in litres."""
 import json
 import os
 import re
@@ -16,7 +16,6 @@ import outputs
 import replay
 from frames import format_a
 from messages import downlink, whole
-from reference import judge
 from reference.states import read_state
 from walks.steps import Walk, equal, true, what_to_do
 
@@ -80,11 +79,11 @@ def two_receivers_at_once(walk: Walk) -> None:
     equal("collect over pipes: status and standard error", (0, b""), (collector.returncode, told))
     frame = format_a(downlink(OWN, VALVE_KEY, VALVE, 1, COMMAND)).hex()
     equal("the downlink that comes out while the roof's lines come", [f"D {frame}\n".encode()], spoken)
-    texts = {"report": report.decode(), "stderr": "", "next": walk.text("next"), "readings": walk.text("readings.json")}
+    texts = {"report": report.decode(), "next": walk.text("next"), "readings": walk.text("readings.json")}
     texts |= {"tx1": (spoken[0] + rest[0]).decode(), "tx2": rest[1].decode()}
-    equal("differences from the second implementation", [], judge.judged("collect", walk.read("roster"), [walk.read(f"{it}.rx") for it in RECEIVERS], judge.Run(0, texts)))
-    steps = [line.split(" ", 3)[3] for line in texts["report"].split(f"\nmeter {VALVE.hex()} ")[1].splitlines() if line.startswith("step ")]
-    equal("the valve's steps", ["queued 1", "sent 1", "confirmed 1"], [steps[0], " ".join(steps[1].split(" ")[-2:]), " ".join(steps[2].split(" ")[-2:])])
+    walk.judge("collect", walk.read("roster"), [f"{it}.rx" for it in RECEIVERS], texts)
+    steps = next(steps for address, _, steps, _ in replay.parts(texts["report"])[1] if address == VALVE.hex())
+    equal("the valve's steps", ["queued 1", "sent 1", "confirmed 1"], [" ".join(words.split(" ")[-2:]) for _, _, words in steps[:3]])
     walk.write("pipes.report", report)
 
 
@@ -99,7 +98,8 @@ def the_readings_as_json(walk: Walk) -> None:
         return
     asked = ".meters[] | .address as $a | .records[] | [$a, .quantity, .value, (.exponent | tostring), .unit] | @tsv"
     rows = subprocess.run(["jq", "-r", asked, "readings.json"], cwd=walk.folder, stdout=subprocess.PIPE, text=True, check=True).stdout
-    wanted = [[it["address"], record["quantity"], record["value"], str(record["exponent"]), record["unit"]] for it in read["meters"] for record in it["records"]]
+    wanted = [[it["address"], record["quantity"], record["value"], str(record["exponent"]), record["unit"]]
+              for it in read["meters"] for record in it["records"]]
     equal("what jq reads", wanted, [line.split("\t") for line in rows.splitlines()])
 
 
@@ -117,7 +117,8 @@ def next_fed_back_ten_times(walk: Walk) -> None:
     equal("the uncut session by continue", whole_report, walk.session("continue", "roster", "uncut.state", "uncut.json", "roof.rx", "uncut.tx"))
     equal("the last state", walk.text("uncut.state").splitlines(), walk.text(known).splitlines())
     equal("the last readings", walk.text("uncut.json"), walk.text(f"readings{PIECES}.json"))
-    equal("the downlinks", walk.text("uncut.tx").splitlines(), [line for number in range(1, PIECES + 1) for line in walk.text(f"part{number}.tx").splitlines()])
+    sent = "".join(walk.text(f"part{number}.tx") for number in range(1, PIECES + 1))
+    equal("the downlinks", walk.text("uncut.tx").splitlines(), sent.splitlines())
 
 
 def rounds_over_a_folder(walk: Walk) -> None:
@@ -132,12 +133,12 @@ def rounds_over_a_folder(walk: Walk) -> None:
             walk.path(f"site/{name}.tmp").rename(walk.path(f"site/rx/{name}.{number:04}"))
         shutil.copy(walk.path("site/state"), walk.path(f"before{number}"))
         ran = walk.run("sessions", "--program", walk.program("wmbus"), "site", told="")
-        true(f"round {number} says {ran.text!r}", ran.text.startswith(f"sessions: round {number:06}: heard roof.{number:04} yard.{number:04}"))
+        told = f"sessions: round {number:06}: heard roof.{number:04} yard.{number:04}"
+        true(f"round {number} says {ran.text!r}", ran.text.startswith(told))
         files = [f"site/heard/{number:06}.{name}.{number:04}" for name in RECEIVERS]
-        sent = [walk.text(f"site/tx/{number:06}.{name}.{number:04}") for name in RECEIVERS]
-        texts = {"report": walk.text(f"site/reports/{number:06}"), "next": walk.text("site/state"), "readings": walk.text("site/readings.json"), "tx1": sent[0], "tx2": sent[1]}
-        found = judge.judged("continue", walk.read(f"before{number}"), [walk.read(it) for it in files], judge.Run(0, texts | {"stderr": ""}))
-        equal(f"differences of round {number} from the second implementation", [], found)
+        told_by = {"report": f"site/reports/{number:06}", "next": "site/state", "readings": "site/readings.json"}
+        told_by |= {f"tx{at}": f"site/tx/{number:06}.{name}.{number:04}" for at, name in enumerate(RECEIVERS, 1)}
+        walk.judge("continue", walk.read(f"before{number}"), files, {name: walk.text(file) for name, file in told_by.items()})
 
 
 def each_session_is_audited(walk: Walk) -> None:
@@ -145,7 +146,8 @@ def each_session_is_audited(walk: Walk) -> None:
     for number in (1, 2):
         files = [f"site/heard/{number:06}.{name}.{number:04}" for name in RECEIVERS]
         report = walk.text(f"site/reports/{number:06}")
-        equal(f"the audit of round {number}", "yes\n", walk.run("audit_check", f"before{number}", f"site/reports/{number:06}", *files, told="").text)
+        ran = walk.run("audit_check", f"before{number}", f"site/reports/{number:06}", *files, told="")
+        equal(f"the audit of round {number}", "yes\n", ran.text)
         place = re.search(r"\nstep \d+ \d+ stored \d+ \d+ 2f2f0c13", report).end()
         changed = report[:place] + ("0" if report[place] != "0" else "1") + report[place + 1:]
         lines = report.splitlines(keepends=True)
@@ -155,7 +157,8 @@ def each_session_is_audited(walk: Walk) -> None:
         turned = "".join([*lines[:first], lines[first + 1], lines[first], *lines[first + 2:]])
         for words, text in ((f"no text {place}\n", changed), (f"no order {heading} {steps}\n", turned), (f"no text {len(report) - 4}\n", report[:-4])):
             walk.write("changed.report", text)
-            equal(f"the audit of round {number}, changed", words, walk.run("audit_check", f"before{number}", "changed.report", *files, status=12).text)
+            ran = walk.run("audit_check", f"before{number}", "changed.report", *files, status=12)
+            equal(f"the audit of round {number}, changed", words, ran.text)
             what_to_do("What `audit_check` prints", words.removeprefix("no "))
         other = walk.run("audit_check", f"before{3 - number}", f"site/reports/{number:06}", *files, status=12)
         true(f"the audit of round {number} under the other STATE: {other.text}", other.text.startswith("no "))
@@ -172,17 +175,21 @@ def lists_and_totals(walk: Walk) -> None:
     rows: dict[str, list[tuple[int, str]]] = {}
     for number in (1, 2):
         report = walk.text(f"site/reports/{number:06}")
-        stored = [(address, words.split(" ")) for address, _, steps, _ in replay.parts(report)[1] for _, _, words in steps if words.startswith("stored ")]
+        steps = [(address, words.split(" ")) for address, _, steps, _ in replay.parts(report)[1] for _, _, words in steps]
+        stored = [(address, words) for address, words in steps if words[0] == "stored"]
         listed = [json.loads(line) for line in walk.run("reading_list", f"site/reports/{number:06}", told="").lines]
         found = [(it["address"], it["counter"], it["record"], it["quantity"], it["value"]) for it in listed]
-        equal("the records that are listed", [(address, int(words[1]), *record) for address, words in stored for record in records_of(words)], found)
+        wanted = [(address, int(words[1]), *record) for address, words in stored for record in records_of(words)]
+        equal("the records that are listed", wanted, found)
         for address, words in stored:
             rows.setdefault(address, []).append((int(words[1]), words[3]))
-    walk.write("edits", "".join(f"+ {address} {payload}\n" for address, told in rows.items() for _, payload in told) + f"? {VALVE.hex()}\n?\n")
+    edits = [f"+ {address} {payload}\n" for address, told in rows.items() for _, payload in told]
+    walk.write("edits", "".join([*edits, f"? {VALVE.hex()}\n?\n"]))
     answers = walk.run("usage_totals", "edits", told="").lines
     used = sum(told[-1][0] - told[0][0] for told in rows.values())
     powered = sum(any(POWER in payload for _, payload in told) for told in rows.values())
-    wanted = ["ok"] * sum(map(len, rows.values())) + [f"usage 0 0 0 volume m3 -3 {rows[VALVE.hex()][-1][0] - rows[VALVE.hex()][0][0]}", "end"]
+    first, last = (rows[VALVE.hex()][at][0] for at in (0, -1))
+    wanted = ["ok"] * len(edits) + [f"usage 0 0 0 volume m3 -3 {last - first}", "end"]
     wanted += [f"total 0 0 0 power W 0 {powered} 0"] * (powered > 0) + [f"total 0 0 0 volume m3 -3 {len(rows)} {used}", "end"]
     equal("the answers of usage_totals", wanted, answers)
 
@@ -193,23 +200,24 @@ def statuses_are_handled(walk: Walk) -> None:
     walk.write("long.rx", b"T 0000000000000000\n" * 131072 + b"x")
     sends = heard(900, access=LISTENS)
     walk.write("sends.rx", f"Q {VALVE.hex()} 01\n".encode() + sends)
-    faults = [(2, []), (3, ["cut.state", "trial", "r", "part1.rx", "t"]), (4, [".", "trial", "r", "part1.rx", "t"]), (5, ["state", "trial", "r", ".", "t"]),
-              (6, ["state", "trial", "r", "sends.rx", "/dev/full"]), (7, ["state", "trial", "/dev/full", "part1.rx", "t"]), (7, ["state", "/dev/full", "r", "part1.rx", "t"]),
-              (8, ["state", "trial", "r", "long.rx", "t"]), (11, ["state", "trial", "r", "none.rx", "t"]), (11, ["state", "./state", "r", "part1.rx", "t"])]
+    faults = [(2, ""), (3, "cut.state trial r part1.rx t"), (4, ". trial r part1.rx t"), (5, "state trial r . t"),
+              (6, "state trial r sends.rx /dev/full"), (7, "state trial /dev/full part1.rx t"), (7, "state /dev/full r part1.rx t"),
+              (8, "state trial r long.rx t"), (11, "state trial r none.rx t"), (11, "state ./state r part1.rx t")]
     shutil.copy(walk.path("roster"), walk.path("state"))
     for number, (status, words) in enumerate(faults, 1):
         walk.path("trial").unlink(missing_ok=True)
         before = walk.read("state")
-        ran = walk.run("wmbus", "continue", *words, status=status)
+        ran = walk.run("wmbus", "continue", *words.split(), status=status)
         true(f"what is to be done about {ran.told!r}", what_to_do("Exit statuses", ran.told))
         equal(f"the state after status {status}", before, walk.read("state"))
         if status in (5, 6, 8):
             read_state(walk.read("trial"))
         elif status != 7:
-            equal(f"an output after status {status}", b"", walk.read("trial") if walk.path("trial").exists() else b"")
+            equal(f"an output after status {status}", "", walk.text("trial"))
         walk.run("wmbus", "continue", "state", "trial", "readings.json", f"part{number}.rx", "t", told="")
         walk.path("trial").rename(walk.path("state"))
     equal("the state behind all sessions", walk.text("uncut.state").splitlines(), walk.text("state").splitlines())
 
 
-STEPS = [two_receivers_at_once, the_readings_as_json, next_fed_back_ten_times, rounds_over_a_folder, each_session_is_audited, lists_and_totals, statuses_are_handled]
+STEPS = [two_receivers_at_once, the_readings_as_json, next_fed_back_ten_times, rounds_over_a_folder, each_session_is_audited,
+         lists_and_totals, statuses_are_handled]

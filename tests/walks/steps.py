@@ -50,8 +50,9 @@ class Ran:
 def equal(what: str, wanted: object, given: object) -> None:
     """Two things that have to be the same; of two lists the first place at which they differ is told."""
     if wanted != given and isinstance(wanted, list) and isinstance(given, list):
-        place = next((at for at, pair in enumerate(zip(wanted, given)) if pair[0] != pair[1]), min(len(wanted), len(given)))
-        raise Wrong(f"{what}: at place {place} of {len(wanted)}: wanted {wanted[place:place + 1]!r:.400}, got {given[place:place + 1]!r:.400}")
+        unlike = (at for at, pair in enumerate(zip(wanted, given)) if pair[0] != pair[1])
+        at = next(unlike, min(len(wanted), len(given)))
+        raise Wrong(f"{what}: at place {at} of {len(wanted)}: wanted {wanted[at:at + 1]!r:.400}, got {given[at:at + 1]!r:.400}")
     if wanted != given:
         raise Wrong(f"{what}: wanted {wanted!r:.400}, got {given!r:.400}")
 
@@ -139,17 +140,18 @@ class Walk:
         self.left_out.append(words)
 
     def environment(self) -> dict[str, str]:
-        """Scripts start the program that lies ready, or its stand-in, without looking for it each time; what they print is buffered, as it is by itself."""
-        return {name: value for name, value in os.environ.items() if name != "PYTHONUNBUFFERED"} | {"READING_LIST": self.program("reading_list")}
+        """Scripts start the program that lies ready, or its stand-in; what they print is buffered, as it is by itself."""
+        kept = {name: value for name, value in os.environ.items() if name != "PYTHONUNBUFFERED"}
+        return kept | {"READING_LIST": self.program("reading_list")}
 
     def tried(self, name: str, *words: str, feed: bytes = b"", output: int = subprocess.PIPE,
               before: Callable[[], object] | None = None) -> Ran:
-        """Runs a program, and looks at what holds of every run: a documented status, words on the standard error, neither a traceback nor a key."""
+        """Runs a program, and looks at what holds of every run: a documented status, words on the standard error, no traceback and no key."""
         asked = [*self.command(name), *words]
         told = f"{name} {' '.join(words)}"
         try:
-            done = subprocess.run(asked, cwd=self.folder, input=feed, stdout=output, stderr=subprocess.PIPE, timeout=MOST_SECONDS, check=False,
-                                  preexec_fn=before, env=self.environment())
+            done = subprocess.run(asked, cwd=self.folder, input=feed, stdout=output, stderr=subprocess.PIPE,
+                                  timeout=MOST_SECONDS, check=False, preexec_fn=before, env=self.environment())
         except subprocess.TimeoutExpired:
             raise Wrong(f"{told}: it hasn't ended after {MOST_SECONDS} s") from None
         ran = Ran(done.returncode, done.stdout or b"", done.stderr.decode("utf-8", "surrogateescape"))
@@ -181,12 +183,17 @@ class Walk:
         """A session of `hear`, `collect` or `continue` that ends with status 0 and is what the second implementation says of it; its report."""
         command, known = words[0], self.read(words[1])
         ran = self.run("wmbus", *words, told="")
-        texts = {"report": ran.text, "stderr": ran.told}
+        texts = {"report": ran.text}
         heard, sent = ([words[2]], []) if command == "hear" else (words[4::2], words[5::2])
         if command != "hear":
             texts |= {"next": self.text(words[2]), "readings": self.text(words[3])}
             texts |= {f"tx{number}": self.text(name) for number, name in enumerate(sent, 1)}
-        found = judge.judged(command, known, [self.read(name) for name in heard], judge.Run(0, texts))
-        if found:
-            raise Wrong(f"wmbus {' '.join(words)}: {found[0]}")
+        self.judge(command, known, list(heard), texts)
         return ran.text
+
+    def judge(self, command: str, known: bytes, heard: list[str], texts: dict[str, str]) -> None:
+        """What a session over these files printed and wrote has to be what the second implementation says of them."""
+        run = judge.Run(0, {"stderr": ""} | texts)
+        found = judge.judged(command, known, [self.read(name) for name in heard], run)
+        if found:
+            raise Wrong(f"wmbus {command} over {' '.join(heard)}: {found[0]}")
