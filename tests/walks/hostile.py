@@ -309,6 +309,10 @@ def few_files(walk: Walk) -> None:
         if ran.status == 11:
             what_to_do("Exit statuses", ran.told)
     equal("the statuses", {0, 11}, found)
+    for most in (8, 16, 31):
+        ran = subprocess.run([TOP / "tools" / "meter_name", METER], capture_output=True, text=True, check=False,
+                             env=walk.environment() | {"PATH": "/usr/bin:/bin"}, preexec_fn=limited(resource.RLIMIT_NOFILE, most))
+        equal(f"tools/meter_name with {most} files", (125, "tools/meter_name: fewer than 32 files may be open at once (ulimit -n)\n"), (ran.returncode, ran.stderr))
     for most in range(7, 16, 2):
         place = f"site.{most}"
         a_site(walk, place)
