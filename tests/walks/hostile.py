@@ -284,6 +284,7 @@ def a_full_disk(walk: Walk) -> None:
 
 def little_memory(walk: Walk) -> None:
     """Less and less memory (`ulimit -v`): all is right, or there is no memory and nothing is written."""
+    # one meter less, so that the roster has as many as it may
     walk.write("many", walk.text("many").replace("\nmeter 9315000000000107", "\n#"))
     walk.write("much", walk.read("rx") * 4000)
     found = set()
@@ -304,7 +305,7 @@ def little_memory(walk: Walk) -> None:
 
 
 def few_files(walk: Walk) -> None:
-    """Less and less files that may be open (`ulimit -n`): the first that can't be is named."""
+    """Fewer and fewer files that may be open (`ulimit -n`): the first that can't be is named, and a round counts whole or not at all."""
     found = set()
     for most in range(4, 12):
         ran = walk.tried("wmbus", "continue", "state", "next", "readings", "rx", "tx", before=limited(resource.RLIMIT_NOFILE, most))
@@ -315,7 +316,8 @@ def few_files(walk: Walk) -> None:
     for most in (8, 16, 31):
         ran = subprocess.run([TOP / "tools" / "meter_name", METER], capture_output=True, text=True, check=False,
                              env=walk.environment() | {"PATH": "/usr/bin:/bin"}, preexec_fn=limited(resource.RLIMIT_NOFILE, most))
-        equal(f"tools/meter_name with {most} files", (125, "tools/meter_name: fewer than 32 files may be open at once (ulimit -n)\n"), (ran.returncode, ran.stderr))
+        told = "tools/meter_name: fewer than 32 files may be open at once (ulimit -n)\n"
+        equal(f"tools/meter_name with {most} files", (125, told), (ran.returncode, ran.stderr))
     for most in range(7, 16, 2):
         place = f"site.{most}"
         a_site(walk, place)
@@ -328,5 +330,5 @@ def few_files(walk: Walk) -> None:
             equal(f"the state of {place}", walk.text("state"), walk.text(f"{place}/state"))
 
 
-STEPS = [a_session, files_that_are_none, texts_saved_otherwise, a_state_doubled_or_cut, too_many_meters, another_programs_files, links_among_the_outputs,
-         outputs_that_take_nothing, a_full_disk, little_memory, few_files]
+STEPS = [a_session, files_that_are_none, texts_saved_otherwise, a_state_doubled_or_cut, too_many_meters, another_programs_files,
+         links_among_the_outputs, outputs_that_take_nothing, a_full_disk, little_memory, few_files]
