@@ -2,6 +2,8 @@
 
 What a report says of stored steps is kept for ever, each step once. What it says beside that (refusals, commands that wait, strangers,
 how its receivers ended) is kept for each report, and goes with it when a later report takes its place."""
+import contextlib
+import errno
 import os
 import sqlite3
 import sys
@@ -9,6 +11,8 @@ import sys
 APPLICATION = 0x6D627573
 VERSION = 1
 PAGE_WAIT = 60
+# faults of an output that takes nothing; where a script has another one, a program couldn't be started
+NO_OUTPUT = {errno.ENOSPC, errno.EDQUOT, errno.EFBIG, errno.EIO, errno.EBADF}
 
 TABLES = """
 CREATE TABLE reading (
@@ -173,17 +177,32 @@ def check_tables(database, path):
         raise NoDatabase(f"{path}: it was made by another version: its tables are of version {version}, these tools know {VERSION}")
 
 
+def fail(name, words):
+    """Says why a script ends early, and that the reports that were kept are kept."""
+    print(f"{name}: {words}; what was kept so far stands", file=sys.stderr)
+
+
 def ended(name, main):
-    """Runs a script, and answers its exit status. An interruption, and an output that nobody reads any more, end it in words."""
+    """Runs a script, and answers its exit status. An interruption, an output that nobody takes, and want of memory or of files end it in words."""
+    if sys.stdout is None:
+        sys.stdout = open(os.devnull, "w", encoding="utf-8")
     try:
         status = main()
         sys.stdout.flush()
         return status
     except KeyboardInterrupt:
-        print(f"{name}: stopped; what was kept so far stands", file=sys.stderr)
+        fail(name, "stopped")
         return 130
-    except BrokenPipeError:
+    except MemoryError:
+        fail(name, "there is no memory")
+    except OSError as fault:
         # (what is still to be said goes nowhere, so that the interpreter's end says nothing of it)
-        os.dup2(os.open(os.devnull, os.O_WRONLY), sys.stdout.fileno())
-        print(f"{name}: nobody reads the standard output any more; what was kept so far stands", file=sys.stderr)
-        return 1
+        with contextlib.suppress(OSError):
+            os.dup2(os.open(os.devnull, os.O_WRONLY), sys.stdout.fileno())
+        if isinstance(fault, BrokenPipeError):
+            fail(name, "nobody reads the standard output any more")
+        elif fault.errno in NO_OUTPUT:
+            fail(name, f"the standard output can't be written: {fault.strerror}")
+        else:
+            fail(name, f"no other program can be started: {fault.strerror}")
+    return 1
