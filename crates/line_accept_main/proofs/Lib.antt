@@ -1,0 +1,4 @@
+pub mod SendersLines
+pub mod Lines
+pub mod MovedTexts
+pub mod Runs

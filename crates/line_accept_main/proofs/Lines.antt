@@ -1,0 +1,57 @@
+-- Lines that are answered one after another.
+use Rattle.std.proofs.Common.{◌≡◌, ℕ, ◌+◌, ◌<◌, true, cond, List, [], ◌∷◌, ◌++◌, length, codes, Option, Some, None, refl, sym, ap, ◌∙◌, arith}
+use Rattle.std.specs.Prelude.{nat_lt}
+use Rattle.std.proofs.lemmas.Bool.Decides.{nat_tests}
+use Rattle.plain_text.specs.Parts.{fields_of}
+use Rattle.line_teller.specs.Telling.{AreTold}
+use Rattle.sender_fences.specs.declared.fence.Answer.{Answer}
+use Rattle.sender_fences.specs.Senders.{Sender, answer_in, passed_in}
+use Rattle.line_accept_main.specs.Deliveries.{Delivery, delivery_in, delivery_of}
+use Rattle.line_accept_main.specs.Answers.{answer_text, delivery_text, behind_delivery, answers_text, behind_line, behind_lines, AcceptsLine}
+
+-- ---- one line
+
+pub accepts : (inside old new : List Sender) (number : ℕ) (line : List ℕ) (d : Delivery) (a : Answer) → inside ≡ old → Some d ≡ delivery_of line
+    → a ≡ answer_in inside d.name d.message → new ≡ passed_in inside d.name d.message → AcceptsLine old number line (answer_text a) [] new
+accepts inside old new number line d a same is answer after = record {
+  text_is = ap answer_text (answer ∙ ap (λ (ss : List Sender). answer_in ss d.name d.message) same) ∙ ap (delivery_text old) is;
+  note_is = refl;
+  new_is = after ∙ ap (λ (ss : List Sender). passed_in ss d.name d.message) same ∙ ap (behind_delivery old) is;
+}
+
+pub passes_over : (old new : List Sender) (number : ℕ) (line : List ℕ) → None ≡ delivery_of line → new ≡ old
+    → AcceptsLine old number line (codes "bad\n") [] new
+passes_over old new number line is same = record {
+  text_is = ap (delivery_text old) is;
+  note_is = refl;
+  new_is = same ∙ ap (behind_delivery old) is;
+}
+
+long_test : (line : List ℕ) → 96 < length line → nat_lt 96 (length line) ≡ true
+long_test line long = grind (arith, nat_tests)
+
+-- a line that is too long delivers nothing
+pub long_delivers : (line : List ℕ) → 96 < length line → None ≡ delivery_of line
+unfolding delivery_of
+long_delivers line long = sym (ap (λ test. cond test None (delivery_in (fields_of line))) (long_test line long))
+
+-- ---- all lines
+
+joined : (a a' b b' : List ℕ) → a ≡ a' → b ≡ b' → a ++ b ≡ a' ++ b'
+joined a a' b b' e f = cc
+
+-- what is told of lines is what is answered to them
+pub record AreAnswered (first last : List Sender) (lines : List (List ℕ)) (text : List ℕ) : Type 0 where
+  pub text_is : text ≡ answers_text first lines
+  pub last_is : last ≡ behind_lines first lines
+
+pub are_answered : (number : ℕ) (first last : List Sender) (lines : List (List ℕ)) (text note : List ℕ)
+    → AreTold AcceptsLine number first lines text note last → AreAnswered first last lines text
+are_answered number first last [] text note told = record { text_is = told.0; last_is = told.2 }
+are_answered number first last (line ∷ lines) text note told =
+    let later = are_answered (number + 1) told.next last lines told.later_text told.later_note told.later in
+    let one : AcceptsLine first number line told.first_text told.first_note told.next = told.told in
+    record {
+      text_is = told.text_is ∙ joined _ _ _ _ one.text_is (later.text_is ∙ ap (λ (ss : List Sender). answers_text ss lines) one.new_is);
+      last_is = later.last_is ∙ ap (λ (ss : List Sender). behind_lines ss lines) one.new_is;
+    }

@@ -1,0 +1,134 @@
+-- The answers as relations.
+use Rattle.std.proofs.Common.{ℕ, ◌≡◌, ◌≢◌, ◌+◌, ◌<◌, ◌≤◌, ◌==◌, Bool, true, false, cond, arith, inl, inr, refl, sym, ap, ◌∙◌}
+use Rattle.std.specs.Prelude.{◌↔◌, ◌⊎◌, nat_lt, nat_le, ◌&&◌, ◌||◌}
+use Rattle.std.proofs.lemmas.Bool.Decides.{nat_tests}
+use Rattle.sender_fences.specs.declared.fence.Numbered.{Numbered}
+use Rattle.sender_fences.specs.declared.fence.Fence.{Fence}
+use Rattle.sender_fences.specs.declared.fence.Asked.{Asked}
+use Rattle.sender_fences.specs.declared.fence.Answer.{Answer}
+use Rattle.sender_fences.specs.declared.fence.Answer.TheVariants.{Taken, Again, Gap}
+use Rattle.sender_fences.specs.Fences.{IsNext, IsPast, IsBeyond, is_next, is_past, behind, answer_of}
+
+-- the tests on plain numbers: e and n are a message's epoch and number, d and k a fence's
+next_test : ℕ → ℕ → ℕ → ℕ → Bool
+next_test e n d k = cond (e == d) (n == k + 1) (nat_lt d e && n == 1)
+
+next_by : (b : Bool) (e n d k : ℕ) → (e == d) ≡ b → cond b (n == k + 1) (nat_lt d e && n == 1) ≡ true
+    → ((e ≡ d) × (n ≡ k + 1)) ⊎ ((d < e) × (n ≡ 1))
+next_by true e n d k h t = inl (grind (arith, nat_tests), grind (arith, nat_tests))
+next_by false e n d k h t = inr (grind (arith, nat_tests), grind (arith, nat_tests))
+
+not_next_by : (b : Bool) (e n d k : ℕ) → (e == d) ≡ b → cond b (n == k + 1) (nat_lt d e && n == 1) ≡ false
+    → (((e ≡ d) × (n ≡ k + 1)) ⊎ ((d < e) × (n ≡ 1))) → ⊥
+not_next_by true e n d k h t (inl x) = grind (arith, nat_tests)
+not_next_by true e n d k h t (inr x) = grind (arith, nat_tests)
+not_next_by false e n d k h t (inl x) = grind (arith, nat_tests)
+not_next_by false e n d k h t (inr x) = grind (arith, nat_tests)
+
+past_by : (e n d k : ℕ) → (nat_lt e d || (e == d && nat_le n k)) ≡ true → (e < d) ⊎ ((e ≡ d) × (n ≤ k))
+past_by e n d k h = grind (arith, nat_tests)
+
+not_past_by : (e n d k : ℕ) → (nat_lt e d || (e == d && nat_le n k)) ≡ false → ((e < d) ⊎ ((e ≡ d) × (n ≤ k))) → ⊥
+not_past_by e n d k h x = grind (arith, nat_tests)
+
+-- ---- messages
+
+pub next_is : (f : Fence) (m : Numbered) → is_next f m ≡ true → IsNext f m
+unfolding is_next
+next_is f m h = next_by (m.epoch == f.epoch) m.epoch m.number f.epoch f.number refl h
+
+is_next_by : (e n d k : ℕ) → (((e ≡ d) × (n ≡ k + 1)) ⊎ ((d < e) × (n ≡ 1)))
+    → cond (e == d) (n == k + 1) (nat_lt d e && n == 1) ≡ true
+is_next_by e n d k (inl x) =
+    let s : (e == d) ≡ true = grind (arith, nat_tests, x.0) in rw s (grind (arith, nat_tests, x.1))
+is_next_by e n d k (inr x) =
+    let s : (e == d) ≡ false = grind (arith, nat_tests, x.0) in
+    let l : nat_lt d e ≡ true = grind (arith, nat_tests, x.0) in rw (s, l) (grind (arith, nat_tests, x.1))
+
+pub is_next_is : (f : Fence) (m : Numbered) → IsNext f m → is_next f m ≡ true
+unfolding is_next
+is_next_is f m h = is_next_by m.epoch m.number f.epoch f.number h
+
+pub next_not : (f : Fence) (m : Numbered) → is_next f m ≡ false → IsNext f m → ⊥
+unfolding is_next
+next_not f m h = not_next_by (m.epoch == f.epoch) m.epoch m.number f.epoch f.number refl h
+
+pub past_is : (f : Fence) (m : Numbered) → is_past f m ≡ true → IsPast f m
+unfolding is_past
+past_is f m h = past_by m.epoch m.number f.epoch f.number h
+
+pub past_not : (f : Fence) (m : Numbered) → is_past f m ≡ false → IsPast f m → ⊥
+unfolding is_past
+past_not f m h = not_past_by m.epoch m.number f.epoch f.number h
+
+-- a message comes before the next one, is it, or comes behind it, and no two of them
+next_past : (f : Fence) (m : Numbered) → IsNext f m → IsPast f m → ⊥
+next_past f m (inl x) (inl y) = omega (arith, x.0, y)
+next_past f m (inl x) (inr y) = omega (arith, x.0, x.1, y.0, y.1)
+next_past f m (inr x) (inl y) = omega (arith, x.0, y)
+next_past f m (inr x) (inr y) = omega (arith, x.0, y.0)
+
+next_beyond : (f : Fence) (m : Numbered) → IsNext f m → IsBeyond f m → ⊥
+next_beyond f m (inl x) (inl y) = omega (arith, x.1, y.1)
+next_beyond f m (inl x) (inr y) = omega (arith, x.0, y.0)
+next_beyond f m (inr x) (inl y) = omega (arith, x.0, y.0)
+next_beyond f m (inr x) (inr y) = y.1 x.1
+
+past_beyond : (f : Fence) (m : Numbered) → IsPast f m → IsBeyond f m → ⊥
+past_beyond f m (inl x) (inl y) = omega (arith, x, y.0)
+past_beyond f m (inl x) (inr y) = omega (arith, x, y.0)
+past_beyond f m (inr x) (inl y) = omega (arith, x.1, y.1)
+past_beyond f m (inr x) (inr y) = omega (arith, x.0, y.0)
+
+beyond_by : (a b c : Bool) (e n d k : ℕ) → (e == d) ≡ a → nat_lt d e ≡ b → (n == 1) ≡ c
+    → ((((e ≡ d) × (n ≡ k + 1)) ⊎ ((d < e) × (n ≡ 1))) → ⊥) → (((e < d) ⊎ ((e ≡ d) × (n ≤ k))) → ⊥)
+    → ((e ≡ d) × (k + 1 < n)) ⊎ ((d < e) × (n ≢ 1))
+beyond_by true b c e n d k h1 h2 h3 next past =
+    let same : e ≡ d = grind (arith, nat_tests) in
+    let apart : n ≢ k + 1 = λ x. next (inl (same, x)) in
+    let above : n ≤ k → ⊥ = λ x. past (inr (same, x)) in
+    inl (same, grind (arith, apart, above))
+beyond_by false true true e n d k h1 h2 h3 next past = absurd (next (inr (grind (arith, nat_tests), grind (arith, nat_tests))))
+beyond_by false true false e n d k h1 h2 h3 next past = inr (grind (arith, nat_tests), grind (arith, nat_tests))
+beyond_by false false c e n d k h1 h2 h3 next past = absurd (past (inl (grind (arith, nat_tests))))
+
+-- what is answered, by what the message is
+pub data Judged (f : Fence) (m : Numbered) : Type 0 where
+  Follows : IsNext f m → answer_of f m ≡ Taken → is_next f m ≡ true → Judged f m
+  Came : IsPast f m → answer_of f m ≡ Again → is_next f m ≡ false → Judged f m
+  Leaves : IsBeyond f m → answer_of f m ≡ Gap (behind f) → is_next f m ≡ false → Judged f m
+
+judged_by : (a b : Bool) (f : Fence) (m : Numbered) → is_next f m ≡ a → is_past f m ≡ b → Judged f m
+unfolding answer_of
+judged_by true b f m n p = Follows (next_is f m n) (rw n refl) n
+judged_by false true f m n p = Came (past_is f m p) (rw (n, p) refl) n
+judged_by false false f m n p =
+    Leaves (beyond_by (m.epoch == f.epoch) (nat_lt f.epoch m.epoch) (m.number == 1) m.epoch m.number f.epoch f.number refl refl refl
+    (next_not f m n) (past_not f m p)) (rw (n, p) refl) n
+
+pub judged : (f : Fence) (m : Numbered) → Judged f m
+judged f m = judged_by (is_next f m) (is_past f m) f m refl refl
+
+-- ---- the clauses
+
+pub taken_next : (f : Fence) (m : Numbered) (a : Answer) → a ≡ answer_of f m → (a ≡ Taken) ↔ IsNext f m
+taken_next f m a is = elim (judged f m) [
+  | Follows x e n ↦ (λ h. x, λ h. is ∙ e)
+  | Came x e n ↦ (λ h. absurd (let no : Taken ≡ Again = sym h ∙ is ∙ e in cc), λ h. absurd (next_past f m h x))
+  | Leaves x e n ↦ (λ h. absurd (let no : Taken ≡ Gap (behind f) = sym h ∙ is ∙ e in cc), λ h. absurd (next_beyond f m h x))
+]
+
+pub again_past : (f : Fence) (m : Numbered) (a : Answer) → a ≡ answer_of f m → (a ≡ Again) ↔ IsPast f m
+again_past f m a is = elim (judged f m) [
+  | Follows x e n ↦ (λ h. absurd (let no : Again ≡ Taken = sym h ∙ is ∙ e in cc), λ h. absurd (next_past f m x h))
+  | Came x e n ↦ (λ h. x, λ h. is ∙ e)
+  | Leaves x e n ↦ (λ h. absurd (let no : Again ≡ Gap (behind f) = sym h ∙ is ∙ e in cc), λ h. absurd (past_beyond f m h x))
+]
+
+pub gap_beyond : (f : Fence) (m : Numbered) (a : Answer) → a ≡ answer_of f m → (asked : Asked)
+    → (a ≡ Gap asked) ↔ (IsBeyond f m × (asked ≡ behind f))
+gap_beyond f m a is asked = elim (judged f m) [
+  | Follows x e n ↦ (λ h. absurd (let no : Gap asked ≡ Taken = sym h ∙ is ∙ e in cc), λ h. absurd (next_beyond f m x h.0))
+  | Came x e n ↦ (λ h. absurd (let no : Gap asked ≡ Again = sym h ∙ is ∙ e in cc), λ h. absurd (past_beyond f m x h.0))
+  | Leaves x e n ↦ (λ h. (x, (let same : Gap asked ≡ Gap (behind f) = sym h ∙ is ∙ e in cc)), λ h. is ∙ e ∙ ap Gap (sym h.1))
+]
