@@ -1,2 +1,2 @@
-pub mod Least
-pub mod Merging
+pub mod Exit
+pub mod Words

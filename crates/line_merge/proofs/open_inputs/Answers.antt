@@ -1,0 +1,5 @@
+use Rattle.std.proofs.Common.{sym, arith}
+use Rattle.line_merge.proofs.open_inputs.Goals as goal
+
+pub returns-in-Err-clause-stops : goal.returns-in-Err-clause-stops
+returns-in-Err-clause-stops g c = (1, omega arith, sym c.in-Err.ensures.unopened)

@@ -1,0 +1,10 @@
+use Rattle.std.proofs.Common.{◌≡◌, length}
+use Rattle.outer_io.specs.Each.{Each}
+use Rattle.line_merge_main.specs.Run.{IsFresh}
+use Rattle.line_merge.proofs.open_inputs.Given as goal
+
+abbrev pub invariant-loop-name : goal.invariant-loop-name
+invariant-loop-name g l = record {
+  fresh : Each IsFresh l.inputs.items;
+  count : length l.inputs.items ≡ l.name-index;
+}

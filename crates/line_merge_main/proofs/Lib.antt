@@ -1,0 +1,5 @@
+pub mod Choosing
+pub mod Heads
+pub mod Merges
+pub mod Rows
+pub mod Stepping

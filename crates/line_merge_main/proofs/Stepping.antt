@@ -1,0 +1,179 @@
+-- Lines that are passed on, one after another, and what a merge comes to.
+use Rattle.std.proofs.Common.{ℕ, ◌≡◌, ◌+◌, ◌≤◌, Bool, true, false, List, [], ◌∷◌, ◌++◌, length, take, get_or, slice_set, Option, Result, Ok, Err, arith, refl, sym, ap, subst, ◌∙◌, append_assoc, inl, inr}
+use Rattle.std.specs.Prelude.{IsTrue, OnOk, OnErr, is_err}
+use Rattle.std.proofs.lemmas.List.{append-nil, length-append}
+use Rattle.std.proofs.Math.Seq.{take-append-add}
+use Rattle.outer_io.specs.declared.failures.Failed.{Failed}
+use Rattle.outer_io.specs.declared.sources.Source as sources
+use Rattle.outer_io.specs.Bytes.{AppendsFront}
+use Rattle.outer_io.specs.Each.{Each, EachWith}
+use Rattle.outer_io.specs.Shown.{Change, SinkShown, LosesNothing}
+use Rattle.line_reader.specs.Reader.{TextReading}
+use Rattle.line_merge_main.specs.declared.status.FaultyInput.{FaultyInput}
+use Rattle.line_merge_main.specs.declared.status.InputFault.{InputFault}
+use Rattle.line_merge_main.specs.declared.status.InputFault.TheVariants as faults
+use Rattle.line_merge_main.specs.declared.status.MergeStatus.{MergeStatus}
+use Rattle.line_merge_main.specs.declared.status.MergeStatus.TheVariants as statuses
+use Rattle.line_merge_main.specs.Least.{HasHead, IsLeast, AreDone}
+use Rattle.line_merge_main.specs.Merging.{Timed, Merged, heads_of}
+use Rattle.line_merge_main.specs.Inputs.{line_text, merged_text, merge_text}
+use Rattle.line_merge_main.specs.Run.{Run, IsRun, InputShown, HasFault, IsFaulty, IsFaultless, IsUnhindered, IsCausedBy, IsMergedText, IsMergedSoFar, IsMergedInPart, IsWritten, lines_of, inputs_shown}
+use Rattle.line_merge_main.specs.Steps.{Passes, PassesInPart, IsStep, IsStopped, IsEnded, StandsAfter}
+use Rattle.line_merge_main.specs.Readers.{IsAtHead, GoesOn, later_at, rests_of}
+use Rattle.line_merge_main.proofs.Rows.{takes_at, rose_from, faulty_from, within_from}
+use Rattle.line_merge_main.proofs.Merges.{merges_more, merges_all}
+
+-- ---- texts
+
+text_more : (numbered : Bool) (merged : List Merged) (m : Merged)
+    → merge_text numbered (merged ++ m ∷ []) ≡ merge_text numbered merged ++ merged_text numbered m
+text_more numbered [] m = append-nil (merged_text numbered m)
+text_more numbered (n ∷ merged) m =
+    ap (λ t. merged_text numbered n ++ t) (text_more numbered merged m)
+    ∙ sym (append_assoc (merged_text numbered n) (merge_text numbered merged) (merged_text numbered m))
+
+-- ---- one line
+
+pub no_error : {P : Type 0} (result : Result (Unit {0}) Failed) (b : Bool) → b ≡ is_err result → b ≡ false → OnOk result P → P
+no_error (Ok done) b is off ok = ok
+no_error (Err failed) b is off ok = absurd (let clash : false ≡ true = sym off ∙ is in cc)
+
+pub an_error : {P : Type 0} (result : Result (Unit {0}) Failed) (b : Bool) → b ≡ is_err result → b ≡ true → OnErr result P → P
+an_error (Ok done) b is on err = absurd (let clash : true ≡ false = sym on ∙ is in cc)
+an_error (Err failed) b is on err = err
+
+module _ {S : Type 0} (s : sources.Ghosts S) (numbered : Bool) (place at : ℕ) (rs : List (TextReading S)) (heads : List (Option ℕ))
+    (r d : TextReading S) (text : List ℕ) (at_heads : EachWith (IsAtHead s) rs heads) (head : HasHead heads place at)
+    (here : r ≡ get_or rs place d) (text_is : text ≡ r.text) (before now : List ℕ) where
+  pub passes : now ≡ before ++ line_text numbered (place + 1) text
+      → Passes numbered place (rests_of s rs heads) (slice_set (rests_of s rs heads) place (later_at s rs place at)) before now
+  passes written = record {
+    line = record { at = at; bytes = r.text };
+    takes = takes_at s rs heads place at r d at_heads head here;
+    written = written ∙ ap (λ t. before ++ line_text numbered (place + 1) t) text_is;
+  }
+
+  pub passes_in_part : AppendsFront (line_text numbered (place + 1) text) before now
+      → PassesInPart numbered place (rests_of s rs heads) before now
+  passes_in_part front = record {
+    line = record { at = at; bytes = r.text };
+    after = slice_set (rests_of s rs heads) place (later_at s rs place at);
+    takes = takes_at s rs heads place at r d at_heads head here;
+    written = subst (λ t. AppendsFront (line_text numbered (place + 1) t) before now) text_is front;
+  }
+
+-- ---- one line more
+
+pub stands_first : (numbered : Bool) (inputs : List (List Timed)) (written : List ℕ) → StandsAfter numbered inputs inputs written written
+stands_first numbered inputs written = record { merged = []; merges = refl; written = sym (append-nil written) }
+
+pub stands_more : (numbered : Bool) (place : ℕ) (inputs left after : List (List Timed)) (before now next : List ℕ)
+    → StandsAfter numbered inputs left before now → IsLeast (heads_of left) place → Passes numbered place left after now next
+    → StandsAfter numbered inputs after before next
+stands_more numbered place inputs left after before now next stands least passes =
+    let m : Merged = record { place = place; line = passes.line } in
+    record {
+      merged = stands.merged ++ m ∷ [];
+      merges = merges_more inputs left after stands.merged m stands.merges least passes.takes;
+      written = passes.written ∙ ap (λ t. t ++ merged_text numbered m) stands.written
+          ∙ append_assoc before (merge_text numbered stands.merged) (merged_text numbered m)
+          ∙ ap (λ t. before ++ t) (sym (text_more numbered stands.merged m));
+    }
+
+-- ---- the last step
+
+pub all_merged : (numbered : Bool) (inputs left : List (List Timed)) (before now : List ℕ) → StandsAfter numbered inputs left before now
+    → AreDone (heads_of left) → IsMergedText numbered inputs before now
+all_merged numbered inputs left before now stands done = record {
+  merged = stands.merged;
+  is_merge = merges_all inputs left stands.merged stands.merges done;
+  written = stands.written;
+}
+
+pub merged_so_far : (numbered : Bool) (inputs left : List (List Timed)) (before now : List ℕ) → StandsAfter numbered inputs left before now
+    → IsMergedSoFar numbered inputs before now
+merged_so_far numbered inputs left before now stands =
+    record { merged = stands.merged; left = left; merges = stands.merges; written = stands.written }
+
+pub merged_in_part : (numbered : Bool) (place : ℕ) (inputs left : List (List Timed)) (before now next : List ℕ)
+    → StandsAfter numbered inputs left before now → IsLeast (heads_of left) place → PassesInPart numbered place left now next
+    → IsMergedInPart numbered inputs before next
+merged_in_part numbered place inputs left before now next stands least part =
+    let m : Merged = record { place = place; line = part.line } in
+    let text = merge_text numbered stands.merged in
+    let more = merged_text numbered m in
+    record {
+      merged = stands.merged ++ m ∷ [];
+      left = part.after;
+      merges = merges_more inputs left part.after stands.merged m stands.merges least part.takes;
+      written = subst (λ t. AppendsFront t before next) (sym (text_more numbered stands.merged m)) (record {
+        count = length text + part.written.count;
+        within = omega (arith, part.written.within, length-append text more);
+        appended = part.written.appended ∙ ap (λ t. t ++ take part.written.count more) stands.written
+            ∙ append_assoc before text (take part.written.count more)
+            ∙ ap (λ t. before ++ t) (sym (take-append-add text more part.written.count));
+      });
+    }
+
+pub written_by : (status : MergeStatus) (numbered : Bool) (place : ℕ) (inputs left after : List (List Timed)) (before now next : List ℕ)
+    → StandsAfter numbered inputs left before now → IsLeast (heads_of left) place
+    → IsStep (Err status) numbered place left after now next → IsWritten status numbered inputs before next
+written_by statuses.Done numbered place inputs left after before now next stands least step = absurd step
+written_by (statuses.Input faulty) numbered place inputs left after before now next stands least step =
+    merged_so_far numbered inputs step.0 before next
+    (stands_more numbered place inputs left step.0 before now next stands least step.1)
+written_by statuses.Write numbered place inputs left after before now next stands least step =
+    merged_in_part numbered place inputs left before now next stands least step
+
+-- why the merge ended, by why its last step did
+pub ended_by : {S : Type 0} (s : sources.Ghosts S) (firsts nows news : List (TextReading S)) (a b c : SinkShown) (status : MergeStatus)
+    → EachWith (GoesOn s) firsts nows → a.faults ≤ b.faults
+    → IsStopped s.tells (inputs_shown s nows news) (record { before = b; now = c }) status
+    → IsEnded s.tells (inputs_shown s firsts news) (record { before = a; now = c }) status
+ended_by s firsts nows news a b c statuses.Done on later stopped = absurd stopped
+ended_by s firsts nows news a b c (statuses.Input faulty) on later stopped = faulty_from s firsts nows news 1 faulty on stopped
+ended_by s firsts nows news a b c statuses.Write on later stopped = rose_from s a.faults b.faults c.faults later stopped
+
+-- the same of more inputs' changes
+pub ended_from : {S : Type 0} (s : sources.Ghosts S) (firsts nows news : List (TextReading S)) (out : Change SinkShown) (status : MergeStatus)
+    → EachWith (GoesOn s) firsts nows → IsEnded s.tells (inputs_shown s nows news) out status
+    → IsEnded s.tells (inputs_shown s firsts news) out status
+ended_from s firsts nows news out statuses.Done on ended = λ tells. within_from s firsts nows news on tells (ended tells)
+ended_from s firsts nows news out (statuses.Input faulty) on ended = faulty_from s firsts nows news 1 faulty on ended
+ended_from s firsts nows news out statuses.Write on ended = ended
+
+-- ---- the whole run
+
+-- an input without a fault has none
+no_fault : (tells : Bool) (fault : InputFault) (input : InputShown) → IsTrue tells → IsFaultless input → HasFault tells fault input → ⊥
+no_fault tells faults.Read input on faultless has = faultless.read has
+no_fault tells faults.Cut input on faultless has = let clash : true ≡ false = sym (has on) ∙ faultless.within in cc
+no_fault tells faults.Long input on faultless has = faultless.short (has on)
+
+none_faulty : (tells : Bool) (n : ℕ) (faulty : FaultyInput) (inputs : List InputShown) → IsTrue tells → Each IsFaultless inputs
+    → IsFaulty tells n faulty inputs → ⊥
+none_faulty tells n faulty [] on faultless has = has
+none_faulty tells n faulty (input ∷ inputs) on faultless (inl here) = no_fault tells faulty.fault input on faultless.0 here.1
+none_faulty tells n faulty (input ∷ inputs) on faultless (inr there) = none_faulty tells (n + 1) faulty inputs on faultless.1 there.1
+
+complete_by : (run : Run) (status : MergeStatus) → IsEnded run.inputs_tell run.inputs run.out status → IsTrue run.inputs_tell → IsUnhindered run
+    → status ≡ statuses.Done
+complete_by run statuses.Done ended on free = refl
+complete_by run (statuses.Input faulty) ended on free = absurd (none_faulty run.inputs_tell 1 faulty run.inputs on free.faultless ended)
+complete_by run statuses.Write ended on free = absurd (free.written ended)
+
+caused_by : (run : Run) (status : MergeStatus) → IsEnded run.inputs_tell run.inputs run.out status → IsCausedBy run status
+caused_by run statuses.Done ended = ended
+caused_by run (statuses.Input faulty) ended = ended
+caused_by run statuses.Write ended = ended
+
+pub ran : (run : Run) → (IsTrue run.inputs_tell → IsTrue run.out_tells
+    → IsWritten run.status run.numbered (lines_of run) run.out.before.written run.out.now.written)
+    → IsEnded run.inputs_tell run.inputs run.out run.status
+    → (IsTrue run.inputs_tell → Each (λ i. LosesNothing i.source) run.inputs) → IsRun run
+ran run written ended kept = record {
+  written = written;
+  caused = caused_by run run.status ended;
+  complete = complete_by run run.status ended;
+  no_loss = kept;
+}
