@@ -6,6 +6,7 @@ pub mod Journals
 pub mod KeyLaws
 pub mod NothingHeld
 pub mod Passages
+pub mod PassingWorlds
 pub mod PayloadLaws
 pub mod Pieces
 pub mod Places
@@ -15,3 +16,4 @@ pub mod Repeats
 pub mod Restorings
 pub mod Starting
 pub mod Worlds
+pub mod MacLaws

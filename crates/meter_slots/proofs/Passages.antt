@@ -1,17 +1,24 @@
 -- A slot that keeps no journal, after one step more.
-use Rattle.std.proofs.Common.{◌≡◌, ℕ, List, [], ◌∷◌, ◌++◌, reverse, Option, ap, sym, ◌∙◌, subst}
+use Rattle.std.proofs.Common.{◌≡◌, ℕ, List, [], ◌∷◌, ◌++◌, reverse, Option, Some, None, refl, ap, sym, ◌∙◌, subst}
 use Rattle.std.specs.Prelude.{option_to_list}
 use Rattle.meter_address.specs.declared.address.Address.{Address}
+use Rattle.meter_address.specs.declared.commission.Mode.{Mode}
+use Rattle.meter_address.specs.Commission.{Commissioned}
+use Rattle.access_window.specs.Orders.{Orders}
 use Rattle.afl_fragments.specs.Held.{Told, StandsFor}
+use Rattle.afl_fragments.specs.Short.{cut_down, told_of}
 use Rattle.meter_slots.specs.declared.entry.Entry.{Entry}
 use Rattle.meter_slots.specs.declared.entry.Event.{Event}
 use Rattle.meter_slots.specs.declared.entry.Outcome.{Outcome}
 use Rattle.meter_slots.specs.declared.reading.Reading.{Reading}
-use Rattle.meter_slots.specs.Journal.{Start, answer, outcome, stored, reading_of, readings}
+use Rattle.meter_slots.specs.Journal.{Start, commission_of, told}
+use Rattle.meter_slots.specs.Journal.{answer, outcome, stored, reading_of, readings}
 use Rattle.meter_slots.specs.Keeping.{Kept, Keeps, Moves, StoresInRange, standing_for}
 use Rattle.meter_slots.specs.Laws.{PutsPayload}
-use Rattle.meter_slots.specs.Passing.{Passing, IsAfter}
+use Rattle.meter_slots.specs.Passing.{Passing, IsAfter, StandsAfterSome, known_with}
+use Rattle.meter_slots.specs.Resuming.{last_of, later_of, resumed}
 use Rattle.meter_slots.proofs.Journals.{answer_kept, kept_after}
+use Rattle.meter_slots.proofs.Starting.{told_is}
 
 module _ (v : Passing) (own : Address) (c : Start) (k k' : Kept) (event : Event) (given : Outcome) (reading : Option Reading)
     (view_is : record { own = own; start = c; kept = k } ≡ v)
@@ -50,3 +57,56 @@ module _ (v : Passing) (own : Address) (c : Start) (k k' : Kept) (event : Event)
         subst (λ (w : Passing). readings w.start
         (journal ++ record { source = source; line = line; event = event; outcome = given } ∷ [])
         ≡ readings w.start journal ++ option_to_list reading) view_is (sym kept.readings_are)
+
+-- ---- what is known of its meter
+
+later_last : (before : Option Reading) (x : Reading) (rs : List Reading) → later_of before (last_of (Some x) rs) ≡ last_of (Some x) rs
+later_last before x [] = refl
+later_last before x (y ∷ rs) = later_last before y rs
+
+-- the last of some readings, or the one before them
+pub last_known_is : (before : Option Reading) (rs : List Reading) → later_of before (last_of None rs) ≡ last_of before rs
+last_known_is before [] = refl
+last_known_is before (x ∷ rs) = later_last before x rs
+
+abbrev start_with : Address → Mode → List ℕ → Option (List ℕ) → Option ℕ → List Told → Orders → Option Reading → Start
+start_with a m k o l t d r =
+    record { address = a; mode = m; key = k; other = o; last = l; told = t; orders = d; reading = r }
+
+same_start : (a a' : Address) (m m' : Mode) (k k' : List ℕ) (o o' : Option (List ℕ)) (l l' : Option ℕ) (t t' : List Told) (d d' : Orders)
+    (r r' : Option Reading) → a ≡ a' → m ≡ m' → k ≡ k' → o ≡ o' → l ≡ l' → t ≡ t' → d ≡ d' → r ≡ r'
+    → start_with a m k o l t d r ≡ start_with a' m' k' o' l' t' d' r'
+same_start a a' m m' k k' o o' l l' t t' d d' r r' e1 e2 e3 e4 e5 e6 e7 e8 = cc
+
+-- what is known by what is kept and the last reading is what is known behind the journal
+pub passing_known : (v : Passing) (last : Option Reading) (journal : List Entry) → IsAfter journal v
+    → last ≡ last_of None (readings v.start journal) → known_with v last ≡ resumed v.start journal
+passing_known v last journal after last_is =
+    let behind = resumed v.start journal in
+    same_start v.start.address behind.address v.start.mode behind.mode v.start.key behind.key v.kept.commission.other behind.other v.kept.last
+    behind.last (told_of v.kept.parts) behind.told v.kept.orders behind.orders (later_of v.start.reading last) behind.reading
+    refl refl refl (ap (λ (m : Commissioned). m.other) after.commission_is) after.last_is
+    (told_is v.kept.parts (told v.start (reverse journal)) after.parts_are) after.orders_are
+    (ap (later_of v.start.reading) last_is ∙ last_known_is v.start.reading (readings v.start journal))
+
+-- a meter that is known by its commission with these numbers, its fragments and its commands is known by what is kept
+pub passing_now : (v : Passing) (own : Address) (c : Start) (k : Kept) (known : Start) (last shown : Option Reading)
+    → record { own = own; start = c; kept = k } ≡ v → StandsAfterSome c own k
+    → ((t : List Told) → StandsFor k.parts t → known.told ≡ cut_down t)
+    → commission_of known ≡ record k.commission { last = k.last; down = k.orders.down; ids = k.orders.queue.ids }
+    → known.orders ≡ k.orders → known.reading ≡ shown → shown ≡ later_of v.start.reading last → known ≡ known_with v last
+passing_now v own c k known last shown view_is some tells commission commands reading shown_is =
+    let keeps = some.keeps in
+    let earlier = reverse some.journal in
+    let start_is : c ≡ v.start = ap (λ (w : Passing). w.start) view_is in
+    let history : known.told ≡ told_of k.parts =
+    tells (told c earlier) keeps.parts_are ∙ sym (told_is k.parts (told c earlier) keeps.parts_are) in
+    let reads : known.reading ≡ later_of c.reading last =
+    reading ∙ shown_is ∙ ap (λ (s : Start). later_of s.reading last) (sym start_is) in
+    subst (λ (w : Passing). known ≡ known_with w last) view_is
+    (same_start known.address c.address known.mode c.mode known.key c.key known.other k.commission.other known.last k.last known.told
+    (told_of k.parts) known.orders k.orders known.reading (later_of c.reading last)
+    (ap (λ (m : Commissioned). m.address) commission ∙ ap (λ (m : Commissioned). m.address) keeps.commission_is)
+    (ap (λ (m : Commissioned). m.mode) commission ∙ ap (λ (m : Commissioned). m.mode) keeps.commission_is)
+    (ap (λ (m : Commissioned). m.key) commission ∙ ap (λ (m : Commissioned). m.key) keeps.commission_is)
+    (ap (λ (m : Commissioned). m.other) commission) (ap (λ (m : Commissioned). m.last) commission) history commands reads)

@@ -4,8 +4,10 @@ pub mod Journal
 pub mod Keeping
 pub mod Laws
 pub mod Passing
+pub mod PassingWorld
 pub mod Restoring
 pub mod Resuming
 pub mod Sending
 pub mod Telling
 pub mod World
+pub mod MacLaw

@@ -1,5 +1,5 @@
 -- A slot that goes on where another one ended.
-use Rattle.std.specs.Prelude.{ℕ, ◌≡◌, ◌+◌, ◌≤◌, List, [], ◌∷◌, ◌++◌, reverse, Option, Some}
+use Rattle.std.specs.Prelude.{ℕ, ◌≡◌, ◌+◌, ◌≤◌, List, [], ◌∷◌, ◌++◌, reverse, Option, Some, None}
 use Rattle.meter_address.specs.declared.address.Address.{Address}
 use Rattle.afl_fragments.specs.Held.{held}
 use Rattle.afl_fragments.specs.Short.{cut_down}
@@ -11,6 +11,11 @@ use Rattle.meter_slots.specs.Journal.{Start, SlotView, Standing, told, other_key
 abbrev pub last_of : Option Reading → List Reading → Option Reading
 last_of before [] = before
 last_of before (reading ∷ later) = last_of (Some reading) later
+
+-- a later reading, or the one before it where there is none
+abbrev pub later_of : Option Reading → Option Reading → Option Reading
+later_of before None = before
+later_of before (Some reading) = Some reading
 
 -- the last reading that is known behind a journal
 abbrev pub last_known : Start → List Entry → Option Reading

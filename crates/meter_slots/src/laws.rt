@@ -19,6 +19,8 @@ ghost use Rattle.meter_slots.specs.Journal.{Start, commission_of, SlotView, Lega
 ghost use Rattle.meter_slots.specs.World.{Call, journal_of, is_for, slot_of, world_of, after_step};
 ghost use Rattle.meter_slots.specs.Laws.{stored_counters, moment_read, stored_moments, reading_added};
 ghost use Rattle.meter_slots.specs.Laws.{sent_counters, downlinks_in, AreReady, PutsPayload, CarriesPayload, LeavesKeys};
+ghost use Rattle.meter_slots.specs.MacLaw.{MacsDecide};
+ghost use Rattle.meter_slots.specs.PassingWorld.{PassingIsKnown};
 ghost use Rattle.meter_slots.specs.Laws.{IsAbove, last_stored, IsRising, AreBelow, IsRefused, IsLeft, IsLegal, call_in};
 
 /// In mode 7 the stored counters strictly rise, from above the one that was known before.
@@ -63,6 +65,12 @@ pub fn genuine_by_its_mac()
     ensures { (c : Start) (earlier : List Entry) (format : Format) (at : ℕ) (t : List ℕ) (m : Message) (f : Found) → c.mode ≡ Seven
         → brought (told c earlier) t (received c.mode t) ≡ Ok (Some m) → IsBytes m.bytes
         → (genuine c earlier (Hear format at t) ≡ Some f) ↔ Genuine7 (rekeyed (commission_of c) (other_key c earlier)) m.auth m.bytes f }
+{}
+
+/// In mode 7 a message is stored with a counter exactly where it is genuine by its MAC with that counter, which exceeds the one stored last, or
+/// the commission's where none was. What comes, and what was held before, are bytes; `Event` and `MeterStart` have no others.
+pub fn macs_decide()
+    ensures { MacsDecide }
 {}
 
 /// Without a rekeying each message is opened with the commission as it was made; and under its first key, whatever key id the message
@@ -161,4 +169,10 @@ pub fn sent_counters_rise_over_reserves()
     ensures lost { (c : Start) (own : Address) (lost later : List Entry) (most : ℕ) → Legal c own lost
         → length (sent_counters lost) ≤ most → Legal (reserved most c) own later
         → IsRising (Some c.orders.down) (sent_counters (lost ++ later)) }
+{}
+
+/// A slot that keeps no journal, and the last reading of its steps, know of the meter what the slot knows that keeps it; and there was a step
+/// exactly where that journal has one.
+pub fn passing_meters_know_the_same()
+    ensures { PassingIsKnown }
 {}

@@ -1,5 +1,7 @@
 //! The slot of a meter that keeps no journal.
 use crate::entry::Event;
+use crate::known::KnownMeter;
+use crate::reading::Reading;
 use crate::standing::{Served, Standing};
 use crate::start::MeterStart;
 use command_queue::Queue;
@@ -16,21 +18,28 @@ pub struct PassingSlot {
     own: Address,
     start: Snapshot<MeterStart>,
     standing: Standing,
+    // The reading that was the last one before.
+    before: Option<Reading>,
 }
 
 impl Model for PassingSlot {
-    ghost use Rattle.meter_slots.specs.Passing.{Passing};
+    ghost use Rattle.std.specs.Prelude.{◌≡◌};
+    ghost use Rattle.meter_slots.specs.Passing.{Passing, StandsAfterSome};
 
     ghost Value = { Passing };
 
     ghost view = { λ s. record { own = s.own; start = s.start.value; kept = s.standing } };
+
+    ghost invariant = { λ s. StandsAfterSome s.start.value s.own s.standing × (s.before ≡ s.start.value.reading) };
 }
 
 impl PassingSlot {
-    ghost use Rattle.std.specs.Prelude.{◌≡◌, ℕ, List, [], ◌∷◌, ◌++◌, reverse, option_to_list, IfOk, OnErr};
+    ghost use Rattle.std.specs.Prelude.{◌≡◌, ℕ, List, None, [], ◌∷◌, ◌++◌, reverse, option_to_list, IfOk, OnErr};
+    ghost use Rattle.std.specs.Option.{option_copied};
     ghost use Rattle.meter_slots.specs.declared.entry.Entry.{Entry};
     ghost use Rattle.meter_slots.specs.Journal.{fresh_start, outcome, readings};
-    ghost use Rattle.meter_slots.specs.Passing.{IsAfter};
+    ghost use Rattle.meter_slots.specs.Passing.{IsAfter, known_with};
+    ghost use Rattle.meter_slots.specs.Resuming.{last_of, later_of, resumed};
 
     /// A slot to which nothing came yet.
     pub fn new(alloc: Global, own: Address, commission: Commission) -> PassingSlot
@@ -48,12 +57,13 @@ impl PassingSlot {
         ensures after { IsAfter [] result }
     {
         let begun = Snapshot::of(&start);
-        let (standing, _before) = Standing::new(alloc, start);
+        let (standing, before) = Standing::new(alloc, start);
         PassingSlot {
             alloc,
             own,
             start: begun,
             standing,
+            before,
         }
     }
 
@@ -73,6 +83,26 @@ impl PassingSlot {
         event.show_payload();
         let served = self.standing.answer(self.alloc, self.own, event)?;
         Ok(served)
+    }
+
+    /// What is known of its meter now, where `last` is the last reading that its steps stored, none where they stored none: the meter's
+    /// next slot begins with it.
+    pub fn known<'a>(&'a self, last: Option<&'a Reading>) -> KnownMeter<'a>
+        ensures now { result ≡ known_with self.now (option_copied last.entry) }
+        ensures known { (journal : List Entry) → IsAfter journal self.now
+            → option_copied last.entry ≡ last_of None (readings self.now.start journal) → result ≡ resumed self.now.start journal }
+    {
+        self.standing.known(self.last_reading(last))
+    }
+
+    // The last reading that is known: the one that its steps stored last, or the one before them.
+    fn last_reading<'a>(&'a self, last: Option<&'a Reading>) -> Option<&'a Reading>
+        ensures { option_copied result ≡ later_of self.now.start.reading (option_copied last.entry) }
+    {
+        match last {
+            Some(reading) => Some(reading),
+            None => self.before.as_ref(),
+        }
     }
 
     /// The last number.

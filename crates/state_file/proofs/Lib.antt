@@ -16,3 +16,4 @@ pub mod ReadHeld
 pub mod ReadLines
 pub mod ReadStates
 pub mod RosterStates
+pub mod AllFaults

@@ -5,6 +5,8 @@ pub mod Whole
 pub mod Words
 pub mod Written
 pub mod Left
+pub mod Recommissioning
 pub mod Printing
 pub mod Telling
 pub mod Rooms
+pub mod Faults

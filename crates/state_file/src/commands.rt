@@ -1,5 +1,5 @@
 //! The lines of commands.
-ghost use Rattle.std.specs.Prelude.{◌≡◌, ◌≤◌, length, Some, None, Ok, OnOk, IfOk, IfErr};
+ghost use Rattle.std.specs.Prelude.{◌≡◌, ◌≤◌, length, Some, None, Ok, OnOk, OnErr, IfOk, IfErr};
 ghost use Rattle.state_file.specs.State.{command_of, with_command_in};
 ghost use Rattle.state_file.specs.Reading.{IsRefusedFor};
 
@@ -56,6 +56,7 @@ pub(crate) fn add_command(
 ) -> Result<(), LineFault>
     ensures ok { OnOk result (with_command_in start.old waits fields.old ≡ Ok start.new) }
     ensures fault { IfErr result (λ fault. IsRefusedFor (with_command_in start.old waits fields.old) fault) }
+    ensures left { OnErr result (start.new ≡ start.old) }
 {
     let command = read_command(alloc, fields)?;
     if start.restore(command, waits) {

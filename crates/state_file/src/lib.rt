@@ -1,6 +1,7 @@
 //! The text of a state: what a session begins from, and what it leaves.
 #![tactic(auto)]
 
+mod all_faults;
 mod bytes;
 mod cause;
 mod commands;
@@ -18,6 +19,7 @@ mod state;
 mod words;
 mod writing;
 
+pub use all_faults::{first_fault_refuses, is_state, rosters_are_judged_as_rosters, state_faults};
 pub use cause::{LineFault, StateCause};
 pub use fault::{FileCause, StateFault};
 pub use left::{LeftRoster, LeftState};
@@ -27,4 +29,4 @@ pub use reader::{STATE_MOST, read_state};
 pub use showing::{show_known, show_left, show_state};
 pub use state::State;
 pub use words::{roster_word, state_word};
-pub use writing::write_state;
+pub use writing::{put_block, put_block_as, write_state};

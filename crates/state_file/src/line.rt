@@ -1,5 +1,5 @@
 //! A line below a meter's line.
-ghost use Rattle.std.specs.Prelude.{◌≡◌, Ok, OnOk, IfErr};
+ghost use Rattle.std.specs.Prelude.{◌≡◌, Ok, OnOk, OnErr, IfErr};
 ghost use Rattle.plain_text.specs.Parts.{is_word};
 ghost use Rattle.state_file.specs.State.{with_fields, with_line};
 ghost use Rattle.state_file.specs.Reading.{IsRefusedFor};
@@ -19,6 +19,7 @@ fn read_fields(
 ) -> Result<(), LineFault>
     ensures ok { OnOk result (with_fields start.old fields.old ≡ Ok start.new) }
     ensures fault { IfErr result (λ fault. IsRefusedFor (with_fields start.old fields.old) fault) }
+    ensures left { OnErr result (start.new ≡ start.old) }
 {
     let Some(kind) = fields.next() else {
         return Err(LineFault::Cause(StateCause::Kind));
@@ -41,10 +42,11 @@ fn read_fields(
     Err(LineFault::Cause(StateCause::Kind))
 }
 
-/// Reads a line below a meter's line: what it adds to what is known of the meter, or its first fault.
+/// Reads a line below a meter's line: what it adds to what is known of the meter, or its first fault, for which nothing is added.
 pub fn read_line(alloc: Global, start: &mut MeterStart, line: &[u8]) -> Result<(), LineFault>
     ensures ok { OnOk result (with_line start.old line.now ≡ Ok start.new) }
     ensures fault { IfErr result (λ fault. IsRefusedFor (with_line start.old line.now) fault) }
+    ensures left { OnErr result (start.new ≡ start.old) }
 {
     read_fields(alloc, start, &mut Fields::of_line(line))
 }

@@ -47,8 +47,9 @@ impl Model for Meters {
 }
 
 impl Meters {
-    ghost use Rattle.std.specs.Prelude.{◌≡◌, [], Ok, None, OnOk, IfOk, IfErr};
+    ghost use Rattle.std.specs.Prelude.{◌≡◌, ◌⊎◌, [], Ok, None, OnOk, IfOk, IfErr};
     ghost use Rattle.meter_address.specs.Commission.{Commissioned};
+    ghost use Rattle.state_file.specs.Faults.{closed, left_by};
     ghost use Rattle.state_file.specs.Whole.{Progress, no_meters, all_of, at_line, by_roster, enlisted, read_more};
     ghost use Rattle.state_file.specs.Reading.{IsFaultOf};
 
@@ -64,7 +65,7 @@ impl Meters {
 
     // The lines of the last one are all read.
     fn close(&mut self) -> Result<(), StateFault>
-        ensures ok { OnOk result (self.new ≡ record { before = all_of self.old; last = None }) }
+        ensures ok { OnOk result (self.new ≡ closed self.old) }
         ensures fault { IfErr result (λ fault. fault ≡ StateFault.Memory) }
     {
         match self.last.take() {
@@ -76,12 +77,12 @@ impl Meters {
         }
     }
 
-    // One more meter begins.
+    // One more meter begins, behind those whose lines are all read.
     fn enlist(&mut self, line: u32, commission: Commission) -> Result<(), StateFault>
-        ensures ok { OnOk result (at_line line (by_roster (enlisted (all_of self.old) commission)) ≡ Ok self.new) }
-        ensures fault { IfErr result (λ fault. IsFaultOf (at_line line (by_roster (enlisted (all_of self.old) commission))) fault) }
+        ensures ok { OnOk result (at_line line (by_roster (enlisted self.old.before commission)) ≡ Ok self.new) }
+        ensures fault { IfErr result (λ fault. IsFaultOf (at_line line (by_roster (enlisted self.old.before commission))) fault) }
+        ensures left { IfErr result (λ _. self.new ≡ self.old) }
     {
-        self.close()?;
         if has_namesake(self.before.as_slice(), commission.address) {
             return Err(StateFault::Line(line, FileCause::Roster(LineCause::Same)));
         }
@@ -92,13 +93,15 @@ impl Meters {
         Ok(())
     }
 
-    // What one more line says.
+    // What one more line says. A faulty line adds nothing, and one that begins a meter closes the one before.
     #[tactic(auto, unfolding(crate::specs::Whole::read_more))]
     pub(crate) fn read(&mut self, alloc: Global, line: u32, text: &[u8]) -> Result<(), StateFault>
         ensures ok { OnOk result (at_line line (read_more self.old text.now) ≡ Ok self.new) }
         ensures fault { IfErr result (λ fault. IsFaultOf (at_line line (read_more self.old text.now)) fault) }
+        ensures left { IfErr result (λ fault. (fault ≡ StateFault.Memory) ⊎ (self.new ≡ left_by self.old text.now)) }
     {
         if begins_meter(text) {
+            self.close()?;
             let commission = match read_meter(Version::Two, text) {
                 Ok(commission) => commission,
                 Err(cause) => return Err(StateFault::Line(line, FileCause::Roster(cause))),

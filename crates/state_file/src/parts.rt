@@ -1,5 +1,5 @@
 //! The lines of fragments.
-ghost use Rattle.std.specs.Prelude.{◌≡◌, ◌≤◌, length, Some, None, Ok, OnOk, IfOk, IfErr, MatchOption};
+ghost use Rattle.std.specs.Prelude.{◌≡◌, ◌≤◌, length, Some, None, Ok, OnOk, OnErr, IfOk, IfErr, MatchOption};
 ghost use Rattle.state_file.specs.State.{fragment_of, part_of, with_part_in, with_tick};
 ghost use Rattle.state_file.specs.Reading.{IsRefusedFor};
 
@@ -62,6 +62,7 @@ pub(crate) fn add_part(
 ) -> Result<(), LineFault>
     ensures ok { OnOk result (with_part_in start.old fields.old ≡ Ok start.new) }
     ensures fault { IfErr result (λ fault. IsRefusedFor (with_part_in start.old fields.old) fault) }
+    ensures left { OnErr result (start.new ≡ start.old) }
 {
     let part = read_part(alloc, fields)?;
     match start.hold(alloc, part) {
@@ -74,6 +75,7 @@ pub(crate) fn add_part(
 pub(crate) fn add_tick(start: &mut MeterStart, fields: &mut Fields<'_>) -> Result<(), LineFault>
     ensures ok { OnOk result (with_tick start.old fields.old ≡ Ok start.new) }
     ensures fault { IfErr result (λ fault. IsRefusedFor (with_tick start.old fields.old) fault) }
+    ensures left { OnErr result (start.new ≡ start.old) }
 {
     if fields.next().is_some() {
         return Err(LineFault::Cause(StateCause::Fields));

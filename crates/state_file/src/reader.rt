@@ -26,10 +26,16 @@ fn read_end(meters: Meters, entries: &mut Entries<'_>) -> Result<Vec<MeterStart>
     }
 }
 
-fn is_end(text: &[u8]) -> bool
+pub(crate) fn is_end(text: &[u8]) -> bool
     ensures { result ≡ is_word text.now (codes "end") }
 {
     text == b"end".as_slice()
+}
+
+pub(crate) fn is_head(text: &[u8]) -> bool
+    ensures { result ≡ is_word text.now (codes "wmbus-state 1") }
+{
+    text == b"wmbus-state 1".as_slice()
 }
 
 // The meters of the lines that are left.
@@ -106,7 +112,7 @@ pub fn read_state(alloc: Global, bytes: &[u8]) -> Result<State, StateFault>
     let mut entries = Entries::of_text(bytes);
     match entries.next() {
         Ok(entry) => {
-            if entry.text == b"wmbus-state 1".as_slice() {
+            if is_head(entry.text) {
                 return read_owned(alloc, &mut entries);
             }
             read_as_roster(alloc, bytes)

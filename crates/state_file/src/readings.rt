@@ -1,5 +1,5 @@
 //! The line of a reading.
-ghost use Rattle.std.specs.Prelude.{◌≡◌, ◌≤◌, length, Some, Ok, OnOk, IfOk, IfErr};
+ghost use Rattle.std.specs.Prelude.{◌≡◌, ◌≤◌, length, Some, Ok, OnOk, OnErr, IfOk, IfErr};
 ghost use Rattle.state_file.specs.State.{reading_of, with_reading_in};
 ghost use Rattle.state_file.specs.Reading.{IsRefusedFor};
 
@@ -65,6 +65,7 @@ pub(crate) fn add_reading(
 ) -> Result<(), LineFault>
     ensures ok { OnOk result (with_reading_in start.old start.old.reading fields.old ≡ Ok start.new) }
     ensures fault { IfErr result (λ fault. IsRefusedFor (with_reading_in start.old start.old.reading fields.old) fault) }
+    ensures left { OnErr result (start.new ≡ start.old) }
 {
     if start.reading().is_some() {
         return Err(LineFault::Cause(StateCause::Twice));

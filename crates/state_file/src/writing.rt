@@ -5,6 +5,7 @@ ghost use Rattle.std.specs.Option.{option_copied};
 ghost use Rattle.afl_fragments.specs.Held.{held};
 ghost use Rattle.paper.specs.Puts.{Puts};
 ghost use Rattle.state_file.specs.Text.{bytes_text};
+ghost use Rattle.state_file.specs.Recommissioning.{recommissioned};
 ghost use Rattle.state_file.specs.Written.{block_text, state_text};
 ghost use Rattle.state_file.specs.Printing.{reading_text, readings_text, payload_text, part_text, kind_if, some_kind, kind_text, has_kind, marks_text, tick_text, said_text, command_text, command_if, window_word, word_at, commands_text};
 
@@ -12,6 +13,7 @@ use crate::state::State;
 use access_window::Window;
 use afl_fragments::{HeldPart, Part, SPELT_MAX};
 use command_queue::{Command, Queue};
+use meter_address::Commission;
 use meter_slots::{KnownMeter, MeterStart, Reading};
 use outer_io::Memory;
 use paper::{Paper, Printed, put_hex, put_number, put_text, written};
@@ -179,15 +181,23 @@ fn put_commands<P: Paper>(paper: &mut P, window: Window, queue: &Queue)
     }
 }
 
+/// Puts the block of a known meter under this commission, which counts in place of the meter's own.
 #[tactic(auto, using(crate::proofs::StatePieces::block_pieces))]
-pub(crate) fn put_block<P: Paper>(paper: &mut P, known: &KnownMeter<'_>)
-    ensures { Puts P.takes paper.old (block_text known.now) paper.new }
+pub fn put_block_as<P: Paper>(paper: &mut P, commission: &Commission, known: &KnownMeter<'_>)
+    ensures { Puts P.takes paper.old (block_text (recommissioned known.now commission.now)) paper.new }
 {
     known.show();
-    put_meter(paper, &known.commission());
+    put_meter(paper, commission);
     put_readings(paper, known.reading());
     put_marks(paper, known);
     put_commands(paper, known.window(), known.queue());
+}
+
+/// Puts the block of a meter: its line, and those below it that say what is known of it.
+pub fn put_block<P: Paper>(paper: &mut P, known: &KnownMeter<'_>)
+    ensures { Puts P.takes paper.old (block_text known.now) paper.new }
+{
+    put_block_as(paper, &known.commission(), known);
 }
 
 fn put_blocks<P: Paper>(paper: &mut P, starts: &[MeterStart])

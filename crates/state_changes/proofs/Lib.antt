@@ -1,0 +1,4 @@
+pub mod Merges
+pub mod Raises
+pub mod States
+pub mod CommandWords
