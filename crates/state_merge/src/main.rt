@@ -1,0 +1,167 @@
+//! The program `state_merge`: opens the files that its words name, and writes the state under the roster.
+#![tactic(auto)]
+
+ghost use Rattle.std.specs.Prelude.{◌≡◌, true, false, map, IfOk, IfErr, IsTrue};
+ghost use Rattle.std.specs.String.{string_bytes};
+ghost use Rattle.std.specs.Process.{exit_status};
+ghost use Rattle.state_changes.specs.CommandWords.{are_merge_words};
+ghost use Rattle.state_changes.specs.Loading.{IsMergedOf};
+ghost use Rattle.state_changes.specs.Statuses.{code_of};
+ghost use Rattle.state_changes.specs.declared.status.ChangeStatus.{ChangeStatus};
+ghost use Rattle.program_words.specs.OwnTexts.{asks_for_text, IsTold};
+ghost use Rattle.state_merge.specs.Exit.{IsRunExit};
+
+use outer_io::{Source, StdSink, StdSource};
+use program_words::{NoWords, cannot_open, command_words, own_text, tell};
+use state_changes::{ChangeStatus, Merged, Said, are_merge_words, load_merged, write_next};
+use std::fs::{File, Files};
+use std::os::unix::fs::OpenOptionsExt;
+use std::process::ExitCode;
+
+const HELP: &str = "state_merge: a state with the meters and keys of a roster
+
+usage: state_merge STATE ROSTER NEXT
+       state_merge --help
+       state_merge --version
+
+Reads what is known of the meters from the file STATE, which a session left, and the
+meters of the file ROSTER, and writes to the file NEXT just the meters of ROSTER, with
+its modes and keys. Of each that STATE knows all else stays: its counters, of which
+none falls, the commands that wait, the fragments that are held and the last reading.
+A meter that STATE doesn't know is just commissioned. NEXT is another file than the
+others, and is opened once both were read.
+
+exit status: 0 done, 2 faulty words, 3 faulty state or roster, 4 one that can't be
+read, 7 next state not written, 10 no memory, 11 a file that can't be opened
+
+docs/FORMATS.md says what each fault and message means and what to do about it;
+docs/state_merge.1 is the man page.
+";
+
+const VERSION: &str = "state_merge 0.1.0\n";
+
+/// A state has keys: where its file is new its owner alone may read it.
+const PRIVATE: u32 = 0o600;
+
+// Says a status, unless all is done, and ends with it.
+fn end(rt: &impl Eprint, status: ChangeStatus) -> ExitCode
+    ensures { exit_status result ≡ code_of status }
+{
+    let said = Said {
+        program: "state_merge",
+        status,
+    };
+    program_words::end(rt, status.code(), said)
+}
+
+// The file of this name, to be read, or status 11.
+fn open_to_read<R: Eprint + Files<File = File>>(rt: &R, name: &str) -> Result<StdSource, ExitCode>
+    ensures { IfErr result (λ ended. IsRunExit (exit_status ended)) }
+{
+    match File::open(rt, name) {
+        Ok(file) => Ok(StdSource::file(file)),
+        Err(_) => Err(cannot_open(rt, "state_merge", name)),
+    }
+}
+
+// The file of this name, made empty, to be written, or status 11.
+fn open_to_write<R: Eprint + Files<File = File>>(rt: &R, name: &str) -> Result<StdSink, ExitCode>
+    ensures { IfErr result (λ ended. IsRunExit (exit_status ended)) }
+{
+    let mut options = File::options();
+    options
+        .write(true)
+        .create(true)
+        .truncate(true)
+        .mode(PRIVATE);
+    match options.open(rt, name) {
+        Ok(file) => Ok(StdSink::file(file)),
+        Err(_) => Err(cannot_open(rt, "state_merge", name)),
+    }
+}
+
+// The state of one source under the roster of another, or the status that says why there is none.
+fn load<R: Eprint + AllocGlobal, S: Source>(
+    rt: &R,
+    state: &mut S,
+    roster: &mut S,
+) -> Result<Merged, ExitCode>
+    ensures merged { IfOk result (λ next. IsTrue S.tells → IsMergedOf (S.left state.old) (S.left roster.old) next) }
+    ensures exit { IfErr result (λ ended. IsRunExit (exit_status ended)) }
+{
+    match load_merged(rt.alloc(), state, roster) {
+        Ok(next) => Ok(next),
+        Err(status) => Err(end(rt, status)),
+    }
+}
+
+// The state under the roster, of the files of these names.
+fn merge<R: Eprint + Files<File = File> + AllocGlobal>(
+    rt: &R,
+    state: &str,
+    roster: &str,
+) -> Result<Merged, ExitCode>
+    ensures { IfErr result (λ ended. IsRunExit (exit_status ended)) }
+{
+    let mut state = open_to_read(rt, state)?;
+    let mut roster = open_to_read(rt, roster)?;
+    load(rt, &mut state, &mut roster)
+}
+
+// Writes the next state to the file of this name.
+fn write_to<R: Eprint + Files<File = File>>(rt: &R, next: &Merged, name: &str) -> ExitCode
+    ensures { IsRunExit (exit_status result) }
+{
+    let mut sink = match open_to_write(rt, name) {
+        Ok(sink) => sink,
+        Err(ended) => return ended,
+    };
+    let status = write_next(next, &mut sink);
+    end(rt, status)
+}
+
+// Does what the words behind the program's name ask for.
+fn perform<R: Print + Eprint + Files<File = File> + AllocGlobal>(
+    rt: &R,
+    command: &[String],
+) -> ExitCode
+    ensures text { asks_for_text (map string_bytes command.now) ≡ true → IsTold 7 (exit_status result) }
+    ensures faulty { asks_for_text (map string_bytes command.now) ≡ false → are_merge_words (map string_bytes command.now) ≡ false →
+        exit_status result ≡ 2 }
+    ensures exit { asks_for_text (map string_bytes command.now) ≡ false → are_merge_words (map string_bytes command.now) ≡ true →
+        IsRunExit (exit_status result) }
+{
+    if let Some(own) = own_text(command) {
+        let status = ChangeStatus::Write;
+        let said = Said {
+            program: "state_merge",
+            status,
+        };
+        return tell(rt, own.text(HELP, VERSION), status.code(), said);
+    }
+    if !are_merge_words(command) {
+        return end(rt, ChangeStatus::Words);
+    }
+    match merge(rt, command[0].as_str(), command[1].as_str()) {
+        Ok(next) => write_to(rt, &next, command[2].as_str()),
+        Err(ended) => ended,
+    }
+}
+
+// What it means that the words can't be had.
+fn status_without_words(reason: NoWords) -> ChangeStatus
+    ensures memory { reason ≡ NoWords.Memory → result ≡ ChangeStatus.Memory }
+    ensures not_text { reason ≡ NoWords.NotText → result ≡ ChangeStatus.Words }
+{
+    match reason {
+        NoWords::Memory => ChangeStatus::Memory,
+        NoWords::NotText => ChangeStatus::Words,
+    }
+}
+
+fn main(rt: HostRuntime) -> ExitCode {
+    match command_words(&rt) {
+        Ok(command) => perform(&rt, &command),
+        Err(reason) => end(&rt, status_without_words(reason)),
+    }
+}

@@ -1,0 +1,166 @@
+//! The program `state_raise`: opens the files that its words name, and writes the state with its counters raised.
+#![tactic(auto)]
+
+ghost use Rattle.std.specs.Prelude.{◌≡◌, true, false, map, None, is_some, IfOk, IfErr, IsTrue};
+ghost use Rattle.std.specs.String.{string_bytes};
+ghost use Rattle.std.specs.Process.{exit_status};
+ghost use Rattle.state_changes.specs.CommandWords.{raise_in};
+ghost use Rattle.state_changes.specs.Loading.{IsRaisedOf};
+ghost use Rattle.state_changes.specs.Statuses.{code_of};
+ghost use Rattle.state_changes.specs.declared.status.ChangeStatus.{ChangeStatus};
+ghost use Rattle.program_words.specs.OwnTexts.{asks_for_text, IsTold};
+ghost use Rattle.state_raise.specs.Exit.{IsRunExit};
+
+use outer_io::{Source, StdSink, StdSource};
+use program_words::{NoWords, cannot_open, command_words, own_text, tell};
+use state_changes::{ChangeStatus, Raised, Said, load_raised, read_raise, write_next};
+use std::fs::{File, Files};
+use std::os::unix::fs::OpenOptionsExt;
+use std::process::ExitCode;
+
+const HELP: &str = "state_raise: a state whose downlink counters are raised
+
+usage: state_raise STATE N NEXT
+       state_raise --help
+       state_raise --version
+
+Reads what is known of the meters from the file STATE, and writes it to the file NEXT
+with the downlink counter of each meter raised by N, a number below 2^32. After an
+older state was restored no counter is used twice, where N is at least as many
+downlinks as went to one meter since. NEXT is another file than STATE, and is opened
+once STATE was read.
+
+exit status: 0 done, 2 faulty words, 3 faulty state, 4 it can't be read, 7 next state
+not written, 10 no memory, 11 a file that can't be opened, 12 a counter that would pass
+2^32 - 1
+
+docs/FORMATS.md says what each fault and message means and what to do about it;
+docs/state_raise.1 is the man page.
+";
+
+const VERSION: &str = "state_raise 0.1.0\n";
+
+/// A state has keys: where its file is new its owner alone may read it.
+const PRIVATE: u32 = 0o600;
+
+// Says a status, unless all is done, and ends with it.
+fn end(rt: &impl Eprint, status: ChangeStatus) -> ExitCode
+    ensures { exit_status result ≡ code_of status }
+{
+    let said = Said {
+        program: "state_raise",
+        status,
+    };
+    program_words::end(rt, status.code(), said)
+}
+
+// The file of this name, to be read, or status 11.
+fn open_to_read<R: Eprint + Files<File = File>>(rt: &R, name: &str) -> Result<StdSource, ExitCode>
+    ensures { IfErr result (λ ended. IsRunExit (exit_status ended)) }
+{
+    match File::open(rt, name) {
+        Ok(file) => Ok(StdSource::file(file)),
+        Err(_) => Err(cannot_open(rt, "state_raise", name)),
+    }
+}
+
+// The file of this name, made empty, to be written, or status 11.
+fn open_to_write<R: Eprint + Files<File = File>>(rt: &R, name: &str) -> Result<StdSink, ExitCode>
+    ensures { IfErr result (λ ended. IsRunExit (exit_status ended)) }
+{
+    let mut options = File::options();
+    options
+        .write(true)
+        .create(true)
+        .truncate(true)
+        .mode(PRIVATE);
+    match options.open(rt, name) {
+        Ok(file) => Ok(StdSink::file(file)),
+        Err(_) => Err(cannot_open(rt, "state_raise", name)),
+    }
+}
+
+// The state of a source, raised, or the status that says why there is none.
+fn load<R: Eprint + AllocGlobal, S: Source>(
+    rt: &R,
+    state: &mut S,
+    by: u32,
+) -> Result<Raised, ExitCode>
+    ensures raised { IfOk result (λ next. IsTrue S.tells → IsRaisedOf by (S.left state.old) next) }
+    ensures exit { IfErr result (λ ended. IsRunExit (exit_status ended)) }
+{
+    match load_raised(rt.alloc(), state, by) {
+        Ok(next) => Ok(next),
+        Err(status) => Err(end(rt, status)),
+    }
+}
+
+// The state of the file of this name, raised.
+fn raise<R: Eprint + Files<File = File> + AllocGlobal>(
+    rt: &R,
+    state: &str,
+    by: u32,
+) -> Result<Raised, ExitCode>
+    ensures { IfErr result (λ ended. IsRunExit (exit_status ended)) }
+{
+    let mut state = open_to_read(rt, state)?;
+    load(rt, &mut state, by)
+}
+
+// Writes the next state to the file of this name.
+fn write_to<R: Eprint + Files<File = File>>(rt: &R, next: &Raised, name: &str) -> ExitCode
+    ensures { IsRunExit (exit_status result) }
+{
+    let mut sink = match open_to_write(rt, name) {
+        Ok(sink) => sink,
+        Err(ended) => return ended,
+    };
+    let status = write_next(next, &mut sink);
+    end(rt, status)
+}
+
+// Does what the words behind the program's name ask for.
+fn perform<R: Print + Eprint + Files<File = File> + AllocGlobal>(
+    rt: &R,
+    command: &[String],
+) -> ExitCode
+    ensures text { asks_for_text (map string_bytes command.now) ≡ true → IsTold 7 (exit_status result) }
+    ensures faulty { asks_for_text (map string_bytes command.now) ≡ false → raise_in (map string_bytes command.now) ≡ None →
+        exit_status result ≡ 2 }
+    ensures exit { asks_for_text (map string_bytes command.now) ≡ false → is_some (raise_in (map string_bytes command.now)) ≡ true →
+        IsRunExit (exit_status result) }
+{
+    if let Some(own) = own_text(command) {
+        let status = ChangeStatus::Write;
+        let said = Said {
+            program: "state_raise",
+            status,
+        };
+        return tell(rt, own.text(HELP, VERSION), status.code(), said);
+    }
+    let Some(by) = read_raise(command) else {
+        return end(rt, ChangeStatus::Words);
+    };
+    match raise(rt, command[0].as_str(), by) {
+        Ok(next) => write_to(rt, &next, command[2].as_str()),
+        Err(ended) => ended,
+    }
+}
+
+// What it means that the words can't be had.
+fn status_without_words(reason: NoWords) -> ChangeStatus
+    ensures memory { reason ≡ NoWords.Memory → result ≡ ChangeStatus.Memory }
+    ensures not_text { reason ≡ NoWords.NotText → result ≡ ChangeStatus.Words }
+{
+    match reason {
+        NoWords::Memory => ChangeStatus::Memory,
+        NoWords::NotText => ChangeStatus::Words,
+    }
+}
+
+fn main(rt: HostRuntime) -> ExitCode {
+    match command_words(&rt) {
+        Ok(command) => perform(&rt, &command),
+        Err(reason) => end(&rt, status_without_words(reason)),
+    }
+}
