@@ -4,3 +4,4 @@ pub mod OneReceiver
 pub mod Orders
 pub mod Runs
 pub mod MadeSessions
+pub mod MacRuns

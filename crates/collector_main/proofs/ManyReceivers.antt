@@ -195,12 +195,17 @@ module _ (st : Bool) (directory : List Address) where
   -- ---- the lines taken
 
   pub each_so : (runs : List ReceiverRun) (heard : List HeardLines) → Each (λ r. IsTrue st → r.source.before.taken ≡ []) runs → IsTrue st
-      → EachWith (HasTaken directory) runs heard → EachWith EndsSo runs heard
+      → EachWith (HasTaken directory) runs heard → EachWith (EndsSo directory) runs heard
   each_so [] [] none told each = tt
   each_so [] (h ∷ heard) none told each = absurd each
   each_so (r ∷ runs) [] none told each = absurd each
   each_so (r ∷ runs) (h ∷ heard) none told each = (
-    record { ended = each.0.ended; lines = each.0.lines; first_bytes = bytes_of_run r each.0.no_loss (none.0 told) },
+    record {
+      ended = each.0.ended;
+      lines = each.0.lines;
+      counts = each.0.counts;
+      first_bytes = bytes_of_run r each.0.no_loss (none.0 told);
+    },
     each_so runs heard none.1 told each.1,
   )
 

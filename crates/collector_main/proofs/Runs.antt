@@ -203,7 +203,7 @@ module _ (form : Form) (st kt : Bool) (beginning : Change SourceShown) (r : Rece
   pub heard_run : (e : Known) (ended ended' : Ended) (counts counts' : Counts) (fresh world : WorldView) → ended ≡ ended'
       → counts ≡ counts'
       → (IsTrue st → known_of form beginning.before.left ≡ Ok e) → (IsTrue st → IsReadOut beginning) → (IsTrue st → LosesNothing beginning)
-      → r.ended ≡ Some ended' → fresh ≡ world_of e.own e.starts [] → counts.lines < 2 ^ 32
+      → r.ended ≡ Some ended' → r.counts ≡ counts' → fresh ≡ world_of e.own e.starts [] → counts.lines < 2 ^ 32
       → HasHeardAlone 1 (record { tells = st; source = r.source; counts = counts'; ended = ended' }) fresh world
       → (IsTrue st → r.source.before.taken ≡ []) → IsHeardEnd ended'
       → IsFinished ended report result
@@ -211,7 +211,7 @@ module _ (form : Form) (st kt : Bool) (beginning : Change SourceShown) (r : Rece
       → (result ≡ statuses.Done → IsTrue kt
       → report.now.written ≡ report_text (record { counts = counts; ended = ended } ∷ []) world.slots world.strangers)
       → IsRun this
-  heard_run e ended ended' counts counts' fresh world same_end same_counts found read kept is' before few hears' untaken never' finished
+  heard_run e ended ended' counts counts' fresh world same_end same_counts found read kept is' counted_so before few hears' untaken never' finished
       written done =
       let is : r.ended ≡ Some ended = is' ∙ ap Some (sym same_end) in
       let never : IsHeardEnd ended = (λ t. never'.0 (sym same_end ∙ t), λ m. never'.1 (sym same_end ∙ m)) in
@@ -239,7 +239,15 @@ module _ (form : Form) (st kt : Bool) (beginning : Change SourceShown) (r : Rece
               heard = heard;
               begun = read told;
               known_is = found told;
-              receivers = (record { ended = is; lines = alone.has_heard.ending told; first_bytes = bytes told }, tt);
+              receivers = (
+                record {
+                  ended = is;
+                  lines = alone.has_heard.ending told;
+                  counts = counted_so ∙ sym same_counts ∙ alone.has_heard.counts ∙ ap (counts_of (map (λ c. c.address) e.starts)) tells;
+                  first_bytes = bytes told;
+                },
+                tt,
+              );
               session = session;
               sent = λ sends. absurd (let e = sends in cc);
               left = λ sends. absurd (let e = sends in cc);

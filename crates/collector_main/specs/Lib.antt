@@ -7,3 +7,4 @@ pub mod Run
 pub mod Showing
 pub mod Statuses
 pub mod Words
+pub mod MacLaw

@@ -3,9 +3,11 @@ use Rattle.std.specs.Prelude.{ℕ, ◌≡◌, ◌≢◌, ◌++◌, Bool, true, f
 use Rattle.outer_io.specs.Each.{Each, EachWith, PassUntil, IsFirst}
 use Rattle.outer_io.specs.Shown.{Change, SourceShown, SinkShown, ReadFailed, WriteFailed, LosesNothing, IsReadOut, IsSilent, HasText}
 use Rattle.line_reader.specs.Lines.{is_over}
+use Rattle.meter_address.specs.declared.address.Address.{Address}
 use Rattle.meter_slots.specs.declared.counts.Ended.{Ended}
 use Rattle.meter_slots.specs.declared.counts.Ended.TheVariants as ends
 use Rattle.receivers.specs.Ending.{IsEnding}
+use Rattle.receivers.specs.Classes.{counts_of}
 use Rattle.receivers.specs.Collected.{IsAnswered, heard_in, part_by}
 use Rattle.receivers.specs.HeardLines.{HeardLines, tellings, SendsAnswers}
 use Rattle.receivers.specs.Run.{ReceiverRun}
@@ -42,10 +44,11 @@ pub record Run : Type 0 where
 
 -- ---- what was heard, and what is written of it
 
--- a receiver ended so after its lines, which are those of the first bytes that its source had
-pub record EndsSo (r : ReceiverRun) (heard : HeardLines) : Type 0 where
+-- a receiver ended so after its lines, which are those of the first bytes that its source had, and its counts are those of these lines
+pub record EndsSo (directory : List Address) (r : ReceiverRun) (heard : HeardLines) : Type 0 where
   pub ended : r.ended ≡ Some heard.ended
   pub lines : IsEnding heard.ended r.source.now.taken r.source.now.left heard.lines
+  pub counts : r.counts ≡ counts_of directory (tellings heard)
   pub first_bytes : r.source.now.taken ++ r.source.now.left ≡ r.source.before.left
 
 -- Each receiver's sink has the downlinks that its own lines were answered, in their order: all of them, or after a fault of the sink all
@@ -66,13 +69,13 @@ IsUnwritten which o = (o.number ≡ which) × WriteFailed o.sink
 
 -- The headline: the beginning was read to its end and is one, each receiver was heard, each meter's slot is that of its own lines alone and
 -- the strangers' list has the others, the report's text tells their order, the receivers' sinks have the downlinks of just this, what is
--- left for the next session is read as what is known of the meters now, and the outputs have their texts: after status 0 whole, after status 7 whole before the one that the status names, and else a front where a write
--- failed.
+-- left for the next session is read as what is known of the meters now, and the outputs have their texts: after status 0 whole, after
+-- status 7 whole before the one that the status names, and else a front where a write failed.
 pub record Headline (run : Run) : Type 0 where
   pub heard : Heard
   pub begun : IsReadOut run.beginning
   pub known_is : known_of run.form run.beginning.before.left ≡ Ok heard.known
-  pub receivers : EachWith EndsSo run.receivers heard.receivers
+  pub receivers : EachWith (EndsSo (addresses heard.known)) run.receivers heard.receivers
   pub session : IsSession heard.known.own heard.known.starts (map tellings heard.receivers) heard.world
   pub told : orders (report_of heard) ≡ order_of heard
   pub sent : IsTrue run.sends → HaveSent run.receivers heard

@@ -1,6 +1,6 @@
 -- Steps of lines that are told, one after another.
 use Rattle.std.proofs.Common.{◌≡◌, ℕ, ◌+◌, ◌<◌, ◌≤◌, ◌⊎◌, Bool, true, false, List, [], ◌∷◌, ◌++◌, length, take, drop, Result, Ok, Err, refl, sym, ap, ◌∙◌, subst, append_assoc, inl, inr, arith}
-use Rattle.std.specs.Prelude.{IsTrue, IfErr, OnErr}
+use Rattle.std.specs.Prelude.{IsTrue, IfErr, OnOk, OnErr}
 use Rattle.std.proofs.lemmas.Bool.{cases_lt}
 use Rattle.std.proofs.lemmas.List.{append-nil, length-append, take-append-drop}
 use Rattle.std.proofs.Math.Seq.{take-append_seam, take-append-add}
@@ -15,7 +15,7 @@ use Rattle.line_teller.specs.declared.ending.LinesEnd.{LinesEnd}
 use Rattle.line_teller.specs.declared.ending.LinesEnd.TheVariants as ends
 use Rattle.line_teller.specs.Telling.{TellsFirst, AreTold}
 use Rattle.line_teller.specs.Ending.{AreFirst, EndsLines, EndsText, IsNoted, IsEndOf, is_whole, Ended, HearsLine}
-use Rattle.line_teller.specs.Standing.{Pours, PoursMore, Steps, EndsStep, Stands}
+use Rattle.line_teller.specs.Standing.{Pours, PoursMore, Steps, TellsOne, EndsStep, Stands}
 
 -- ---- what the reader gives
 
@@ -47,6 +47,11 @@ pub by_memory : (result : Result (Unit {0}) LinesEnd) (X : LinesEnd → Type 0) 
     → IfErr result X
 by_memory (Ok done) X err x = tt
 by_memory (Err end) X err x = subst X (sym err) x
+
+-- what two facts on a step that didn't end say together
+pub ok_both : (result : Result (Unit {0}) LinesEnd) (P Q R : Type 0) → OnOk result P → OnOk result Q → (P → Q → R) → OnOk result R
+ok_both (Ok done) P Q R p q r = r p q
+ok_both (Err end) P Q R p q r = tt
 
 -- only a write that failed ends it
 pub by_write : (result : Result (Unit {0}) LinesEnd) (X : LinesEnd → Type 0) (P F : Type 0) → IfErr result (λ end. (end ≡ ends.Write) × P)
@@ -283,4 +288,56 @@ module _ {T : Type 0} (tells : T → ℕ → List ℕ → List ℕ → List ℕ 
     last_is = step.last_is;
     written = λ on. text_then end a b c s.text step.text sheet (s.poured on) (step.written on);
     noted = λ on. noted_then x y z s.note step.note one two (s.noted on) (step.noted on);
+  }
+
+  -- ---- one line by itself
+
+  -- where nothing waited before a step, and nothing waits behind it, its text was written
+  pub one_told_alone : (number : ℕ) (old new : T) (lines lines' : List (List ℕ)) (out_tells : Bool) (out : Change SinkShown)
+      (sheet sheet' : List ℕ) (notes_tell : Bool) (notes : Change SinkShown) → sheet ≡ [] → sheet' ≡ []
+      → Steps tells number old new lines lines' out_tells out sheet sheet' notes_tell notes
+      → TellsOne tells number old new lines lines' out_tells out notes_tell notes
+  one_told_alone number old new lines lines' out_tells out sheet sheet' notes_tell notes none empty step =
+      by step.lines step.one step.told step.more
+    where
+      written_is : IsTrue out_tells → out.now.written ≡ out.before.written ++ step.text
+      written_is on =
+          let poured = step.poured on in
+          let whole : step.text ≡ poured.gone =
+          sym (ap (λ t. t ++ step.text) none) ∙ poured.sheet_is ∙ ap (λ t. poured.gone ++ t) empty ∙ append-nil poured.gone in
+          poured.written_is ∙ ap (λ t. out.before.written ++ t) (sym whole)
+
+      by : (xs : List (List ℕ)) → length xs ≡ 1 → AreTold tells number old xs step.text step.note new → lines' ≡ lines ++ xs
+          → TellsOne tells number old new lines lines' out_tells out notes_tell notes
+      by [] long told more = absurd (omega (arith, long))
+      by (x ∷ []) long told more =
+          let text_is : step.text ≡ told.first_text =
+          told.text_is ∙ ap (λ t. told.first_text ++ t) told.later.0 ∙ append-nil told.first_text in
+          let note_is : step.note ≡ told.first_note =
+          told.note_is ∙ ap (λ t. told.first_note ++ t) told.later.1 ∙ append-nil told.first_note in
+          record {
+            line = x;
+            text = told.first_text;
+            note = told.first_note;
+            told = subst (λ n. tells old number x told.first_text told.first_note n) (sym told.later.2) told.told;
+            more = more;
+            written = λ on. written_is on ∙ ap (λ t. out.before.written ++ t) text_is;
+            noted = λ on. subst (λ t. IsNoted t notes) note_is (step.noted on);
+          }
+      by (x ∷ y ∷ xs) long told more = absurd (omega (arith, long))
+
+  -- a line that was told by itself is a step behind which nothing waits
+  pub step_alone : (number : ℕ) (old new : T) (lines lines' : List (List ℕ)) (out_tells : Bool) (out : Change SinkShown)
+      (notes_tell : Bool) (notes : Change SinkShown)
+      → TellsOne tells number old new lines lines' out_tells out notes_tell notes
+      → Steps tells number old new lines lines' out_tells out [] [] notes_tell notes
+  step_alone number old new lines lines' out_tells out notes_tell notes one = record {
+    lines = one.line ∷ [];
+    text = one.text;
+    note = one.note;
+    told = one_told number old new one.line one.text one.note one.told;
+    one = refl;
+    more = one.more;
+    poured = λ on. record { gone = one.text; written_is = one.written on; sheet_is = sym (append-nil one.text) };
+    noted = one.noted;
   }

@@ -1,5 +1,5 @@
--- Words of private contracts: what one step does, and where the lines stand between two steps.
-use Rattle.std.specs.Prelude.{ℕ, ◌≡◌, Bool, List, [], ◌++◌, length, IsTrue}
+-- What one step does, and where the lines stand between two steps.
+use Rattle.std.specs.Prelude.{ℕ, ◌≡◌, Bool, List, [], ◌∷◌, ◌++◌, length, IsTrue}
 use Rattle.outer_io.specs.Shown.{Change, SourceShown, SinkShown}
 use Rattle.line_teller.specs.declared.ending.LinesEnd.{LinesEnd}
 use Rattle.line_teller.specs.Telling.{AreTold}
@@ -26,6 +26,18 @@ pub record Steps {T : Type 0} (tells : T → ℕ → List ℕ → List ℕ → L
   pub one : length lines ≡ 1
   pub more : new_lines ≡ old_lines ++ lines
   pub poured : IsTrue out_tells → PoursMore text out.before.written sheet out.now.written sheet'
+  pub noted : IsTrue notes_tell → IsNoted note notes
+
+-- one more line was told, and its text and its note were written
+pub record TellsOne {T : Type 0} (tells : T → ℕ → List ℕ → List ℕ → List ℕ → T → Type 0) (number : ℕ) (old new : T)
+    (old_lines new_lines : List (List ℕ)) (out_tells : Bool) (out : Change SinkShown) (notes_tell : Bool) (notes : Change SinkShown)
+    : Type 0 where
+  pub line : List ℕ
+  pub text : List ℕ
+  pub note : List ℕ
+  pub told : tells old number line text note new
+  pub more : new_lines ≡ old_lines ++ line ∷ []
+  pub written : IsTrue out_tells → out.now.written ≡ out.before.written ++ text
   pub noted : IsTrue notes_tell → IsNoted note notes
 
 -- the last step: perhaps one more line was told

@@ -11,4 +11,4 @@ mod telling;
 pub use ending::LinesEnd;
 pub use sheet::Sheet;
 pub use teller::Teller;
-pub use telling::tell_lines;
+pub use telling::{tell_lines, tell_one, tell_one_by_one};

@@ -5,7 +5,7 @@ ghost use Rattle.outer_io.specs.Faults.{Rose};
 ghost use Rattle.outer_io.specs.Shown.{source_shown, sink_change, WriteFailed};
 ghost use Rattle.line_reader.specs.Reader.{given};
 ghost use Rattle.line_teller.specs.Ending.{Ended, EndsText, IsNoted, IsEndOf, is_whole};
-ghost use Rattle.line_teller.specs.Standing.{Pours, Steps, EndsStep};
+ghost use Rattle.line_teller.specs.Standing.{Pours, Steps, TellsOne, EndsStep};
 
 use crate::ending::LinesEnd;
 use crate::hearing::hear_next;
@@ -25,6 +25,7 @@ fn pass_both<K: Sink, E: Sink>(
     room: usize,
 ) -> Result<(), LinesEnd>
     ensures text { OnOk result (IsTrue K.tells → Pours (K.written out.old) text.old.text (K.written out.new) text.new.text) }
+    ensures all { OnOk result (room ≡ 0 → text.new.text ≡ []) }
     ensures front { OnErr result (IsTrue K.tells → AppendsFront text.old.text (K.written out.old) (K.written out.new)) }
     ensures write { IfErr result (λ end. (end ≡ LinesEnd.Write) × WriteFailed (sink_change K.Sink out.old out.new)) }
     ensures empty { note.new.text ≡ [] }
@@ -74,6 +75,7 @@ fn tell_next<S: Source, K: Sink, E: Sink, T: Teller>(
     ensures next { OnOk result ((reader.new.reader.done ≡ false) × (reader.new.reader.line ≡ reader.old.reader.line + 1)) }
     ensures few { reader.new.reader.line ≤ 131072 }
     ensures empty { OnOk result (note.new.text ≡ []) }
+    ensures all { OnOk result (room ≡ 0 → text.new.text ≡ []) }
     ensures told { OnOk result (IsTrue S.tells → Steps T.tells reader.new.reader.line teller.old teller.new
         (given S.taken reader.old.reader) (given S.taken reader.new.reader)
         K.tells (sink_change K.Sink out.old out.new) text.old.text text.new.text E.tells (sink_change E.Sink notes.old notes.new)) }
@@ -125,6 +127,82 @@ pub fn tell_lines<S: Source, K: Sink, E: Sink, T: Teller>(
         if let Err(end) = tell_next(
             alloc, reader, teller, &mut text, &mut note, out, notes, room,
         ) {
+            return end;
+        }
+    }
+}
+
+/// Tells the next line of a source, or answers how the lines end. When it returns, the line's text is written on `out`, before any line behind
+/// it was taken, and its note on `notes`. A text that can't be written ends the lines; a note that can't be is left out.
+///
+/// The reader takes lines of at most the teller's longest, and nothing is on the two sheets, before it and after it.
+pub fn tell_one<S: Source, K: Sink, E: Sink, T: Teller>(
+    alloc: Global,
+    reader: &mut TextReader<S>,
+    teller: &mut T,
+    text: &mut Sheet,
+    note: &mut Sheet,
+    out: &mut K,
+    notes: &mut E,
+) -> Result<(), LinesEnd>
+    requires goes_on { reader.old.reader.done ≡ false }
+    requires longest { reader.old.longest ≡ T.longest }
+    requires no_text { text.old.text ≡ [] }
+    requires no_note { note.old.text ≡ [] }
+    ensures longest { reader.new.longest ≡ T.longest }
+    ensures next { OnOk result ((reader.new.reader.done ≡ false) × (reader.new.reader.line ≡ reader.old.reader.line + 1)) }
+    ensures few { reader.new.reader.line ≤ 131072 }
+    ensures no_text { OnOk result (text.new.text ≡ []) }
+    ensures no_note { OnOk result (note.new.text ≡ []) }
+
+    // One more line is told, and its text and note are written.
+    ensures told { OnOk result (IsTrue S.tells → TellsOne T.tells reader.new.reader.line teller.old teller.new
+        (given S.taken reader.old.reader) (given S.taken reader.new.reader)
+        K.tells (sink_change K.Sink out.old out.new) E.tells (sink_change E.Sink notes.old notes.new)) }
+
+    // The lines end, with one more or none.
+    ensures ended { IfErr result (λ end. IsTrue S.tells → EndsStep T.tells (reader.old.reader.line + 1) teller.old teller.new end
+        (source_shown S.Source reader.new.reader.source) (given S.taken reader.old.reader)
+        K.tells (sink_change K.Sink out.old out.new) [] E.tells (sink_change E.Sink notes.old notes.new)) }
+    ensures read { result ≡ Err LinesEnd.Read → Rose (S.faults reader.old.reader.source) (S.faults reader.new.reader.source) }
+    ensures write { result ≡ Err LinesEnd.Write → WriteFailed (sink_change K.Sink out.old out.new) }
+    ensures later { S.faults reader.old.reader.source ≤ S.faults reader.new.reader.source }
+    ensures later_out { K.faults out.old ≤ K.faults out.new }
+    ensures later_notes { E.faults notes.old ≤ E.faults notes.new }
+    ensures bytes { IsTrue S.tells → S.taken reader.new.reader.source ++ S.left reader.new.reader.source
+        ≡ S.taken reader.old.reader.source ++ S.left reader.old.reader.source }
+{
+    tell_next(alloc, reader, teller, text, note, out, notes, 0)
+}
+
+/// Tells all lines of a source one by one: the text of each is written before the next one is taken. A text that can't be written ends the
+/// lines; a note that can't be is left out.
+///
+/// The reader is one that was just made over its source, for lines of at most the teller's longest.
+pub fn tell_one_by_one<S: Source, K: Sink, E: Sink, T: Teller>(
+    alloc: Global,
+    reader: &mut TextReader<S>,
+    teller: &mut T,
+    out: &mut K,
+    notes: &mut E,
+) -> LinesEnd
+    requires fresh { reader.old.reader.line ≡ 0 }
+    requires goes_on { reader.old.reader.done ≡ false }
+    requires longest { reader.old.longest ≡ T.longest }
+    ensures ended { IsTrue S.tells → Ended T.tells teller.old teller.new result (source_shown S.Source reader.new.reader.source)
+        K.tells (sink_change K.Sink out.old out.new) E.tells (sink_change E.Sink notes.old notes.new) }
+    ensures read { result ≡ LinesEnd.Read → Rose (S.faults reader.old.reader.source) (S.faults reader.new.reader.source) }
+    ensures write { result ≡ LinesEnd.Write → WriteFailed (sink_change K.Sink out.old out.new) }
+    ensures later { S.faults reader.old.reader.source ≤ S.faults reader.new.reader.source }
+    ensures later_out { K.faults out.old ≤ K.faults out.new }
+    ensures later_notes { E.faults notes.old ≤ E.faults notes.new }
+    ensures bytes { IsTrue S.tells → S.taken reader.new.reader.source ++ S.left reader.new.reader.source
+        ≡ S.taken reader.old.reader.source ++ S.left reader.old.reader.source }
+{
+    let mut text = Sheet::new(alloc);
+    let mut note = Sheet::new(alloc);
+    'lines: loop {
+        if let Err(end) = tell_one(alloc, reader, teller, &mut text, &mut note, out, notes) {
             return end;
         }
     }

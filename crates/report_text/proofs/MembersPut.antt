@@ -49,6 +49,15 @@ and_text {text} {ms} front later name word value rest = record {
       (then word (then value rest.puts));
 }
 
+-- a member whose text is known, which is put with what comes next
+pub and_known : {P : Type 0} {takes : P → List ℕ → P → Type 0} {p q : P} {ms : Members} (front : List ℕ) (later : Bool)
+    (name : List ℕ) (d : Data)
+    → PutsMembers takes p (front ++ (comma_if later ++ (quoted name ++ 58 ∷ compact_text d))) true ms q
+    → PutsMembers takes p front later (member name d ms) q
+and_known {ms} front later name d rest = record {
+  puts = is_put _ _ (grouped front (comma_if later) (quoted name) (58 ∷ compact_text d) (members_text true ms)) rest.puts;
+}
+
 -- all members, with the opening bracket before the first
 pub object_put : {P : Type 0} {takes : P → List ℕ → P → Type 0} {p q : P} (ms : Members) → PutsMembers takes p (123 ∷ []) false ms q
     → Puts takes p (compact_text (object ms)) q

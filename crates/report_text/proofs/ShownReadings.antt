@@ -28,7 +28,7 @@ use Rattle.meter_slots.specs.Journal.{SlotView}
 use Rattle.meter_slots.specs.Resuming.{last_known}
 use Rattle.record_text.specs.Lines.{fault_text}
 use Rattle.report_text.specs.Readings.{listed, next_listed, is_full, fault_behind, more_behind, members, record_members, maker_members}
-use Rattle.report_text.specs.Readings.{maker_tree, record_tree, span_tree}
+use Rattle.report_text.specs.Readings.{list_tree, maker_tree, record_tree, span_tree}
 use Rattle.report_text.specs.Readings.{mode_number, payload_of, meter_members, meter_tree, readings_tree, IsNumbered, LastIsNumbered}
 use Rattle.report_text.proofs.ShownTrees.{IsShown, IsSmall, ◌⟫◌, none_left, object_shown, list_shown, string_shown, number_shown}
 use Rattle.report_text.proofs.ShownTrees.{integer_shown, boolean_shown, option_shown, choice_shown}
@@ -139,6 +139,10 @@ spans_shown zero payload from inside = tt
 spans_shown (suc n) payload from inside =
     next_shown payload from (spans_from n payload) inside (λ place h. spans_shown n payload place h) (next_of payload from) refl
 
+-- the records of a payload that are listed
+pub listed_shown : (payload : List ℕ) → IsShown 2 (list_tree (map (span_tree payload) (listed payload)))
+listed_shown payload = list_shown (span_tree payload) (listed payload) (spans_shown 256 payload 0 (omega arith))
+
 -- ---- meters
 
 mode_is_small : (mode : Mode) → mode_number mode < 2 ^ 64
@@ -160,7 +164,7 @@ meter_shown address mode last payload h =
     ⟫ option_shown (λ fault. string (fault_text fault)) (fault_behind (is_full spans) next) (λ fault _. string_shown)
     ⟫ number_shown (mode_number mode) (mode_is_small mode)
     ⟫ boolean_shown (more_behind (is_full spans) next)
-    ⟫ list_shown (span_tree payload) spans (spans_shown 256 payload 0 (omega arith))
+    ⟫ listed_shown payload
     ⟫ none_left)
 
 slots_shown : (slots : List SlotView) → AllByRecursion LastIsNumbered slots → AllByRecursion (λ b. IsShown 3 (meter_tree b)) slots

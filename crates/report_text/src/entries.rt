@@ -18,8 +18,8 @@ use record_text::{bytes_at, put_fault_words, put_value};
 use record_values::{Unit, Value, unit_of, value_of};
 use unit_text::{function_word, name_word, quantity_word};
 
-/// Bytes in hexadecimal, inside a string.
-pub(crate) fn put_digits<P: Paper>(paper: &mut P, bytes: &[u8])
+/// Puts bytes in hexadecimal, as they stand inside a string of JSON.
+pub fn put_digits<P: Paper>(paper: &mut P, bytes: &[u8])
     ensures { Puts P.takes paper.old (escape (encode_lower bytes.now)) paper.new }
 {
     put_hex(paper, bytes);
@@ -94,9 +94,9 @@ fn put_span<P: Paper>(paper: &mut P, payload: &[u8], span: &RecordSpan)
     }
 }
 
-/// A comma, where something stands before.
+/// Puts a comma, where something stands before.
 #[tactic(auto, using(paper::proofs::Calls::none))]
-pub(crate) fn put_comma<P: Paper>(paper: &mut P, later: bool)
+pub fn put_comma<P: Paper>(paper: &mut P, later: bool)
     ensures { Puts P.takes paper.old (comma_if later) paper.new }
 {
     if later {
@@ -127,8 +127,8 @@ fn put_items<P: Paper>(paper: &mut P, payload: &[u8])
     put_text(paper, "]");
 }
 
-/// The records of a payload that are listed.
-pub(crate) fn put_entries<P: Paper>(paper: &mut P, payload: &[u8])
+/// Puts the records of a payload that are listed, as an array of JSON: 256 at most, up to the first fault.
+pub fn put_entries<P: Paper>(paper: &mut P, payload: &[u8])
     ensures { Puts P.takes paper.old (compact_text (list_tree (map (span_tree payload.now) (listed payload.now)))) paper.new }
 {
     put_text(paper, "[");
@@ -155,8 +155,8 @@ fn put_words<P: Paper>(paper: &mut P, fault: RecordFault)
     put_text(paper, "\"");
 }
 
-/// A fault that there may be.
-pub(crate) fn put_fault<P: Paper>(paper: &mut P, fault: Option<RecordFault>)
+/// Puts the words of the fault that ends the records of a payload as a string of JSON, or `null` for none.
+pub fn put_fault<P: Paper>(paper: &mut P, fault: Option<RecordFault>)
     ensures { Puts P.takes paper.old (compact_text (or_null (option_map (λ f. string (fault_text f)) fault))) paper.new }
 {
     match fault {

@@ -7,9 +7,9 @@ use dif_vif::{RecordFault, RecordSpan, next_record};
 /// How many records and manufacturer data are listed at most.
 pub(crate) const MOST: usize = 256;
 
-/// What comes behind the records that are listed.
+/// What comes behind the records of a payload that are listed.
 #[derive(Clone, Copy)]
-pub(crate) struct Ending {
+pub struct Ending {
     /// The fault that ends them before there are 256.
     pub fault: Option<RecordFault>,
     /// Whether a record or a fault follows 256 of them.
@@ -31,7 +31,8 @@ fn follows(next: Result<Option<RecordSpan>, RecordFault>) -> bool
     !matches!(next, Ok(None))
 }
 
-pub(crate) fn ending_of(payload: &[u8]) -> Ending
+/// What comes behind the records of a payload that are listed: 256 at most, up to the first fault.
+pub fn ending_of(payload: &[u8]) -> Ending
     ensures fault { result.fault ≡ fault_behind (is_full (listed payload.now)) (next_listed payload.now) }
     ensures more { result.more ≡ more_behind (is_full (listed payload.now)) (next_listed payload.now) }
 {

@@ -57,7 +57,8 @@ fn payload_of(reading: Option<&Reading>) -> &[u8]
     }
 }
 
-fn put_truth<P: Paper>(paper: &mut P, holds: bool)
+/// Puts `true` or `false`.
+pub fn put_truth<P: Paper>(paper: &mut P, holds: bool)
     ensures { Puts P.takes paper.old (compact_text (boolean holds)) paper.new }
 {
     if holds {

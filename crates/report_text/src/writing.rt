@@ -26,7 +26,8 @@ use paper::{
 use record_text::put_records;
 use stranger_ring::{Heard, Strangers};
 
-fn ended_word(ended: Ended) -> &'static str
+/// The word for how a receiver's run ended.
+pub fn ended_word(ended: Ended) -> &'static str
     ensures { result.now ≡ ended_text ended }
 {
     match ended {

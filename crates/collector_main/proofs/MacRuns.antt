@@ -1,0 +1,88 @@
+-- Closes `macs_decide_in_runs`: what a roster or a state tells of held fragments is bytes, and so is what lines tell.
+use Rattle.std.proofs.Common.{◌≡◌, ℕ, List, [], ◌∷◌, map, Result, Ok, Err, refl, subst}
+use Rattle.std.specs.List.{All}
+use Rattle.std.proofs.lemmas.List.Elements.{All-nil, All-cons}
+use Rattle.outer_io.specs.Each.{Each, EachWith}
+use Rattle.meter_address.specs.declared.address.Address.{Address}
+use Rattle.frame_formats.specs.Crc.{IsBytes}
+use Rattle.frame_formats.proofs.Checked.{bytes-append}
+use Rattle.frame_formats.proofs.Division.{each_byte}
+use Rattle.afl_layer.specs.Fields.{fcl_of}
+use Rattle.afl_layer.specs.Header.{afl_bytes}
+use Rattle.afl_fragments.specs.Fragment.{Fragment}
+use Rattle.afl_fragments.specs.Held.{Told, Piece, Tick, Clear}
+use Rattle.meter_slots.specs.Journal.{Start, SlotView, fresh_start}
+use Rattle.meter_slots.specs.MacLaw.{TellsBytes}
+use Rattle.receivers.specs.declared.told.Told.{Told as Telling}
+use Rattle.receivers.specs.Told.{told_of}
+use Rattle.receivers.specs.HeardLines.{HeardLines, tellings}
+use Rattle.receivers.specs.Session.{IsMetersSlot}
+use Rattle.receivers.specs.MacLaw.{SaysBytes, AllSayBytes, StoresByMacs}
+use Rattle.receivers.proofs.MacSessions.{macs_decide_over_all_receivers}
+use Rattle.receivers.proofs.SaidBytes.{lines_say_bytes}
+use Rattle.roster_file.specs.declared.roster.RosterFault.{RosterFault}
+use Rattle.roster_file.specs.Roster.{Enrolled, roster_of}
+use Rattle.state_file.specs.Text.{spelt, IsSpeltPart, IsSpeltMark}
+use Rattle.state_file.specs.Whole.{Known, fresh_known, of_roster}
+use Rattle.state_file.specs.Written.{IsStart}
+use Rattle.state_file.proofs.ReadStates.{read_is_state}
+use Rattle.state_file.proofs.RosterStates.{rosters_are_states}
+use Rattle.collector_main.specs.declared.form.Form.{Form}
+use Rattle.collector_main.specs.declared.form.Form.TheVariants as forms
+use Rattle.collector_main.specs.Begin.{known_of}
+use Rattle.collector_main.specs.MacLaw.{MacsDecideInRuns}
+
+-- ---- what is known of the meters
+
+part_tells : (part : Fragment) → IsSpeltPart part → IsBytes part.bytes
+part_tells part s = (bytes-append (afl_bytes (fcl_of part.afl) part.afl) part.bytes (each_byte (spelt part) s.bytes)).1
+
+marks_tell : (told : List Told) → Each IsSpeltMark told → All TellsBytes told
+marks_tell [] each = All-nil TellsBytes
+marks_tell (Piece part ∷ told) each = All-cons TellsBytes (Piece part) told (part_tells part each.0) (marks_tell told each.1)
+marks_tell (Tick ∷ told) each = All-cons TellsBytes Tick told tt (marks_tell told each.1)
+marks_tell (Clear ∷ told) each = All-cons TellsBytes Clear told tt (marks_tell told each.1)
+
+abbrev StartTells : Start → Type 0
+StartTells c = All TellsBytes c.told
+
+starts_tell : (starts : List Start) → Each IsStart starts → Each StartTells starts
+starts_tell [] each = tt
+starts_tell (c ∷ starts) each = (marks_tell c.told each.0.told.marks, starts_tell starts each.1)
+
+roster_tells : (bytes : List ℕ) (r : Result Enrolled RosterFault) (known : Known) → roster_of bytes ≡ r → of_roster r ≡ Ok known
+    → Each StartTells known.starts
+roster_tells bytes (Ok r) known read is =
+    let same : fresh_known r ≡ known = cc in
+    subst (λ (k : Known). Each StartTells k.starts) same
+    (starts_tell (fresh_known r).starts (read_is_state bytes (fresh_known r) (rosters_are_states bytes r read)).each)
+roster_tells bytes (Err fault) known read is = absurd (cc is)
+
+known_tells : (form : Form) (bytes : List ℕ) (known : Known) → known_of form bytes ≡ Ok known → Each StartTells known.starts
+known_tells forms.Roster bytes known is = roster_tells bytes (roster_of bytes) known refl is
+known_tells forms.State bytes known is = starts_tell known.starts (read_is_state bytes known is).each
+
+-- ---- what lines tell
+
+texts_say : (texts : List (List ℕ)) → AllSayBytes (map told_of texts)
+texts_say [] = All-nil SaysBytes
+texts_say (text ∷ texts) = All-cons SaysBytes (told_of text) (map told_of texts) (lines_say_bytes text) (texts_say texts)
+
+receivers_say : (receivers : List HeardLines) → All AllSayBytes (map tellings receivers)
+receivers_say [] = All-nil AllSayBytes
+receivers_say (r ∷ receivers) = All-cons AllSayBytes (tellings r) (map tellings receivers) (texts_say r.lines) (receivers_say receivers)
+
+-- ---- the law
+
+each_decides : (own : Address) (all : List (List Telling)) → All AllSayBytes all → (starts : List Start) (slots : List SlotView)
+    → EachWith (IsMetersSlot own all) starts slots → Each StartTells starts → EachWith StoresByMacs starts slots
+each_decides own all says [] [] meters tells = tt
+each_decides own all says [] (slot ∷ slots) meters tells = absurd meters
+each_decides own all says (c ∷ starts) [] meters tells = absurd meters
+each_decides own all says (c ∷ starts) (slot ∷ slots) meters tells =
+    (macs_decide_over_all_receivers own c all slot meters.0 tells.0 says, each_decides own all says starts slots meters.1 tells.1)
+
+pub macs_decide_in_runs : MacsDecideInRuns
+macs_decide_in_runs run h =
+    each_decides h.heard.known.own (map tellings h.heard.receivers) (receivers_say h.heard.receivers) h.heard.known.starts
+    h.heard.world.slots h.session.meters (known_tells run.form run.beginning.before.left h.heard.known h.known_is)

@@ -1,0 +1,5 @@
+pub mod ZerosPut
+pub mod Exact
+pub mod LastFirst
+pub mod Sizes
+pub mod QualifiersPut

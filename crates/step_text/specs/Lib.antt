@@ -1,0 +1,5 @@
+pub mod Said
+pub mod Causes
+pub mod Lines
+pub mod Numbers
+pub mod Ticks

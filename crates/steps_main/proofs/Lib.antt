@@ -1,0 +1,10 @@
+pub mod Counted
+pub mod Events
+pub mod Known
+pub mod Meters
+pub mod Lines
+pub mod EndPieces
+pub mod Ends
+pub mod Wrote
+pub mod Runs
+pub mod Alone
