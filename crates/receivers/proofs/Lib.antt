@@ -18,3 +18,5 @@ pub mod Sessions
 pub mod Stacks
 pub mod Tellings
 pub mod Working
+pub mod MacSessions
+pub mod SaidBytes

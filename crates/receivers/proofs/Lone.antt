@@ -86,7 +86,7 @@ any_map n [] = refl
 any_map n (b ∷ slots) = ap (λ t. (b.start.address.0 == n) || t) (any_map n slots)
 
 -- the class of a step's line, by whether some slot has its address
-step_class : (world : WorldView) (s : Step)
+pub step_class : (world : WorldView) (s : Step)
     → class_by (addresses_in world) (told.Event s.address s.event) ≡ cond (has_slot world.slots s) classes.Own classes.Strange
 step_class world s = class_any (λ (a : Address). a.0 == s.address.0) (addresses_in world)
     ∙ ap (λ b. cond b classes.Own classes.Strange) (any_map s.address.0 world.slots)

@@ -84,7 +84,7 @@ class_more : (is : Class → Bool) (directory : List Address) (heard : List Told
 class_more is directory heard t n h = ap (one_if (is (class_by directory t))) h
     ∙ (sym (one_more (is (class_by directory t)) (count_of is directory heard)) ∙ sym (count-push (λ x. is (class_by directory x)) heard t))
 
-counted : (directory : List Address) (heard : List Told) (t : Told) (n : Counts) → n ≡ counts_of directory heard
+pub counted : (directory : List Address) (heard : List Told) (t : Told) (n : Counts) → n ≡ counts_of directory heard
     → with_class n (class_by directory t) ≡ counts_of directory (heard ++ t ∷ [])
 unfolding counts_of
 counted directory heard t n h = made _ _ _ _ _ _ _ _ _ _
@@ -94,7 +94,7 @@ counted directory heard t n h = made _ _ _ _ _ _ _ _ _ _
     (class_more is_unframed directory heard t n.unframed (ap (λ (m : Counts). m.unframed) h))
     (class_more is_bad directory heard t n.bad (ap (λ (m : Counts). m.bad) h))
 
-counted_none : (directory : List Address) → no_counts ≡ counts_of directory []
+pub counted_none : (directory : List Address) → no_counts ≡ counts_of directory []
 unfolding counts_of
 counted_none directory = refl
 

@@ -17,3 +17,4 @@ pub mod Collected
 pub mod Cuts
 pub mod Parts
 pub mod HeardLines
+pub mod MacLaw

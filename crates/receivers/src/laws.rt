@@ -13,6 +13,7 @@ ghost use Rattle.receivers.specs.Collected.{IsCollected};
 ghost use Rattle.receivers.specs.Cuts.{CutSessionsAreOne};
 ghost use Rattle.receivers.specs.Parts.{PartsAreOfTheWhole, PartsLeaveTheSame, PartsMakeTheWhole};
 ghost use Rattle.receivers.specs.HeardLines.{IsKnown, IsHeardSession};
+ghost use Rattle.receivers.specs.MacLaw.{LinesSayBytes, MacsDecideOverAllReceivers};
 ghost use Rattle.receivers.specs.Orders.{order_of, IsOrderOf, IsOrderedSlot, IsOrderOfStrangers, AreOrderedStrangers};
 ghost use Rattle.stranger_ring.specs.declared.strangers.Heard.{Heard};
 ghost use Rattle.receivers.specs.Run.{ReceiverRun};
@@ -63,6 +64,17 @@ pub fn counters_rise_over_all_receivers()
         ↔ ((option_map (λ f. f.counter) (genuine c (reverse before) x.event) ≡ Some n) × IsAbove n (last_stored c before)) }
     ensures sent { (own : Address) (c : Start) (all : List (List Told)) (slot : SlotView)
         → IsMetersSlot own all c slot → IsRising (Some c.orders.down) (sent_counters slot.journal) }
+{}
+
+/// Every line tells bytes, and nothing else.
+pub fn lines_say_bytes()
+    ensures { LinesSayBytes }
+{}
+
+/// Whichever receivers hear a meter: in mode 7 a message is stored with a counter exactly where it is genuine by its MAC with that counter, under
+/// the meter's keys as they are then, and the counter exceeds the one stored last, or the one known before where none was.
+pub fn macs_decide_over_all_receivers()
+    ensures { MacsDecideOverAllReceivers }
 {}
 
 /// For each cut of the receivers' lines into two sessions, of which the second begins with what is known of the meters behind the first:

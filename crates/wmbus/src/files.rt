@@ -7,9 +7,10 @@ ghost use Rattle.collector_main.specs.Showing.{IsFresh, receiver_count};
 ghost use Rattle.collector_main.specs.Words.{plan_of};
 ghost use Rattle.wmbus.specs.Exit.{IsUnopened};
 
-use crate::nodes::differ;
+use crate::nodes::{differ, next_differs, room_of};
 use crate::session::end;
-use collector_main::{Plan, Receiver, Status};
+use crate::watched::WatchedSource;
+use collector_main::{Plan, Receiver, Status, StepsPlan};
 use outer_io::{StdSink, StdSource};
 use program_words::cannot_open;
 use std::fs::{File, Files};
@@ -23,11 +24,24 @@ const PRIVATE: u32 = 0o600;
 
 /// What a plan reads and writes but for the report.
 #[derive(Drop)]
-pub(crate) struct Opened {
-    pub(crate) beginning: StdSource,
+pub(crate) struct Opened<'r, R: Eprint> {
+    pub(crate) beginning: WatchedSource<'r, R>,
     pub(crate) next: StdSink,
     pub(crate) readings: StdSink,
-    pub(crate) receivers: Vec<Receiver<StdSource, StdSink>>,
+    pub(crate) receivers: Receivers<'r, R>,
+}
+
+/// The receivers of a plan.
+type Receivers<'r, R> = Vec<Receiver<WatchedSource<'r, R>, StdSink>>;
+
+/// What `steps` reads and writes but for what is told.
+#[derive(Drop)]
+pub(crate) struct StepsFiles {
+    pub(crate) beginning: StdSource,
+    pub(crate) next: StdSink,
+    pub(crate) receiver: StdSource,
+    // How many bytes of what is told may wait.
+    pub(crate) room: usize,
 }
 
 // The file of this name, to be read.
@@ -60,6 +74,16 @@ fn open_to_write<R: Eprint + Files<File = File>>(
     }
 }
 
+// Files that take numbers of standard streams with which the program was started closed. A file that was opened before and these take all of
+// them, so that nothing that is printed goes into a file that is written; they can't be written, and so what is printed fails as over a
+// closed stream.
+fn taken_streams<R: Files<File = File>>(rt: &R) -> (Option<File>, Option<File>) {
+    (
+        File::open(rt, "/dev/null").ok(),
+        File::open(rt, "/dev/null").ok(),
+    )
+}
+
 fn no_memory(rt: &impl Eprint) -> ExitCode
     ensures { IsUnopened (exit_status result) }
 {
@@ -67,10 +91,10 @@ fn no_memory(rt: &impl Eprint) -> ExitCode
 }
 
 // One more receiver, over a source of which nothing was taken.
-fn add_receiver<R: Eprint>(
-    rt: &R,
-    receivers: &mut Vec<Receiver<StdSource, StdSink>>,
-    rx: StdSource,
+fn add_receiver<'r, R: Eprint>(
+    rt: &'r R,
+    receivers: &mut Receivers<'r, R>,
+    rx: WatchedSource<'r, R>,
     tx: StdSink,
 ) -> Result<(), ExitCode>
     requires { Each IsFresh receivers.old.items }
@@ -84,11 +108,26 @@ fn add_receiver<R: Eprint>(
     Ok(())
 }
 
+// The source of the next receiver, which is watched where it isn't the only one.
+fn watched<'r, R: Eprint>(
+    rt: &'r R,
+    receivers: &Receivers<'r, R>,
+    rx: StdSource,
+    several: bool,
+) -> WatchedSource<'r, R> {
+    if several {
+        WatchedSource::of_receiver(rt, rx, receivers.len() + 1)
+    } else {
+        WatchedSource::silent(rt, rx)
+    }
+}
+
 // Opens the files of receivers, RX and TX in turn.
-fn add_receivers<R: Eprint + Files<File = File>>(
-    rt: &R,
-    receivers: &mut Vec<Receiver<StdSource, StdSink>>,
+fn add_receivers<'r, R: Eprint + Files<File = File>>(
+    rt: &'r R,
+    receivers: &mut Receivers<'r, R>,
     names: &[String],
+    several: bool,
 ) -> Result<(), ExitCode>
     requires { Each IsFresh receivers.old.items }
     ensures fresh { OnOk result (Each IsFresh receivers.new.items) }
@@ -98,24 +137,24 @@ fn add_receivers<R: Eprint + Files<File = File>>(
     let [rx, tx, later @ ..] = names else {
         return Ok(());
     };
-    let rx = open_to_read(rt, rx.as_str())?;
+    let rx = watched(rt, receivers, open_to_read(rt, rx.as_str())?, several);
     let tx = open_to_write(rt, tx.as_str(), PLAIN)?;
     add_receiver(rt, receivers, rx, tx)?;
-    add_receivers(rt, receivers, later)
+    add_receivers(rt, receivers, later, several)
 }
 
 // Opens the state and the receiver of `hear`.
-fn open_hear<R: Eprint + Files<File = File> + AllocGlobal>(
-    rt: &R,
+fn open_hear<'r, R: Eprint + Files<File = File> + AllocGlobal>(
+    rt: &'r R,
     beginning: &str,
     rx: &str,
-) -> Result<Opened, ExitCode>
+) -> Result<Opened<'r, R>, ExitCode>
     ensures fresh { IfOk result (λ files. Each IsFresh files.receivers.items) }
     ensures count { IfOk result (λ files. vec_len files.receivers ≡ 1) }
     ensures unopened { IfErr result (λ code. IsUnopened (exit_status code)) }
 {
-    let beginning = open_to_read(rt, beginning)?;
-    let rx = open_to_read(rt, rx)?;
+    let beginning = WatchedSource::silent(rt, open_to_read(rt, beginning)?);
+    let rx = WatchedSource::silent(rt, open_to_read(rt, rx)?);
     let mut receivers = Vec::new(rt.alloc());
     add_receiver(rt, &mut receivers, rx, StdSink::nothing())?;
     Ok(Opened {
@@ -128,27 +167,23 @@ fn open_hear<R: Eprint + Files<File = File> + AllocGlobal>(
 
 // Opens all files of `collect` or `continue`, in the order of the words. What is left for the next session has keys, so where it is new its
 // owner alone may read it.
-fn open_receivers<R: Eprint + Files<File = File> + AllocGlobal>(
-    rt: &R,
+fn open_receivers<'r, R: Eprint + Files<File = File> + AllocGlobal>(
+    rt: &'r R,
     beginning: &str,
     next: &str,
     readings: &str,
     names: &[String],
-) -> Result<Opened, ExitCode>
+) -> Result<Opened<'r, R>, ExitCode>
     ensures fresh { IfOk result (λ files. Each IsFresh files.receivers.items) }
     ensures count { IfOk result (λ files. vec_len files.receivers ≡ length names.now / 2) }
     ensures unopened { IfErr result (λ code. IsUnopened (exit_status code)) }
 {
-    let beginning = open_to_read(rt, beginning)?;
-
-    // Where the program was started with standard streams closed, their numbers would be those of files. The beginning and these take
-    // them, so that nothing that is printed goes into a file that is written; they can't be written, and so the report fails as over a closed
-    // stream.
-    let _streams = (File::open(rt, "/dev/null"), File::open(rt, "/dev/null"));
+    let beginning = WatchedSource::silent(rt, open_to_read(rt, beginning)?);
+    let _streams = taken_streams(rt);
     let next = open_to_write(rt, next, PRIVATE)?;
     let readings = open_to_write(rt, readings, PLAIN)?;
     let mut receivers = Vec::new(rt.alloc());
-    add_receivers(rt, &mut receivers, names)?;
+    add_receivers(rt, &mut receivers, names, names.len() > 2)?;
     Ok(Opened {
         beginning,
         next,
@@ -158,10 +193,10 @@ fn open_receivers<R: Eprint + Files<File = File> + AllocGlobal>(
 }
 
 // The same of all words, the command among them.
-fn open_named<R: Eprint + Files<File = File> + AllocGlobal>(
-    rt: &R,
+fn open_named<'r, R: Eprint + Files<File = File> + AllocGlobal>(
+    rt: &'r R,
     command: &[String],
-) -> Result<Opened, ExitCode>
+) -> Result<Opened<'r, R>, ExitCode>
     requires { 6 ≤ length command.now }
     ensures fresh { IfOk result (λ files. Each IsFresh files.receivers.items) }
     ensures count { IfOk result (λ files. vec_len files.receivers ≡ (length command.now - 4) / 2) }
@@ -180,12 +215,12 @@ fn open_named<R: Eprint + Files<File = File> + AllocGlobal>(
 }
 
 // A made session reads and writes no file but the standard output.
-fn open_nothing<R: AllocGlobal>(rt: &R) -> Opened
+fn open_nothing<'r, R: Eprint + AllocGlobal>(rt: &'r R) -> Opened<'r, R>
     ensures fresh { Each IsFresh result.receivers.items }
     ensures count { vec_len result.receivers ≡ 0 }
 {
     Opened {
-        beginning: StdSource::nothing(),
+        beginning: WatchedSource::silent(rt, StdSource::nothing()),
         next: StdSink::nothing(),
         readings: StdSink::nothing(),
         receivers: Vec::new(rt.alloc()),
@@ -194,11 +229,11 @@ fn open_nothing<R: AllocGlobal>(rt: &R) -> Opened
 
 // Opens the files that the words name, in their order; those that are written are made empty. What can't be opened is said, and is
 // status 11; want of memory is 10.
-fn open_all<R: Eprint + Files<File = File> + AllocGlobal>(
-    rt: &R,
+fn open_all<'r, R: Eprint + Files<File = File> + AllocGlobal>(
+    rt: &'r R,
     command: &[String],
     plan: Plan,
-) -> Result<Opened, ExitCode>
+) -> Result<Opened<'r, R>, ExitCode>
     requires { plan_of (map string_bytes command.now) ≡ Ok plan }
     ensures fresh { IfOk result (λ files. Each IsFresh files.receivers.items) }
     ensures count { IfOk result (λ files. vec_len files.receivers ≡ receiver_count plan) }
@@ -215,11 +250,11 @@ fn open_all<R: Eprint + Files<File = File> + AllocGlobal>(
 /// Opens the files that the words name, in their order; those that are written are made empty. What can't be opened is said, and is
 /// status 11; want of memory is 10. Where two words name one file nothing is made empty; where they name one that is only then made, it
 /// stays empty.
-pub(crate) fn open_apart<R: Eprint + Files<File = File> + AllocGlobal>(
-    rt: &R,
+pub(crate) fn open_apart<'r, R: Eprint + Files<File = File> + AllocGlobal>(
+    rt: &'r R,
     command: &[String],
     plan: Plan,
-) -> Result<Opened, ExitCode>
+) -> Result<Opened<'r, R>, ExitCode>
     requires { plan_of (map string_bytes command.now) ≡ Ok plan }
     ensures fresh { IfOk result (λ files. Each IsFresh files.receivers.items) }
     ensures count { IfOk result (λ files. vec_len files.receivers ≡ receiver_count plan) }
@@ -229,4 +264,72 @@ pub(crate) fn open_apart<R: Eprint + Files<File = File> + AllocGlobal>(
     let files = open_all(rt, command, plan)?;
     differ(rt, command, plan)?;
     Ok(files)
+}
+
+// Opens the files of `steps`, in the order of the words. What is left for the next session has keys, so where it is new its owner alone may
+// read it.
+fn open_steps<R: Eprint + Files<File = File>>(
+    rt: &R,
+    plan: StepsPlan,
+    state: &str,
+    next: &str,
+    rx: &str,
+    input: StdSource,
+) -> Result<StepsFiles, ExitCode>
+    ensures { IfErr result (λ code. IsUnopened (exit_status code)) }
+{
+    let beginning = open_to_read(rt, state)?;
+    let _streams = taken_streams(rt);
+    let next = if plan.leaves_next {
+        open_to_write(rt, next, PRIVATE)?
+    } else {
+        StdSink::nothing()
+    };
+    let receiver = if plan.hears_file {
+        open_to_read(rt, rx)?
+    } else {
+        input
+    };
+    Ok(StepsFiles {
+        beginning,
+        next,
+        receiver,
+        room: room_of(rt, plan, rx),
+    })
+}
+
+// The same where no other word leads to NEXT, before and after.
+fn open_different<R: Eprint + Files<File = File>>(
+    rt: &R,
+    plan: StepsPlan,
+    state: &str,
+    next: &str,
+    rx: &str,
+    input: StdSource,
+) -> Result<StepsFiles, ExitCode>
+    ensures { IfErr result (λ code. IsUnopened (exit_status code)) }
+{
+    next_differs(rt, plan, state, next, rx)?;
+    let files = open_steps(rt, plan, state, next, rx, input)?;
+    next_differs(rt, plan, state, next, rx)?;
+    Ok(files)
+}
+
+/// Opens the files that the words of `steps` name, in their order; NEXT is made empty. What can't be opened, and a name that leads to the
+/// file NEXT as well, is said, and is status 11.
+pub(crate) fn open_steps_apart<R: Eprint + Files<File = File>>(
+    rt: &R,
+    command: &[String],
+    plan: StepsPlan,
+    input: StdSource,
+) -> Result<StepsFiles, ExitCode>
+    requires { length command.now ≡ 4 }
+    ensures { IfErr result (λ code. IsUnopened (exit_status code)) }
+{
+    match command {
+        [_, state, next, rx] => {
+            open_different(rt, plan, state.as_str(), next.as_str(), rx.as_str(), input)
+        }
+        _ => unreachable!(),
+    }
 }

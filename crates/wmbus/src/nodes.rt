@@ -3,7 +3,7 @@ ghost use Rattle.std.specs.Prelude.{IfErr};
 ghost use Rattle.std.specs.Process.{exit_status};
 ghost use Rattle.wmbus.specs.Exit.{IsUnopened};
 
-use collector_main::{Plan, is_written};
+use collector_main::{Plan, StepsPlan, is_written};
 use std::fs::{File, Files};
 use std::os::unix::fs::MetadataExt;
 use std::process::ExitCode;
@@ -14,6 +14,9 @@ struct Node {
     device: u64,
     number: u64,
 }
+
+/// How many bytes may wait before they are written, where a regular file is heard.
+const ROOM: usize = 16384;
 
 // Where the regular file of this name lies, if there is one.
 fn node_of<R: Files<File = File>>(rt: &R, name: &str) -> Option<Node> {
@@ -52,6 +55,14 @@ fn named_twice<'a, R: Files<File = File>>(rt: &R, names: &'a [String]) -> Option
     None
 }
 
+// Refuses the file of this name.
+fn named_twice_exit(rt: &impl Eprint, name: &str) -> ExitCode
+    ensures { IsUnopened (exit_status result) }
+{
+    let _ = eprintln!(rt; "wmbus: the file {name} is named twice");
+    ExitCode::from(11)
+}
+
 /// Refuses a session in threads of which two words name one regular file that is written, and says which.
 pub(crate) fn differ<R: Eprint + Files<File = File>>(
     rt: &R,
@@ -63,11 +74,42 @@ pub(crate) fn differ<R: Eprint + Files<File = File>>(
     match (plan, command) {
         (Plan::Collect(_) | Plan::Continue(_), [_, names @ ..]) => match named_twice(rt, names) {
             None => Ok(()),
-            Some(name) => {
-                let _ = eprintln!(rt; "wmbus: the file {name} is named twice");
-                Err(ExitCode::from(11))
-            }
+            Some(name) => Err(named_twice_exit(rt, name)),
         },
         _ => Ok(()),
     }
+}
+
+/// How many bytes of what is told of a receiver may wait: none but where it is a regular file, of which nobody waits for an answer.
+pub(crate) fn room_of<R: Files<File = File>>(rt: &R, plan: StepsPlan, rx: &str) -> usize {
+    if plan.hears_file && node_of(rt, rx).is_some() {
+        ROOM
+    } else {
+        0
+    }
+}
+
+/// Refuses steps of which STATE or RX leads to the regular file NEXT, which is written.
+pub(crate) fn next_differs<R: Eprint + Files<File = File>>(
+    rt: &R,
+    plan: StepsPlan,
+    state: &str,
+    next: &str,
+    rx: &str,
+) -> Result<(), ExitCode>
+    ensures { IfErr result (λ code. IsUnopened (exit_status code)) }
+{
+    if !plan.leaves_next {
+        return Ok(());
+    }
+    let Some(node) = node_of(rt, next) else {
+        return Ok(());
+    };
+    if node_of(rt, state) == Some(node) {
+        return Err(named_twice_exit(rt, next));
+    }
+    if plan.hears_file && node_of(rt, rx) == Some(node) {
+        return Err(named_twice_exit(rt, next));
+    }
+    Ok(())
 }
