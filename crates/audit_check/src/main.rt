@@ -1,12 +1,12 @@
 //! The program `audit_check`: opens the files that its words name, and audits a report.
 #![tactic(auto)]
 
-ghost use Rattle.std.specs.Prelude.{◌≡◌, ◌+◌, [], true, false, length, map, vec_len, IsTrue, IfOk, IfErr};
+ghost use Rattle.std.specs.Prelude.{◌≡◌, ◌+◌, [], true, false, length, map, vec_len, is_some, IsTrue, IfOk, IfErr};
 ghost use Rattle.std.specs.String.{string_bytes};
 ghost use Rattle.std.specs.Process.{exit_status};
 ghost use Rattle.outer_io.specs.Shown.{source_change, sink_change};
 ghost use Rattle.audit_check_main.specs.declared.status.AuditStatus.{AuditStatus};
-ghost use Rattle.audit_check_main.specs.Run.{IsRun, source_changes, are_files};
+ghost use Rattle.audit_check_main.specs.Run.{IsRun, next_change, source_changes, are_files, file_words, judges_next};
 ghost use Rattle.audit_check_main.specs.Statuses.{code_of};
 ghost use Rattle.program_words.specs.OwnTexts.{asks_for_text, IsTold};
 ghost use Rattle.audit_check.specs.Exit.{IsRunExit, IsUnopened};
@@ -20,24 +20,27 @@ use std::process::ExitCode;
 const HELP: &str =
     "audit_check: checks a printed session against its state and what the receivers heard
 
-usage: audit_check STATE REPORT RX..
+usage: audit_check [--next NEXT] STATE REPORT RX..
        audit_check --help
        audit_check --version
 
 STATE, which may be a roster, and REPORT are the files of a session, RX.. its 1 to
 16 receivers' files in their order. On the standard output stands `yes` where the
 report is just what a collector prints of them, each receiver heard to its end, in
-the order that the report tells; else `no` and the first cause:
+the order that the report tells, and NEXT, where --next gives one, is just the state
+that this session leaves to the next one; else `no` and the first cause:
 roster LINE CAUSE      STATE is no state, and this is its first faulty line as a roster
 state LINE CAUSE       the first faulty line of the state
 over W                 receiver W goes past its limit of lines or bytes
 form LINE              this line of the report is out of form
 order LIST PLACE       this list, from 0, isn't the order of its lines
 text PLACE             the report differs from the session's text at this byte
+next LINE PLACE        NEXT differs from the state that the session leaves in this line,
+                       at this byte of the whole file, or ends there
 
 exit status: 0 yes, 12 no, 2 faulty words, 4 state not read, 5 receiver not
 read, 7 answer not written, 8 report too long, 10 no memory, 11 a file that
-can't be opened, 13 report not read
+can't be opened, 13 report not read, 14 NEXT not read
 
 docs/FORMATS.md says what each fault, refusal and message means and what to do about
 it; docs/audit_check.1 is the man page.
@@ -83,11 +86,14 @@ fn answer<R: Eprint + AllocGlobal, S: Source, K: Sink>(
     rt: &R,
     command: &[String],
     state: &mut S,
+    next: &mut Option<S>,
     report: &mut S,
     inputs: &mut Vec<S>,
     out: &mut K,
 ) -> ExitCode
-    requires count { are_files (map string_bytes command.now) ≡ true → vec_len inputs.old + 2 ≡ length command.now }
+    requires count { are_files (map string_bytes command.now) ≡ true →
+        vec_len inputs.old + 2 ≡ length (file_words (map string_bytes command.now)) }
+    requires next { are_files (map string_bytes command.now) ≡ true → is_some next.old ≡ judges_next (map string_bytes command.now) }
     requires empty { IsTrue K.tells → K.written out.old ≡ [] }
 
     // The exit status is that of a run over these files, and one of those that the program has for a run.
@@ -96,6 +102,7 @@ fn answer<R: Eprint + AllocGlobal, S: Source, K: Sink>(
       sinks_tell = K.tells;
       words = map string_bytes command.now;
       state = source_change S.Source state.old state.new;
+      next = next_change S.Source next.old next.new;
       report = source_change S.Source report.old report.new;
       inputs = source_changes S.Source inputs.old.items inputs.new.items;
       out = sink_change K.Sink out.old out.new;
@@ -103,8 +110,26 @@ fn answer<R: Eprint + AllocGlobal, S: Source, K: Sink>(
     }) }
     ensures exit { are_files (map string_bytes command.now) ≡ true → IsRunExit (exit_status result) }
 {
-    let status = audit_run(rt.alloc(), command, state, report, inputs, out);
+    let status = audit_run(rt.alloc(), command, state, next, report, inputs, out);
     end(rt, status)
+}
+
+// Opens the state that is judged, if one is named, or answers the exit of the program where it can't be.
+fn open_next<R: Eprint + Files<File = File>>(
+    rt: &R,
+    name: Option<&str>,
+) -> Result<Option<StdSource>, ExitCode>
+    ensures given { IfOk result (λ next. is_some next ≡ is_some name.entry) }
+    ensures stops { IfErr result (λ exit. IsUnopened (exit_status exit)) }
+    ensures exit { IfErr result (λ exit. IsRunExit (exit_status exit)) }
+{
+    let Some(name) = name else {
+        return Ok(None);
+    };
+    match File::open(rt, name) {
+        Ok(file) => Ok(Some(StdSource::file(file))),
+        Err(_) => Err(cannot_open(rt)),
+    }
 }
 
 // Opens files, or answers the exit of the program where one can't be.
@@ -146,6 +171,10 @@ fn perform<R: Print + Eprint + Files<File = File> + AllocGlobal>(
     let Some(named) = files_named(command) else {
         return end(rt, AuditStatus::Words);
     };
+    let mut next = match open_next(rt, named.next) {
+        Ok(next) => next,
+        Err(exit) => return exit,
+    };
     let Ok(state) = File::open(rt, named.state) else {
         return cannot_open(rt);
     };
@@ -157,7 +186,15 @@ fn perform<R: Print + Eprint + Files<File = File> + AllocGlobal>(
         Err(exit) => return exit,
     };
     let (mut state, mut report) = (StdSource::file(state), StdSource::file(report));
-    answer(rt, command, &mut state, &mut report, &mut inputs, &mut out)
+    answer(
+        rt,
+        command,
+        &mut state,
+        &mut next,
+        &mut report,
+        &mut inputs,
+        &mut out,
+    )
 }
 
 // What it means that the words can't be had.

@@ -1,12 +1,13 @@
 -- Sources that are read one after another.
 use Rattle.std.proofs.Common.{◌≡◌, ℕ, zero, suc, ◌+◌, ◌<◌, ◌≤◌, List, [], ◌∷◌, ◌++◌, length, take, drop, get_or, set, IsTrue, Bool, true, false, cond, Result, Ok, Err, is_ok, is_err, inl, inr, refl, sym, ap, ◌∙◌, subst, arith, append_assoc, append-nil, length-append}
+use Rattle.std.specs.Prelude.{Option, Some, None, IfSome}
 use Rattle.std.specs.List.{enumerate_from}
 use Rattle.std.proofs.lemmas.List.{take_more, take-append-drop}
 use Rattle.std.proofs.Math.Seq.{take-length}
 use Rattle.outer_io.specs.declared.sources.Source as sources
 use Rattle.outer_io.specs.Each.{Each, EachWith, PassUntil, IsFirst}
-use Rattle.outer_io.specs.Shown.{source_change, ReadFailed, LosesNothing}
-use Rattle.audit_check_main.specs.Run.{IsReadPast, source_changes}
+use Rattle.outer_io.specs.Shown.{Change, SourceShown, source_change, ReadFailed, LosesNothing}
+use Rattle.audit_check_main.specs.Run.{IsReadPast, WasRead, next_change, source_changes}
 
 -- ---- lists
 
@@ -21,10 +22,22 @@ each_with_push P [] (b ∷ ys) x y h k = absurd h
 each_with_push P (a ∷ xs) [] x y h k = absurd h
 each_with_push P (a ∷ xs) (b ∷ ys) x y h k = (h.0, each_with_push P xs ys x y h.1 k)
 
-pass_behind : {A : Type 0} (Q : A → Type 0) (n m : ℕ) (xs : List A) (x : A) (ys : List A) → m ≡ n + length xs → Q x
-    → PassUntil (λ (y : ℕ × A). Unit {0}) (λ (y : ℕ × A). (y.0 ≡ m) × Q y.1) (enumerate_from n (xs ++ x ∷ ys))
-pass_behind Q n m [] x ys e h = inl (omega arith, h)
-pass_behind Q n m (a ∷ xs) x ys e h = inr (tt, pass_behind Q (n + 1) m xs x ys (omega arith) h)
+pass_behind : {A : Type 0} (P Q : A → Type 0) (n m : ℕ) (xs : List A) (x : A) (ys : List A) → Each P xs → m ≡ n + length xs → Q x
+    → PassUntil (λ (y : ℕ × A). P y.1) (λ (y : ℕ × A). (y.0 ≡ m) × Q y.1) (enumerate_from n (xs ++ x ∷ ys))
+pass_behind P Q n m [] x ys each e h = inl (omega arith, h)
+pass_behind P Q n m (a ∷ xs) x ys each e h = inr (each.0, pass_behind P Q (n + 1) m xs x ys each.1 (omega arith) h)
+
+-- inputs of which these bytes were read were read
+all_read : (T : Type 0) (sources : List (Change SourceShown)) (read : List (List ℕ)) → (T → EachWith (IsReadPast 67108864) sources read)
+    → Each (λ source. T → WasRead source) sources
+all_read T [] read h = tt
+all_read T (source ∷ sources) [] h = ((λ t. absurd (h t)), none sources)
+  where
+    none : (later : List (Change SourceShown)) → Each (λ source. T → WasRead source) later
+    none [] = tt
+    none (later ∷ rest) = ((λ t. absurd (h t)), none rest)
+all_read T (source ∷ sources) (bytes ∷ read) h =
+    ((λ t. record { bytes = bytes; past = (h t).0 }), all_read T sources read (λ t. (h t).1))
 
 drop_more : {X : Type 0} (i : ℕ) (xs : List X) (d : X) → i < length xs → drop i xs ≡ get_or xs i d ∷ drop (i + 1) xs
 drop_more i [] d h = absurd (omega arith)
@@ -66,6 +79,10 @@ module _ {S : Type 0} (s : sources.Ghosts S) where
   length-changes [] (x' ∷ xs') e = absurd (omega arith)
   length-changes (x ∷ xs) [] e = absurd (omega arith)
   length-changes (x ∷ xs) (x' ∷ xs') e = ap suc (length-changes xs xs' (omega arith))
+
+  pub next_untouched : (next : Option S) → IfSome (next_change s next next) LosesNothing
+  next_untouched None = tt
+  next_untouched (Some x) = refl
 
   pub untouched : (xs : List S) → Each LosesNothing (source_changes s xs xs)
   untouched [] = tt
@@ -158,11 +175,12 @@ module _ {S : Type 0} (s : sources.Ghosts S) where
         (lost t, untouched (drop (place + 1) olds)))
 
     pub inputs_failed : ReadFailed (source_change s x x')
-        → IsFirst (λ source. Unit {0}) ReadFailed (place + 1) (source_changes s olds news')
+        → IsFirst (λ source. IsTrue s.tells → WasRead source) ReadFailed (place + 1) (source_changes s olds news')
     inputs_failed failed =
-        subst (λ c. IsFirst (λ source. Unit {0}) ReadFailed (place + 1) c) (sym all_changes)
-        (pass_behind ReadFailed 1 (place + 1) (source_changes s (take place olds) so.front) (source_change s x x')
-        (source_changes s (drop (place + 1) olds) (drop (place + 1) olds))
+        subst (λ c. IsFirst (λ source. IsTrue s.tells → WasRead source) ReadFailed (place + 1) c) (sym all_changes)
+        (pass_behind (λ source. IsTrue s.tells → WasRead source) ReadFailed 1 (place + 1) (source_changes s (take place olds) so.front)
+        (source_change s x x') (source_changes s (drop (place + 1) olds) (drop (place + 1) olds))
+        (all_read (IsTrue s.tells) (source_changes s (take place olds) so.front) read so.each)
         (let l = length-changes (take place olds) so.front long in let m = long in let n = so.count in omega arith) failed)
 
   whole_changes : (n : ℕ) (olds news : List S) (read : List (List ℕ)) (so : InputsSo n olds news read) → length olds ≤ n

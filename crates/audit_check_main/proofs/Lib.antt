@@ -5,6 +5,7 @@ pub mod HeardLists
 pub mod InForm
 pub mod InputReads
 pub mod KeptLines
+pub mod Leavings
 pub mod Notes
 pub mod OneVerdict
 pub mod OrderChecks

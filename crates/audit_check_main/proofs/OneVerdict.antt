@@ -1,5 +1,6 @@
 -- At most one verdict holds of a report.
 use Rattle.std.proofs.Common.{◌≡◌, ◌==◌, ℕ, zero, suc, ◌+◌, ◌<◌, ◌≤◌, Bool, true, false, cond, List, [], ◌∷◌, ◌++◌, map, filter, length, take, get_or, reverse, Result, Ok, Err, IfOk, ⊎_elim, refl, sym, ap, ◌∙◌, subst, arith, append_assoc, append-nil, length-append}
+use Rattle.std.specs.Prelude.{Some, IfSome}
 use Rattle.std.specs.List.{slice_get, enumerate_from}
 use Rattle.std.proofs.lemmas.Bool.{cases_lt}
 use Rattle.std.proofs.lemmas.List.{length-map, map-append}
@@ -24,8 +25,9 @@ use Rattle.audit_check_main.specs.declared.verdict.Cause.{Cause}
 use Rattle.audit_check_main.specs.declared.verdict.Cause.TheVariants as causes
 use Rattle.audit_check_main.specs.declared.verdict.Verdict.{Verdict}
 use Rattle.audit_check_main.specs.declared.verdict.Verdict.TheVariants.{Yes, No}
-use Rattle.audit_check_main.specs.Audit.{Audited, heard_of, report_of, IsReadable, IsInForm, IsOrdered, IsFaithful, IsUnfaithfulAt, IsCause, IsVerdict}
+use Rattle.audit_check_main.specs.Audit.{Audited, heard_of, report_of, IsReadable, IsInForm, IsOrdered, IsFaithful, IsUnfaithfulAt, IsOtherwiseLeftAt, IsCause, IsVerdict}
 use Rattle.audit_check_main.specs.Difference.{DiffersAt}
+use Rattle.audit_check_main.specs.Leaving.{IsLeftBy, left_text, line_at}
 use Rattle.audit_check_main.specs.Lists.{is_faulty, AreInForm, IsFirstFaulty, lists_printed}
 use Rattle.audit_check_main.specs.Order.{wanted, AreNext, IsRight, IsWrongAt, IsFirstWrong}
 use Rattle.audit_check_main.proofs.ReadLists.{as_many-all}
@@ -300,9 +302,23 @@ module _ (a : Audited) where
       let worlds = one_world a r world' world (subst (λ e. IsOrdered a e world') same k) h in
       (λ i. report_of a (same i) (worlds i))
 
-  text_not : (place : ℕ) → IsUnfaithfulAt place a → IsFaithful a → ⊥
-  text_not place h k =
-      let same : a.report ≡ report_of a h.known h.world = k.text ∙ same_text h.known k.known h.world k.world h.ordered k.ordered in
+  text_not : (place : ℕ) (r : Known) (world : WorldView) → IsUnfaithfulAt place a → IsOrdered a r world → a.report ≡ report_of a r world → ⊥
+  text_not place r world h ordered text =
+      let same : a.report ≡ report_of a h.known h.world = text ∙ same_text h.known r h.world world h.ordered ordered in
+      h.differs.differs (ap (λ t. slice_get t place) same)
+
+  same_left : (r r' : Known) (world world' : WorldView) → IsOrdered a r world → IsOrdered a r' world'
+      → left_text r'.own world'.slots ≡ left_text r.own world.slots
+  same_left r r' world world' h k =
+      let same = same_state a r r' h.form.readable.state_is k.form.readable.state_is in
+      let worlds = one_world a r world' world (subst (λ e. IsOrdered a e world') same k) h in
+      (λ i. left_text (same i).own (worlds i).slots)
+
+  left_not : (line place : ℕ) → IsOtherwiseLeftAt line place a → IsFaithful a → ⊥
+  left_not line place h k =
+      let left : IsLeftBy k.known.own k.world.slots h.next = subst (λ n. IfSome n (IsLeftBy k.known.own k.world.slots)) h.next_is k.left in
+      let same : h.next ≡ left_text h.known.own h.world.slots =
+      left.text_is ∙ same_left h.known k.known h.world k.world h.ordered k.ordered in
       h.differs.differs (ap (λ t. slice_get t place) same)
 
   not_faithful : (c : Cause) → IsCause a c → IsFaithful a → ⊥
@@ -311,7 +327,8 @@ module _ (a : Audited) where
   not_faithful (causes.Over w) h k = over_not w k.known h.2 k.ordered.form.readable
   not_faithful (causes.Form line) h k = form_not line h.0 k.known h.1 h.2 k.ordered.form
   not_faithful (causes.Order list place) h k = order_not list place h.0 k.known k.world h.1 h.2 k.ordered
-  not_faithful (causes.Text place) h k = text_not place h k
+  not_faithful (causes.Text place) h k = text_not place k.known k.world h k.ordered k.text
+  not_faithful (causes.Next line place) h k = left_not line place h k
 
   one_order : (l p m q : ℕ) → IsCause a (causes.Order l p) → IsCause a (causes.Order m q) → causes.Order l p ≡ causes.Order m q
   one_order l p m q h k =
@@ -329,6 +346,17 @@ module _ (a : Audited) where
       ap causes.Text (one_difference a.report (report_of a h.known h.world) p q h.differs
       (subst (λ t. DiffersAt q a.report t) (same_text h.known k.known h.world k.world h.ordered k.ordered) k.differs))
 
+  one_left : (l m p q : ℕ) → IsOtherwiseLeftAt l p a → IsOtherwiseLeftAt m q a → causes.Next l p ≡ causes.Next m q
+  one_left l m p q h k =
+      let both : Some k.next ≡ Some h.next = sym k.next_is ∙ h.next_is in
+      let next : k.next ≡ h.next = cc in
+      let place : p ≡ q =
+      one_difference h.next (left_text h.known.own h.world.slots) p q h.differs
+      (subst (λ t. DiffersAt q h.next t) (same_left h.known k.known h.world k.world h.ordered k.ordered)
+      (subst (λ n. DiffersAt q n (left_text k.known.own k.world.slots)) next k.differs)) in
+      let line : l ≡ m = h.line_is ∙ ((λ i. line_at (place i) (sym next i)) ∙ sym k.line_is) in
+      (λ i. causes.Next (line i) (place i))
+
   one_form : (l m : ℕ) → IsCause a (causes.Form l) → IsCause a (causes.Form m) → causes.Form l ≡ causes.Form m
   one_form l m h k =
       let same = same_state a h.0 k.0 h.1.state_is k.1.state_is in
@@ -342,12 +370,14 @@ module _ (a : Audited) where
   one_cause (causes.Roster line cause) (causes.Form l) h k = absurd (no_state k.0 h k.1.state_is)
   one_cause (causes.Roster line cause) (causes.Order l p) h k = absurd (no_state k.0 h k.1.readable.state_is)
   one_cause (causes.Roster line cause) (causes.Text p) h k = absurd (no_state k.known h k.ordered.form.readable.state_is)
+  one_cause (causes.Roster line cause) (causes.Next l p) h k = absurd (no_state k.known h k.ordered.form.readable.state_is)
   one_cause (causes.State line cause) (causes.Roster line' cause') h k = absurd cc
   one_cause (causes.State line cause) (causes.State line' cause') h k = cc
   one_cause (causes.State line cause) (causes.Over w) h k = absurd (no_state k.0 h k.1)
   one_cause (causes.State line cause) (causes.Form l) h k = absurd (no_state k.0 h k.1.state_is)
   one_cause (causes.State line cause) (causes.Order l p) h k = absurd (no_state k.0 h k.1.readable.state_is)
   one_cause (causes.State line cause) (causes.Text p) h k = absurd (no_state k.known h k.ordered.form.readable.state_is)
+  one_cause (causes.State line cause) (causes.Next l p) h k = absurd (no_state k.known h k.ordered.form.readable.state_is)
   one_cause (causes.Over w) (causes.Roster line cause) h k = absurd (no_state h.0 k h.1)
   one_cause (causes.Over w) (causes.State line cause) h k = absurd (no_state h.0 k h.1)
   one_cause (causes.Over w) (causes.Over v) h k =
@@ -355,24 +385,35 @@ module _ (a : Audited) where
   one_cause (causes.Over w) (causes.Form l) h k = absurd (over_not w k.0 h.2 k.1)
   one_cause (causes.Over w) (causes.Order l p) h k = absurd (over_not w k.0 h.2 k.1.readable)
   one_cause (causes.Over w) (causes.Text p) h k = absurd (over_not w k.known h.2 k.ordered.form.readable)
+  one_cause (causes.Over w) (causes.Next l p) h k = absurd (over_not w k.known h.2 k.ordered.form.readable)
   one_cause (causes.Form l) (causes.Roster line cause) h k = absurd (no_state h.0 k h.1.state_is)
   one_cause (causes.Form l) (causes.State line cause) h k = absurd (no_state h.0 k h.1.state_is)
   one_cause (causes.Form l) (causes.Over w) h k = absurd (over_not w h.0 k.2 h.1)
   one_cause (causes.Form l) (causes.Form m) h k = one_form l m h k
   one_cause (causes.Form l) (causes.Order m p) h k = absurd (form_not l h.0 k.0 h.1 h.2 k.1)
   one_cause (causes.Form l) (causes.Text p) h k = absurd (form_not l h.0 k.known h.1 h.2 k.ordered.form)
+  one_cause (causes.Form l) (causes.Next m p) h k = absurd (form_not l h.0 k.known h.1 h.2 k.ordered.form)
   one_cause (causes.Order l p) (causes.Roster line cause) h k = absurd (no_state h.0 k h.1.readable.state_is)
   one_cause (causes.Order l p) (causes.State line cause) h k = absurd (no_state h.0 k h.1.readable.state_is)
   one_cause (causes.Order l p) (causes.Over w) h k = absurd (over_not w h.0 k.2 h.1.readable)
   one_cause (causes.Order l p) (causes.Form m) h k = absurd (form_not m k.0 h.0 k.1 k.2 h.1)
   one_cause (causes.Order l p) (causes.Order m q) h k = one_order l p m q h k
   one_cause (causes.Order l p) (causes.Text q) h k = absurd (order_not l p h.0 k.known k.world h.1 h.2 k.ordered)
+  one_cause (causes.Order l p) (causes.Next m q) h k = absurd (order_not l p h.0 k.known k.world h.1 h.2 k.ordered)
   one_cause (causes.Text p) (causes.Roster line cause) h k = absurd (no_state h.known k h.ordered.form.readable.state_is)
   one_cause (causes.Text p) (causes.State line cause) h k = absurd (no_state h.known k h.ordered.form.readable.state_is)
   one_cause (causes.Text p) (causes.Over w) h k = absurd (over_not w h.known k.2 h.ordered.form.readable)
   one_cause (causes.Text p) (causes.Form m) h k = absurd (form_not m k.0 h.known k.1 k.2 h.ordered.form)
   one_cause (causes.Text p) (causes.Order m q) h k = absurd (order_not m q k.0 h.known h.world k.1 k.2 h.ordered)
   one_cause (causes.Text p) (causes.Text q) h k = one_text p q h k
+  one_cause (causes.Text p) (causes.Next m q) h k = absurd (text_not p k.known k.world h k.ordered k.text)
+  one_cause (causes.Next l p) (causes.Roster line cause) h k = absurd (no_state h.known k h.ordered.form.readable.state_is)
+  one_cause (causes.Next l p) (causes.State line cause) h k = absurd (no_state h.known k h.ordered.form.readable.state_is)
+  one_cause (causes.Next l p) (causes.Over w) h k = absurd (over_not w h.known k.2 h.ordered.form.readable)
+  one_cause (causes.Next l p) (causes.Form m) h k = absurd (form_not m k.0 h.known k.1 k.2 h.ordered.form)
+  one_cause (causes.Next l p) (causes.Order m q) h k = absurd (order_not m q k.0 h.known h.world k.1 k.2 h.ordered)
+  one_cause (causes.Next l p) (causes.Text q) h k = absurd (text_not q h.known h.world k h.ordered h.text)
+  one_cause (causes.Next l p) (causes.Next m q) h k = one_left l m p q h k
 
   pub one_verdict : (v w : Verdict) → IsVerdict a v → IsVerdict a w → v ≡ w
   one_verdict Yes Yes h k = refl

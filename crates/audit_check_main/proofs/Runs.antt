@@ -1,5 +1,6 @@
 -- A run by its status.
 use Rattle.std.proofs.Common.{◌≡◌, ◌⊎◌, ◌==◌, ◌^◌, ℕ, ◌+◌, ◌<◌, ◌≤◌, Bool, true, false, List, [], ◌∷◌, length, IsTrue, ⊎_elim, refl, sym, ap, ◌∙◌, subst, arith, length-append}
+use Rattle.std.specs.Prelude.{Option, IfSome}
 use Rattle.std.specs.List.{enumerate_from}
 use Rattle.std.proofs.lemmas.List.Sums.{count_by-le-length}
 use Rattle.std.proofs.lemmas.List.Splits.{length-slice_split}
@@ -12,17 +13,17 @@ use Rattle.audit_check_main.specs.declared.status.AuditStatus.TheVariants as sta
 use Rattle.audit_check_main.specs.declared.verdict.Cause.{Cause}
 use Rattle.audit_check_main.specs.declared.verdict.Verdict.{Verdict}
 use Rattle.audit_check_main.specs.declared.verdict.Verdict.TheVariants.{Yes, No}
-use Rattle.audit_check_main.specs.Run.{Run, are_files, IsReadPast, HasVerdict, IsAnswered, IsUnwritten, IsRun}
+use Rattle.audit_check_main.specs.Run.{Run, are_files, IsReadPast, NextFailed, WasRead, HasVerdict, IsAnswered, IsUnwritten, IsRun}
 use Rattle.audit_check_main.specs.Statuses.{status_of}
 use Rattle.audit_check_main.specs.Texts.{verdict_text}
 
 not_both : (b : Bool) → b ≡ true → b ≡ false → ⊥
 not_both b h k = absurd (let e : true ≡ false = sym h ∙ k in cc)
 
-fails_none : {A : Type 0} (Q : A → Type 0) (n w : ℕ) (xs : List A)
-    → PassUntil (λ (y : ℕ × A). Unit {0}) (λ (y : ℕ × A). (y.0 ≡ w) × Q y.1) (enumerate_from n xs) → Each (λ x. Q x → ⊥) xs → ⊥
-fails_none Q n w [] h all = h
-fails_none Q n w (x ∷ xs) h all = ⊎_elim (λ stop. all.0 stop.1) (λ later. fails_none Q (n + 1) w xs later.1 all.1) h
+fails_none : {A : Type 0} (P Q : A → Type 0) (n w : ℕ) (xs : List A)
+    → PassUntil (λ (y : ℕ × A). P y.1) (λ (y : ℕ × A). (y.0 ≡ w) × Q y.1) (enumerate_from n xs) → Each (λ x. Q x → ⊥) xs → ⊥
+fails_none P Q n w [] h all = h
+fails_none P Q n w (x ∷ xs) h all = ⊎_elim (λ stop. all.0 stop.1) (λ later. fails_none P Q (n + 1) w xs later.1 all.1) h
 
 -- all that a source had was read, where no more than this was
 pub read_all_of : (most : ℕ) (source : Change SourceShown) (bytes : List ℕ) → IsReadPast most source bytes → length bytes ≤ most
@@ -35,8 +36,8 @@ pub read_long_of : (most : ℕ) (source : Change SourceShown) (bytes : List ℕ)
     → most < length source.before.left
 read_long_of most source bytes h long = let whole = ap length h.moved.front ∙ length-append bytes source.now.left in omega arith
 
-module _ (sources_tell sinks_tell : Bool) (words : List (List ℕ)) (state report : Change SourceShown) (inputs : List (Change SourceShown))
-    (out : Change SinkShown) where
+module _ (sources_tell sinks_tell : Bool) (words : List (List ℕ)) (state : Change SourceShown) (next : Option (Change SourceShown))
+    (report : Change SourceShown) (inputs : List (Change SourceShown)) (out : Change SinkShown) where
   abbrev pub run_with : AuditStatus → Run
   run_with status =
       record {
@@ -44,6 +45,7 @@ module _ (sources_tell sinks_tell : Bool) (words : List (List ℕ)) (state repor
         sinks_tell = sinks_tell;
         words = words;
         state = state;
+        next = next;
         report = report;
         inputs = inputs;
         out = out;
@@ -51,7 +53,7 @@ module _ (sources_tell sinks_tell : Bool) (words : List (List ℕ)) (state repor
       }
 
   abbrev pub Keeps : Type 0
-  Keeps = IsTrue sources_tell → LosesNothing state × LosesNothing report × Each LosesNothing inputs
+  Keeps = IsTrue sources_tell → LosesNothing state × IfSome next LosesNothing × LosesNothing report × Each LosesNothing inputs
 
   abbrev pub IsShort : Type 0
   IsShort = IsTrue sources_tell → length report.before.left ≤ 1073741824
@@ -72,6 +74,16 @@ module _ (sources_tell sinks_tell : Bool) (words : List (List ℕ)) (state repor
     refused = λ h. absurd (not_both (are_files words) files h);
     too_long = λ t right long. tt;
     complete = λ t f. absurd (f.state_steady failed);
+    no_loss = keeps;
+    silent = λ h. silent;
+  }
+
+  pub run_next : are_files words ≡ true → NextFailed next → Keeps → IsSilent out → IsRun (run_with statuses.ReadNext)
+  run_next files failed keeps silent = record {
+    caused = failed;
+    refused = λ h. absurd (not_both (are_files words) files h);
+    too_long = λ t right long. tt;
+    complete = λ t f. absurd (f.next_steady failed);
     no_loss = keeps;
     silent = λ h. silent;
   }
@@ -97,13 +109,13 @@ module _ (sources_tell sinks_tell : Bool) (words : List (List ℕ)) (state repor
     silent = λ h. silent;
   }
 
-  pub run_read : (w : ℕ) → are_files words ≡ true → IsShort → IsFirst (λ source. Unit {0}) ReadFailed w inputs → Keeps → IsSilent out
-      → IsRun (run_with (statuses.Read w))
+  pub run_read : (w : ℕ) → are_files words ≡ true → IsShort → IsFirst (λ source. IsTrue sources_tell → WasRead source) ReadFailed w inputs
+      → Keeps → IsSilent out → IsRun (run_with (statuses.Read w))
   run_read w files short failed keeps silent = record {
     caused = failed;
     refused = λ h. absurd (not_both (are_files words) files h);
     too_long = λ t right long. absurd (let s = short t in omega arith);
-    complete = λ t f. absurd (fails_none ReadFailed 1 w inputs failed f.inputs_steady);
+    complete = λ t f. absurd (fails_none (λ source. IsTrue sources_tell → WasRead source) ReadFailed 1 w inputs failed f.inputs_steady);
     no_loss = keeps;
     silent = λ h. silent;
   }

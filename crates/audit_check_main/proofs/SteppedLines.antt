@@ -13,6 +13,7 @@ use Rattle.meter_slots.specs.declared.reading.Reading.{Reading}
 use Rattle.meter_slots.specs.Journal.{Start, SlotView, Legal, last_counter, orders, outcome, readings, stored_counter}
 use Rattle.meter_slots.specs.Laws.{stored_counters}
 use Rattle.meter_slots.specs.Passing.{Passing, IsAfter}
+use Rattle.meter_slots.specs.Resuming.{known_now, last_of, resumed}
 use Rattle.meter_slots.proofs.ReadingLaws.{counters_read}
 use Rattle.command_queue.specs.declared.command.Command.{Command}
 use Rattle.paper.specs.Puts.{Puts}
@@ -182,6 +183,28 @@ rest_put slot start now p q r kept last commands h last_is commands_are one two 
     ∙ ap (λ c. (orders c (reverse slot.journal)).queue.commands) h.same_start) in
     then (subst (λ o. Puts Compares p (text_if (λ x. records_text x.payload) o) q) (last_is ∙ h.last_is) one)
     (subst (λ cs. Puts Compares q (flat_map pending_text cs) r) queue two)
+
+-- the last of some readings, of which the first is one that there is
+last_is : (r : Reading) (later : List Reading) → last_of (Some r) later ≡ slice_get (r ∷ later) (length later)
+last_is r [] = refl
+last_is r (s ∷ later) = last_is s later
+
+last_read : (kept : List Reading) → last_reading kept ≡ last_of None kept
+last_read [] = refl
+last_read (r ∷ later) =
+    ap (slice_get (r ∷ later)) (let e : length (r ∷ later) - 1 ≡ length later = omega arith in e) ∙ sym (last_is r later)
+
+-- what is known of the meter now
+pub known_kept : (slot : SlotView) (start now : Compared) (kept : MeterSteps) (last : Option Reading) (known : Start)
+    → HasStepped slot start kept now → last ≡ kept.last
+    → ((journal : List Entry) → IsAfter journal kept.slot → last ≡ last_of None (readings kept.slot.start journal)
+    → known ≡ resumed kept.slot.start journal)
+    → known ≡ known_now slot
+known_kept slot start now kept last known h last_is known_is =
+    known_is slot.journal h.after
+    (last_is ∙ (h.last_is ∙ (last_read (readings slot.start slot.journal)
+    ∙ ap (λ c. last_of None (readings c slot.journal)) (sym h.same_start))))
+    ∙ ap (λ c. resumed c slot.journal) h.same_start
 
 pub line_kept : (slot : SlotView) (start now : Compared) (kept : MeterSteps) (last : Option ℕ) (down : ℕ) → HasStepped slot start kept now
     → last ≡ kept.slot.kept.last → down ≡ kept.slot.kept.orders.down

@@ -1,6 +1,6 @@
 -- What the parts of an audit come to.
 use Rattle.std.proofs.Common.{◌≡◌, ℕ, zero, suc, ◌+◌, ◌<◌, ◌≤◌, ◌&&◌, ◌||◌, Bool, true, false, cond, List, [], ◌∷◌, ◌++◌, map, length, drop, get_or, reverse, Result, Ok, Err, IfOk, refl, sym, ap, ◌∙◌, subst, arith, length-append}
-use Rattle.std.specs.Prelude.{codes}
+use Rattle.std.specs.Prelude.{codes, Option, Some, None, IfSome}
 use Rattle.std.specs.Str.{all_ascii_digits}
 use Rattle.std.specs.Str.Parse.{digits_value}
 use Rattle.std.specs.Str.Lines.{lines}
@@ -30,6 +30,7 @@ use Rattle.audit_check_main.specs.Audit.{Audited, told_in, heard_out, report_of,
 use Rattle.audit_check_main.specs.Auditing.{IsCompared, IsStepped, IsVerdictBy}
 use Rattle.audit_check_main.specs.Printing.{end_of}
 use Rattle.audit_check_main.specs.Difference.{DiffersAt}
+use Rattle.audit_check_main.specs.Leaving.{IsLeftBy, IsReadBack, left_text}
 use Rattle.audit_check_main.specs.Hearing.{HeardInput, heard_input, tells, no_input, numbers_in_list}
 use Rattle.audit_check_main.specs.Lists.{AreInForm, as_many, lists_printed}
 use Rattle.audit_check_main.specs.Order.{numbers_for, wanted, IsRight, IsFirstWrong}
@@ -210,10 +211,10 @@ list_short n report k =
 
 -- ---- verdicts
 
-module _ (r : Known) (text report : List ℕ) (inputs : List (List ℕ)) (state_is : state_of text ≡ Ok r)
+module _ (r : Known) (text : List ℕ) (next : Option (List ℕ)) (report : List ℕ) (inputs : List (List ℕ)) (state_is : state_of text ≡ Ok r)
     (within : Each (λ input. is_over input ≡ false) inputs) where
   abbrev audited : Audited
-  audited = record { state = text; report = report; inputs = inputs }
+  audited = record { state = text; next = next; report = report; inputs = inputs }
 
   readable : IsReadable audited r
   readable = record { state_is = state_is; within = within }
@@ -269,29 +270,46 @@ module _ (r : Known) (text report : List ℕ) (inputs : List (List ℕ)) (state_
       text_is : report_text (map end_of (map (heard_input r.starts) inputs)) slots strangers ≡ report_of audited r world
       text_is = ap (λ e. report_text e slots strangers) (ends_all r.starts inputs within)
 
-      pub compared_is : (verdict : Verdict)
-          → IsCompared report (report_text (map end_of (map (heard_input r.starts) inputs)) slots strangers) verdict
+      left_by : (n : Option (List ℕ)) → IsReadBack r.own slots → IfSome n (λ t. t ≡ left_text r.own slots)
+          → IfSome n (IsLeftBy r.own slots)
+      left_by None back h = tt
+      left_by (Some t) back h = record { text_is = h; read_back = back }
+
+      pub compared_is : (verdict : Verdict) → IsReadBack r.own slots
+          → IsCompared report (report_text (map end_of (map (heard_input r.starts) inputs)) slots strangers) next (left_text r.own slots)
+          verdict
           → IsVerdict audited verdict
-      compared_is Yes h = record { known = r; world = world; ordered = ordered; text = h ∙ text_is }
-      compared_is (No (causes.Text place)) h =
+      compared_is Yes back h =
+          record { known = r; world = world; ordered = ordered; text = h.0 ∙ text_is; left = left_by next back h.1 }
+      compared_is (No (causes.Text place)) back h =
           record { known = r; world = world; ordered = ordered; differs = subst (λ t. DiffersAt place report t) text_is h }
-      compared_is (No (causes.Roster line cause)) h = absurd h
-      compared_is (No (causes.State line cause)) h = absurd h
-      compared_is (No (causes.Over w)) h = absurd h
-      compared_is (No (causes.Form line)) h = absurd h
-      compared_is (No (causes.Order list place)) h = absurd h
+      compared_is (No (causes.Next line place)) back h = record {
+        known = r;
+        world = world;
+        ordered = ordered;
+        text = h.0 ∙ text_is;
+        next = h.1.text;
+        next_is = h.1.text_is;
+        line_is = h.1.line_is;
+        differs = h.1.differs;
+      }
+      compared_is (No (causes.Roster line cause)) back h = absurd h.1
+      compared_is (No (causes.State line cause)) back h = absurd h.1
+      compared_is (No (causes.Over w)) back h = absurd h.1
+      compared_is (No (causes.Form line)) back h = absurd h.1
+      compared_is (No (causes.Order list place)) back h = absurd h.1
 
     pub stepped_is : {E : Type 0} (result : Result Verdict E) (own : Address) (meters : List Start) (heard : List HeardInput)
         → own ≡ r.own → meters ≡ r.starts
-        → IfOk result (λ v. (heard ≡ map (heard_input meters) inputs) × IsStepped own meters heard lists report v)
+        → IfOk result (λ v. (heard ≡ map (heard_input meters) inputs) × IsStepped own meters heard lists report next v)
         → IfOk result (IsVerdict audited)
     stepped_is (Err e) own meters heard own_is meters_are h = tt
     stepped_is (Ok verdict) own meters heard own_is meters_are h =
         let heard_is = subst (λ m. heard ≡ map (heard_input m) inputs) meters_are h.0 in
-        let there = subst (λ o. IsStepped o r.starts (map (heard_input r.starts) inputs) lists report verdict) own_is
-        (subst (λ m. IsStepped own m (map (heard_input r.starts) inputs) lists report verdict) meters_are
-        (subst (λ k. IsStepped own meters k lists report verdict) heard_is h.1)) in
-        compared_is there.slots there.strangers there.so there.noted verdict there.compared
+        let there = subst (λ o. IsStepped o r.starts (map (heard_input r.starts) inputs) lists report next verdict) own_is
+        (subst (λ m. IsStepped own m (map (heard_input r.starts) inputs) lists report next verdict) meters_are
+        (subst (λ k. IsStepped own meters k lists report next verdict) heard_is h.1)) in
+        compared_is there.slots there.strangers there.so there.noted verdict there.read_back there.compared
 
 -- the verdict of each state's text
 pub for_each_text : {E T : Type 0} {Q : T → Type 0} (result : Result Verdict E) (P : T → Verdict → Type 0)
@@ -300,10 +318,10 @@ for_each_text (Err e) P h = tt
 for_each_text (Ok v) P h = h
 
 -- the verdict on the text of a state that was read
-pub verdict_by : {E : Type 0} (result : Result Verdict E) (s : Known) (own : Address) (starts : List Start) (text report : List ℕ)
-    (inputs : List (List ℕ)) → own ≡ s.own → starts ≡ s.starts → state_of text ≡ Ok s
-    → IfOk result (IsVerdictBy (record { own = own; starts = starts }) report inputs)
-    → IfOk result (IsVerdict (record { state = text; report = report; inputs = inputs }))
-verdict_by (Err e) s own starts text report inputs own_is starts_are found h = tt
-verdict_by (Ok v) s own starts text report inputs own_is starts_are found h =
+pub verdict_by : {E : Type 0} (result : Result Verdict E) (s : Known) (own : Address) (starts : List Start) (text : List ℕ)
+    (next : Option (List ℕ)) (report : List ℕ) (inputs : List (List ℕ)) → own ≡ s.own → starts ≡ s.starts → state_of text ≡ Ok s
+    → IfOk result (IsVerdictBy (record { own = own; starts = starts }) next report inputs)
+    → IfOk result (IsVerdict (record { state = text; next = next; report = report; inputs = inputs }))
+verdict_by (Err e) s own starts text next report inputs own_is starts_are found h = tt
+verdict_by (Ok v) s own starts text next report inputs own_is starts_are found h =
     h text (found ∙ (λ i. Ok (record { own = sym own_is i; starts = sym starts_are i })))

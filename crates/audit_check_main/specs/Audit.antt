@@ -1,5 +1,5 @@
 -- What the audit of a printed session answers.
-use Rattle.std.specs.Prelude.{ℕ, ◌≡◌, false, true, List, length, map, reverse, Ok, Err}
+use Rattle.std.specs.Prelude.{ℕ, ◌≡◌, false, true, List, length, map, reverse, Option, Some, IfSome, Ok, Err}
 use Rattle.outer_io.specs.Each.{Each, IsFirst}
 use Rattle.line_reader.specs.Lines.{is_over, all_lines}
 use Rattle.meter_address.specs.declared.address.Address.{Address}
@@ -19,13 +19,16 @@ use Rattle.audit_check_main.specs.declared.verdict.Cause.{Cause}
 use Rattle.audit_check_main.specs.declared.verdict.Cause.TheVariants as causes
 use Rattle.audit_check_main.specs.declared.verdict.Verdict.{Verdict}
 use Rattle.audit_check_main.specs.declared.verdict.Verdict.TheVariants.{Yes, No}
+use Rattle.audit_check_main.specs.Leaving.{IsLeftBy, left_text, line_at}
 use Rattle.audit_check_main.specs.Lists.{AreInForm, IsFirstFaulty, lists_printed}
 use Rattle.audit_check_main.specs.Order.{wanted, IsFirstWrong}
 use Rattle.audit_check_main.specs.Difference.{DiffersAt}
 
--- the bytes that are looked at: the state from which the session began, which may be a roster, the report, and what each receiver heard
+-- the bytes that are looked at: the state from which the session began, which may be a roster, the one that it is said to have left, where
+-- that is judged too, the report, and what each receiver heard
 pub record Audited : Type 0 where
   pub state : List ℕ
+  pub next : Option (List ℕ)
   pub report : List ℕ
   pub inputs : List (List ℕ)
 
@@ -67,12 +70,14 @@ pub record IsOrdered (a : Audited) (r : Known) (world : WorldView) : Type 0 wher
 
 -- ---- verdicts
 
--- the report is the text of a session of just what the inputs tell, in the orders that it prints
+-- The report is the text of a session of just what the inputs tell, in the orders that it prints; and the state that is judged is what
+-- this session leaves.
 pub record IsFaithful (a : Audited) : Type 0 where
   pub known : Known
   pub world : WorldView
   pub ordered : IsOrdered a known world
   pub text : a.report ≡ report_of a known world
+  pub left : IfSome a.next (IsLeftBy known.own world.slots)
 
 -- it is another text than that of the session
 pub record IsUnfaithfulAt (place : ℕ) (a : Audited) : Type 0 where
@@ -80,6 +85,17 @@ pub record IsUnfaithfulAt (place : ℕ) (a : Audited) : Type 0 where
   pub world : WorldView
   pub ordered : IsOrdered a known world
   pub differs : DiffersAt place a.report (report_of a known world)
+
+-- the report is that of the session, but the state is another than the one that it leaves
+pub record IsOtherwiseLeftAt (line place : ℕ) (a : Audited) : Type 0 where
+  pub known : Known
+  pub world : WorldView
+  pub ordered : IsOrdered a known world
+  pub text : a.report ≡ report_of a known world
+  pub next : List ℕ
+  pub next_is : a.next ≡ Some next
+  pub line_is : line ≡ line_at place next
+  pub differs : DiffersAt place next (left_text known.own world.slots)
 
 -- the first cause of a `no`: each stands only where none of those before it does
 abbrev pub IsCause : Audited → Cause → Type 0
@@ -91,6 +107,7 @@ IsCause a (causes.Form line) = (r : Known) × IsReadable a r × IsFirstFaulty (l
 IsCause a (causes.Order list place) = (r : Known) × IsInForm a r
     × IsFirstWrong (wanted r.starts (heard_of a)) (lists_printed (length r.starts) (orders a.report)) list place
 IsCause a (causes.Text place) = IsUnfaithfulAt place a
+IsCause a (causes.Next line place) = IsOtherwiseLeftAt line place a
 
 abbrev pub IsVerdict : Audited → Verdict → Type 0
 IsVerdict a Yes = IsFaithful a

@@ -6,6 +6,7 @@ pub mod Difference
 pub mod FormLaw
 pub mod Hearing
 pub mod Kept
+pub mod Leaving
 pub mod Lists
 pub mod MeterSteps
 pub mod Order

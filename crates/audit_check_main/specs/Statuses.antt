@@ -16,6 +16,7 @@ code_of statuses.LongReport = 8
 code_of (statuses.Read w) = 5
 code_of statuses.Write = 7
 code_of statuses.Memory = 10
+code_of statuses.ReadNext = 14
 
 -- the status of a verdict that is written
 abbrev pub status_of : Verdict → AuditStatus

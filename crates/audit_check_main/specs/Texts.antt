@@ -22,6 +22,7 @@ cause_text (causes.Over w) = labelled (codes "over ") w
 cause_text (causes.Form line) = labelled (codes "form ") line
 cause_text (causes.Order list place) = labelled_two (codes "order ") list place
 cause_text (causes.Text place) = labelled (codes "text ") place
+cause_text (causes.Next line place) = labelled_two (codes "next ") line place
 
 unfoldable pub no_text : Cause → List ℕ
 no_text cause = codes "no " ++ cause_text cause ++ codes "\n"

@@ -3,7 +3,6 @@ ghost use Rattle.std.specs.Prelude.{◌≡◌, ◌≤◌, [], false, true, lengt
 ghost use Rattle.audit_check_main.specs.Comparing.{Compared, IsCommon, line_len};
 
 use crate::report_lines::first_newline;
-use crate::verdict::{Cause, Verdict};
 use paper::Paper;
 use std::marker::Model;
 
@@ -52,9 +51,10 @@ impl<'a> Model for Comparing<'a> {
 }
 
 impl<'a> Comparing<'a> {
-    ghost use Rattle.std.specs.Prelude.{◌≡◌, ℕ, List, false};
-    ghost use Rattle.audit_check_main.specs.Auditing.{IsCompared};
+    ghost use Rattle.std.specs.Prelude.{◌≡◌, ℕ, List, false, IfSome};
+    ghost use Rattle.audit_check_main.specs.Auditing.{IsDifference};
     ghost use Rattle.audit_check_main.specs.Comparing.{IsSoFar, line_passed, settled};
+    ghost use Rattle.audit_check_main.specs.Leaving.{line_at};
 
     /// Nothing is put yet.
     pub(crate) fn new(text: &'a [u8]) -> Comparing<'a>
@@ -92,17 +92,33 @@ impl<'a> Comparing<'a> {
         }
     }
 
-    /// What the text is found to be beside all that was put: the same, or another from its first differing byte on.
-    pub(crate) fn verdict(&self) -> Verdict
-        ensures { (put : List ℕ) → IsSoFar self.now put → IsCompared self.now.text put result }
+    /// Whether the text differs from what was put, so that nothing that is put yet changes what is found.
+    pub(crate) fn differs(&self) -> bool
+        ensures { result ≡ self.now.differs }
+    {
+        self.differs
+    }
+
+    /// The first byte, from 0, at which the text differs from all that was put, if it does.
+    pub(crate) fn difference(&self) -> Option<usize>
+        ensures found { (put : List ℕ) → IsSoFar self.now put → IsDifference self.now.text put result }
+        ensures place { IfSome result (λ place. place ≡ self.now.place) }
     {
         if self.differs {
-            return Verdict::No(Cause::Text(self.place));
+            return Some(self.place);
         }
         if self.place < self.text.len() {
-            return Verdict::No(Cause::Text(self.place));
+            return Some(self.place);
         }
-        Verdict::Yes
+        None
+    }
+
+    /// The line, from 1, of the byte up to which the text was found.
+    pub(crate) fn line(&self) -> usize
+        ensures { result ≡ line_at self.now.place self.now.text }
+    {
+        let (before, _) = self.text.split_at(self.place);
+        before.iter().filter(|byte| **byte == b'\n').count() + 1
     }
 }
 

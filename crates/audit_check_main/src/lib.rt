@@ -1,5 +1,5 @@
 //! The audit of a printed session: whether a report is what a collector prints of a state, which may be a roster, and of what its
-//! receivers heard.
+//! receivers heard, and whether another state is what that session leaves.
 #![tactic(auto)]
 
 mod auditing;
@@ -8,6 +8,7 @@ mod hearing;
 mod input;
 mod kept;
 mod laws;
+mod leaving;
 mod lists;
 mod meter_steps;
 mod orders;

@@ -1,7 +1,7 @@
 //! A meter's slot whose steps are put one by one, and are then let go.
 use crate::comparing::Comparing;
 use meter_address::{Address, Mode};
-use meter_slots::{Event, MeterStart, PassingSlot, Reading};
+use meter_slots::{Event, KnownMeter, MeterStart, PassingSlot, Reading};
 use outer_io::Memory;
 use report_text::{MeterLine, put_last_records, put_pending, put_step};
 use std::alloc::Global;
@@ -22,6 +22,7 @@ impl MeterSteps {
     ghost use Rattle.std.specs.List.{flat_map};
     ghost use Rattle.paper.specs.Puts.{Puts};
     ghost use Rattle.meter_slots.specs.Journal.{SlotView, readings};
+    ghost use Rattle.meter_slots.specs.Resuming.{known_now};
     ghost use Rattle.report_text.specs.Report.{line_of, last_text, orders_now, pending_text};
     ghost use Rattle.audit_check_main.specs.Comparing.{Compared, Compares};
     ghost use Rattle.audit_check_main.specs.MeterSteps.{HasStepped, later_reading, stepped};
@@ -99,6 +100,13 @@ impl MeterSteps {
             steps: self.steps,
             readings: self.readings,
         }
+    }
+
+    /// What is known of the meter now.
+    pub(crate) fn known(&self) -> KnownMeter<'_>
+        ensures { (slot : SlotView) (start now : Compared) → HasStepped slot start self.now now → result ≡ known_now slot }
+    {
+        self.slot.known(self.last.as_ref())
     }
 
     /// Puts what stands behind the lines of the steps: the records of the last reading, and the commands that wait.

@@ -1,23 +1,25 @@
 //! How a run of the audit ended.
 use crate::verdict::{Cause, Verdict};
 
-/// How a run ended: `Words`, `ReadState`, `ReadReport`, `LongReport` and `Read` in this order before all others, then a verdict,
-/// or `Write` in its place.
+/// How a run ended: `Words`, `ReadState`, `ReadNext`, `ReadReport`, `LongReport` and `Read` in this order before all others, then a
+/// verdict, or `Write` in its place.
 #[derive(Clone, Copy, Debug, PartialEq, Eq)]
 pub enum AuditStatus {
-    /// Status 0: the report is faithful, and `yes` is written.
+    /// Status 0: the report, and the state that is judged, are faithful, and `yes` is written.
     Yes,
-    /// Status 12: it isn't, for this cause, which is written.
+    /// Status 12: one of them isn't, for this cause, which is written.
     No(Cause),
-    /// Status 2: the words aren't a state, a report, and 1 to 16 inputs.
+    /// Status 2: the words aren't a state, a report, and 1 to 16 inputs, behind `--next` and a state or alone.
     Words,
     /// Status 4: the state can't be read.
     ReadState,
+    /// Status 14: the state that is judged can't be read.
+    ReadNext,
     /// Status 13: the report can't be read.
     ReadReport,
     /// Status 8: the report has more than 1,073,741,824 bytes.
     LongReport,
-    /// Status 5: this input, from 1, can't be read.
+    /// Status 5: this input, from 1, is the first that can't be read.
     Read(u32),
     /// Status 7: the verdict can't be written.
     Write,
@@ -53,6 +55,7 @@ impl AuditStatus {
             AuditStatus::Memory => 10,
             AuditStatus::No(_) => 12,
             AuditStatus::ReadReport => 13,
+            AuditStatus::ReadNext => 14,
         }
     }
 }

@@ -38,6 +38,9 @@ fn put_cause<P: Paper>(paper: &mut P, cause: Cause)
             put_labelled_two(paper, "order ", u64::from(list), u64::from(place))
         }
         Cause::Text(place) => put_labelled(paper, "text ", place as u64),
+        Cause::Next { line, place } => {
+            put_labelled_two(paper, "next ", line as u64, place as u64)
+        }
     }
 }
 

@@ -5,7 +5,8 @@ use state_file::FileCause;
 /// What the audit of a report answers.
 #[derive(Clone, Copy, Debug, PartialEq, Eq)]
 pub enum Verdict {
-    /// The report is the text of a session of just what the inputs tell, in the orders that it prints.
+    /// The report is the text of a session of just what the inputs tell, in the orders that it prints, and the state that is judged,
+    /// if one is, is what that session leaves.
     Yes,
     /// It isn't, for this cause.
     No(Cause),
@@ -33,4 +34,11 @@ pub enum Cause {
     },
     /// The first byte, from 0, at which the report differs from the text of the session.
     Text(usize),
+    /// The first byte at which the state that is judged differs from the one that the session leaves.
+    Next {
+        /// Its line in the state that is judged, from 1.
+        line: usize,
+        /// Its place in all bytes of that state, from 0: their number where they end early.
+        place: usize,
+    },
 }

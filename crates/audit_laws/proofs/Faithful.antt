@@ -1,5 +1,6 @@
 -- What the collector wrote is faithful.
-use Rattle.std.proofs.Common.{◌≡◌, ◌⊎◌, ℕ, zero, suc, ◌<◌, ◌≤◌, ◌^◌, ◌||◌, nat_lt, Bool, true, false, cond, IsTrue, List, [], ◌∷◌, ◌++◌, map, length, get_or, Option, Some, Result, Ok, Err, inl, inr, refl, sym, ap, ◌∙◌, subst, arith, append-nil, length-append}
+use Rattle.std.proofs.Common.{◌≡◌, ◌⊎◌, ℕ, zero, suc, ◌<◌, ◌≤◌, ◌^◌, ◌||◌, nat_lt, Bool, true, false, cond, IsTrue, List, [], ◌∷◌, ◌++◌, map, length, get_or, Option, Some, None, Result, Ok, Err, inl, inr, refl, sym, ap, ◌∙◌, subst, arith, append-nil, length-append}
+use Rattle.std.specs.Prelude.{IfSome}
 use Rattle.std.specs.List.{Contains}
 use Rattle.std.specs.Str.Lines.{lines}
 use Rattle.std.proofs.lemmas.Bool.Decides.{nat_tests}
@@ -25,21 +26,23 @@ use Rattle.report_text.specs.OrdersLaw.{orders_of}
 use Rattle.report_text.specs.Report.{report_text}
 use Rattle.roster_file.specs.Roster.{Enrolled, roster_of}
 use Rattle.roster_file.specs.declared.roster.RosterFault.{RosterFault}
+use Rattle.state_file.specs.Left.{left_state}
 use Rattle.state_file.specs.Whole.{Known, fresh_known, of_roster, state_of}
 use Rattle.state_file.proofs.RosterStates.{rosters_are_states}
 use Rattle.state_file.proofs.TooLong.{too_long}
 use Rattle.collector_main.specs.declared.form.Form.{Form}
 use Rattle.collector_main.specs.declared.form.Form.TheVariants as forms
 use Rattle.collector_main.specs.Begin.{known_of}
-use Rattle.collector_main.specs.Heard.{addresses, report_of}
+use Rattle.collector_main.specs.Heard.{addresses, left_known, next_of, report_of}
 use Rattle.collector_main.specs.Run as collector
 use Rattle.collector_main.specs.Showing.{report_output}
 use Rattle.collector_main.specs.Statuses.{was_heard}
 use Rattle.collector_main.proofs.Orders.{slots_counted, strangers_counted}
 use Rattle.audit_check_main.specs.Audit.{Audited, told_in, heard_out, IsReadable, IsInForm, IsFaithful, IsVerdict}
+use Rattle.audit_check_main.specs.Leaving.{IsLeftBy}
 use Rattle.audit_check_main.specs.Lists.{lists_printed}
 use Rattle.audit_check_main.specs.Run as audit
-use Rattle.audit_check_main.specs.Run.{IsReadPast, HasVerdict}
+use Rattle.audit_check_main.specs.Run.{IsReadPast, IsNextRead, HasVerdict}
 use Rattle.audit_check_main.specs.declared.status.AuditStatus.{AuditStatus}
 use Rattle.audit_check_main.specs.declared.status.AuditStatus.TheVariants as answers
 use Rattle.audit_check_main.specs.declared.verdict.Cause.{Cause}
@@ -47,7 +50,7 @@ use Rattle.audit_check_main.specs.declared.verdict.Verdict.{Verdict}
 use Rattle.audit_check_main.specs.declared.verdict.Verdict.TheVariants.{Yes, No}
 use Rattle.audit_check_main.proofs.InForm.{report_in_form}
 use Rattle.audit_check_main.proofs.OneVerdict.{one_verdict}
-use Rattle.audit_laws.specs.Laws.{IsAudited}
+use Rattle.audit_laws.specs.Laws.{IsAudited, IsNextOf}
 
 -- ---- a receiver that heard an input to its end
 
@@ -62,21 +65,21 @@ record HeardOut (input : List ℕ) (heard : HeardLines) : Type 0 where
 same_end : (o : Option Ended) (e : Ended) → o ≡ Some ends.End → o ≡ Some e → e ≡ ends.End
 same_end o e h k = let same : Some e ≡ Some ends.End = sym k ∙ h in cc
 
-heard_one : (run : ReceiverRun) (heard : HeardLines) → run.ended ≡ Some ends.End → collector.EndsSo run heard
+heard_one : (cs : List Address) (run : ReceiverRun) (heard : HeardLines) → run.ended ≡ Some ends.End → collector.EndsSo cs run heard
     → HeardOut (bytes_heard run) heard
-heard_one run heard ended so =
+heard_one cs run heard ended so =
     let at_end : heard.ended ≡ ends.End = same_end run.ended heard.ended ended so.ended in
     let lines = subst (λ e. IsEnding e run.source.now.taken run.source.now.left heard.lines) at_end so.lines in
     let whole : run.source.now.taken ≡ bytes_heard run =
     sym (append-nil run.source.now.taken) ∙ (ap (λ l. run.source.now.taken ++ l) (sym lines.nothing_left) ∙ so.first_bytes) in
     record { within = ap is_over (sym whole) ∙ lines.within; all = lines.all ∙ ap all_lines whole; ended = at_end }
 
-heard_each : (runs : List ReceiverRun) (heard : List HeardLines) → Each (collector.HasEnded ends.End) runs
-    → EachWith collector.EndsSo runs heard → EachWith HeardOut (map bytes_heard runs) heard
-heard_each [] [] ended so = tt
-heard_each [] (h ∷ heard) ended so = absurd so
-heard_each (r ∷ runs) [] ended so = absurd so
-heard_each (r ∷ runs) (h ∷ heard) ended so = (heard_one r h ended.0 so.0, heard_each runs heard ended.1 so.1)
+heard_each : (cs : List Address) (runs : List ReceiverRun) (heard : List HeardLines) → Each (collector.HasEnded ends.End) runs
+    → EachWith (collector.EndsSo cs) runs heard → EachWith HeardOut (map bytes_heard runs) heard
+heard_each cs [] [] ended so = tt
+heard_each cs [] (h ∷ heard) ended so = absurd so
+heard_each cs (r ∷ runs) [] ended so = absurd so
+heard_each cs (r ∷ runs) (h ∷ heard) ended so = (heard_one cs r h ended.0 so.0, heard_each cs runs heard ended.1 so.1)
 
 all_within : (inputs : List (List ℕ)) (heard : List HeardLines) → EachWith HeardOut inputs heard
     → Each (λ input. is_over input ≡ false) inputs
@@ -152,42 +155,44 @@ form_known forms.State text r h = h
 
 module _ (state : List ℕ) (inputs : List (List ℕ)) (r : Known) (world : WorldView) (state_is : state_of state ≡ Ok r)
     (within : Each (λ input. is_over input ≡ false) inputs) (few : length inputs ≤ 16)
-    (session : IsSession r.own r.starts (map told_in inputs) world) where
-  abbrev text : List ℕ
-  text = report_text (map (heard_out (map (λ c. c.address) r.starts)) inputs) world.slots world.strangers
+    (session : IsSession r.own r.starts (map told_in inputs) world) (next : Option (List ℕ)) (left : IfSome next (IsLeftBy r.own world.slots))
+  where
+    abbrev text : List ℕ
+    text = report_text (map (heard_out (map (λ c. c.address) r.starts)) inputs) world.slots world.strangers
 
-  abbrev audited : Audited
-  audited = record { state = state; report = text; inputs = inputs }
+    abbrev audited : Audited
+    audited = record { state = state; next = next; report = text; inputs = inputs }
 
-  few_receivers : length (map told_in inputs) < 2 ^ 32
-  few_receivers = let same = length-map inputs told_in in omega arith
+    few_receivers : length (map told_in inputs) < 2 ^ 32
+    few_receivers = let same = length-map inputs told_in in omega arith
 
-  as_many : (cs : List Start) (slots : List SlotView) → EachWith (IsMetersSlot r.own (map told_in inputs)) cs slots
-      → length slots ≤ length cs
-  as_many [] [] h = omega arith
-  as_many [] (b ∷ slots) h = absurd h
-  as_many (c ∷ cs) [] h = absurd h
-  as_many (c ∷ cs) (b ∷ slots) h = let rest = as_many cs slots h.1 in omega arith
+    as_many : (cs : List Start) (slots : List SlotView) → EachWith (IsMetersSlot r.own (map told_in inputs)) cs slots
+        → length slots ≤ length cs
+    as_many [] [] h = omega arith
+    as_many [] (b ∷ slots) h = absurd h
+    as_many (c ∷ cs) [] h = absurd h
+    as_many (c ∷ cs) (b ∷ slots) h = let rest = as_many cs slots h.1 in omega arith
 
-  readable : IsReadable audited r
-  readable = record { state_is = state_is; within = within }
+    readable : IsReadable audited r
+    readable = record { state_is = state_is; within = within }
 
-  in_form : IsInForm audited r
-  in_form = record {
-    readable = readable;
-    in_form = report_in_form (length r.starts) (map (heard_out (map (λ c. c.address) r.starts)) inputs) world.slots world.strangers
-        (as_many r.starts world.slots session.meters)
-        (slots_counted r.own (map told_in inputs) few_receivers (few_told inputs within) r.starts world.slots session.meters)
-        (strangers_counted r.own (map told_in inputs) few_receivers (few_told inputs within) r.starts world session);
-  }
+    in_form : IsInForm audited r
+    in_form = record {
+      readable = readable;
+      in_form = report_in_form (length r.starts) (map (heard_out (map (λ c. c.address) r.starts)) inputs) world.slots world.strangers
+          (as_many r.starts world.slots session.meters)
+          (slots_counted r.own (map told_in inputs) few_receivers (few_told inputs within) r.starts world.slots session.meters)
+          (strangers_counted r.own (map told_in inputs) few_receivers (few_told inputs within) r.starts world session);
+    }
 
-  faithful : orders text ≡ orders_of world.slots world.strangers → IsFaithful audited
-  faithful told = record {
-    known = r;
-    world = world;
-    ordered = record { form = in_form; session = session; printed = ap (lists_printed (length r.starts)) told };
-    text = refl;
-  }
+    faithful : orders text ≡ orders_of world.slots world.strangers → IsFaithful audited
+    faithful told = record {
+      known = r;
+      world = world;
+      ordered = record { form = in_form; session = session; printed = ap (lists_printed (length r.starts)) told };
+      text = refl;
+      left = left;
+    }
 
 -- ---- what is read
 
@@ -212,6 +217,18 @@ inputs_read (s ∷ sources) [] h within = absurd h
 inputs_read (s ∷ sources) (b ∷ read) h within =
     (λ i. all_read 67108864 s b h.0 (bytes_within s.before.left within.0) i ∷ inputs_read sources read h.1 within.1 i)
 
+-- the bytes of the state that is judged, if one is
+abbrev bytes_in : Option (Change SourceShown) → Option (List ℕ)
+bytes_in None = None
+bytes_in (Some source) = Some source.before.left
+
+next_read : (next : Option (Change SourceShown)) (read : Option (List ℕ)) → IsNextRead next read
+    → IfSome next (λ source. length source.before.left ≤ 134217728) → read ≡ bytes_in next
+next_read None None h short = refl
+next_read None (Some bytes) h short = absurd h
+next_read (Some source) None h short = absurd h
+next_read (Some source) (Some bytes) h short = ap Some (all_read 134217728 source bytes h short)
+
 each_at : {A : Type 0} (P : A → Type 0) (xs : List A) (x : A) → Each P xs → Contains xs x → P x
 each_at P xs x h c = at xs c.0 h c.1 c.2
   where
@@ -231,7 +248,7 @@ module _ (c : collector.Run) (a : audit.Run) (given : IsAudited c a) where
 
   heard_all : EachWith HeardOut inputs headline.heard.receivers
   heard_all =
-      heard_each c.receivers headline.heard.receivers (subst (collector.IsCausedBy c) given.done given.collected.status_caused)
+      heard_each _ c.receivers headline.heard.receivers (subst (collector.IsCausedBy c) given.done given.collected.status_caused)
       headline.receivers
 
   abbrev r : Known
@@ -250,8 +267,35 @@ module _ (c : collector.Run) (a : audit.Run) (given : IsAudited c a) where
   few : length inputs ≤ 16
   few = let same = length-map c.receivers bytes_heard in let most = given.audit_of.few in omega arith
 
+  abbrev slots : List SlotView
+  slots = headline.heard.world.slots
+
+  -- what `continue` wrote is what its session leaves
+  left_by : (source : Change SourceShown) → IsNextOf c source → IsLeftBy r.own slots source.before.left
+  left_by source h = record {
+    text_is = h.same_next
+        ∙ each_at (collector.IsWhole headline.heard) c.outputs (record { number = 1; text = next_of forms.State; sink = h.next })
+        (headline.whole given.audit_of.sinks_tell given.done) h.is_output;
+    read_back = subst (λ (f : Form). known_of f (next_of f headline.heard) ≡ Ok (left_known f r.own slots)) h.continues
+        (headline.left h.sends);
+  }
+
+  left_is : (next : Option (Change SourceShown)) → IfSome next (IsNextOf c) → IfSome (bytes_in next) (IsLeftBy r.own slots)
+  left_is None h = tt
+  left_is (Some source) h = left_by source h
+
+  next_short : (next : Option (Change SourceShown)) → IfSome next (IsNextOf c)
+      → IfSome next (λ source. length source.before.left ≤ 134217728)
+  next_short None h = tt
+  next_short (Some source) h =
+      let left = left_by source h in
+      is_short source.before.left (left_state r.own slots) (ap state_of left.text_is ∙ left.read_back)
+
+  left : IfSome (bytes_in a.next) (IsLeftBy r.own slots)
+  left = left_is a.next given.audit_of.same_next
+
   abbrev faithful_text : List ℕ
-  faithful_text = text c.beginning.before.left inputs r headline.heard.world known within few session
+  faithful_text = text c.beginning.before.left inputs r headline.heard.world known within few session (bytes_in a.next) left
 
   text_is : report_of headline.heard ≡ faithful_text
   text_is =
@@ -265,11 +309,11 @@ module _ (c : collector.Run) (a : audit.Run) (given : IsAudited c a) where
       (headline.whole given.audit_of.sinks_tell given.done) given.audit_of.is_output
 
   abbrev audited_bytes : Audited
-  audited_bytes = audited c.beginning.before.left inputs r headline.heard.world known within few session
+  audited_bytes = audited c.beginning.before.left inputs r headline.heard.world known within few session (bytes_in a.next) left
 
   is_faithful : IsFaithful audited_bytes
   is_faithful =
-      faithful c.beginning.before.left inputs r headline.heard.world known within few session
+      faithful c.beginning.before.left inputs r headline.heard.world known within few session (bytes_in a.next) left
       (ap orders (sym text_is) ∙ headline.told)
 
   -- what the audit read is this
@@ -283,7 +327,8 @@ module _ (c : collector.Run) (a : audit.Run) (given : IsAudited c a) where
       let lines =
       inputs_read a.inputs h.read.inputs h.inputs (subst (Each (λ input. is_over input ≡ false)) (sym g.same_lines) within)
       ∙ g.same_lines in
-      λ i. record { state = state i; report = report i; inputs = lines i }
+      let next = next_read a.next h.read.next h.next (next_short a.next g.same_next) in
+      λ i. record { state = state i; next = next i; report = report i; inputs = lines i }
 
   no_other : (cause : Cause) → HasVerdict a (No cause) → ⊥
   no_other cause h =
@@ -303,6 +348,7 @@ module _ (c : collector.Run) (a : audit.Run) (given : IsAudited c a) where
       at answers.Memory is done = inr is
       at answers.Words is done = absurd done
       at answers.ReadState is done = absurd done
+      at answers.ReadNext is done = absurd done
       at answers.ReadReport is done = absurd done
       at answers.LongReport is done = absurd done
       at (answers.Read w) is done = absurd done

@@ -1,4 +1,4 @@
-use Rattle.std.proofs.Common.{◌≡◌, ◌∙◌, ℕ, List, [], Ok, refl, ap, sym, subst, map, length, get_or, arith}
+use Rattle.std.proofs.Common.{◌≡◌, ◌∙◌, ℕ, List, [], Ok, refl, ap, sym, subst, map, length, get_or, option_copied, arith}
 use Rattle.meter_slots.specs.Journal.{Start}
 use Rattle.audit_check_main.specs.Audit.{IsVerdict}
 use Rattle.audit_check_main.specs.Auditing.{IsStepped}
@@ -30,7 +30,7 @@ returns-in-Some c = λ text is.
     c.as_slice.ensures.value ∙ (c.in_ok-heard.ensures
     ∙ ap (λ (m : List Start). map (heard_input m) c.args.inputs.now) c.as_slice-starts.ensures.value) in
     let wrong = c.in_ok-list.ensures.wrong c.in-Some.list c.in-Some.place (ap Ok c.in-Some.is) in
-    first_wrong_is (record { own = c.args.own; starts = c.args.meters.items }) text c.args.report.now c.args.inputs.now is c.requires.within c.requires.in_form c.args.lists.now
+    first_wrong_is (record { own = c.args.own; starts = c.args.meters.items }) text (option_copied c.args.next) c.args.report.now c.args.inputs.now is c.requires.within c.requires.in_form c.args.lists.now
     c.requires.lists_are c.in-Some.list c.in-Some.place
     (subst (λ (h : List HeardInput). IsFirstWrong (numbers_in_list h) c.args.lists.now c.in-Some.list c.in-Some.place) heard wrong)
 
@@ -58,14 +58,14 @@ returns-in-None c =
     orders_are c.args.meters.items c.args.inputs.now c.as_slice.result.now c.as_slice-in-None.result.now c.args.lists.now
     c.requires.within same heard long (c.in_ok-list.ensures.right (ap Ok c.in-None.is)) in
     for_each_text c.told_verdict.result (λ (text : List ℕ) (v : Verdict). IsVerdict
-    (record { state = text; report = c.args.report.now; inputs = c.args.inputs.now }) v)
-    (λ text is. stepped_is (record { own = c.args.own; starts = c.args.meters.items }) text c.args.report.now c.args.inputs.now is c.requires.within c.requires.in_form
+    (record { state = text; next = option_copied c.args.next; report = c.args.report.now; inputs = c.args.inputs.now }) v)
+    (λ text is. stepped_is (record { own = c.args.own; starts = c.args.meters.items }) text (option_copied c.args.next) c.args.report.now c.args.inputs.now is c.requires.within c.requires.in_form
     c.args.lists.now c.requires.lists_are c.told_verdict.result c.args.own c.args.meters.items c.as_slice-in-None.result.now
     refl refl
     (if_orders c.told_verdict.result (AreOrders c.args.meters.items c.as_slice-in-None.result.now c.args.lists.now)
     (c.as_slice-in-None.result.now ≡ map (heard_input c.args.meters.items) c.args.inputs.now)
-    (IsStepped c.args.own c.args.meters.items c.as_slice-in-None.result.now c.args.lists.now c.args.report.now) heard orders
+    (IsStepped c.args.own c.args.meters.items c.as_slice-in-None.result.now c.args.lists.now c.args.report.now (option_copied c.args.next)) heard orders
     (told_are c.audit_orders.result c.told_verdict.result
     (λ (v : Verdict). AreOrders c.args.meters.items c.as_slice-in-None.result.now c.args.lists.now
-    → IsStepped c.args.own c.args.meters.items c.as_slice-in-None.result.now c.args.lists.now c.args.report.now v)
+    → IsStepped c.args.own c.args.meters.items c.as_slice-in-None.result.now c.args.lists.now c.args.report.now (option_copied c.args.next) v)
     c.told_verdict.ensures c.audit_orders.ensures.stepped)))

@@ -1,4 +1,4 @@
-use Rattle.std.proofs.Common.{◌≡◌, ◌≤◌, ◌∙◌, false, true, List, map, length, ap, sym, subst, arith, rules}
+use Rattle.std.proofs.Common.{◌≡◌, ◌≤◌, ◌∙◌, false, true, List, map, length, option_copied, ap, sym, subst, arith, rules}
 use Rattle.outer_io.specs.Each.{IsFirst}
 use Rattle.line_reader.specs.Lines.{is_over}
 use Rattle.meter_address.specs.Address.{AreApart}
@@ -22,6 +22,6 @@ returns-in-Some c =
 pub returns-in-None : goal.returns-in-None
 returns-in-None c = record {
   verdict = verdict_by c.audit_readable.result c.in-Ok.state c.own-own.result c.into_starts.result.items c.args.state.now
-      c.args.report.now c.args.inputs.now c.own-own.ensures
+      (option_copied c.args.next) c.args.report.now c.args.inputs.now c.own-own.ensures
       c.into_starts.ensures.starts c.in-Ok.ensures.found c.audit_readable.ensures;
 }

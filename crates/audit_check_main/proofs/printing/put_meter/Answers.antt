@@ -1,5 +1,7 @@
 use Rattle.std.proofs.Common.{map, subst}
 use Rattle.paper.specs.Puts.{Puts}
+use Rattle.meter_slots.specs.Journal.{Start}
+use Rattle.state_file.specs.Written.{IsStart, block_text}
 use Rattle.receivers.proofs.OrderLaws.{slot_exists}
 use Rattle.report_text.specs.Report.{meter_line_text}
 use Rattle.audit_check_main.specs.Comparing.{Compared, Compares}
@@ -18,4 +20,7 @@ returns-clause-put c = λ right.
       so = target.1;
       put = meter_put target.0 _ _ _ _ _ _ _ _ c.pass_line-line.ensures.passed stepped (c.put_rest.ensures target.0 _ _ stepped)
           (c.line.ensures target.0 _ _ stepped) line c.settle.ensures;
+      told = subst IsStart (c.known.ensures target.0 _ _ stepped) c.put_left.ensures.told;
+      left = subst (λ (k : Start). Puts Compares c.args.next.now (block_text k) c.put_left.new.paper) (c.known.ensures target.0 _ _ stepped)
+          c.put_left.ensures.put;
     }

@@ -78,7 +78,8 @@ loop-start-preserved c =
           meters_more c.args.own (map tells c.args.heard.now) c.args.lists.now c.args.meters.items c.loop-start.list
           c.in-Some.start _ _ _ (c.loop-start.invariant.put right) inside few is
           (subst (λ (o : List (ℕ × ℕ)). IsMeterPut c.args.own (map tells c.args.heard.now)
-          c.in-Some.start o c.loop-start.paper c.put_meter.new.paper) order (c.in_ok-put_meter.ensures.put (own_order right)));
+          c.in-Some.start o (record { report = c.loop-start.paper; next = c.loop-start.next })
+          (record { report = c.put_meter.new.paper; next = c.put_meter.new.next })) order (c.in_ok-put_meter.ensures.put (own_order right)));
       own_lines =
           listed_more c.args.heard.now c.args.lists.now c.args.meters.items c.loop-start.list c.in-Some.start c.pairs.result.now
           c.requires.apart inside is order c.loop-start.invariant.own_lines c.in_ok-put_meter.ensures.own_lines;
@@ -91,7 +92,8 @@ returns-clause-put c = λ right.
     let end = YieldsList-end all c.loop-start.yielded _ c.loop-start.yielded_by _ c.next.new.self c.in-None.is c.next.ensures.steps in
     let whole : take c.loop-start.list c.args.meters.items ≡ c.args.meters.items =
     ap (λ (n : ℕ). take n c.args.meters.items) (c.loop-start.invariant.count ∙ end.1) ∙ take-length c.args.meters.items in
-    subst (λ (m : List Start). AreMetersPut c.args.own (map tells c.args.heard.now) m c.args.lists.now c.args.paper.now c.loop-start.paper)
+    subst (λ (m : List Start). AreMetersPut c.args.own (map tells c.args.heard.now) m c.args.lists.now
+    (record { report = c.args.paper.now; next = c.args.next.now }) (record { report = c.loop-start.paper; next = c.loop-start.next }))
     whole (c.loop-start.invariant.put right)
 
 pub returns-clause-own_lines : goal.returns-clause-own_lines

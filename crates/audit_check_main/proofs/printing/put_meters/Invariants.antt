@@ -8,6 +8,7 @@ abbrev pub invariant-loop-start : goal.invariant-loop-start
 invariant-loop-start l = record {
   count : l.list ≡ length l.yielded;
   put : IsOrderOfEach (map tells l.fn.heard) l.fn.meters.items l.fn.lists
-      → AreMetersPut l.fn.own (map tells l.fn.heard) (take l.list l.fn.meters.items) l.fn.lists l.initial.paper l.paper;
+      → AreMetersPut l.fn.own (map tells l.fn.heard) (take l.list l.fn.meters.items) l.fn.lists
+      (record { report = l.initial.paper; next = l.initial.next }) (record { report = l.paper; next = l.next });
   own_lines : AreListedBelow l.list (map (λ c. c.address) l.fn.meters.items) l.fn.heard l.fn.lists;
 }

@@ -35,15 +35,17 @@ returns-clause-put c = λ right.
     order_there c.args.lists.now c.len.result c.pairs-order.result.now c.index-lists-len.result (omega arith)
     c.pairs-order.ensures c.index-lists-len.is ∙ ap (λ (n : ℕ). get_or c.args.lists.now n []) many in
     session_put c.args.own c.args.meters.items c.args.heard.now c.args.lists.now c.args.paper.now c.put_head.new.paper
-    c.put_meters.new.paper c.put_strangers.new.paper c.put_end.new.paper c.as_slice.result.now c.pairs-order.result.now
-    c.in_ok-strangers.strangers (c.as_slice.ensures.value ∙ c.in_ok-ends.ensures) c.put_head.ensures
+    c.put_meters.new.paper c.put_strangers.new.paper c.put_end.new.paper c.args.next.now c.put_state_head.new.paper c.put_meters.new.next
+    c.put_text.new.paper c.as_slice.result.now c.pairs-order.result.now
+    c.in_ok-strangers.strangers c.show_own.ensures c.requires.few (subst AreApart c.requires.directory c.requires.apart)
+    (c.as_slice.ensures.value ∙ c.in_ok-ends.ensures) c.put_head.ensures c.put_state_head.ensures
     (c.in_ok-put_meters.ensures.put right.meters_lists) order
     (subst (λ (m : List Start). AreOrderedStrangers m (map tells c.args.heard.now) c.pairs-order.result.now c.in_ok-strangers.strangers)
     c.as_slice-2.ensures.value
     (c.in_ok-strangers.ensures.strangers
     (subst (λ (m : List Start). IsOrderOfStrangers m (map tells c.args.heard.now) c.pairs-order.result.now) (sym c.as_slice-2.ensures.value)
     (subst (λ (o : List (ℕ × ℕ)). IsOrderOfStrangers c.args.meters.items (map tells c.args.heard.now) o) (sym order) right.strangers_list))))
-    c.put_strangers.ensures c.put_end.ensures
+    c.put_strangers.ensures c.put_end.ensures c.put_text.ensures
 
 pub returns-clause-own_lines : goal.returns-clause-own_lines
 returns-clause-own_lines c =

@@ -1,7 +1,7 @@
-use Rattle.std.proofs.Common.{◌≡◌, ◌+◌, slice_set, Err, refl, ap, subst, arith}
+use Rattle.std.proofs.Common.{◌≡◌, ◌+◌, slice_set, IsTrue, Err, refl, ap, subst, arith}
 use Rattle.outer_io.specs.Each.{IsFirst}
 use Rattle.outer_io.specs.Shown.{ReadFailed}
-use Rattle.audit_check_main.specs.Run.{source_changes}
+use Rattle.audit_check_main.specs.Run.{WasRead, source_changes}
 use Rattle.audit_check_main.proofs.InputReads.{inputs_first, inputs_next, inputs_lost, inputs_failed, pushed}
 use Rattle.audit_check_main.proofs.running.read_inputs.Goals as goal
 
@@ -19,7 +19,7 @@ returns-then-is_err-clause-no_loss g c =
 pub returns-in-Err-Failed-clause-failed : goal.returns-in-Err-Failed-clause-failed
 returns-in-Err-Failed-clause-failed g c = λ w e.
     let same : c.loop-place.place + 1 ≡ w = cc in
-    subst (λ v. IsFirst (λ source. Unit {0}) ReadFailed v (source_changes g.S.Source c.args.inputs.now.items
+    subst (λ v. IsFirst (λ source. IsTrue g.S.Source.tells → WasRead source) ReadFailed v (source_changes g.S.Source c.args.inputs.now.items
     (slice_set c.loop-place.inputs.items c.loop-place.place c.read_input.new.source))) same
     (inputs_failed g.S.Source c.loop-place.place c.args.inputs.now.items c.loop-place.inputs.items _ c.loop-place.read.items
     c.index_mut-source.result.now c.read_input.new.source c.loop-place.invariant
