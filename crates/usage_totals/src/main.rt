@@ -1,13 +1,14 @@
 //! The program `usage_totals`: opens the file of edits that its word names, and answers its lines.
 #![tactic(auto)]
 
-ghost use Rattle.std.specs.Prelude.{◌≡◌, ◌≢◌, [], true, false, length, map, IfErr, IsTrue};
+ghost use Rattle.std.specs.Prelude.{◌≡◌, [], true, false, map, None, IfErr, IsSome, IsTrue};
 ghost use Rattle.std.specs.String.{string_bytes};
 ghost use Rattle.std.specs.Process.{exit_status};
 ghost use Rattle.outer_io.specs.Shown.{source_change, sink_change};
 ghost use Rattle.line_reader.specs.Reader.{given};
 ghost use Rattle.usage_totals_main.specs.declared.status.TotalsStatus.{TotalsStatus};
 ghost use Rattle.usage_totals_main.specs.Run.{IsRun, code_of};
+ghost use Rattle.usage_totals_main.specs.Words.{totals_asked};
 ghost use Rattle.program_words.specs.OwnTexts.{asks_for_text, IsTold};
 ghost use Rattle.usage_totals.specs.Exit.{IsRunExit};
 
@@ -16,12 +17,12 @@ use outer_io::{Sink, Source, StdSink, StdSource};
 use program_words::{NoWords, Numbered, command_words, own_text, tell};
 use std::fs::{File, Files};
 use std::process::ExitCode;
-use usage_totals_main::{LINE_MAX, TotalsStatus, totals_run};
+use usage_totals_main::{LINE_MAX, TotalsStatus, totals_asked, totals_run};
 
 const HELP: &str =
     "usage_totals: usages of meters, from payloads that are added, corrected and taken away
 
-usage: usage_totals EDITS
+usage: usage_totals [--addressed] EDITS
        usage_totals --help
        usage_totals --version
 
@@ -32,6 +33,9 @@ EDITS is a file with a line for each edit or question:
 ? ADDRESS              what the meter used: its last amounts less the first
 ?                      what all meters used together
 Each line is answered on the standard output.
+
+--addressed puts the meter's address behind the first word of each line that answers
+for one meter.
 
 exit status: 0 done, 2 faulty words, 5 edits not read, 7 answer not written,
 8 edits past the limit, 10 no memory, 11 a file that can't be opened
@@ -81,7 +85,7 @@ fn answer<R: Eprint + AllocGlobal, S: Source, K: Sink>(
       out = sink_change K.Sink out.old out.new;
       status = status;
     }) }
-    ensures exit { length command.now ≡ 1 → IsRunExit (exit_status result) }
+    ensures exit { IsSome (totals_asked (map string_bytes command.now)) → IsRunExit (exit_status result) }
 {
     let status = totals_run(rt.alloc(), command, edits, out);
     end(rt, status)
@@ -105,17 +109,19 @@ fn perform<R: Print + Eprint + Files<File = File> + AllocGlobal>(
     mut out: StdSink,
 ) -> ExitCode
     ensures text { asks_for_text (map string_bytes command.now) ≡ true → IsTold 7 (exit_status result) }
-    ensures faulty { length command.now ≢ 1 → exit_status result ≡ 2 }
-    ensures exit { length command.now ≡ 1 → asks_for_text (map string_bytes command.now) ≡ false → IsRunExit (exit_status result) }
+    ensures faulty { asks_for_text (map string_bytes command.now) ≡ false → totals_asked (map string_bytes command.now) ≡ None →
+        exit_status result ≡ 2 }
+    ensures exit { asks_for_text (map string_bytes command.now) ≡ false → IsSome (totals_asked (map string_bytes command.now)) →
+        IsRunExit (exit_status result) }
 {
     if let Some(own) = own_text(command) {
         let unwritten = TotalsStatus::Write.code();
         return tell(rt, own.text(HELP, VERSION), unwritten, said(unwritten));
     }
-    let [edits] = command else {
+    let Some(asked) = totals_asked(command) else {
         return end(rt, TotalsStatus::Words);
     };
-    let file = match open_edits(rt, edits.as_str()) {
+    let file = match open_edits(rt, asked.edits) {
         Ok(file) => file,
         Err(ended) => return ended,
     };

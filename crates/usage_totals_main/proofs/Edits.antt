@@ -1,6 +1,6 @@
 -- An edit that was answered is done, or refused for what the rows say.
-use Rattle.std.proofs.Common.{◌≡◌, ℕ, List, [], ◌∷◌, ◌++◌, Option, Some, None, Result, Ok, Err, refl, sym, ap, ◌∙◌, subst, inl, inr, ◌⊎◌}
-use Rattle.std.specs.Prelude.{IsErr, IfOk, OnOk, OnErr}
+use Rattle.std.proofs.Common.{◌≡◌, ℕ, List, [], ◌∷◌, ◌++◌, Option, Some, None, Result, Ok, Err, refl, sym, ap, ◌∙◌, subst, inl, inr}
+use Rattle.std.specs.Prelude.{IsErr}
 use Rattle.std.proofs.lemmas.List.Sums.{fold-append}
 use Rattle.outer_io.specs.declared.failures.Memory.{Memory}
 use Rattle.meter_usage.specs.declared.fault.TotalsFault.{TotalsFault}

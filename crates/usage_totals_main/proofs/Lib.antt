@@ -1,4 +1,5 @@
 pub mod Edits
 pub mod Questions
 pub mod Lines
+pub mod WordsAsked
 pub mod Runs

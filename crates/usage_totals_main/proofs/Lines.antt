@@ -1,10 +1,10 @@
 -- Lines that are answered one after another.
-use Rattle.std.proofs.Common.{◌≡◌, ℕ, ◌+◌, ◌<◌, ◌≤◌, Bool, true, cond, List, [], ◌∷◌, ◌++◌, length, take, drop, Option, None, Result, Ok, Err, refl, sym, ap, ◌∙◌, subst, append_assoc, arith}
+use Rattle.std.proofs.Common.{◌≡◌, ℕ, ◌+◌, ◌<◌, ◌≤◌, Bool, true, cond, List, [], ◌∷◌, ◌++◌, length, take, drop, None, Result, Ok, Err, refl, sym, ap, ◌∙◌, subst, append_assoc, arith}
 use Rattle.std.specs.Prelude.{OnOk, IfErr, fold, codes, nat_lt}
 use Rattle.std.proofs.lemmas.Bool.Decides.{nat_tests}
 use Rattle.std.proofs.lemmas.List.{append-nil, length-append, take-append-drop, take-append-le}
 use Rattle.std.proofs.lemmas.List.Sums.{fold-append}
-use Rattle.std.proofs.Math.Seq.{take-append_seam, take-append-add}
+use Rattle.std.proofs.Math.Seq.{take-append-add}
 use Rattle.outer_io.specs.Bytes.{AppendsFront}
 use Rattle.outer_io.specs.Shown.{Change, SinkShown}
 use Rattle.plain_text.specs.Parts.{fields_of}
@@ -28,18 +28,19 @@ use Rattle.usage_totals_main.specs.Running.{AreAnswered, ended_by}
 told_more : (lines : List (List ℕ)) (line : List ℕ) → rows_told (lines ++ line ∷ []) ≡ rows_after_line (rows_told lines) line
 told_more lines line = fold-append rows_after_line [] lines (line ∷ [])
 
-answers-append : (table : Table (List ℕ)) (xs ys : List (List ℕ))
-    → answers table (xs ++ ys) ≡ answers table xs ++ answers (fold rows_after_line table xs) ys
-answers-append table [] ys = refl
-answers-append table (x ∷ xs) ys =
-    ap (λ t. answer_text table (request_of x) ++ t) (answers-append (rows_after_line table x) xs ys)
-    ∙ sym (append_assoc (answer_text table (request_of x)) (answers (rows_after_line table x) xs)
-    (answers (fold rows_after_line (rows_after_line table x) xs) ys))
+answers-append : (addressed : Bool) (table : Table (List ℕ)) (xs ys : List (List ℕ))
+    → answers addressed table (xs ++ ys) ≡ answers addressed table xs ++ answers addressed (fold rows_after_line table xs) ys
+answers-append addressed table [] ys = refl
+answers-append addressed table (x ∷ xs) ys =
+    ap (λ t. answer_text addressed table (request_of x) ++ t) (answers-append addressed (rows_after_line table x) xs ys)
+    ∙ sym (append_assoc (answer_text addressed table (request_of x)) (answers addressed (rows_after_line table x) xs)
+    (answers addressed (fold rows_after_line (rows_after_line table x) xs) ys))
 
-printed_more : (lines : List (List ℕ)) (line : List ℕ)
-    → printed (lines ++ line ∷ []) ≡ printed lines ++ answer_text (rows_told lines) (request_of line)
-printed_more lines line =
-    answers-append [] lines (line ∷ []) ∙ ap (λ t. printed lines ++ t) (append-nil (answer_text (rows_told lines) (request_of line)))
+printed_more : (addressed : Bool) (lines : List (List ℕ)) (line : List ℕ)
+    → printed addressed (lines ++ line ∷ []) ≡ printed addressed lines ++ answer_text addressed (rows_told lines) (request_of line)
+printed_more addressed lines line =
+    answers-append addressed [] lines (line ∷ [])
+    ∙ ap (λ t. printed addressed lines ++ t) (append-nil (answer_text addressed (rows_told lines) (request_of line)))
 
 -- ---- a line that is too long asks for nothing
 
@@ -67,21 +68,21 @@ err_case (Err stops.Memory) X write memory = memory refl
 abbrev fine : Result (Unit {0}) Stop
 fine = Ok tt
 
-module _ (stop : Result (Unit {0}) Stop) (lines : List (List ℕ)) (line : List ℕ) (old new : Table Row) (sink : Change SinkShown)
-    (old_answered : AreAnswered lines old sink.before.written)
+module _ (addressed : Bool) (stop : Result (Unit {0}) Stop) (lines : List (List ℕ)) (line : List ℕ) (old new : Table Row) (sink : Change SinkShown)
+    (old_answered : AreAnswered addressed lines old sink.before.written)
     (rows : OnOk stop ((table : Table (List ℕ)) → Keeps table old → Keeps (rows_after_line table line) new))
-    (writes : (table : Table (List ℕ)) → Keeps table old → Writes (answer_text table (request_of line)) sink stop) where
-  answer : List ℕ
-  answer = answer_text (rows_told lines) (request_of line)
+    (writes : (table : Table (List ℕ)) → Keeps table old → Writes (answer_text addressed table (request_of line)) sink stop) where
+  abbrev answer : List ℕ
+  answer = answer_text addressed (rows_told lines) (request_of line)
 
-  pub next_answered : stop ≡ fine → AreAnswered (lines ++ line ∷ []) new sink.now.written
+  pub next_answered : stop ≡ fine → AreAnswered addressed (lines ++ line ∷ []) new sink.now.written
   next_answered is = record {
     rows =
         subst (λ t. Keeps t new) (sym (told_more lines line))
         (subst (λ r. OnOk r ((table : Table (List ℕ)) → Keeps table old → Keeps (rows_after_line table line) new)) is rows (rows_told lines)
         old_answered.rows);
-    text = subst (λ r. Writes (answer_text (rows_told lines) (request_of line)) sink r) is (writes (rows_told lines) old_answered.rows)
-        ∙ ap (λ t. t ++ answer_text (rows_told lines) (request_of line)) old_answered.text ∙ sym (printed_more lines line);
+    text = subst (λ r. Writes answer sink r) is (writes (rows_told lines) old_answered.rows)
+        ∙ ap (λ t. t ++ answer) old_answered.text ∙ sym (printed_more addressed lines line);
   }
 
 -- all lines, of which these and one more are the first
@@ -89,9 +90,9 @@ all_are : (all lines : List (List ℕ)) (line : List ℕ) (n : ℕ) → lines ++
 all_are all lines line n e = sym (take-append-drop n all) ∙ ap (λ t. t ++ drop n all) (sym e)
 
 -- without memory the answers to the lines before are there
-pub stopped_memory : (lines given : List (List ℕ)) (line before now : List ℕ) → given ≡ lines ++ line ∷ [] → before ≡ printed lines
-    → now ≡ before → IsAnsweredBefore given now
-stopped_memory lines given line before now more text same =
+pub stopped_memory : (addressed : Bool) (lines given : List (List ℕ)) (line before now : List ℕ) → given ≡ lines ++ line ∷ []
+    → before ≡ printed addressed lines → now ≡ before → IsAnsweredBefore addressed given now
+stopped_memory addressed lines given line before now more text same =
     record { before = lines; last = line; lines_are = more; answered = same ∙ text }
 
 -- where a write failed, a front of all answers is there
@@ -101,22 +102,24 @@ front_of p answer more count within =
     sym (ap (take (length p + count)) (append_assoc p answer more) ∙ take-append-add p (answer ++ more) count
     ∙ ap (λ t. p ++ t) (take-append-le count answer more within))
 
-pub stopped_write : (lines all : List (List ℕ)) (line : List ℕ) (n : ℕ) (before now : List ℕ) → lines ++ line ∷ [] ≡ take n all
-    → before ≡ printed lines
-    → AppendsFront (answer_text (rows_told lines) (request_of line)) before now → AppendsFront (printed all) [] now
-stopped_write lines all line n before now e text front =
-    let answer = answer_text (rows_told lines) (request_of line) in
-    let more = answers (rows_told (lines ++ line ∷ [])) (drop n all) in
-    let whole : printed all ≡ (printed lines ++ answer) ++ more =
-    ap printed (all_are all lines line n e) ∙ answers-append [] (lines ++ line ∷ []) (drop n all)
-    ∙ ap (λ t. t ++ more) (printed_more lines line) in
+pub stopped_write : (addressed : Bool) (lines all : List (List ℕ)) (line : List ℕ) (n : ℕ) (before now : List ℕ) → lines ++ line ∷ [] ≡ take n all
+    → before ≡ printed addressed lines
+    → AppendsFront (answer_text addressed (rows_told lines) (request_of line)) before now
+    → AppendsFront (printed addressed all) [] now
+stopped_write addressed lines all line n before now e text front =
+    let answer = answer_text addressed (rows_told lines) (request_of line) in
+    let first = printed addressed lines in
+    let more = answers addressed (rows_told (lines ++ line ∷ [])) (drop n all) in
+    let whole : printed addressed all ≡ (first ++ answer) ++ more =
+    ap (printed addressed) (all_are all lines line n e) ∙ answers-append addressed [] (lines ++ line ∷ []) (drop n all)
+    ∙ ap (λ t. t ++ more) (printed_more addressed lines line) in
     record {
-      count = length (printed lines) + front.count;
-      within = subst (λ t. length (printed lines) + front.count ≤ length t) (sym whole)
-          (omega (arith, front.within, length-append (printed lines ++ answer) more, length-append (printed lines) answer));
+      count = length first + front.count;
+      within = subst (λ t. length first + front.count ≤ length t) (sym whole)
+          (omega (arith, front.within, length-append (first ++ answer) more, length-append first answer));
       appended =
-          front.appended ∙ ap (λ t. t ++ take front.count answer) text ∙ front_of (printed lines) answer more front.count front.within
-          ∙ ap (take (length (printed lines) + front.count)) (sym whole);
+          front.appended ∙ ap (λ t. t ++ take front.count answer) text ∙ front_of first answer more front.count front.within
+          ∙ ap (take (length first + front.count)) (sym whole);
     }
 
 -- ---- a step
@@ -140,10 +143,10 @@ pub bad_rows : (line : List ℕ) (old : Table Row) (stop : Result (Unit {0}) Sto
     → OnOk stop ((table : Table (List ℕ)) → Keeps table old → Keeps (rows_after_line table line) old)
 bad_rows line old stop none = on_any stop _ (λ table k. subst (λ o. Keeps (rows_by table o) old) (sym none) k)
 
-pub bad_writes : (line : List ℕ) (sink : Change SinkShown) (stop : Result (Unit {0}) Stop) → request_of line ≡ None
+pub bad_writes : (addressed : Bool) (line : List ℕ) (sink : Change SinkShown) (stop : Result (Unit {0}) Stop) → request_of line ≡ None
     → Writes (codes "bad\n") sink stop
-    → (table : Table (List ℕ)) → Writes (answer_text table (request_of line)) sink stop
-bad_writes line sink stop none writes table = subst (λ o. Writes (answer_text table o) sink stop) (sym none) writes
+    → (table : Table (List ℕ)) → Writes (answer_text addressed table (request_of line)) sink stop
+bad_writes addressed line sink stop none writes table = subst (λ o. Writes (answer_text addressed table o) sink stop) (sym none) writes
 
 -- ---- what the reader gives
 

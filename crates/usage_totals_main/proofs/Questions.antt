@@ -1,18 +1,18 @@
 -- What is printed of the amounts that are kept is what the rows say.
-use Rattle.std.proofs.Common.{◌≡◌, ℕ, List, [], ◌∷◌, ◌++◌, ℤ, map, refl, sym, ap, ◌∙◌}
+use Rattle.std.proofs.Common.{◌≡◌, ℕ, List, [], ◌∷◌, ◌++◌, Option, refl, ap, ◌∙◌}
 use Rattle.std.specs.Prelude.{codes}
 use Rattle.std.specs.List.{flat_map}
 use Rattle.paper.specs.Pieces.{text_if}
 use Rattle.meter_address.specs.declared.address.Address.{Address}
 use Rattle.meter_usage.specs.declared.key.UsageKey.{UsageKey}
-use Rattle.meter_usage.specs.Amounts.{Row, row_of}
+use Rattle.meter_usage.specs.Amounts.{Row}
 use Rattle.meter_usage.specs.Usage.{usage, usage_at}
 use Rattle.meter_usage.specs.Sums.{total, total_at, keys_in}
 use Rattle.meter_usage.specs.Table.{Table, rows_at, kept}
 use Rattle.meter_usage.specs.Edits.{Edit, rows_after, StandsFor}
 use Rattle.meter_usage.proofs.Tables.{kept_rows}
 use Rattle.meter_usage.proofs.Payloads.{usage_kept, total_kept}
-use Rattle.usage_totals_main.specs.Texts.{usage_line, total_line, usages_text, totals_text, usages_kept, totals_kept}
+use Rattle.usage_totals_main.specs.Texts.{usage_line, total_line, done_text, usages_text, totals_text, usages_kept, totals_kept}
 use Rattle.usage_totals_main.specs.Answering.{Keeps}
 
 flat_map_same : {A : Type 0} (f g : A → List ℕ) (xs : List A) → ((x : A) → f x ≡ g x) → flat_map f xs ≡ flat_map g xs
@@ -35,15 +35,15 @@ module _ (table : Table (List ℕ)) (value : Table Row) (k : Keeps table value) 
   total_is : (key : UsageKey) → total_at key value ≡ total table key
   total_is key = ap (total_at key) value_is ∙ total_kept key table
 
-  pub usages_are : (address : Address) (keys : List UsageKey)
+  pub usages_are : (meter : Option Address) (address : Address) (keys : List UsageKey)
       → ((edits : List Edit) → StandsFor edits value → keys ≡ keys_in (rows_after edits))
-      → usages_kept value address keys ≡ usages_text table address
+      → usages_kept meter value address keys ≡ usages_text meter table address
   unfolding usages_kept usages_text
-  usages_are address keys given =
-      ap (λ t. t ++ codes "end\n") (flat_map_same (λ key. text_if (usage_line key) (usage_at key (rows_at address value)))
-      (λ key. text_if (usage_line key) (usage (rows_at address table) key)) keys
-      (λ key. ap (text_if (usage_line key)) (usage_is address key))
-      ∙ ap (flat_map (λ key. text_if (usage_line key) (usage (rows_at address table) key))) (keys_are keys given))
+  usages_are meter address keys given =
+      ap (λ t. t ++ done_text meter (codes "end")) (flat_map_same (λ key. text_if (usage_line meter key) (usage_at key (rows_at address value)))
+      (λ key. text_if (usage_line meter key) (usage (rows_at address table) key)) keys
+      (λ key. ap (text_if (usage_line meter key)) (usage_is address key))
+      ∙ ap (flat_map (λ key. text_if (usage_line meter key) (usage (rows_at address table) key))) (keys_are keys given))
 
   pub totals_are : (keys : List UsageKey) → ((edits : List Edit) → StandsFor edits value → keys ≡ keys_in (rows_after edits))
       → totals_kept value keys ≡ totals_text table

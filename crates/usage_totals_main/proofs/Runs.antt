@@ -1,12 +1,13 @@
 -- What a run comes to, by how its lines ended.
-use Rattle.std.proofs.Common.{◌≡◌, ℕ, ◌⊎◌, Bool, true, false, List, [], ◌++◌, length, refl, sym, ap, ◌∙◌, subst, inl, inr}
-use Rattle.std.specs.Prelude.{◌≢◌, IsTrue}
+use Rattle.std.proofs.Common.{◌≡◌, ◌⊎◌, Bool, true, false, [], ◌++◌, refl, sym, ap, ◌∙◌, subst, inl, inr}
+use Rattle.std.specs.Prelude.{◌≢◌, IsTrue, IsSome}
 use Rattle.std.proofs.lemmas.List.{append-nil}
-use Rattle.outer_io.specs.Shown.{Change, ReadFailed, WriteFailed, LosesNothing}
+use Rattle.outer_io.specs.Shown.{ReadFailed, WriteFailed, LosesNothing}
 use Rattle.line_reader.specs.Lines.{is_over, all_lines}
 use Rattle.usage_totals_main.specs.declared.status.TotalsStatus.{TotalsStatus}
 use Rattle.usage_totals_main.specs.declared.status.TotalsStatus.TheVariants as statuses
-use Rattle.usage_totals_main.specs.Run.{Run, printed, IsDone, IsAnswered, IsCausedBy, IsFaultless, IsRun}
+use Rattle.usage_totals_main.specs.Words.{totals_asked}
+use Rattle.usage_totals_main.specs.Run.{Run, printed, addresses_asked, IsDone, IsAnswered, IsCausedBy, IsFaultless, IsRun}
 use Rattle.usage_totals_main.specs.Running.{SourceEnds}
 
 clash : {A : Type 0} (b : Bool) → b ≡ true → b ≡ false → A
@@ -14,9 +15,10 @@ clash b t f = let no_way : true ≡ false = sym t ∙ f in absurd cc
 
 -- what is known of lines that ended
 pub record Ended (run : Run) : Type 0 where
-  pub one : length run.words ≡ 1
+  pub asked : IsSome (totals_asked run.words)
   pub source : IsTrue run.sources_tell → SourceEnds run.status run.edits.now.taken run.edits.now.left
-  pub ends : IsTrue run.sources_tell → IsTrue run.sinks_tell → IsAnswered run.status run.lines run.edits.now.taken run.out.now.written
+  pub ends : IsTrue run.sources_tell → IsTrue run.sinks_tell
+      → IsAnswered (addresses_asked run.words) run.status run.lines run.edits.now.taken run.out.now.written
   pub others : run.status ≢ statuses.Words
   pub read : run.status ≡ statuses.Read → ReadFailed run.edits
   pub write : run.status ≡ statuses.Write → WriteFailed run.out
@@ -37,8 +39,9 @@ module _ (run : Run) (e : Ended run) where
         read = record { took_all = taken ∙ e.bytes tells; nothing_left = ended.0 };
         within = ap is_over (sym all) ∙ ended.1;
         answered =
-            λ sinks_tell. subst (λ s. IsAnswered s run.lines run.edits.now.taken run.out.now.written) is (e.ends tells sinks_tell)
-            ∙ ap (λ t. printed (all_lines t)) all;
+            λ sinks_tell. subst (λ s. IsAnswered (addresses_asked run.words) s run.lines run.edits.now.taken run.out.now.written) is
+            (e.ends tells sinks_tell)
+            ∙ ap (λ t. printed (addresses_asked run.words) (all_lines t)) all;
       }
 
   caused_by : (status : TotalsStatus) → run.status ≡ status → IsCausedBy run status
@@ -64,7 +67,7 @@ module _ (run : Run) (e : Ended run) where
     done = is_done;
     answered = e.ends;
     caused = caused_by run.status refl;
-    refused = λ other. absurd (other e.one);
+    refused = λ none. absurd (let no : false ≡ true = subst IsSome none e.asked in cc);
     unread = λ is. absurd (e.others is);
     complete = complete_by run.status refl;
     no_loss = e.bytes;

@@ -1,10 +1,11 @@
 -- A run over a file of edits and questions: what its source and its sink showed before and after it, and what is promised of it.
-use Rattle.std.specs.Prelude.{ℕ, ◌≡◌, ◌≢◌, ◌⊎◌, ◌↔◌, Bool, true, false, List, [], ◌∷◌, ◌++◌, length, IsTrue}
+use Rattle.std.specs.Prelude.{ℕ, ◌≡◌, ◌⊎◌, Bool, true, false, List, [], ◌∷◌, ◌++◌, None, IsTrue, IsSome}
 use Rattle.outer_io.specs.Bytes.{AppendsFront}
-use Rattle.outer_io.specs.Shown.{Change, SourceShown, SinkShown, ReadFailed, WriteFailed, LosesNothing, IsReadOut, IsSilent}
+use Rattle.outer_io.specs.Shown.{Change, SourceShown, SinkShown, ReadFailed, WriteFailed, LosesNothing, IsReadOut}
 use Rattle.line_reader.specs.Lines.{is_over, whole_lines, all_lines}
 use Rattle.usage_totals_main.specs.declared.status.TotalsStatus.{TotalsStatus}
 use Rattle.usage_totals_main.specs.declared.status.TotalsStatus.TheVariants as statuses
+use Rattle.usage_totals_main.specs.Words.{totals_asked, is_addressed}
 use Rattle.usage_totals_main.specs.Texts.{answers}
 
 -- the program's exit status
@@ -27,9 +28,13 @@ pub record Run : Type 0 where
   pub out : Change SinkShown
   pub status : TotalsStatus
 
--- what is printed for lines, the first of which finds no rows
-abbrev pub printed : List (List ℕ) → List ℕ
-printed lines = answers [] lines
+-- what is printed for lines, the first of which finds no rows, with addresses or without
+abbrev pub printed : Bool → List (List ℕ) → List ℕ
+printed addressed lines = answers addressed [] lines
+
+-- whether the words of a run ask for addresses
+abbrev pub addresses_asked : List (List ℕ) → Bool
+addresses_asked words = is_addressed (totals_asked words)
 
 -- ---- what is promised
 
@@ -37,29 +42,30 @@ printed lines = answers [] lines
 pub record IsDone (run : Run) : Type 0 where
   pub read : IsReadOut run.edits
   pub within : is_over run.edits.before.left ≡ false
-  pub answered : IsTrue run.sinks_tell → run.out.now.written ≡ printed (all_lines run.edits.before.left)
+  pub answered : IsTrue run.sinks_tell
+      → run.out.now.written ≡ printed (addresses_asked run.words) (all_lines run.edits.before.left)
 
 -- there was no memory for the last of the lines taken: the answers to those before it are there, and nothing of one to it
-pub record IsAnsweredBefore (lines : List (List ℕ)) (written : List ℕ) : Type 0 where
+pub record IsAnsweredBefore (addressed : Bool) (lines : List (List ℕ)) (written : List ℕ) : Type 0 where
   pub before : List (List ℕ)
   pub last : List ℕ
   pub lines_are : lines ≡ before ++ last ∷ []
-  pub answered : written ≡ printed before
+  pub answered : written ≡ printed addressed before
 
 -- what is there, by the bytes and the lines taken of the file: after status 7 a front of the answers, and after 10 those to all lines
 -- taken but the last
-abbrev pub IsAnswered : TotalsStatus → (lines : List (List ℕ)) → (taken written : List ℕ) → Type 0
-IsAnswered statuses.Done lines taken written = written ≡ printed (all_lines taken)
-IsAnswered statuses.Read lines taken written = written ≡ printed (whole_lines taken)
-IsAnswered statuses.Cut lines taken written = written ≡ printed (whole_lines taken)
-IsAnswered statuses.Write lines taken written = AppendsFront (printed (all_lines taken)) [] written
-IsAnswered statuses.Memory lines taken written = IsAnsweredBefore lines written
-IsAnswered statuses.Words lines taken written = written ≡ []
+abbrev pub IsAnswered : (addressed : Bool) → TotalsStatus → (lines : List (List ℕ)) → (taken written : List ℕ) → Type 0
+IsAnswered addressed statuses.Done lines taken written = written ≡ printed addressed (all_lines taken)
+IsAnswered addressed statuses.Read lines taken written = written ≡ printed addressed (whole_lines taken)
+IsAnswered addressed statuses.Cut lines taken written = written ≡ printed addressed (whole_lines taken)
+IsAnswered addressed statuses.Write lines taken written = AppendsFront (printed addressed (all_lines taken)) [] written
+IsAnswered addressed statuses.Memory lines taken written = IsAnsweredBefore addressed lines written
+IsAnswered addressed statuses.Words lines taken written = written ≡ []
 
 -- the cause of a status
 abbrev pub IsCausedBy : Run → TotalsStatus → Type 0
 IsCausedBy run statuses.Done = Unit {0}
-IsCausedBy run statuses.Words = length run.words ≢ 1
+IsCausedBy run statuses.Words = totals_asked run.words ≡ None
 IsCausedBy run statuses.Read = ReadFailed run.edits
 IsCausedBy run statuses.Cut = IsTrue run.sources_tell → is_over run.edits.before.left ≡ true
 IsCausedBy run statuses.Write = WriteFailed run.out
@@ -67,7 +73,7 @@ IsCausedBy run statuses.Memory = Unit {0}
 
 -- nothing stands in the way
 pub record IsFaultless (run : Run) : Type 0 where
-  pub words : length run.words ≡ 1
+  pub words : IsSome (totals_asked run.words)
   pub within : is_over run.edits.before.left ≡ false
   pub read : ReadFailed run.edits → ⊥
   pub written : WriteFailed run.out → ⊥
@@ -76,10 +82,11 @@ pub record IsRun (run : Run) : Type 0 where
   -- after status 0 each line of the file has its answer, in order: an edit is done or refused by the rows that the edits before it left
   pub done : run.status ≡ statuses.Done → IsTrue run.sources_tell → IsDone run
   -- after each status the answers to the lines taken are there, as far as it says
-  pub answered : IsTrue run.sources_tell → IsTrue run.sinks_tell → IsAnswered run.status run.lines run.edits.now.taken run.out.now.written
-  -- each status has its cause; other words than one file are refused, and nothing is read then
+  pub answered : IsTrue run.sources_tell → IsTrue run.sinks_tell
+      → IsAnswered (addresses_asked run.words) run.status run.lines run.edits.now.taken run.out.now.written
+  -- each status has its cause; words that ask for nothing are refused, and nothing is read then
   pub caused : IsCausedBy run run.status
-  pub refused : length run.words ≢ 1 → run.status ≡ statuses.Words
+  pub refused : totals_asked run.words ≡ None → run.status ≡ statuses.Words
   pub unread : run.status ≡ statuses.Words → run.edits.now ≡ run.edits.before
   -- where nothing stands in the way all is done, unless there is no memory
   pub complete : IsTrue run.sources_tell → IsFaultless run → (run.status ≡ statuses.Done) ⊎ (run.status ≡ statuses.Memory)

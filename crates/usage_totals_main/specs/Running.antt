@@ -1,5 +1,5 @@
 -- Words of private contracts: lines that are answered one after another.
-use Rattle.std.specs.Prelude.{ℕ, ◌≡◌, true, false, List, [], ◌++◌, Result, Ok, Err}
+use Rattle.std.specs.Prelude.{ℕ, ◌≡◌, Bool, true, false, List, [], ◌++◌, Result, Ok, Err}
 use Rattle.line_reader.specs.Lines.{is_over}
 use Rattle.meter_usage.specs.Amounts.{Row}
 use Rattle.meter_usage.specs.Table.{Table}
@@ -12,9 +12,9 @@ use Rattle.usage_totals_main.specs.Answering.{Keeps}
 use Rattle.usage_totals_main.specs.Run.{printed}
 
 -- The rows that lines leave are kept, and the answers to the lines are written.
-pub record AreAnswered (lines : List (List ℕ)) (value : Table Row) (written : List ℕ) : Type 0 where
+pub record AreAnswered (addressed : Bool) (lines : List (List ℕ)) (value : Table Row) (written : List ℕ) : Type 0 where
   pub rows : Keeps (rows_told lines) value
-  pub text : written ≡ printed lines
+  pub text : written ≡ printed addressed lines
 
 -- what a status says of the source
 abbrev pub SourceEnds : TotalsStatus → (taken left : List ℕ) → Type 0

@@ -2,11 +2,13 @@
 #![tactic(auto)]
 
 mod answer;
+mod asked;
 mod request;
 mod running;
 mod status;
 mod texts;
 
+pub use asked::{Asked, totals_asked};
 pub use meter_usage::{Totals, TotalsFault, UsageKey};
 pub use request::LINE_MAX;
 pub use running::totals_run;

@@ -1,5 +1,5 @@
 //! The run over a file of edits and questions.
-ghost use Rattle.std.specs.Prelude.{◌≡◌, ◌≢◌, ◌≤◌, ◌+◌, ◌++◌, [], false, map, length, Err, IsTrue, OnOk, IfErr};
+ghost use Rattle.std.specs.Prelude.{◌≡◌, ◌≢◌, ◌≤◌, ◌+◌, ◌++◌, [], false, map, Err, IsTrue, OnOk, IfErr};
 ghost use Rattle.std.specs.String.{string_bytes};
 ghost use Rattle.outer_io.specs.Faults.{Rose};
 ghost use Rattle.outer_io.specs.Shown.{source_change, sink_change, WriteFailed};
@@ -8,6 +8,7 @@ ghost use Rattle.usage_totals_main.specs.Run.{IsRun, IsAnswered};
 ghost use Rattle.usage_totals_main.specs.Running.{AreAnswered, SourceEnds, ended_by};
 
 use crate::answer::{Stop, answer_line, write_bad};
+use crate::asked::totals_asked;
 use crate::status::TotalsStatus;
 use line_reader::{NextText, TextReader};
 use meter_usage::Totals;
@@ -31,6 +32,7 @@ fn answer_next<S: Source, K: Sink>(
     totals: &mut Totals,
     edits: &mut TextReader<S>,
     out: &mut K,
+    addressed: bool,
 ) -> Result<(), TotalsStatus>
     requires goes_on { edits.old.reader.done ≡ false }
     requires longest { edits.old.longest ≡ 7774 }
@@ -38,13 +40,13 @@ fn answer_next<S: Source, K: Sink>(
     ensures next { OnOk result ((edits.new.reader.done ≡ false) × (edits.new.reader.line ≡ edits.old.reader.line + 1)) }
     ensures few { edits.new.reader.line ≤ 131072 }
     ensures answered { OnOk result (IsTrue S.tells → IsTrue K.tells →
-        AreAnswered (given S.taken edits.old.reader) totals.old (K.written out.old) →
-        AreAnswered (given S.taken edits.new.reader) totals.new (K.written out.new)) }
+        AreAnswered addressed (given S.taken edits.old.reader) totals.old (K.written out.old) →
+        AreAnswered addressed (given S.taken edits.new.reader) totals.new (K.written out.new)) }
     ensures source { IfErr result (λ status. IsTrue S.tells →
         SourceEnds status (S.taken edits.new.reader.source) (S.left edits.new.reader.source)) }
     ensures ends { IfErr result (λ status. IsTrue S.tells → IsTrue K.tells →
-        AreAnswered (given S.taken edits.old.reader) totals.old (K.written out.old) →
-        IsAnswered status (given S.taken edits.new.reader) (S.taken edits.new.reader.source) (K.written out.new)) }
+        AreAnswered addressed (given S.taken edits.old.reader) totals.old (K.written out.old) →
+        IsAnswered addressed status (given S.taken edits.new.reader) (S.taken edits.new.reader.source) (K.written out.new)) }
     ensures words { IfErr result (λ status. status ≢ TotalsStatus.Words) }
     ensures read { result ≡ Err TotalsStatus.Read → Rose (S.faults edits.old.reader.source) (S.faults edits.new.reader.source) }
     ensures write { result ≡ Err TotalsStatus.Write → Rose (K.faults out.old) (K.faults out.new) }
@@ -54,7 +56,7 @@ fn answer_next<S: Source, K: Sink>(
         ≡ S.taken edits.old.reader.source ++ S.left edits.old.reader.source }
 {
     match edits.next() {
-        Ok(NextText::Line) => ended_by(answer_line(alloc, totals, out, edits.text())),
+        Ok(NextText::Line) => ended_by(answer_line(alloc, totals, out, addressed, edits.text())),
         Ok(NextText::TooLong) => ended_by(write_bad(out)),
         Ok(NextText::End) => Err(TotalsStatus::Done),
         Ok(NextText::Cut) => Err(TotalsStatus::Cut),
@@ -67,6 +69,7 @@ fn answer_lines<S: Source, K: Sink>(
     alloc: Global,
     edits: &mut TextReader<S>,
     out: &mut K,
+    addressed: bool,
 ) -> TotalsStatus
     requires fresh { edits.old.reader.line ≡ 0 }
     requires goes_on { edits.old.reader.done ≡ false }
@@ -75,7 +78,7 @@ fn answer_lines<S: Source, K: Sink>(
     ensures source { IsTrue S.tells →
         SourceEnds result (S.taken edits.new.reader.source) (S.left edits.new.reader.source) }
     ensures ends { IsTrue S.tells → IsTrue K.tells →
-        IsAnswered result (given S.taken edits.new.reader) (S.taken edits.new.reader.source) (K.written out.new) }
+        IsAnswered addressed result (given S.taken edits.new.reader) (S.taken edits.new.reader.source) (K.written out.new) }
     ensures words { result ≢ TotalsStatus.Words }
     ensures read { result ≡ TotalsStatus.Read → Rose (S.faults edits.old.reader.source) (S.faults edits.new.reader.source) }
     ensures write { result ≡ TotalsStatus.Write → Rose (K.faults out.old) (K.faults out.new) }
@@ -84,7 +87,7 @@ fn answer_lines<S: Source, K: Sink>(
 {
     let mut totals = Totals::new(alloc);
     'lines: loop {
-        if let Err(status) = answer_next(alloc, &mut totals, edits, out) {
+        if let Err(status) = answer_next(alloc, &mut totals, edits, out, addressed) {
             return status;
         }
     }
@@ -92,7 +95,8 @@ fn answer_lines<S: Source, K: Sink>(
 
 /// Answers the lines of a file of edits and questions, one after another: a line is answered before the next is taken.
 ///
-/// The words are those of the program, without its name: the file alone. The reader is one that was just made over it,
+/// The words are those of the program, without its name: the file, and `--addressed` in front of it where each answer is to have the
+/// address of its meter in it. The reader is one that was just made over it,
 /// for lines of at most `LINE_MAX` bytes.
 pub fn totals_run<S: Source, K: Sink>(
     alloc: Global,
@@ -115,8 +119,8 @@ pub fn totals_run<S: Source, K: Sink>(
       status = result;
     }) }
 {
-    if words.len() != 1 {
+    let Some(asked) = totals_asked(words) else {
         return TotalsStatus::Words;
-    }
-    answer_lines(alloc, edits, out)
+    };
+    answer_lines(alloc, edits, out, asked.addressed)
 }

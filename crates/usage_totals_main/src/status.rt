@@ -5,7 +5,7 @@
 pub enum TotalsStatus {
     /// Status 0: the edits were read to their end, and every answer is written.
     Done,
-    /// Status 2: there isn't exactly one word, the file of edits.
+    /// Status 2: the words aren't one file of edits, with or without `--addressed` in front of it.
     Words,
     /// Status 5: the edits can't be read.
     Read,

@@ -1,16 +1,71 @@
 //! The texts of answers.
+ghost use Rattle.std.specs.Prelude.{◌≡◌, codes};
 ghost use Rattle.std.specs.List.{flat_map};
 ghost use Rattle.paper.specs.Puts.{Puts};
-ghost use Rattle.paper.specs.Pieces.{text_if};
+ghost use Rattle.paper.specs.Pieces.{labelled, text_if};
 ghost use Rattle.meter_usage.specs.Usage.{usage_at};
 ghost use Rattle.meter_usage.specs.Sums.{total_at};
 ghost use Rattle.meter_usage.specs.Table.{rows_at};
-ghost use Rattle.usage_totals_main.specs.Texts.{key_text, usage_line, total_line};
+ghost use Rattle.usage_totals_main.specs.Texts.{named_if, address_text, done_text, refusal_text, key_text, usage_line, total_line};
 
 use meter_address::Address;
-use meter_usage::{Totals, UsageKey};
-use paper::{Paper, Printed, put_labelled, put_signed, put_text};
+use meter_usage::{Totals, TotalsFault, UsageKey};
+use paper::{Paper, Printed, put_hex, put_labelled, put_signed, put_text};
 use unit_text::{put_register, put_unit};
+
+/// The meter that an answer names, if answers do.
+pub(crate) fn named_if(addressed: bool, address: Address) -> Option<Address>
+    ensures { result ≡ named_if addressed address }
+{
+    if addressed { Some(address) } else { None }
+}
+
+#[tactic(auto, using(paper::proofs::Calls::two_make))]
+fn put_address<P: Paper>(paper: &mut P, address: Address)
+    ensures { Puts P.takes paper.old (address_text address) paper.new }
+{
+    put_text(paper, " ");
+    put_hex(paper, &address.to_bytes());
+}
+
+#[tactic(auto, using(paper::proofs::Calls::none))]
+fn put_meter<P: Paper>(paper: &mut P, meter: Option<Address>)
+    ensures { Puts P.takes paper.old (text_if address_text meter) paper.new }
+{
+    match meter {
+        None => {}
+        Some(address) => put_address(paper, address),
+    }
+}
+
+#[tactic(auto, unfolding(crate::specs::Texts::done_text), using(paper::proofs::Calls::three_make))]
+fn put_done<P: Paper>(paper: &mut P, meter: Option<Address>, word: &str)
+    ensures { Puts P.takes paper.old (done_text meter word.now) paper.new }
+{
+    put_text(paper, word);
+    put_meter(paper, meter);
+    put_text(paper, "\n");
+}
+
+#[tactic(auto, unfolding(crate::specs::Texts::refusal_text), using(paper::proofs::Calls::four_make))]
+fn put_refusal<P: Paper>(paper: &mut P, meter: Option<Address>, words: &str)
+    ensures { Puts P.takes paper.old (refusal_text meter words.now) paper.new }
+{
+    put_text(paper, "refused");
+    put_meter(paper, meter);
+    put_text(paper, words);
+    put_text(paper, "\n");
+}
+
+#[tactic(auto, unfolding(crate::specs::Texts::refusal_text), using(paper::proofs::Calls::four_make))]
+fn put_no_such<P: Paper>(paper: &mut P, meter: Option<Address>, place: u32)
+    ensures { Puts P.takes paper.old (refusal_text meter (labelled (codes " nosuch ") place)) paper.new }
+{
+    put_text(paper, "refused");
+    put_meter(paper, meter);
+    put_labelled(paper, " nosuch ", u64::from(place));
+    put_text(paper, "\n");
+}
 
 #[tactic(auto, unfolding(crate::specs::Texts::key_text), using(paper::proofs::Calls::two_make))]
 fn put_key<P: Paper>(paper: &mut P, key: &UsageKey)
@@ -20,11 +75,12 @@ fn put_key<P: Paper>(paper: &mut P, key: &UsageKey)
     put_unit(paper, key.quantity, key.name, key.exponent);
 }
 
-#[tactic(auto, unfolding(crate::specs::Texts::usage_line), using(paper::proofs::Calls::five_make))]
-fn put_usage<P: Paper>(paper: &mut P, key: &UsageKey, amount: i128)
-    ensures { Puts P.takes paper.old (usage_line key.now amount) paper.new }
+#[tactic(auto, unfolding(crate::specs::Texts::usage_line), using(paper::proofs::Calls::six_make))]
+fn put_usage<P: Paper>(paper: &mut P, meter: Option<Address>, key: &UsageKey, amount: i128)
+    ensures { Puts P.takes paper.old (usage_line meter key.now amount) paper.new }
 {
     put_text(paper, "usage");
+    put_meter(paper, meter);
     put_key(paper, key);
     put_text(paper, " ");
     put_signed(paper, amount);
@@ -32,12 +88,12 @@ fn put_usage<P: Paper>(paper: &mut P, key: &UsageKey, amount: i128)
 }
 
 #[tactic(auto, using(paper::proofs::Calls::none))]
-fn put_usage_if<P: Paper>(paper: &mut P, key: &UsageKey, used: Option<i128>)
-    ensures { Puts P.takes paper.old (text_if (usage_line key.now) used) paper.new }
+fn put_usage_if<P: Paper>(paper: &mut P, meter: Option<Address>, key: &UsageKey, used: Option<i128>)
+    ensures { Puts P.takes paper.old (text_if (usage_line meter key.now) used) paper.new }
 {
     match used {
         None => {}
-        Some(amount) => put_usage(paper, key, amount),
+        Some(amount) => put_usage(paper, meter, key, amount),
     }
 }
 
@@ -60,12 +116,18 @@ fn put_total_of<P: Paper>(paper: &mut P, totals: &Totals, key: &UsageKey)
 }
 
 #[tactic(auto, using(paper::proofs::Calls::none))]
-fn put_usages<P: Paper>(paper: &mut P, totals: &Totals, address: Address, keys: &[UsageKey])
+fn put_usages<P: Paper>(
+    paper: &mut P,
+    meter: Option<Address>,
+    totals: &Totals,
+    address: Address,
+    keys: &[UsageKey],
+)
     ensures { Puts P.takes paper.old
-        (flat_map (λ key. text_if (usage_line key) (usage_at key (rows_at address totals.now))) keys.now) paper.new }
+        (flat_map (λ key. text_if (usage_line meter key) (usage_at key (rows_at address totals.now))) keys.now) paper.new }
 {
     for key in keys {
-        put_usage_if(paper, key, totals.usage(address, key));
+        put_usage_if(paper, meter, key, totals.usage(address, key));
     }
 }
 
@@ -78,9 +140,10 @@ fn put_totals<P: Paper>(paper: &mut P, totals: &Totals, keys: &[UsageKey])
     }
 }
 
-/// The usages of a meter, with the keys of all usages.
+/// The usages of a meter, with the keys of all usages, and the meter that the answer names, if it does.
 #[derive(Drop)]
 pub(crate) struct UsagesAnswer<'a> {
+    pub meter: Option<Address>,
     pub totals: &'a Totals,
     pub address: Address,
     pub keys: &'a [UsageKey],
@@ -89,12 +152,12 @@ pub(crate) struct UsagesAnswer<'a> {
 impl Printed for UsagesAnswer<'_> {
     ghost use Rattle.usage_totals_main.specs.Texts.{usages_kept};
 
-    ghost text = { λ a. usages_kept a.totals.now a.address a.keys.now };
+    ghost text = { λ a. usages_kept a.meter a.totals.now a.address a.keys.now };
 
     #[tactic(auto, unfolding(crate::specs::Texts::usages_kept), using(paper::proofs::Calls::two_make))]
     fn print<P: Paper>(&self, paper: &mut P) {
-        put_usages(paper, self.totals, self.address, self.keys);
-        put_text(paper, "end\n");
+        put_usages(paper, self.meter, self.totals, self.address, self.keys);
+        put_done(paper, self.meter, "end");
     }
 }
 
@@ -117,22 +180,26 @@ impl Printed for TotalsAnswer<'_> {
     }
 }
 
-/// The refusal of an edit of a row that isn't there.
+/// The answer to an edit: why the rows refuse it, if they do, and the meter that the answer names, if it does.
 #[derive(Drop)]
-pub(crate) struct NoSuchRow {
-    pub place: u32,
+pub(crate) struct EditAnswer {
+    pub meter: Option<Address>,
+    pub fault: Option<TotalsFault>,
 }
 
-impl Printed for NoSuchRow {
-    ghost use Rattle.std.specs.Prelude.{Some};
-    ghost use Rattle.meter_usage.specs.declared.fault.TotalsFault.TheVariants.{NoSuch};
+impl Printed for EditAnswer {
     ghost use Rattle.usage_totals_main.specs.Texts.{edit_text};
 
-    ghost text = { λ r. edit_text (Some (NoSuch r.place)) };
+    ghost text = { λ a. edit_text a.meter a.fault };
 
-    #[tactic(auto, using(paper::proofs::Calls::two_make))]
+    #[tactic(auto, using(paper::proofs::Calls::none))]
     fn print<P: Paper>(&self, paper: &mut P) {
-        put_labelled(paper, "refused nosuch ", u64::from(self.place));
-        put_text(paper, "\n");
+        match self.fault {
+            None => put_done(paper, self.meter, "ok"),
+            Some(TotalsFault::Meters) => put_refusal(paper, self.meter, " meters"),
+            Some(TotalsFault::Rows) => put_refusal(paper, self.meter, " rows"),
+            Some(TotalsFault::NoSuch(place)) => put_no_such(paper, self.meter, place),
+            Some(TotalsFault::Memory) => {}
+        }
     }
 }

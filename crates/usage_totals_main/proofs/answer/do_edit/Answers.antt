@@ -1,5 +1,5 @@
-use Rattle.std.proofs.Common.{List, ℕ, sym, subst, ap, ◌∙◌}
-use Rattle.meter_usage.specs.Edits.{addition, replacement, removal}
+use Rattle.std.proofs.Common.{sym, subst, ap, ◌∙◌}
+use Rattle.meter_usage.specs.Edits.{addition, replacement}
 use Rattle.usage_totals_main.specs.Requests.{edit_read}
 use Rattle.usage_totals_main.specs.Answering.{DoesEdit}
 use Rattle.usage_totals_main.proofs.Edits.{edit_settled}

@@ -1,6 +1,5 @@
-use Rattle.std.proofs.Common.{◌≡◌, ◌++◌, ap, ◌∙◌, subst}
+use Rattle.std.proofs.Common.{◌++◌, ap, ◌∙◌, subst}
 use Rattle.outer_io.specs.Bytes.{AppendsFront}
-use Rattle.usage_totals_main.specs.Texts.{totals_kept, totals_text}
 use Rattle.usage_totals_main.proofs.Questions.{totals_are}
 use Rattle.usage_totals_main.proofs.answer.write_totals.Goals as goal
 

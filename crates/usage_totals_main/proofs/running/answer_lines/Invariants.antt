@@ -9,7 +9,7 @@ invariant-lines g l = record {
   longest : l.edits.longest ≡ 7774;
   few : l.edits.reader.line ≤ 131072;
   answered : IsTrue g.S.Source.tells → IsTrue g.K.Sink.tells
-      → AreAnswered (given g.S.Source.taken l.edits.reader) l.totals (g.K.Sink.written l.out);
+      → AreAnswered l.addressed (given g.S.Source.taken l.edits.reader) l.totals (g.K.Sink.written l.out);
   later_source : g.S.Source.faults l.initial.edits.reader.source ≤ g.S.Source.faults l.edits.reader.source;
   later_sink : g.K.Sink.faults l.initial.out ≤ g.K.Sink.faults l.out;
   bytes : IsTrue g.S.Source.tells → g.S.Source.taken l.edits.reader.source ++ g.S.Source.left l.edits.reader.source

@@ -8,6 +8,6 @@ use Rattle.usage_totals_main.proofs.texts.put_usages.Goals as goal
 
 pub loop-key-preserved : goal.loop-key-preserved
 loop-key-preserved g c =
-    one_at (λ key. text_if (usage_line key) (usage_at key (rows_at c.args.address c.args.totals.now))) c.args.keys.now _ _
+    one_at (λ key. text_if (usage_line c.args.meter key) (usage_at key (rows_at c.args.address c.args.totals.now))) c.args.keys.now _ _
     c.loop-key-test.true c.loop-key.invariant
-    (is_put _ _ (ap (text_if (usage_line _)) (sym c.usage.ensures.kept)) c.put_usage_if.ensures)
+    (is_put _ _ (ap (text_if (usage_line c.args.meter _)) (sym c.usage.ensures.kept)) c.put_usage_if.ensures)

@@ -9,4 +9,4 @@ use Rattle.usage_totals_main.proofs.texts.put_usages.Given as goal
 
 abbrev pub invariant-loop-key : goal.invariant-loop-key
 invariant-loop-key g l = Puts g.P.Paper.takes l.initial.paper
-    (flat_map (λ key. text_if (usage_line key) (usage_at key (rows_at l.address l.totals))) (take l.key-index l.keys)) l.paper
+    (flat_map (λ key. text_if (usage_line l.meter key) (usage_at key (rows_at l.address l.totals))) (take l.key-index l.keys)) l.paper
