@@ -36,10 +36,11 @@ rtl_433    JSON lines of rtl_433 -F json, of the model Wireless-MBus, taken wher
 hex        a telegram without CRCs in hexadecimal in each line; | and _ may stand between digits
 
 For each telegram its frame of format A is printed, with the moment in seconds since
-1970: the line's own date and time, taken as those of Greenwich (start the receiver with
-TZ=UTC), or the clock's where the line has none. Each line is written at once, so that
-line_feed stands in a pipe. A line that isn't a telegram is named on the standard error
-with its number and the reason, and at the end how many were taken and how many weren't.
+1970: the line's own time, or the clock's where the line has none. A date and a time
+without a zone are taken as those of UTC: start rtl_433 with -M time:unix, and rtl_wmbus
+with TZ=UTC. Each line is written at once, so that line_feed stands in a pipe. A line
+that isn't a telegram is named on the standard error with its number and the reason, and
+at the end how many were taken and how many weren't.
 
 exit status: 0 every line was taken, 1 some lines weren't, 2 faulty words, 5 the input
 can't be read, 7 a line not written, 8 the input goes past 131,072 lines or 67,108,864

@@ -9,16 +9,16 @@ use Rattle.line_feed_main.specs.declared.reasons.NotTaken.{NotTaken}
 use Rattle.line_feed_main.specs.declared.reasons.NotTaken.TheVariants as reasons
 use Rattle.line_feed_main.specs.Lines.{heard_in, heard_of}
 use Rattle.line_feed_main.specs.Notes.{note_text}
-use Rattle.line_feed_main.specs.Feeding.{Fed, IsText, IsReceiverLine, AreFed, noted, note_of, fed_after, fed_behind, FeedsLine}
+use Rattle.line_feed_main.specs.Feeding.{Fed, IsText, IsReceiverLine, AreFed, noted, note_of, taken_note, fed_after, fed_behind, FeedsLine}
 
 -- ---- one line
 
 -- a line that is taken
 pub feeds_taken : (old new : Fed) (number : ℕ) (line text : List ℕ) (heard : Heard) → heard_of old.printing line ≡ Ok heard
-    → IsReceiverLine heard text → new ≡ fed_after old (Ok heard) → FeedsLine old number line text [] new
+    → IsReceiverLine heard text → new ≡ fed_after old (Ok heard) → FeedsLine old number line text (taken_note old number heard) new
 feeds_taken old new number line text heard is text_is new_is = record {
   text_is = subst (λ said. IsText said text) (sym is) text_is;
-  note_is = ap (note_of number) (sym is);
+  note_is = ap (note_of old number) (sym is);
   new_is = new_is ∙ ap (fed_after old) (sym is);
 }
 
@@ -27,7 +27,7 @@ pub feeds_left_out : (old new : Fed) (number : ℕ) (line : List ℕ) (reason : 
     → new ≡ fed_after old (Err reason) → FeedsLine old number line [] (note_text number reason) new
 feeds_left_out old new number line reason is new_is = record {
   text_is = subst (λ said. IsText said []) (sym is) refl;
-  note_is = ap (note_of number) (sym is);
+  note_is = ap (note_of old number) (sym is);
   new_is = new_is ∙ ap (fed_after old) (sym is);
 }
 
@@ -46,7 +46,7 @@ joined a a' b b' e f = cc
 -- what is told of lines is what is fed and noted of them
 pub record AreFedSo (number : ℕ) (first last : Fed) (lines : List (List ℕ)) (text note : List ℕ) : Type 0 where
   pub fed : AreFed first.printing lines text
-  pub note_is : note ≡ noted first.printing number lines
+  pub note_is : note ≡ noted first number lines
   pub last_is : last ≡ fed_behind first lines
 
 pub are_fed : (number : ℕ) (first last : Fed) (lines : List (List ℕ)) (text note : List ℕ)
@@ -64,6 +64,6 @@ are_fed number first last (line ∷ lines) text note told =
         later_is = subst (λ printing. AreFed printing lines told.later_text) printing_is later.fed;
         joined = told.text_is;
       };
-      note_is = told.note_is ∙ joined _ _ _ _ one.note_is (later.note_is ∙ ap (λ printing. noted printing (number + 1) lines) printing_is);
+      note_is = told.note_is ∙ joined _ _ _ _ one.note_is (later.note_is ∙ ap (λ f. noted f (number + 1) lines) one.new_is);
       last_is = later.last_is ∙ ap (λ f. fed_behind f lines) one.new_is;
     }

@@ -20,7 +20,7 @@ pub fed_run : (run : Run) (end : LinesEnd) (first now : Fed) (middle : SinkShown
 fed_run run end first now middle first_is e one two noted_end status =
     let are = are_fed 1 first e.last e.lines e.text e.note e.told in
     let printing_is : first.printing ≡ run.printing = ap (λ (f : Fed). f.printing) first_is in
-    let note_is : e.note ≡ noted run.printing 1 e.lines = are.note_is ∙ ap (λ printing. noted printing 1 e.lines) printing_is in
+    let note_is : e.note ≡ noted (fresh run.printing) 1 e.lines = are.note_is ∙ ap (λ f. noted f 1 e.lines) first_is in
     let last : Fed = fed_behind (fresh run.printing) e.lines in
     let behind : e.last ≡ last = are.last_is ∙ ap (λ f. fed_behind f e.lines) first_is in
     record {

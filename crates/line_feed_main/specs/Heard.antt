@@ -3,13 +3,14 @@ use Rattle.std.specs.Prelude.{ℕ, ◌≡◌, List, Some, None, Result, Ok, Err}
 use Rattle.line_feed_main.specs.declared.heard.Heard.{Heard}
 use Rattle.line_feed_main.specs.declared.heard.Unheard.{Unheard}
 use Rattle.line_feed_main.specs.declared.heard.Unheard.TheVariants as unheard
+use Rattle.line_feed_main.specs.declared.moments.Moment.{Moment}
 use Rattle.line_feed_main.specs.declared.reasons.NotTaken.{NotTaken}
 
 -- a telegram whose line names no moment, and one whose line names this one
 abbrev pub heard_some_time : List ℕ → Heard
 heard_some_time t = record { telegram = t; moment = None }
 
-abbrev pub heard_at : ℕ → List ℕ → Heard
+abbrev pub heard_at : Moment → List ℕ → Heard
 heard_at moment t = record { telegram = t; moment = Some moment }
 
 -- what is answered is what is meant; where there is no memory nothing is said

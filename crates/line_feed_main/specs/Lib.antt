@@ -3,6 +3,8 @@ pub mod Heard
 pub mod Digits
 pub mod Cul
 pub mod Columns
+pub mod Civil
+pub mod Zones
 pub mod Moments
 pub mod RtlWmbus
 pub mod Rtl433

@@ -23,16 +23,28 @@ reason_words reasons.Mode = codes "its mode is none of T1, C1 and S1"
 reason_words reasons.Json = codes "it is no JSON text"
 reason_words reasons.Model = codes "its model isn't Wireless-MBus"
 reason_words reasons.Unchecked = codes "the receiver doesn't say that the CRCs were right"
-reason_words reasons.Time = codes "its time isn't a date and a time from 1970 on, as 2026-11-28 03:18:19"
+reason_words reasons.Time = codes "its time isn't a date and a time from 1970 on, as 2026-11-28 03:18:19Z, nor seconds since 1970"
 reason_words reasons.Prefix = codes "its telegram doesn't begin with 0x"
 reason_words reasons.Data = codes "it has no text named data"
 reason_words reasons.Hex = codes "the telegram isn't an even number of hexadecimal digits, at most 1,024"
 reason_words reasons.Length = codes "the first byte of the telegram, L, isn't the number of those behind it, or is below 10"
 reason_words (reasons.Frame fault) = frame_words fault
 
--- the note of the line with this number
-unfoldable pub note_text : ℕ → NotTaken → List ℕ
-note_text number reason = codes "line_feed: line " ++ decimal number ++ codes ": " ++ reason_words reason ++ codes "\n"
+-- what the first line lacks whose time names no zone
+abbrev pub zone_words : List ℕ
+zone_words = codes "its time names no zone and is taken as that of UTC: rtl_433 has to run with -M time:utc, or better with -M time:unix"
+
+-- what is noted of the line with this number
+unfoldable pub line_note : ℕ → List ℕ → List ℕ
+line_note number words = codes "line_feed: line " ++ decimal number ++ codes ": " ++ words ++ codes "\n"
+
+-- the note of a line that isn't taken
+abbrev pub note_text : ℕ → NotTaken → List ℕ
+note_text number reason = line_note number (reason_words reason)
+
+-- the note of the first line whose time names no zone
+abbrev pub zone_text : ℕ → List ℕ
+zone_text number = line_note number zone_words
 
 -- what is noted behind all lines
 unfoldable pub ending_text : ℕ → ℕ → List ℕ

@@ -1,19 +1,22 @@
 -- Lines of rtl_433: JSON (RFC 8259).
-use Rattle.std.specs.Prelude.{ℕ, ◌+◌, ◌-◌, Bool, false, List, ◌∷◌, length, take, drop, slice_index}
+use Rattle.std.specs.Prelude.{ℕ, ◌+◌, ◌-◌, ℤ, pos, negsuc, Float, Bool, false, List, ◌∷◌, length, take, drop, slice_index}
 use Rattle.std.specs.Prelude.{codes, Option, Some, None, option_and_then, Result, Ok, Err, if◌then◌else◌}
+use Rattle.std.specs.Float.{float_to_signed}
+use Rattle.std.specs.Int.{w64}
 use Rattle.std.specs.Option.{ok_or}
 use Rattle.std.specs.Str.{is_utf8}
 use Rattle.steps.specs.Steps.{◌>>=◌}
 use Rattle.plain_text.specs.Parts.{is_word}
 use Rattle.frame_formats.specs.Decoding.{frame_a}
-use Rattle.serde_json.specs.Data.{Data}
-use Rattle.serde_json.specs.Find.{get, as_str}
+use Rattle.serde_json.specs.Data.{Data, Num}
+use Rattle.serde_json.specs.Find.{get, as_str, as_number, as_u64, to_float}
 use Rattle.serde_json.specs.Read.{read}
 use Rattle.line_feed_main.specs.declared.heard.Heard.{Heard}
+use Rattle.line_feed_main.specs.declared.moments.Moment.{Moment}
 use Rattle.line_feed_main.specs.declared.reasons.NotTaken.{NotTaken}
 use Rattle.line_feed_main.specs.declared.reasons.NotTaken.TheVariants as reasons
 use Rattle.line_feed_main.specs.Digits.{bytes_in, is_telegram, telegram_of}
-use Rattle.line_feed_main.specs.Moments.{moment_in}
+use Rattle.line_feed_main.specs.Moments.{since_1970, moment_in}
 
 -- the text of the member with this name, if it is one
 abbrev pub member_text : List ℕ → Data → Option (List ℕ)
@@ -27,12 +30,29 @@ is_text text (Some found) = is_word found text
 abbrev pub has_text : (name text : List ℕ) → Data → Bool
 has_text name text d = is_text text (member_text name d)
 
--- the moment of the member `time`, where there is one
-abbrev pub moment_of_member : Option Data → Result (Option ℕ) NotTaken
-moment_of_member None = Ok None
-moment_of_member (Some d) = ok_or (as_str d) reasons.Time >>= λ text. moment_in text >>= λ moment. Ok (Some moment)
+abbrev pub not_below : ℤ → Option ℕ
+not_below (pos n) = Some n
+not_below (negsuc n) = None
 
-abbrev pub time_in : Data → Result (Option ℕ) NotTaken
+abbrev pub or_nearest : Option ℕ → Float → Option ℕ
+or_nearest (Some n) x = Some n
+or_nearest None x = not_below (float_to_signed w64 x)
+
+-- the whole seconds of a number: those of one with a fraction are the whole part of the nearest number of 64 bits (IEEE 754, binary64)
+abbrev pub whole_seconds : Num → Option ℕ
+whole_seconds n = or_nearest (as_u64 n) (to_float n)
+
+-- the moment of a text, or of a number of seconds
+abbrev pub moment_of_value : Option (List ℕ) → Option Num → Result Moment NotTaken
+moment_of_value (Some text) number = moment_in text
+moment_of_value None number = since_1970 (option_and_then whole_seconds number)
+
+-- the moment of the member `time`, where there is one
+abbrev pub moment_of_member : Option Data → Result (Option Moment) NotTaken
+moment_of_member None = Ok None
+moment_of_member (Some d) = moment_of_value (as_str d) (as_number d) >>= λ moment. Ok (Some moment)
+
+abbrev pub time_in : Data → Result (Option Moment) NotTaken
 time_in d = moment_of_member (get (codes "time") d)
 
 abbrev pub data_in : Data → Result (List ℕ) NotTaken

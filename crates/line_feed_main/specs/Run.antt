@@ -33,9 +33,9 @@ status_of ends.Memory left_out = statuses.Memory
 abbrev pub ending_of : Fed → List ℕ
 ending_of f = ending_text f.taken f.left_out
 
--- the lines that aren't taken, and how many are taken and how many aren't
+-- the lines that aren't taken and the first whose time lacks a zone, and how many are taken and how many aren't
 abbrev pub notes_of : Printing → List (List ℕ) → List ℕ
-notes_of printing lines = noted printing 1 lines ++ ending_of (fed_behind (fresh printing) lines)
+notes_of printing lines = noted (fresh printing) 1 lines ++ ending_of (fed_behind (fresh printing) lines)
 
 -- ---- what a feed shows
 

@@ -1,13 +1,15 @@
 //! Lines that are fed one after another.
-ghost use Rattle.std.specs.Prelude.{◌<◌, ◌^◌};
+ghost use Rattle.std.specs.Prelude.{◌≡◌, ◌<◌, ◌^◌, Ok, [], if◌then◌else◌};
 ghost use Rattle.paper.specs.Puts.{Puts};
 ghost use Rattle.made_input.specs.Lines.{frame_line};
-ghost use Rattle.line_feed_main.specs.Feeding.{IsMoment};
+ghost use Rattle.line_feed_main.specs.Notes.{zone_text};
+ghost use Rattle.line_feed_main.specs.Feeding.{IsMoment, can_name_zone, is_of_some_zone, lacks_zone};
 
 use crate::clock::Clock;
 use crate::heard::{Heard, Unheard};
 use crate::lines::read_line;
-use crate::notes::put_note;
+use crate::moments::Moment;
+use crate::notes::{put_note, put_zone_note};
 use crate::printings::Printing;
 use crate::reasons::NotTaken;
 use frame_formats::{Telegram, encode_a};
@@ -22,6 +24,8 @@ use std::marker::Model;
 pub struct Feed<C: Clock + Drop> {
     printing: Printing,
     clock: C,
+    // Whether a time without a zone was noted.
+    zone_noted: bool,
     taken: u64,
     left_out: u64,
 }
@@ -31,7 +35,7 @@ impl<C: Clock + Drop> Model for Feed<C> {
 
     ghost Value = { Fed };
 
-    ghost view = { λ f. record { printing = f.printing; taken = f.taken; left_out = f.left_out } };
+    ghost view = { λ f. record { printing = f.printing; zone_noted = f.zone_noted; taken = f.taken; left_out = f.left_out } };
 }
 
 // Puts the line of a telegram.
@@ -47,13 +51,52 @@ fn put_line<P: Paper>(paper: &mut P, at: u64, telegram: &Telegram)
 }
 
 // The moment that a line names, or else the clock's.
-fn moment_or_now<C: Clock>(moment: Option<u64>, clock: &C) -> u64
+fn moment_or_now<C: Clock>(moment: Option<Moment>, clock: &C) -> u64
     ensures moment { IsMoment moment result }
     ensures below { result < 2 ^ 64 }
 {
     match moment {
-        Some(moment) => moment,
+        Some(moment) => moment.seconds,
         None => clock.seconds(),
+    }
+}
+
+// Whether a receiver can say of which zone its times are.
+fn can_name_zone(printing: Printing) -> bool
+    ensures { result ≡ can_name_zone printing }
+{
+    match printing {
+        Printing::Cul => false,
+        Printing::RtlWmbus => false,
+        Printing::Rtl433 => true,
+        Printing::Hex => false,
+    }
+}
+
+// Whether a line names a moment without a zone.
+fn is_of_some_zone(moment: Option<Moment>) -> bool
+    ensures { result ≡ is_of_some_zone moment }
+{
+    match moment {
+        Some(moment) => !moment.names_zone,
+        None => false,
+    }
+}
+
+// Whether a line that is taken lacks a zone that its receiver can name.
+fn lacks_zone(printing: Printing, heard: &Heard) -> bool
+    ensures { result ≡ lacks_zone printing (Ok heard.now) }
+{
+    can_name_zone(printing) && is_of_some_zone(heard.moment)
+}
+
+// Puts the note of a line that lacks a zone, if it is the first.
+#[tactic(auto, using(paper::proofs::Calls::none))]
+fn put_zone_note_if<P: Paper>(note: &mut P, number: u32, first: bool)
+    ensures { Puts P.takes note.old (if first then zone_text number else []) note.new }
+{
+    if first {
+        put_zone_note(note, number);
     }
 }
 
@@ -63,7 +106,7 @@ impl<C: Clock + Drop> Feed<C> {
     ghost use Rattle.line_feed_main.specs.Notes.{note_text};
     ghost use Rattle.line_feed_main.specs.Heard.{Means};
     ghost use Rattle.line_feed_main.specs.Lines.{heard_of};
-    ghost use Rattle.line_feed_main.specs.Feeding.{fresh, fed_after, PutsLine};
+    ghost use Rattle.line_feed_main.specs.Feeding.{fresh, taken_note, fed_after, PutsLine};
 
     /// Before the first line.
     pub fn new(printing: Printing, clock: C) -> Feed<C>
@@ -72,6 +115,7 @@ impl<C: Clock + Drop> Feed<C> {
         Feed {
             printing,
             clock,
+            zone_noted: false,
             taken: 0,
             left_out: 0,
         }
@@ -98,13 +142,17 @@ impl<C: Clock + Drop> Feed<C> {
         read_line(alloc, self.printing, line)
     }
 
-    // Puts the line of a telegram, and counts it.
-    fn take<P: Paper>(&mut self, text: &mut P, heard: &Heard)
+    // Puts the line of a telegram, notes the first that lacks a zone, and counts it.
+    fn take<P: Paper>(&mut self, text: &mut P, note: &mut P, number: u32, heard: &Heard)
         ensures text { PutsLine P.takes heard.now text.old text.new }
+        ensures note { Puts P.takes note.old (taken_note self.old number heard.now) note.new }
         ensures fed { self.new ≡ fed_after self.old (Ok heard.now) }
     {
         let at = moment_or_now(heard.moment, &self.clock);
         put_line(text, at, &heard.telegram);
+        let lacks = lacks_zone(self.printing, heard);
+        put_zone_note_if(note, number, lacks && !self.zone_noted);
+        self.zone_noted = lacks || self.zone_noted;
         self.taken = self.taken.saturating_add(1);
     }
 
@@ -135,7 +183,7 @@ impl<C: Clock + Drop> Teller for Feed<C> {
     ) -> Result<(), Memory> {
         match self.read(alloc, line) {
             Ok(heard) => {
-                self.take(text, &heard);
+                self.take(text, note, number, &heard);
                 Ok(())
             }
             Err(Unheard::Refused(reason)) => {

@@ -1,6 +1,7 @@
 //! What a line gives, or why it gives nothing.
 ghost use Rattle.line_feed_main.specs.Heard.{Means};
 
+use crate::moments::Moment;
 use crate::reasons::NotTaken;
 use frame_formats::Telegram;
 
@@ -9,8 +10,8 @@ use frame_formats::Telegram;
 pub struct Heard {
     /// The telegram.
     pub telegram: Telegram,
-    /// The moment that the line names, in seconds since 1970.
-    pub moment: Option<u64>,
+    /// The moment that the line names.
+    pub moment: Option<Moment>,
 }
 
 /// Why nothing was heard.

@@ -1,143 +1,27 @@
 //! The moment that a receiver's own time names.
-ghost use Rattle.std.specs.Prelude.{◌≡◌, ◌+◌, ◌<◌, ◌≤◌, pos, length, IfSome, IfOk, IsTrue};
+ghost use Rattle.std.specs.Prelude.{◌≡◌, ◌==◌, ◌<◌, ◌≤◌, pos, IfSome, IsTrue, length};
 ghost use Rattle.std.specs.Char.{is_ascii_digit};
-ghost use Rattle.std.specs.List.{list_all};
-ghost use Rattle.jiff_core.specs.Calendar.{IsCivilDate};
-ghost use Rattle.line_feed_main.specs.Moments.{two_at, has_marks, is_fraction, is_day, is_time};
-ghost use Rattle.line_feed_main.specs.Moments.{civil_in, seconds_of, not_before, moment_of, moment_in};
+ghost use Rattle.std.specs.List.{list_all, position};
+ghost use Rattle.jiff_core.specs.Calendar.{IsCivilDate, IsWithin};
+ghost use Rattle.line_feed_main.specs.Civil.{is_day, is_time};
+ghost use Rattle.line_feed_main.specs.Moments.{utc_seconds, not_before, utc_moment, moment_of, is_dated, dated_in};
+ghost use Rattle.line_feed_main.specs.Moments.{since_1970, is_fraction, whole_in, moment_in};
 
+use crate::civil::{Civil, has_marks, is_day, is_time, read_civil, seconds_of};
 use crate::reasons::NotTaken;
-use jiff_core::civil::{Date, DateTime, Time, days_in_month};
+use crate::zones::{behind_fraction, read_zone};
+use plain_text::{first_place, read_number};
 
-/// A date and a time of day, as they are written.
-#[derive(Clone, Copy)]
-pub(crate) struct Civil {
-    pub year: u16,
-    pub month: u8,
-    pub day: u8,
-    pub hour: u8,
-    pub minute: u8,
-    pub second: u8,
-}
+/// The last second of the year 9999: what counts milliseconds since 1970 says more.
+const SECONDS_MAX: u64 = 253_402_300_799;
 
-// The number of two digits at this place.
-fn two_at(text: &[u8], place: usize) -> Option<u8>
-    requires { place + 2 ≤ length text.now }
-    ensures value { result ≡ two_at text.now place }
-    ensures few { IfSome result (λ n. n ≤ 99) }
-{
-    let (tens, ones) = (text[place], text[place + 1]);
-    if tens.is_ascii_digit() && ones.is_ascii_digit() {
-        Some((tens - b'0') * 10 + (ones - b'0'))
-    } else {
-        None
-    }
-}
-
-// Whether what parts the numbers of a date and a time stands at its places.
-fn has_marks(text: &[u8]) -> bool
-    requires { 19 ≤ length text.now }
-    ensures { result ≡ has_marks text.now }
-{
-    text[4] == b'-'
-        && text[7] == b'-'
-        && (text[10] == b' ' || text[10] == b'T')
-        && text[13] == b':'
-        && text[16] == b':'
-}
-
-fn are_digits(text: &[u8]) -> bool
-    ensures { result ≡ list_all is_ascii_digit text.now }
-{
-    text.iter().all(|byte| byte.is_ascii_digit())
-}
-
-// Whether a text is nothing, or a point and digits.
-fn is_fraction(text: &[u8]) -> bool
-    ensures { result ≡ is_fraction text.now }
-{
-    match text {
-        [] => true,
-        [b'.', digits @ ..] => are_digits(digits),
-        _ => false,
-    }
-}
-
-// The numbers of a date and a time.
-#[tactic(auto, unfolding(crate::specs::Moments::civil_in))]
-fn read_civil(text: &[u8]) -> Result<Civil, NotTaken>
-    requires { 19 ≤ length text.now }
-    ensures value { result ≡ civil_in text.now }
-    ensures year { IfOk result (λ c. c.year ≤ 9999) }
-{
-    let century = two_at(text, 0).ok_or(NotTaken::Time)?;
-    let year = two_at(text, 2).ok_or(NotTaken::Time)?;
-    let month = two_at(text, 5).ok_or(NotTaken::Time)?;
-    let day = two_at(text, 8).ok_or(NotTaken::Time)?;
-    let hour = two_at(text, 11).ok_or(NotTaken::Time)?;
-    let minute = two_at(text, 14).ok_or(NotTaken::Time)?;
-    let second = two_at(text, 17).ok_or(NotTaken::Time)?;
-    Ok(Civil {
-        year: century as u16 * 100 + year as u16,
-        month,
-        day,
-        hour,
-        minute,
-        second,
-    })
-}
-
-// Whether the calendar has the day.
-fn is_day(civil: Civil) -> bool
-    requires { civil.year ≤ 9999 }
-    ensures is { result ≡ is_day civil }
-    ensures day { IsTrue result → IsCivilDate (pos civil.year) civil.month civil.day }
-{
-    if civil.month < 1 {
-        return false;
-    }
-    if civil.month > 12 {
-        return false;
-    }
-    if civil.day < 1 {
-        return false;
-    }
-    civil.day <= days_in_month(civil.year as i16, civil.month)
-}
-
-// Whether a clock shows the time.
-fn is_time(civil: Civil) -> bool
-    ensures is { result ≡ is_time civil }
-    ensures time { IsTrue result → (civil.hour < 24) × (civil.minute < 60) × (civil.second < 60) }
-{
-    if civil.hour > 23 {
-        return false;
-    }
-    if civil.minute > 59 {
-        return false;
-    }
-    civil.second <= 59
-}
-
-// The seconds since 1970 of a day that the calendar has and a time that a clock shows.
-#[tactic(auto, unfolding(jiff_core::specs::DateTime::civil_seconds))]
-fn seconds_of(civil: Civil) -> i64
-    requires day { IsCivilDate (pos civil.year) civil.month civil.day }
-    requires time { (civil.hour < 24) × (civil.minute < 60) × (civil.second < 60) }
-    ensures { result ≡ seconds_of civil }
-{
-    let date = Date {
-        year: civil.year as i16,
-        month: civil.month,
-        day: civil.day,
-    };
-    let time = Time {
-        hour: civil.hour,
-        minute: civil.minute,
-        second: civil.second,
-        subsec_nanosecond: 0,
-    };
-    DateTime { date, time }.to_second()
+/// A moment, as a line names it.
+#[derive(Clone, Copy, Debug, PartialEq, Eq)]
+pub struct Moment {
+    /// The seconds since the beginning of 1970 of UTC.
+    pub seconds: u64,
+    /// Whether the line says of which zone they are; else its date and time are taken as those of UTC.
+    pub names_zone: bool,
 }
 
 // A number that isn't below zero.
@@ -150,10 +34,25 @@ fn not_before(seconds: i64) -> Result<u64, NotTaken>
     Ok(seconds as u64)
 }
 
-// The seconds since 1970 of a date and a time that are not before it.
-fn moment_of(civil: Civil) -> Result<u64, NotTaken>
-    requires { civil.year ≤ 9999 }
-    ensures { result ≡ moment_of civil }
+// The seconds since 1970 of UTC, where a clock of the zone shows this.
+fn utc_seconds(civil: Civil, zone: Option<i64>) -> i64
+    requires day { IsCivilDate (pos civil.year) civil.month civil.day }
+    requires time { (civil.hour < 24) × (civil.minute < 60) × (civil.second < 60) }
+    requires few { IfSome zone (λ ahead. IsWithin 86399 ahead) }
+    ensures { result ≡ utc_seconds civil zone }
+{
+    let shown = seconds_of(civil);
+    match zone {
+        Some(ahead) => shown - ahead,
+        None => shown,
+    }
+}
+
+// The moment at which a clock of the zone shows this.
+fn moment_of(civil: Civil, zone: Option<i64>) -> Result<Moment, NotTaken>
+    requires year { civil.year ≤ 9999 }
+    requires few { IfSome zone (λ ahead. IsWithin 86399 ahead) }
+    ensures { result ≡ moment_of civil zone }
 {
     if !is_day(civil) {
         return Err(NotTaken::Time);
@@ -161,21 +60,89 @@ fn moment_of(civil: Civil) -> Result<u64, NotTaken>
     if !is_time(civil) {
         return Err(NotTaken::Time);
     }
-    not_before(seconds_of(civil))
+    let seconds = not_before(utc_seconds(civil, zone))?;
+    Ok(Moment {
+        seconds,
+        names_zone: zone.is_some(),
+    })
 }
 
-/// The seconds since 1970 of a date and a time, whose fraction of a second is left out.
-#[tactic(auto, unfolding(crate::specs::Moments::moment_in))]
-pub(crate) fn read_moment(text: &[u8]) -> Result<u64, NotTaken>
-    ensures { result ≡ moment_in text.now }
+// Whether a text begins as a date and a time of day do.
+fn is_dated(text: &[u8]) -> bool
+    ensures is { result ≡ is_dated text.now }
+    ensures least { IsTrue result → 19 ≤ length text.now }
 {
     if text.len() < 19 {
-        return Err(NotTaken::Time);
+        return false;
     }
-    let (front, fraction) = text.split_at(19);
-    if !has_marks(front) || !is_fraction(fraction) {
-        return Err(NotTaken::Time);
-    }
+    let (front, _) = text.split_at(19);
+    has_marks(front)
+}
+
+// The moment of a date and a time of day, behind which a fraction of a second, which is left out, and a zone may stand.
+#[tactic(auto, unfolding(crate::specs::Moments::dated_in))]
+fn read_dated(text: &[u8]) -> Result<Moment, NotTaken>
+    requires { 19 ≤ length text.now }
+    ensures { result ≡ dated_in text.now }
+{
+    let (front, rest) = text.split_at(19);
     let civil = read_civil(front)?;
-    moment_of(civil)
+    let zone = read_zone(behind_fraction(rest))?;
+    moment_of(civil, zone)
+}
+
+/// The moment of seconds since 1970.
+pub(crate) fn since_1970(seconds: Option<u64>) -> Result<Moment, NotTaken>
+    ensures { result ≡ since_1970 seconds }
+{
+    let Some(seconds) = seconds else {
+        return Err(NotTaken::Time);
+    };
+    if seconds > SECONDS_MAX {
+        return Err(NotTaken::Time);
+    }
+    Ok(Moment {
+        seconds,
+        names_zone: true,
+    })
+}
+
+fn are_digits(text: &[u8]) -> bool
+    ensures { result ≡ list_all is_ascii_digit text.now }
+{
+    text.iter().all(|byte| byte.is_ascii_digit())
+}
+
+// Whether a text is a point and digits.
+fn is_fraction(text: &[u8]) -> bool
+    ensures { result ≡ is_fraction text.now }
+{
+    match text {
+        [b'.', digits @ ..] => are_digits(digits),
+        _ => false,
+    }
+}
+
+// The whole number of a text, behind which a point and digits may stand.
+fn whole_in(text: &[u8]) -> Option<u64>
+    ensures { result ≡ whole_in text.now (position (λ b. b == 46) text.now) }
+{
+    let Some(point) = first_place(text, b'.') else {
+        return read_number(text, SECONDS_MAX);
+    };
+    let (whole, fraction) = text.split_at(point);
+    if !is_fraction(fraction) {
+        return None;
+    }
+    read_number(whole, SECONDS_MAX)
+}
+
+/// The moment of seconds since 1970, or of a date and a time of day.
+pub(crate) fn read_moment(text: &[u8]) -> Result<Moment, NotTaken>
+    ensures { result ≡ moment_in text.now }
+{
+    if is_dated(text) {
+        return read_dated(text);
+    }
+    since_1970(whole_in(text))
 }

@@ -1,7 +1,7 @@
 //! What is noted, in words.
 ghost use Rattle.std.specs.Prelude.{◌≡◌};
 ghost use Rattle.paper.specs.Puts.{Puts};
-ghost use Rattle.line_feed_main.specs.Notes.{frame_words, reason_words, note_text};
+ghost use Rattle.line_feed_main.specs.Notes.{frame_words, reason_words, zone_words, line_note, note_text, zone_text};
 
 use crate::reasons::NotTaken;
 use frame_formats::FrameFault;
@@ -33,7 +33,8 @@ fn reason_words(reason: NotTaken) -> &'static str
         NotTaken::Json => "it is no JSON text",
         NotTaken::Model => "its model isn't Wireless-MBus",
         NotTaken::Unchecked => "the receiver doesn't say that the CRCs were right",
-        NotTaken::Time => "its time isn't a date and a time from 1970 on, as 2026-11-28 03:18:19",
+        NotTaken::Time =>
+            "its time isn't a date and a time from 1970 on, as 2026-11-28 03:18:19Z, nor seconds since 1970",
         NotTaken::Prefix => "its telegram doesn't begin with 0x",
         NotTaken::Data => "it has no text named data",
         NotTaken::Hex => "the telegram isn't an even number of hexadecimal digits, at most 1,024",
@@ -43,16 +44,37 @@ fn reason_words(reason: NotTaken) -> &'static str
     }
 }
 
-/// Puts the note of the line with this number.
-#[tactic(auto, unfolding(crate::specs::Notes::note_text), using(paper::proofs::Calls::five_make))]
-pub(crate) fn put_note<P: Paper>(paper: &mut P, number: u32, reason: NotTaken)
-    ensures { Puts P.takes paper.old (note_text number reason) paper.new }
+// What the first line lacks whose time names no zone.
+fn zone_words() -> &'static str
+    ensures { result.now ≡ zone_words }
+{
+    "its time names no zone and is taken as that of UTC: rtl_433 has to run with -M time:utc, or better with -M time:unix"
+}
+
+// Puts what is noted of the line with this number.
+#[tactic(auto, unfolding(crate::specs::Notes::line_note), using(paper::proofs::Calls::five_make))]
+fn put_line_note<P: Paper>(paper: &mut P, number: u32, words: &str)
+    ensures { Puts P.takes paper.old (line_note number words.now) paper.new }
 {
     put_text(paper, "line_feed: line ");
     put_number(paper, u64::from(number));
     put_text(paper, ": ");
-    put_text(paper, reason_words(reason));
+    put_text(paper, words);
     put_text(paper, "\n");
+}
+
+/// Puts the note of a line that isn't taken, which has this number.
+pub(crate) fn put_note<P: Paper>(paper: &mut P, number: u32, reason: NotTaken)
+    ensures { Puts P.takes paper.old (note_text number reason) paper.new }
+{
+    put_line_note(paper, number, reason_words(reason));
+}
+
+/// Puts the note of the line with this number, the first whose time names no zone.
+pub(crate) fn put_zone_note<P: Paper>(paper: &mut P, number: u32)
+    ensures { Puts P.takes paper.old (zone_text number) paper.new }
+{
+    put_line_note(paper, number, zone_words());
 }
 
 /// What is noted behind all lines: how many were taken, and how many weren't.

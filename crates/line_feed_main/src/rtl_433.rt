@@ -1,20 +1,22 @@
 //! Lines of rtl_433.
-ghost use Rattle.std.specs.Prelude.{◌≡◌, Ok, Err, IfOk, MatchResult, option_map};
+ghost use Rattle.std.specs.Prelude.{◌≡◌, Ok, Err, IfOk, MatchResult, option_map, option_and_then};
 ghost use Rattle.plain_text.specs.Parts.{is_word};
+ghost use Rattle.serde_json.specs.Find.{as_str, as_number};
 ghost use Rattle.serde_json.specs.Read.{read};
 ghost use Rattle.serde_json.specs.View.{view};
 ghost use Rattle.line_feed_main.specs.Digits.{telegram_of};
 ghost use Rattle.line_feed_main.specs.Heard.{Means};
-ghost use Rattle.line_feed_main.specs.Rtl433.{member_text, has_text, time_in, restored, last_crc};
+ghost use Rattle.line_feed_main.specs.Rtl433.{member_text, has_text, whole_seconds, moment_of_value, time_in, restored, last_crc};
 ghost use Rattle.line_feed_main.specs.Rtl433.{telegram_in_data, data_telegram, json_heard, read_heard, rtl_433_heard};
 
 use crate::digits::{read_bytes, telegram_of};
 use crate::heard::{Heard, Unheard, said};
-use crate::moments::read_moment;
+use crate::moments::{Moment, read_moment, since_1970};
 use crate::reasons::NotTaken;
 use frame_formats::{Telegram, encode_a};
 use serde_json::Value;
 use std::alloc::Global;
+use std::num::saturating_f64_to_i64;
 use steps::put;
 
 // The text of the member with this name, if it is one.
@@ -35,17 +37,38 @@ fn has_text(value: &Value, name: &str, text: &str) -> bool
     }
 }
 
+// The whole seconds of a number.
+fn whole_seconds(value: &Value) -> Option<u64>
+    ensures { result ≡ option_and_then whole_seconds (as_number (view value.now)) }
+{
+    if let Some(seconds) = value.as_u64() {
+        return Some(seconds);
+    }
+    let seconds = saturating_f64_to_i64(value.as_f64()?);
+    if seconds < 0 {
+        return None;
+    }
+    Some(seconds as u64)
+}
+
+// The moment of a text, or of a number of seconds.
+fn moment_of_value(value: &Value) -> Result<Moment, NotTaken>
+    ensures { result ≡ moment_of_value (as_str (view value.now)) (as_number (view value.now)) }
+{
+    match value.as_str() {
+        Some(text) => read_moment(text.as_bytes()),
+        None => since_1970(whole_seconds(value)),
+    }
+}
+
 // The moment that an object names.
-fn time_in(value: &Value) -> Result<Option<u64>, NotTaken>
+fn time_in(value: &Value) -> Result<Option<Moment>, NotTaken>
     ensures { result ≡ time_in (view value.now) }
 {
     let Some(member) = value.get("time") else {
         return Ok(None);
     };
-    let Some(text) = member.as_str() else {
-        return Err(NotTaken::Time);
-    };
-    let moment = read_moment(text.as_bytes())?;
+    let moment = moment_of_value(member)?;
     Ok(Some(moment))
 }
 

@@ -10,7 +10,7 @@ use Rattle.line_feed_main.proofs.feed.FeedTeller.tell.Goals as goal
 pub returns-in-Ok : goal.returns-in-Ok
 returns-in-Ok g c =
     let line = c.take.ensures.text in
-    told_by _ _ _ _ _ _ _ _ line.put none
+    told_by _ _ _ _ _ _ _ _ line.put c.take.ensures.note
     (feeds_taken c.args.self.now _ c.args.number c.args.line.now _ _ c.in-Ok.ensures
     (record { at = line.at; below = line.below; moment = line.moment; text_is = refl }) c.take.ensures.fed)
 
