@@ -1,5 +1,5 @@
 -- The exit statuses of a run.
-use Rattle.std.proofs.Common.{◌≡◌, ◌++◌, Option, None, refl, sym, subst, IsTrue, arith}
+use Rattle.std.proofs.Common.{◌≡◌, ℕ, List, [], ◌∷◌, true, None, refl, sym, subst, IsTrue, arith}
 use Rattle.std.specs.Prelude.{IsSome}
 use Rattle.std.proofs.lemmas.Bool.{false≢true}
 use Rattle.line_reader.specs.Lines.{all_lines}
@@ -7,7 +7,12 @@ use Rattle.frame_inspect_main.specs.declared.status.InspectStatus.{InspectStatus
 use Rattle.frame_inspect_main.specs.declared.status.InspectStatus.TheVariants as statuses
 use Rattle.frame_inspect_main.specs.Run.{Run, IsRun, IsCausedBy, bytes_of, inspected}
 use Rattle.frame_inspect_main.specs.Statuses.{code_of, shows_lines}
-use Rattle.frame_inspect.specs.Exit.{IsRunExit}
+use Rattle.frame_inspect_main.specs.Words.{workers_of}
+use Rattle.line_teller.specs.declared.ending.LinesEnd.TheVariants as ends
+use Rattle.frame_records.specs.declared.status.RecordsStatus.{RecordsStatus}
+use Rattle.frame_records.specs.declared.status.RecordsStatus.TheVariants as shown
+use Rattle.frame_records.specs.Statuses as records
+use Rattle.frame_inspect.specs.Exit.{IsRunExit, IsRecordsExit, names_records}
 
 exit_of : (status : InspectStatus) → (status ≡ statuses.Words → ⊥) → IsRunExit (code_of status)
 exit_of statuses.Done other = (0, omega arith, refl)
@@ -36,3 +41,24 @@ pub done_exit : (run : Run) → IsRun run → code_of run.status ≡ 0 → IsTru
 done_exit run is zero told writes =
     let done = done_of run.status zero in
     (is.headline (subst (λ s. IsTrue (shows_lines s)) (sym done) refl) told).whole writes done
+
+-- ---- with records
+
+-- each status has one of the exit statuses of a run with records
+pub records_exit : (status : RecordsStatus) → IsRecordsExit (records.code_of status)
+records_exit shown.ReadRoster = (2, omega arith, refl)
+records_exit (shown.Roster line cause) = (1, omega arith, refl)
+records_exit shown.Memory = (6, omega arith, refl)
+records_exit (shown.Shown ends.Done) = (0, omega arith, refl)
+records_exit (shown.Shown ends.Read) = (3, omega arith, refl)
+records_exit (shown.Shown ends.Write) = (4, omega arith, refl)
+records_exit (shown.Shown ends.Cut) = (5, omega arith, refl)
+records_exit (shown.Shown ends.Memory) = (6, omega arith, refl)
+
+-- the words that ask for records ask for no workers
+pub no_workers : (words : List (List ℕ)) → names_records words ≡ true → workers_of words ≡ None
+unfolding names_records
+no_workers [] asks = absurd cc
+no_workers (a ∷ []) asks = absurd cc
+no_workers (a ∷ b ∷ []) asks = absurd cc
+no_workers (a ∷ b ∷ c ∷ words) asks = refl

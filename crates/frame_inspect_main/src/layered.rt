@@ -203,7 +203,8 @@ fn put_frame<P: Paper>(paper: &mut P, format: Format, bytes: &[u8])
     }
 }
 
-fn put_line<P: Paper>(paper: &mut P, line: &Line)
+/// Puts what every layer of a line's frame says, behind a space.
+pub fn put_line<P: Paper>(paper: &mut P, line: &Line)
     ensures { Puts P.takes paper.old (line_text line.now) paper.new }
 {
     match line {
