@@ -1,8 +1,8 @@
 -- How the program ends.
 use Rattle.std.specs.Prelude.{ℕ, Bool, true, false, List, [], ◌∷◌, Result, Ok, Err}
 use Rattle.std.specs.List.{Contains}
-use Rattle.input_check_main.specs.declared.rosters.Stop.{Stop}
-use Rattle.input_check_main.specs.declared.rosters.Stop.TheVariants as stops
+use Rattle.input_check_main.specs.declared.states.Stop.{Stop}
+use Rattle.input_check_main.specs.declared.states.Stop.TheVariants as stops
 use Rattle.input_check.specs.declared.status.CheckStatus.{CheckStatus}
 use Rattle.input_check.specs.declared.status.CheckStatus.TheVariants as statuses
 
@@ -23,10 +23,10 @@ status_of (Ok false) = statuses.Done
 status_of (Ok true) = statuses.Found
 status_of (Err stop) = statuses.Stopped stop
 
--- there is a word, which names the roster
-abbrev pub names_roster : {A : Type 0} → List A → Bool
-names_roster [] = false
-names_roster (roster ∷ receivers) = true
+-- there is a word, which names the state
+abbrev pub names_state : {A : Type 0} → List A → Bool
+names_state [] = false
+names_state (state ∷ receivers) = true
 
 -- how a check ends: no line is faulty, some are, a file that can't be read, an output that can't be written, a file past its limit, no
 -- memory, a file that can't be opened

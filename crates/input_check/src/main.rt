@@ -6,11 +6,11 @@ ghost use Rattle.std.specs.String.{string_bytes};
 ghost use Rattle.std.specs.Process.{exit_status};
 ghost use Rattle.outer_io.specs.Each.{Each};
 ghost use Rattle.outer_io.specs.Shown.{source_change, sink_change};
-ghost use Rattle.input_check_main.specs.declared.rosters.Stop.{Stop};
+ghost use Rattle.input_check_main.specs.declared.states.Stop.{Stop};
 ghost use Rattle.input_check_main.specs.Receivers.{IsFresh, reader_changes, bytes_of_each};
 ghost use Rattle.input_check_main.specs.Run.{IsRun};
 ghost use Rattle.program_words.specs.OwnTexts.{asks_for_text, IsTold};
-ghost use Rattle.input_check.specs.Exit.{code_of, status_of, names_roster, IsRunExit, IsUnopened};
+ghost use Rattle.input_check.specs.Exit.{code_of, status_of, names_state, IsRunExit, IsUnopened};
 
 mod status;
 
@@ -22,18 +22,19 @@ use status::CheckStatus;
 use std::fs::{File, Files};
 use std::process::ExitCode;
 
-const HELP: &str =
-    "input_check: what is wrong with a roster and with the lines of receivers, in words
+const HELP: &str = "input_check: what is wrong with a state or a roster and with the lines of
+receivers, in words
 
-usage: input_check ROSTER [RX ..]
+usage: input_check STATE [RX ..]
        input_check --help
        input_check --version
 
-prints every faulty line of the file ROSTER and of the files of receivers RX, of
-which each has the number of its place, with what is wrong and what to do. Of a
-receiver the first 100 are printed, and how many there are. Where the roster is
-right it also says which meters have the same key, or one of sixteen equal bytes,
-which were not heard, and which strangers were heard most often.
+prints every faulty line of the file STATE, which is a state by its first line or
+else a roster, and of the files of receivers RX, of which each has the number of
+its place, with what is wrong and what to do. Of a receiver the first 100 are
+printed, and how many there are. Where STATE is right it also says which meters
+have the same key, or one of sixteen equal bytes, which were not heard, and which
+strangers were heard most often.
 
 exit status: 0 no line is faulty, 1 some are, 2 faulty words, 5 a file not read,
 7 output not written, 8 a file past its limit, 10 no memory, 11 a file that
@@ -71,10 +72,10 @@ fn status_of(checked: Result<bool, Stop>) -> CheckStatus
     }
 }
 
-// Checks a roster and receivers, and ends with the status of that.
+// Checks a state, which may be a roster, and receivers, and ends with the status of that.
 fn check<R: Eprint + AllocGlobal, S: Source, K: Sink>(
     rt: &R,
-    roster: &mut S,
+    state: &mut S,
     receivers: &mut [Lines<S>],
     out: &mut K,
 ) -> ExitCode
@@ -85,7 +86,7 @@ fn check<R: Eprint + AllocGlobal, S: Source, K: Sink>(
     ensures run { (checked : Result Bool Stop) × (exit_status result ≡ code_of (status_of checked)) × IsRun (record {
       sources_tell = S.tells;
       sinks_tell = K.tells;
-      roster = source_change S.Source roster.old roster.new;
+      state = source_change S.Source state.old state.new;
       receivers = reader_changes S.Source receivers.old receivers.new;
       bytes = bytes_of_each S.Source receivers.old;
       out = sink_change K.Sink out.old out.new;
@@ -93,7 +94,7 @@ fn check<R: Eprint + AllocGlobal, S: Source, K: Sink>(
     }) }
     ensures exit { IsRunExit (exit_status result) }
 {
-    let checked = check_inputs(rt.alloc(), roster, receivers, out);
+    let checked = check_inputs(rt.alloc(), state, receivers, out);
     end(rt, status_of(checked))
 }
 
@@ -137,24 +138,24 @@ fn perform<R: Print + Eprint + Files<File = File> + AllocGlobal>(
 ) -> ExitCode
     ensures text { asks_for_text (map string_bytes command.now) ≡ true → IsTold 7 (exit_status result) }
     ensures faulty { command.now ≡ [] → exit_status result ≡ 2 }
-    ensures exit { asks_for_text (map string_bytes command.now) ≡ false → names_roster command.now ≡ true →
+    ensures exit { asks_for_text (map string_bytes command.now) ≡ false → names_state command.now ≡ true →
         IsRunExit (exit_status result) }
 {
     if let Some(own) = own_text(command) {
         return show(rt, own);
     }
-    let [roster, receivers @ ..] = command else {
+    let [state, receivers @ ..] = command else {
         return end(rt, CheckStatus::Words);
     };
-    let mut roster = match open(rt, roster.as_str()) {
-        Ok(roster) => roster,
+    let mut state = match open(rt, state.as_str()) {
+        Ok(state) => state,
         Err(ended) => return ended,
     };
     let mut receivers = match open_receivers(rt, receivers) {
         Ok(receivers) => receivers,
         Err(ended) => return ended,
     };
-    check(rt, &mut roster, &mut receivers, &mut out)
+    check(rt, &mut state, &mut receivers, &mut out)
 }
 
 // What it means that the words can't be had.

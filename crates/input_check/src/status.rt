@@ -9,7 +9,7 @@ pub enum CheckStatus {
     Done,
     /// Status 1: some lines are.
     Found,
-    /// Status 2: the words name no roster.
+    /// Status 2: the words name no state.
     Words,
     /// Status 5, 7, 8 or 10: why not all could be checked.
     Stopped(Stop),
@@ -43,7 +43,8 @@ impl fmt::Display for CheckStatus {
         f.write_str(match self {
             CheckStatus::Done => "input_check: no line is faulty",
             CheckStatus::Found => "input_check: some lines are faulty",
-            CheckStatus::Words => "input_check: give a roster, and files of receivers behind it",
+            CheckStatus::Words =>
+                "input_check: give a state or a roster, and files of receivers behind it",
             CheckStatus::Stopped(Stop::Read) => "input_check: a file can't be read",
             CheckStatus::Stopped(Stop::Write) => "input_check: cannot write the findings",
             CheckStatus::Stopped(Stop::Cut) => {

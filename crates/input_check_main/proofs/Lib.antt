@@ -1,2 +1,4 @@
 pub mod Kept
 mod LaterFaults
+mod Limits
+mod RosterMeters

@@ -1,4 +1,4 @@
--- What is wrong with the bytes of a roster as a whole.
+-- What is wrong with the bytes of a state or a roster as a whole.
 use Rattle.std.specs.Prelude.{ℕ, ◌==◌, ◌&&◌, Bool, false, List, [], ◌∷◌, ◌++◌, codes, if◌then◌else◌}
 use Rattle.std.specs.List.{list_any}
 
@@ -16,15 +16,20 @@ mark_words bytes =
     then codes "roster: a byte order mark (ef bb bf) stands in front, which is no part of a roster: save it without one\n"
     else []
 
-abbrev pub tab_words : List ℕ → List ℕ
-tab_words bytes = if has_byte 9 bytes then codes "roster: there are tabs in it: write one space in the place of each\n" else []
+-- what is said of a file; the word says what the file is
+unfoldable pub said_of : List ℕ → List ℕ → List ℕ
+said_of word words = word ++ codes ": " ++ words
 
-abbrev pub return_words : List ℕ → List ℕ
-return_words bytes =
+abbrev pub tab_words : List ℕ → List ℕ → List ℕ
+tab_words word bytes =
+    if has_byte 9 bytes then said_of word (codes "there are tabs in it: write one space in the place of each\n") else []
+
+abbrev pub return_words : List ℕ → List ℕ → List ℕ
+return_words word bytes =
     if has_byte 13 bytes
-    then codes "roster: there are carriage returns in it: one in front of a newline is right, any other is not\n"
+    then said_of word (codes "there are carriage returns in it: one in front of a newline is right, any other is not\n")
     else []
 
--- what may be behind the faults of a roster with these bytes
-unfoldable pub bytes_words : List ℕ → List ℕ
-bytes_words bytes = mark_words bytes ++ tab_words bytes ++ return_words bytes
+-- what may be behind the faults of a file with these bytes; the word says what the file is
+unfoldable pub bytes_words : List ℕ → List ℕ → List ℕ
+bytes_words word bytes = mark_words bytes ++ tab_words word bytes ++ return_words word bytes

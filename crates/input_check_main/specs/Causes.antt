@@ -2,6 +2,10 @@
 use Rattle.std.specs.Prelude.{ℕ, List, codes, ◌++◌}
 use Rattle.roster_file.specs.declared.roster.LineCause.{LineCause}
 use Rattle.roster_file.specs.declared.roster.LineCause.TheVariants as causes
+use Rattle.state_file.specs.declared.cause.StateCause.{StateCause}
+use Rattle.state_file.specs.declared.cause.StateCause.TheVariants as meters
+use Rattle.state_file.specs.declared.fault.FileCause.{FileCause}
+use Rattle.state_file.specs.declared.fault.FileCause.TheVariants as files
 use Rattle.frame_formats.specs.declared.fault.FrameFault.{FrameFault}
 use Rattle.frame_formats.specs.declared.fault.FrameFault.TheVariants as frames
 use Rattle.line_reader.specs.declared.line.BadLine.{BadLine}
@@ -13,7 +17,7 @@ use Rattle.input_check_main.specs.Texts.{between, between_two}
 -- what is wrong with a line of a roster
 abbrev pub roster_words : LineCause → List ℕ
 roster_words causes.TooLong = codes "the roster has more than 1,048,576 bytes: split it"
-roster_words causes.Head = codes "the first line is neither `wmbus-roster 2` nor `wmbus-roster 1`: write the former in its place"
+roster_words causes.Head = codes "the first line is neither `wmbus-roster 2` nor `wmbus-roster 1`: write the former in its place, or in a state `wmbus-state 1`"
 roster_words causes.Own = codes "this isn't `own` and an address: write the line `own ADDRESS` behind the first one"
 roster_words causes.Kind = codes "the line doesn't begin with `meter`: a comment begins with #"
 roster_words causes.Fields =
@@ -28,6 +32,30 @@ roster_words causes.Ids = codes "the last command id isn't a plain number below 
 roster_words causes.Same = codes "an earlier line has this address: keep one of the two"
 roster_words causes.TooMany = codes "there are 4,096 meters before it: split the roster"
 roster_words causes.Missing = codes "the head or the line `own ADDRESS` is missing"
+
+-- what is wrong with a line below a meter's line of a state
+abbrev pub meter_words : StateCause → List ℕ
+meter_words meters.Kind = codes "the line begins with none of `meter`, `reading`, `part`, `tick`, `waits` and `command`, and isn't `end` alone: a comment begins with #"
+meter_words meters.Fields = codes "the line hasn't the fields that its first one asks for, with just one space between two of them"
+meter_words meters.Twice = codes "the meter has a reading above it: keep the later one"
+meter_words meters.At = codes "the moment isn't a plain number below 18446744073709551616"
+meter_words meters.Counter = codes "the counter isn't a plain number below 4294967296"
+meter_words meters.Payload = codes "the payload isn't hexadecimal digits of at most 4,096 bytes in a reading, or of 1 to 94 bytes in a command"
+meter_words meters.Part = codes "the bytes are no fragment of a message: take the line away, since the meter sends its message again"
+meter_words meters.Id = codes "the id isn't a plain number below 4294967296"
+meter_words meters.Tries = codes "how often the command was sent isn't 0, 1, 2 or 3"
+meter_words meters.Command = codes "the command can't stand here: eight wait at most, their ids rise up to that of the meter's line, and the oldest alone was sent"
+
+-- what is wrong with a line of a state
+abbrev pub state_words : FileCause → List ℕ
+state_words (files.Roster causes.Fields) = codes "the line hasn't eight fields with just one space between two of them"
+state_words (files.Roster causes.Same) = codes "an earlier meter has this address: keep one of the two, with the lines below it"
+state_words (files.Roster causes.TooMany) = codes "there are 4,096 meters before it: split the state"
+state_words (files.Roster causes.Missing) = codes "the line `own ADDRESS` or the line `end` is missing: the state was cut short, so take the last one that is whole"
+state_words (files.Roster cause) = roster_words cause
+state_words (files.Meter cause) = meter_words cause
+state_words files.Place = codes "no `meter` line that is right stands above it: mend that one, or put this one below its meter's"
+state_words files.Behind = codes "it stands behind the `end`: put it in front of it, or take it away"
 
 -- why a receiver's line says nothing
 abbrev pub bad_words : BadLine → List ℕ

@@ -2,30 +2,44 @@
 use Rattle.std.specs.Prelude.{ℕ, nat_lt, List, [], ◌∷◌, ◌++◌, length, take, codes, if◌then◌else◌}
 use Rattle.std.specs.List.{flat_map}
 use Rattle.paper.specs.Pieces.{labelled, labelled_two}
-use Rattle.roster_file.specs.declared.roster.RosterFault.{RosterFault}
-use Rattle.roster_file.specs.declared.roster.RosterFault.TheVariants.{Line, Memory}
+use Rattle.state_file.specs.declared.fault.StateFault.{StateFault}
+use Rattle.state_file.specs.declared.fault.StateFault.TheVariants.{Roster, Line, Memory}
+use Rattle.state_file.specs.Faults.{is_state, state_faults_of}
 use Rattle.input_check_main.specs.declared.faulty.FaultyLine.{FaultyLine}
 use Rattle.input_check_main.specs.Bytes.{bytes_words}
-use Rattle.input_check_main.specs.Causes.{roster_words, line_words}
+use Rattle.input_check_main.specs.Causes.{roster_words, state_words, line_words}
 use Rattle.input_check_main.specs.Texts.{between_two}
 
--- a faulty line of a roster; want of memory is none
-unfoldable pub roster_line : RosterFault → List ℕ
-roster_line (Line n cause) = labelled (codes "roster line ") n ++ codes ": " ++ roster_words cause ++ codes "\n"
-roster_line Memory = []
+-- a faulty line of a file, with its number and what is wrong with it
+unfoldable pub faulty_line : List ℕ → ℕ → List ℕ → List ℕ
+faulty_line file n words = labelled file n ++ codes ": " ++ words ++ codes "\n"
 
--- all faulty lines of a roster
-abbrev pub roster_lines : List RosterFault → List ℕ
-roster_lines faults = flat_map roster_line faults
+-- a faulty line of a state or of a roster; want of memory is none
+abbrev pub fault_line : StateFault → List ℕ
+fault_line (Roster n cause) = faulty_line (codes "roster line ") n (roster_words cause)
+fault_line (Line n cause) = faulty_line (codes "state line ") n (state_words cause)
+fault_line Memory = []
+
+-- all of them
+abbrev pub fault_lines : List StateFault → List ℕ
+fault_lines faults = flat_map fault_line faults
 
 -- behind faulty lines, what may be behind them
-abbrev pub bytes_words_if : List RosterFault → List ℕ → List ℕ
-bytes_words_if [] bytes = []
-bytes_words_if (fault ∷ faults) bytes = bytes_words bytes
+abbrev pub bytes_words_if : List StateFault → List ℕ → List ℕ → List ℕ
+bytes_words_if [] word bytes = []
+bytes_words_if (fault ∷ faults) word bytes = bytes_words word bytes
 
--- all that is said of a roster with these faulty lines and these bytes
-unfoldable pub roster_text : List RosterFault → List ℕ → List ℕ
-roster_text faults bytes = roster_lines faults ++ bytes_words_if faults bytes
+-- these faulty lines, and what may be behind them in a file with these bytes; the word says what the file is
+unfoldable pub findings_text : List StateFault → List ℕ → List ℕ → List ℕ
+findings_text faults word bytes = fault_lines faults ++ bytes_words_if faults word bytes
+
+-- what a text is: with the head of a state it is to be one, and any other is to be a roster
+abbrev pub file_word : List ℕ → List ℕ
+file_word bytes = if is_state bytes then codes "state" else codes "roster"
+
+-- all that is said of a text that is to be a state or a roster
+abbrev pub state_text : List ℕ → List ℕ
+state_text bytes = findings_text (state_faults_of bytes) (file_word bytes) bytes
 
 -- a faulty line of this receiver
 unfoldable pub receiver_line : ℕ → FaultyLine → List ℕ

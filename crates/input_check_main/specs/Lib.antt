@@ -4,7 +4,7 @@ pub mod Texts
 pub mod Causes
 pub mod Findings
 pub mod Hints
-pub mod Rosters
+pub mod States
 pub mod Bytes
 pub mod Receivers
 pub mod Run

@@ -1,31 +1,32 @@
--- A check of a roster and of receivers: what its sources and its sink showed before and after it, and what is promised of it.
+-- A check of a state, which may be a roster, and of receivers: what its sources and its sink showed before and after it, and what is
+-- promised of it.
 use Rattle.std.specs.Prelude.{ℕ, ◌≡◌, ◌⊎◌, ◌<◌, ◌||◌, nat_lt, Bool, true, List, ◌++◌, length, Result, Err, IsTrue, IfOk, OnOk}
 use Rattle.outer_io.specs.Each.{PassUntil}
 use Rattle.outer_io.specs.Shown.{Change, SourceShown, SinkShown, ReadFailed, WriteFailed}
 use Rattle.line_reader.specs.Lines.{is_over}
-use Rattle.roster_file.specs.Faults.{faults_of}
+use Rattle.state_file.specs.Faults.{most_bytes, state_faults_of}
 use Rattle.input_check_main.specs.declared.hints.Note.{Note}
-use Rattle.input_check_main.specs.declared.rosters.Stop.{Stop}
-use Rattle.input_check_main.specs.declared.rosters.Stop.TheVariants as stops
-use Rattle.input_check_main.specs.Findings.{roster_text}
+use Rattle.input_check_main.specs.declared.states.Stop.{Stop}
+use Rattle.input_check_main.specs.declared.states.Stop.TheVariants as stops
+use Rattle.input_check_main.specs.Findings.{state_text}
 use Rattle.input_check_main.specs.Hints.{notes_text}
 use Rattle.input_check_main.specs.Receivers.{any_faulty, receivers_text}
 
 -- ---- what is found
 
--- a line of the roster or of a receiver is faulty
-abbrev pub is_faulty : (roster : List ℕ) → (receivers : List (List ℕ)) → Bool
-is_faulty roster receivers = nat_lt 0 (length (faults_of roster)) || any_faulty receivers
+-- a line of the state or of a receiver is faulty
+abbrev pub is_faulty : (state : List ℕ) → (receivers : List (List ℕ)) → Bool
+is_faulty state receivers = nat_lt 0 (length (state_faults_of state)) || any_faulty receivers
 
 -- notes were printed, and nothing else
 abbrev pub AddsNotes : (old new : List ℕ) → Type 0
 AddsNotes old new = (notes : List Note) × (new ≡ old ++ notes_text notes)
 
--- All that is printed: the faulty lines of the roster, notes on its keys, the faulty lines of each receiver, and notes on what they heard.
-pub record IsPrinted (roster : List ℕ) (receivers : List (List ℕ)) (old new : List ℕ) : Type 0 where
+-- All that is printed: the faulty lines of the state, notes on its keys, the faulty lines of each receiver, and notes on what they heard.
+pub record IsPrinted (state : List ℕ) (receivers : List (List ℕ)) (old new : List ℕ) : Type 0 where
   pub keys : List Note
   pub hearing : List Note
-  pub printed : new ≡ old ++ roster_text (faults_of roster) roster ++ notes_text keys ++ receivers_text 0 receivers ++ notes_text hearing
+  pub printed : new ≡ old ++ state_text state ++ notes_text keys ++ receivers_text 0 receivers ++ notes_text hearing
 
 -- ---- what a check shows
 
@@ -33,7 +34,7 @@ pub record Run : Type 0 where
   -- whether contracts know the bytes of sources, and of the sink
   pub sources_tell : Bool
   pub sinks_tell : Bool
-  pub roster : Change SourceShown
+  pub state : Change SourceShown
   pub receivers : List (Change SourceShown)
   -- the bytes that each receiver had
   pub bytes : List (List ℕ)
@@ -53,10 +54,10 @@ AnyOver receivers = PassUntil (λ bytes. Unit {0}) (λ bytes. is_over bytes ≡ 
 
 pub record IsRun (run : Run) : Type 0 where
   -- where all was checked, each file was looked at: the answer is that of all their lines, and what is wrong with each is printed
-  pub faulty : IfOk run.checked (λ faulty. IsTrue run.sources_tell → faulty ≡ is_faulty run.roster.before.left run.bytes)
+  pub faulty : IfOk run.checked (λ faulty. IsTrue run.sources_tell → faulty ≡ is_faulty run.state.before.left run.bytes)
   pub printed : OnOk run.checked (IsTrue run.sources_tell → IsTrue run.sinks_tell
-      → IsPrinted run.roster.before.left run.bytes run.out.before.written run.out.now.written)
+      → IsPrinted run.state.before.left run.bytes run.out.before.written run.out.now.written)
   -- why it stops; want of memory is free
-  pub read : run.checked ≡ Err stops.Read → ReadFailed run.roster ⊎ AnyReadFailed run.receivers
-  pub cut : run.checked ≡ Err stops.Cut → IsTrue run.sources_tell → (1048576 < length run.roster.before.left) ⊎ AnyOver run.bytes
+  pub read : run.checked ≡ Err stops.Read → ReadFailed run.state ⊎ AnyReadFailed run.receivers
+  pub cut : run.checked ≡ Err stops.Cut → IsTrue run.sources_tell → (most_bytes run.state.before.left < length run.state.before.left) ⊎ AnyOver run.bytes
   pub write : run.checked ≡ Err stops.Write → WriteFailed run.out

@@ -1,7 +1,7 @@
 //! What is wrong, in words, and what to do.
 ghost use Rattle.std.specs.Prelude.{◌≡◌};
 ghost use Rattle.paper.specs.Puts.{Puts};
-ghost use Rattle.input_check_main.specs.Causes.{roster_words, bad_words, frame_words, line_words};
+ghost use Rattle.input_check_main.specs.Causes.{roster_words, meter_words, state_words, bad_words, frame_words, line_words};
 
 use crate::faulty::LineFault;
 use crate::pieces::{put_between, put_between_two};
@@ -9,6 +9,7 @@ use frame_formats::FrameFault;
 use line_reader::BadLine;
 use paper::{Paper, put_text};
 use roster_file::LineCause;
+use state_file::{FileCause, StateCause};
 
 /// What is wrong with a line of a roster.
 pub(crate) fn roster_words(cause: LineCause) -> &'static str
@@ -17,7 +18,7 @@ pub(crate) fn roster_words(cause: LineCause) -> &'static str
     match cause {
         LineCause::TooLong => "the roster has more than 1,048,576 bytes: split it",
         LineCause::Head =>
-            "the first line is neither `wmbus-roster 2` nor `wmbus-roster 1`: write the former in its place",
+            "the first line is neither `wmbus-roster 2` nor `wmbus-roster 1`: write the former in its place, or in a state `wmbus-state 1`",
         LineCause::Own =>
             "this isn't `own` and an address: write the line `own ADDRESS` behind the first one",
         LineCause::Kind => "the line doesn't begin with `meter`: a comment begins with #",
@@ -36,6 +37,50 @@ pub(crate) fn roster_words(cause: LineCause) -> &'static str
         LineCause::Same => "an earlier line has this address: keep one of the two",
         LineCause::TooMany => "there are 4,096 meters before it: split the roster",
         LineCause::Missing => "the head or the line `own ADDRESS` is missing",
+    }
+}
+
+// What is wrong with a line below a meter's line.
+fn meter_words(cause: StateCause) -> &'static str
+    ensures { result.now ≡ meter_words cause }
+{
+    match cause {
+        StateCause::Kind =>
+            "the line begins with none of `meter`, `reading`, `part`, `tick`, `waits` and `command`, and isn't `end` alone: a comment begins with #",
+        StateCause::Fields =>
+            "the line hasn't the fields that its first one asks for, with just one space between two of them",
+        StateCause::Twice => "the meter has a reading above it: keep the later one",
+        StateCause::At => "the moment isn't a plain number below 18446744073709551616",
+        StateCause::Counter => "the counter isn't a plain number below 4294967296",
+        StateCause::Payload =>
+            "the payload isn't hexadecimal digits of at most 4,096 bytes in a reading, or of 1 to 94 bytes in a command",
+        StateCause::Part =>
+            "the bytes are no fragment of a message: take the line away, since the meter sends its message again",
+        StateCause::Id => "the id isn't a plain number below 4294967296",
+        StateCause::Tries => "how often the command was sent isn't 0, 1, 2 or 3",
+        StateCause::Command =>
+            "the command can't stand here: eight wait at most, their ids rise up to that of the meter's line, and the oldest alone was sent",
+    }
+}
+
+/// What is wrong with a line of a state.
+pub(crate) fn state_words(cause: FileCause) -> &'static str
+    ensures { result.now ≡ state_words cause }
+{
+    match cause {
+        FileCause::Roster(LineCause::Fields) =>
+            "the line hasn't eight fields with just one space between two of them",
+        FileCause::Roster(LineCause::Same) =>
+            "an earlier meter has this address: keep one of the two, with the lines below it",
+        FileCause::Roster(LineCause::TooMany) =>
+            "there are 4,096 meters before it: split the state",
+        FileCause::Roster(LineCause::Missing) =>
+            "the line `own ADDRESS` or the line `end` is missing: the state was cut short, so take the last one that is whole",
+        FileCause::Roster(cause) => roster_words(cause),
+        FileCause::Meter(cause) => meter_words(cause),
+        FileCause::Place =>
+            "no `meter` line that is right stands above it: mend that one, or put this one below its meter's",
+        FileCause::Behind => "it stands behind the `end`: put it in front of it, or take it away",
     }
 }
 

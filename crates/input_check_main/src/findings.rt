@@ -1,67 +1,79 @@
 //! What is printed for faulty lines.
 ghost use Rattle.std.specs.List.{flat_map};
 ghost use Rattle.paper.specs.Puts.{Puts};
-ghost use Rattle.input_check_main.specs.Findings.{roster_line, roster_lines, bytes_words_if, receiver_line, count_line};
+ghost use Rattle.input_check_main.specs.Findings.{faulty_line, fault_line, fault_lines, bytes_words_if, receiver_line, count_line};
 
 use crate::bytes::put_bytes_words;
-use crate::causes::{put_line_words, roster_words};
+use crate::causes::{put_line_words, roster_words, state_words};
 use crate::faulty::{FaultyLine, FaultyLines};
 use crate::pieces::put_between_two;
 use paper::{Paper, Printed, put_labelled, put_text};
-use roster_file::RosterFault;
+use state_file::StateFault;
 
-// Puts a faulty line of a roster.
-#[tactic(auto, unfolding(crate::specs::Findings::roster_line), using(paper::proofs::Calls::four_make, paper::proofs::Calls::none))]
-fn put_roster_line<P: Paper>(paper: &mut P, fault: &RosterFault)
-    ensures { Puts P.takes paper.old (roster_line fault.now) paper.new }
+// Puts a faulty line of a file, with its number and what is wrong with it.
+#[tactic(auto, unfolding(crate::specs::Findings::faulty_line), using(paper::proofs::Calls::four_make))]
+fn put_faulty_line<P: Paper>(paper: &mut P, file: &str, line: u32, words: &str)
+    ensures { Puts P.takes paper.old (faulty_line file.now line words.now) paper.new }
+{
+    put_labelled(paper, file, line as u64);
+    put_text(paper, ": ");
+    put_text(paper, words);
+    put_text(paper, "\n");
+}
+
+// Puts a faulty line of a state or of a roster.
+#[tactic(auto, using(paper::proofs::Calls::none))]
+fn put_fault_line<P: Paper>(paper: &mut P, fault: &StateFault)
+    ensures { Puts P.takes paper.old (fault_line fault.now) paper.new }
 {
     match fault {
-        RosterFault::Line(line, cause) => {
-            put_labelled(paper, "roster line ", *line as u64);
-            put_text(paper, ": ");
-            put_text(paper, roster_words(*cause));
-            put_text(paper, "\n");
+        StateFault::Roster(line, cause) => {
+            put_faulty_line(paper, "roster line ", *line, roster_words(*cause));
         }
-        RosterFault::Memory => {}
+        StateFault::Line(line, cause) => {
+            put_faulty_line(paper, "state line ", *line, state_words(*cause));
+        }
+        StateFault::Memory => {}
     }
 }
 
-/// The faulty lines of a roster, and its bytes.
+/// The faulty lines of a state or a roster, the word that says which of the two it is, and its bytes.
 #[derive(Drop)]
-pub(crate) struct RosterFindings<'a> {
-    pub(crate) faults: &'a [RosterFault],
+pub(crate) struct StateFindings<'a> {
+    pub(crate) faults: &'a [StateFault],
+    pub(crate) word: &'static str,
     pub(crate) bytes: &'a [u8],
 }
 
 #[tactic(auto, using(paper::proofs::Calls::none))]
-fn put_roster_lines<P: Paper>(paper: &mut P, faults: &[RosterFault])
-    ensures { Puts P.takes paper.old (roster_lines faults.now) paper.new }
+fn put_fault_lines<P: Paper>(paper: &mut P, faults: &[StateFault])
+    ensures { Puts P.takes paper.old (fault_lines faults.now) paper.new }
 {
     for fault in faults {
-        put_roster_line(paper, fault);
+        put_fault_line(paper, fault);
     }
 }
 
 // Puts, behind faulty lines, what may be behind them.
 #[tactic(auto, using(paper::proofs::Calls::none))]
-fn put_bytes_words_if<P: Paper>(paper: &mut P, faults: &[RosterFault], bytes: &[u8])
-    ensures { Puts P.takes paper.old (bytes_words_if faults.now bytes.now) paper.new }
+fn put_bytes_words_if<P: Paper>(paper: &mut P, faults: &[StateFault], word: &str, bytes: &[u8])
+    ensures { Puts P.takes paper.old (bytes_words_if faults.now word.now bytes.now) paper.new }
 {
     match faults {
         [] => {}
-        [_, ..] => put_bytes_words(paper, bytes),
+        [_, ..] => put_bytes_words(paper, word, bytes),
     }
 }
 
-impl Printed for RosterFindings<'_> {
-    ghost use Rattle.input_check_main.specs.Findings.{roster_text};
+impl Printed for StateFindings<'_> {
+    ghost use Rattle.input_check_main.specs.Findings.{findings_text};
 
-    ghost text = { λ f. roster_text f.faults.now f.bytes.now };
+    ghost text = { λ f. findings_text f.faults.now f.word.now f.bytes.now };
 
-    #[tactic(auto, unfolding(crate::specs::Findings::roster_text), using(paper::proofs::Calls::two_make))]
+    #[tactic(auto, unfolding(crate::specs::Findings::findings_text), using(paper::proofs::Calls::two_make))]
     fn print<P: Paper>(&self, paper: &mut P) {
-        put_roster_lines(paper, self.faults);
-        put_bytes_words_if(paper, self.faults, self.bytes);
+        put_fault_lines(paper, self.faults);
+        put_bytes_words_if(paper, self.faults, self.word, self.bytes);
     }
 }
 

@@ -2,12 +2,12 @@
 ghost use Rattle.std.specs.Prelude.{◌≡◌, ◌≤◌, ◌++◌, Err, IsTrue, OnOk};
 ghost use Rattle.paper.specs.Puts.{Puts};
 ghost use Rattle.outer_io.specs.Shown.{WriteFailed, sink_change};
-ghost use Rattle.input_check_main.specs.declared.rosters.Stop.{Stop};
+ghost use Rattle.input_check_main.specs.declared.states.Stop.{Stop};
 ghost use Rattle.meter_label.specs.Label.{label_of};
 ghost use Rattle.input_check_main.specs.Hints.{turned_text, hint_text, name_text, name_text_if, note_text, notes_text};
 
 use crate::pieces::put_between;
-use crate::rosters::Stop;
+use crate::states::Stop;
 use meter_address::Address;
 use meter_label::{Label, device_type_word, put_label};
 use outer_io::Sink;

@@ -1,10 +1,10 @@
-//! A check of a roster and of receivers, one after another.
+//! A check of a state, which may be a roster, and of receivers, one after another.
 ghost use Rattle.std.specs.Prelude.{◌≡◌, ◌++◌, ◌+◌, ◌<◌, ◌≤◌, ◌⊎◌, ◌||◌, nat_lt, [], length, Err, IsTrue, IfOk, OnOk};
 ghost use Rattle.outer_io.specs.Each.{Each};
 ghost use Rattle.outer_io.specs.Shown.{ReadFailed, WriteFailed, source_change, sink_change};
-ghost use Rattle.roster_file.specs.Faults.{faults_of};
-ghost use Rattle.input_check_main.specs.declared.rosters.Stop.{Stop};
-ghost use Rattle.input_check_main.specs.Findings.{roster_text};
+ghost use Rattle.state_file.specs.Faults.{most_bytes, state_faults_of};
+ghost use Rattle.input_check_main.specs.declared.states.Stop.{Stop};
+ghost use Rattle.input_check_main.specs.Findings.{state_text};
 ghost use Rattle.input_check_main.specs.Receivers.{IsFresh, reader_changes, bytes_of_each, any_faulty, heard_by_all, receivers_text};
 ghost use Rattle.input_check_main.specs.Run.{IsRun, IsPrinted, AddsNotes, AnyReadFailed, AnyOver, is_faulty};
 
@@ -12,7 +12,7 @@ use crate::faulty::FaultyLines;
 use crate::hints::{Note, print_notes};
 use crate::noticing::{hearing_notes, key_notes};
 use crate::receivers::check_receiver;
-use crate::rosters::{CheckedRoster, Stop, check_roster};
+use crate::states::{CheckedState, Stop, check_state};
 use line_reader::Lines;
 use meter_address::Address;
 use outer_io::{Memory, Sink, Source};
@@ -90,23 +90,23 @@ fn check_receivers<S: Source, K: Sink>(
     }
 }
 
-// Checks the roster, and prints notes on its keys.
+// Checks the state, and prints notes on its keys.
 fn check_keys<S: Source, K: Sink>(
     alloc: Global,
-    roster: &mut S,
+    state: &mut S,
     out: &mut K,
-) -> Result<CheckedRoster, Stop>
-    ensures count { IfOk result (λ checked. IsTrue S.tells → checked.faulty ≡ length (faults_of (S.left roster.old))) }
+) -> Result<CheckedState, Stop>
+    ensures count { IfOk result (λ checked. IsTrue S.tells → checked.faulty ≡ length (state_faults_of (S.left state.old))) }
     ensures printed { OnOk result (IsTrue S.tells → IsTrue K.tells →
-        AddsNotes (K.written out.old ++ roster_text (faults_of (S.left roster.old)) (S.left roster.old)) (K.written out.new)) }
+        AddsNotes (K.written out.old ++ state_text (S.left state.old)) (K.written out.new)) }
 
     // Why it stops.
-    ensures read { result ≡ Err Stop.Read → ReadFailed (source_change S.Source roster.old roster.new) }
-    ensures cut { result ≡ Err Stop.Cut → IsTrue S.tells → 1048576 < length (S.left roster.old) }
+    ensures read { result ≡ Err Stop.Read → ReadFailed (source_change S.Source state.old state.new) }
+    ensures cut { result ≡ Err Stop.Cut → IsTrue S.tells → most_bytes (S.left state.old) < length (S.left state.old) }
     ensures write { result ≡ Err Stop.Write → WriteFailed (sink_change K.Sink out.old out.new) }
     ensures later { K.faults out.old ≤ K.faults out.new }
 {
-    let checked = match check_roster(alloc, roster, out) {
+    let checked = match check_state(alloc, state, out) {
         Ok(checked) => checked,
         Err(stop) => return Err(stop),
     };
@@ -116,11 +116,11 @@ fn check_keys<S: Source, K: Sink>(
     }
 }
 
-// Prints notes on what was heard, where it can be compared with the meters of a roster: none of its lines is faulty, and there are
+// Prints notes on what was heard, where it can be compared with the meters of a state: none of its lines is faulty, and there are
 // receivers.
 fn print_hearing<K: Sink>(
     alloc: Global,
-    checked: &CheckedRoster,
+    checked: &CheckedState,
     has_receivers: bool,
     heard: &mut Vec<Address>,
     out: &mut K,
@@ -136,28 +136,28 @@ fn print_hearing<K: Sink>(
     print_noted(hearing_notes(alloc, &checked.meters, heard), out)
 }
 
-// Checks a roster and receivers, prints what is wrong with them, and answers whether a line is faulty.
+// Checks a state and receivers, prints what is wrong with them, and answers whether a line is faulty.
 fn check_all<S: Source, K: Sink>(
     alloc: Global,
-    roster: &mut S,
+    state: &mut S,
     receivers: &mut [Lines<S>],
     out: &mut K,
 ) -> Result<bool, Stop>
     requires fresh { Each IsFresh receivers.old }
     requires untaken { IsTrue S.tells → Each (λ r. S.taken r.source ≡ []) receivers.old }
     ensures faulty { IfOk result (λ faulty. IsTrue S.tells →
-        faulty ≡ is_faulty (S.left roster.old) (bytes_of_each S.Source receivers.old)) }
+        faulty ≡ is_faulty (S.left state.old) (bytes_of_each S.Source receivers.old)) }
     ensures printed { OnOk result (IsTrue S.tells → IsTrue K.tells →
-        IsPrinted (S.left roster.old) (bytes_of_each S.Source receivers.old) (K.written out.old) (K.written out.new)) }
+        IsPrinted (S.left state.old) (bytes_of_each S.Source receivers.old) (K.written out.old) (K.written out.new)) }
 
     // Why it stops.
-    ensures read { result ≡ Err Stop.Read → ReadFailed (source_change S.Source roster.old roster.new)
+    ensures read { result ≡ Err Stop.Read → ReadFailed (source_change S.Source state.old state.new)
         ⊎ AnyReadFailed (reader_changes S.Source receivers.old receivers.new) }
-    ensures cut { result ≡ Err Stop.Cut → IsTrue S.tells → (1048576 < length (S.left roster.old))
+    ensures cut { result ≡ Err Stop.Cut → IsTrue S.tells → (most_bytes (S.left state.old) < length (S.left state.old))
         ⊎ AnyOver (bytes_of_each S.Source receivers.old) }
     ensures write { result ≡ Err Stop.Write → WriteFailed (sink_change K.Sink out.old out.new) }
 {
-    let checked = match check_keys(alloc, roster, out) {
+    let checked = match check_keys(alloc, state, out) {
         Ok(checked) => checked,
         Err(stop) => return Err(stop),
     };
@@ -172,13 +172,13 @@ fn check_all<S: Source, K: Sink>(
     }
 }
 
-/// Prints what is wrong with a roster and with the lines of receivers, which are numbered from 1 in their order, with notes on keys and
-/// on what was heard; and answers whether a line is faulty. Nothing was taken of any of the sources yet.
+/// Prints what is wrong with a state, which may be a roster, and with the lines of receivers, which are numbered from 1 in their order, with
+/// notes on keys and on what was heard; and answers whether a line is faulty. Nothing was taken of any of the sources yet.
 ///
 /// `Read` comes only where a read failed, `Write` only where a write did, `Cut` only where a file is past its limit.
 pub fn check_inputs<S: Source, K: Sink>(
     alloc: Global,
-    roster: &mut S,
+    state: &mut S,
     receivers: &mut [Lines<S>],
     out: &mut K,
 ) -> Result<bool, Stop>
@@ -189,12 +189,12 @@ pub fn check_inputs<S: Source, K: Sink>(
     ensures run { IsRun (record {
       sources_tell = S.tells;
       sinks_tell = K.tells;
-      roster = source_change S.Source roster.old roster.new;
+      state = source_change S.Source state.old state.new;
       receivers = reader_changes S.Source receivers.old receivers.new;
       bytes = bytes_of_each S.Source receivers.old;
       out = sink_change K.Sink out.old out.new;
       checked = result;
     }) }
 {
-    check_all(alloc, roster, receivers, out)
+    check_all(alloc, state, receivers, out)
 }

@@ -1,4 +1,4 @@
-//! Which notes there are on a roster's meters, and on what was heard.
+//! Which notes there are on the meters of a state or a roster, and on what was heard.
 
 use crate::hints::{Hint, Note};
 use meter_address::{Address, Commission};
@@ -27,7 +27,7 @@ fn shares_its_key(meters: &[Commission], meter: &Commission) -> bool {
     false
 }
 
-/// What there is to say of the keys of a roster's meters.
+/// What there is to say of the keys of these meters.
 pub fn key_notes(alloc: Global, meters: &[Commission]) -> Result<Vec<Note>, Memory> {
     let mut notes = Vec::new(alloc);
     for meter in meters {
@@ -67,7 +67,7 @@ fn unheard(address: Address, heard: &[Address], meters: &[Address]) -> Hint {
     Hint::Unheard
 }
 
-// Those that are not meters of the roster, each with how often it was heard, in the order of the sorted addresses.
+// Those that are none of these meters, each with how often it was heard, in the order of the sorted addresses.
 fn strangers(
     alloc: Global,
     heard: &[Address],

@@ -12,7 +12,7 @@ ghost use Rattle.input_check_main.specs.Findings.{receiver_lines};
 
 use crate::faulty::{FaultyLines, LineFault, look_at_line};
 use crate::findings::ReceiverFindings;
-use crate::rosters::Stop;
+use crate::states::Stop;
 use line_reader::{Lines, Next};
 use meter_address::Address;
 use outer_io::{Sink, Source};

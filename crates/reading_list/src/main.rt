@@ -32,8 +32,9 @@ usage: reading_list [--csv] REPORT
 REPORT is a file that wmbus hear or wmbus collect printed. Each data record of each
 stored step is printed as a JSON object in a line of its own, or with --csv as comma
 separated values below a line of names: address, label, receiver, line, moment,
-counter, record, function, storage, tariff, subunit, quantity, unit, value, modifiers
-and raw. A value is an exact decimal text, its power of ten applied. What can't be
+counter, record, function, storage, tariff, subunit, quantity, unit, value, number,
+qualifiers, type, profile_quantity, modifiers and raw. A record is read by the whole
+standard; a value is an exact decimal text, its power of ten applied. What can't be
 listed is named on the standard error, with its line.
 
 exit status: 0 all is listed, 1 some lines couldn't be listed whole or the report is

@@ -1,5 +1,4 @@
-pub mod ZerosPut
 pub mod RecordsPut
 pub mod Lines
 pub mod Runs
-pub mod Exact
+pub mod ReadPut

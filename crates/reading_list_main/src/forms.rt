@@ -28,6 +28,10 @@ pub enum Member {
     Quantity,
     Unit,
     Value,
+    Number,
+    Qualifiers,
+    Type,
+    ProfileQuantity,
     Modifiers,
     Raw,
 }
@@ -51,6 +55,10 @@ fn before_in_json(member: Member) -> &'static str
         Member::Quantity => ",\"quantity\":\"",
         Member::Unit => "\",\"unit\":\"",
         Member::Value => "\",\"value\":\"",
+        Member::Number => "\",\"number\":",
+        Member::Qualifiers => ",\"qualifiers\":\"",
+        Member::Type => "\",\"type\":\"",
+        Member::ProfileQuantity => "\",\"profile_quantity\":\"",
         Member::Modifiers => "\",\"modifiers\":\"",
         Member::Raw => "\",\"raw\":\"",
     }
@@ -68,7 +76,7 @@ fn before_in_csv(member: Member) -> &'static str
 
 impl Form {
     ghost use Rattle.std.specs.Prelude.{◌≡◌};
-    ghost use Rattle.reading_list_main.specs.RecordLines.{before, closing, head_text};
+    ghost use Rattle.reading_list_main.specs.RecordLines.{before, closing, head_text, no_member, no_number};
 
     /// What stands in front of a member's value.
     pub(crate) fn before(self, member: Member) -> &'static str
@@ -77,6 +85,26 @@ impl Form {
         match self {
             Form::Json => before_in_json(member),
             Form::Csv => before_in_csv(member),
+        }
+    }
+
+    /// What stands for a number that there isn't.
+    pub(crate) fn no_number(self) -> &'static str
+        ensures { result.now ≡ no_number self }
+    {
+        match self {
+            Form::Json => "null",
+            Form::Csv => "",
+        }
+    }
+
+    /// What stands for a member that a line lacks.
+    pub(crate) fn no_member(self) -> &'static str
+        ensures { result.now ≡ no_member self }
+    {
+        match self {
+            Form::Json => "",
+            Form::Csv => ",",
         }
     }
 
@@ -97,7 +125,7 @@ impl Form {
         match self {
             Form::Json => "",
             Form::Csv => {
-                "address,label,receiver,line,moment,counter,record,function,storage,tariff,subunit,quantity,unit,value,modifiers,raw\n"
+                "address,label,receiver,line,moment,counter,record,function,storage,tariff,subunit,quantity,unit,value,number,qualifiers,type,profile_quantity,modifiers,raw\n"
             }
         }
     }

@@ -1,9 +1,7 @@
 //! A list of the readings of a report: a line for each data record of each stored step.
 #![tactic(auto)]
 
-mod decimals;
 mod forms;
-mod laws;
 mod lister;
 mod notes;
 mod record_lines;
@@ -11,9 +9,7 @@ mod running;
 mod said;
 mod status;
 
-pub use decimals::put_decimal;
 pub use forms::{Form, Member};
-pub use laws::decimals_are_exact;
 pub use lister::Lister;
 pub use notes::LineNote;
 pub use running::list_report;

@@ -5,19 +5,25 @@ ghost use Rattle.paper.specs.Pieces.{text_if};
 ghost use Rattle.meter_label.specs.Texts.{label_text};
 ghost use Rattle.dif_vif.specs.Spans.{IsSpanOf};
 ghost use Rattle.reading_list_main.specs.Said.{step_read};
-ghost use Rattle.reading_list_main.specs.RecordLines.{meter_members, step_members, function_words, register_members, value_words};
-ghost use Rattle.reading_list_main.specs.RecordLines.{value_members, byte_members, record_line, records_text, fault_of};
+ghost use Rattle.record_values.specs.declared.units.Quantity.TheVariants.{Unknown};
+ghost use Rattle.reading_list_main.specs.RecordLines.{meter_members, step_members, function_words, register_members, measure_members};
+ghost use Rattle.reading_list_main.specs.RecordLines.{number_text, value_members, kind_members, is_renamed, profile_words, profile_member};
+ghost use Rattle.reading_list_main.specs.RecordLines.{shown, byte_members, read_members, record_line, records_text, fault_of};
 
-use crate::decimals::put_decimal;
 use crate::forms::{Form, Member};
 use crate::said::StepRead;
 use dif_vif::{RecordFault, RecordSpan, next_record};
+use full_records::{DataType, FullQuantity, FullUnitName, FullValue, Qualifier, full_record_of};
+use full_text::{
+    Decimal, counted_of, full_quantity_word, full_unit_word, put_decimal, put_full_value,
+    put_qualifiers, type_word,
+};
 use meter_address::Address;
 use meter_label::{Label, put_label};
 use paper::{Paper, put_hex, put_labelled, put_labelled_bytes, put_text};
-use record_text::{bytes_at, put_value};
-use record_values::{Unit, Value, unit_of, value_of};
-use unit_text::{function_word, name_word, quantity_word};
+use record_text::bytes_at;
+use record_values::{Quantity, unit_of};
+use unit_text::{function_word, quantity_word};
 
 #[tactic(auto, using(paper::proofs::Calls::none))]
 fn put_label_if<P: Paper>(paper: &mut P, label: Option<Label>)
@@ -75,25 +81,96 @@ fn put_register<P: Paper>(paper: &mut P, form: Form, number: u64, span: &RecordS
     put_labelled(paper, form.before(Member::Subunit), u64::from(span.subunit));
 }
 
-fn put_value_words<P: Paper>(paper: &mut P, unit: Unit, value: Value)
-    ensures { Puts P.takes paper.old (value_words unit value) paper.new }
+#[tactic(auto, unfolding(crate::specs::RecordLines::measure_members), using(paper::proofs::Calls::four_make))]
+fn put_measure<P: Paper>(paper: &mut P, form: Form, quantity: FullQuantity, unit: FullUnitName)
+    ensures { Puts P.takes paper.old (measure_members form quantity unit) paper.new }
 {
-    match value {
-        Value::Whole(number) => put_decimal(paper, number, unit.exponent),
-        _ => put_value(paper, value),
+    put_text(paper, form.before(Member::Quantity));
+    put_text(paper, full_quantity_word(quantity));
+    put_text(paper, form.before(Member::Unit));
+    put_text(paper, full_unit_word(unit));
+}
+
+fn put_number<P: Paper>(paper: &mut P, form: Form, number: Option<Decimal>)
+    ensures { Puts P.takes paper.old (number_text form number) paper.new }
+{
+    match number {
+        None => put_text(paper, form.no_number()),
+        Some(number) => put_decimal(paper, number),
     }
 }
 
-#[tactic(auto, unfolding(crate::specs::RecordLines::value_members), using(paper::proofs::Calls::six_make))]
-fn put_value_members<P: Paper>(paper: &mut P, form: Form, unit: Unit, value: Value)
-    ensures { Puts P.takes paper.old (value_members form unit value) paper.new }
+#[tactic(auto, unfolding(crate::specs::RecordLines::value_members), using(paper::proofs::Calls::four_make))]
+fn put_value<P: Paper>(paper: &mut P, form: Form, value: FullValue, unset: bool, sent: &[u8])
+    ensures { Puts P.takes paper.old (value_members form value unset sent.now) paper.new }
 {
-    put_text(paper, form.before(Member::Quantity));
-    put_text(paper, quantity_word(unit.quantity));
-    put_text(paper, form.before(Member::Unit));
-    put_text(paper, name_word(unit.name));
     put_text(paper, form.before(Member::Value));
-    put_value_words(paper, unit, value);
+    put_full_value(paper, value, sent);
+    put_text(paper, form.before(Member::Number));
+    put_number(paper, form, counted_of(value, unset));
+}
+
+#[tactic(auto, unfolding(crate::specs::RecordLines::kind_members), using(paper::proofs::Calls::four_make))]
+fn put_kind<P: Paper>(
+    paper: &mut P,
+    form: Form,
+    qualifiers: &[Qualifier],
+    unset: bool,
+    data_type: DataType,
+)
+    ensures { Puts P.takes paper.old (kind_members form qualifiers.now unset data_type) paper.new }
+{
+    put_text(paper, form.before(Member::Qualifiers));
+    put_qualifiers(paper, qualifiers, unset);
+    put_text(paper, form.before(Member::Type));
+    put_text(paper, type_word(data_type));
+}
+
+fn is_known(quantity: FullQuantity) -> bool
+    ensures { result ≡ is_renamed Unknown quantity }
+{
+    match quantity {
+        FullQuantity::Profile(Quantity::Unknown) => false,
+        _ => true,
+    }
+}
+
+// Whether the whole standard names a quantity that the profile doesn't.
+fn is_renamed(profile: Quantity, quantity: FullQuantity) -> bool
+    ensures { result ≡ is_renamed profile quantity }
+{
+    match profile {
+        Quantity::Unknown => is_known(quantity),
+        _ => false,
+    }
+}
+
+#[tactic(auto, unfolding(crate::specs::RecordLines::profile_words), using(paper::proofs::Calls::two_make))]
+fn put_profile_words<P: Paper>(paper: &mut P, form: Form, profile: Quantity)
+    ensures { Puts P.takes paper.old (profile_words form profile) paper.new }
+{
+    put_text(paper, form.before(Member::ProfileQuantity));
+    put_text(paper, quantity_word(profile));
+}
+
+fn put_profile<P: Paper>(paper: &mut P, form: Form, profile: Quantity, quantity: FullQuantity)
+    ensures { Puts P.takes paper.old (profile_member form profile quantity) paper.new }
+{
+    if is_renamed(profile, quantity) {
+        put_profile_words(paper, form, profile);
+    } else {
+        put_text(paper, form.no_member());
+    }
+}
+
+// The data as they are shown.
+fn shown(data_type: DataType, sent: &[u8]) -> &[u8]
+    ensures { result.now ≡ shown data_type sent.now }
+{
+    match data_type {
+        DataType::Withheld => &[],
+        _ => sent,
+    }
 }
 
 #[tactic(auto, unfolding(crate::specs::RecordLines::byte_members), using(paper::proofs::Calls::five_make))]
@@ -107,8 +184,25 @@ fn put_byte_members<P: Paper>(paper: &mut P, form: Form, modifiers: &[u8], sent:
     put_text(paper, form.closing());
 }
 
+// Puts what a data record says, by the whole standard.
+fn put_read<P: Paper>(paper: &mut P, form: Form, bytes: &[u8], span: &RecordSpan)
+    requires { IsSpanOf bytes.now span.now }
+    ensures { Puts P.takes paper.old (read_members form bytes.now span.now) paper.new }
+{
+    let profile = unit_of(bytes, span);
+    let record = full_record_of(bytes, span);
+    let qualifiers = record.qualifiers.as_slice();
+    let modifiers = bytes_at(bytes, profile.modifiers_at, profile.modifiers);
+    let sent = bytes_at(bytes, span.data_at, span.data_len);
+    put_measure(paper, form, record.quantity, record.unit);
+    put_value(paper, form, record.value, record.unset, sent);
+    put_kind(paper, form, qualifiers, record.unset, record.data_type);
+    put_profile(paper, form, profile.quantity, record.quantity);
+    put_byte_members(paper, form, modifiers, shown(record.data_type, sent));
+}
+
 // Puts the line of a record of a meter's step, with the record's number in it.
-#[tactic(auto, unfolding(crate::specs::RecordLines::record_line), using(paper::proofs::Calls::five_make))]
+#[tactic(auto, unfolding(crate::specs::RecordLines::record_line), using(paper::proofs::Calls::four_make))]
 fn put_record<P: Paper>(
     paper: &mut P,
     form: Form,
@@ -120,16 +214,10 @@ fn put_record<P: Paper>(
     requires { IsSpanOf step.now.payload.items span.now }
     ensures { Puts P.takes paper.old (record_line form address (step_read step.now) (number, span.now)) paper.new }
 {
-    let payload = step.payload.as_slice();
-    let unit = unit_of(payload, span);
-    let value = value_of(payload, span);
-    let modifiers = bytes_at(payload, unit.modifiers_at, unit.modifiers);
-    let sent = bytes_at(payload, span.data_at, span.data_len);
     put_meter(paper, form, address);
     put_step(paper, form, step);
     put_register(paper, form, number, span);
-    put_value_members(paper, form, unit, value);
-    put_byte_members(paper, form, modifiers, sent);
+    put_read(paper, form, step.payload.as_slice(), span);
 }
 
 /// Puts a line for each record of a meter's step, and answers the fault that ends them, if one does.

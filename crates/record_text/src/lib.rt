@@ -9,4 +9,4 @@ mod value_text;
 pub use laws::records_are_listed;
 pub use lines::{bytes_at, put_fault_words};
 pub use listing::put_records;
-pub use value_text::{put_bytes, put_value};
+pub use value_text::{put_bytes, put_four, put_marked, put_two, put_value};

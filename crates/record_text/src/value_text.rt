@@ -17,16 +17,18 @@ pub fn put_bytes<P: Paper>(paper: &mut P, bytes: &[u8])
     }
 }
 
+/// The last two digits of a number.
 #[tactic(auto, unfolding(crate::specs::Values::two_digits), using(paper::proofs::Calls::two_make))]
-fn put_two<P: Paper>(paper: &mut P, number: u16)
+pub fn put_two<P: Paper>(paper: &mut P, number: u16)
     ensures { Puts P.takes paper.old (two_digits number) paper.new }
 {
     put_number(paper, u64::from(number / 10 % 10));
     put_number(paper, u64::from(number % 10));
 }
 
+/// The last four digits of a number.
 #[tactic(auto, unfolding(crate::specs::Values::four_digits), using(paper::proofs::Calls::two_make))]
-fn put_four<P: Paper>(paper: &mut P, number: u16)
+pub fn put_four<P: Paper>(paper: &mut P, number: u16)
     ensures { Puts P.takes paper.old (four_digits number) paper.new }
 {
     put_two(paper, number / 100);
@@ -54,8 +56,9 @@ fn put_time<P: Paper>(paper: &mut P, hour: u8, minute: u8)
     put_two(paper, u16::from(minute));
 }
 
+/// A sign, where something holds.
 #[tactic(auto, using(paper::proofs::Calls::none))]
-fn put_marked<P: Paper>(paper: &mut P, sign: &str, holds: bool)
+pub fn put_marked<P: Paper>(paper: &mut P, sign: &str, holds: bool)
     ensures { Puts P.takes paper.old (marked sign.now holds) paper.new }
 {
     if holds {

@@ -2,10 +2,6 @@
 #![tactic(auto)]
 
 #[cfg(test)]
-mod line_accept_calls;
-#[cfg(test)]
-mod line_merge_calls;
-#[cfg(test)]
 mod line_reader_calls;
 #[cfg(test)]
 mod meter_address_calls;

@@ -1,5 +1,5 @@
 use Rattle.std.proofs.Common.{◌≡◌, Err, ap, arith}
-use Rattle.input_check_main.specs.declared.rosters.Stop.TheVariants as stops
+use Rattle.input_check_main.specs.declared.states.Stop.TheVariants as stops
 use Rattle.input_check_main.proofs.LaterFaults.{rose_later}
 use Rattle.input_check_main.proofs.inputs.check_all.Goals as goal
 

@@ -1,8 +1,0 @@
-use Rattle.std.proofs.Common.{take}
-use Rattle.std.specs.List.{flat_map}
-use Rattle.paper.specs.Puts.{Puts}
-use Rattle.input_check_main.specs.Findings.{roster_line}
-use Rattle.input_check_main.proofs.findings.put_roster_lines.Given as goal
-
-abbrev pub invariant-loop-fault : goal.invariant-loop-fault
-invariant-loop-fault g l = Puts g.P.Paper.takes l.initial.paper (flat_map roster_line (take l.fault-index l.faults)) l.paper

@@ -1,0 +1,156 @@
+//! The faulty lines of a state, or of a roster.
+ghost use Rattle.std.specs.Prelude.{◌≡◌, ◌++◌, ◌<◌, ◌≤◌, length, map, Err, IsTrue, IfOk, IfErr};
+ghost use Rattle.outer_io.specs.Shown.{ReadFailed, WriteFailed, source_change, sink_change};
+ghost use Rattle.meter_slots.specs.Journal.{commission_of};
+ghost use Rattle.state_file.specs.Whole.{state_of};
+ghost use Rattle.state_file.specs.Faults.{most_bytes, state_faults_of};
+ghost use Rattle.input_check_main.specs.States.{meters_in, RostersHaveTheirMeters};
+ghost use Rattle.input_check_main.specs.Findings.{file_word, state_text};
+
+use crate::findings::StateFindings;
+use meter_address::Commission;
+use meter_slots::MeterStart;
+use outer_io::{Memory, ReadError, Sink, Source, read_all};
+use paper::write;
+use roster_file::MOST_BYTES;
+use state_file::{STATE_MOST, StateFault, is_state, read_state, state_faults};
+use std::alloc::Global;
+
+/// Why nothing more is checked.
+#[derive(Clone, Copy, Debug, PartialEq, Eq)]
+pub enum Stop {
+    /// The file can't be read.
+    Read,
+    /// The file has a byte behind its most lines or its most bytes.
+    Cut,
+    /// A finding can't be written.
+    Write,
+    /// There is no memory.
+    Memory,
+}
+
+/// What a state comes to, which may be a roster.
+#[derive(Debug, Drop)]
+pub struct CheckedState {
+    /// How many of its lines are faulty.
+    pub faulty: usize,
+    /// Its meters, where none is.
+    pub meters: Vec<Commission>,
+}
+
+// What is commissioned of these meters.
+fn commissions(alloc: Global, starts: &[MeterStart]) -> Result<Vec<Commission>, Memory>
+    ensures { IfOk result (λ meters. meters.items ≡ map commission_of starts.now) }
+{
+    let mut meters = Vec::new(alloc);
+    for place in 0..starts.len() {
+        meters.push(starts[place].known().commission())?;
+    }
+    Ok(meters)
+}
+
+// The meters of a state, or none where it is refused.
+fn meters_in(alloc: Global, bytes: &[u8]) -> Result<Vec<Commission>, Stop>
+    ensures meters { IfOk result (λ meters. meters.items ≡ meters_in (state_of bytes.now)) }
+    ensures memory { IfErr result (λ stop. stop ≡ Stop.Memory) }
+{
+    match read_state(alloc, bytes) {
+        Ok(state) => match commissions(alloc, state.starts()) {
+            Ok(meters) => Ok(meters),
+            Err(_) => Err(Stop::Memory),
+        },
+        Err(StateFault::Memory) => Err(Stop::Memory),
+        Err(StateFault::Roster(..)) => Ok(Vec::new(alloc)),
+        Err(StateFault::Line(..)) => Ok(Vec::new(alloc)),
+    }
+}
+
+// The most bytes of a text: of a state, or of a roster.
+fn most_bytes(bytes: &[u8]) -> usize
+    requires { length bytes.now ≤ 134217728 }
+    ensures { result ≡ most_bytes bytes.now }
+{
+    if is_state(bytes) {
+        STATE_MOST
+    } else {
+        MOST_BYTES
+    }
+}
+
+// All bytes of a state or a roster, where they aren't too many.
+#[tactic(auto, using(crate::proofs::Limits::past_most))]
+fn read_within<S: Source>(alloc: Global, state: &mut S) -> Result<Vec<u8>, Stop>
+    ensures bytes { IfOk result (λ bytes. IsTrue S.tells → bytes.items ≡ S.left state.old) }
+    ensures few { IfOk result (λ bytes. length bytes.items ≤ 134217728) }
+
+    // Why they aren't read.
+    ensures read { result ≡ Err Stop.Read → ReadFailed (source_change S.Source state.old state.new) }
+    ensures cut { result ≡ Err Stop.Cut → IsTrue S.tells → most_bytes (S.left state.old) < length (S.left state.old) }
+    ensures write { result ≡ Err Stop.Write → ⊥ }
+{
+    let bytes = match read_all(alloc, state, STATE_MOST) {
+        Ok(bytes) => bytes,
+        Err(ReadError::Failed) => return Err(Stop::Read),
+        Err(ReadError::TooMany) => return Err(Stop::Cut),
+        Err(ReadError::Memory) => return Err(Stop::Memory),
+    };
+    if bytes.len() > most_bytes(&bytes) {
+        return Err(Stop::Cut);
+    }
+    Ok(bytes)
+}
+
+// What a text is to be.
+fn file_word(bytes: &[u8]) -> &'static str
+    requires { length bytes.now ≤ 134217728 }
+    ensures { result.now ≡ file_word bytes.now }
+{
+    if is_state(bytes) { "state" } else { "roster" }
+}
+
+/// Prints every faulty line of a state, which may be a roster, and where there is one what in its bytes may be behind that; and answers how
+/// many there are, and its meters where there is none.
+pub fn check_state<S: Source, K: Sink>(
+    alloc: Global,
+    state: &mut S,
+    out: &mut K,
+) -> Result<CheckedState, Stop>
+    ensures count { IfOk result (λ checked. IsTrue S.tells → checked.faulty ≡ length (state_faults_of (S.left state.old))) }
+    ensures meters { IfOk result (λ checked. IsTrue S.tells → checked.meters.items ≡ meters_in (state_of (S.left state.old))) }
+    ensures printed { IfOk result (λ _. IsTrue S.tells → IsTrue K.tells →
+        K.written out.new ≡ K.written out.old ++ state_text (S.left state.old)) }
+
+    // Why it stops.
+    ensures read { result ≡ Err Stop.Read → ReadFailed (source_change S.Source state.old state.new) }
+    ensures write { result ≡ Err Stop.Write → WriteFailed (sink_change K.Sink out.old out.new) }
+    ensures cut { result ≡ Err Stop.Cut → IsTrue S.tells → most_bytes (S.left state.old) < length (S.left state.old) }
+    ensures later { K.faults out.old ≤ K.faults out.new }
+{
+    let bytes = match read_within(alloc, state) {
+        Ok(bytes) => bytes,
+        Err(stop) => return Err(stop),
+    };
+    let Ok(faults) = state_faults(alloc, &bytes) else {
+        return Err(Stop::Memory);
+    };
+    let meters = match meters_in(alloc, &bytes) {
+        Ok(meters) => meters,
+        Err(stop) => return Err(stop),
+    };
+    let faulty = faults.len();
+    let findings = StateFindings {
+        faults: &faults,
+        word: file_word(&bytes),
+        bytes: &bytes,
+    };
+    match write(out, &findings) {
+        Ok(()) => Ok(CheckedState { faulty, meters }),
+        Err(_) => Err(Stop::Write),
+    }
+}
+
+/// The meters of a roster are its own.
+#[tactic(auto, using(crate::proofs::RosterMeters::their_meters))]
+pub fn rosters_have_their_meters()
+    ensures { RostersHaveTheirMeters }
+{}
