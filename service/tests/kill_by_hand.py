@@ -1,0 +1,31 @@
+"""The kill tests for longer, by hand: kill_by_hand.py [SECONDS [SEED [WRONG PLACE]]]"""
+from __future__ import annotations
+
+import sys
+import tempfile
+from pathlib import Path
+
+TOP = Path(__file__).resolve().parents[2]
+sys.path[:0] = [str(TOP / "service"), str(TOP / "tools"), str(TOP / "tests")]
+
+from tests import kill  # noqa: E402
+
+
+def main() -> int:
+    """One trial; what is wrong then."""
+    seconds, seed, *rest = [*sys.argv[1:], *["20", "1"][len(sys.argv[1:]):]]
+    plan = kill.Plan(rounds=max(1, int(float(seconds) * 4)), seconds=float(seconds))
+    if rest:
+        plan = kill.Plan(rounds=6, seconds=float(seconds), chance=0.3, wrong=rest[0], place=rest[1], is_live=False,
+                         has_broker="publish" in rest[1])
+    with tempfile.TemporaryDirectory(dir=kill.MEMORY) as folder:
+        trial = kill.Trial(Path(folder), plan, int(seed))
+        found = trial.run()
+        print(trial.counts())
+        print(dict(trial.places()))
+    print(*found, sep="\n")
+    return 1 if found else 0
+
+
+if __name__ == "__main__":
+    sys.exit(main())

@@ -1,0 +1,79 @@
+"""A house whose readings are written by the tests, and the page over it."""
+from __future__ import annotations
+
+import re
+import time
+from typing import Any
+
+import pytest
+from flask import Flask
+from flask.testing import FlaskClient
+from wmbus_service.page.app import create_app
+
+from .test_sessions import NOW, House
+
+TOKEN = "a-token-of-the-tests-0123456789"
+HOUR, DAY = 3600, 86_400
+
+
+class PageHouse:
+    """The house's database, and the page at a moment."""
+
+    def __init__(self, house: House) -> None:
+        self.house, self.lines = house, 0
+        self.addresses = [meter.name for meter in house.meters]
+        self.app = self.page()
+
+    def page(self, token: str | None = None, is_elsewhere: bool = False) -> Flask:
+        """The page at the moment of the tests."""
+        app = create_app(self.house.config, token, is_elsewhere)
+        app.config.update(CLOCK=lambda: NOW, TESTING=False)
+        return app
+
+    def client(self) -> FlaskClient:
+        """Who asks the page from this machine."""
+        return self.app.test_client()
+
+    def read(self, address: str, moment: float, *records: tuple[Any, ...], made: float | None = None) -> None:
+        """A reading: of each record quantity, unit, power of ten and value, and where it isn't the main one function and storage."""
+        self.lines += 1
+        self.write("begin")
+        number = self.house.database.execute(
+            "insert into reading (line, address, counter, moment, receiver, payload, more, made) values (?, ?, ?, ?, 'attic', '', 0, ?)",
+            (self.lines, address, self.lines, int(moment), moment if made is None else made)).lastrowid
+        for place, (quantity, unit, exponent, value, *rest) in enumerate(records):
+            function, storage = rest or ("instantaneous", 0)
+            self.house.database.execute("insert into record values (?, ?, ?, ?, ?, ?, ?, ?, 0, 0, '', ?)",
+                                        (number, place, quantity, unit, exponent, value, function, storage, "00ff"))
+        self.write("commit")
+
+    def volume(self, address: str, moment: float, litres: int) -> None:
+        """A reading of a volume."""
+        self.read(address, moment, ("volume", "m3", -3, str(litres)))
+
+    def write(self, query: str, *given: object) -> None:
+        """Changes the database."""
+        self.house.database.execute(query, given)
+
+
+def forms_word(page: str) -> str:
+    """The word that a page's forms bring."""
+    found = re.search(r'name="forms" value="([^"]+)"', page)
+    assert found, page
+    return found[1]
+
+
+def entered(app: Flask) -> tuple[FlaskClient, str]:
+    """Who has given the token, and the word of the forms."""
+    client = app.test_client()
+    word = forms_word(client.get("/enter").text)
+    assert client.post("/enter", data={"forms": word, "token": TOKEN}).status_code == 303
+    return client, word
+
+
+@pytest.fixture(name="page")
+def page_fixture(house: House, monkeypatch: pytest.MonkeyPatch) -> PageHouse:
+    """A house with a page."""
+    monkeypatch.setenv("TZ", "UTC")
+    time.tzset()
+    return PageHouse(house)

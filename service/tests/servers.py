@@ -1,0 +1,91 @@
+"""Servers for tests, on loopback, in folders of their own, and ended by their ids; and the packages of Debian that they need."""
+from __future__ import annotations
+
+import importlib.util
+import os
+import shutil
+import socket
+import subprocess
+import time
+from pathlib import Path
+
+PACKAGES = {"paho.mqtt": "python3-paho-mqtt", "prometheus_client": "python3-prometheus-client", "cryptography": "python3-cryptography"}
+
+
+def missing() -> list[str]:
+    """Debian's packages that the tests want and that aren't there."""
+    found = [package for module, package in PACKAGES.items() if not _is_there(module)]
+    return found + ([] if mosquitto() else ["mosquitto"])
+
+
+def _is_there(module: str) -> bool:
+    try:
+        return importlib.util.find_spec(module) is not None
+    except ModuleNotFoundError:
+        return False
+
+
+def mosquitto() -> str | None:
+    """The broker's program."""
+    return shutil.which("mosquitto", path=f"{os.environ.get('PATH', '')}:/usr/sbin")
+
+
+def free_port() -> int:
+    """A port that nobody listens at."""
+    with socket.socket() as tried:
+        tried.bind(("127.0.0.1", 0))
+        return int(tried.getsockname()[1])
+
+
+class Mosquitto:
+    """A broker that keeps what it has acknowledged."""
+
+    def __init__(self, folder: Path, extra: str = "") -> None:
+        self.folder, self.port = folder, free_port()
+        folder.mkdir()
+        text = f"listener {self.port} 127.0.0.1\npersistence true\npersistence_location {folder}/\n"
+        text += "max_queued_messages 0\nmax_inflight_messages 0\nset_tcp_nodelay true\n"
+        (folder / "conf").write_text(text + (extra or "allow_anonymous true\n") + ("user root\n" if os.geteuid() == 0 else ""))
+        self.process: subprocess.Popen[bytes] | None = None
+        self.start()
+
+    def start(self) -> None:
+        """Starts it, and waits until it listens."""
+        program = mosquitto()
+        assert program
+        with open(self.folder / "log", "ab") as log:
+            self.process = subprocess.Popen([program, "-c", str(self.folder / "conf")], stdout=log, stderr=log)
+        limit = time.monotonic() + 10
+        while time.monotonic() < limit:
+            with socket.socket() as tried:
+                if tried.connect_ex(("127.0.0.1", self.port)) == 0:
+                    return
+            time.sleep(0.02)
+        raise AssertionError((self.folder / "log").read_text())
+
+    def end(self) -> None:
+        """Ends it; what it holds stands in its folder."""
+        if self.process:
+            self.process.terminate()
+            self.process.wait(10)
+            self.process = None
+
+
+class Listener:
+    """A client that keeps all that is published, and that the broker keeps it for while it isn't there."""
+
+    def __init__(self, port: int, topics: list[str]) -> None:
+        import paho.mqtt.client as mqtt
+        self.heard: list[tuple[str, str, bool]] = []
+        self.client = mqtt.Client(client_id="listener", clean_session=False)
+        self.client.on_connect = lambda client, *_: client.subscribe([(topic, 1) for topic in topics])
+        self.client.on_message = lambda _client, _data, message: self.heard.append((message.topic, message.payload.decode(),
+                                                                                    bool(message.retain)))
+        self.client.reconnect_delay_set(1, 1)
+        self.client.connect("127.0.0.1", port)
+        self.client.loop_start()
+
+    def end(self) -> None:
+        """Ends it."""
+        self.client.disconnect()
+        self.client.loop_stop()

@@ -1,0 +1,233 @@
+"""The command line as somebody uses it who installs the service, over a configuration in a file."""
+from __future__ import annotations
+
+import io
+import json
+import os
+import sqlite3
+import subprocess
+from contextlib import redirect_stderr, redirect_stdout
+from dataclasses import dataclass
+from pathlib import Path
+
+import pytest
+from wmbus_service import config
+from wmbus_service.backup import raise_counters
+from wmbus_service.commandline import main
+from wmbus_service.config import Config, Programs, has_steps, read_config, unproved_words
+from wmbus_service.meters import add_meter, set_own
+from wmbus_service.service import Service
+from wmbus_service.store import open_store, prepare_folder
+
+from .kill import PYTHON, TOP, program
+from .stand_in import use_stand_in
+
+ADDRESS, KEY = "4304101230400104", "00112233445566778899aabbccddeeff"
+OWN = "9315010000000131"
+STEPS = f"{TOP}/tests/reference/steps"
+
+
+@dataclass(frozen=True)
+class Run:
+    """What a run of the command gave."""
+
+    status: int
+    output: str
+    errors: str
+
+
+class Place:
+    """A configuration, and runs of the command over it."""
+
+    def __init__(self, folder: Path, patches: pytest.MonkeyPatch) -> None:
+        self.folder, self.config, self.patches = folder, folder / "config.toml", patches
+        use_stand_in(patches)
+        self.config.write_text(f'folder = "{folder}/wmbus"\n[programs]\nsteps = "{STEPS}"\nline_feed = "{program("line_feed")}"\n'
+                               f'meter_name = "{program("meter_name")}"\n[receivers.attic]\ncommand = "cat"\nformat = "hex"\n')
+
+    def run(self, *words: str, given: str = "") -> Run:
+        """Runs the command."""
+        self.patches.setenv("WMBUS_CONFIG", str(self.config))
+        self.patches.setattr("sys.stdin", io.StringIO(given))
+        output, errors = io.StringIO(), io.StringIO()
+        with redirect_stdout(output), redirect_stderr(errors):
+            try:
+                status: int = main(list(words))
+            except SystemExit as ended:
+                status = int(ended.code or 0)
+        return Run(status, output.getvalue(), errors.getvalue())
+
+    def said(self, *words: str, given: str = "") -> str:
+        """What a run that has to succeed prints."""
+        done = self.run(*words, given=given)
+        assert done.status == 0, done.errors
+        return done.output
+
+    def fault(self, *words: str, given: str = "") -> str:
+        """What a run that has to fail says."""
+        done = self.run(*words, given=given)
+        assert done.status == 1, done.output + done.errors
+        return done.output + done.errors
+
+    def hear(self, lines: str) -> None:
+        """Has the service hear these lines, in this process."""
+        config = read_config(self.config)
+        number = len(list(config.spool.iterdir())) + 1
+        (config.spool / f"attic.{number:08d}.1.lines").write_text(lines)
+        Service(config, open_store(config.database)).turn()
+
+
+@pytest.fixture(name="place")
+def place_fixture(tmp_path: Path, monkeypatch: pytest.MonkeyPatch) -> Place:
+    """An empty place."""
+    return Place(tmp_path, monkeypatch)
+
+
+def recorded() -> str:
+    """Two telegrams of the meter ADDRESS."""
+    return (TOP / "examples" / "heat.rx").read_text()
+
+
+def test_from_nothing_to_readings(place: Place) -> None:
+    """A meter is added, its telegrams are heard, a command waits, is cancelled, and all goes through a copy."""
+    assert "no meter is known" in place.fault("check")
+    assert "own address isn't known" in place.fault("add", ADDRESS, given=KEY)
+    assert "key" in place.fault("add", ADDRESS, "--own", OWN, given="0011")
+    assert place.said("add", ADDRESS, "--own", OWN, "--name", "cellar", given=f"{KEY}\n") == f"meter {ADDRESS} was added\n"
+    assert "known already" in place.fault("add", ADDRESS, given=KEY)
+    assert "can't send" in place.fault("check")
+    place.hear(recorded())
+    told = json.loads(place.said("status", "--json"))
+    assert [(it["name"], it["counter"]) for it in told["meters"]] == [("cellar", 8)]
+    wanted = subprocess.run([program("wmbus"), "hear", str(TOP / "examples/heat.roster"), str(TOP / "examples/heat.rx")],
+                            capture_output=True, text=True, check=True)
+    records = [line.split() for line in wanted.stdout.split("\n") if line.startswith("record ")]
+    # the report has the records of the last reading
+    rows = [json.loads(line) for line in place.said("export", "--json").splitlines()]
+    assert [it["quantity"] for it in rows if it["counter"] == 8] == [it[5] for it in records]
+    assert "doesn't run" in place.said("status")
+    assert place.said("command", ADDRESS, "0102", "--id", "a1") == "command a1 waits\n"
+    assert "taken before" in place.said("command", ADDRESS, "0102", "--id", "a1")
+    assert "1 to 94 bytes" in place.fault("command", ADDRESS, "xyz")
+    assert "no meter" in place.fault("command", "0" * 16, "01")
+    assert place.said("command", "--cancel", "a1") == "command a1 is cancelled\n"
+    assert "no command" in place.fault("command", "--cancel", "a2")
+
+
+def test_copy(place: Place) -> None:
+    """A copy comes back with higher counters, its open commands are cancelled, and the state is still one that the program takes."""
+    place.said("add", ADDRESS, "--own", OWN, given=KEY)
+    place.hear(recorded())
+    place.said("command", ADDRESS, "01", "--id", "before")
+    copy = place.folder / "copy.db"
+    place.said("backup", str(copy))
+    assert copy.stat().st_mode & 0o777 == 0o600
+    assert "there already" in place.fault("backup", str(copy))
+    place.said("command", ADDRESS, "02", "--id", "behind")
+    assert "1 meters are 50 higher" in place.said("restore", str(copy), "--margin", "50")
+    state = place.folder / "state"
+    place.said("export", "--state", str(state))
+    assert state.stat().st_mode & 0o777 == 0o600
+    assert f"meter {ADDRESS} 7 {KEY} - 8 50 0\n" in state.read_text()
+    with sqlite3.connect(place.folder / "wmbus/wmbus.db") as database:
+        assert database.execute("select id, state from command").fetchall() == [("before", "cancelled")]
+    copy.write_bytes(copy.read_bytes()[:5000])
+    assert "isn't whole" in place.fault("restore", str(copy))
+    assert f"meter {ADDRESS}" in place.said("status")
+
+
+def test_counters_raised_by_the_program(tmp_path: Path) -> None:
+    """Where `state_raise` is named the blocks are those that it writes."""
+    program_file = tmp_path / "state_raise"
+    program_file.write_text('#!/bin/sh\nsed "s/^meter 4304101230400104 .*/meter raised by $2/" "$1" >"$3"\n')
+    program_file.chmod(0o755)
+    config = Config(folder=tmp_path / "wmbus", programs=Programs(state_raise=str(program_file)))
+    prepare_folder(config.folder)
+    database = open_store(config.database, is_new=True)
+    set_own(database, OWN, "here")
+    for line in (f"meter 4304785634121002 7 {KEY} - - 0 0", f"meter {ADDRESS} 7 {KEY} - - 0 0"):
+        add_meter(database, line.split())
+    database.execute("update meter set block = block || 'reading 1 2 -' || char(10)")
+    assert raise_counters(config, database, 12) == 2
+    assert database.execute("select block from meter order by place").fetchall() == [
+        (f"meter 4304785634121002 7 {KEY} - - 0 0\nreading 1 2 -\n",), ("meter raised by 12\nreading 1 2 -\n",)]
+
+
+def test_list_of_keys(place: Place) -> None:
+    """Meters come out of a spreadsheet's file, all or none; labels are put together by meter_name."""
+    keys = place.folder / "keys.csv"
+    keys.write_text("\ufeffManufacturer;ID;Version;Medium;AES Key;Name\nABC;40301210;01;04;00112233445566778899AABBCCDDEEFF;Küche\n",
+                    encoding="utf-8")
+    assert place.said("import", str(keys), "--own", OWN) == "1 new meters\n"
+    assert place.said("import", str(keys)) == "0 new meters\n"
+    assert [(it["address"], it["name"]) for it in json.loads(place.said("status", "--json"))["meters"]] == [(ADDRESS, "Küche")]
+    keys.write_text(f"address,mode,key\n4304785634121002,7,{KEY}\n4304341200702107,5,short\n")
+    assert "line 3" in place.fault("import", str(keys))
+    assert len(json.loads(place.said("status", "--json"))["meters"]) == 1
+    keys.write_text("serial\n1\n")
+    assert "columns" in place.fault("import", str(keys))
+
+
+def test_configuration(place: Place) -> None:
+    """Each setting that isn't as it has to be is named."""
+    folder = f'folder = "{place.folder}/wmbus"\n'
+    for text, said in {
+        "": "folder is missing",
+        'folder = "here"\n': "folder isn't a path from the root on",
+        folder + "speed = 1\n": "speed is no setting",
+        folder + "interval = 0\n": "interval isn't a number above 0",
+        folder + "interval = true\n": "interval isn't a number above 0",
+        folder + "[receivers.Attic]\n": "receivers.Attic: a name has",
+        folder + "[receivers.attic]\nprofile = 1\n": "receivers.attic.profile isn't a text",
+        folder + "[mqtt]\nport = -1\n": "mqtt.port isn't a number",
+        folder + "[ticks\n": "it is no TOML",
+    }.items():
+        place.config.write_text(text)
+        assert said in place.fault("status")
+    place.config.write_text(folder + '[receivers.attic]\nprofile = "cul"\n')
+    assert "wants `device`" in place.fault("receive", "attic")
+    place.config.write_text(folder + '[receivers.attic]\nprofile = "radio"\n')
+    assert "no profile" in place.fault("receive", "attic")
+    assert "there is no receiver roof" in place.fault("receive", "roof")
+    place.config.unlink()
+    assert "can't be read" in place.fault("status")
+
+
+def test_words(place: Place) -> None:
+    """Faulty words end with status 2, and each command has its help."""
+    assert place.run("rum").status == 2
+    assert place.run().status == 2
+    for name in ("run", "receive", "check", "status", "add", "import", "rekey", "command", "export", "backup", "restore", "demo"):
+        assert name in place.said("--help")
+        assert "exit status" in place.said(name, "--help")
+
+
+def test_demo() -> None:
+    """Without a page the demo says what was read, by a process of its own without a configuration."""
+    words = [PYTHON, "-m", "wmbus_service", "demo", "--days", "2", "--text", "--steps", STEPS]
+    done = subprocess.run(words, capture_output=True, text=True, env=os.environ | {"PYTHONPATH": str(TOP / "service")}, check=True)
+    # (one meter has been silent for longer, and one has a wrong key)
+    assert done.stdout.count(" s ago, by attic)") == 10 and done.stdout.count(": no reading yet") == 2
+    assert "isn't proved" in done.stdout
+    faulty = subprocess.run([*words[:4], "--days", "many"], capture_output=True, text=True, cwd=TOP / "service", check=False)
+    assert faulty.returncode == 2 and "no number" in faulty.stderr
+
+
+def test_proved_steps_are_preferred(tmp_path: Path, monkeypatch: pytest.MonkeyPatch) -> None:
+    """A `wmbus` whose help names `steps` tells the sessions; with one that doesn't, or without one, the second implementation does, and is
+    said to."""
+    wmbus = tmp_path / "wmbus"
+    for help_text, has in (("usage: wmbus hear STATE RX\n       wmbus steps STATE NEXT RX\n", True), ("wmbus hear, stepsize", False)):
+        wmbus.write_text(f"#!/bin/sh\n[ \"$1\" = --help ] && printf '{help_text}'\n")
+        wmbus.chmod(0o755)
+        assert has_steps(str(wmbus)) is has
+        with monkeypatch.context() as installed:
+            installed.setattr(config, "HERE", tmp_path)
+            assert config.steps_program.__wrapped__() == (f"{wmbus} steps" if has else str(tmp_path.parent / config.STAND_IN))
+    assert not has_steps(str(tmp_path / "none"))
+    assert "isn't proved" in unproved_words(STEPS) and not unproved_words(f"{tmp_path}/wmbus steps")
+
+
+def test_check_names_the_second_implementation(place: Place) -> None:
+    """Beside what is right or wrong."""
+    assert f"note: {STEPS} tells the sessions, a second implementation in Python that isn't proved" in place.fault("check")

@@ -1,0 +1,245 @@
+"""MQTT against a real broker, Home Assistant's discovery, metrics, and where keys stand."""
+from __future__ import annotations
+
+import json
+import os
+import shutil
+import signal
+import subprocess
+import time
+import urllib.request
+from collections.abc import Iterator
+from contextlib import closing
+from dataclasses import replace
+from pathlib import Path
+
+import pytest
+from wmbus_service import broker, service, session, steps, store
+from wmbus_service.commands import put_command
+from wmbus_service.config import Config, Metrics, Mqtt, Programs
+from wmbus_service.sensors import KINDS, kind_of, shown
+from wmbus_service.trouble import Trouble
+
+from . import servers
+from .kill import TOP, Child, until
+from .servers import Listener, Mosquitto
+from .test_sessions import House, house_fixture  # noqa: F401
+
+pytestmark = pytest.mark.skipif(bool(servers.missing()), reason=f"{', '.join(servers.missing())} isn't there")
+
+# developers.home-assistant.io, "Sensor entity": device classes, their units and their state classes, as far as meters of this kind have
+# them
+DOCUMENTED: dict[str, tuple[set[str | None], set[str | None]]] = {
+    "energy": ({"J", "kJ", "MJ", "GJ", "mWh", "Wh", "kWh", "MWh", "GWh", "TWh", "cal", "kcal", "Mcal", "Gcal"},
+               {"total", "total_increasing"}),
+    "water": ({"L", "gal", "m³", "ft³", "CCF", "MCF"}, {"total", "total_increasing"}),
+    "gas": ({"L", "m³", "ft³", "CCF", "MCF"}, {"total", "total_increasing"}),
+    "volume": ({"L", "mL", "gal", "fl. oz.", "m³", "ft³", "CCF", "MCF"}, {"total", "total_increasing"}),
+    "weight": ({"kg", "g", "mg", "µg", "oz", "lb", "st"}, {"measurement", "total", "total_increasing"}),
+    "power": ({"mW", "W", "kW", "MW", "GW", "TW"}, {"measurement"}),
+    "volume_flow_rate": ({"m³/h", "m³/min", "m³/s", "ft³/min", "L/h", "L/min", "L/s", "gal/min", "mL/s"}, {"measurement"}),
+    "temperature": ({"°C", "°F", "K"}, {"measurement"}),
+    "pressure": ({"Pa", "kPa", "hPa", "bar", "cbar", "mbar", "mmHg", "inHg", "psi"}, {"measurement"}),
+    "voltage": ({"V", "mV", "µV", "kV", "MV"}, {"measurement"}),
+    "current": ({"A", "mA"}, {"measurement"}),
+    "duration": ({"d", "h", "min", "s", "ms", "µs"}, {"measurement", "total", "total_increasing"}),
+    "date": ({None}, {None}),
+}
+# "MQTT Sensor", configuration variables
+MEMBERS = {"availability_topic", "device", "device_class", "enabled_by_default", "name", "object_id", "origin", "state_class",
+           "state_topic", "unique_id",
+           "unit_of_measurement", "value_template"}
+
+
+RUNNING: list["Served"] = []
+
+
+@pytest.fixture(name="mosquitto")
+def mosquitto_fixture(tmp_path: Path, monkeypatch: pytest.MonkeyPatch) -> Iterator[Mosquitto]:
+    """A broker; what ran over it is ended, however the test does."""
+    started = Mosquitto(tmp_path / "broker")
+    monkeypatch.setattr(broker, "MOST_PAUSE", 0.5)
+    yield started
+    while RUNNING:
+        RUNNING[-1].child.end()
+        RUNNING.pop().listener.end()
+    started.end()
+
+
+class Served:
+    """A house whose service runs in a process of its own, and a client that hears what it publishes."""
+
+    def __init__(self, house: House, mosquitto: Mosquitto, config: Config | None = None) -> None:
+        self.house, self.mosquitto = house, mosquitto
+        self.config = config or replace(house.config, interval=0.05, mqtt=Mqtt(port=mosquitto.port),
+                                        metrics=Metrics(port=servers.free_port()))
+        self.listener = Listener(mosquitto.port, ["wmbus/#", "homeassistant/#"])
+        house.database.close()
+        self.log = house.config.folder / "log"
+        self.child = Child(self.log, lambda: service.run(self.config))
+        house.database = store.open_store(house.config.database)
+        RUNNING.append(self)
+
+    def heard(self, topic: str) -> list[dict[str, object]]:
+        """What was published under a topic, without what the broker had retained."""
+        return [json.loads(text) for name, text, is_retained in self.listener.heard if name == topic and not is_retained]
+
+    def end(self) -> None:
+        """Ends it as systemd does."""
+        assert self.child.end(signal.SIGTERM) == 0, self.log.read_text()
+        assert "Traceback" not in self.log.read_text()
+
+
+def test_readings_and_commands(house: House, mosquitto: Mosquitto) -> None:
+    """Readings come retained, sensors once; a command comes in once, its states go back; what can't be taken is answered; a broker
+    that was away gets all."""
+    served, meter = Served(house, mosquitto), house.meters[0]
+    until(lambda: ("wmbus/status", "online", False) in served.listener.heard)
+    send = served.listener.client.publish
+    send(f"wmbus/command/{meter.name}", json.dumps({"id": "a", "payload": "0102"}), 1)
+    send(f"wmbus/command/{meter.name}", json.dumps({"id": "a", "payload": "0304"}), 1)
+    for text in ("", "{", "[]", '{"id": "b"}', '{"id": "b", "payload": "x"}', '{"id": "' + "b" * 70 + '", "payload": "01"}'):
+        send(f"wmbus/command/{meter.name}", text, 1)
+    answers = f"wmbus/commands/{meter.name}"
+    until(lambda: len(served.heard(answers)) >= 7)
+    assert house.all("select id, payload from command") == [("a", "0102")]
+    assert sum("error" in it for it in served.heard(answers)) == 6
+    house.spool(house.whole(meter, access=0x84) + house.whole(meter, 0x08))
+    until(lambda: any(it.get("state") == "confirmed" for it in served.heard(answers)))
+    assert [it["state"] for it in served.heard(answers) if "state" in it][0] == "queued"
+    mosquitto.end()
+    house.spool("".join(house.whole(meter) for _ in range(5)))
+    until(lambda: len(house.all("select id from reading")) == 7)
+    assert len(house.all("select id from publication")) >= 5
+    mosquitto.start()
+    until(lambda: [it["counter"] for it in served.heard(f"wmbus/meter/{meter.name}")][-5:] == [3, 4, 5, 6, 7])
+    until(lambda: not house.all("select id from publication"))
+    retained = subprocess.run(["mosquitto_sub", "-p", str(mosquitto.port), "-t", f"wmbus/meter/{meter.name}", "-C", "1", "-W", "5"],
+                              capture_output=True, text=True, check=True) if shutil.which("mosquitto_sub") else None
+    assert retained is None or json.loads(retained.stdout)["volume"] == 0.007
+    assert {name for name, _, _ in served.listener.heard
+            if name.startswith("homeassistant/")} == {f"homeassistant/sensor/wmbus_{meter.name}/volume/config"}
+    served.end()
+
+
+def test_discovery() -> None:
+    """Each sensor has a unit and a state class that Home Assistant documents for its device class."""
+    for address in ("9315010000000107", "9315010000000103", "9315010000000104"):
+        for quantity, units in KINDS.items():
+            for unit in units:
+                kind = kind_of(address, {"quantity": quantity, "unit": unit})
+                assert kind
+                if kind.device:
+                    assert kind.unit in DOCUMENTED[kind.device][0] and kind.state in DOCUMENTED[kind.device][1], (quantity, unit)
+                assert kind.state or not kind.unit
+    for record, wanted in (({"quantity": "energy", "unit": "Wh", "value": "12345", "exponent": 3}, "12345"),
+                           ({"quantity": "energy", "unit": "J", "value": "-5", "exponent": 0}, "-0.000005"),
+                           ({"quantity": "volume", "unit": "m3", "value": "2850427", "exponent": -2}, "28504.27"),
+                           ({"quantity": "volume", "unit": "m3", "value": "raw", "exponent": -2}, None),
+                           ({"quantity": "date", "unit": "-", "value": "2007-02-28", "exponent": 0}, '"2007-02-28"')):
+        kind = kind_of("9315010000000107", record)
+        assert kind and shown(record, kind) == wanted
+
+
+def test_sensors_members(house: House, mosquitto: Mosquitto) -> None:
+    """A sensor's configuration has documented members alone, and its state is where it says."""
+    served, meter = Served(house, mosquitto), house.meters[0]
+    house.spool(house.whole(meter))
+    topic = f"homeassistant/sensor/wmbus_{meter.name}/volume/config"
+    until(lambda: served.heard(topic) and served.heard(f"wmbus/meter/{meter.name}"))
+    (told,) = served.heard(topic)
+    assert told.keys() <= MEMBERS
+    assert told["device_class"] == "water" and told["unit_of_measurement"] == "m³" and told["state_class"] == "total_increasing"
+    assert told["state_topic"] == f"wmbus/meter/{meter.name}" and told["value_template"] == "{{ value_json.volume }}"
+    assert served.heard(str(told["state_topic"]))[0]["volume"] == 0.001
+    served.end()
+
+
+def test_password_and_tls(tmp_path: Path, house: House) -> None:
+    """A broker that wants a user, a password and TLS; a wrong password is said in words."""
+    if not shutil.which("openssl") or not shutil.which("mosquitto_passwd"):
+        pytest.skip("openssl or mosquitto_passwd isn't there")
+    files = tmp_path / "tls"
+    files.mkdir()
+    subprocess.run(["openssl", "req", "-x509", "-newkey", "ec", "-pkeyopt", "ec_paramgen_curve:prime256v1", "-nodes", "-keyout",
+                    files / "key", "-out", files / "cert",
+                    "-subj", "/CN=localhost", "-addext", "subjectAltName=DNS:localhost"], check=True, capture_output=True)
+    subprocess.run(["mosquitto_passwd", "-b", "-c", files / "users", "house", "secret"], check=True, capture_output=True)
+    mosquitto = Mosquitto(tmp_path / "broker",
+                          f"certfile {files}/cert\nkeyfile {files}/key\nallow_anonymous false\npassword_file {files}/users\n")
+    (files / "password").write_text("secret\n")
+    told = Mqtt(host="localhost", port=mosquitto.port, user="house", password_file=str(files / "password"), tls=True,
+                authority=str(files / "cert"))
+    broker.try_connection(told)
+    with pytest.raises(Trouble, match="can't be used"):
+        broker.try_connection(replace(told, authority=""))
+    (files / "password").write_text("other\n")
+    with pytest.raises(Trouble, match="refuse"):
+        broker.try_connection(told)
+    mosquitto.end()
+    with pytest.raises(Trouble, match="can't be used"):
+        broker.try_connection(told)
+
+
+def test_metrics(house: House, mosquitto: Mosquitto) -> None:
+    """The client library's parser reads the metrics, and they are what was heard."""
+    from prometheus_client.parser import text_string_to_metric_families
+    served, meter = Served(house, mosquitto), house.meters[0]
+    house.spool(house.whole(meter) + "bad\n" + line_of_nobody())
+    until(lambda: len(house.all("select number from line")) == 3)
+    assert served.config.metrics
+    with closing(urllib.request.urlopen(f"http://127.0.0.1:{served.config.metrics.port}/metrics")) as answer:
+        text = answer.read().decode()
+    found = {sample.name: sample.value for family in text_string_to_metric_families(text)  # type: ignore[no-untyped-call]
+             for sample in family.samples}
+    wanted = {"wmbus_lines_total": 3, "wmbus_stored_total": 1, "wmbus_bad_total": 1, "wmbus_strangers_total": 1, "wmbus_meters": 3,
+              "wmbus_trouble": 0}
+    assert {name: found[name] for name in wanted} == wanted
+    served.end()
+
+
+def line_of_nobody() -> str:
+    """A telegram of a meter that isn't known."""
+    from .meters import line_of
+    import messages
+    return line_of(messages.telegram(0x44, bytes.fromhex("9315999999990107"), bytes.fromhex("7a00000000")), 1)
+
+
+def test_no_key_is_told(house: House, mosquitto: Mosquitto, tmp_path: Path, monkeypatch: pytest.MonkeyPatch) -> None:
+    """No key stands in the log, in metrics, in messages, in a list of processes or in a file beside the database, while sessions run."""
+    monkeypatch.setattr(session, "run_steps", steps.run_steps)
+    slow = tmp_path / "slow"
+    slow.write_text(f'#!/bin/sh\nsleep 0.5\nexec {TOP}/tests/reference/steps "$@"\n')
+    slow.chmod(0o755)
+    config = replace(house.config, interval=0.05, mqtt=Mqtt(port=mosquitto.port), metrics=Metrics(port=servers.free_port()),
+                     programs=Programs(steps=str(slow)))
+    served = Served(house, mosquitto, config)
+    meter = house.meters[0]
+    assert meter.other
+    from wmbus_service.commands import put_key
+    put_key(house.database, "key", meter.name, meter.other.hex(), time.time())
+    put_command(house.database, "a", meter.name, "01", time.time())
+    house.spool(house.whole(meter, access=0x84) + "A 1 bad\n")
+    seen: list[str] = []
+
+    def look() -> bool:
+        for process in Path("/proc").glob("[0-9]*"):
+            try:
+                if str(slow) in (told := (process / "cmdline").read_bytes().decode("latin-1")):
+                    seen.append(told + (process / "environ").read_bytes().decode("latin-1"))
+            except OSError:
+                continue
+        return bool(house.all("select id from reading")) and not house.all("select id from publication")
+    until(look, 60)
+    assert served.config.metrics
+    with closing(urllib.request.urlopen(f"http://127.0.0.1:{served.config.metrics.port}/metrics")) as answer:
+        texts = [answer.read().decode(), served.log.read_text(), *seen, *(name + text for name, text, _ in served.listener.heard)]
+    assert seen
+    texts += [path.read_text("latin-1") for path in house.config.folder.rglob("*") if path.is_file()
+              and not path.name.startswith("wmbus.db")]
+    for known in house.meters:
+        for key in (known.key, known.other):
+            assert key is None or not any(key.hex() in text or key.hex().upper() in text or key.decode("latin-1") in text
+                                          for text in texts)
+    assert house.all("select payload from command where id = 'key'") == [""]
+    served.end()

@@ -1,0 +1,280 @@
+"""What goes wrong on a machine: each is a clear error, and nothing is lost."""
+from __future__ import annotations
+
+import os
+import resource
+import signal
+import socket
+import sqlite3
+import stat
+import tempfile
+import time
+from collections.abc import Callable
+from contextlib import closing
+from dataclasses import replace
+from pathlib import Path
+
+import pytest
+from wmbus_service import receiving, retention, schema, service, session, steps, store
+from wmbus_service.commandline import main
+from wmbus_service.config import Config, Keep, Programs, Receiver
+from wmbus_service.service import Service
+from wmbus_service.trouble import Trouble
+
+from . import measure
+from .kill import MEMORY, Child, until
+from .stand_in import use_stand_in
+from .test_sessions import NOW, House, house_fixture  # noqa: F401
+
+NOBODY = 65534
+DAY = 86_400
+
+
+def test_disk_full(house: House, caplog: pytest.LogCaptureFixture) -> None:
+    """No room for a session: it is said once, nothing of it counts, and once there is room all is heard."""
+    lines = [house.whole(house.meters[0]) for _ in range(300)]
+    house.spool("".join(lines))
+    served = Service(house.config, house.database)
+    (pages,) = house.database.execute("pragma page_count").fetchone()
+    house.database.execute(f"pragma max_page_count = {pages + 2}")
+    for _ in range(3):
+        with pytest.raises(sqlite3.Error) as fault:
+            served.turn()
+        served._tell(fault.value)
+    assert caplog.text.count("make room") == 1
+    assert not house.all("select number from line")
+    house.database.execute("pragma max_page_count = 1000000")
+    while served.turn():
+        pass
+    assert len(house.all("select id from reading")) == 300
+
+
+@pytest.mark.skipif(os.geteuid() != 0, reason="only root can do it")
+def test_read_only(tmp_path: Path) -> None:
+    """A database that can't be written is said to be so, before anything is heard."""
+    folder = tmp_path / "wmbus"
+    store.prepare_folder(folder)
+    store.open_store(folder / "wmbus.db", is_new=True).close()
+    for path in (tmp_path.parent.parent, tmp_path.parent, tmp_path):
+        path.chmod(0o755)
+    os.chown(folder / "wmbus.db", NOBODY, NOBODY)
+    os.chown(folder, NOBODY, NOBODY)
+    (folder / "wmbus.db").chmod(0o400)
+    folder.chmod(0o500)
+
+    def look() -> None:
+        os.seteuid(NOBODY)
+        with pytest.raises(Trouble, match="read-only|rights|owner"):
+            database = store.open_store(folder / "wmbus.db")
+            with store.transaction(database):
+                database.execute("insert into total values ('a', 1)")
+        with pytest.raises((Trouble, sqlite3.Error)):
+            store.open_store(folder / "other.db", is_new=True)
+    child = Child(tmp_path / "log", look)
+    while child.is_running():
+        time.sleep(0.01)
+    assert child.status == 0, (tmp_path / "log").read_text()
+
+
+def test_rights(tmp_path: Path) -> None:
+    """Keys stand in the folder, so others may have no right on it, nor on the database and the roster."""
+    folder = tmp_path / "wmbus"
+    before = os.umask(0)
+    try:
+        store.prepare_folder(folder)
+        store.open_store(folder / "wmbus.db", is_new=True).close()
+    finally:
+        os.umask(before)
+    assert [stat.S_IMODE(path.stat().st_mode) for path in (folder, folder / "spool", folder / "wmbus.db")] == [0o700, 0o700, 0o600]
+    (folder / "wmbus.db").chmod(0o640)
+    with pytest.raises(Trouble, match="chmod 600"):
+        store.open_store(folder / "wmbus.db")
+    folder.chmod(0o755)
+    with pytest.raises(Trouble, match="chmod 700"):
+        store.prepare_folder(folder)
+    if os.geteuid() == 0:
+        os.chown(folder, NOBODY, NOBODY)
+        with pytest.raises(Trouble, match="belongs to the user"):
+            store.prepare_folder(folder)
+
+
+@pytest.mark.skipif(os.geteuid() != 0, reason="only root can do it")
+def test_root_acts_as_the_owner() -> None:
+    """Where root adds a meter the database belongs to the service's user all the same."""
+    with tempfile.TemporaryDirectory() as place:
+        folder, config = Path(place) / "wmbus", Path(place) / "config.toml"
+        Path(place).chmod(0o755)
+        config.write_text(f'folder = "{folder}"\n')
+        folder.mkdir(mode=0o700)
+        os.chown(folder, NOBODY, NOBODY)
+        child = Child(Path(place) / "log", lambda: print(main(["--config", str(config), "import", "/dev/null", "--own", "93" * 8])))
+        until(lambda: not child.is_running())
+        assert "the list is empty" in (Path(place) / "log").read_text()
+        assert {path.stat().st_uid for path in folder.rglob("*")} == {NOBODY}
+        assert (folder / "wmbus.db").exists()
+
+
+def test_two_services(tmp_path: Path) -> None:
+    """A second service on a folder ends at once, and once the first has ended it may begin."""
+    store.prepare_folder(tmp_path / "wmbus")
+    held = service.lock(tmp_path / "wmbus")
+    with pytest.raises(Trouble, match="another service"):
+        service.lock(tmp_path / "wmbus")
+    os.close(held)
+    os.close(service.lock(tmp_path / "wmbus"))
+
+
+def test_what_systemd_is_told(house: House, tmp_path: Path, monkeypatch: pytest.MonkeyPatch) -> None:
+    """It tells when it is ready, that it lives, and that it ends; SIGTERM ends it, once its session is committed."""
+    with socket.socket(socket.AF_UNIX, socket.SOCK_DGRAM) as told:
+        told.bind(str(tmp_path / "notify"))
+        told.settimeout(20)
+        monkeypatch.setenv("NOTIFY_SOCKET", str(tmp_path / "notify"))
+        house.database.close()
+        house.spool(house.whole(house.meters[0]))
+        child = Child(tmp_path / "log", lambda: service.run(house.config))
+        assert [told.recv(100), told.recv(100)] == [b"READY=1", b"WATCHDOG=1"]
+        assert service.is_locked(house.config.folder)
+        assert child.end(signal.SIGTERM) == 0
+        last = told.recv(100)
+        while last == b"WATCHDOG=1":
+            last = told.recv(100)
+        assert last == b"STOPPING=1"
+    assert not service.is_locked(house.config.folder)
+    with closing(store.open_store(house.config.database)) as database:
+        assert database.execute("select count(*) from reading").fetchone() == (1,)
+
+
+def core_files(folder: Path) -> list[Path]:
+    """The core files in a folder."""
+    return [path for path in folder.iterdir() if path.name.startswith("core")]
+
+
+def test_no_core_file(house: House, tmp_path: Path) -> None:
+    """Where the program or the service dies of a fault no core file is left, in which keys would stand, though the machine writes such
+    files."""
+    place = tmp_path / "cores"
+    place.mkdir()
+
+    def within(work: Callable[[], None]) -> Callable[[], None]:
+        def run() -> None:
+            os.chdir(place)
+            _, most = resource.getrlimit(resource.RLIMIT_CORE)
+            resource.setrlimit(resource.RLIMIT_CORE, (most, most))
+            work()
+        return run
+    control = Child(tmp_path / "control", within(lambda: os.kill(os.getpid(), signal.SIGQUIT)))
+    until(lambda: not control.is_running())
+    if not core_files(place):
+        pytest.skip("this machine writes no core files into the folder")
+    for path in core_files(place):
+        path.unlink()
+    program = tmp_path / "steps"
+    program.write_text("#!/bin/sh\nkill -SEGV $$\n")
+    program.chmod(0o755)
+    house.spool(house.whole(house.meters[0]))
+    house.database.close()
+    config = replace(house.config, programs=Programs(steps=str(program)))
+    child = Child(tmp_path / "log", within(lambda: session_with(steps.run_steps, config)))
+    until(lambda: "status -11" in (tmp_path / "log").read_text())
+    assert child.end(signal.SIGQUIT) == -signal.SIGQUIT
+    assert not core_files(place)
+
+
+def session_with(run: Callable[..., steps.Told], config: Config) -> None:
+    """A service whose program is a process of its own."""
+    session.run_steps = run  # type: ignore[attr-defined]
+    service.run(config)
+
+
+def test_measures(tmp_path: Path) -> None:
+    """What is measured by hand can be measured: each line is seen once it is committed."""
+    told = measure.measured("latency", 0.01, tmp_path / "latency") + measure.measured("backlog", 0.002, tmp_path / "backlog")
+    assert told.count("3 lines of 12 meters") == told.count("262 lines of 300 meters") == told.count("latency median") == 1
+
+
+def test_versions(tmp_path: Path, monkeypatch: pytest.MonkeyPatch) -> None:
+    """An earlier database becomes one of this version, whole or not at all; a later one and another program's are refused, and stay as
+    they are."""
+    path = tmp_path / "wmbus.db"
+    store.open_store(path, is_new=True).close()
+    with monkeypatch.context() as later:
+        steps = (*schema.MIGRATIONS, "alter table meter add column place_in_house text;\ncreate table house (name text);\n")
+        later.setattr(schema, "MIGRATIONS", (*schema.MIGRATIONS, steps[-1] + "no statement;"))
+        later.setattr(schema, "VERSION", len(steps))
+        with pytest.raises(Trouble):
+            store.open_store(path)
+        with sqlite3.connect(path) as database:
+            assert database.execute("pragma user_version").fetchone() == (len(steps) - 1,)
+            assert not database.execute("select 1 from sqlite_master where name = 'house'").fetchall()
+        later.setattr(schema, "MIGRATIONS", steps)
+        database = store.open_store(path)
+        database.execute("insert into house values ('a')")
+        database.execute("select place_in_house from meter")
+        database.close()
+    with pytest.raises(Trouble, match="later release"):
+        store.open_store(path)
+    other = tmp_path / "other.db"
+    with sqlite3.connect(other) as database:
+        database.execute("create table mail (text text)")
+    other.chmod(0o600)
+    with pytest.raises(Trouble, match="another program's"):
+        store.open_store(other)
+    none = tmp_path / "none.db"
+    none.write_bytes(b"no database at all" * 300)
+    none.chmod(0o600)
+    with pytest.raises(Trouble, match="last backup"):
+        store.open_store(none)
+    with pytest.raises(Trouble, match="no database yet"):
+        store.open_store(tmp_path / "absent.db")
+
+
+def test_retention(house: House) -> None:
+    """Lines go after days, payloads after weeks, readings after a year; the last values of each day stay."""
+    for day, hours in ((0, (1, 2, 3)), (1, (4,)), (50, (5,)), (500, (6,))):
+        for hour in hours:
+            house.spool(house.whole(house.meters[0]))
+            house.hear(NOW + day * DAY + hour * 3600)
+    house.hear(NOW + 500 * DAY + 7 * 3600)
+    while retention.let_go(house.database, Keep(lines=7, payloads=60, readings=400), NOW + 501 * DAY):
+        pass
+    assert len(house.all("select number from line")) == 1
+    assert house.all("select counter from reading order by id") == [6]
+    # (1,800,000,000 is the 15th of January 2027, 08:00; what was sent is 1, 2, 3 .. litres)
+    assert house.all("select day, value, exponent, unit from daily order by day") == [
+        ("2027-01-15", "3", -3, "m3"), ("2027-01-16", "4", -3, "m3"), ("2027-03-06", "5", -3, "m3")]
+    assert not house.all("select 1 from record where reading not in (select id from reading)")
+
+
+def test_lines_that_went(house: House) -> None:
+    """Once all lines are let go, those that come later have later numbers, so that no reading has the line of another."""
+    house.spool(house.whole(house.meters[0]))
+    house.hear()
+    retention.let_go(house.database, Keep(lines=1), NOW + 5 * DAY)
+    house.spool(house.whole(house.meters[0]))
+    house.hear(NOW + 5 * DAY)
+    assert house.all("select line, counter from reading order by id") == [(1, 1), (2, 2)]
+
+
+def test_receiver_and_its_limits(tmp_path: Path, monkeypatch: pytest.MonkeyPatch) -> None:
+    """A feed that ends is started again into a new file; a full spool stops it, and it says so; it ends with all that it started."""
+    use_stand_in(monkeypatch)
+    with tempfile.TemporaryDirectory(dir=MEMORY) as place:
+        folder = Path(place)
+        line_feed = folder / "line_feed"
+        line_feed.write_text("#!/bin/sh\nexec cat\n")
+        line_feed.chmod(0o755)
+        programs = Config(folder=folder).programs.__class__(line_feed=str(line_feed))
+        config = Config(folder=folder / "wmbus", spool_bytes=60, programs=programs,
+                        receivers={"attic": Receiver(command="echo a line; sleep 0.05", format="hex")})
+        monkeypatch.setattr(receiving, "PAUSE", 0.01)
+        monkeypatch.setattr(receiving, "LOOK", 0.05)
+        child = Child(folder / "log", receiving.Receiving(config, "attic").run)
+        try:
+            until(lambda: "spool is full" in (folder / "log").read_text())
+            files = sorted((folder / "wmbus/spool").iterdir())
+            assert "".join(path.read_text() for path in files) == "a line\n" * 9
+            files[0].unlink()
+            until(lambda: (folder / "log").read_text().count("feed ended") == 10)
+        finally:
+            assert child.end(signal.SIGTERM) == 0

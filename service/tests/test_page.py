@@ -1,0 +1,262 @@
+"""The page: what it says of meters, receivers, strangers and commands is what the database has."""
+from __future__ import annotations
+
+import csv
+import io
+import os
+import re
+import subprocess
+from pathlib import Path
+
+import pytest
+from wmbus_service import schema
+from wmbus_service.page import radios, reading
+
+import frames
+import messages
+import service_tables
+from .kill import TOP
+from .page_house import DAY, HOUR, PageHouse, page_fixture  # noqa: F401
+from .test_sessions import NOW, house_fixture  # noqa: F401
+
+# NOW is the 15th of January 2027, 08:00 in UTC
+
+
+def test_overview(page: PageHouse) -> None:
+    """What needs a person stands first, with what to do, then each meter with its last value and when it was heard."""
+    first, second, third = page.addresses
+    page.write("update meter set name = 'Cellar' where address = ?", first)
+    page.volume(first, NOW - 7200, 12_345)
+    page.volume(second, NOW - 5 * DAY, 1)
+    page.write("insert into refusal values (?, 'mac', 'mac', 9, 1, ?)", third, NOW - 60)
+    page.write("insert into stranger values ('2d2c785634121b16', 50, 'attic', ?)", NOW - 60)
+    page.write("insert into aside (receiver, text, said, made) values ('attic', 'A 1 00', 'status 10: no memory', ?)", NOW)
+    page.write("insert into command (id, address, kind, payload, state, made, changed) values ('c1', ?, 'send', '00', 'expired', 1, ?)",
+               first, NOW - 60)
+    page.write("insert into line (receiver, text, made) values ('attic', 'A 1 00', ?), ('roof', 'A 1 00', ?)", NOW - 60, NOW - 3 * HOUR)
+    told = page.client().get("/api/overview").json
+    assert told
+    assert [(look["what"], look["title"]) for look in told["looks"]] == [
+        ("stands still", "The service"), ("line set aside", "Line 1 of attic"), ("silent for 3 hours", "Receiver roof"),
+        ("key probably wrong", "ELS 00000003 01 07"), ("silent for 5 days", "ELS 00000002 01 07"), ("command given up", "Cellar"),
+        ("heard 50 times", "KAM 12345678 1b 16")]
+    text = page.client().get("/").text
+    assert text.index("To look at") < text.index("All meters")
+    for words in ("Cellar", "12.345 m³", "2 hours ago", "Get this meter&#39;s right key", "no memory", "2 of 3"):
+        assert words in text
+
+
+def test_nothing_to_look_at(page: PageHouse, monkeypatch: pytest.MonkeyPatch) -> None:
+    """Where all is well it says so."""
+    monkeypatch.setattr("wmbus_service.page.looks.is_locked", lambda folder: True)
+    for address in page.addresses:
+        page.volume(address, NOW - 60, 1)
+    page.write("insert into line (receiver, text, made) values ('attic', 'A 1 00', ?), ('roof', 'A 1 00', ?)", NOW, NOW)
+    assert "Nothing: every meter was heard" in page.client().get("/").text
+
+
+def test_consumption(page: PageHouse) -> None:
+    """By hour, day and month: differences of the register, each in the period in which it was read; a meter that was reset, and a reading
+    alone that was misread, count nothing."""
+    address = page.addresses[0]
+    # the last of November: 1,000 litres; to the 31st of December 300 more; then 20 a day at noon, and the last hours
+    page.volume(address, NOW - 46 * DAY, 1000)
+    page.volume(address, NOW - 15 * DAY, 1300)
+    for day in range(14, 0, -1):
+        page.volume(address, NOW - day * DAY + 4 * HOUR, 1300 + 20 * (15 - day))
+    page.volume(address, NOW - 2 * HOUR, 1590)
+    page.volume(address, NOW - HOUR, 999_999)
+    page.volume(address, NOW - 60, 1597)
+    told = page.client().get(f"/api/meters/{address}").json
+    assert told
+    (used,) = told["used"]
+    rows = {by: [(row["period"], row["amount"], row["note"]) for row in found] for by, found in used["by"].items()}
+    assert rows["month"] == [("2027-01", "0.297", ""), ("2026-12", "0.300", "from 2026-11-30 08:00 UTC")]
+    assert rows["day"][:3] == [("2027-01-15", "0.017", ""), ("2027-01-14", "0.020", ""), ("2027-01-13", "0.020", "")]
+    assert rows["hour"][:2] == [("2027-01-15 07:00", "0.007", ""), ("2027-01-15 06:00", "0.010", "from 2027-01-14 12:00 UTC")]
+    text = page.client().get(f"/meters/{address}").text
+    assert "0.297 m³" in text and "2026-12" in text
+
+
+def test_replaced_meter(page: PageHouse) -> None:
+    """A register that falls is said to be reset or replaced, and what it fell by isn't counted."""
+    address = page.addresses[0]
+    for back, litres in ((5, 9000), (4, 9100), (3, 5), (2, 25), (1, 30)):
+        page.volume(address, NOW - back * DAY, litres)
+    told = page.client().get(f"/api/meters/{address}").json
+    assert told
+    assert [(row["period"], row["amount"], row["note"]) for row in told["used"][0]["by"]["day"]] == [
+        ("2027-01-14", "0.005", ""), ("2027-01-13", "0.020", ""), ("2027-01-12", "0", "reset or replaced"), ("2027-01-11", "0.100", "")]
+
+
+def test_months_of_days_alone(page: PageHouse) -> None:
+    """Months whose readings are gone are counted by the last values of their days."""
+    address = page.addresses[0]
+    for day, litres in (("2026-09-30", 100), ("2026-10-15", 150), ("2026-10-31", 190), ("2026-11-30", 260)):
+        page.write("insert into daily values (?, ?, 'volume', 'm3', -3, ?, 'instantaneous', 0, 0, 0)", address, day, str(litres))
+    page.volume(address, NOW - 60, 400)
+    told = page.client().get(f"/api/meters/{address}").json
+    assert told
+    assert [(row["period"], row["amount"]) for row in told["used"][0]["by"]["month"]] == [
+        ("2027-01", "0.140"), ("2026-11", "0.070"), ("2026-10", "0.090")]
+
+
+def test_registers_and_curves(page: PageHouse) -> None:
+    """Each register has its last value, also one that the last message didn't bring; a curve of two readings or more."""
+    address = page.addresses[0]
+    page.read(address, NOW - 2 * HOUR, ("energy", "Wh", 3, "120"), ("energy", "Wh", 3, "90", "instantaneous", 1),
+              ("flowtemperature", "C", -1, "713"), ("date", "-", 0, "2026-12-31"))
+    page.read(address, NOW - HOUR, ("energy", "Wh", 3, "123"))
+    told = page.client().get(f"/api/meters/{address}?span=day").json
+    assert told
+    assert [(it["title"], it["of_what"], it["text"]) for it in told["values"]] == [
+        ("energy", "", "123 kWh"), ("flow temperature", "", "71.3 °C"), ("date", "", "2026-12-31"), ("energy", "storage 1", "90 kWh")]
+    assert [(curve["name"], curve["least"], curve["most"], curve["count"], curve["line"]) for curve in told["curves"]] == [
+        ("energy", "120 kWh", "123 kWh", 2, "0,110 600,10")]
+    text = page.client().get(f"/meters/{address}?span=day").text
+    assert 'role="img"' in text and "storage 1" in text
+
+
+def test_refusals_and_commands_in_words(page: PageHouse) -> None:
+    """A refusal says what it means and what to do, a command its state; a second key isn't shown."""
+    address = page.addresses[0]
+    page.write("insert into refusal values (?, 'mode', 'mode 5 7', 3, 1, ?)", address, NOW - 60)
+    for ident, kind, payload, state in (("a", "send", "0102", "queued"), ("b", "rekey", "5e" * 16, "waiting"),
+                                        ("c", "send", "03", "expired")):
+        page.write("insert into command (id, address, kind, payload, state, made, changed) values (?, ?, ?, ?, ?, 1, ?)",
+                   ident, address, kind, payload, state, NOW)
+    text = page.client().get(f"/meters/{address}").text
+    for words in ("3 times", "sends in another security mode than the roster says", "What to do: write the mode", "mode 5 7",
+                  "waits until the meter listens", "waits for the next session", "given up", "0102"):
+        assert words in text, words
+    assert "5e5e" not in text and "5e5e" not in page.client().get(f"/api/meters/{address}").text
+
+
+def test_clocks(page: PageHouse) -> None:
+    """A moment that is no time, and one of a clock that is ahead, isn't when the reading was heard."""
+    first, second, third = page.addresses
+    page.read(first, 100, ("volume", "m3", -3, "1"), made=NOW - 2 * HOUR)
+    page.read(second, (1 << 63) - 1, ("volume", "m3", -3, "1"), made=NOW - 3 * HOUR)
+    page.read(third, NOW + 40 * DAY, ("volume", "m3", -3, "7"), made=NOW - 5 * HOUR)
+    page.volume(third, NOW - 4 * HOUR, 8)
+    told = page.client().get("/api/meters").json
+    assert told
+    assert [(meter["heard"], meter["main"]["text"]) for meter in told["meters"]] == [
+        (NOW - 2 * HOUR, "0.001 m³"), (NOW - 3 * HOUR, "0.001 m³"), (NOW - 4 * HOUR, "0.008 m³")]
+
+
+def test_receivers(page: PageHouse) -> None:
+    """Lines a minute, since when there are none, and the share of whole frames."""
+    meter = page.house.meters[0]
+    whole = frames.format_a(messages.whole(meter.key, meter.address, 1, b"\x2f\x2f", 0x44, None)).hex()
+    for number in range(90):
+        text = f"A 1 {whole}" if number % 3 else f"A 1 {whole[:-2]}00"
+        page.write("insert into line (receiver, text, made) values ('attic', ?, ?)", text, NOW - number)
+    page.write("insert into line (receiver, text, made) values ('old', 'A 1 00', ?)", NOW - 2 * DAY)
+    told = page.client().get("/api/receivers").json
+    assert told
+    shown = {it["name"]: (it["per_minute"], it["heard"], it["framed"], [look["what"] for look in it["looks"]]) for it in told["receivers"]}
+    assert shown == {"attic": (1.5, NOW, 2 / 3, []), "old": (0.0, NOW - 2 * DAY, 0.0, []), "roof": (0.0, None, None, ["heard nothing"])}
+    text = page.client().get("/receivers").text
+    assert "67 %" in text and "heard nothing" in text and "not in the configuration" in text
+
+
+def test_frames_of_both_formats() -> None:
+    """What is whole, in formats A and B of all lengths; one bit that is other isn't."""
+    for length in (*range(11, 60), 126, 129, 250):
+        telegram = bytes([length - 1]) + bytes(range(1, length))
+        for kind, frame in (("A", frames.format_a(telegram)), ("B", frames.format_b(telegram))):
+            assert radios.is_framed(f"{kind} 1 {frame.hex()}"), (kind, length)
+            assert not radios.is_framed(f"{kind} 1 {frame[:-1].hex()}")
+            broken = bytes([*frame[:-4], frame[-4] ^ 1, *frame[-3:]])
+            assert not radios.is_framed(f"{kind} 1 {broken.hex()}")
+    assert not any(map(radios.is_framed, ("", "A", "A 1 zz", "A 1", "B 1 00", "T 1 2 3")))
+
+
+def test_strangers(page: PageHouse) -> None:
+    """Strangers have maker, label and device type, those that were heard most first; a known one is none."""
+    page.write("insert into stranger values ('4304123040010404', 3, 'attic', ?), ('2d2c785634121b16', 70, 'roof', ?), (?, 9, 'roof', ?)",
+               NOW - 60, NOW - 120, page.addresses[0], NOW)
+    told = page.client().get("/api/strangers").json
+    assert told
+    assert [(it["label"], it["maker"], it["times"]) for it in told["strangers"]] == [
+        ("KAM 12345678 1b 16", "KAM", 70), ("ABC 01403012 04 04", "ABC", 3)]
+    text = page.client().get("/strangers").text
+    assert "KAM 12345678 1b 16" in text and "cold water" in text and "wmbus-service add 2d2c785634121b16" in text
+    assert page.addresses[0] not in text
+
+
+def test_csv(page: PageHouse) -> None:
+    """Readings of a span, numbers exactly as the database has them."""
+    first, second, _ = page.addresses
+    page.write("update meter set name = 'a, \"b\"' where address = ?", first)
+    for back, litres in ((3, 10), (2, 20), (1, 30)):
+        page.volume(first, NOW - back * DAY, litres)
+    page.volume(second, NOW - DAY, 5)
+
+    def rows(path: str) -> list[list[str]]:
+        given = page.client().get(path)
+        assert given.status_code == 200 and given.mimetype == "text/csv"
+        return list(csv.reader(io.StringIO(given.text)))
+    head, *found = rows(f"/meters/{first}/readings.csv")
+    assert head == ["moment", "address", "name", "counter", "quantity", "value", "unit", "function", "storage", "tariff", "subunit",
+                    "receiver"]
+    assert [row[2] for row in found] == ['a, "b"'] * 3 and [row[5] for row in found] == ["0.010", "0.020", "0.030"]
+    assert [row[5] for row in rows(f"/meters/{first}/readings.csv?from=2027-01-13&to=2027-01-13")[1:]] == ["0.020"]
+    assert [row[5] for row in rows(f"/meters/{first}/readings.csv?from={int(NOW) - 2 * DAY}")[1:]] == ["0.020", "0.030"]
+    assert [row[5] for row in rows("/readings.csv?from=2027-01-14")[1:]] == ["0.030", "0.005"]
+    assert page.client().get(f"/meters/{first}/readings.csv?from=yesterday").status_code == 400
+
+
+def test_no_key_can_be_read(page: PageHouse) -> None:
+    """What the page opens doesn't give out keys, whatever is asked."""
+    database = reading.open_reading(page.house.config.database)
+    for query in ("select block from meter", "select * from meter", "select address from meter where block like '%0%'",
+                  "select frame from outbox"):
+        with pytest.raises(Exception, match="prohibited"):
+            database.execute(query)
+    with pytest.raises(Exception, match="readonly"):
+        database.execute("delete from meter")
+    database.close()
+
+
+def test_page_as_a_file(page: PageHouse, tmp_path: Path) -> None:
+    """tools/report_page makes of the service's database a file that says what the served page does."""
+    first, second, third = page.addresses
+    page.write("update meter set name = 'Cellar' where address = ?", first)
+    for back in range(5, 0, -1):
+        page.volume(first, NOW - back * DAY, 100_000 - 250 * back)
+    page.read(second, NOW - 9 * DAY, ("energy", "Wh", 3, "1200"))
+    page.write("insert into refusal values (?, 'mac', 'mac', 7, 1, ?), (?, 'stale', 'stale 4 9', 2, 1, ?)", third, NOW, first, NOW)
+    page.write("insert into command (id, address, kind, payload, state, tries, made, changed)"
+               " values ('a1', ?, 'send', '01', 'sent', 2, 1, 1)", first)
+    page.write("insert into stranger values ('2d2c785634121b16', 99, 'attic', ?)", NOW)
+    page.write("insert into source values ('attic', 'attic.1.1.lines', 10)")
+    page.write("insert into line (receiver, text, made) values ('attic', 'A 1 00', ?)", NOW)
+    file = tmp_path / "page.html"
+    words = [f"{TOP}/tools/report_page", "--now", str(int(NOW)), str(page.house.config.database), str(file)]
+    done = subprocess.run(words, capture_output=True, text=True, check=False)
+    assert (done.returncode, done.stderr) == (0, "")
+    told = re.sub(r"\s+", " ", re.sub("<[^>]*>", " ", file.read_text()))
+    for wanted in ("99.750 m³", "1200 kWh", "silent for 9 days", "key probably wrong", "Cellar", "Command a1: sent 2 times", "attic",
+                   "As of 2027-01-15", "KAM 12345678 1b 16"):
+        assert wanted in told, wanted
+    assert 'aria-label="volume: 5 values from 98.750 m³ to 99.750 m³' in file.read_text()
+    served = re.sub(r"\s+", " ", re.sub("<[^>]*>", " ", page.client().get(f"/meters/{first}?span=month").text))
+    # what was used in each of the days with a reading before it
+    for day in ("2027-01-14", "2027-01-13", "2027-01-12"):
+        assert f"{day} 0.250 m³" in told and f"{day} 0.250 m³" in served
+    assert "Reports" not in told and page.house.all("select count(*) from sqlite_master where type = 'view'") == [0]
+    refused = subprocess.run([f"{TOP}/tools/keep_readings", words[3], str(file)], capture_output=True, text=True, check=False,
+                             env=os.environ | {"READING_LIST": "/bin/true"})
+    assert refused.returncode == 1 and "which keeps its readings itself" in refused.stderr
+    assert (service_tables.APPLICATION, service_tables.VERSION) == (schema.APPLICATION, schema.VERSION)
+
+
+def test_words_of_the_guide() -> None:
+    """What docs/GUIDE.md says that stands on the page, where a meter isn't there, is what the page says."""
+    chapter = (TOP / "docs/GUIDE.md").read_text().partition("### My meter isn't there")[2].partition("\n## ")[0]
+    words = [it for it in re.findall(r"\*\*(.+?)\*\*", chapter) if not it.endswith(("?", "."))]
+    package = TOP / "service/wmbus_service/page"
+    said = " ".join(path.read_text() for path in [package / "looks.py", *sorted((package / "templates").iterdir())])
+    assert len(set(words)) > 10 and not [it for it in words if it not in said]

@@ -1,0 +1,174 @@
+"""The page in a browser: at three widths, light and dark, nothing overflows and all can be read; a walk through its forms; without scripts.
+
+Pictures stand in the folder that WMBUS_PICTURES names, where it is set."""
+from __future__ import annotations
+
+import json
+import os
+import shutil
+import threading
+from base64 import b64decode
+from collections.abc import Iterator
+from pathlib import Path
+from typing import Any
+
+import pytest
+import waitress
+
+from .page_house import DAY, HOUR, TOKEN, PageHouse, page_fixture  # noqa: F401
+from .test_page_hostile import MARKUP
+from .test_sessions import NOW, house_fixture  # noqa: F401
+
+webdriver = pytest.importorskip("selenium.webdriver", reason="python3-selenium isn't there")
+CHROMIUM, DRIVER = shutil.which("chromium"), shutil.which("chromedriver")
+pytestmark = pytest.mark.skipif(not (CHROMIUM and DRIVER), reason="chromium and chromium-driver aren't there")
+WIDTHS = (390, 768, 1400)
+STRANGER = "2d2c785634121b16"
+KEY = "0123456789abcdef" * 2
+
+# elements that go beyond the window, but for those within what can be scrolled; links and buttons that are too small for a finger
+OVERFLOWS = """
+const found = [];
+if (document.documentElement.scrollWidth > innerWidth) found.push("the page is " + document.documentElement.scrollWidth + " wide");
+for (const it of document.querySelectorAll("body *")) {
+  const box = it.getBoundingClientRect();
+  if (!box.width || it.closest(".skip") || it.parentElement.closest(".wide, svg")) continue;
+  if (box.right > innerWidth + 1 || box.left < -1) found.push(it.tagName + "." + it.className + " " + box.left + " to " + box.right);
+  const frame = it.closest(".box, .tall, .tiles li");
+  if (frame && frame !== it && box.right > frame.getBoundingClientRect().right + 1)
+    found.push(it.tagName + " leaves its box: " + it.textContent.slice(0, 40));
+}
+return found;"""
+# texts whose contrast with what lies behind them is below 4.5 (WCAG 2.2, 1.4.3)
+PALE = """
+const parts = text => text.match(/[\\d.]+/g).map(Number);
+const light = ([r, g, b]) => [r, g, b].map(it => it / 255).map(it => it <= .04045 ? it / 12.92 : ((it + .055) / 1.055) ** 2.4)
+  .reduce((sum, it, place) => sum + it * [.2126, .7152, .0722][place], 0);
+const behind = it => { for (; it; it = it.parentElement) { const found = parts(getComputedStyle(it).backgroundColor);
+  if (found.length < 4 || found[3] > 0) return found; } return [255, 255, 255]; };
+const found = [];
+for (const it of document.querySelectorAll("body *")) {
+  if (![...it.childNodes].some(node => node.nodeType === 3 && node.data.trim()) || !it.getBoundingClientRect().width) continue;
+  const [a, b] = [light(parts(getComputedStyle(it).color)), light(behind(it))].sort((x, y) => y - x);
+  const contrast = (a + .05) / (b + .05);
+  if (contrast < 4.5) found.push(it.tagName + " " + it.className + " " + contrast.toFixed(2) + ": " + it.textContent.slice(0, 40));
+}
+return found;"""
+# what a screen reader lacks: labels, names, headings that leave out a level
+UNNAMED = """
+const found = [];
+for (const it of document.querySelectorAll("input:not([type=hidden]), select")) if (!it.labels.length) found.push("no label: " + it.name);
+for (const it of document.querySelectorAll("a, button, summary")) if (!it.textContent.trim()) found.push("no words: " + it.outerHTML);
+for (const it of document.querySelectorAll("svg, [role=region]")) if (!it.getAttribute("aria-label")) found.push("no name: " + it.tagName);
+let last = 0;
+for (const it of document.querySelectorAll("h1, h2, h3")) {
+  const level = Number(it.tagName[1]);
+  if (level > last + 1) found.push("leaves out: " + it.textContent);
+  last = level;
+}
+if (document.querySelectorAll("h1").length !== 1 || !document.title || !document.documentElement.lang) found.push("no head");
+return found;"""
+
+
+def fill(page: PageHouse) -> None:
+    """A house with all that a page may show."""
+    first, second, third = page.addresses
+    page.write("update meter set name = 'Cellar, the great meter behind the door' where address = ?", first)
+    page.write("update meter set name = ? where address = ?", (MARKUP + "w" * 200).replace("\0", ""), second)
+    for back in range(40, 0, -1):
+        page.read(first, NOW - back * DAY, ("volume", "m3", -3, str(100_000 - 37 * back)),
+                  ("flowtemperature", "C", -1, str(200 + back % 7)),
+                  ("manufacturer", "-", 0, "raw"), ("volume", "m3", -3, "55", "maximum", 3))
+    for back in range(30, 0, -1):
+        page.volume(first, NOW - back * HOUR // 2, 100_060 - 2 * back)
+    page.read(second, NOW - 5 * DAY, ("energy", "Wh", 3, "9" * 60), ("unknown", "-", 0, "raw"))
+    for address, reason, words in ((third, "mac", "mac"), (first, "mode", "mode 5 7"), (first, "stale", "stale 4 9")):
+        page.write("insert into refusal values (?, ?, ?, 12345, 1, ?)", address, reason, words, NOW - 60)
+    page.write("insert into stranger values (?, 99, 'attic', ?), ('4304123040010404', 1, 'roof', ?)", STRANGER, NOW - 60, NOW - DAY)
+    page.write("insert into aside (receiver, text, said, made) values ('attic', 'A 1 00', 'status 10: wmbus: no memory', ?)", NOW)
+    for state in ("waiting", "queued", "sent", "confirmed", "expired", "cancelled", "refused"):
+        page.write("insert into command (id, address, kind, payload, state, made, changed) values (?, ?, 'send', ?, ?, 1, ?)",
+                   state * 8, first, "0f" * 94, state, NOW - 60)
+    page.write("insert into line (receiver, text, made) values ('attic', 'A 1 00', ?), ('roof', 'A 1 00', ?)", NOW - 60, NOW - 3 * HOUR)
+
+
+@pytest.fixture(name="address")
+def address_fixture(page: PageHouse) -> Iterator[str]:
+    """The filled page's address."""
+    fill(page)
+    server = waitress.create_server(page.page(TOKEN), host="127.0.0.1", port=0)
+    threading.Thread(target=server.run, daemon=True).start()
+    yield f"http://127.0.0.1:{server.effective_port}"
+    server.close()
+
+
+@pytest.fixture(name="browser")
+def browser_fixture(tmp_path: Path) -> Iterator[Any]:
+    """A browser that executes no script of a page."""
+    options = webdriver.ChromeOptions()
+    options.binary_location = CHROMIUM
+    for word in ("--headless=new", "--no-sandbox", "--disable-gpu", "--hide-scrollbars", f"--user-data-dir={tmp_path / 'browser'}"):
+        options.add_argument(word)
+    from selenium.webdriver.chrome.service import Service
+    driver = webdriver.Chrome(service=Service(DRIVER or ""), options=options)
+    yield driver
+    driver.quit()
+
+
+def test_widths_and_colours(page: PageHouse, address: str, browser: Any) -> None:
+    """At 390, 768 and 1,400 px, light and dark: no element goes beyond the window or its box, every text has contrast, all has a name."""
+    pictures = os.environ.get("WMBUS_PICTURES")
+    paths = {"overview": "/", "meter": f"/meters/{page.addresses[0]}", "meter2": f"/meters/{page.addresses[1]}", "receivers": "/receivers",
+             "strangers": "/strangers", "enter": "/enter", "fault": "/nothing"}
+    faults = {}
+    for width in WIDTHS:
+        for scheme in ("light", "dark"):
+            size = {"width": width, "height": 900, "deviceScaleFactor": 1, "mobile": False}
+            browser.execute_cdp_cmd("Emulation.setDeviceMetricsOverride", size)
+            browser.execute_cdp_cmd("Emulation.setEmulatedMedia", {"features": [{"name": "prefers-color-scheme", "value": scheme}]})
+            for name, path in paths.items():
+                browser.get(address + path)
+                assert browser.execute_script("return getComputedStyle(document.body).backgroundColor") == (
+                    "rgb(244, 246, 248)" if scheme == "light" else "rgb(18, 23, 28)")
+                found = [fault for script in (OVERFLOWS, PALE, UNNAMED) for fault in browser.execute_script(script)]
+                if found:
+                    faults[name, width, scheme] = found[:5]
+                if pictures:
+                    size = browser.execute_cdp_cmd("Page.getLayoutMetrics", {})["cssContentSize"]
+                    clip = {"x": 0, "y": 0, "width": width, "height": min(size["height"], 3000), "scale": 1}
+                    shot = browser.execute_cdp_cmd("Page.captureScreenshot", {"captureBeyondViewport": True, "clip": clip})
+                    Path(pictures, f"{name}-{width}-{scheme}.png").write_bytes(b64decode(shot["data"]))
+    assert not faults, json.dumps({str(key): value for key, value in faults.items()}, indent=1)
+    assert not [entry for entry in browser.get_log("browser") if "script" in entry["message"].lower()]
+
+
+def test_walk_through_the_forms(page: PageHouse, address: str, browser: Any) -> None:
+    """Enter, queue a command, cancel it, make a stranger a meter, leave."""
+    from selenium.webdriver.common.by import By
+
+    def press(words: str) -> None:
+        browser.find_element(By.XPATH, f"//button[normalize-space()='{words}']").click()
+
+    def write(name: str, text: str) -> None:
+        browser.find_element(By.CSS_SELECTOR, f"details[open] [name={name}], main > form [name={name}]").send_keys(text)
+    page.write("delete from command")
+    browser.get(address)
+    browser.find_element(By.LINK_TEXT, "Enter").click()
+    write("token", TOKEN)
+    press("Enter")
+    browser.get(f"{address}/meters/{page.addresses[0]}")
+    write("payload", "01 02 ff")
+    press("Queue")
+    ((ident, payload, state),) = page.house.all("select id, payload, state from command")
+    assert (payload, state) == ("0102ff", "waiting") and f"Command {ident} waits" in browser.page_source
+    press(f"Cancel {ident}")
+    assert page.house.all("select state from command") == ["cancelled"]
+    browser.get(f"{address}/strangers")
+    browser.find_element(By.CSS_SELECTOR, "summary").click()
+    write("name", "Garden")
+    write("key", KEY)
+    press("Add this meter")
+    assert browser.find_element(By.TAG_NAME, "h1").text == "Garden" and KEY not in browser.page_source
+    assert page.house.all(f"select name from meter where address = '{STRANGER}'") == ["Garden"]
+    press("Leave")
+    assert not browser.find_elements(By.XPATH, "//button[.='Leave']")

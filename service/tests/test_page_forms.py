@@ -1,0 +1,143 @@
+"""The page's forms: who may use them, and what they do."""
+from __future__ import annotations
+
+from pathlib import Path
+
+import pytest
+from wmbus_service.config import Page
+from wmbus_service.page import serving
+from wmbus_service.trouble import Trouble
+
+from .page_house import TOKEN, PageHouse, entered, page_fixture  # noqa: F401
+from .test_sessions import NOW, house_fixture  # noqa: F401
+
+STRANGER = "2d2c785634121b16"
+KEY = "0123456789abcdef" * 2
+
+
+def test_without_a_token_it_only_reads(page: PageHouse) -> None:
+    """Where the configuration names no token there are no forms, and none is taken."""
+    address = page.addresses[0]
+    client = page.client()
+    text = client.get(f"/meters/{address}").text
+    assert "<button>Queue" not in text and "/enter" not in text
+    assert client.get("/enter").status_code == 404
+    for path in ("/enter", f"/meters/{address}/commands", f"/meters/{address}/commands/cancel", "/strangers/add", "/leave"):
+        given = client.post(path, data={"forms": "", "payload": "00", "token": "", "id": "a"})
+        assert given.status_code == 403 and "token" in given.text
+    assert page.house.all("select count(*) from command") == [0]
+
+
+def test_queue_and_cancel(page: PageHouse) -> None:
+    """A command that is queued waits for a session, is shown with its state, and can be cancelled."""
+    address = page.addresses[0]
+    client, word = entered(page.page(TOKEN))
+    given = client.post(f"/meters/{address}/commands", data={"forms": word, "payload": "01 02 FF", "id": "valve"}, follow_redirects=True)
+    assert "Command valve waits for the next session" in given.text and "Cancel valve" in given.text
+    assert page.house.all("select id, address, kind, payload, state, made from command") == [
+        ("valve", address, "send", "0102ff", "waiting", NOW)]
+    again = client.post(f"/meters/{address}/commands", data={"forms": word, "payload": "03", "id": "valve"}, follow_redirects=True)
+    assert "was taken before" in again.text and page.house.all("select payload from command") == ["0102ff"]
+    given = client.post(f"/meters/{address}/commands/cancel", data={"forms": word, "id": "valve"}, follow_redirects=True)
+    assert "Command valve is cancelled" in given.text and page.house.all("select state from command") == ["cancelled"]
+    page.write("update command set state = 'sent', number = 1")
+    given = client.post(f"/meters/{address}/commands/cancel", data={"forms": word, "id": "valve"}, follow_redirects=True)
+    assert "The next session cancels command valve" in given.text and page.house.all("select wish from command") == ["cancel"]
+    other = client.post(f"/meters/{page.addresses[1]}/commands/cancel", data={"forms": word, "id": "valve"})
+    assert other.status_code == 400 and "no such command" in other.text
+
+
+def test_add_a_stranger(page: PageHouse) -> None:
+    """A stranger becomes a meter with its name, its key stands in no answer, and a known meter's key stays."""
+    page.write("insert into stranger values (?, 50, 'attic', ?)", STRANGER, NOW)
+    client, word = entered(page.page(TOKEN))
+    assert "This is mine" in client.get("/strangers").text
+    given = client.post("/strangers/add", data={"forms": word, "address": STRANGER, "mode": "7", "key": KEY, "name": "Garden\r\nmeter x"},
+                        follow_redirects=True)
+    assert given.status_code == 200 and "Gardenmeter x was added" in given.text and KEY not in given.text
+    assert page.house.all(f"select name, block from meter where address = '{STRANGER}'") == [
+        ("Gardenmeter x", f"meter {STRANGER} 7 {KEY} - - 0 0\n")]
+    assert STRANGER not in client.get("/strangers").text
+    again = client.post("/strangers/add", data={"forms": word, "address": STRANGER, "mode": "7", "key": "00" * 16})
+    assert again.status_code == 400 and "known already" in again.text
+    assert page.house.all(f"select block from meter where address = '{STRANGER}'") == [f"meter {STRANGER} 7 {KEY} - - 0 0\n"]
+
+
+def test_faulty_forms(page: PageHouse) -> None:
+    """Each faulty field is told in words, and changes nothing; no line of a roster is smuggled in."""
+    address = page.addresses[0]
+    client, word = entered(page.page(TOKEN))
+    for payload in ("", "0", "zz", "00" * 95):
+        given = client.post(f"/meters/{address}/commands", data={"forms": word, "payload": payload})
+        assert given.status_code == 400 and "1 to 94 bytes" in given.text
+    for ident in ("a b", "x" * 65, "<b>"):
+        assert client.post(f"/meters/{address}/commands", data={"forms": word, "payload": "00", "id": ident}).status_code == 400
+    for fields in ({"address": f"{STRANGER}\nmeter"}, {"mode": "6"}, {"mode": "7 x"}, {"key": "00"}, {"key": f"{KEY[:-1]}\u0660"},
+                   {"address": STRANGER.replace("2", "\u0662")}):
+        given = client.post("/strangers/add", data={"forms": word, "address": STRANGER, "mode": "7", "key": KEY} | fields)
+        assert given.status_code == 400 and "hexadecimal digits" in given.text
+    assert client.post(f"/meters/{address}/commands", data={"forms": word, "payload": "0" * 70_000}).status_code == 413
+    assert page.house.all("select count(*) from command") == [0] and page.house.all("select count(*) from meter") == [3]
+
+
+def test_other_sites(page: PageHouse) -> None:
+    """A form that another site sends, or without the session's word, is refused; so is another name for this machine, and a wrong token."""
+    address = page.addresses[0]
+    app = page.page(TOKEN)
+    client, word = entered(app)
+    path, data = f"/meters/{address}/commands", {"forms": word, "payload": "00"}
+    for headers in ({"Origin": "http://elsewhere.example"}, {"Origin": "null"}, {"Origin": "http://localhost:9103"},
+                    {"Sec-Fetch-Site": "cross-site"}, {"Sec-Fetch-Site": "same-site"}):
+        assert client.post(path, data=data, headers=headers).status_code == 403
+    for given in ("", "x", word[:-1], word + "é"):
+        assert client.post(path, data=data | {"forms": given}).status_code == 403
+    assert app.test_client().post(path, data=data).status_code == 403
+    assert page.house.all("select count(*) from command") == [0]
+    assert client.post(path, data=data, headers={"Origin": "http://localhost", "Sec-Fetch-Site": "same-origin"}).status_code == 303
+    rebound = app.test_client().get("/", headers={"Host": "elsewhere.example:9102"})
+    assert rebound.status_code == 400 and "names of this machine" in rebound.text
+    cookie = app.test_client().get("/enter").headers["Set-Cookie"]
+    assert "HttpOnly" in cookie and "SameSite=Strict" in cookie
+    assert client.post("/leave", data={"forms": word}).status_code == 303
+    assert client.post(path, data=data).status_code == 403
+
+
+def test_elsewhere(page: PageHouse) -> None:
+    """Bound elsewhere, nothing is read without the token, and the session's cookie goes over TLS alone."""
+    app = page.page(TOKEN, is_elsewhere=True)
+    client = app.test_client()
+    for path in ("/", f"/meters/{page.addresses[0]}", "/receivers", "/nothing"):
+        assert client.get(path).headers["Location"] == "/enter"
+    for path in ("/api/overview", "/readings.csv"):
+        assert client.get(path).status_code == 403
+    given = client.get("/enter")
+    assert given.status_code == 200 and "Secure" in given.headers["Set-Cookie"]
+    wrong = client.post("/enter", data={"forms": "x", "token": TOKEN})
+    assert wrong.status_code == 403 and "entered" not in str(wrong.headers.get("Set-Cookie"))
+
+
+def test_what_it_starts_with(tmp_path: Path) -> None:
+    """Elsewhere than on this machine it needs TLS and a token; a token is long, and others can't read it."""
+    token = tmp_path / "token"
+    token.write_text(TOKEN + "\n")
+    token.chmod(0o600)
+    named = str(token)
+    assert serving.look_at_page(Page()) is None
+    assert serving.look_at_page(Page(token_file=named)) == TOKEN
+    for host in ("127.0.0.1", "::1", "localhost", "127.8.0.1"):
+        assert serving.is_local(host)
+    for host in ("0.0.0.0", "", "::", "192.168.1.2", "meters.example", "127.0.0.1.example"):
+        assert not serving.is_local(host)
+        with pytest.raises(Trouble, match="TLS"):
+            serving.look_at_page(Page(host=host, token_file=named))
+        with pytest.raises(Trouble, match="no token"):
+            serving.look_at_page(Page(host=host, certificate="/c", key="/k"))
+        assert serving.look_at_page(Page(host=host, certificate="/c", key="/k", token_file=named)) == TOKEN
+    token.write_text("short")
+    with pytest.raises(Trouble, match="fewest"):
+        serving.look_at_page(Page(token_file=named))
+    token.chmod(0o640)
+    with pytest.raises(Trouble, match="rights"):
+        serving.look_at_page(Page(token_file=named))
+    with pytest.raises(Trouble, match="can't be read"):
+        serving.look_at_page(Page(token_file=str(tmp_path / "none")))

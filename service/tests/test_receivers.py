@@ -1,0 +1,120 @@
+"""Receivers' profiles: a stick with culfw, a TCP port, a file, each through the proved line_feed into the spool; and systemd's units."""
+from __future__ import annotations
+
+import os
+import pty
+import shutil
+import signal
+import socket
+import subprocess
+import threading
+import tty
+from pathlib import Path
+
+import pytest
+from wmbus_service import receiving
+from wmbus_service.config import Config, Programs, Receiver
+from wmbus_service.receiving import PROFILES, Receiving, feed_of
+from wmbus_service.trouble import Trouble
+
+from .kill import TOP, Child, program, until
+
+# a telegram of examples/gas.rx as each of them prints it
+FRAME = (TOP / "examples" / "gas.rx").read_text().split()[2]
+
+
+def telegram_of(frame: str) -> str:
+    """The telegram of a frame of format A, without its CRCs."""
+    from reference.frames import telegram_a
+    return str(telegram_a(bytes.fromhex(frame)).hex())
+
+
+class Heard:
+    """A receiver over a folder, and what it spools."""
+
+    def __init__(self, folder: Path, told: Receiver) -> None:
+        self.config = Config(folder=folder / "wmbus", programs=Programs(line_feed=program("line_feed")), receivers={"attic": told})
+        self.log = folder / "log"
+        self.child = Child(self.log, Receiving(self.config, "attic").run)
+
+    def text(self) -> str:
+        """All that was spooled."""
+        return "".join(path.read_text() for path in sorted(self.config.spool.glob("*.lines"))) if self.config.spool.exists() else ""
+
+    def judge(self) -> None:
+        """The telegram comes, once, as a receiver's line; then it ends with all that it started."""
+        try:
+            until(lambda: self.text().endswith("\n"))
+            letter, moment, frame = self.text().split()
+            assert letter == "A" and moment.isdecimal() and frame == FRAME
+        finally:
+            assert self.child.end(signal.SIGTERM) == 0, self.log.read_text()
+
+
+def test_stick_with_culfw(tmp_path: Path) -> None:
+    """The stick is set to wireless M-Bus, and its telegrams come."""
+    pytest.importorskip("serial")
+    ours, theirs = pty.openpty()
+    tty.setraw(ours)
+    heard = Heard(tmp_path, Receiver(profile="cul", device=os.ttyname(theirs)))
+    asked = b""
+    while b"brt\r\n" not in asked:
+        asked += os.read(ours, 100)
+    os.write(ours, f"TMODE\r\nb{FRAME.upper()}8031\r\n".encode())
+    heard.judge()
+
+
+def test_tcp_port(tmp_path: Path) -> None:
+    """What comes over a connection is taken."""
+    with socket.create_server(("127.0.0.1", 0)) as server:
+        heard = Heard(tmp_path, Receiver(profile="tcp", host="127.0.0.1", port=server.getsockname()[1], format="hex"))
+
+        def serve() -> None:
+            opened, _ = server.accept()
+            opened.sendall(f"{telegram_of(FRAME)}\n".encode())
+            opened.recv(1)
+        threading.Thread(target=serve, daemon=True).start()
+        heard.judge()
+
+
+def test_file(tmp_path: Path) -> None:
+    """A file is heard once."""
+    (tmp_path / "recorded file").write_text(f"{telegram_of(FRAME)}\n")
+    Heard(tmp_path, Receiver(profile="file", file=str(tmp_path / "recorded file"), format="hex")).judge()
+
+
+def test_profiles() -> None:
+    """Each profile has a command and a format that line_feed knows; what it lacks is named."""
+    known = subprocess.run([program("line_feed"), "--help"], capture_output=True, text=True, check=True).stdout
+    for name in PROFILES:
+        told = Receiver(profile=name, device="/dev/ttyUSB0", host="radio", port=1, file="/tmp/a b", format="hex")
+        command, form = feed_of("attic", told)
+        assert form in known and "{" not in command
+        assert ("'/tmp/a b'" in command) == (name == "file")
+    for told in (Receiver(), Receiver(command="cat"), Receiver(format="hex"), Receiver(profile="cul"),
+                 Receiver(profile="tcp", host="radio", format="hex")):
+        with pytest.raises(Trouble):
+            feed_of("attic", told)
+
+
+def test_two_writers_of_a_receiver(tmp_path: Path) -> None:
+    """Each start has a file of its own, whose number is above all that are there."""
+    numbers = []
+    for _ in range(3):
+        os.close(receiving.new_file(tmp_path, "attic"))
+        os.close(receiving.new_file(tmp_path, "attic-2"))
+        names = sorted(path.name for path in tmp_path.glob("attic.*"))
+        numbers.append(names[-1].split(".")[1])
+        (tmp_path / names[0]).unlink() if len(names) > 1 else None
+    assert numbers == ["00000001", "00000002", "00000003"]
+
+
+@pytest.mark.skipif(shutil.which("systemd-analyze") is None, reason="systemd-analyze isn't there")
+def test_units(tmp_path: Path) -> None:
+    """systemd takes the units."""
+    for path in (TOP / "service" / "systemd").iterdir():
+        text = path.read_text().replace("/usr/bin/wmbus-service", "/bin/true").replace("User=wmbus", "User=root")
+        (tmp_path / path.name).write_text(text)
+    units = sorted(str(path) for path in tmp_path.glob("*.service"))
+    done = subprocess.run(["systemd-analyze", "verify", *units], capture_output=True, text=True, check=False)
+    assert (done.returncode, done.stderr) == (0, "")

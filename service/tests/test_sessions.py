@@ -1,0 +1,346 @@
+"""Sessions in this process: which lines they take, what they do where the program fails, and when ticks are due."""
+from __future__ import annotations
+
+import os
+import random
+import sqlite3
+from collections.abc import Callable, Sequence
+from dataclasses import replace
+from pathlib import Path
+from typing import Any
+
+import pytest
+from wmbus_service import events, merging, session, steps, store
+from wmbus_service.commands import cancel_command, put_command, put_key
+from wmbus_service.config import Config, Programs, Receiver, Ticks
+from wmbus_service.downlinks import send_downlinks
+from wmbus_service.meters import take_roster
+from wmbus_service.receiving import new_file
+from wmbus_service.session import Sessions
+from wmbus_service.spool import CHUNK, Spool, Spooled, put_places
+from wmbus_service.trouble import Trouble
+
+import messages
+import programs
+from . import stand_in
+from .meters import Meter, line_of, next_telegrams, payload_of, roster_of, some_meters
+
+NOW = 1_800_000_000.0
+
+
+class House:
+    """A service's database and spool, with two receivers and three meters."""
+
+    def __init__(self, folder: Path) -> None:
+        self.sent = folder / "sent"
+        radios = {"attic": Receiver(downlinks=str(self.sent)), "roof": Receiver()}
+        self.config = Config(folder=folder / "wmbus", receivers=radios, ticks=Ticks(30, 60))
+        store.prepare_folder(self.config.folder)
+        self.database = store.open_store(self.config.database, is_new=True)
+        self.meters = some_meters(random.Random(1), 3)
+        take_roster(self.config, self.database, roster_of(self.meters), "roster")
+        self.sessions = Sessions(self.config, self.database)
+        self.draw, self.files = random.Random(2), 0
+
+    def spool(self, text: str, receiver: str = "attic") -> Path:
+        """A file of a receiver."""
+        self.files += 1
+        path = self.config.spool / f"{receiver}.{self.files:08d}.1.lines"
+        path.write_bytes(text.encode("latin-1"))
+        return path
+
+    def hear(self, now: float = NOW) -> int:
+        """Sessions until nothing is left; how many there were."""
+        count = 0
+        while self.sessions.next(now):
+            count += 1
+            assert count < 100
+        return count
+
+    def all(self, query: str) -> list[Any]:
+        """Rows of the database; single values as they are."""
+        return [row[0] if len(row) == 1 else row for row in self.database.execute(query).fetchall()]
+
+    def whole(self, meter: Meter, control: int = 0x44, access: int | None = None, moment: int = 100) -> str:
+        """The line of a meter's next message."""
+        meter.counter += 1
+        return line_of(messages.whole(meter.key, meter.address, meter.counter, payload_of(meter.counter), control, access), moment)
+
+
+@pytest.fixture(name="house")
+def house_fixture(tmp_path: Path, monkeypatch: pytest.MonkeyPatch) -> House:
+    """A house."""
+    stand_in.use_stand_in(monkeypatch)
+    return House(tmp_path)
+
+
+def failing(at: Callable[[Sequence[str]], bool]) -> Callable[..., steps.Told]:
+    """A program that fails over some lines."""
+    def run(program: Any, state: str, lines: Sequence[str]) -> steps.Told:
+        if at(lines):
+            raise steps.ProgramFailed(10, "wmbus: no memory")
+        return stand_in.stand_in(program, state, lines)
+    return run
+
+
+def test_a_bad_line_is_set_aside(house: House, monkeypatch: pytest.MonkeyPatch, caplog: pytest.LogCaptureFixture) -> None:
+    """A line over which the program fails is found by halves, set aside and named; all others are heard, each once."""
+    lines = [house.whole(house.meters[0]) for _ in range(20)]
+    lines[13] = "A 1 00poison\n"
+    house.spool("".join(lines))
+    monkeypatch.setattr(session, "run_steps", failing(lambda told: any("poison" in line for line in told)))
+    house.hear()
+    assert house.all("select text from aside") == ["A 1 00poison"]
+    assert house.all("select text || char(10) from line order by number") == lines[:13] + lines[14:]
+    assert len(house.all("select id from reading")) == 19
+    assert "set aside" in caplog.text
+    assert house.sessions.most > 1
+
+
+def test_a_bad_command_is_refused(house: House, monkeypatch: pytest.MonkeyPatch) -> None:
+    """A command over which the program fails is given up, and so are no others."""
+    put_command(house.database, "good", house.meters[0].name, "01", NOW)
+    put_command(house.database, "bad", house.meters[0].name, "ee", NOW)
+    put_key(house.database, "key", house.meters[0].name, "00" * 16, NOW)
+    monkeypatch.setattr(session, "run_steps", failing(lambda told: any(line.endswith(" ee") for line in told)))
+    house.hear()
+    wanted = [("bad", "refused", "ee"), ("good", "queued", "01"), ("key", "done", "")]
+    assert house.all("select id, state, payload from command order by id") == wanted
+    assert "ee" not in house.all("select text from aside")[0]
+
+
+def test_a_program_that_always_fails(house: House, monkeypatch: pytest.MonkeyPatch) -> None:
+    """Where it isn't the lines' fault none is set aside, and all come again."""
+    house.spool("".join(house.whole(house.meters[0]) for _ in range(5)))
+    with monkeypatch.context() as within:
+        within.setattr(session, "run_steps", failing(lambda told: True))
+        with pytest.raises(Trouble, match="without any line"):
+            house.hear()
+        within.setattr(session, "run_steps", steps.run_steps)
+        within.setattr(house.sessions, "config", replace(house.config, programs=Programs(steps="/nonexistent/wmbus steps")))
+        with pytest.raises(Trouble, match="can't be started"):
+            house.hear()
+    assert not house.all("select id from aside")
+    house.hear()
+    assert len(house.all("select id from reading")) == 5
+
+
+def test_an_output_that_is_cut_off(monkeypatch: pytest.MonkeyPatch, tmp_path: Path) -> None:
+    """What isn't whole doesn't count, whatever the status says."""
+    line = '{"kind":"unframed","line":1,"reason":"empty","values":[]}'
+    counts = '{"bad":0,"end":"end","kind":"counts","lines":1,"own":0,"strangers":0,"unframed":1}'
+    for text in ("", "no JSON", "[]", "{}", line, counts):
+        program = tmp_path / "program"
+        program.write_text(f"#!/bin/sh\ncat >/dev/null\necho '{text}'\n")
+        program.chmod(0o755)
+        with pytest.raises(steps.ProgramFailed):
+            steps.run_steps([str(program)], "state", ["A 1 "])
+
+
+def test_whole_lines_alone(house: House) -> None:
+    """A line without its end waits, and is taken once it has it; of a file that nobody writes any more it is dropped with the file."""
+    first, second = house.whole(house.meters[0]), house.whole(house.meters[0])
+    path = house.spool(first + second[:40])
+    house.hear()
+    assert house.all("select text || char(10) from line") == [first]
+    with open(path, "a", encoding="ascii") as file:
+        file.write(second[40:] + "A 1 torn")
+    house.hear()
+    assert house.all("select text || char(10) from line order by number") == [first, second]
+    third = house.whole(house.meters[0])
+    later = house.spool(third)
+    house.hear()
+    assert [path.exists(), later.exists()] == [False, True]
+    house.hear()
+    assert house.all("select file, taken from source") == [(later.name, len(third))]
+
+
+def test_a_file_that_is_written_stays(house: House) -> None:
+    """As long as somebody holds the lock of a file it stays, though a later one is there."""
+    opened = new_file(house.config.spool, "attic")
+    with open(opened, "w", encoding="ascii") as file:
+        (first,) = house.config.spool.glob("attic.*")
+        other = new_file(house.config.spool, "attic")
+        house.sessions.next(NOW)
+        assert first.exists()
+        file.write(house.whole(house.meters[0]))
+        file.flush()
+        house.hear()
+        assert len(house.all("select number from line")) == 1
+    house.sessions.next(NOW)
+    assert not first.exists()
+    with open(other, "w", encoding="ascii"):
+        pass
+
+
+def test_long_lines(house: House) -> None:
+    """A line that is far too long is a bad one, and costs no more memory than others; those behind it are heard."""
+    good = house.whole(house.meters[0])
+    house.spool("A 1 " + "0" * (2 * CHUNK + 5) + "\n" + good)
+    house.hear()
+    assert len(house.all("select id from reading")) == 1
+    assert max(len(text) for text in house.all("select text from line")) <= 1100
+
+
+def test_a_long_header_names_another_meter(house: House) -> None:
+    """The program says for which meter a line is, and the session has that meter's block, whatever the link address is."""
+    meter = house.meters[0]
+    text, mac = messages.message(meter.key, meter.address, 1, payload_of(1))
+    header = bytes([0x72]) + meter.address[2:6] + meter.address[:2] + meter.address[6:] + text[1:5]
+    inner = header + text[5:]
+    counted = bytes([0x25]) + (1).to_bytes(4, "little")
+    mac = messages.cmac(messages.derived(meter.key, messages.METER_MAC, 1, meter.address), counted + inner)[:8]
+    adapter = bytes.fromhex("931599999999") + b"\x01\x07"
+    house.spool(line_of(messages.telegram(0x44, adapter, bytes.fromhex("900f002c") + counted + mac + inner), 5))
+    house.hear()
+    assert house.all("select address, counter from reading") == [(meter.name, 1)]
+    assert not house.all("select address from stranger")
+
+
+def test_receivers_by_moment(house: House, monkeypatch: pytest.MonkeyPatch) -> None:
+    """The least moment is next, of equal ones the first receiver's; lines without a moment stay behind the one before; also where few
+    are taken at once."""
+    attic = ["A 5 aa", "T 0000000000000000", "A 3 bb", "A 9 cc"]
+    roof = ["nothing", "A 5 dd", "A 4 ee", "B 18446744073709551615 ff", "A 1 11"]
+    wanted = ["nothing", "A 5 aa", "T 0000000000000000", "A 3 bb", "A 5 dd", "A 4 ee", "A 9 cc", "B 18446744073709551615 ff", "A 1 11"]
+    inputs = [[Spooled(name, "f", 0, it) for it in lines] for name, lines in (("attic", attic), ("roof", roof))]
+    assert [it.text for it in merging.merged(inputs)] == wanted
+    house.spool("".join(f"{it}\n" for it in attic))
+    house.spool("".join(f"{it}\n" for it in roof), "roof")
+    monkeypatch.setattr(session, "MOST", 3)
+    house.sessions.most = 3
+    house.hear()
+    assert house.all("select text from line order by number") == wanted
+
+
+def test_receivers_merged_by_the_program() -> None:
+    """Where the program `line_merge` is there it says the same of drawn lines."""
+    path = os.environ.get("WMBUS_LINE_MERGE") or programs.ready("line_merge")
+    if not path:
+        pytest.skip("line_merge isn't there")
+    draw = random.Random(3)
+    kinds = ["A {} aa", "B {} bb", "T 0000000000000000", "bad", "A {}", "", "A {} ", "A 0{} aa", "A {} a", "a {} aa", "B {} aa\r",
+             "A {} aa bb", "A 18446744073709551615 aa", "A 18446744073709551616 aa", "A -{} aa",
+             "A {} " + "0" * 1016, "A {} " + "0" * 1020 + "\r", "A {} " + "0" * 1022]
+    for _ in range(40):
+        inputs = [[Spooled(name, "f", 0, draw.choice(kinds).format(draw.randrange(9))) for _ in range(draw.randrange(30))]
+                  for name in ("attic", "roof", "cellar")[:draw.randrange(1, 4)]]
+        assert merging.merged(inputs, [path]) == merging.merged(inputs)
+
+
+def test_ticks(house: House) -> None:
+    """A window is closed once its time is over, in front of what is heard later; three tries, and the command has expired."""
+    meter = house.meters[0]
+    put_command(house.database, "a", meter.name, "01", NOW)
+    at = int(NOW)
+    states = []
+    for number in range(4):
+        house.spool(house.whole(meter, access=0x84, moment=at))
+        house.hear(at)
+        send_downlinks(house.config, house.database, at)
+        (due,) = house.all(f"select due from meter where address = '{meter.name}'")
+        assert due == (at + 30 if number < 3 else None)
+        states += house.all("select state || tries from command")
+        assert house.hear(at + 29) == 0
+        # what was heard within the window stands in front of the tick, what was heard later behind it
+        house.spool(house.whole(meter, moment=at + 30) + house.whole(meter, moment=at + 31))
+        house.hear(at + 40)
+        at += 100
+    assert states == ["sent1", "sent2", "sent3", "expired3"]
+    kinds = house.all("select substr(text, 1, 1) from line where number > 1 order by number")
+    assert "".join(kinds) == "AATA" * 3 + "AAA"
+    assert len(house.sent.read_text().splitlines()) == 3
+
+
+def test_fragments_grow_old(house: House) -> None:
+    """Fragments whose others never come are given up at the second tick, and no tick is due then."""
+    meter = house.meters[0]
+    meter.counter = 1
+    house.spool(line_of(messages.fragments(meter.key, meter.address, 1, payload_of(1) * 4, 2)[0], int(NOW)))
+    holds = []
+    for second in (0, 59, 60, 119, 120, 500):
+        house.hear(NOW + second)
+        holds += house.all(f"select holds, due - {NOW} from meter where address = '{meter.name}'")
+    assert holds == [(1, 60), (1, 60), (1, 120), (1, 120), (0, None), (0, None)]
+
+
+def test_a_clock_that_jumps(house: House) -> None:
+    """Where the clock is set back by a day the tick still comes in time; where it is set forward it comes at once."""
+    meter = house.meters[0]
+    put_command(house.database, "a", meter.name, "01", NOW)
+    house.spool(house.whole(meter, access=0x84))
+    house.hear(NOW)
+    house.spool(house.whole(meter))
+    house.hear(NOW - 86_400)
+    assert house.all(f"select due from meter where address = '{meter.name}'") == [NOW - 86_400 + 60]
+    house.hear(NOW + 86_400)
+    assert house.all(f"select due, waits from meter where address = '{meter.name}'") == [(None, None)]
+
+
+def test_commands(house: House) -> None:
+    """A command is confirmed by a response, cancelled on its way, refused where eight wait; nothing is done twice."""
+    meter = house.meters[0]
+    for number in range(10):
+        assert put_command(house.database, f"c{number}", meter.name, f"0{number}", NOW)
+    assert not put_command(house.database, "c0", meter.name, "99", NOW)
+    house.hear()
+    assert house.all("select id from command where state = 'refused'") == ["c8", "c9"]
+    house.spool(house.whole(meter, access=0x84))
+    house.hear()
+    assert house.all("select state from command where id = 'c0'") == ["queued"]
+    send_downlinks(house.config, house.database, NOW)
+    assert house.all("select state from command where id = 'c0'") == ["sent"]
+    assert cancel_command(house.database, "c1", NOW) == "queued"
+    house.spool(house.whole(meter, 0x08))
+    house.hear()
+    assert house.all("select state from command where id in ('c0', 'c1') order by id") == ["confirmed", "cancelled"]
+    assert cancel_command(house.database, "c0", NOW) == "confirmed"
+    assert house.hear() == 0
+
+
+def test_downlinks(house: House) -> None:
+    """A radio that can't send, one that isn't there, and a downlink that comes too late are named; none of them is sent later."""
+    for receiver, told, said in (("roof", "", "can't send"), ("roof", "pipe", "isn't there"), ("attic", "", "too late")):
+        meter = house.meters[0]
+        path = house.config.folder.parent / "pipe"
+        if told:
+            os.mkfifo(path)
+            house.config.receivers["roof"] = Receiver(downlinks=str(path))
+        put_command(house.database, f"{receiver}{told}", meter.name, "01", NOW)
+        house.spool(house.whole(meter, access=0x84), receiver)
+        house.hear()
+        send_downlinks(house.config, house.database, NOW + (1000 if said == "too late" else 0))
+        assert said in house.all("select missed from outbox order by id desc limit 1")[0]
+        house.hear(NOW + 31)
+    assert not house.sent.exists()
+
+
+def test_events_with_ticks() -> None:
+    """Ticks stand in front of the first line that was heard later."""
+    lines = [Spooled("attic", "f", 0, text) for text in ("A 5 aa", "bad", "A 7 bb")]
+    for due, place in ((4.0, 0), (5.0, 2), (6.5, 2), (7.0, 3), (9.0, 3)):
+        found = events.with_ticks(lines, [(due, "m")])
+        assert [it.ticked for it in found].index("m") == place
+
+
+def test_spool_place_is_kept(house: House) -> None:
+    """A transaction that isn't committed leaves the place where it was."""
+    house.spool(house.whole(house.meters[0]))
+    spool = Spool(house.config.spool, "attic")
+    with pytest.raises(sqlite3.OperationalError), store.transaction(house.database):
+        put_places(house.database, spool.take(house.database, 5))
+        house.database.execute("no statement")
+    assert len(spool.take(house.database, 5)) == 1
+
+
+def test_drawn_lines_are_written_as_told(house: House) -> None:
+    """Of drawn telegrams the rows are those of one uncut session, in whatever batches they are heard."""
+    lines = [line_of(it, 100) for _ in range(40) for it in next_telegrams(house.draw, house.draw.choice(house.meters))]
+    for start in range(0, len(lines), 7):
+        house.spool("".join(lines[start:start + 7]))
+        house.hear()
+    told = stand_in.stand_in(None, roster_of(house.meters), [line.rstrip("\n") for line in lines])
+    stored = [(it["address"], it["counter"], len(it["records"])) for it in told.lines if it["outcome"] == "stored"]
+    query = "select address, counter, (select count(*) from record where reading = reading.id) from reading order by id"
+    assert house.all(query) == stored
+    assert {address: block.text for address, block in told.blocks.items()} == dict(house.all("select address, block from meter"))

@@ -1,0 +1,149 @@
+"""Copies of the database: made while the service runs, and put back once it has ended."""
+from __future__ import annotations
+
+import os
+import sqlite3
+import subprocess
+import time
+from collections.abc import Sequence
+from contextlib import closing
+from pathlib import Path
+
+from . import store
+from .commands import OPEN
+from .config import Config, words_of
+from .memory_files import memory_files, path_of
+from .meters import DOWN_PLACE
+from .spool import sync
+from .steps import ProgramFailed, run_steps, state_text
+from .trouble import Trouble
+
+HIGHEST, MOST_METERS = (1 << 32) - 1, 4096
+
+
+def back_up(config: Config, target: Path) -> int:
+    """Copies the database as it is at one moment, also while it is written; how many bytes the copy has."""
+    if target.exists():
+        raise Trouble(target, "it is there already", "name a new file")
+    beside = target.with_name(f"{target.name}.making")
+    beside.unlink(missing_ok=True)
+    os.close(os.open(beside, os.O_WRONLY | os.O_CREAT | os.O_EXCL, 0o600))
+    with closing(store.open_store(config.database)) as database, closing(sqlite3.connect(beside, isolation_level=None)) as copy:
+        database.backup(copy)
+        look_over(copy, beside)
+        copy.execute("pragma journal_mode = delete")
+    _put_in_place(beside, target)
+    return target.stat().st_size
+
+
+def look_over(database: sqlite3.Connection, place: Path) -> None:
+    """A copy has to be whole."""
+    try:
+        (said,) = database.execute("pragma integrity_check").fetchone()
+    except sqlite3.DatabaseError as fault:
+        said = str(fault)
+    if said != "ok":
+        raise Trouble(place, f"the database isn't whole: {said}", "take an earlier copy")
+
+
+def _put_in_place(made: Path, target: Path) -> None:
+    """Gives a file that stands on the disk its name."""
+    for path, flags in ((made, os.O_RDWR), (target.parent, os.O_RDONLY)):
+        opened = os.open(path, flags)
+        try:
+            sync(opened)
+            if path == made:
+                os.rename(made, target)
+        finally:
+            os.close(opened)
+
+
+def restore(config: Config, source: Path, margin: int) -> int:
+    """Puts a copy in the place of the database, whose service has ended. Downlink counters go on above all that were sent since, and
+    open commands are cancelled, since some of them may have been executed. How many meters there are."""
+    if not source.is_file():
+        raise Trouble(source, "there is no such copy")
+    beside = config.folder / "restored.db"
+    beside.unlink(missing_ok=True)
+    os.close(os.open(beside, os.O_WRONLY | os.O_CREAT | os.O_EXCL, 0o600))
+    with closing(sqlite3.connect(f"file:{source}?mode=ro", uri=True)) as copied, closing(sqlite3.connect(beside)) as made:
+        look_over(copied, source)
+        copied.backup(made)
+    with closing(store.open_store(beside)) as database:
+        with store.transaction(database):
+            count = raise_counters(config, database, margin)
+            _give_up(database, time.time())
+        _judge(config, database)
+        database.execute("pragma journal_mode = delete")
+    for name in ("wmbus.db-wal", "wmbus.db-shm"):
+        (config.folder / name).unlink(missing_ok=True)
+    _put_in_place(beside, config.database)
+    return count
+
+
+def raise_counters(config: Config, database: sqlite3.Connection, margin: int) -> int:
+    """Raises the last downlink counter of each meter; how many there are."""
+    rows = database.execute("select address, block from meter order by place").fetchall()
+    for start in range(0, len(rows), MOST_METERS):
+        blocks = [block for _, block in rows[start:start + MOST_METERS]]
+        if config.programs.state_raise:
+            raised = raised_by_program(words_of(config.programs.state_raise), store.setting(database, "own") or "", blocks, margin)
+        else:
+            raised = [raised_by(it, margin) for it in blocks]
+        database.executemany("update meter set block = ? where address = ?",
+                             [(block, address) for block, (address, _) in zip(raised, rows[start:start + MOST_METERS], strict=True)])
+    return len(rows)
+
+
+def raised_by(block: str, margin: int) -> str:
+    """A meter's block with a higher counter."""
+    line, _, rest = block.partition("\n")
+    fields = line.split(" ")
+    fields[DOWN_PLACE] = str(min(int(fields[DOWN_PLACE]) + margin, HIGHEST))
+    return f"{' '.join(fields)}\n{rest}"
+
+
+def raised_by_program(program: Sequence[str], own: str, blocks: Sequence[str], margin: int) -> list[str]:
+    """Meters' blocks with higher counters, as `state_raise` writes them."""
+    text = state_text(own, blocks).encode("latin-1")
+    with memory_files([text, b""]) as (given, made):
+        words = [*program, path_of(given), str(margin), path_of(made)]
+        try:
+            done = subprocess.run(words, stdin=subprocess.DEVNULL, capture_output=True, pass_fds=(given, made), check=False)
+        except OSError as fault:
+            raise Trouble(words[0], f"the program can't be started: {fault.strerror}",
+                          "name it in the configuration under [programs]") from None
+        if done.returncode:
+            said = done.stderr.decode("utf-8", "replace").strip()[:300]
+            raise Trouble(words[0], f"status {done.returncode}: {said}", "take a smaller margin")
+        lines = os.pread(made, os.fstat(made).st_size, 0).decode("latin-1").splitlines(keepends=True)
+    found: list[str] = []
+    for line in lines[2:-1]:
+        if line.startswith("meter "):
+            found.append(line)
+        else:
+            found[-1] += line
+    return found
+
+
+def _give_up(database: sqlite3.Connection, now: float) -> None:
+    """What was open when the copy was made isn't done again."""
+    database.execute("update command set state = 'cancelled', reason = 'restored', changed = ? where state = 'waiting'", (now,))
+    marks = ", ".join("?" * len(OPEN))
+    database.execute(f"update command set wish = 'cancel', reason = 'restored', changed = ? where state in ({marks})", (now, *OPEN))
+    database.execute("update outbox set missed = 'restored' where sent is null and missed is null")
+    # (the broker has later messages than the copy's; sensors are announced anew)
+    database.execute("delete from publication")
+    database.execute("delete from announced")
+
+
+def _judge(config: Config, database: sqlite3.Connection) -> None:
+    """The program has to take what is known of all meters."""
+    own = store.setting(database, "own")
+    blocks = [block for (block,) in database.execute("select block from meter order by place limit ?", (MOST_METERS,))]
+    try:
+        if own:
+            run_steps(words_of(config.programs.steps), state_text(own, blocks), [])
+    except ProgramFailed as failed:
+        raise Trouble(config.folder / "restored.db", f"the program doesn't take what the copy knows of the meters: {failed}",
+                      "take an earlier copy") from None

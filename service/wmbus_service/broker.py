@@ -1,0 +1,169 @@
+"""MQTT: what is committed is published, and taken away once the broker has acknowledged it; commands come in, and are committed before
+they are acknowledged.
+
+One thread does both, over one connection after the other: what a lost connection had on its way is published again by the next, in its
+order."""
+from __future__ import annotations
+
+import json
+import logging
+import socket
+import sqlite3
+import ssl
+import threading
+import time
+from pathlib import Path
+from typing import Any
+
+import paho.mqtt.client as mqtt
+
+from . import store
+from .commands import cancel_command, put_command
+from .config import Config, Mqtt
+from .publications import Publications
+from .trouble import Trouble
+
+log = logging.getLogger("wmbus")
+
+AT_ONCE, PATIENCE, IDLE = 100, 20.0, 0.2
+LEAST_PAUSE, MOST_PAUSE = 0.5, 30.0
+MOST_MESSAGE = 10_000
+Row = tuple[int, str, str, int]
+
+
+class Lost(Exception):
+    """The connection to the broker is no more, and why."""
+
+
+class Broker(threading.Thread):
+    """What goes to the broker and comes from it."""
+
+    def __init__(self, config: Config, told: Mqtt, ending: threading.Event) -> None:
+        super().__init__(name="mqtt", daemon=True)
+        self.config, self.told, self.ending = config, told, ending
+        self.is_connected = False
+
+    def run(self) -> None:
+        """Connections, one after the other."""
+        database = store.open_store(self.config.database)
+        pause, said = LEAST_PAUSE, ""
+        while not self.ending.is_set():
+            began = time.monotonic()
+            try:
+                self._serve(self._connection(database), database)
+            except (Lost, OSError, ssl.SSLError, sqlite3.Error, Trouble) as fault:
+                if str(fault) != said:
+                    log.warning("MQTT: %s:%d: %s; it is tried again", self.told.host, self.told.port, fault)
+                    said = str(fault)
+            self.is_connected = False
+            pause = LEAST_PAUSE if time.monotonic() - began > PATIENCE else min(2 * pause, MOST_PAUSE)
+            self.ending.wait(pause)
+
+    def _connection(self, database: sqlite3.Connection) -> mqtt.Client:
+        """A connection under the service's name, so that the broker keeps the commands that come while there is none."""
+        told = self.told
+
+        def heard(_client: Any, _data: Any, message: mqtt.MQTTMessage) -> None:
+            take_message(told, database, message.topic, message.payload)
+
+        client = mqtt.Client(client_id=told.client, clean_session=False)
+        client.on_message = heard
+        client.will_set(f"{told.topic}/status", "offline", 1, True)
+        _connect(told, client)
+        client.subscribe([(f"{told.topic}/command/+", 1), (f"{told.topic}/cancel/+", 1)])
+        client.publish(f"{told.topic}/status", "online", 1, True)
+        self.is_connected = True
+        log.info("MQTT: connected with %s:%d", told.host, told.port)
+        return client
+
+    def _serve(self, client: mqtt.Client, database: sqlite3.Connection) -> None:
+        """Publishes what waits, and takes what comes, as long as the connection lives."""
+        try:
+            while not self.ending.is_set():
+                rows = database.execute("select id, topic, payload, retain from publication order by id limit ?", (AT_ONCE,)).fetchall()
+                if rows:
+                    publish(client, rows)
+                    mark_published(database, rows)
+                else:
+                    _turn(client, IDLE)
+            client.publish(f"{self.told.topic}/status", "offline", 1, True).is_published()
+            _turn(client, IDLE)
+            client.disconnect()
+        finally:
+            opened = client.socket()
+            if isinstance(opened, socket.socket):
+                opened.close()
+
+
+def _connect(told: Mqtt, client: mqtt.Client) -> None:
+    """Connects a client, and waits for the broker's answer."""
+    if told.user:
+        client.username_pw_set(told.user, Path(told.password_file).read_text(encoding="utf-8").strip() if told.password_file else None)
+    if told.tls:
+        client.tls_set(ca_certs=told.authority or None)
+    answers: list[int] = []
+
+    def connected(_client: Any, _data: Any, _flags: Any, answer: int) -> None:
+        answers.append(answer)
+
+    client.on_connect = connected
+    client.connect(told.host, told.port, keepalive=30)
+    # (else each small message waits for the answer to the one before it)
+    client.socket().setsockopt(socket.IPPROTO_TCP, socket.TCP_NODELAY, 1)
+    _until(client, lambda: bool(answers))
+    if answers[0]:
+        raise Lost(f"the broker refuses the connection: {mqtt.connack_string(answers[0])}")
+
+
+def try_connection(told: Mqtt) -> None:
+    """Connects under another name, and leaves again."""
+    try:
+        client = mqtt.Client(client_id="")
+        _connect(told, client)
+        client.disconnect()
+    except (Lost, OSError) as fault:
+        raise Trouble(f"mqtt {told.host}:{told.port}", f"the broker can't be used: {fault}",
+                      "look at its host, port, user, password_file and tls") from None
+
+
+def publish(client: mqtt.Client, rows: list[Row]) -> None:
+    """Publishes messages in their order; all of them are acknowledged when it returns."""
+    sent = [client.publish(topic, payload, qos=1, retain=bool(retain)) for _, topic, payload, retain in rows]
+    _until(client, lambda: all(message.is_published() for message in sent))
+
+
+def mark_published(database: sqlite3.Connection, rows: list[Row]) -> None:
+    """Takes away what was published."""
+    database.execute("delete from publication where id <= ?", (rows[-1][0],))
+
+
+def _until(client: mqtt.Client, is_done: Any) -> None:
+    """Waits for the broker."""
+    limit = time.monotonic() + PATIENCE
+    while not is_done():
+        _turn(client, IDLE)
+        if time.monotonic() > limit:
+            raise Lost("the broker doesn't answer")
+
+
+def _turn(client: mqtt.Client, seconds: float) -> None:
+    """Lets the connection go on for a moment."""
+    answer = client.loop(seconds)
+    if answer != mqtt.MQTT_ERR_SUCCESS:
+        raise Lost(mqtt.error_string(answer))
+
+
+def take_message(told: Mqtt, database: sqlite3.Connection, topic: str, payload: bytes) -> None:
+    """Takes a command or a cancellation; what can't be taken is answered in words. Only what is committed is acknowledged."""
+    kind, address = topic.removeprefix(f"{told.topic}/").split("/", 1)
+    publications = Publications(told, database)
+    try:
+        said = json.loads(payload[:MOST_MESSAGE])
+        if kind == "command":
+            put_command(database, str(said["id"]), address, str(said["payload"]), time.time())
+        else:
+            cancel_command(database, str(said["id"]), time.time(), publications)
+    except (ValueError, KeyError, TypeError):
+        publications.refuse(address, f'a {kind} is JSON as {{"id": "a1", "payload": "0102"}}')
+    except Trouble as fault:
+        publications.refuse(address, str(fault))

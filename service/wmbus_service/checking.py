@@ -1,0 +1,136 @@
+"""Whether all that a configuration names is there and can be used, in words."""
+from __future__ import annotations
+
+import os
+import shlex
+import shutil
+import stat
+from collections.abc import Callable, Iterator
+from contextlib import closing
+from dataclasses import dataclass, replace
+from pathlib import Path
+
+from . import meters, store
+from .config import Config, Mqtt, Receiver, unproved_words, words_of
+from .receiving import feed_of
+from .steps import ProgramFailed, run_steps, state_text
+from .trouble import Trouble
+
+LEAST_ROOM = 256 << 20
+NOBODY = "0" * 16
+
+
+@dataclass(frozen=True)
+class Finding:
+    """Something that was looked at, and what is wrong with it."""
+
+    name: str
+    wrong: str = ""
+    # what somebody should know of it, though it is right
+    note: str = ""
+
+    def __str__(self) -> str:
+        told = f"wrong: {self.wrong}" if self.wrong else f"right: {self.name}"
+        return f"{told}\nnote: {self.note}" if self.note else told
+
+
+def check(config: Config) -> Iterator[Finding]:
+    """Looks at everything, one after the other."""
+    yield tried(f"folder {config.folder}", lambda: store.prepare_folder(config.folder))
+    yield tried(f"room on the disk of {config.folder}", lambda: look_at_room(config.folder))
+    if config.database.exists():
+        yield tried(f"database {config.database}", lambda: store.open_store(config.database).close())
+    found = tried(f"program {config.programs.steps}", lambda: look_at_steps(config))
+    yield replace(found, note=unproved_words(config.programs.steps))
+    yield tried(f"program {config.programs.line_feed}", lambda: look_at_program(config.programs.line_feed))
+    if config.roster:
+        yield tried(f"roster {config.roster}", lambda: look_at_roster(config))
+    yield tried("meters", lambda: look_at_meters(config))
+    if not config.receivers:
+        yield Finding("receivers", "receivers: there are none; docs/SERVICE.md has examples")
+    for name, told in config.receivers.items():
+        yield tried(f"receiver {name}", lambda name=name, told=told: look_at_receiver(name, told))  # type: ignore[misc]
+        yield tried(f"downlinks of {name}", lambda name=name, told=told: look_at_downlinks(name, told))  # type: ignore[misc]
+    if config.mqtt:
+        yield tried(f"MQTT broker {config.mqtt.host}:{config.mqtt.port}", lambda: look_at_broker(config, config.mqtt))
+
+
+def tried(name: str, look: Callable[[], object]) -> Finding:
+    """Looks at something; what is wrong."""
+    try:
+        look()
+    except (Trouble, OSError) as fault:
+        return Finding(name, str(fault) if isinstance(fault, Trouble) else f"{name}: {fault}")
+    return Finding(name)
+
+
+def look_at_room(folder: Path) -> None:
+    """A disk that is nearly full."""
+    free = shutil.disk_usage(folder).free
+    if free < LEAST_ROOM:
+        raise Trouble(folder, f"only {free >> 20} MiB are free", "make room, or name another folder")
+
+
+def look_at_program(command: str) -> None:
+    """A program that isn't there."""
+    word = words_of(command)[0]
+    if shutil.which(word) is None:
+        raise Trouble(word, "there is no such program", "name it in the configuration under [programs]")
+
+
+def look_at_steps(config: Config) -> None:
+    """The program of the sessions, over a state without meters."""
+    try:
+        run_steps(words_of(config.programs.steps), state_text(NOBODY, []), [])
+    except ProgramFailed as failed:
+        raise Trouble(config.programs.steps, f"the program doesn't do its work: {failed}",
+                      "install its release that has `steps`") from None
+
+
+def look_at_roster(config: Config) -> None:
+    """A roster that the program doesn't take."""
+    meters.judge_roster(words_of(config.programs.steps), meters.read_roster(Path(config.roster)), config.roster)
+
+
+def look_at_meters(config: Config) -> None:
+    """Without a meter nothing is read."""
+    if config.roster:
+        return
+    count = 0
+    if config.database.exists():
+        with closing(store.open_store(config.database)) as database:
+            count = meters.count(database)
+    if not count:
+        raise Trouble(config.database, "no meter is known", "`wmbus-service add` or `wmbus-service import` adds some, or name a `roster`")
+
+
+def look_at_receiver(name: str, told: Receiver) -> None:
+    """A radio's program and its device."""
+    command, _ = feed_of(name, told)
+    first = shlex.split(command)[0]
+    if shutil.which(first) is None:
+        raise Trouble(f"receivers.{name}", f"the program {first} isn't there", f"apt-get install {first.replace('_', '-')}")
+    for path in (told.device, told.file):
+        if path and not os.access(path, os.R_OK):
+            raise Trouble(f"receivers.{name}", f"{path} isn't there, or can't be read by this user",
+                          "plug it in, and add the user to the group of the device (dialout)")
+
+
+def look_at_downlinks(name: str, told: Receiver) -> None:
+    """A radio that can't send."""
+    if not told.downlinks:
+        raise Trouble(f"receivers.{name}", "it can't send, and commands to meters that it hears expire",
+                      "name `downlinks`, the file or pipe from which its radio sends")
+    path = Path(told.downlinks)
+    if path.exists() and not (stat.S_ISREG(path.stat().st_mode) or stat.S_ISFIFO(path.stat().st_mode)
+                              or stat.S_ISCHR(path.stat().st_mode)):
+        raise Trouble(f"receivers.{name}.downlinks", f"{path} is no file and no pipe")
+    if not os.access(path if path.exists() else path.parent, os.W_OK):
+        raise Trouble(f"receivers.{name}.downlinks", f"{path} can't be written by this user")
+
+
+def look_at_broker(config: Config, told: Mqtt | None) -> None:
+    """Whether the broker takes a connection."""
+    from .broker import try_connection
+    assert told
+    try_connection(told)

@@ -1,0 +1,286 @@
+"""`wmbus-service`: the collector as a service on one machine."""
+from __future__ import annotations
+
+import argparse
+import getpass
+import logging
+import os
+import secrets
+import signal
+import sqlite3
+import sys
+import time
+from collections.abc import Callable, Iterable
+from contextlib import closing
+from pathlib import Path
+
+from . import backup, checking, demo, exporting, importing, meters, service, store
+from .commands import cancel_command, put_command, put_key
+from .config import Config, Page, Programs, read_config
+from .publications import Publications
+from .receiving import Receiving
+from .status import status
+from .trouble import Trouble
+
+DONE, TROUBLE = 0, 1
+VERSION = "0.1.0"
+STATUSES = "exit status: 0 all is done or right, 1 something is wrong and was named, 2 faulty words"
+MARGIN = 1000
+MOST_COUNT = 65_535
+
+
+def main(given: list[str]) -> int:
+    """Does what is asked for; the exit status."""
+    asked = words().parse_args(given)
+    logging.basicConfig(level=logging.INFO, format="%(levelname)s %(message)s", stream=sys.stderr)
+    try:
+        done: int = asked.work(asked)
+        sys.stdout.flush()
+        return done
+    except Trouble as trouble:
+        said = str(trouble)
+    except sqlite3.Error as fault:
+        said = str(store.trouble_of(Path("the database"), fault))
+    except BrokenPipeError:
+        os.dup2(os.open(os.devnull, os.O_WRONLY), sys.stdout.fileno())
+        return TROUBLE
+    except OSError as fault:
+        said = str(fault)
+    except KeyboardInterrupt:
+        return DONE
+    print(f"wmbus-service: {said}", file=sys.stderr)
+    return TROUBLE
+
+
+def words() -> argparse.ArgumentParser:
+    """The words behind the program's name."""
+    parser = argparse.ArgumentParser(prog="wmbus-service", description=__doc__, epilog=STATUSES)
+    parser.add_argument("--config", metavar="FILE", type=Path, default=Path(os.environ.get("WMBUS_CONFIG", "/etc/wmbus/config.toml")),
+                        help="the configuration, /etc/wmbus/config.toml where none is named")
+    parser.add_argument("--version", action="version", version=f"wmbus-service {VERSION}")
+    kinds = parser.add_subparsers(metavar="COMMAND", required=True)
+
+    def command(name: str, work: Callable[[argparse.Namespace], int], told: str) -> argparse.ArgumentParser:
+        made = kinds.add_parser(name, help=told, description=told, epilog=STATUSES)
+        made.set_defaults(work=work)
+        return made
+
+    command("run", _run, "runs the service until it gets SIGTERM or SIGINT")
+    command("receive", _receive, "feeds the spool from a receiver").add_argument("name", metavar="NAME",
+                                                                                 help="the receiver's name in the configuration")
+    command("page", _page, "serves the page that people look at, until it gets SIGTERM or SIGINT")
+    command("check", _check, "looks at configuration, rights, programs, meters, receivers and broker, and says what is wrong")
+    made = command("status", _status, "says what was heard and what somebody should look at")
+    made.add_argument("--json", action="store_true", help="as data")
+    _meter_words(command)
+    _command_words(command)
+    _data_words(command)
+    _demo_words(command)
+    return parser
+
+
+Command = Callable[[str, Callable[[argparse.Namespace], int], str], argparse.ArgumentParser]
+
+
+def _meter_words(command: Command) -> None:
+    """The words of what changes the meters."""
+    made = command("add", _add,
+                   "adds a meter; its key is asked for, or read from the standard input, so that no list of processes shows it")
+    made.add_argument("address", metavar="METER", help="the meter's address, sixteen hexadecimal digits as tools/meter_name prints them")
+    made.add_argument("--mode", choices=("5", "7"), default="7", help="its security mode, 7 where none is named")
+    made.add_argument("--name", default="", help="what it is called")
+    made.add_argument("--own", metavar="ADDRESS", help="the collector's own address, with the first meter")
+    made = command("import", _import, "adds the meters of a list of keys (CSV with a head)")
+    made.add_argument("list", metavar="FILE", type=Path)
+    made.add_argument("--own", metavar="ADDRESS", help="the collector's own address, with the first meters")
+    made = command("rekey", _rekey, "gives a meter of mode 7 its new second key, which is asked for as with `add`")
+    made.add_argument("address", metavar="METER")
+
+
+def _command_words(command: Command) -> None:
+    """The words of commands to meters."""
+    made = command("command", _command, "has a command sent to a meter once it listens, or cancels one")
+    made.add_argument("address", metavar="METER", nargs="?")
+    made.add_argument("payload", metavar="HEX", nargs="?", help="what the meter gets, 1 to 94 bytes")
+    made.add_argument("--id", help="your own id of the command; under one id a command is taken once")
+    made.add_argument("--cancel", metavar="ID", help="has this command not be sent any more")
+
+
+def _data_words(command: Command) -> None:
+    """The words of what goes out of the database and comes back."""
+    made = command("export", _export, "prints readings, or the lines or the state with keys into a file of its owner's")
+    kinds = made.add_mutually_exclusive_group()
+    kinds.add_argument("--json", action="store_true", help="one JSON object a value, in place of CSV")
+    kinds.add_argument("--state", metavar="FILE", type=Path, help="writes the state, with keys, for the other programs")
+    kinds.add_argument("--lines", metavar="FILE", type=Path, help="writes the lines that are kept, as they were committed")
+    made.add_argument("--meter", metavar="METER", help="of this meter alone")
+    made.add_argument("--since", metavar="SECONDS", type=int, default=0, help="from this moment on, in seconds since 1970")
+    command("backup", _backup, "copies the database, also while the service runs").add_argument("file", metavar="FILE", type=Path)
+    made = command("restore", _restore, "puts a copy in the place of the database, once the service has ended")
+    made.add_argument("file", metavar="FILE", type=Path)
+    made.add_argument("--margin", metavar="N", type=int, default=MARGIN,
+                      help=f"raises downlink counters so far, at least by what was sent to a meter since the copy ({MARGIN})")
+
+
+def _demo_words(command: Command) -> None:
+    """The words of the demo."""
+    made = command("demo", _demo, "a made building of twelve meters and its page, without a radio and a configuration, until Ctrl-C")
+    made.add_argument("--days", metavar="N", type=_count, default=demo.DAYS, help=f"for so many days meters have sent ({demo.DAYS})")
+    made.add_argument("--port", metavar="N", type=_count, default=Page().port,
+                      help=f"where the page is ({Page().port}); 0 takes a free one")
+    made.add_argument("--text", action="store_true", help="says what was read, in place of a page, and ends")
+    made.add_argument("--steps", metavar="PROGRAM", default=Programs().steps,
+                      help=f"the program of the sessions, where it isn't {Programs().steps}")
+
+
+def _count(text: str) -> int:
+    """A number of days or of a port."""
+    if not text.isascii() or not text.isdigit() or int(text) > MOST_COUNT:
+        raise argparse.ArgumentTypeError(f"this is no number up to {MOST_COUNT}")
+    return int(text)
+
+
+def _config(asked: argparse.Namespace) -> Config:
+    """The configuration, of which root may read more than the service's user; the rest is done as that user."""
+    config = read_config(asked.config)
+    store.act_as_owner(config.folder)
+    return config
+
+
+def _opened(config: Config, is_new: bool = False) -> closing[sqlite3.Connection]:
+    if is_new:
+        store.prepare_folder(config.folder)
+    return closing(store.open_store(config.database, is_new))
+
+
+def _run(asked: argparse.Namespace) -> int:
+    service.run(_config(asked))
+    return DONE
+
+
+def _receive(asked: argparse.Namespace) -> int:
+    config = _config(asked)
+    if asked.name not in config.receivers:
+        raise Trouble(asked.config, f"there is no receiver {asked.name}", f"there are: {', '.join(config.receivers) or 'none'}")
+    Receiving(config, asked.name).run()
+    return DONE
+
+
+def _page(asked: argparse.Namespace) -> int:
+    from .page import serving
+    serving.run(_config(asked))
+    return DONE
+
+
+def _check(asked: argparse.Namespace) -> int:
+    found = list(checking.check(_config(asked)))
+    print(f"right: configuration {asked.config}", *found, sep="\n")
+    return TROUBLE if any(it.wrong for it in found) else DONE
+
+
+def _status(asked: argparse.Namespace) -> int:
+    print(status(_config(asked), asked.json))
+    return DONE
+
+
+def _add(asked: argparse.Namespace) -> int:
+    config = _config(asked)
+    with _opened(config, True) as database:
+        own = _own(config, database, asked.own)
+        text = f"wmbus-roster 2\nown {own}\nmeter {asked.address.lower()} {asked.mode} {_key(asked.address)} - - 0 0\n"
+        added = meters.take_roster(config, database, text, f"meter {asked.address}")
+        if not added:
+            raise Trouble(f"meter {asked.address}", "it is known already",
+                          "its key stays as it is; `wmbus-service rekey` gives a second one")
+        database.execute("update meter set name = ? where address = ?", (asked.name, asked.address.lower()))
+    print(f"meter {asked.address.lower()} was added")
+    return DONE
+
+
+def _own(config: Config, database: sqlite3.Connection, asked: str | None) -> str:
+    own = (asked or store.setting(database, "own") or "").lower()
+    if not own:
+        raise Trouble(config.database, "the collector's own address isn't known",
+                      "name it with --own, sixteen hexadecimal digits that no meter has")
+    return own
+
+
+def _key(address: str) -> str:
+    """A key, which no list of processes and no history of a shell shows."""
+    told = getpass.getpass(f"key of {address}: ") if sys.stdin.isatty() else sys.stdin.readline()
+    return told.strip().lower().replace(" ", "")
+
+
+def _import(asked: argparse.Namespace) -> int:
+    config = _config(asked)
+    with _opened(config, True) as database:
+        count = importing.take_list(config, database, asked.list, _own(config, database, asked.own))
+    print(f"{count} new meters")
+    return DONE
+
+
+def _rekey(asked: argparse.Namespace) -> int:
+    with _opened(_config(asked)) as database:
+        put_key(database, f"key-{secrets.token_hex(4)}", asked.address, _key(asked.address), time.time())
+    print("the next session gives the meter its second key")
+    return DONE
+
+
+def _command(asked: argparse.Namespace) -> int:
+    config = _config(asked)
+    with _opened(config) as database:
+        if asked.cancel:
+            state = cancel_command(database, asked.cancel, time.time(), Publications(config.mqtt, database))
+            print(f"command {asked.cancel} is {state}" + ("; the next session cancels it" if state in ("queued", "sent") else ""))
+            return DONE
+        if not asked.address or not asked.payload:
+            raise Trouble("the command", "it has no METER or no HEX", "`wmbus-service command --help` shows both")
+        ident = asked.id or f"cli-{secrets.token_hex(4)}"
+        is_new = put_command(database, ident, asked.address, asked.payload, time.time())
+    print(f"command {ident} waits" if is_new else f"command {ident} was taken before; nothing is sent again")
+    return DONE
+
+
+def _export(asked: argparse.Namespace) -> int:
+    with _opened(_config(asked)) as database:
+        if asked.state:
+            _write_own(asked.state, [exporting.state(database)])
+        elif asked.lines:
+            _write_own(asked.lines, exporting.lines(database))
+        else:
+            rows = exporting.as_json if asked.json else exporting.as_csv
+            sys.stdout.writelines(rows(database, asked.meter, asked.since))
+    return DONE
+
+
+def _write_own(path: Path, texts: Iterable[str]) -> None:
+    """Writes a new file that its owner alone may read."""
+    try:
+        opened = os.open(path, os.O_WRONLY | os.O_CREAT | os.O_EXCL, 0o600)
+    except FileExistsError:
+        raise Trouble(path, "it is there already", "name a new file") from None
+    with open(opened, "w", encoding="latin-1") as file:
+        file.writelines(texts)
+
+
+def _backup(asked: argparse.Namespace) -> int:
+    size = backup.back_up(_config(asked), asked.file)
+    print(f"{asked.file} has the database as it was now, {size} bytes with the keys: keep it as you keep them")
+    return DONE
+
+
+def _restore(asked: argparse.Namespace) -> int:
+    config = _config(asked)
+    store.prepare_folder(config.folder)
+    if service.is_locked(config.folder):
+        raise Trouble(config.folder, "a service works on this folder", "end it first: systemctl stop wmbus")
+    count = backup.restore(config, asked.file, asked.margin)
+    print(f"restored; downlink counters of {count} meters are {asked.margin} higher, and commands that were open are cancelled")
+    return DONE
+
+
+def _demo(asked: argparse.Namespace) -> int:
+    for number in (signal.SIGTERM, signal.SIGINT):
+        signal.signal(number, signal.default_int_handler)
+    demo.run(Programs(steps=asked.steps), asked.days, None if asked.text else asked.port, lambda words: print(words, flush=True))
+    return DONE

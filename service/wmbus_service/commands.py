@@ -1,0 +1,70 @@
+"""What operators ask for: commands to meters, their cancellation, new second keys. Each has an id of the operator's and is taken once."""
+from __future__ import annotations
+
+import re
+import sqlite3
+
+from .publications import Publications
+from .store import transaction
+from .trouble import Trouble
+
+IDENT = re.compile(r"[A-Za-z0-9_.:-]{1,64}")
+PAYLOAD = re.compile(r"(?:[0-9a-f]{2}){1,94}")
+KEY = re.compile(r"[0-9a-f]{32}")
+OPEN = ("queued", "sent")
+
+
+def put_command(database: sqlite3.Connection, ident: str, address: str, payload: str, now: float) -> bool:
+    """Takes a command for a meter, whose payload goes to it as it is; whether its id is new."""
+    return _put(database, ident, address.lower(), "send", payload_of(ident, payload), now)
+
+
+def put_key(database: sqlite3.Connection, ident: str, address: str, key: str, now: float) -> bool:
+    """Takes a meter's new second key; whether its id is new."""
+    return _put(database, ident, address.lower(), "rekey", key_of(ident, key), now)
+
+
+def payload_of(ident: str, payload: str) -> str:
+    """A command's payload, in lower case."""
+    if not PAYLOAD.fullmatch(payload.lower()):
+        raise Trouble(f"command {ident}", "its payload isn't 1 to 94 bytes in hexadecimal")
+    return payload.lower()
+
+
+def key_of(ident: str, key: str) -> str:
+    """A new key, in lower case."""
+    if not KEY.fullmatch(key.lower()):
+        raise Trouble(f"command {ident}", "the key isn't 32 hexadecimal digits")
+    return key.lower()
+
+
+def judge_ident(ident: str) -> None:
+    """An id that can't be one."""
+    if not IDENT.fullmatch(ident):
+        raise Trouble("the command", "its id isn't 1 to 64 letters, digits and _ . : -")
+
+
+def _put(database: sqlite3.Connection, ident: str, address: str, kind: str, payload: str, now: float) -> bool:
+    judge_ident(ident)
+    if not database.execute("select 1 from meter where address = ?", (address,)).fetchone():
+        raise Trouble(f"command {ident}", f"there is no meter {address}", "`wmbus-service status` lists the meters")
+    added = database.execute("insert or ignore into command (id, address, kind, payload, made, changed) values (?, ?, ?, ?, ?, ?)",
+                             (ident, address, kind, payload, now, now))
+    return bool(added.rowcount)
+
+
+def cancel_command(database: sqlite3.Connection, ident: str, now: float, publications: Publications | None = None) -> str:
+    """Has a command not be sent any more: at once where no session has it yet, else by the next one; the state that it has now."""
+    with transaction(database):
+        row = database.execute("select state from command where id = ?", (ident,)).fetchone()
+        if row is None:
+            raise Trouble(f"command {ident}", "there is no command with this id")
+        if row[0] == "waiting":
+            database.execute("update command set state = 'cancelled', changed = ?,"
+                             " payload = case kind when 'rekey' then '' else payload end where id = ?", (now, ident))
+            if publications:
+                publications.command(ident)
+            return "cancelled"
+        if row[0] in OPEN:
+            database.execute("update command set wish = 'cancel', changed = ? where id = ?", (now, ident))
+        return str(row[0])

@@ -1,0 +1,42 @@
+"""A CUL or another stick with culfw on a serial port: sets it to wireless M-Bus, and prints what it says. culfw DEVICE [MODE]
+
+MODE is brt (T and C), brs (S) or brc (C), as culfw names them. What ends it is the port's end, and the receiver starts it again."""
+from __future__ import annotations
+
+import sys
+
+import serial
+
+SPEED = 38_400
+MODES = ("brt", "brs", "brc")
+
+
+def read(device: str, mode: str) -> None:
+    """Prints the stick's lines until its port ends."""
+    with serial.Serial(device, SPEED, timeout=1) as port:
+        # (X21 has each telegram come with its link quality, which line_feed leaves out)
+        port.write(f"X21\r\n{mode}\r\n".encode())
+        port.flush()
+        gathered = b""
+        while True:
+            gathered += port.read(max(1, port.in_waiting))
+            *lines, gathered = gathered.split(b"\n")
+            for line in lines:
+                sys.stdout.buffer.write(line + b"\n")
+            sys.stdout.buffer.flush()
+
+
+def main(words: list[str]) -> int:
+    """Reads a stick; the exit status."""
+    if not 1 <= len(words) <= 2 or words[1:] and words[1] not in MODES:
+        print(__doc__, file=sys.stderr)
+        return 2
+    try:
+        read(words[0], *words[1:] or ["brt"])
+    except (serial.SerialException, OSError) as fault:
+        print(f"culfw: {words[0]}: {fault}", file=sys.stderr)
+    return 1
+
+
+if __name__ == "__main__":
+    sys.exit(main(sys.argv[1:]))

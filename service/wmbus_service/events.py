@@ -1,0 +1,68 @@
+"""The lines of a session, in their order: what operators asked for, then receivers' lines by their moments, with each meter's tick
+where it was due."""
+from __future__ import annotations
+
+import sqlite3
+from collections.abc import Sequence
+from dataclasses import dataclass
+
+from .config import Config, words_of
+from .merging import merged, moment_in
+from .spool import Spool, Spooled
+
+
+@dataclass(frozen=True)
+class Event:
+    """A line of a session: of a receiver, for a command (by its id), or a meter's tick, with the moment at which it was due."""
+
+    text: str
+    spooled: Spooled | None = None
+    command: str | None = None
+    ticked: str | None = None
+    due: float | None = None
+
+
+def gather(config: Config, database: sqlite3.Connection, spools: Sequence[Spool], now: float, most: int) -> list[Event]:
+    """What is to be heard now, so many lines at most."""
+    asked = asked_for(database)[:most]
+    ticks = due_ticks(database, now)[:most - len(asked)]
+    room = most - len(asked) - len(ticks)
+    # (a line that is left out here is taken by a later session: its place isn't committed)
+    heard = merged([spool.take(database, room) for spool in spools], words_of(config.programs.line_merge))[:room]
+    return asked + with_ticks(heard, ticks)
+
+
+def asked_for(database: sqlite3.Connection) -> list[Event]:
+    """The lines for what operators asked for and no session has heard yet, the oldest first."""
+    rows = database.execute("select id, address, kind, payload, number, state from command where state = 'waiting' or wish = 'cancel'"
+                            " order by rowid")
+    return [Event(order_line(*row), command=ident) for ident, *row in rows]
+
+
+def order_line(address: str, kind: str, payload: str, number: int | None, state: str) -> str:
+    """The line by which a command, as its row has it, is put, or cancelled once the program has it."""
+    if state != "waiting":
+        return f"X {address} {number}"
+    return f"Q {address} {payload}" if kind == "send" else f"K {address} {payload}"
+
+
+def due_ticks(database: sqlite3.Connection, now: float) -> list[tuple[float, str]]:
+    """The meters whose tick is due, and since when."""
+    return database.execute("select due, address from meter where due <= ? order by due, address", (now,)).fetchall()
+
+
+def with_ticks(heard: Sequence[Spooled], ticks: Sequence[tuple[float, str]]) -> list[Event]:
+    """Each tick stands in front of what was heard later than it was due."""
+    events: list[Event] = []
+    waiting, moment = list(ticks), 0
+    for line in heard:
+        moment = moment_in(line.text, moment)
+        while waiting and waiting[0][0] < moment:
+            events.append(_tick(*waiting.pop(0)))
+        events.append(Event(line.text, spooled=line))
+    return events + [_tick(due, address) for due, address in waiting]
+
+
+def _tick(due: float, address: str) -> Event:
+    """A meter's tick."""
+    return Event(f"T {address}", ticked=address, due=due)

@@ -1,0 +1,58 @@
+"""Readings, lines and states out of the database, as texts."""
+from __future__ import annotations
+
+import csv
+import io
+import json
+import sqlite3
+from collections.abc import Iterable, Iterator
+
+from . import store
+from .status import shown
+from .steps import state_text
+from .trouble import Trouble
+
+HEAD = ("moment", "address", "name", "counter", "quantity", "value", "unit", "function", "storage", "tariff", "subunit", "receiver")
+QUERY = ("select moment, reading.address, meter.name, counter, quantity, value, exponent, unit, function, storage, tariff, subunit,"
+         " reading.receiver from record join reading on reading.id = record.reading left join meter on meter.address = reading.address"
+         " where reading.address = coalesce(?, reading.address) and moment >= ? order by reading.id, record.place")
+
+
+def values(database: sqlite3.Connection, address: str | None, since: int) -> Iterator[dict[str, object]]:
+    """The values of all readings, or those of a meter, from a moment on."""
+    for moment, meter, name, counter, quantity, value, exponent, unit, *rest in database.execute(QUERY, (address, since)):
+        yield dict(zip(HEAD, (moment, meter, name or "", counter, quantity, shown(value, exponent), unit, *rest), strict=True))
+
+
+def as_csv(database: sqlite3.Connection, address: str | None, since: int) -> Iterator[str]:
+    """The values as lines of CSV."""
+    yield _csv_line(HEAD)
+    for row in values(database, address, since):
+        yield _csv_line(row.values())
+
+
+def _csv_line(fields: Iterable[object]) -> str:
+    """A line of CSV."""
+    text = io.StringIO()
+    csv.writer(text, lineterminator="\n").writerow(fields)
+    return text.getvalue()
+
+
+def as_json(database: sqlite3.Connection, address: str | None, since: int) -> Iterator[str]:
+    """The values as JSON objects, one a line."""
+    for row in values(database, address, since):
+        yield json.dumps(row, ensure_ascii=False) + "\n"
+
+
+def state(database: sqlite3.Connection) -> str:
+    """What is known of all meters, as the programs read it, with their keys."""
+    own = store.setting(database, "own")
+    if own is None:
+        raise Trouble("the database", "no meter is known yet")
+    return state_text(own, (block for (block,) in database.execute("select block from meter order by place")))
+
+
+def lines(database: sqlite3.Connection) -> Iterator[str]:
+    """All lines that are kept, in the order in which they were committed. Those of new keys have keys."""
+    for (text,) in database.execute("select text from line order by number"):
+        yield f"{text}\n"

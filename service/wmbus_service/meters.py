@@ -1,0 +1,82 @@
+"""The meters that the service knows: how they come into the database, and their line of a roster."""
+from __future__ import annotations
+
+import logging
+import sqlite3
+from collections.abc import Sequence
+from pathlib import Path
+
+from . import store
+from .config import Config, words_of
+from .steps import ProgramFailed, run_steps
+from .trouble import Trouble
+
+log = logging.getLogger("wmbus")
+
+OTHER_PLACE, DOWN_PLACE = 4, 6
+
+
+def count(database: sqlite3.Connection) -> int:
+    """How many meters there are."""
+    (number,) = database.execute("select count(*) from meter").fetchone()
+    return int(number)
+
+
+def set_own(database: sqlite3.Connection, own: str, place: object) -> None:
+    """The collector's own address, which stays what it is: meters know it by their downlinks."""
+    known = store.setting(database, "own")
+    if known is not None and known != own:
+        raise Trouble(place, f"the collector's own address is {own}, and the database has {known}", "write that of the database there")
+    store.set_setting(database, "own", own)
+
+
+def add_meter(database: sqlite3.Connection, fields: list[str], name: str = "") -> bool:
+    """Adds a meter by the fields of its line of a roster of version 2; a known one stays as it is. Whether it is new."""
+    (place,) = database.execute("select coalesce(max(place), 0) + 1 from meter").fetchone()
+    address = fields[1].lower()
+    line = " ".join(field.lower() for field in fields)
+    added = database.execute("insert or ignore into meter (address, place, name, block) values (?, ?, ?, ?)",
+                             (address, place, name, f"{line}\n"))
+    return bool(added.rowcount)
+
+
+def fields_of(line: str) -> list[str]:
+    """The fields of a meter's line of either version, as those of version 2."""
+    fields = line.split(" ")
+    return fields if len(fields) == 8 else [*fields[:OTHER_PLACE], "-", *fields[OTHER_PLACE:]]
+
+
+def meters_in(text: str) -> tuple[str, list[list[str]]]:
+    """The own address and the fields of each meter's line of a roster that the program takes."""
+    told = [line for line in (it.removesuffix("\r") for it in text.split("\n")) if line and not line.startswith("#")]
+    return told[1].split(" ")[1].lower(), [fields_of(line) for line in told[2:]]
+
+
+def judge_roster(program: Sequence[str], text: str, place: object) -> None:
+    """Has the program judge a roster; it names the first faulty line."""
+    try:
+        run_steps(program, text, [])
+    except ProgramFailed as failed:
+        raise Trouble(place, f"the program doesn't take the roster: {failed}",
+                      "`input_check` names all faulty lines, and says what to do") from None
+
+
+def read_roster(path: Path) -> str:
+    """A roster's text, which nobody else may read."""
+    try:
+        store.look_at_rights(path, 0o600)
+        return path.read_text(encoding="latin-1")
+    except OSError as fault:
+        raise Trouble(path, f"the roster can't be read: {fault.strerror}", "name it in the configuration as `roster`") from None
+
+
+def take_roster(config: Config, database: sqlite3.Connection, text: str, place: object) -> int:
+    """Adds a roster's new meters; what is known of the others stays. How many are new."""
+    judge_roster(words_of(config.programs.steps), text, place)
+    own, told = meters_in(text)
+    with store.transaction(database):
+        set_own(database, own, place)
+        added = sum(add_meter(database, fields) for fields in told)
+    if added:
+        log.info("%d new meters of %s", added, place)
+    return added

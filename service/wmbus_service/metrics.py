@@ -1,0 +1,74 @@
+"""Metrics in Prometheus' text format, over HTTP on this machine."""
+from __future__ import annotations
+
+import sqlite3
+import time
+from collections.abc import Iterator
+from typing import TYPE_CHECKING
+
+from prometheus_client import CollectorRegistry, start_http_server
+from prometheus_client.core import CounterMetricFamily, GaugeMetricFamily, Metric
+from prometheus_client.registry import Collector
+
+from . import store
+from .config import Config, Metrics
+
+if TYPE_CHECKING:
+    from .service import Service
+
+COUNTERS = {
+    "lines": "lines of receivers that were heard",
+    "orders": "lines for commands, keys and ticks",
+    "stored": "readings",
+    "part": "fragments that are held",
+    "refused": "refused lines of known meters",
+    "strangers": "lines for meters that aren't known",
+    "unframed": "lines whose bytes are no frame",
+    "bad": "lines outside the grammar",
+    "downlinks": "downlinks made",
+    "aside": "lines at which the program failed",
+    "sessions": "sessions that were committed",
+}
+GAUGES = {
+    "meters": ("meters that are known", "select count(*) from meter"),
+    "publications_waiting": ("messages that the broker hasn't acknowledged", "select count(*) from publication"),
+    "downlinks_waiting": ("downlinks that aren't sent", "select count(*) from outbox where sent is null and missed is null"),
+    "downlinks_missed": ("downlinks that couldn't be sent in time", "select count(*) from outbox where missed is not null"),
+    "commands_open": ("commands that aren't done", "select count(*) from command where state in ('waiting', 'queued', 'sent')"),
+    "windows_open": ("meters whose answer is awaited", "select count(*) from meter where waits is not null"),
+}
+
+
+class Figures(Collector):
+    """What the database and the service say, at each time that it is asked for."""
+
+    def __init__(self, config: Config, service: Service) -> None:
+        self.config, self.service = config, service
+
+    def collect(self) -> Iterator[Metric]:
+        """All metrics."""
+        database = store.open_store(self.config.database)
+        try:
+            yield from self._of(database)
+        finally:
+            database.close()
+
+    def _of(self, database: sqlite3.Connection) -> Iterator[Metric]:
+        totals = dict(database.execute("select name, value from total").fetchall())
+        for name, words in COUNTERS.items():
+            counter = CounterMetricFamily(f"wmbus_{name}", f"{words}, over all starts")
+            counter.add_metric([], totals.get(name, 0))
+            yield counter
+        for name, (words, query) in GAUGES.items():
+            yield GaugeMetricFamily(f"wmbus_{name}", words, value=database.execute(query).fetchone()[0])
+        yield GaugeMetricFamily("wmbus_session_age_seconds", "since the service last looked for lines",
+                                value=time.time() - self.service.session_made)
+        yield GaugeMetricFamily("wmbus_trouble", "1 where sessions stand still, and the log says why",
+                                value=float(bool(self.service.trouble)))
+
+
+def serve(config: Config, told: Metrics, service: Service) -> None:
+    """Shows the metrics."""
+    registry = CollectorRegistry()
+    registry.register(Figures(config, service))
+    start_http_server(told.port, addr=told.host, registry=registry)

@@ -1,0 +1,1 @@
+"""The page that people look at: what the database has, served on this machine."""

@@ -1,0 +1,300 @@
+"""The page's addresses: HTML for people, the same as JSON under /api, readings as CSV."""
+from __future__ import annotations
+
+import logging
+import re
+import secrets
+import sqlite3
+import time
+from collections.abc import Iterator
+from contextlib import closing
+from datetime import datetime
+from hmac import digest
+from typing import Any
+
+from flask import (
+    Blueprint, Flask, Response, abort, current_app, g, jsonify, make_response, redirect, render_template, request, send_file, session,
+)
+from markupsafe import Markup
+from werkzeug.exceptions import HTTPException
+from werkzeug.wrappers import Response as AnyResponse
+
+from .. import store
+from ..config import Config
+from ..tool_modules import FOLDER
+from ..trouble import Trouble
+from . import periods, reading, views
+from .shared import counted, grouped, is_address, time_text, times, zone_text
+
+log = logging.getLogger("wmbus")
+
+pages = Blueprint("pages", __name__)
+# nothing is loaded from elsewhere, nothing is executed, and no other page may show this one within itself
+HEADERS = {
+    "Content-Security-Policy": "default-src 'none'; style-src 'self'; img-src 'self'; form-action 'self'; frame-ancestors 'none';"
+                               " base-uri 'none'",
+    "X-Content-Type-Options": "nosniff", "Referrer-Policy": "same-origin", "Cache-Control": "no-store",
+    "Cross-Origin-Resource-Policy": "same-origin",
+}
+LOCAL_NAMES = {"127.0.0.1", "localhost", "[::1]"}
+MOST_BYTES = 1 << 16
+# after so long the token is asked for again
+ENTERED_SECONDS = 12 * 3600
+LAST_MOMENT = (1 << 63) - 1
+MOST_SHOWN = 200
+WORDS = {
+    400: "The address or the form has something in it that can't be read.",
+    403: "This needs the page's token, or the form has become too old: go back, load the page again, and send it once more.",
+    404: "There is no such page, or no such meter.",
+    405: "This address can't be asked in this way.",
+    413: "What was sent is too long.",
+}
+
+
+def create_app(config: Config, token: str | None = None, is_elsewhere: bool = False) -> Flask:
+    """The page over a configuration's database. Without a token it only reads; elsewhere than on this machine reading needs it too."""
+    app = Flask(__name__)
+    app.config.update(WMBUS=config, TOKEN=token, IS_ELSEWHERE=is_elsewhere, CLOCK=time.time, MAX_CONTENT_LENGTH=MOST_BYTES,
+                      SESSION_COOKIE_NAME="wmbus", PERMANENT_SESSION_LIFETIME=ENTERED_SECONDS,
+                      SESSION_COOKIE_SAMESITE="Strict", SESSION_COOKIE_SECURE=is_elsewhere)
+    # (a new token ends all sessions)
+    app.secret_key = digest(token.encode(), b"sessions of the page", "sha256") if token else secrets.token_bytes(32)
+    app.jinja_options = {"trim_blocks": True, "lstrip_blocks": True}
+    app.jinja_env.filters.update(moment=_moment_text, ago=_ago, grouped=grouped, counted=counted, times=times, html=Markup)
+    app.jinja_env.globals.update(zone=zone_text, may_write=may_write, has_token=lambda: token is not None, forms=_forms_word,
+                                 spans=list(periods.SPANS))
+    app.register_blueprint(pages)
+    from .forms import forms
+    app.register_blueprint(forms)
+    app.before_request(_guard)
+    app.after_request(_with_headers)
+    app.teardown_appcontext(_close)
+    app.register_error_handler(HTTPException, _http_fault)
+    app.register_error_handler(Trouble, _trouble)
+    app.register_error_handler(sqlite3.Error, _database_fault)
+    app.register_error_handler(Exception, _any_fault)
+    return app
+
+
+def config_now() -> tuple[Config, float]:
+    """The configuration and the clock."""
+    config = current_app.config["WMBUS"]
+    assert isinstance(config, Config)
+    return config, float(current_app.config["CLOCK"]())
+
+
+def may_write() -> bool:
+    """Whether who asks has given the token."""
+    return current_app.config["TOKEN"] is not None and bool(session.get("entered"))
+
+
+def database() -> sqlite3.Connection:
+    """The database of this request, for reading."""
+    if "database" not in g:
+        g.database = reading.open_reading(current_app.config["WMBUS"].database)
+    assert isinstance(g.database, sqlite3.Connection)
+    return g.database
+
+
+def _close(_fault: BaseException | None) -> None:
+    opened = g.pop("database", None)
+    if opened is not None:
+        opened.close()
+
+
+def _guard() -> AnyResponse | None:
+    """Another site's name that leads to this machine isn't answered, and elsewhere than on this machine reading needs the token."""
+    if not current_app.config["IS_ELSEWHERE"]:
+        name = re.sub(r":\d+$", "", request.host).lower()
+        if name not in LOCAL_NAMES:
+            raise Worded("This page is served under the names of this machine alone: 127.0.0.1 and localhost.")
+        return None
+    if may_write() or request.endpoint in ("static", "pages.common_style", "forms.enter", "forms.entered"):
+        return None
+    if _is_data():
+        abort(403)
+    return redirect("/enter", 303)
+
+
+def _with_headers(response: Response) -> Response:
+    response.headers.update(HEADERS)
+    return response
+
+
+def _forms_word() -> str:
+    """The word that each form of this session brings, so that none comes from another site."""
+    if "forms" not in session:
+        session["forms"] = secrets.token_urlsafe(24)
+    return str(session["forms"])
+
+
+def _moment_text(moment: float | None) -> str:
+    return str(time_text(None if moment is None else int(moment)))
+
+
+def _ago(moment: float | None) -> str:
+    """How long ago something was."""
+    if moment is None:
+        return "never"
+    seconds = max(0, int(config_now()[1] - moment))
+    for size, one, many in ((86_400, "day", "days"), (3600, "hour", "hours"), (60, "minute", "minutes")):
+        if seconds >= 2 * size:
+            return f"{counted(seconds // size, one, many)} ago"
+    return f"{counted(seconds, 'second', 'seconds')} ago"
+
+
+def _is_data() -> bool:
+    return request.path.startswith("/api/") or request.path.endswith(".csv")
+
+
+def _fault_page(status: int, words: str) -> AnyResponse:
+    """A fault in words, as data where data were asked for."""
+    if _is_data():
+        return make_response(jsonify(error=words), status)
+    return make_response(render_template("fault.html", status=status, words=words), status)
+
+
+def _http_fault(fault: HTTPException) -> AnyResponse:
+    status = fault.code or 500
+    if fault.response is not None or status < 400:
+        return make_response(fault.get_response())
+    return _fault_page(status, fault.words if isinstance(fault, Worded) else WORDS.get(status, "This can't be answered."))
+
+
+class Worded(HTTPException):
+    """A fault of who asked, with its own words."""
+
+    def __init__(self, words: str, status: int = 400) -> None:
+        super().__init__(words)
+        self.words, self.code = words, status
+
+
+def _trouble(trouble: Trouble) -> AnyResponse:
+    return _fault_page(400 if request.method == "POST" else 503, str(trouble))
+
+
+def _database_fault(fault: sqlite3.Error) -> AnyResponse:
+    trouble = store.trouble_of(current_app.config["WMBUS"].database, fault)
+    log.error("the page: %s", trouble)
+    return _fault_page(503, str(trouble))
+
+
+def _any_fault(fault: Exception) -> AnyResponse:
+    log.error("the page: %s at %s", type(fault).__name__, request.path, exc_info=fault)
+    return _fault_page(500, "The page has a fault, which its log tells. The service and its readings aren't touched by it.")
+
+
+@pages.get("/common.css")
+def common_style() -> Response:
+    """What its looks have in common with the page that is a file."""
+    return send_file(FOLDER / "page.css", mimetype="text/css")
+
+
+@pages.get("/")
+def overview() -> str:
+    """What needs a person, then all meters."""
+    config, now = config_now()
+    return render_template("overview.html", **views.overview(config, database(), now))
+
+
+@pages.get("/meters/<address>")
+def meter(address: str) -> str:
+    """A meter."""
+    return render_template("meter.html", most=MOST_SHOWN, **_meter(address))
+
+
+def _meter(address: str) -> dict[str, Any]:
+    span = request.args.get("span", "month")
+    if span not in periods.SPANS:
+        raise Worded(f"A span is one of {', '.join(periods.SPANS)}.")
+    told = views.meter_page(database(), _address(address), span, config_now()[1])
+    return told if told is not None else abort(404)
+
+
+def _address(text: str) -> str:
+    if not is_address(text.lower()):
+        raise Worded("A meter's address has sixteen hexadecimal digits.")
+    return text.lower()
+
+
+@pages.get("/receivers")
+def receivers() -> str:
+    """The receivers."""
+    config, now = config_now()
+    return render_template("receivers.html", **views.receivers_page(config, database(), now))
+
+
+@pages.get("/strangers")
+def strangers() -> str:
+    """The meters that aren't known."""
+    return render_template("strangers.html", **views.strangers_page(database(), config_now()[1]))
+
+
+@pages.get("/api/overview")
+def api_overview() -> Response:
+    """The overview as data."""
+    config, now = config_now()
+    return jsonify(views.overview(config, database(), now))
+
+
+@pages.get("/api/meters")
+def api_meters() -> Response:
+    """All meters with their last values."""
+    now = config_now()[1]
+    return jsonify(now=now, meters=[views.meter_data(it) for it in reading.all_meters(database(), now)])
+
+
+@pages.get("/api/meters/<address>")
+def api_meter(address: str) -> Response:
+    """All of a meter as data."""
+    return jsonify(_meter(address))
+
+
+@pages.get("/api/receivers")
+def api_receivers() -> Response:
+    """The receivers as data."""
+    config, now = config_now()
+    return jsonify(views.receivers_page(config, database(), now))
+
+
+@pages.get("/api/strangers")
+def api_strangers() -> Response:
+    """The meters that aren't known, as data."""
+    return jsonify(views.strangers_page(database(), config_now()[1]))
+
+
+@pages.get("/readings.csv")
+def all_readings() -> Response:
+    """All meters' readings in a span."""
+    return _csv("readings.csv", [it for (it,) in database().execute("select address from meter order by place")])
+
+
+@pages.get("/meters/<address>/readings.csv")
+def meter_readings(address: str) -> Response:
+    """A meter's readings in a span."""
+    known = reading.one_meter(database(), _address(address), config_now()[1])
+    return abort(404) if known is None else _csv(f"{known.address}.csv", [known.address])
+
+
+def _csv(name: str, addresses: list[str]) -> Response:
+    """Readings from a moment or day to another, line by line."""
+    begin, end = _bound("from", 0, 0), _bound("to", LAST_MOMENT, 86_399)
+    path = current_app.config["WMBUS"].database
+
+    def rows() -> Iterator[str]:
+        with closing(reading.open_reading(path)) as opened:
+            yield from views.readings_csv(opened, addresses, begin, end)
+    return Response(rows(), mimetype="text/csv", headers={"Content-Disposition": f'attachment; filename="{name}"'})
+
+
+def _bound(name: str, without: int, of_day: int) -> int:
+    """A bound of a span: seconds since 1970, or a day, of which the last second counts at the end."""
+    text = request.args.get(name, "")
+    if not text:
+        return without
+    if re.fullmatch("[0-9]{1,18}", text, re.ASCII):
+        return int(text)
+    try:
+        return int(datetime.strptime(text, "%Y-%m-%d").timestamp()) + of_day
+    except (ValueError, OverflowError):
+        raise Worded(f"`{name}` is a day as 2026-01-31, or a number of seconds since 1970.") from None

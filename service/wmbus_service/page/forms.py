@@ -1,0 +1,119 @@
+"""What may be done over the page by who has its token: commands are queued and cancelled, and strangers become meters."""
+from __future__ import annotations
+
+import re
+import secrets
+import sqlite3
+from contextlib import closing
+from hmac import compare_digest
+from urllib.parse import urlsplit
+
+from flask import Blueprint, abort, current_app, flash, redirect, render_template, request, session
+from werkzeug.wrappers import Response
+
+from .. import meters, store
+from ..commands import KEY, cancel_command, put_command
+from ..importing import ADDRESS
+from ..publications import Publications
+from ..trouble import Trouble
+from .app import Worded, config_now, may_write
+
+forms = Blueprint("forms", __name__)
+MODES = ("5", "7")
+MOST_NAME = 80
+
+
+@forms.before_request
+def guard() -> None:
+    """A form comes from this page alone, and what changes something from who has the token."""
+    if request.method != "POST":
+        return
+    origin = request.headers.get("Origin")
+    if origin is not None and urlsplit(origin).netloc != request.host:
+        abort(403)
+    if request.headers.get("Sec-Fetch-Site", "same-origin") not in ("same-origin", "none"):
+        abort(403)
+    if not compare_digest(_field("forms").encode(), str(session.get("forms") or secrets.token_hex()).encode()):
+        abort(403)
+    if request.endpoint != "forms.entered" and not may_write():
+        abort(403)
+
+
+def _field(name: str) -> str:
+    return request.form.get(name, "").strip()
+
+
+def _opened() -> closing[sqlite3.Connection]:
+    return closing(store.open_store(config_now()[0].database))
+
+
+@forms.get("/enter")
+def enter() -> str:
+    """Asks for the token."""
+    if current_app.config["TOKEN"] is None:
+        abort(404)
+    return render_template("enter.html")
+
+
+@forms.post("/enter")
+def entered() -> Response:
+    """Takes the token."""
+    token = current_app.config["TOKEN"]
+    if token is None or not compare_digest(_field("token").encode(), token.encode()):
+        raise Worded("This isn't the token.", 403)
+    session["entered"] = session.permanent = True
+    return redirect("/", 303)
+
+
+@forms.post("/leave")
+def leave() -> Response:
+    """Forgets that the token was given."""
+    session.clear()
+    return redirect("/", 303)
+
+
+@forms.post("/meters/<address>/commands")
+def queue(address: str) -> Response:
+    """Has a command sent to a meter once it listens."""
+    if not ADDRESS.fullmatch(address):
+        raise Worded("A meter's address has sixteen hexadecimal digits.")
+    ident = _field("id") or f"page-{secrets.token_hex(4)}"
+    with _opened() as database:
+        is_new = put_command(database, ident, address, re.sub(r"\s", "", _field("payload")), config_now()[1])
+    flash(f"Command {ident} waits for the next session." if is_new else f"Command {ident} was taken before; nothing is sent again.")
+    return redirect(f"/meters/{address}", 303)
+
+
+@forms.post("/meters/<address>/commands/cancel")
+def cancel(address: str) -> Response:
+    """Has a command not be sent any more."""
+    config, now = config_now()
+    ident = _field("id")
+    with _opened() as database:
+        if not database.execute("select 1 from command where id = ? and address = ?", (ident, address)).fetchone():
+            raise Worded("This meter has no such command.")
+        state = cancel_command(database, ident, now, Publications(config.mqtt, database))
+    flash(f"The next session cancels command {ident}." if state in ("queued", "sent") else f"Command {ident} is {state}.")
+    return redirect(f"/meters/{address}", 303)
+
+
+@forms.post("/strangers/add")
+def add() -> Response:
+    """Makes a stranger a meter, by the key that its owner has of its maker."""
+    address, mode, key = _field("address").lower(), _field("mode"), re.sub(r"\s", "", _field("key")).lower()
+    if not ADDRESS.fullmatch(address) or mode not in MODES:
+        raise Worded("A meter's address has sixteen hexadecimal digits, and its security mode is 5 or 7.")
+    if not KEY.fullmatch(key):
+        raise Worded("A key has 32 hexadecimal digits.")
+    name = "".join(letter for letter in _field("name") if letter.isprintable())[:MOST_NAME]
+    config = config_now()[0]
+    with _opened() as database:
+        own = store.setting(database, "own")
+        if own is None:
+            raise Trouble("the meter", "the collector's own address isn't known", "add the first meter by `wmbus-service add --own`")
+        text = f"wmbus-roster 2\nown {own}\nmeter {address} {mode} {key} - - 0 0\n"
+        if not meters.take_roster(config, database, text, f"meter {address}"):
+            raise Worded("This meter is known already; its key stays as it is.")
+        database.execute("update meter set name = ? where address = ?", (name, address))
+    flash(f"{name or address} was added. What it sends from now on is read.")
+    return redirect(f"/meters/{address}", 303)

@@ -1,0 +1,225 @@
+"""What the pages show, out of the database, which is only read, and of which what has keys can't be read at all."""
+from __future__ import annotations
+
+import sqlite3
+from collections.abc import Iterator, Sequence
+from dataclasses import dataclass, replace
+from decimal import Decimal
+from pathlib import Path
+from typing import Any
+
+from .. import store
+from ..sensors import NUMBER
+from ..trouble import Trouble
+from .shared import GRACE, NAMES, PREFIXED, Register, is_number, is_time, label_of, maker_of, prefix_for, type_of
+
+# columns that have keys or what was made with them
+KEYED = {("meter", "block"), ("outbox", "frame")}
+PATIENCE = 2.0
+# in so many of a meter's last readings its registers are looked for, and so many values of these
+MOST_READINGS, MOST_VALUES = 200, 20_000
+# readings are looked through for the last value of overviews
+FEW_READINGS = 5
+# powers of ten by which a number is shown with all its digits
+MOST_POWER = 60
+FIRST_ALWAYS = "function = 'instantaneous' and storage = 0 and tariff = 0 and subunit = 0"
+
+
+def open_reading(path: Path) -> sqlite3.Connection:
+    """Opens the database for reading alone."""
+    if not path.exists():
+        raise Trouble(path, "there is no database yet", "`wmbus-service add` or `wmbus-service run` makes it")
+    store.look_at_rights(path, 0o600)
+    database = sqlite3.connect(path, timeout=PATIENCE, isolation_level=None, check_same_thread=False)
+    database.execute("pragma query_only = on")
+    database.set_authorizer(_allowed)
+    return database
+
+
+def _allowed(action: int, first: str | None, second: str | None, _base: str | None, _inner: str | None) -> int:
+    is_keyed = action == sqlite3.SQLITE_READ and (first, second) in KEYED
+    return sqlite3.SQLITE_DENY if is_keyed else sqlite3.SQLITE_OK
+
+
+@dataclass(frozen=True)
+class Value:
+    """A register's value, when it was heard, and the number by which its unit's prefix is chosen."""
+
+    register: Register
+    number: str
+    raw: str
+    heard: float
+    greatest: Decimal | None = None
+
+    @property
+    def rank(self) -> tuple[bool, int]:
+        """Its register's place among those of a meter."""
+        is_other, place = self.register.rank
+        return bool(is_other), int(place)
+
+    @property
+    def size(self) -> Decimal:
+        """How great it is, where it is a number whose unit takes prefixes."""
+        return abs(Decimal(self.number)) if self.register.unit in PREFIXED and is_number(self.number) else Decimal(0)
+
+    @property
+    def text(self) -> str:
+        """As a person reads it."""
+        prefix = prefix_for(self.size if self.greatest is None else self.greatest) if self.size else ("", 0)
+        return str(self.register.text(self.number, prefix, self.raw))
+
+
+@dataclass(frozen=True)
+class Meter:
+    """A meter: its name, its last reading, and what says most of it."""
+
+    address: str
+    name: str
+    receiver: str | None
+    heard: float | None
+    counter: int | None
+    main: Value | None
+
+    @property
+    def title(self) -> str:
+        """What it is called: its name, else its label."""
+        return self.name or str(label_of(self.address))
+
+    @property
+    def about(self) -> str:
+        """Its label, where it has a name, and its device type."""
+        return ", ".join([str(label_of(self.address))] * bool(self.name) + [str(type_of(self.address))])
+
+
+def maker(address: str) -> str:
+    """The three letters of a meter's maker, where it has such."""
+    return str(maker_of(address) or "unknown")
+
+
+def heard_at(moment: int, made: float, now: float) -> float:
+    """When a reading was heard: by its receiver's clock, where that one has a time that isn't after now; else when it was written."""
+    return moment if is_time(moment) and moment <= now + GRACE else made
+
+
+def exact(value: str, exponent: int) -> str:
+    """A value with its power of ten, with all its digits; one with too many zeros has the power behind it."""
+    if not NUMBER.fullmatch(value):
+        return value
+    if abs(exponent) > MOST_POWER:
+        return f"{value} × 10^{exponent}"
+    return f"{Decimal(f'{value}E{exponent}'):f}"
+
+
+def all_meters(database: sqlite3.Connection, now: float) -> list[Meter]:
+    """All meters, in the order in which they were added."""
+    rows = database.execute("select address, name, receiver from meter order by place").fetchall()
+    return [_meter(database, row, now) for row in rows]
+
+
+def one_meter(database: sqlite3.Connection, address: str, now: float) -> Meter | None:
+    """The meter of an address, if it is known."""
+    row = database.execute("select address, name, receiver from meter where address = ?", (address.lower(),)).fetchone()
+    return _meter(database, row, now) if row else None
+
+
+def _meter(database: sqlite3.Connection, row: tuple[str, str, str | None], now: float) -> Meter:
+    last = _last_readings(database, row[0], now, FEW_READINGS)
+    if not last:
+        return Meter(*row, heard=None, counter=None, main=None)
+    _, moment, made, counter = last[0]
+    return Meter(*row, heard=heard_at(moment, made, now), counter=counter, main=_main_value(database, last, now))
+
+
+def _last_readings(database: sqlite3.Connection, address: str, now: float, most: int) -> list[tuple[int, int, float, int]]:
+    """A meter's last readings, the last one first; those of a clock that is ahead only where there are no others."""
+    query = "select id, moment, made, counter from reading where address = ? and moment <= ? order by moment desc, id desc limit ?"
+    for until in (int(now) + GRACE, (1 << 63) - 1):
+        found = database.execute(query, (address, until, most)).fetchall()
+        if found:
+            return found
+    return []
+
+
+def _main_value(database: sqlite3.Connection, readings: list[tuple[int, int, float, int]], now: float) -> Value | None:
+    """Of a meter's last values the one that says most."""
+    for ident, moment, made, _ in readings:
+        rows = database.execute(f"select quantity, unit, exponent, value, raw from record where reading = ? and {FIRST_ALWAYS}"
+                                " order by place limit 100", (ident,))
+        found = [Value(Register(quantity, unit), exact(value, exponent), raw, heard_at(moment, made, now))
+                 for quantity, unit, exponent, value, raw in rows if quantity not in NAMES and NUMBER.fullmatch(value)]
+        if found:
+            return min(found, key=lambda it: it.rank)
+    return None
+
+
+def last_values(database: sqlite3.Connection, address: str, now: float) -> list[Value]:
+    """The last value of each of a meter's registers, the main ones first."""
+    found: dict[Register, Value] = {}
+    count = 0
+    for ident, moment, made, _ in _last_readings(database, address, now, MOST_READINGS):
+        rows = database.execute("select quantity, unit, function, storage, tariff, subunit, exponent, value, raw from record"
+                                " where reading = ? order by place limit ?", (ident, MOST_VALUES)).fetchall()
+        for *kind, exponent, value, raw in rows:
+            register = Register(*kind)
+            if register not in found:
+                found[register] = Value(register, exact(value, exponent), raw, heard_at(moment, made, now))
+        count += len(rows)
+        if count > MOST_VALUES:
+            break
+    greatest: dict[str, Decimal] = {}
+    for it in found.values():
+        greatest[it.register.unit] = max(greatest.get(it.register.unit, Decimal(0)), it.size)
+    shown = [replace(it, greatest=greatest[it.register.unit]) for it in found.values()]
+    return sorted(shown, key=lambda it: (*it.rank, it.register.storage))
+
+
+POINT = ("select moment, exponent, value from reading cross join record on record.reading = reading.id"
+         " where address = ? and moment >= ? and moment < ? and quantity = ? and unit = ? and function = ? and storage = ?"
+         " and tariff = ? and subunit = ? order by moment desc limit 1")
+
+
+def points_of(database: sqlite3.Connection, address: str, register: Register, bounds: Sequence[int]) -> Iterator[tuple[int, None, str]]:
+    """The last value in each stretch between bounds, where there is one."""
+    kind = (register.quantity, register.unit, register.function, register.storage, register.tariff, register.subunit)
+    for begin, end in zip(bounds, bounds[1:], strict=False):
+        row = database.execute(POINT, (address, begin, end, *kind)).fetchone()
+        if row and NUMBER.fullmatch(row[2]) and abs(row[1]) <= MOST_POWER:
+            yield row[0], None, exact(row[2], row[1])
+
+
+def day_values(database: sqlite3.Connection, address: str, register: Register) -> Iterator[tuple[str, str]]:
+    """The last values of days whose readings are gone: day and number."""
+    rows = database.execute("select day, exponent, value from daily where address = ? and quantity = ? and unit = ? and function = ?"
+                            " and storage = ? and tariff = ? and subunit = ? order by day",
+                            (address, register.quantity, register.unit, register.function, register.storage, register.tariff,
+                             register.subunit))
+    for day, exponent, value in rows:
+        if NUMBER.fullmatch(value) and abs(exponent) <= MOST_POWER:
+            yield day, exact(value, exponent)
+
+
+def rows_of(database: sqlite3.Connection, query: str, given: Sequence[object] = ()) -> list[dict[str, Any]]:
+    """Rows with the names of their columns."""
+    asked = database.execute(query, given)
+    names = [column[0] for column in asked.description]
+    return [dict(zip(names, row, strict=True)) for row in asked]
+
+
+def commands_of(database: sqlite3.Connection, address: str | None = None, most: int = 50) -> list[dict[str, Any]]:
+    """A meter's commands, or all, the last ones first; those of new keys without the key."""
+    return rows_of(database, "select id, address, kind, case kind when 'send' then payload else '' end as payload, state, number, tries,"
+                             " reason, wish, made, changed from command where address = coalesce(?, address) order by rowid desc limit ?",
+                   (address, most))
+
+
+def refusals_of(database: sqlite3.Connection, address: str) -> list[dict[str, Any]]:
+    """Why telegrams of a meter were refused, what came last first."""
+    return rows_of(database, "select address, reason, words, times, last_made from refusal where address = ? order by last_made desc",
+                   (address,))
+
+
+def strangers(database: sqlite3.Connection, most: int = 200) -> list[dict[str, Any]]:
+    """Meters that aren't known, those that were heard most first."""
+    found = rows_of(database, "select address, times, receiver, last_made from stranger where address not in (select address from meter)"
+                              " order by times desc, address limit ?", (most,))
+    return [row | {"label": label_of(row["address"]), "maker": maker(row["address"]), "type": type_of(row["address"])} for row in found]

@@ -1,0 +1,112 @@
+"""Serves the page: on this machine alone as it is, elsewhere with TLS and a token."""
+from __future__ import annotations
+
+import ipaddress
+import logging
+import os
+import signal
+from pathlib import Path
+from types import FrameType
+from typing import Any
+
+from .. import store
+from ..config import Config, Page
+from ..memory_files import leave_no_core
+from ..trouble import Trouble
+from .app import create_app
+
+log = logging.getLogger("wmbus")
+
+LEAST_TOKEN = 24
+THREADS = 4
+
+
+def is_local(host: str) -> bool:
+    """Whether an address is this machine's own, which no other machine reaches."""
+    try:
+        return host == "localhost" or ipaddress.ip_address(host).is_loopback
+    except ValueError:
+        return False
+
+
+def read_token(page: Page) -> str | None:
+    """The token, out of a file that its owner alone may read; none where none is named."""
+    if not page.token_file:
+        return None
+    path = Path(page.token_file)
+    try:
+        store.look_at_rights(path, 0o600)
+        token = path.read_text(encoding="utf-8").strip()
+    except (OSError, UnicodeDecodeError) as fault:
+        raise Trouble(path, f"the page's token can't be read: {fault}", "name its file in the configuration as page.token_file") from None
+    if len(token) < LEAST_TOKEN:
+        raise Trouble(path, f"the page's token has {len(token)} signs, and {LEAST_TOKEN} are the fewest", f"openssl rand -hex 16 > {path}")
+    return token
+
+
+def look_at_page(page: Page) -> str | None:
+    """The token; an error where the page would be open to others."""
+    token = read_token(page)
+    if not is_local(page.host) and not (page.certificate and page.key):
+        raise Trouble(f"page.host {page.host or '(all)'}", "others reach it there, and without TLS they read along",
+                      "name page.certificate and page.key, or 127.0.0.1")
+    if not is_local(page.host) and token is None:
+        raise Trouble(f"page.host {page.host or '(all)'}", "others reach it there, and it has no token",
+                      "name page.token_file, or 127.0.0.1")
+    return token
+
+
+def run(config: Config) -> None:
+    """Serves the page until the process ends."""
+    os.umask(0o077)
+    leave_no_core()
+    page = config.page or Page()
+    token = look_at_page(page)
+    # (a database of an earlier version becomes one of this)
+    store.open_store(config.database).close()
+    signal.signal(signal.SIGTERM, _end)
+    app = create_app(config, token, is_elsewhere=not is_local(page.host))
+    log.info("the page is at %s://%s:%d/", "https" if page.certificate else "http", page.host, page.port)
+    try:
+        if page.certificate:
+            _serve_with_tls(app, page)
+        else:
+            plain_server(app, page).run()
+    except OSError as fault:
+        raise _unserved(page, fault) from None
+
+
+def plain_server(app: object, page: Page) -> Any:
+    """A server without TLS, which holds its port already."""
+    import waitress
+    try:
+        return waitress.create_server(app, host=page.host, port=page.port, threads=THREADS, ident=None)
+    except OSError as fault:
+        raise _unserved(page, fault) from None
+
+
+def _unserved(page: Page, fault: OSError) -> Trouble:
+    return Trouble(f"page.host {page.host} and page.port {page.port}", f"the page can't be served: {fault.strerror}",
+                   "name another port, or end what uses this one")
+
+
+def _end(_number: int, _frame: FrameType | None) -> None:
+    raise KeyboardInterrupt
+
+
+def _serve_with_tls(app: object, page: Page) -> None:
+    """Serves it with TLS."""
+    try:
+        from cheroot.ssl.builtin import BuiltinSSLAdapter
+        from cheroot.wsgi import Server
+    except ImportError:
+        raise Trouble("page.certificate", "TLS needs cheroot, which isn't there", "apt-get install python3-cheroot") from None
+    try:
+        server = Server((page.host, page.port), app, numthreads=THREADS, server_name="wmbus")
+        server.ssl_adapter = BuiltinSSLAdapter(page.certificate, page.key)
+    except OSError as fault:
+        raise Trouble(page.certificate, f"TLS can't be begun: {fault}", "look at page.certificate and page.key") from None
+    try:
+        server.start()
+    finally:
+        server.stop()

@@ -1,0 +1,107 @@
+"""Each page's contents as data, from which its HTML and its JSON are made."""
+from __future__ import annotations
+
+import csv
+import io
+import sqlite3
+from collections.abc import Iterator
+from dataclasses import asdict
+from typing import Any
+
+from ..config import Config
+from ..exporting import HEAD
+from . import looks, periods, radios
+from .reading import (
+    Meter, Value, all_meters, commands_of, exact, last_values, one_meter, refusals_of, rows_of, strangers,
+)
+
+MOST_LOOKS, MOST_SHOWN = 100, 200
+
+
+def meter_data(meter: Meter) -> dict[str, Any]:
+    """A meter as data."""
+    told = {"address": meter.address, "name": meter.name, "title": meter.title, "about": meter.about, "receiver": meter.receiver,
+            "heard": meter.heard, "counter": meter.counter}
+    return told | {"main": value_data(meter.main) if meter.main else None}
+
+
+def register_data(register: Any) -> dict[str, Any]:
+    """A register as data: what the database has of it."""
+    return {name: getattr(register, name) for name in ("quantity", "unit", "function", "storage", "tariff", "subunit")}
+
+
+def value_data(value: Value) -> dict[str, Any]:
+    """A register's value as data, its number exactly as text."""
+    register = value.register
+    return register_data(register) | {"value": value.number, "raw": value.raw, "heard": value.heard, "text": value.text,
+                                      "title": register.name, "of_what": register.of_what}
+
+
+def overview(config: Config, database: sqlite3.Connection, now: float) -> dict[str, Any]:
+    """What needs a person first, then all meters."""
+    meters = all_meters(database, now)
+    found = looks.all_looks(config, database, meters, radios.receivers(config, database, now), now)
+    kinds: dict[str, tuple[str, str]] = {}
+    for look in reversed(found):
+        if look.link.startswith("/meters/"):
+            kinds[look.link.removeprefix("/meters/")] = look.kind, look.what
+    totals = dict(database.execute("select name, value from total").fetchall())
+    (waiting,) = database.execute("select count(*) from command where state in ('waiting', 'queued', 'sent')").fetchone()
+    return {"now": now, "looks": [vars(look) for look in found],
+            "meters": [meter_data(meter) | {"look": kinds.get(meter.address)} for meter in meters],
+            "totals": {"lines": totals.get("lines", 0), "stored": totals.get("stored", 0), "commands": waiting,
+                       "read": sum(it.heard is not None for it in meters)}}
+
+
+def meter_page(database: sqlite3.Connection, address: str, span: str, now: float) -> dict[str, Any] | None:
+    """All of a meter, if it is known."""
+    meter = one_meter(database, address, now)
+    if meter is None:
+        return None
+    values = last_values(database, meter.address, now)
+    refusals = refusals_of(database, meter.address)
+    used = []
+    for register in [it.register for it in values if it.register.rises][:4]:
+        rows = {by: [asdict(row) for row in periods.used_rows(database, meter.address, register, by, now)] for by in periods.PERIODS}
+        if any(rows.values()):
+            used.append({"register": register_data(register), "title": register.title, "by": rows})
+    drawn = periods.curves_of(database, meter.address, values, span, now)
+    return {"now": now, "meter": meter_data(meter), "looks": [asdict(it) for it in looks.meter_looks(meter, refusals, now)],
+            "values": [value_data(it) for it in values], "used": used, "span": span,
+            "curves": [asdict(it) | {"told": it.told} for it in drawn],
+            "refusals": [row | asdict(looks.explained(row["words"])) for row in refusals],
+            "commands": [row | {"words": looks.STATES[row["state"]]} for row in commands_of(database, meter.address)]}
+
+
+def receivers_page(config: Config, database: sqlite3.Connection, now: float) -> dict[str, Any]:
+    """The receivers, and the lines that were set aside."""
+    found = radios.receivers(config, database, now, with_frames=True)
+    told = [asdict(it) | {"looks": [asdict(look) for look in looks.radio_looks(it, now)]} for it in found]
+    totals = dict(database.execute("select name, value from total").fetchall())
+    aside = rows_of(database, "select id, receiver, said, made from aside order by id desc limit 100")
+    return {"now": now, "receivers": told, "totals": totals, "aside": aside}
+
+
+def strangers_page(database: sqlite3.Connection, now: float) -> dict[str, Any]:
+    """The meters that aren't known."""
+    return {"now": now, "strangers": strangers(database)}
+
+
+READINGS = ("select moment, reading.address, meter.name, counter, quantity, value, exponent, unit, function, storage, tariff, subunit,"
+            " reading.receiver from reading cross join record on record.reading = reading.id"
+            " left join meter on meter.address = reading.address"
+            " where reading.address = ? and moment >= ? and moment <= ? order by moment, reading.id, record.place")
+
+
+def readings_csv(database: sqlite3.Connection, addresses: list[str], begin: int, end: int) -> Iterator[str]:
+    """The values of some meters' readings in a span, as lines of CSV."""
+    yield _csv_line(HEAD)
+    for address in addresses:
+        for moment, meter, name, counter, quantity, value, exponent, *rest in database.execute(READINGS, (address, begin, end)):
+            yield _csv_line((moment, meter, name or "", counter, quantity, exact(value, exponent), *rest))
+
+
+def _csv_line(fields: tuple[object, ...]) -> str:
+    text = io.StringIO()
+    csv.writer(text, lineterminator="\n").writerow(fields)
+    return text.getvalue()

@@ -1,0 +1,80 @@
+"""Messages for MQTT, as rows that a session commits with what they say; they are published behind the commit."""
+from __future__ import annotations
+
+import json
+import sqlite3
+from typing import Any
+
+from .config import Mqtt
+from .sensors import Kind, kind_of, name_of, shown
+
+
+class Publications:
+    """The rows of messages; none where there is no broker."""
+
+    def __init__(self, mqtt: Mqtt | None, database: sqlite3.Connection) -> None:
+        self.mqtt, self.database = mqtt, database
+        # of this session: sensors that were looked up
+        self.known: set[tuple[str, str]] = set()
+
+    def reading(self, line: int, said: dict[str, Any]) -> None:
+        """A meter's values of now, and once for each value the sensor that shows it."""
+        if self.mqtt is None:
+            return
+        values: dict[str, str] = {}
+        for record in said["records"]:
+            kind = kind_of(said["address"], record)
+            text = shown(record, kind) if kind else None
+            if kind is None or text is None or name_of(record) in values:
+                continue
+            values[name_of(record)] = text
+            self._announce(said["address"], record, kind)
+        members = [f'"moment":{said["at"]}', f'"counter":{said["counter"]}', f'"line":{line}']
+        members += [f'"{name}":{text}' for name, text in values.items()]
+        self._put(f"{self.mqtt.topic}/meter/{said['address']}", "{" + ",".join(members) + "}", True)
+
+    def command(self, ident: str) -> None:
+        """A command's state."""
+        if self.mqtt is None:
+            return
+        row = self.database.execute("select address, state, tries, reason from command where id = ?", (ident,)).fetchone()
+        told = dict(zip(("address", "state", "tries", "reason"), row, strict=True)) | {"id": ident}
+        self._put(f"{self.mqtt.topic}/commands/{row[0]}", json.dumps(told, sort_keys=True), False)
+
+    def refuse(self, address: str, words: str) -> None:
+        """Why a message that came in can't be taken."""
+        if self.mqtt is not None:
+            self._put(f"{self.mqtt.topic}/commands/{address}", json.dumps({"error": words}), False)
+
+    def _announce(self, address: str, record: dict[str, Any], kind: Kind) -> None:
+        """Tells Home Assistant of a sensor, once."""
+        assert self.mqtt is not None
+        name = name_of(record)
+        if (address, name) in self.known:
+            return
+        self.known.add((address, name))
+        if not self.database.execute("insert or ignore into announced values (?, ?)", (address, name)).rowcount:
+            return
+        (label,) = self.database.execute("select name from meter where address = ?", (address,)).fetchone()
+        self._put(f"{self.mqtt.discovery}/sensor/wmbus_{address}/{name}/config",
+                  json.dumps(sensor(self.mqtt, address, label or address, record, kind), sort_keys=True, ensure_ascii=False), True)
+
+    def _put(self, topic: str, payload: str, retain: bool) -> None:
+        self.database.execute("insert into publication (topic, payload, retain) values (?, ?, ?)", (topic, payload, retain))
+
+
+def sensor(mqtt: Mqtt, address: str, label: str, record: dict[str, Any], kind: Kind) -> dict[str, Any]:
+    """A sensor as Home Assistant's MQTT discovery takes it."""
+    name = name_of(record)
+    told: dict[str, Any] = {
+        "name": name.replace("_", " "), "unique_id": f"wmbus_{address}_{name}", "object_id": f"wmbus_{address}_{name}",
+        "state_topic": f"{mqtt.topic}/meter/{address}", "value_template": "{{ value_json." + name + " }}",
+        "availability_topic": f"{mqtt.topic}/status",
+        "device": {"identifiers": [f"wmbus_{address}"], "name": label, "serial_number": address},
+        "origin": {"name": "wmbus"},
+    }
+    members = {"unit_of_measurement": kind.unit, "device_class": kind.device, "state_class": kind.state}
+    told |= {member: value for member, value in members.items() if value is not None}
+    if name != record["quantity"]:
+        told["enabled_by_default"] = False
+    return told

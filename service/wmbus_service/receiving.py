@@ -1,0 +1,152 @@
+"""A receiver: what a radio prints goes through line_feed into a file of the spool, without the service's doing. It outlives the
+service."""
+from __future__ import annotations
+
+import fcntl
+import logging
+import os
+import re
+import resource
+import shlex
+import signal
+import subprocess
+import time
+from contextlib import suppress
+from pathlib import Path
+from types import FrameType
+
+from .config import Config, Receiver, words_of
+from .spool import sync
+from .store import prepare_folder
+from .trouble import Trouble
+
+log = logging.getLogger("wmbus")
+
+PAUSE, LOOK, GRACE = 2.0, 60.0, 5.0
+# of each file's writer; the next one begins a new file
+MOST_BYTES = 64 << 20
+NUMBER = re.compile(r"\.(\d+)\.\d+\.lines$")
+# of each profile: the command, and the format in which line_feed takes what it prints
+PROFILES = {
+    "rtl_433": ("rtl_433 -f 868.95M -s 1200k -R 104 -F json -M time:unix", "rtl_433"),
+    "rtl_wmbus": ("rtl_sdr -f 868.95M -s 1600000 - | env TZ=UTC rtl_wmbus", "rtl_wmbus"),
+    "cul": ("{python} -m wmbus_service.culfw {device}", "cul"),
+    "tcp": ("{python} -m wmbus_service.tcp {host} {port}", "{format}"),
+    "file": ("cat {file}; sleep infinity", "{format}"),
+}
+
+
+def feed_of(name: str, told: Receiver) -> tuple[str, str]:
+    """The command and the format of a receiver."""
+    command, form = told.command, told.format
+    if told.profile:
+        if told.profile not in PROFILES:
+            raise Trouble(f"receivers.{name}.profile", f"{told.profile} is no profile", f"there are {', '.join(PROFILES)}")
+        command, known = PROFILES[told.profile]
+        named = {"device": told.device, "host": told.host, "port": str(told.port or ""), "file": told.file, "format": form}
+        lacking = [word for word, value in named.items() if "{" + word + "}" in command + known and not value]
+        if lacking:
+            raise Trouble(f"receivers.{name}", f"the profile {told.profile} wants `{lacking[0]}`")
+        quoted = {word: shlex.quote(value) for word, value in named.items()}
+        command, form = command.format(python="/usr/bin/python3", **quoted), known.format(**named)
+    if not command or not form:
+        raise Trouble(f"receivers.{name}", "it has neither a profile nor a command with its format", "docs/SERVICE.md has examples")
+    return command, form
+
+
+def new_file(spool: Path, name: str) -> int:
+    """Makes the receiver's next file, whose writers hold a lock on it as long as one of them lives."""
+    numbers = [int(found[1]) for path in spool.glob(f"{name}.*.lines") if (found := NUMBER.search(path.name))]
+    path = spool / f"{name}.{max(numbers, default=0) + 1:08d}.{time.time_ns()}.lines"
+    opened = os.open(path, os.O_WRONLY | os.O_CREAT | os.O_EXCL | os.O_APPEND | os.O_CLOEXEC, 0o600)
+    fcntl.flock(opened, fcntl.LOCK_EX | fcntl.LOCK_NB)
+    folder = os.open(spool, os.O_RDONLY)
+    sync(folder)
+    os.close(folder)
+    return opened
+
+
+def spooled_bytes(spool: Path) -> int:
+    """How many bytes wait in the spool."""
+    return sum(path.stat().st_size for path in spool.glob("*.lines"))
+
+
+class Receiving:
+    """A receiver's feed, which is started again where it ends."""
+
+    def __init__(self, config: Config, name: str) -> None:
+        self.config, self.name = config, name
+        self.command, self.form = feed_of(name, config.receivers[name])
+        self.running: list[subprocess.Popen[bytes]] = []
+        self.is_ending = False
+
+    def run(self) -> None:
+        """Feeds the spool until it gets SIGTERM or SIGINT."""
+        def end(_number: int, _frame: FrameType | None) -> None:
+            # (who waits for the feed's end sees it then, and cleans up)
+            self.is_ending = True
+            self._signal(signal.SIGTERM)
+
+        for number in (signal.SIGTERM, signal.SIGINT):
+            signal.signal(number, end)
+        prepare_folder(self.config.folder)
+        was_full = False
+        while not self.is_ending:
+            if spooled_bytes(self.config.spool) >= self.config.spool_bytes:
+                if not was_full:
+                    log.error("%s: the spool is full, and nothing is heard until sessions have taken lines from it", self.name)
+                was_full = True
+                time.sleep(LOOK)
+                continue
+            was_full = False
+            log.info("%s: %s | line_feed %s", self.name, self.command, self.form)
+            self._feed()
+            if not self.is_ending:
+                log.warning("%s: its feed ended, and is started again", self.name)
+                time.sleep(PAUSE)
+
+    def _feed(self) -> None:
+        """One feed to its end, into a file of its own."""
+        opened = new_file(self.config.spool, self.name)
+        try:
+            radio = subprocess.Popen(["/bin/sh", "-c", self.command], stdin=subprocess.DEVNULL, stdout=subprocess.PIPE, env=environment(),
+                                     start_new_session=True)
+            words = [*words_of(self.config.programs.line_feed), self.form]
+            self.running = [radio]
+            self.running.append(subprocess.Popen(words, stdin=radio.stdout, stdout=opened, start_new_session=True, preexec_fn=limit_file))
+            assert radio.stdout is not None
+            radio.stdout.close()
+        except OSError as fault:
+            self._end_feed()
+            raise Trouble(f"receivers.{self.name}", f"line_feed can't be started: {fault.strerror}", "name it under [programs]") from None
+        finally:
+            os.close(opened)
+        self.running[1].wait()
+        self._end_feed()
+
+    def _end_feed(self) -> None:
+        """Ends what this receiver started."""
+        self._signal(signal.SIGTERM)
+        for child in self.running:
+            try:
+                child.wait(GRACE)
+            except subprocess.TimeoutExpired:
+                self._signal(signal.SIGKILL)
+                child.wait()
+
+    def _signal(self, number: int) -> None:
+        """Sends a signal to all that still runs of the feed."""
+        for child in self.running:
+            if child.returncode is None:
+                with suppress(ProcessLookupError):
+                    os.killpg(child.pid, number)
+
+
+def environment() -> dict[str, str]:
+    """That of a radio's program: the profiles' own find this package, wherever it lies."""
+    return os.environ | {"PYTHONPATH": str(Path(__file__).resolve().parents[1])}
+
+
+def limit_file() -> None:
+    """A file grows so far, and its writer then ends."""
+    resource.setrlimit(resource.RLIMIT_FSIZE, (MOST_BYTES, MOST_BYTES))

@@ -1,0 +1,144 @@
+"""The service itself: sessions without end, downlinks behind each, and what tells of it."""
+from __future__ import annotations
+
+import fcntl
+import logging
+import os
+import signal
+import socket
+import sqlite3
+import threading
+import time
+from pathlib import Path
+from types import FrameType
+
+from . import meters, retention, store
+from .config import Config, unproved_words
+from .downlinks import send_downlinks
+from .memory_files import leave_no_core
+from .session import MOST, Sessions
+from .trouble import Trouble
+
+log = logging.getLogger("wmbus")
+
+# after trouble it is tried again, less and less often
+LEAST_PAUSE, MOST_PAUSE = 1.0, 60.0
+LOCK_TRIES, LOCK_PAUSE = 5, 0.1
+# so often it is looked for what is kept no longer
+LET_GO = 3600.0
+
+
+def lock(folder: Path) -> int:
+    """Keeps other services away from a folder, as long as this process lives."""
+    opened = os.open(folder / "lock", os.O_RDWR | os.O_CREAT | os.O_CLOEXEC, 0o600)
+    for _ in range(LOCK_TRIES):
+        try:
+            fcntl.flock(opened, fcntl.LOCK_EX | fcntl.LOCK_NB)
+            return opened
+        except BlockingIOError:
+            # (`status` holds it for a moment, to see whether there is a service)
+            time.sleep(LOCK_PAUSE)
+    os.close(opened)
+    raise Trouble(folder, "another service works on this folder", "end it first")
+
+
+def is_locked(folder: Path) -> bool:
+    """Whether a service works on a folder."""
+    opened = os.open(folder / "lock", os.O_RDWR | os.O_CREAT | os.O_CLOEXEC, 0o600)
+    try:
+        fcntl.flock(opened, fcntl.LOCK_SH | fcntl.LOCK_NB)
+    except BlockingIOError:
+        return True
+    finally:
+        os.close(opened)
+    return False
+
+
+def notify(text: str) -> None:
+    """Tells systemd, where it asked for it."""
+    path = os.environ.get("NOTIFY_SOCKET")
+    if path:
+        with socket.socket(socket.AF_UNIX, socket.SOCK_DGRAM) as told:
+            told.sendto(text.encode(), f"\0{path[1:]}" if path.startswith("@") else path)
+
+
+class Service:
+    """A service over a folder, until it is told to end."""
+
+    def __init__(self, config: Config, database: sqlite3.Connection) -> None:
+        self.config, self.database = config, database
+        self.sessions = Sessions(config, database)
+        self.ending = threading.Event()
+        self.session_made = time.time()
+        self.trouble = ""
+        self.let_go_at = 0.0
+
+    def run(self) -> None:
+        """Sessions one after the other; after trouble the same lines come again."""
+        pause = LEAST_PAUSE
+        while not self.ending.is_set():
+            try:
+                count = self.turn()
+                pause, self.trouble = LEAST_PAUSE, ""
+                wait = 0.0 if count >= MOST // 2 or count >= self.sessions.most else self.config.interval
+            except (Trouble, OSError, sqlite3.Error) as fault:
+                self._tell(fault)
+                wait, pause = pause, min(2 * pause, MOST_PAUSE)
+            notify("WATCHDOG=1")
+            self.ending.wait(wait)
+
+    def turn(self) -> int:
+        """What is committed goes out, then a session, then what it says to be sent; how many lines it took."""
+        send_downlinks(self.config, self.database, time.time())
+        count = self.sessions.next(time.time())
+        send_downlinks(self.config, self.database, time.time())
+        self.session_made = time.time()
+        if not count and time.monotonic() > self.let_go_at and not retention.let_go(self.database, self.config.keep, time.time()):
+            self.let_go_at = time.monotonic() + LET_GO
+        return count
+
+    def _tell(self, fault: Exception) -> None:
+        """Says what is the matter, once as long as it is the same."""
+        told = store.trouble_of(self.config.database, fault) if isinstance(fault, sqlite3.Error) else fault
+        if str(told) != self.trouble:
+            log.error("%s", told)
+            self.trouble = str(told)
+
+
+def run(config: Config) -> None:
+    """Runs the service until it gets SIGTERM or SIGINT."""
+    os.umask(0o077)
+    leave_no_core()
+    store.prepare_folder(config.folder)
+    held = lock(config.folder)
+    try:
+        database = store.open_store(config.database, is_new=True)
+        service = Service(config, database)
+        if config.roster:
+            meters.take_roster(config, database, meters.read_roster(Path(config.roster)), config.roster)
+
+        def end(_number: int, _frame: FrameType | None) -> None:
+            service.ending.set()
+
+        for number in (signal.SIGTERM, signal.SIGINT):
+            signal.signal(number, end)
+        start_beside(config, service)
+        notify("READY=1")
+        if words := unproved_words(config.programs.steps):
+            log.warning("%s", words)
+        log.info("begun with %d meters and %d receivers", meters.count(database), len(config.receivers))
+        service.run()
+        notify("STOPPING=1")
+        log.info("ended")
+    finally:
+        os.close(held)
+
+
+def start_beside(config: Config, service: Service) -> None:
+    """Starts what publishes and what shows the metrics, where they are asked for."""
+    if config.mqtt:
+        from .broker import Broker
+        Broker(config, config.mqtt, service.ending).start()
+    if config.metrics:
+        from .metrics import serve
+        serve(config, config.metrics, service)

@@ -1,0 +1,123 @@
+"""The lines that a receiver's feed appended: files RECEIVER.NUMBER.MADE.lines, the last of which still grows. The place up to which a
+file is taken is committed with the session that took it."""
+from __future__ import annotations
+
+import fcntl
+import os
+import sqlite3
+from collections.abc import Iterator
+from dataclasses import dataclass
+from pathlib import Path
+
+# a line of the grammar has 1,024 bytes at most; of a longer one so many are kept, and the program calls it bad
+LONGEST = 1_100
+CHUNK = 1 << 20
+
+
+@dataclass(frozen=True)
+class Spooled:
+    """A whole line of a receiver's file, and the place behind it."""
+
+    receiver: str
+    file: str
+    behind: int
+    text: str
+
+
+class Spool:
+    """A receiver's files."""
+
+    def __init__(self, folder: Path, receiver: str) -> None:
+        self.folder, self.receiver = folder, receiver
+        self.synced: set[str] = set()
+
+    def files(self) -> list[Path]:
+        """The files, the oldest first."""
+        return sorted(self.folder.glob(f"{self.receiver}.*.lines"))
+
+    def take(self, database: sqlite3.Connection, most: int) -> list[Spooled]:
+        """At most so many whole lines behind the committed places, all of which stand on the disk."""
+        taken: list[Spooled] = []
+        for path in self.files():
+            if len(taken) < most:
+                taken += self._take_of(path, place_of(database, self.receiver, path.name), most - len(taken))
+        return taken
+
+    def _take_of(self, path: Path, start: int, most: int) -> list[Spooled]:
+        """The lines of a file from a place on."""
+        with open(path, "rb") as file:
+            if os.fstat(file.fileno()).st_size == start:
+                return []
+            self._sync(path, file.fileno())
+            file.seek(start)
+            content = file.read(most * LONGEST + CHUNK)
+        found: list[Spooled] = []
+        for line in _whole_lines(content):
+            if len(found) == most:
+                break
+            start += len(line)
+            found.append(Spooled(self.receiver, path.name, start, line.removesuffix(b"\n")[:LONGEST].decode("latin-1")))
+        return found
+
+    def _sync(self, path: Path, opened: int) -> None:
+        """A place is never committed beyond what stands on the disk."""
+        sync(opened)
+        if path.name not in self.synced:
+            folder = os.open(self.folder, os.O_RDONLY)
+            try:
+                sync(folder)
+            finally:
+                os.close(folder)
+            self.synced.add(path.name)
+
+    def clear(self, database: sqlite3.Connection) -> None:
+        """Takes away files that are taken to their end and that nothing writes any more; the newest stays, so that numbers rise."""
+        files = self.files()
+        for path in files[:-1]:
+            if is_finished(path, place_of(database, self.receiver, path.name)):
+                path.unlink()
+        names = {path.name for path in files}
+        # (a place is forgotten one round after its file went, so that no file comes back behind it)
+        for (name,) in database.execute("select file from source where receiver = ?", (self.receiver,)).fetchall():
+            if name not in names:
+                database.execute("delete from source where receiver = ? and file = ?", (self.receiver, name))
+
+
+def sync(opened: int) -> None:
+    """Has a file stand on the disk."""
+    os.fsync(opened)
+
+
+def _whole_lines(content: bytes) -> Iterator[bytes]:
+    """The lines that have their end, with it; what is far too long for a line counts as one."""
+    start = 0
+    while (end := content.find(b"\n", start)) >= 0:
+        yield content[start:end + 1]
+        start = end + 1
+    if len(content) - start >= CHUNK:
+        yield content[start:start + CHUNK]
+
+
+def place_of(database: sqlite3.Connection, receiver: str, file: str) -> int:
+    """Up to which byte a file is taken."""
+    row = database.execute("select taken from source where receiver = ? and file = ?", (receiver, file)).fetchone()
+    return int(row[0]) if row else 0
+
+
+def put_places(database: sqlite3.Connection, lines: list[Spooled]) -> None:
+    """These lines are taken, in the transaction in which they are heard."""
+    places = {(line.receiver, line.file): line.behind for line in lines}
+    database.executemany("insert into source values (?, ?, ?) on conflict (receiver, file) do update set taken = excluded.taken",
+                         [(receiver, file, behind) for (receiver, file), behind in places.items()])
+
+
+def is_finished(path: Path, taken: int) -> bool:
+    """Whether no line comes into a file any more and none is left: its writer, which holds a lock on it, has ended. A line that was
+    cut off at its end is dropped."""
+    with open(path, "rb") as file:
+        try:
+            fcntl.flock(file, fcntl.LOCK_EX | fcntl.LOCK_NB)
+        except BlockingIOError:
+            return False
+        file.seek(taken)
+        return b"\n" not in file.read(CHUNK)

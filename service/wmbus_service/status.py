@@ -1,0 +1,104 @@
+"""What the service has done, and what somebody should look at, in words."""
+from __future__ import annotations
+
+import json
+import sqlite3
+import time
+from collections.abc import Iterator
+from decimal import Decimal
+from typing import Any
+
+from . import service, store
+from .config import Config
+from .sensors import NUMBER
+
+LAST = 10
+
+
+def figures(config: Config, database: sqlite3.Connection) -> dict[str, Any]:
+    """All that is told, as data."""
+    now = time.time()
+    meters = database.execute("select address, name, waits, holds, receiver from meter order by place").fetchall()
+    return {
+        "running": service.is_locked(config.folder),
+        "totals": dict(database.execute("select name, value from total order by name").fetchall()),
+        "meters": [meter(database, row, now) for row in meters],
+        "commands": _rows(database, "select id, address, kind, state, tries, reason from command"
+                                    " where state in ('waiting', 'queued', 'sent') order by rowid"),
+        "downlinks_missed": _rows(database, "select address, receiver, down, missed from outbox where missed is not null"
+                                            f" order by id desc limit {LAST}"),
+        "refusals": _rows(database, f"select address, words, times from refusal order by last_made desc limit {LAST}"),
+        "strangers": _rows(database, f"select address, times, receiver from stranger order by times desc limit {LAST}"),
+        "aside": _rows(database, f"select id, receiver, text, said from aside order by id desc limit {LAST}"),
+        "publications_waiting": database.execute("select count(*) from publication").fetchone()[0],
+        "spooled_bytes": waiting_bytes(config, database),
+    }
+
+
+def _rows(database: sqlite3.Connection, query: str) -> list[dict[str, Any]]:
+    """Rows with the names of their columns."""
+    asked = database.execute(query)
+    names = [column[0] for column in asked.description]
+    return [dict(zip(names, row, strict=True)) for row in asked.fetchall()]
+
+
+def meter(database: sqlite3.Connection, row: tuple[Any, ...], now: float) -> dict[str, Any]:
+    """A meter and its last reading."""
+    told = dict(zip(("address", "name", "waits", "holds", "receiver"), row, strict=True))
+    last = database.execute("select id, made, counter from reading where address = ? order by id desc limit 1", (row[0],)).fetchone()
+    if last is None:
+        return told | {"age": None, "counter": None, "values": []}
+    return told | {"age": round(now - last[1]), "counter": last[2], "values": values_of(database, last[0])}
+
+
+def values_of(database: sqlite3.Connection, reading: int) -> list[str]:
+    """A reading's values of now in words."""
+    rows = database.execute("select quantity, value, exponent, unit from record where reading = ? and function = 'instantaneous'"
+                            " and storage = 0 and tariff = 0 and subunit = 0 order by place", (reading,)).fetchall()
+    return [" ".join([quantity, shown(value, exponent), *([unit] if unit != "-" else [])]) for quantity, value, exponent, unit in rows]
+
+
+def shown(value: str, exponent: int) -> str:
+    """A value with its power of ten."""
+    return f"{Decimal(value).scaleb(exponent):f}" if NUMBER.fullmatch(value) else value
+
+
+def waiting_bytes(config: Config, database: sqlite3.Connection) -> int:
+    """How many bytes of lines no session has taken yet."""
+    taken = dict(database.execute("select file, taken from source").fetchall())
+    return sum(max(0, path.stat().st_size - taken.get(path.name, 0)) for path in config.spool.glob("*.lines"))
+
+
+def in_words(told: dict[str, Any]) -> Iterator[str]:
+    """The figures line by line."""
+    yield "the service runs" if told["running"] else "the service doesn't run: systemctl start wmbus"
+    totals = told["totals"]
+    yield f"{totals.get('lines', 0)} lines heard, {totals.get('stored', 0)} readings; {told['spooled_bytes']} bytes wait in the spool"
+    for it in told["meters"]:
+        name = f"{it['address']} {it['name']}".strip()
+        if it["age"] is None:
+            yield f"meter {name}: no reading yet"
+        else:
+            yield f"meter {name}: {', '.join(it['values']) or 'no values'} ({it['age']} s ago, by {it['receiver'] or 'nobody'})"
+    for it in told["commands"]:
+        yield f"command {it['id']} for {it['address']}: {it['state']}, sent {it['tries']} times"
+    for it in told["downlinks_missed"]:
+        yield f"downlink {it['down']} for {it['address']} wasn't sent: {it['missed']}"
+    for it in told["refusals"]:
+        yield f"refused {it['times']} times for {it['address']}: {it['words']} (docs/FORMATS.md says what to do)"
+    for it in told["strangers"]:
+        yield f"heard {it['times']} times, and not known: {it['address']} (`wmbus-service add {it['address']}` adds it)"
+    for it in told["aside"]:
+        yield f"set aside, since the program fails at it: line {it['id']} of {it['receiver'] or 'the service'}: {it['said']}"
+    if told["publications_waiting"]:
+        yield f"{told['publications_waiting']} messages wait for the MQTT broker"
+
+
+def status(config: Config, is_json: bool) -> str:
+    """What is told, as a text."""
+    database = store.open_store(config.database)
+    try:
+        told = figures(config, database)
+    finally:
+        database.close()
+    return json.dumps(told, ensure_ascii=False, indent=1) if is_json else "\n".join(in_words(told))
