@@ -1,0 +1,79 @@
+"""Copies of the fleet's database, made while it works, and put back into an empty one."""
+from __future__ import annotations
+
+import os
+import subprocess
+import time
+from collections.abc import Sequence
+from pathlib import Path
+
+import psycopg
+from wmbus_service.backup import raised_by_program
+from wmbus_service.commands import OPEN
+from wmbus_service.config import words_of
+from wmbus_service.trouble import Trouble
+
+from . import store
+from .config import Config
+from .store import Database
+
+PIECE = 4096
+
+
+def back_up(config: Config, target: Path) -> None:
+    """Copies the database as it is at one moment, by pg_dump, into a file of its owner's."""
+    if target.exists():
+        raise Trouble(target, "it is there already", "name a new file")
+    os.close(os.open(target, os.O_WRONLY | os.O_CREAT | os.O_EXCL, 0o600))
+    _done(["pg_dump", "--format=custom", f"--dbname={config.database}", f"--file={target}"])
+    opened = os.open(target, os.O_RDWR)
+    try:
+        os.fsync(opened)
+    finally:
+        os.close(opened)
+
+
+def restore(config: Config, source: Path, margin: int) -> int:
+    """Puts a copy into an empty database, before any part of the fleet is started. Downlink counters go on above all that were sent since,
+    and open commands are cancelled, since some of them may have been executed. How many meters there are."""
+    if not source.is_file():
+        raise Trouble(source, "there is no such copy")
+    with psycopg.connect(config.database, autocommit=True) as database:
+        if store.one(database, "select to_regclass('setting')") is not None:
+            raise Trouble("the database", "it has tables already", "name a new, empty one in the configuration")
+    _done(["pg_restore", "--single-transaction", "--no-owner", "--exit-on-error", f"--dbname={config.database}", str(source)])
+    with store.connect(config.database) as database, store.transaction(database):
+        count = raise_counters(config, database, margin)
+        _give_up(database, time.time())
+    return count
+
+
+def raise_counters(config: Config, database: Database, margin: int) -> int:
+    """Raises the last downlink counter of each meter, as `state_raise` does; how many there are."""
+    own, names = store.setting(database, "own") or "", [name for (name,) in database.execute("select address from meter order by address")]
+    for start in range(0, len(names), PIECE):
+        rows = database.execute("select address, block from meter where address = any(%s) order by address",
+                                (names[start:start + PIECE],)).fetchall()
+        raised = raised_by_program(words_of(config.programs.state_raise), own, [block for _, block in rows], margin)
+        if len(raised) != len(rows):
+            raise Trouble(config.programs.state_raise, "what it wrote isn't whole")
+        database.execute("update meter m set block = n.block from unnest(%s::text[], %s::text[]) as n (address, block)"
+                         " where m.address = n.address", ([name for name, _ in rows], raised))
+    return len(names)
+
+
+def _give_up(database: Database, now: float) -> None:
+    """What was open when the copy was made isn't done again."""
+    database.execute("update command set state = 'cancelled', reason = 'restored', changed = %s where state = 'waiting'", (now,))
+    database.execute("update command set wish = 'cancel', reason = 'restored', changed = %s where state = any(%s)", (now, list(OPEN)))
+    database.execute("update outbox set missed = 'restored' where sent is null and missed is null")
+
+
+def _done(words: Sequence[str]) -> None:
+    """Runs a program of PostgreSQL's."""
+    try:
+        done = subprocess.run(words, stdin=subprocess.DEVNULL, capture_output=True, text=True, check=False)
+    except OSError as fault:
+        raise Trouble(words[0], f"the program can't be started: {fault.strerror}", "apt-get install postgresql-client") from None
+    if done.returncode:
+        raise Trouble(words[0], f"status {done.returncode}: {done.stderr.strip()[:300]}")

@@ -1,0 +1,120 @@
+"""RabbitMQ: quorum queues, of which each message is acknowledged once most of their nodes have it on the disk."""
+from __future__ import annotations
+
+import logging
+import signal
+import ssl
+from collections.abc import Callable, Iterator
+from contextlib import contextmanager, suppress
+from pathlib import Path
+from types import FrameType
+from typing import Any
+
+import pika
+import pika.exceptions
+from wmbus_service.trouble import Trouble
+
+from .config import Broker
+
+# (it tells of each step of each connection)
+logging.getLogger("pika").setLevel(logging.CRITICAL)
+
+EXCHANGE = "wmbus"
+QUORUM = {"x-queue-type": "quorum", "x-single-active-consumer": True}
+PERSISTENT = 2
+PATIENCE = 20.0
+# an old question mustn't have a gateway send anything: a gap that is still there is asked for anew
+ASKED_MILLISECONDS = 60_000
+# no queue takes a message; the broker goes, or says nothing
+NoQueue = pika.exceptions.UnroutableError
+FAULTS = (pika.exceptions.AMQPError, OSError)
+
+
+@contextmanager
+def connected(told: Broker) -> Iterator[Any]:
+    """A connection, which ends with the block."""
+    with within(PATIENCE):
+        connection = pika.BlockingConnection(_parameters(told))
+    try:
+        yield connection
+    finally:
+        with suppress(*FAULTS), within(PATIENCE):
+            connection.close()
+
+
+def _parameters(told: Broker) -> Any:
+    password = "guest"
+    if told.password_file:
+        try:
+            password = Path(told.password_file).read_text(encoding="utf-8").rstrip("\n")
+        except OSError as fault:
+            raise Trouble(told.password_file, f"the broker's password can't be read: {fault.strerror}") from None
+    context = ssl.create_default_context(cafile=told.authority or None) if told.tls else None
+    return pika.ConnectionParameters(
+        told.host, told.port, credentials=pika.PlainCredentials(told.user, password), heartbeat=10, socket_timeout=5,
+        blocked_connection_timeout=PATIENCE, ssl_options=pika.SSLOptions(context, told.host) if context else None)
+
+
+@contextmanager
+def within(seconds: float) -> Iterator[None]:
+    """What the broker says nothing to for so long ends; in the process's first thread alone."""
+    def late(_number: int, _frame: FrameType | None) -> None:
+        raise TimeoutError("the broker gives no answer")
+
+    before = signal.signal(signal.SIGALRM, late)
+    signal.setitimer(signal.ITIMER_REAL, seconds)
+    try:
+        yield
+    finally:
+        signal.setitimer(signal.ITIMER_REAL, 0)
+        signal.signal(signal.SIGALRM, before)
+
+
+def area_queue(area: str) -> str:
+    """Where the messages of an area's gateways wait."""
+    return f"area.{area}"
+
+
+def gateway_queue(name: str) -> str:
+    """Where what a gateway is told waits."""
+    return f"gateway.{name}"
+
+
+def up_key(area: str, gateway: str) -> str:
+    """What a gateway's messages are called."""
+    return f"up.{area}.{gateway}"
+
+
+def declare_area(channel: Any, area: str) -> None:
+    """Makes an area's queue, of which one process gets the messages at a time, in their order."""
+    with within(PATIENCE):
+        channel.exchange_declare(EXCHANGE, exchange_type="topic", durable=True)
+        channel.queue_declare(area_queue(area), durable=True, arguments=QUORUM)
+        channel.queue_bind(area_queue(area), EXCHANGE, up_key(area, "*"))
+
+
+def declare_gateway(channel: Any, name: str) -> None:
+    """Makes a gateway's queue."""
+    with within(PATIENCE):
+        channel.queue_declare(gateway_queue(name), durable=True, arguments=QUORUM)
+
+
+def consume(channel: Any, queue: str, take: Callable[..., None]) -> None:
+    """Has each message of a queue be taken."""
+    with within(PATIENCE):
+        channel.basic_consume(queue, take)
+
+
+def publish(channel: Any, exchange: str, key: str, body: bytes, lives: int | None = None) -> None:
+    """Publishes a message, and waits until its queue has it; one that no queue takes is an error."""
+    properties = pika.BasicProperties(delivery_mode=PERSISTENT, expiration=None if lives is None else str(lives))
+    with within(PATIENCE):
+        channel.basic_publish(exchange, key, body, properties, mandatory=True)
+
+
+def opened(connection: Any) -> Any:
+    """A channel that acknowledges what is published."""
+    with within(PATIENCE):
+        channel = connection.channel()
+        channel.confirm_delivery()
+    return channel

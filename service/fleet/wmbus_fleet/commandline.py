@@ -1,0 +1,172 @@
+"""`wmbus-fleet`: the collector for many gateways and meters, on RabbitMQ and PostgreSQL."""
+from __future__ import annotations
+
+import argparse
+import getpass
+import logging
+import os
+import resource
+import secrets
+import signal
+import socket
+import sys
+import threading
+import time
+from collections.abc import Callable
+from pathlib import Path
+from types import FrameType
+
+import psycopg
+from wmbus_service.config import read_config as read_service
+from wmbus_service.trouble import Trouble
+
+from . import backup, broker, commands, downlinks, gateway, intake, sessions, store
+from .config import Config, read_config
+from .status import status
+
+DONE, TROUBLE = 0, 1
+VERSION = "0.1.0"
+STATUSES = "exit status: 0 all is done, 1 something is wrong and was named, 2 faulty words"
+MARGIN = 1000
+Command = Callable[[str, Callable[[Config, argparse.Namespace], None], str], argparse.ArgumentParser]
+
+
+def main(given: list[str]) -> int:
+    """Does what is asked for; the exit status."""
+    asked = words().parse_args(given)
+    logging.basicConfig(level=logging.INFO, format="%(levelname)s %(message)s", stream=sys.stderr)
+    os.umask(0o077)
+    try:
+        asked.work(read_config(asked.config), asked)
+        sys.stdout.flush()
+        return DONE
+    except Trouble as trouble:
+        said = str(trouble)
+    except psycopg.Error as fault:
+        said = f"the database: {str(fault).strip()}"
+    except broker.FAULTS as fault:
+        said = f"{type(fault).__name__}: {fault}"
+    except KeyboardInterrupt:
+        return DONE
+    print(f"wmbus-fleet: {said}", file=sys.stderr)
+    return TROUBLE
+
+
+def words() -> argparse.ArgumentParser:
+    """The words behind the program's name."""
+    parser = argparse.ArgumentParser(prog="wmbus-fleet", description=__doc__, epilog=STATUSES)
+    parser.add_argument("--config", metavar="FILE", type=Path, default=Path(os.environ.get("WMBUS_FLEET_CONFIG", "/etc/wmbus/fleet.toml")),
+                        help="the configuration, /etc/wmbus/fleet.toml where none is named")
+    parser.add_argument("--version", action="version", version=f"wmbus-fleet {VERSION}")
+    kinds = parser.add_subparsers(metavar="COMMAND", required=True)
+
+    def command(name: str, work: Callable[[Config, argparse.Namespace], None], told: str) -> argparse.ArgumentParser:
+        made = kinds.add_parser(name, help=told, description=told, epilog=STATUSES)
+        made.set_defaults(work=work)
+        return made
+
+    _running_words(command)
+    _operating_words(command)
+    return parser
+
+
+def _running_words(command: Command) -> None:
+    """The words of what runs without end."""
+    command("gateway", lambda config, _: _run_gateway(config), "sends this machine's lines, and the downlinks that it is given")
+    made = command("intake", lambda config, asked: intake.run(config, asked.areas, asked.name, _ending()), "takes in gateways' messages")
+    made.add_argument("areas", metavar="AREA", nargs="*", help="of these areas alone")
+    made.add_argument("--name", default=socket.gethostname(), help="under which it counts, the machine's where none is given")
+    command("sessions", lambda config, _: sessions.run(config, _ending()), "has the program hear what was taken in")
+    command("downlinks", lambda config, _: downlinks.run(config, _ending()), "sends downlinks to gateways")
+
+
+def _operating_words(command: Command) -> None:
+    """The words of those who run the fleet."""
+    command("init", lambda config, _: store.init(config.database), "makes the tables in an empty database")
+    made = command("area", _area, "makes an area, whose gateways' messages are one queue")
+    made.add_argument("name", metavar="AREA")
+    made = command("gateways", _gateways, "makes gateways of an area known")
+    made.add_argument("area", metavar="AREA")
+    made.add_argument("names", metavar="GATEWAY", nargs="+")
+    made = command("commission", _commission, "adds a roster's new meters")
+    made.add_argument("roster", metavar="ROSTER", type=Path)
+    made = command("command", _command, "has a command sent to a meter once it listens, or cancels one")
+    made.add_argument("address", metavar="METER", nargs="?")
+    made.add_argument("payload", metavar="HEX", nargs="?", help="what the meter gets, 1 to 94 bytes")
+    made.add_argument("--id", help="your own id of the command; under one id a command is taken once")
+    made.add_argument("--cancel", metavar="ID", help="has this command not be sent any more")
+    made = command("rekey", _rekey, "gives a meter of mode 7 its new second key, which is asked for, or read from the standard input")
+    made.add_argument("address", metavar="METER")
+    made = command("status", _status, "says what was heard and what somebody should look at")
+    made.add_argument("--json", action="store_true", help="as data")
+    made = command("backup", lambda config, asked: backup.back_up(config, asked.file), "copies the database, also while the fleet works")
+    made.add_argument("file", metavar="FILE", type=Path)
+    made = command("restore", _restore, "puts a copy into an empty database, before any part of the fleet is started")
+    made.add_argument("file", metavar="FILE", type=Path)
+    made.add_argument("--margin", metavar="N", type=int, default=MARGIN,
+                      help=f"raises downlink counters so far, at least by what was sent to a meter since the copy ({MARGIN})")
+
+
+def _ending() -> threading.Event:
+    """What SIGTERM and SIGINT set. No core file with keys is left."""
+    resource.setrlimit(resource.RLIMIT_CORE, (0, 0))
+    ending = threading.Event()
+
+    def end(_number: int, _frame: FrameType | None) -> None:
+        ending.set()
+
+    for number in (signal.SIGTERM, signal.SIGINT):
+        signal.signal(number, end)
+    return ending
+
+
+def _run_gateway(config: Config) -> None:
+    if config.gateway is None:
+        raise Trouble("the configuration", "it has no [gateway]", "docs/FLEET.md names each setting")
+    gateway.run(config, config.gateway, read_service(Path(config.gateway.service)), _ending())
+
+
+def _area(config: Config, asked: argparse.Namespace) -> None:
+    with store.connect(config.database) as database:
+        commands.add_area(config, database, asked.name)
+
+
+def _gateways(config: Config, asked: argparse.Namespace) -> None:
+    with store.connect(config.database) as database:
+        count = sum(commands.add_gateway(config, database, asked.area, name) for name in asked.names)
+    print(f"{count} new gateways")
+
+
+def _commission(config: Config, asked: argparse.Namespace) -> None:
+    with store.connect(config.database) as database:
+        print(f"{commands.commission(config, database, asked.roster)} new meters")
+
+
+def _command(config: Config, asked: argparse.Namespace) -> None:
+    now = time.time()
+    with store.connect(config.database) as database:
+        if asked.cancel:
+            print(f"{asked.cancel}: {commands.cancel_command(database, asked.cancel, now)}")
+        elif asked.address and asked.payload:
+            ident = asked.id or secrets.token_hex(8)
+            is_new = commands.put_command(database, ident, asked.address, asked.payload, now)
+            print(ident if is_new else f"{ident}: it was taken before")
+        else:
+            raise Trouble("command", "give METER and HEX, or --cancel ID")
+
+
+def _rekey(config: Config, asked: argparse.Namespace) -> None:
+    key = getpass.getpass("new key: ") if sys.stdin.isatty() else sys.stdin.readline().strip()
+    with store.connect(config.database) as database:
+        ident = secrets.token_hex(8)
+        commands.put_key(database, ident, asked.address, key, time.time())
+        print(ident)
+
+
+def _status(config: Config, asked: argparse.Namespace) -> None:
+    with store.connect(config.database) as database:
+        print(status(database, asked.json))
+
+
+def _restore(config: Config, asked: argparse.Namespace) -> None:
+    print(f"restored, with {backup.restore(config, asked.file, asked.margin)} meters")

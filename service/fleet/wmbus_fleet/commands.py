@@ -1,0 +1,110 @@
+"""What operators ask for: commands to meters, their cancellation, new second keys; areas, gateways and meters."""
+from __future__ import annotations
+
+from collections.abc import Sequence
+from pathlib import Path
+
+from wmbus_service.commands import OPEN, judge_ident, key_of, payload_of
+from wmbus_service.config import NAME, words_of
+from wmbus_service.meters import judge_roster, meters_in, read_roster
+from wmbus_service.trouble import Trouble
+
+from . import broker, store
+from .config import Config
+from .store import Database
+
+# a roster that the program judges has so many meters at most
+PIECE = 4096
+
+
+def put_command(database: Database, ident: str, address: str, payload: str, now: float) -> bool:
+    """Takes a command for a meter, whose payload goes to it as it is; whether its id is new."""
+    return _put(database, ident, address.lower(), "send", payload_of(ident, payload), now)
+
+
+def put_key(database: Database, ident: str, address: str, key: str, now: float) -> bool:
+    """Takes a meter's new second key; whether its id is new."""
+    return _put(database, ident, address.lower(), "rekey", key_of(ident, key), now)
+
+
+def _put(database: Database, ident: str, address: str, kind: str, payload: str, now: float) -> bool:
+    judge_ident(ident)
+    if not database.execute("select 1 from meter where address = %s", (address,)).fetchone():
+        raise Trouble(f"command {ident}", f"there is no meter {address}", "`wmbus-fleet commission ROSTER` adds meters")
+    added = database.execute("insert into command (id, address, kind, payload, made, changed) values (%s, %s, %s, %s, %s, %s)"
+                             " on conflict do nothing", (ident, address, kind, payload, now, now))
+    return bool(added.rowcount)
+
+
+def cancel_command(database: Database, ident: str, now: float) -> str:
+    """Has a command not be sent any more: at once where no session has it yet, else by the next one; the state that it has now."""
+    with store.transaction(database):
+        row = database.execute("select state from command where id = %s for update", (ident,)).fetchone()
+        if row is None:
+            raise Trouble(f"command {ident}", "there is no command with this id")
+        if row[0] == "waiting":
+            database.execute("update command set state = 'cancelled', changed = %s,"
+                             " payload = case kind when 'rekey' then '' else payload end where id = %s", (now, ident))
+            return "cancelled"
+        if row[0] in OPEN:
+            database.execute("update command set wish = 'cancel', changed = %s where id = %s", (now, ident))
+        return str(row[0])
+
+
+def add_area(config: Config, database: Database, name: str) -> None:
+    """Makes an area, with its queue."""
+    _judge_name(name)
+    database.execute("insert into area values (%s) on conflict do nothing", (name,))
+    with broker.connected(config.broker) as connection:
+        broker.declare_area(broker.opened(connection), name)
+
+
+def add_gateway(config: Config, database: Database, area: str, name: str) -> bool:
+    """Makes a gateway known, with its queue, or moves it to another area; whether it is new."""
+    _judge_name(name)
+    if not database.execute("select 1 from area where name = %s", (area,)).fetchone():
+        raise Trouble(f"area {area}", "there is no such area", f"`wmbus-fleet area {area}` makes it")
+    is_new = database.execute("select 1 from gateway where name = %s", (name,)).fetchone() is None
+    database.execute("insert into gateway (name, area) values (%s, %s) on conflict (name) do update set area = excluded.area", (name, area))
+    with broker.connected(config.broker) as connection:
+        broker.declare_gateway(broker.opened(connection), name)
+    return is_new
+
+
+def _judge_name(name: str) -> None:
+    """Names stand in the names of queues."""
+    if not NAME.fullmatch(name):
+        raise Trouble(f"the name {name}", "a name has 1 to 64 of a-z, 0-9, _ and -")
+
+
+def commission(config: Config, database: Database, path: Path) -> int:
+    """Adds a roster's new meters; what is known of the others stays. How many are new. A roster may have any number of meters."""
+    text = read_roster(path)
+    head, lines = _taken_apart(text)
+    added = 0
+    for start in range(0, max(1, len(lines)), PIECE):
+        piece = "\n".join([*head, *lines[start:start + PIECE]]) + "\n"
+        judge_roster(words_of(config.programs.steps), piece, path)
+        own, meters = meters_in(piece)
+        with store.transaction(database):
+            known = store.setting(database, "own")
+            if known not in (None, own):
+                raise Trouble(path, f"the collector's own address is {own}, and the database has {known}",
+                              "write that of the database there")
+            store.set_setting(database, "own", own)
+            added += _add_meters(database, meters)
+    return added
+
+
+def _taken_apart(text: str) -> tuple[list[str], list[str]]:
+    """A roster's first two lines, and those of its meters."""
+    lines = [line for line in (it.removesuffix("\r") for it in text.split("\n")) if line and not line.startswith("#")]
+    return lines[:2], lines[2:]
+
+
+def _add_meters(database: Database, meters: Sequence[Sequence[str]]) -> int:
+    """New meters by their roster's fields."""
+    rows = [(fields[1].lower(), " ".join(fields).lower() + "\n") for fields in meters]
+    added = database.execute("insert into meter (address, block) select address, block from unnest(%s::text[], %s::text[])"
+                             " as n (address, block) on conflict do nothing", ([it for it, _ in rows], [block for _, block in rows]))
+    return added.rowcount

@@ -1,0 +1,86 @@
+"""The configuration of the fleet, a file in TOML (docs/FLEET.md, "The configuration")."""
+from __future__ import annotations
+
+from dataclasses import dataclass, field
+from pathlib import Path
+
+from wmbus_service import config as service
+from wmbus_service.config import program, read_settings, steps_program
+
+
+@dataclass(frozen=True)
+class Programs:
+    """The programs that the fleet starts, each with its first words."""
+
+    steps: str = field(default_factory=steps_program)
+    line_accept: str = field(default_factory=lambda: program("line_accept"))
+    address_list: str = field(default_factory=lambda: program("address_list"))
+    state_raise: str = field(default_factory=lambda: program("state_raise"))
+
+
+@dataclass(frozen=True)
+class Broker:
+    """RabbitMQ, and whom it knows this machine as."""
+
+    host: str = "127.0.0.1"
+    port: int = 5672
+    user: str = "guest"
+    password_file: str = ""
+    tls: bool = False
+    authority: str = ""
+
+
+@dataclass(frozen=True)
+class Ticks(service.Ticks):
+    """After how many seconds a window is closed, and fragments that wait for others grow older. A downlink waits at its gateway for the
+    meter's next uplink, so a window is open for longer than on one machine."""
+
+    window: float = 900.0
+    fragments: float = 900.0
+    # so long a tick waits for a gateway that is cut off, and whose lines of before it would come behind it
+    patience: float = 86_400.0
+
+
+@dataclass(frozen=True)
+class Gateway:
+    """A gateway's agent: its name, its area, and the receiver of this machine's service whose lines it sends."""
+
+    name: str
+    area: str
+    receiver: str
+    service: str = "/etc/wmbus/config.toml"
+    # lines of so many seconds go into one message, and an empty one goes out after so much silence
+    interval: float = 2.0
+    silence: float = 60.0
+    # for how many days messages are kept, to be sent again
+    keep: int = 7
+
+
+@dataclass(frozen=True)
+class Keep:
+    """For how many days something is kept; 0 keeps it for ever."""
+
+    lines: int = 7
+    readings: int = 0
+
+
+@dataclass(frozen=True)
+class Config:
+    """All that a configuration says."""
+
+    # how PostgreSQL is reached, in libpq's words
+    database: str = "dbname=wmbus"
+    # seconds that an intake gathers messages for, and between two looks of sessions and the sender
+    interval: float = 0.2
+    broker: Broker = field(default_factory=Broker)
+    programs: Programs = field(default_factory=Programs)
+    ticks: Ticks = field(default_factory=Ticks)
+    keep: Keep = field(default_factory=Keep)
+    gateway: Gateway | None = None
+
+
+def read_config(path: Path) -> Config:
+    """The configuration of a file."""
+    config = read_settings(path, Config, "docs/FLEET.md")
+    assert isinstance(config, Config)
+    return config

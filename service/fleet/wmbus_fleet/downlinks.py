@@ -1,0 +1,74 @@
+"""Downlinks: from committed rows to the gateway that heard the meter, in the order of the outbox, marked behind the broker's
+acknowledgement."""
+from __future__ import annotations
+
+import logging
+import threading
+import time
+from typing import Any
+
+import psycopg
+
+from . import broker, store
+from .config import Config
+from .messages import Down, down_body
+from .store import Database
+
+log = logging.getLogger("wmbus")
+
+AT_ONCE, PAUSE = 100, 0.5
+
+
+def send(config: Config, database: Database, channel: Any, now: float) -> int:
+    """Sends what is committed and not sent yet, the oldest first; how many rows it saw.
+
+    One that went out just before the sender was killed goes out again: its gateway, or else its meter, leaves the copy."""
+    rows = database.execute("select id, gateway, address, down, frame, made from outbox where sent is null and missed is null"
+                            " order by id limit %s", (AT_ONCE,)).fetchall()
+    for ident, gateway, address, down, frame, made in rows:
+        left = int(made + config.ticks.window - now)
+        fault = "it is too late: the meter's window is closed" if left < 1 else _sent(channel, gateway, Down(address, down, frame, left))
+        if fault is None:
+            mark_sent(database, ident, time.time())
+        else:
+            log.warning("the downlink %d of meter %s wasn't sent: %s", down, address, fault)
+            database.execute("update outbox set missed = %s where id = %s", (fault, ident))
+    return len(rows)
+
+
+def _sent(channel: Any, gateway: str, downlink: Down) -> str | None:
+    """Gives a downlink to the gateway's queue; else why that can't be."""
+    try:
+        broker.publish(channel, "", broker.gateway_queue(gateway), down_body(downlink), downlink.seconds * 1000)
+    except broker.NoQueue:
+        return f"the gateway {gateway or '(none)'} has no queue"
+    return None
+
+
+def mark_sent(database: Database, ident: int, now: float) -> None:
+    """A downlink is on its way, and so its command is sent, where nothing later is known of it."""
+    database.execute("with gone as (update outbox set sent = %s where id = %s returning address, command) update command c"
+                     " set state = 'sent', changed = %s from gone where c.address = gone.address and c.number = gone.command"
+                     " and c.state = 'queued'", (now, ident, now))
+
+
+def run(config: Config, ending: threading.Event) -> None:
+    """Sends without end; one process at a time does, and others wait until it is gone."""
+    trouble = ""
+    while not ending.is_set():
+        try:
+            with store.connect(config.database) as database:
+                while not store.one(database, "select pg_try_advisory_lock(%s, 0)", (store.SENDER,)):
+                    if ending.wait(PAUSE):
+                        return
+                with broker.connected(config.broker) as connection:
+                    channel = broker.opened(connection)
+                    while not ending.is_set():
+                        if not send(config, database, channel, time.time()):
+                            connection.process_data_events(config.interval)
+        except (psycopg.Error, *broker.FAULTS) as fault:
+            told = f"downlinks: {type(fault).__name__}: {str(fault).strip()}"
+            if told != trouble:
+                log.error("%s", told)
+            trouble = told
+            ending.wait(PAUSE)

@@ -1,0 +1,251 @@
+"""A gateway's agent: a receiver's spooled lines go out as numbered messages, and are sent again from where they are asked for; downlinks
+wait armed until their meter is heard."""
+from __future__ import annotations
+
+import logging
+import os
+import sqlite3
+import threading
+import time
+from collections.abc import Sequence
+from contextlib import closing
+from pathlib import Path
+from typing import Any
+
+from wmbus_service import store
+from wmbus_service.config import Config as ServiceConfig
+from wmbus_service.config import words_of
+from wmbus_service.downlinks import write_downlink
+from wmbus_service.spool import Spool, Spooled, put_places
+from wmbus_service.steps import ProgramFailed
+from wmbus_service.trouble import Trouble
+
+from . import broker
+from .config import Config, Gateway
+from .messages import LAST, MOST, Again, Down, lines_body, read_order
+from .programs import addresses_of
+
+log = logging.getLogger("wmbus")
+
+# messages that are made, and published, in one go
+ROOM = 20
+LOOK, PAUSE = 0.05, 1.0
+DAY = 86_400.0
+TABLES = """
+create table if not exists numbering (one integer primary key check (one = 1), epoch integer not null, last integer not null);
+create table if not exists source (receiver text, file text, taken integer not null, primary key (receiver, file)) without rowid;
+-- each message as it was numbered, before it is published for the first time, and until when all that was heard stands in it or in those
+-- before it
+create table if not exists message (
+    number integer primary key, lines blob not null, until integer not null, made real not null, acknowledged integer not null default 0);
+create index if not exists message_open on message (number) where not acknowledged;
+-- of each meter the last downlink, until when it counts, and when it was given to the radio
+create table if not exists armed (address text primary key, down integer not null, frame text not null, until real not null, sent real)
+    without rowid;
+"""
+
+
+def open_gateway(path: Path, now: float) -> sqlite3.Connection:
+    """The gateway's own database, which is made first where it isn't there; its creation begins an epoch."""
+    before = os.umask(0o077)
+    try:
+        database = store.connect(path)
+    finally:
+        os.umask(before)
+    database.executescript(TABLES)
+    database.execute("insert or ignore into numbering values (1, ?, 0)", (int(now),))
+    return database
+
+
+class Agent:
+    """What a gateway does, one thing after the other."""
+
+    def __init__(self, config: Config, told: Gateway, service: ServiceConfig, database: sqlite3.Connection) -> None:
+        self.config, self.told, self.database = config, told, database
+        self.spool = Spool(service.spool, told.receiver)
+        self.radio = service.receivers[told.receiver].downlinks
+        self.numbered_at = self.said_at = 0.0
+
+    # ---- lines
+
+    def number(self, now: float) -> int:
+        """Makes messages of what was heard, and commits what each of them holds; how many lines there were."""
+        is_listening = bool(self.database.execute("select 1 from armed where sent is null and until > ? limit 1", (now,)).fetchone())
+        if now - self.numbered_at < self.told.interval and not is_listening or self._is_used_up(now):
+            return 0
+        with store.transaction(self.database):
+            lines = self.spool.take(self.database, MOST * ROOM)
+            if is_listening:
+                self._send_armed(lines, now)
+            for start in range(0, len(lines), MOST):
+                self._make(lines[start:start + MOST], now, start + MOST >= len(lines) and len(lines) < MOST * ROOM)
+            if not lines and now - self.said_at > self.told.silence:
+                # (so that a loss at the end shows too)
+                self._make([], now, True)
+            put_places(self.database, lines)
+        self.numbered_at = now if len(lines) < MOST * ROOM else 0.0
+        self.spool.clear(self.database)
+        return len(lines)
+
+    def _make(self, lines: Sequence[Spooled], now: float, is_all: bool) -> None:
+        """The next message; whether all that was heard until now stands in it or in those before it."""
+        _, last = self.numbering()
+        (until,) = self.database.execute("select coalesce(max(until), 0) from message").fetchone()
+        text = "".join(f"{line.text}\n" for line in lines).encode("latin-1")
+        self.database.execute("insert into message (number, lines, until, made) values (?, ?, ?, ?)",
+                              (last + 1, text, int(now) if is_all else until, now))
+        self.database.execute("update numbering set last = ?", (last + 1,))
+        self.said_at = now
+
+    def _is_used_up(self, now: float) -> bool:
+        """Whether the epoch has no more numbers and its messages aren't all out yet; once they are, another one begins."""
+        epoch, last = self.numbering()
+        if last <= LAST - ROOM - 1:
+            return False
+        if self.database.execute("select 1 from message where not acknowledged limit 1").fetchone():
+            return True
+        with store.transaction(self.database):
+            self._begin(epoch + 1, [], now)
+        return False
+
+    def numbering(self) -> tuple[int, int]:
+        """The epoch, and its last number."""
+        epoch, last = self.database.execute("select epoch, last from numbering").fetchone()
+        return int(epoch), int(last)
+
+    def publish(self, channel: Any) -> int:
+        """Publishes what isn't acknowledged, in order, and marks it behind the acknowledgements; how many messages."""
+        epoch, _ = self.numbering()
+        rows = self.database.execute("select number, until, lines from message where not acknowledged order by number limit ?",
+                                     (ROOM,)).fetchall()
+        for number, until, lines in rows:
+            broker.publish(channel, broker.EXCHANGE, broker.up_key(self.told.area, self.told.name), lines_body(epoch, number, until, lines))
+        mark_acknowledged(self.database, [number for number, _, _ in rows])
+        return len(rows)
+
+    def forget(self, now: float) -> None:
+        """Old messages go; none that isn't acknowledged."""
+        self.database.execute("delete from message where acknowledged and made < ?", (now - self.told.keep * DAY,))
+
+    # ---- what it is told
+
+    def hear(self, body: bytes, now: float) -> None:
+        """What the fleet says to the gateway."""
+        order = read_order(self.told.name, body)
+        if isinstance(order, Again):
+            self.send_again(order, now)
+        elif isinstance(order, Down):
+            arm(self.database, order, now)
+        else:
+            log.error("%s: the fleet said something that isn't understood", self.told.name)
+
+    def send_again(self, asked: Again, now: float) -> None:
+        """Sends all messages from one on again; those of a new epoch where that one isn't kept any more."""
+        with store.transaction(self.database):
+            epoch, last = self.numbering()
+            if asked.epoch > epoch:
+                # (its state is older than what the fleet knows: nothing of this epoch was taken)
+                self._begin(asked.epoch + 1, self._kept_from(1), now)
+                return
+            number = asked.number if asked.epoch == epoch else 1
+            if number > last:
+                return
+            if self.database.execute("select 1 from message where number = ?", (number,)).fetchone():
+                self.database.execute("update message set acknowledged = 0 where number >= ?", (number,))
+            else:
+                self._begin(epoch + 1, self._kept_from(number), now)
+
+    def _kept_from(self, number: int) -> list[tuple[bytes, int, float]]:
+        """The messages from this one on that are kept."""
+        return self.database.execute("select lines, until, made from message where number >= ? order by number", (number,)).fetchall()
+
+    def _begin(self, epoch: int, rows: Sequence[tuple[bytes, int, float]], now: float) -> None:
+        """Begins an epoch with these messages."""
+        self.database.execute("delete from message")
+        self.database.executemany("insert into message (number, lines, until, made) values (?, ?, ?, ?)",
+                                  [(place, *row) for place, row in enumerate(rows, 1)])
+        self.database.execute("update numbering set epoch = ?, last = ?", (max(epoch, int(now)), len(rows)))
+        log.warning("%s: an epoch begins with %d messages that are kept", self.told.name, len(rows))
+
+    # ---- downlinks
+
+    def _send_armed(self, lines: Sequence[Spooled], now: float) -> None:
+        """Gives the radio the downlinks of the meters that were just heard."""
+        try:
+            addresses = set(addresses_of(words_of(self.config.programs.address_list), [line.text for line in lines]))
+        except (ProgramFailed, Trouble) as fault:
+            # (what was heard goes out all the same)
+            log.error("%s: no downlink can be sent: %s", self.told.name, fault)
+            return
+        rows = self.database.execute("select address, down, frame from armed where sent is null and until > ?", (now,)).fetchall()
+        for address, down, frame in rows:
+            if address not in addresses:
+                continue
+            try:
+                write_downlink(self.radio, frame)
+            except OSError as fault:
+                log.warning("%s: the downlink %d of meter %s can't be sent: %s", self.told.name, down, address, fault.strerror)
+                continue
+            self.database.execute("update armed set sent = ? where address = ?", (now, address))
+
+    # ---- without end
+
+    def run(self, ending: threading.Event) -> None:
+        """Goes on until it is told to end; without the broker it numbers lines and sends what is armed."""
+        trouble = ""
+        while not ending.is_set():
+            try:
+                with broker.connected(self.config.broker) as connection:
+                    self._serve(connection, ending)
+            except (*broker.FAULTS, ProgramFailed, Trouble, sqlite3.Error) as fault:
+                told = f"{self.told.name}: {type(fault).__name__}: {fault}"
+                if told != trouble:
+                    log.error("%s", told)
+                trouble = told
+            limit = time.monotonic() + PAUSE
+            while time.monotonic() < limit and not ending.is_set():
+                try:
+                    self.number(time.time())
+                except (ProgramFailed, Trouble, OSError, sqlite3.Error) as fault:
+                    log.error("%s: %s", self.told.name, fault)
+                ending.wait(LOOK)
+
+    def _serve(self, connection: Any, ending: threading.Event) -> None:
+        """Goes on as long as the connection stands."""
+        channel = broker.opened(connection)
+        broker.declare_gateway(channel, self.told.name)
+
+        def told(_channel: Any, method: Any, _properties: Any, body: bytes) -> None:
+            self.hear(body, time.time())
+            channel.basic_ack(method.delivery_tag)
+
+        broker.consume(channel, broker.gateway_queue(self.told.name), told)
+        while not ending.is_set():
+            now = time.time()
+            count = self.number(now) + self.publish(channel)
+            if not count:
+                self.forget(now)
+            connection.process_data_events(0 if count else LOOK)
+
+
+def mark_acknowledged(database: sqlite3.Connection, numbers: Sequence[int]) -> None:
+    """The broker has these messages."""
+    if numbers:
+        with store.transaction(database):
+            database.executemany("update message set acknowledged = 1 where number = ?", [(number,) for number in numbers])
+
+
+def arm(database: sqlite3.Connection, told: Down, now: float) -> None:
+    """A downlink waits for its meter, in the place of one with a lower counter; one that came before is left out."""
+    database.execute("insert into armed (address, down, frame, until) values (?, ?, ?, ?) on conflict (address) do update"
+                     " set down = excluded.down, frame = excluded.frame, until = excluded.until, sent = null"
+                     " where excluded.down > armed.down", (told.address, told.down, told.frame, now + told.seconds))
+
+
+def run(config: Config, told: Gateway, service: ServiceConfig, ending: threading.Event) -> None:
+    """Runs a gateway over the folder of its machine's service."""
+    if told.receiver not in service.receivers:
+        raise Trouble("gateway.receiver", f"the service's configuration has no receiver {told.receiver}", f"see {told.service}")
+    store.prepare_folder(service.folder)
+    with closing(open_gateway(service.folder / f"gateway.{told.name}.db", time.time())) as database:
+        Agent(config, told, service, database).run(ending)

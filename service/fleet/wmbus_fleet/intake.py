@@ -1,0 +1,182 @@
+"""The intake: of gateways' messages the very next ones go into the inbox, and are acknowledged behind the commit; gaps are asked for."""
+from __future__ import annotations
+
+import logging
+import threading
+import time
+from collections import Counter
+from collections.abc import Mapping, Sequence
+from typing import Any
+
+import psycopg
+from wmbus_service.config import words_of
+from wmbus_service.steps import ProgramFailed
+
+from . import broker, store
+from .config import Config
+from .messages import Again, Message, again_body, frames_in, read_lines
+from .programs import Fence, accept, addresses_of
+from .store import Database
+
+log = logging.getLogger("wmbus")
+
+# so many messages in hand, so many lines a transaction
+PREFETCH, MOST = 200, 4000
+LOOK, PAUSE = 0.05, 0.5
+# a gateway is asked again where nothing came of it
+ASKED_SECONDS = 2
+
+
+class Intake:
+    """What a batch of messages does to the database."""
+
+    def __init__(self, config: Config, database: Database, name: str) -> None:
+        self.config, self.database, self.worker = config, database, f"intake {name}"
+
+    def take(self, messages: Sequence[Message]) -> list[Again]:
+        """One transaction over messages: what is taken of them, and how far; who has to be asked."""
+        counts: Counter[str] = Counter(messages=len(messages))
+        with store.transaction(self.database):
+            fences = self._fences({it.gateway for it in messages})
+            told = accept(words_of(self.config.programs.line_accept), fences, messages)
+            taken = [message for message, answer in zip(messages, told.answers, strict=True) if answer == "take"]
+            counts["lines"] = put_lines(self.config, self.database, taken)
+            put_fences(self.database, told.fences, {message.gateway: message.until for message in taken})
+            self._put_missing(fences, taken)
+            asked = self._asked(fences, messages, told.answers)
+            counts.update(answer.split(" ")[0] for answer in told.answers)
+            counts["asked"] = len(asked)
+            store.add_totals(self.database, self.worker, counts)
+        return asked
+
+    def _fences(self, names: set[str]) -> dict[str, Fence]:
+        """The fences of these gateways, locked in one order, so that two intakes never wait in a ring; a gateway's later lines can't come
+        into the inbox before its earlier ones are committed."""
+        rows = self.database.execute("select name, epoch, number from gateway where name = any(%s) order by name for update",
+                                     (sorted(names),)).fetchall()
+        return {name: (epoch, number) for name, epoch, number in rows}
+
+    def _put_missing(self, fences: Mapping[str, Fence], taken: Sequence[Message]) -> None:
+        """Epochs behind which a later one began."""
+        last = dict(fences)
+        for message in taken:
+            epoch, number = last[message.gateway]
+            if message.epoch > epoch > 0:
+                self.database.execute("insert into missing values (%s, %s, %s, %s)", (message.gateway, epoch, number, time.time()))
+                log.warning("%s: an epoch began behind message %d of the one before, whose later ones may be gone", message.gateway, number)
+            last[message.gateway] = message.epoch, message.number
+
+    def _asked(self, fences: Mapping[str, Fence], messages: Sequence[Message], answers: Sequence[str]) -> list[Again]:
+        """Whom to ask for what, each not too often."""
+        wanted: dict[str, Again] = {}
+        for message, answer in zip(messages, answers, strict=True):
+            word, *rest = answer.split(" ")
+            if word == "ask":
+                wanted[message.gateway] = Again(message.gateway, int(rest[0]), int(rest[1]))
+            elif word == "take":
+                wanted.pop(message.gateway, None)
+            elif word == "again" and message.epoch < fences[message.gateway][0]:
+                # (its epoch is behind ours, as where its clock or its state was set back: all that it says would be left for ever)
+                epoch, number = fences[message.gateway]
+                wanted[message.gateway] = Again(message.gateway, epoch, number + 1)
+        if not wanted:
+            return []
+        rows = self.database.execute("update gateway set asked = now() where name = any(%s) and (asked is null or asked < now()"
+                                     " - make_interval(secs => %s)) returning name", (sorted(wanted), ASKED_SECONDS)).fetchall()
+        return [wanted[name] for (name,) in rows]
+
+
+def put_lines(config: Config, database: Database, taken: Sequence[Message]) -> int:
+    """Puts the lines of messages into the inbox in their order, each with the meter that it is for."""
+    lines = [(message, place, text) for message in taken for place, text in frames_in(message.lines)]
+    addresses = addresses_of(words_of(config.programs.address_list), [text for _, _, text in lines])
+    rows = [(address, it.gateway, it.epoch, it.number, place, text) for address, (it, place, text) in zip(addresses, lines, strict=True)]
+    store.copy_rows(database, "inbox (address, gateway, epoch, message, place, text)", rows)
+    return len(rows)
+
+
+def put_fences(database: Database, fences: Mapping[str, Fence], until: Mapping[str, int]) -> None:
+    """How far each gateway's messages are taken, and until when what it heard."""
+    rows = [(name, epoch, number, until[name]) for name, (epoch, number) in fences.items()]
+    if rows:
+        database.execute("update gateway g set epoch = f.epoch, number = f.number, until = f.until, seen = now() from"
+                         " unnest(%s::text[], %s::bigint[], %s::bigint[], %s::bigint[]) as f (name, epoch, number, until)"
+                         " where g.name = f.name", tuple(list(column) for column in zip(*rows, strict=True)))
+
+
+class Consuming:
+    """Messages as they come over a connection."""
+
+    def __init__(self, intake: Intake, connection: Any, areas: Sequence[str]) -> None:
+        self.intake, self.connection = intake, connection
+        self.channel = broker.opened(connection)
+        self.channel.basic_qos(prefetch_count=PREFETCH)
+        self.held: list[tuple[int, Message | None]] = []
+        self.since = 0.0
+        for area in areas:
+            broker.declare_area(self.channel, area)
+            broker.consume(self.channel, broker.area_queue(area), self._hold)
+
+    def _hold(self, _channel: Any, method: Any, _properties: Any, body: bytes) -> None:
+        """A message is in hand."""
+        if not self.held:
+            self.since = time.monotonic()
+        message = read_lines(method.routing_key, body)
+        if message is None:
+            log.error("a message of %s is out of form, and is left", method.routing_key)
+        self.held.append((method.delivery_tag, message))
+
+    def turn(self) -> None:
+        """A batch, once it is due."""
+        lines = sum(len(message.lines) for _, message in self.held if message)
+        is_due = time.monotonic() - self.since >= self.intake.config.interval or lines >= MOST
+        self.connection.process_data_events(0 if self.held and is_due else LOOK)
+        if not self.held or not is_due:
+            return
+        count = self._count()
+        tag, messages = self.held[count - 1][0], [message for _, message in self.held[:count] if message]
+        asked = self.intake.take(messages) if messages else []
+        del self.held[:count]
+        acknowledge(self.channel, tag)
+        for it in asked:
+            ask(self.channel, it)
+
+    def _count(self) -> int:
+        """How many messages the batch has, one at least: no more lines than one transaction takes."""
+        lines = 0
+        for count, (_, message) in enumerate(self.held):
+            lines += len(message.lines) if message else 0
+            if count and lines > MOST:
+                return count
+        return len(self.held)
+
+
+def acknowledge(channel: Any, tag: int) -> None:
+    """The broker needn't keep the messages up to this one."""
+    channel.basic_ack(tag, multiple=True)
+
+
+def ask(channel: Any, asked: Again) -> None:
+    """Asks a gateway to send again."""
+    try:
+        broker.publish(channel, "", broker.gateway_queue(asked.gateway), again_body(asked), broker.ASKED_MILLISECONDS)
+    except broker.NoQueue:
+        log.warning("%s: it has no queue yet, and can't be asked to send again", asked.gateway)
+
+
+def run(config: Config, areas: Sequence[str], name: str, ending: threading.Event) -> None:
+    """Takes in the messages of these areas, or of all; after trouble those that weren't acknowledged come again."""
+    trouble = ""
+    while not ending.is_set():
+        try:
+            with store.connect(config.database) as database, broker.connected(config.broker) as connection:
+                known = [area for (area,) in database.execute("select name from area order by name").fetchall()]
+                consuming = Consuming(Intake(config, database, name), connection, areas or known)
+                while not ending.is_set():
+                    consuming.turn()
+        except (psycopg.Error, ProgramFailed, *broker.FAULTS) as fault:
+            told = f"intake: {type(fault).__name__}: {str(fault).strip()}"
+            if told != trouble:
+                log.error("%s", told)
+            trouble = told
+            ending.wait(PAUSE)

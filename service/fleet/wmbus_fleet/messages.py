@@ -1,0 +1,85 @@
+"""What gateways and the fleet say to each other (docs/FLEET.md, "Messages")."""
+from __future__ import annotations
+
+import re
+from collections.abc import Sequence
+from dataclasses import dataclass
+
+# so many lines a message at most, the numbers that an epoch has, and so many bytes a message
+MOST = 100
+LAST = (1 << 32) - 1
+LONGEST = 1 << 18
+HEAD = re.compile(r"wmbus-lines 1 (0|[1-9][0-9]{0,17}) ([1-9][0-9]{0,9}) (0|[1-9][0-9]{0,17})")
+AGAIN = re.compile(r"wmbus-again 1 (0|[1-9][0-9]{0,17}) ([1-9][0-9]{0,9})")
+DOWN = re.compile(r"wmbus-down 1 ([0-9a-f]{16}) (0|[1-9][0-9]{0,9}) ([0-9a-f]{2,600}) ([1-9][0-9]{0,8})")
+FRAMES = ("A ", "B ")
+
+
+@dataclass(frozen=True)
+class Message:
+    """A gateway's numbered message, and the moment up to which all that it heard stands in this one and those before it."""
+
+    gateway: str
+    epoch: int
+    number: int
+    until: int
+    lines: tuple[str, ...]
+
+
+@dataclass(frozen=True)
+class Again:
+    """A gateway is to send its messages of an epoch from this number on."""
+
+    gateway: str
+    epoch: int
+    number: int
+
+
+@dataclass(frozen=True)
+class Down:
+    """A downlink for a meter that the gateway heard, with its counter, and for how many seconds it counts."""
+
+    address: str
+    down: int
+    frame: str
+    seconds: int
+
+
+def lines_body(epoch: int, number: int, until: int, lines: bytes) -> bytes:
+    """A numbered message, whose lines end with newlines."""
+    return f"wmbus-lines 1 {epoch} {number} {until}\n".encode() + lines
+
+
+def read_lines(key: str, body: bytes) -> Message | None:
+    """A message by its key, `up.AREA.GATEWAY`, and its body; none where it is out of form."""
+    head, *lines = body.decode("latin-1").split("\n")
+    found = HEAD.fullmatch(head)
+    if found is None or len(body) > LONGEST or len(lines) > MOST + 1 or lines[-1:] != [""]:
+        return None
+    return Message(key.split(".")[-1], int(found[1]), int(found[2]), int(found[3]), tuple(lines[:-1]))
+
+
+def frames_in(lines: Sequence[str]) -> list[tuple[int, str]]:
+    """The lines of frames with their places, from 1: whatever else stands there, a gateway says what it heard alone, and puts no command
+    and no key."""
+    return [(place, line.replace("\0", "?")) for place, line in enumerate(lines, 1) if line.startswith(FRAMES)]
+
+
+def again_body(asked: Again) -> bytes:
+    """What a gateway is asked for."""
+    return f"wmbus-again 1 {asked.epoch} {asked.number}".encode()
+
+
+def down_body(downlink: Down) -> bytes:
+    """A downlink on its way to a gateway."""
+    return f"wmbus-down 1 {downlink.address} {downlink.down} {downlink.frame} {downlink.seconds}".encode()
+
+
+def read_order(gateway: str, body: bytes) -> Again | Down | None:
+    """What the fleet says to a gateway; none where it is out of form."""
+    text = body.decode("latin-1")
+    if found := AGAIN.fullmatch(text):
+        return Again(gateway, int(found[1]), int(found[2]))
+    if found := DOWN.fullmatch(text):
+        return Down(found[1], int(found[2]), found[3], int(found[4]))
+    return None

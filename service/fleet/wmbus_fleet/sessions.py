@@ -1,0 +1,173 @@
+"""Sessions of the fleet, a shard's one after the other: lines of the inbox, waiting commands and due ticks are heard by the proved
+program over the blocks of just their meters, and all that it says is committed in one transaction, or nothing."""
+from __future__ import annotations
+
+import logging
+import random
+import threading
+import time
+from collections.abc import Collection, Sequence
+
+import psycopg
+from wmbus_service.config import words_of
+from wmbus_service.events import Event, order_line, with_ticks
+from wmbus_service.steps import ProgramFailed, Told, run_steps, state_text
+from wmbus_service.trouble import Trouble
+
+from . import retention, store
+from .arrived import Arrived, arrived
+from .config import Config, Ticks
+from .rows import arrived_of
+from .schema import SHARDS
+from .store import Database
+from .writing import write
+
+log = logging.getLogger("wmbus")
+
+# a state has 4,096 meters at most, and each line may name another one
+MOST = 4000
+PAUSE, LET_GO = 0.5, 600.0
+
+
+class Sessions:
+    """Sessions over all shards; of each shard one process at a time has one."""
+
+    def __init__(self, config: Config, database: Database) -> None:
+        self.config, self.database = config, database
+        # how many lines a shard's next session takes: fewer after one that the program failed at
+        self.most = dict.fromkeys(range(SHARDS), MOST)
+
+    def turn(self, now: float) -> int:
+        """A session of each shard that has something to hear, from any shard on; the most lines that one took."""
+        first = random.randrange(SHARDS)
+        return max(self.session((first + place) % SHARDS, now) for place in range(SHARDS))
+
+    def session(self, shard: int, now: float) -> int:
+        """One session over what is there for a shard; how many lines it took."""
+        batch: list[Event] = []
+        try:
+            with store.transaction(self.database):
+                if not lock(self.database, shard):
+                    return 0
+                batch = gather(self.database, self.config.ticks, shard, now, self.most[shard])
+                if batch:
+                    write(self.database, self.config.ticks, shard, batch, self._told(batch), now)
+        except ProgramFailed as failed:
+            return self._halve(shard, batch, failed, now)
+        self.most[shard] = min(MOST, self.most[shard] * 2)
+        return len(batch)
+
+    def _told(self, batch: Sequence[Event]) -> Told:
+        """What the program says, over the blocks of the meters that the lines are for."""
+        return self._run({address_of(event) for event in batch}, [event.text for event in batch])
+
+    def _run(self, addresses: Collection[str], lines: Sequence[str]) -> Told:
+        """A run of the program over some meters' blocks."""
+        own = store.setting(self.database, "own")
+        if own is None:
+            raise Trouble("the database", "the collector's own address isn't known", "`wmbus-fleet commission ROSTER` gives it")
+        return run_steps(words_of(self.config.programs.steps), state_text(own, blocks_of(self.database, addresses)), lines)
+
+    def _halve(self, shard: int, batch: Sequence[Event], failed: ProgramFailed, now: float) -> int:
+        """After a failed session the shard's next one takes half of its lines, until the line at which the program fails is found; that
+        one is set aside."""
+        if len(batch) > 1:
+            log.error("the program failed over %d lines of shard %d, and nothing of it counts: %s", len(batch), shard, failed)
+            self.most[shard] = len(batch) // 2
+            return len(batch)
+        try:
+            self._run({address_of(event) for event in batch}, [])
+        except ProgramFailed as again:
+            raise Trouble(self.config.programs.steps, f"the program fails over what is known of the meter, without any line: {again}",
+                          "look at its release and at the meter's block") from None
+        with store.transaction(self.database):
+            if lock(self.database, shard):
+                set_aside(self.database, batch[0], shard, str(failed), now)
+        log.error("the program fails at this line, which is set aside (`wmbus-fleet status` shows it): %s", failed)
+        return 1
+
+
+def lock(database: Database, shard: int) -> bool:
+    """Keeps other sessions away from a shard until the transaction ends; whether that can be."""
+    return bool(store.one(database, "select pg_try_advisory_xact_lock(%s, %s)", (store.SESSIONS, shard)))
+
+
+def gather(database: Database, ticks: Ticks, shard: int, now: float, most: int) -> list[Event]:
+    """What is to be heard of a shard: what operators asked for, then gateways' lines as they were taken, with each tick where it was
+    due. While more lines wait, no tick stands behind them all."""
+    orders = [Event(order_line(*row), command=ident) for ident, *row in database.execute(
+        "select id, address, kind, payload, number, state from command where (state = 'waiting' or wish is not null)"
+        " and shard_of(address) = %s order by place limit %s", (shard, most)).fetchall()]
+    due = due_ticks(database, ticks, shard, now, most - len(orders))
+    room = most - len(orders) - len(due)
+    heard = take(database, shard, room)
+    events = with_ticks(heard, due)
+    while events and events[-1].ticked and len(heard) == room:
+        events.pop()
+    return orders + events
+
+
+def due_ticks(database: Database, ticks: Ticks, shard: int, now: float, most: int) -> list[tuple[float, str]]:
+    """The meters whose ticks are due, and since when: all that the gateway that heard such a meter last heard until then is in the inbox
+    or was heard by a session, or else the gateway is cut off for very long."""
+    rows = database.execute(
+        "select m.due, m.address from meter m left join gateway g on g.name = m.gateway where shard_of(m.address) = %s and m.due <= %s"
+        " and (g.name is null or g.until > m.due or m.due < %s) order by m.due, m.address limit %s",
+        (shard, now, now - ticks.patience, most // 2)).fetchall()
+    return [(moment, address) for moment, address in rows]
+
+
+def take(database: Database, shard: int, most: int) -> list[Arrived]:
+    """The oldest lines of a shard, which are gone from the inbox with the commit."""
+    rows = database.execute(
+        f"with old as (select id from inbox_{int(shard)} order by id limit %s), gone as (delete from inbox_{int(shard)} i using old"
+        " where i.id = old.id returning i.*) select address, gateway, epoch, message, place, text from gone order by id", (most,))
+    return [arrived(*row) for row in rows.fetchall()]
+
+
+def address_of(event: Event) -> str:
+    """The meter that an event is for: of a gateway's line as `address_list` said, of the others as they were made."""
+    it = arrived_of(event)
+    return it.address if it else event.text.split(" ")[1]
+
+
+def blocks_of(database: Database, addresses: Collection[str]) -> list[str]:
+    """What is known of those of these meters that there are."""
+    rows = database.execute("select block from meter where address = any(%s) order by address", (sorted(addresses),)).fetchall()
+    return [block for (block,) in rows]
+
+
+def set_aside(database: Database, event: Event, shard: int, said: str, now: float) -> None:
+    """Keeps an event that the program fails at out of all later sessions."""
+    it = arrived_of(event)
+    if it:
+        take(database, shard, 1)
+    if event.command:
+        database.execute("update command set state = 'refused', reason = 'the program failed', wish = null, changed = %s where id = %s",
+                         (now, event.command))
+    if event.ticked:
+        database.execute("update meter set due = null where address = %s", (event.ticked,))
+    text = "(a command; its row has it)" if event.command else event.text
+    database.execute("insert into aside (gateway, text, said, made) values (%s, %s, %s, %s)",
+                     (it.receiver if it else None, text, said, now))
+    store.add_totals(database, f"shard {shard}", {"aside": 1})
+
+
+def run(config: Config, ending: threading.Event) -> None:
+    """Sessions without end; after trouble the same lines come again."""
+    trouble = ""
+    while not ending.is_set():
+        try:
+            with store.connect(config.database) as database:
+                sessions, let_go_at = Sessions(config, database), time.monotonic()
+                while not ending.is_set():
+                    count = sessions.turn(time.time())
+                    if not count and time.monotonic() > let_go_at and not retention.let_go(database, config.keep, time.time()):
+                        let_go_at = time.monotonic() + LET_GO
+                    ending.wait(0 if count >= MOST // 2 else config.interval)
+        except (psycopg.Error, ProgramFailed, Trouble, OSError) as fault:
+            told = f"sessions: {type(fault).__name__}: {str(fault).strip()}"
+            if told != trouble:
+                log.error("%s", told)
+            trouble = told
+            ending.wait(PAUSE)

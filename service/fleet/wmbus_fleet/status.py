@@ -1,0 +1,71 @@
+"""What the fleet has done, and what somebody should look at, in words."""
+from __future__ import annotations
+
+import json
+import time
+from collections.abc import Iterator
+from typing import Any
+
+from psycopg.rows import dict_row
+
+from . import store
+from .store import Database
+
+LAST = 10
+SILENT = 600
+
+
+def figures(database: Database) -> dict[str, Any]:
+    """All that is told, as data."""
+    totals = "select name, sum(value)::bigint from total group by name order by name"
+    return {
+        "totals": store.pairs(database, totals),
+        "meters": store.one(database, "select count(*) from meter"),
+        "inbox": store.one(database, "select count(*) from inbox"),
+        "downlinks_waiting": store.one(database, "select count(*) from outbox where sent is null and missed is null"),
+        "ticks_late": store.one(database, "select count(*) from meter where due < %s", (time.time() - 60,)),
+        "commands": store.pairs(database, "select state, count(*) from command group by state order by state"),
+        "gateways": _rows(database, "select name, area, epoch, number, extract(epoch from now() - seen)::bigint as age from gateway"
+                                    f" where seen is null or seen < now() - interval '{SILENT} seconds' order by name"),
+        "missing": _rows(database, f"select gateway, epoch, number from missing order by made desc limit {LAST}"),
+        "downlinks_missed": _rows(database, "select address, gateway, down, missed from outbox where missed is not null"
+                                            f" order by id desc limit {LAST}"),
+        "refusals": _rows(database, f"select address, words, times from refusal order by last_made desc limit {LAST}"),
+        "strangers": _rows(database, f"select address, times, gateway from stranger order by times desc limit {LAST}"),
+        "aside": _rows(database, f"select id, gateway, text, said from aside order by id desc limit {LAST}"),
+    }
+
+
+def _rows(database: Database, query: str) -> list[dict[str, Any]]:
+    """Rows with the names of their columns."""
+    return database.cursor(row_factory=dict_row).execute(query).fetchall()
+
+
+def in_words(told: dict[str, Any]) -> Iterator[str]:
+    """The figures line by line."""
+    totals = told["totals"]
+    taken, heard, stored = (totals.get(name, 0) for name in ("lines", "heard", "stored"))
+    yield f"{told['meters']} meters; {taken} lines taken, {heard} heard, {stored} readings"
+    yield f"{told['inbox']} lines wait for a session, {told['downlinks_waiting']} downlinks for the broker"
+    if told["ticks_late"]:
+        yield f"{told['ticks_late']} ticks are late: no sessions run, or too few"
+    if told["commands"]:
+        yield "commands: " + ", ".join(f"{count} {state}" for state, count in told["commands"].items())
+    for it in told["gateways"]:
+        yield f"gateway {it['name']} in {it['area']}: " + ("never heard" if it["age"] is None else f"not heard for {it['age']} s")
+    for it in told["missing"]:
+        yield f"gateway {it['gateway']} began a new epoch behind message {it['number']} of {it['epoch']}: its later ones may be gone"
+    for it in told["downlinks_missed"]:
+        yield f"downlink {it['down']} for {it['address']} wasn't sent: {it['missed']}"
+    for it in told["refusals"]:
+        yield f"refused {it['times']} times for {it['address']}: {it['words']} (docs/FORMATS.md says what to do)"
+    for it in told["strangers"]:
+        yield f"heard {it['times']} times, and not known: {it['address']}"
+    for it in told["aside"]:
+        yield f"set aside, since the program fails at it: line {it['id']} of {it['gateway'] or 'the fleet'}: {it['said']}"
+
+
+def status(database: Database, is_json: bool) -> str:
+    """What is told, as a text."""
+    told = figures(database)
+    return json.dumps(told, ensure_ascii=False, indent=1) if is_json else "\n".join(in_words(told))

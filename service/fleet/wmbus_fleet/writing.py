@@ -1,0 +1,78 @@
+"""Writes a session's rows into PostgreSQL, within the session's transaction."""
+from __future__ import annotations
+
+from collections.abc import Mapping, Sequence
+
+from wmbus_service.events import Event
+from wmbus_service.steps import Block, Told
+from wmbus_service.writing import next_due
+
+from . import store
+from .config import Ticks
+from .rows import Change, Rows
+from .store import Database
+
+
+def write(database: Database, ticks: Ticks, shard: int, batch: Sequence[Event], told: Told, now: float) -> None:
+    """All that a session said. A meter's lines get rising numbers, since its shard's sessions are one after the other."""
+    rows = Rows(now)
+    rows.gather(numbers_for(database, len(batch)), batch, told)
+    store.copy_rows(database, "line (number, address, gateway, epoch, message, place, text, due, made)", rows.lines)
+    store.copy_rows(database, "reading (line, address, gateway, counter, moment, payload, fault, more, records, made)", rows.readings)
+    store.copy_rows(database, "outbox (gateway, address, down, frame, command, made)", [(*row, now) for row in rows.downlinks])
+    for change in rows.changes:
+        change_command(database, change, now)
+    put_refusals(database, rows)
+    put_blocks(database, ticks, rows, told.blocks)
+    store.add_totals(database, f"shard {shard}", rows.counts)
+
+
+def numbers_for(database: Database, count: int) -> list[int]:
+    """The numbers of lines among all."""
+    return [number for (number,) in database.execute("select nextval('line_number') from generate_series(1, %s)", (count,)).fetchall()]
+
+
+def change_command(database: Database, change: Change, now: float) -> None:
+    """What becomes of a command; what an operator wished of it is done or can't be."""
+    wanted = "id = %(id)s" if "id" in change else "address = %(address)s and number = %(number)s"
+    if "tries" in change:
+        database.execute(f"update command set tries = tries + 1 where {wanted}", change)
+        return
+    database.execute(
+        "update command set state = coalesce(%(state)s, state), number = coalesce(%(given)s, number),"
+        " reason = coalesce(%(reason)s, reason), payload = coalesce(%(payload)s, payload), wish = null, changed = %(now)s"
+        f" where {wanted}",
+        {"state": None, "given": None, "reason": None, "payload": None, "now": now} | change)
+
+
+def put_refusals(database: Database, rows: Rows) -> None:
+    """Refusals by meter and reason, and meters that aren't known."""
+    cursor = database.cursor()
+    if rows.refusals:
+        cursor.executemany(
+            "insert into refusal values (%s, %s, %s, %s, %s, %s) on conflict (address, reason) do update set words = excluded.words,"
+            " times = refusal.times + excluded.times, last_line = excluded.last_line, last_made = excluded.last_made",
+            [(*key, words, times, line, rows.now) for key, (words, times, line) in rows.refusals.items()])
+    if rows.strangers:
+        cursor.executemany(
+            "insert into stranger values (%s, %s, %s, %s) on conflict (address) do update set times = stranger.times + excluded.times,"
+            " gateway = excluded.gateway, last_made = excluded.last_made",
+            [(address, times, gateway, rows.now) for address, (times, gateway) in sorted(rows.strangers.items())])
+
+
+def put_blocks(database: Database, ticks: Ticks, rows: Rows, blocks: Mapping[str, Block]) -> None:
+    """What is known of the meters now, and when their ticks are due."""
+    if not blocks:
+        return
+    names = list(blocks)
+    due = store.pairs(database, "select address, due from meter where address = any(%s)", (names,))
+    anew = rows.opened | rows.ticked
+    told = [(name, block.text, block.waits, block.holds,
+             next_due(ticks, rows.now, block, None if name in anew else due[name]), rows.gateways.get(name))
+            for name, block in blocks.items()]
+    written = database.execute(
+        "update meter m set block = n.block, waits = n.waits, holds = n.holds, due = n.due, gateway = coalesce(n.gateway, m.gateway)"
+        " from unnest(%s::text[], %s::text[], %s::bigint[], %s::integer[], %s::double precision[], %s::text[])"
+        " as n (address, block, waits, holds, due, gateway) where m.address = n.address",
+        tuple(list(column) for column in zip(*told, strict=True)))
+    assert written.rowcount == len(blocks), "a meter's row is gone"
