@@ -3,6 +3,8 @@
 Each session begins from the state that the one before it wrote, so that all of them together are one session over all lines."""
 from __future__ import annotations
 
+import os
+import tempfile
 from collections import Counter
 from dataclasses import dataclass
 
@@ -87,8 +89,17 @@ def joined(runs: list[Run]) -> Run:
     return Run(runs[-1].status, texts)
 
 
-def chained(program: str, known: bytes, sessions: list[list[bytes]], is_judged: bool = False) -> Chain:
-    """Sessions one after the other, each over its receivers' texts; each is judged by itself too, where that is asked."""
+def audited(auditor: str, known: bytes, next_: bytes, report: str, inputs: list[bytes]) -> str:
+    """What `audit_check` answers to a session's state, the one that it left, its report and its receivers' texts."""
+    names = [f"rx{number}" for number in range(1, len(inputs) + 1)]
+    with tempfile.TemporaryDirectory() as folder:
+        for name, text in [("state", known), ("next", next_), ("report", report.encode()), *zip(names, inputs)]:
+            judging.write(os.path.join(folder, name), text)
+        return judging.ran(auditor, folder, ["--next", "next", "state", "report", *names])[1].strip()
+
+
+def chained(program: str, known: bytes, sessions: list[list[bytes]], is_judged: bool = False, auditor: str | None = None) -> Chain:
+    """Sessions one after the other, each over its receivers' texts; each is judged by itself and audited too, where that is asked."""
     runs, carried = [], Counter[str]()
     for number, inputs in enumerate(sessions, 1):
         run = judging.run_over(program, "continue", known, inputs)
@@ -97,8 +108,12 @@ def chained(program: str, known: bytes, sessions: list[list[bytes]], is_judged: 
         found = judged("continue", known, inputs, run) if is_judged else []
         if found:
             raise Unlike(f"session {number}: {found[0]}")
+        left = run.texts["next"].encode("utf-8", "surrogateescape")
+        answer = audited(auditor, known, left, run.texts["report"], inputs) if auditor else "yes"
+        if answer != "yes":
+            raise Unlike(f"session {number}: audit_check --next answers {answer}")
         runs.append(run)
-        known = run.texts["next"].encode("utf-8", "surrogateescape")
+        known = left
         if number < len(sessions):
             carried.update(word for word in (line.split(b" ", 1)[0].decode() for line in known.split(b"\n")) if word in BLOCK_WORDS)
     return Chain(joined(runs), carried)

@@ -1,4 +1,5 @@
 """What docs/FORMATS.md says that each printed word means, and what to do: the rows of its tables whose last column is headed `What to do`."""
+import functools
 import os
 import re
 
@@ -52,3 +53,15 @@ def explained_rows():
 def fixed_words(words):
     """The words without what varies, which stands there in capitals: `stale GOT LAST` is `stale`."""
     return re.sub(r"^[A-Z]+ (?=[a-z])|(?: [A-Z]+)+$", "", words)
+
+
+@functools.cache
+def rows_of_reports():
+    """The rows that explain words of reports, by these words."""
+    return {fixed_words(words): row for row in explained_rows() if row.section == "Report" for words in row.words}
+
+
+def row_of(words):
+    """The row that explains words of a report, that of their longest beginning which has one; else none."""
+    parts = words.split(" ")
+    return next((row for count in range(len(parts), 0, -1) if (row := rows_of_reports().get(" ".join(parts[:count]))) is not None), None)

@@ -24,6 +24,7 @@ KNOWN = [line.encode() for line in [
 ]]
 NUMBERS = [0, 1, 2, 3, 4, 7, 8, 9, 255, 256, 2**32 - 1, 2**32, 2**64 - 1, 2**64, 10**20, "00", "01", "+1", "-1", "1e3", "", "-", "3 ", "٣", "9" * 400]
 MOST_READING, MOST_COMMAND, MOST_PIECE = 4096, 94, 242
+MOST_WRITTEN = 24
 State = tuple[list[bytes], bytes]
 
 
@@ -264,3 +265,27 @@ def hostile_bytes(draw: random.Random) -> bytes:
     """Bytes by chance behind the head of a state, or a state with a piece changed."""
     text = b"\n".join(KNOWN)
     return draw.choice([b"wmbus-state 1\n" + draw.randbytes(draw.randrange(200)), hostile.bent(draw, text, draw.randrange(1, 5))])
+
+
+def written_ones(count: int, seed: str) -> list[State]:
+    """The states of which so many drawn ones are made."""
+    return [written(number, seed) for number in range(min(MOST_WRITTEN, count))]
+
+
+def state_drawn(number: int, seed: str, written_before: list[State]) -> tuple[bytes, bytes]:
+    """The state of a number, and a receiver's lines."""
+    draw = random.Random(f"{seed} state {number}")
+    if number < len(LIMITS):
+        return LIMITS[number](), b""
+    number -= len(LIMITS)
+    if number < len(EDGES):
+        return EDGES[number], b""
+    turn, kind = divmod(number - len(EDGES), 8)
+    if kind < 3:
+        return with_byte(draw, turn * 3 + kind), b""
+    if kind == 3:
+        return cut_off(turn), b""
+    if kind == 4 and turn % 4 == 0:
+        return hostile_bytes(draw), b""
+    lines, heard = draw.choice(written_before) if kind < 7 else (KNOWN, b"")
+    return changed(draw, lines), heard if draw.random() < 0.3 else b""

@@ -6,6 +6,10 @@ import random
 import subprocess
 import sys
 import tempfile
+from typing import TYPE_CHECKING
+
+if TYPE_CHECKING:
+    from reference import judge
 
 TOP = os.path.dirname(os.path.dirname(os.path.realpath(__file__)))
 DEBIANS = "/usr/bin/python3"
@@ -75,6 +79,15 @@ def run_over(program: str, command: str, known: bytes, inputs: list[bytes]) -> "
         return run_into(program, folder, words_over(command, "state", len(inputs)), folder)
 
 
+def expect(command: str, known: bytes, inputs: list[bytes], given: "judge.Run") -> None:
+    """Fails as replay does where a run isn't the one that the second implementation makes of its inputs and its report's orders."""
+    import replay
+    from reference import judge
+    found = judge.judged(command, known, inputs, given)
+    if found:
+        raise replay.Wrong(f"by the second implementation: {'; '.join(found)}")
+
+
 def words_over(command: str, known: str, receivers: int) -> list[str]:
     """The words of `collect` or `continue` over a file and so many receivers."""
     return [command, known, "next", "readings", *(f"{kind}{at}" for at in range(1, receivers + 1) for kind in ("rx", "tx"))]
@@ -98,6 +111,17 @@ def session_drawn(number: int, seed: str) -> tuple[str, list[bytes]]:
         roster, streams, _ = made_sessions.made(seed, number // 3)
         return roster, ["".join(stream).encode() for stream in streams]
     return hostile_session(draw, 1 if number % 3 == 0 else draw.choice([2, 3, 5]))
+
+
+def any_session(number: int, seed: str) -> tuple[bytes, list[bytes]]:
+    """A roster and the receivers' texts: in turn as `session_drawn` has them, and a made session of one receiver."""
+    import made_sessions
+    if number % 4 < 3:
+        roster, texts = session_drawn(number // 4 * 3 + number % 4, seed)
+        return roster.encode(), texts
+    draw = random.Random(f"{seed} one {number}")
+    roster, streams = made_sessions.session(draw, 1, draw.choice([20, 60, 200]))
+    return roster.encode(), ["".join(streams[0]).encode()]
 
 
 def program_and_words() -> tuple[str, list[str]]:

@@ -1,4 +1,4 @@
-"""The database of readings that tools/keep_readings fills and tools/report_page shows: a SQLite file.
+"""The database of readings that tools/keep_readings fills and tools/report_page shows: a SQLite file. That of wmbus-service is shown by the same tables (service_tables.py).
 
 What a report says of stored steps is kept for ever, each step once. What it says beside that (refusals, commands that wait, strangers,
 how its receivers ended) is kept for each report, and goes with it when a later report takes its place."""
@@ -8,13 +8,17 @@ import os
 import sqlite3
 import sys
 
+import service_tables
+
 APPLICATION = 0x6D627573
-VERSION = 1
+VERSION = 2
+# the tables of this version had the words of the profile alone; tools/keep_readings makes them anew of the payloads that are kept
+EARLIER = 1
 PAGE_WAIT = 60
 # faults of an output that takes nothing; where a script has another one, a program couldn't be started
 NO_OUTPUT = {errno.ENOSPC, errno.EDQUOT, errno.EFBIG, errno.EIO, errno.EBADF}
 
-TABLES = """
+READINGS = """
 CREATE TABLE reading (
     id INTEGER PRIMARY KEY,
     address TEXT NOT NULL,     -- the meter's sixteen digits
@@ -25,25 +29,41 @@ CREATE TABLE reading (
     line INTEGER NOT NULL,
     UNIQUE (address, counter, moment, payload)
 );
+"""
+
+# what the readings' payloads say
+RECORDS = """
 CREATE TABLE register (
     id INTEGER PRIMARY KEY,
+    name TEXT NOT NULL,        -- the quantity with its qualifiers, and the function where it isn't instantaneous, as `power maximum`
     function TEXT NOT NULL,
     storage INTEGER NOT NULL,
     tariff INTEGER NOT NULL,
     subunit INTEGER NOT NULL,
     quantity TEXT NOT NULL,
     unit TEXT NOT NULL,
-    modifiers TEXT NOT NULL,
-    UNIQUE (function, storage, tariff, subunit, quantity, unit, modifiers)
+    qualifiers TEXT NOT NULL,  -- words with spaces between them, without `unset`
+    modifiers TEXT NOT NULL,   -- the bytes of the qualifiers, in hexadecimal
+    UNIQUE (function, storage, tariff, subunit, quantity, unit, qualifiers, modifiers)
 );
 CREATE TABLE record (
     reading INTEGER NOT NULL REFERENCES reading (id) ON DELETE CASCADE,
     place INTEGER NOT NULL,    -- its place in the payload, from 1
     register INTEGER NOT NULL REFERENCES register (id),
-    value TEXT NOT NULL,       -- an exact decimal number, a date, a moment, or text, raw, -
+    value TEXT NOT NULL,       -- an exact decimal number, a date, a moment, bits, a text, or raw, withheld, -
+    number REAL,               -- the number that it counts, if it does
+    unset INTEGER NOT NULL,    -- 1 where the data stand for no value
+    type TEXT NOT NULL,        -- the type of the data
     raw TEXT NOT NULL,         -- the data as sent, in hexadecimal
     PRIMARY KEY (reading, place)
 ) WITHOUT ROWID;
+CREATE VIEW series AS
+    SELECT address, moment, counter, receiver, line, place AS record, name, function, storage, tariff, subunit, quantity, unit, qualifiers, value, number, unset, type,
+        modifiers, raw
+    FROM reading JOIN record ON record.reading = reading.id JOIN register ON register.id = record.register;
+"""
+
+REPORTS = """
 CREATE TABLE report (
     id INTEGER PRIMARY KEY,
     name TEXT NOT NULL UNIQUE, -- the path of its file
@@ -93,9 +113,6 @@ CREATE TABLE stranger (
     count INTEGER NOT NULL,    -- how often it stands in the ring of the last strangers
     PRIMARY KEY (report, address)
 ) WITHOUT ROWID;
-CREATE VIEW series AS
-    SELECT address, moment, counter, receiver, line, place AS record, function, storage, tariff, subunit, quantity, unit, value, modifiers, raw
-    FROM reading JOIN record ON record.reading = reading.id JOIN register ON register.id = record.register;
 """
 
 # which reports are of the same lines; databases that were made without these tables are given them
@@ -130,9 +147,11 @@ def open_database(path, create):
         database.execute("PRAGMA synchronous = FULL")
         if create:
             make_tables(database)
-        check_tables(database, path)
+        check_tables(database, path, create)
         if create:
             run_all(database, SAME_LINES)
+        if is_of_service(database):
+            service_tables.put_views(database)
         return database
     except (sqlite3.Error, NoDatabase) as error:
         if database is not None:
@@ -163,18 +182,47 @@ def make_tables(database):
         return
     database.execute("BEGIN IMMEDIATE")
     if is_empty(database):
-        run_all(database, TABLES)
+        run_all(database, READINGS)
+        run_all(database, RECORDS)
+        run_all(database, REPORTS)
         database.execute(f"PRAGMA application_id = {APPLICATION}")
         database.execute(f"PRAGMA user_version = {VERSION}")
     database.execute("COMMIT")
 
 
-def check_tables(database, path):
+def is_of_service(database):
+    """Whether this is the database of wmbus-service."""
+    return marks(database)[0] == service_tables.APPLICATION
+
+
+def is_earlier(database):
+    """Whether the tables of records are those of an earlier version."""
+    return marks(database)[1] == EARLIER
+
+
+def empty_records(database):
+    """Makes the tables of records anew, with nothing in them, in the midst of a transaction."""
+    for statement in ("DROP VIEW series", "DROP TABLE record", "DROP TABLE register"):
+        database.execute(statement)
+    run_all(database, RECORDS)
+    database.execute(f"PRAGMA user_version = {VERSION}")
+
+
+def check_tables(database, path, create):
     application, version = marks(database)
-    if application != APPLICATION:
+    if is_of_service(database) and create:
+        raise NoDatabase(f"{path}: this is the database of wmbus-service, which keeps its readings itself")
+    if is_of_service(database) and version == service_tables.VERSION:
+        return
+    if application not in (APPLICATION, service_tables.APPLICATION):
         raise NoDatabase(f"{path}: this is no database of readings")
-    if version != VERSION:
-        raise NoDatabase(f"{path}: it was made by another version: its tables are of version {version}, these tools know {VERSION}")
+    if version == EARLIER and create:
+        return
+    if version == EARLIER and application == APPLICATION:
+        raise NoDatabase(f"{path}: it was made by an earlier version: keep a report in it once more, and its records are read anew")
+    known = service_tables.VERSION if is_of_service(database) else VERSION
+    if version != known:
+        raise NoDatabase(f"{path}: it was made by another version: its tables are of version {version}, these tools know {known}")
 
 
 def fail(name, words):

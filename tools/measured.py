@@ -16,10 +16,10 @@ def peak_so_far(process):
     return 0
 
 
-def run(words):
-    """A program's run on one processor, its output to nothing: seconds of the processor and by the clock, the peak of memory in kB, and the exit status."""
+def run(words, output=subprocess.DEVNULL):
+    """A program's run on one processor, its output to nothing or where it is said: seconds of the processor and by the clock, the peak of memory in kB, and the exit status."""
     began, peak, ended = time.monotonic(), 0, 0
-    program = subprocess.Popen(words, stdout=subprocess.DEVNULL, preexec_fn=lambda: os.sched_setaffinity(0, {min(os.sched_getaffinity(0))}))
+    program = subprocess.Popen(words, stdout=output, preexec_fn=lambda: os.sched_setaffinity(0, {min(os.sched_getaffinity(0))}))
     while not ended:
         peak = max(peak, peak_so_far(program.pid))
         ended, status, used = os.wait4(program.pid, os.WNOHANG)

@@ -1,4 +1,4 @@
-"""What was used by day and by month: the differences of a register that only rises."""
+"""What was used by hour, day and month: the differences of a register that only rises."""
 import datetime
 import functools
 import time
@@ -14,7 +14,7 @@ RISING = {"energy", "volume", "mass", "hca"}
 
 @dataclass
 class Used:
-    """What was used in a day or a month, from the last reading before it, whose moment is `since`; the first day of its readings."""
+    """What was used in an hour, a day or a month, from the last reading before it, whose moment is `since`; the first hour of its readings."""
     since: int
     first: tuple
     amount: Decimal = Decimal(0)
@@ -22,13 +22,13 @@ class Used:
 
     def is_longer(self):
         """Whether the reading before lies further back than the day before its first one."""
-        return (datetime.date(*self.first) - datetime.date(*day_of(self.since))).days > 1
+        return (datetime.date(*self.first[:3]) - datetime.date(*hour_of(self.since)[:3])).days > 1
 
 
-@functools.lru_cache(maxsize=None)
-def day_of(moment):
-    """The day of a moment in this machine's zone: year, month and day."""
-    return tuple(time.localtime(moment)[:3])
+@functools.lru_cache(maxsize=1 << 20)
+def hour_of(moment):
+    """The hour of a moment in this machine's zone: year, month, day and hour."""
+    return tuple(time.localtime(moment)[:4])
 
 
 def rising_points(points):
@@ -43,11 +43,11 @@ def rising_points(points):
 
 
 def used_of(points, parts):
-    """What was used by day (of 3 parts) or by month (of 2), in their order, of rising points. Where the register fell the meter was reset or replaced, and nothing is counted."""
+    """What was used by hour (of 4 parts), day (of 3) or month (of 2), in their order, of rising points. Where the register fell the meter was reset or replaced, and nothing is counted."""
     used = {}
     for (before, old), (moment, new) in pairwise(points):
-        day = day_of(moment)
-        entry = used.setdefault(day[:parts], Used(before, day))
+        hour = hour_of(moment)
+        entry = used.setdefault(hour[:parts], Used(before, hour))
         if new < old:
             entry.fell = True
         else:

@@ -1,4 +1,4 @@
-"""A second implementation of what `wmbus hear`, `wmbus collect` and `wmbus continue` print.
+"""A second implementation of what `wmbus hear`, `wmbus collect`, `wmbus continue` and `wmbus steps` print.
 
 It is written from docs/DEFINITIONS.md, docs/FORMATS.md and the public standards, and shares no code with the
 program."""

@@ -55,7 +55,7 @@ class Commands:
     def cancel(self, ident: int) -> None:
         """Takes a command out; if it was the one that was sent, the window closes."""
         if all(it.ident != ident for it in self.waiting):
-            raise Refusal(f"nosuch {ident}")
+            raise Refusal("nosuch", ident)
         self._remove(ident)
 
     def tick(self) -> int | None:

@@ -25,7 +25,7 @@ class Fragments:
     def hold(self, afl: Afl, content: bytes) -> None:
         """Holds a fragment in the place of an earlier one of its number."""
         if afl.number > MOST:
-            raise Refusal(f"parts {afl.number}")
+            raise Refusal("parts", afl.number)
         self.pieces.pop(afl.number, None)
         self.pieces[afl.number] = Piece(afl, content)
 
@@ -38,13 +38,15 @@ class Fragments:
     def message(self, link: bytes) -> Message | None:
         """`assembled`: up to the end that was heard last, if all in front are held and say that more follow."""
         ends = [number for number, piece in self.pieces.items() if piece.afl.is_last]
-        parts = [self.pieces.get(number) for number in range(1, ends[-1] + 1)] if ends else [None]
-        if any(part is None or part.afl.is_last for part in parts[:-1]) or parts[-1] is None:
+        numbers = range(1, ends[-1] + 1) if ends else range(0)
+        parts = [self.pieces[number] for number in numbers if number in self.pieces]
+        if not ends or len(parts) < len(numbers) or any(part.afl.is_last for part in parts[:-1]):
             return None
         try:
             tpl = read_tpl(b"".join(part.content for part in parts))
         except LayerFault as fault:
-            raise Refusal(f"message {fault}") from None
-        if tpl.long_address not in (None, link):
-            raise Refusal(f"other {tpl.long_address.hex()}")
+            raise Refusal(f"message {fault.words}", *fault.values) from None
+        address = tpl.long_address
+        if address is not None and address != link:
+            raise Refusal("other", address.hex())
         return Message(tpl, parts[0].afl.fields | parts[-1].afl.fields)

@@ -1,8 +1,14 @@
 """Frames of formats A and B and their CRCs (EN 13757-4; docs/FORMATS.md, "Lines of a receiver")."""
+from reference.reasons import Reason
+
 LEAST_A, LEAST_B = 10, 12
 GAP_B = (128, 129)
 FIRST_A, NEXT_A, FIRST_B = 10, 16, 126
 POLYNOMIAL = 0x3D65
+
+
+class FrameFault(Reason):
+    """Why bytes are no frame, in the words of `frame_inspect` behind `unframed`."""
 
 
 def _crc_row(byte: int) -> int:
@@ -25,15 +31,16 @@ def crc(content: bytes) -> bytes:
     return (rest ^ 0xFFFF).to_bytes(2, "big")
 
 
-def _joined(frame: bytes, sizes: list[int]) -> bytes | None:
-    """The contents of blocks of these sizes, each followed by its CRC; none where one differs."""
-    if len(frame) != sum(sizes) + 2 * len(sizes):
-        return None
+def _joined(frame: bytes, sizes: list[int]) -> bytes:
+    """The contents of blocks of these sizes, each followed by its CRC."""
+    wanted = sum(sizes) + 2 * len(sizes)
+    if len(frame) != wanted:
+        raise FrameFault("length", wanted, len(frame))
     contents, place = [], 0
-    for size in sizes:
+    for number, size in enumerate(sizes, 1):
         content = frame[place:place + size]
         if crc(content) != frame[place + size:place + size + 2]:
-            return None
+            raise FrameFault("crc", number)
         contents.append(content)
         place += size + 2
     return b"".join(contents)
@@ -45,17 +52,25 @@ def blocks_a(total: int) -> list[int]:
     return [FIRST_A] + [min(NEXT_A, rest - start) for start in range(0, rest, NEXT_A)]
 
 
-def telegram_a(frame: bytes) -> bytes | None:
-    """`FrameA` read: the telegram in a frame of format A."""
-    if not frame or frame[0] < LEAST_A:
-        return None
+def _not_short(frame: bytes, least: int) -> None:
+    """A frame has bytes, and its L is at least this."""
+    if not frame:
+        raise FrameFault("empty")
+    if frame[0] < least:
+        raise FrameFault("short", frame[0])
+
+
+def telegram_a(frame: bytes) -> bytes:
+    """`FrameA` read: the telegram in a frame of format A, or the first fault (`FaultA`)."""
+    _not_short(frame, LEAST_A)
     return _joined(frame, blocks_a(frame[0] + 1))
 
 
-def telegram_b(frame: bytes) -> bytes | None:
-    """`FrameB` read: the telegram in a frame of format B, whose L counts the CRCs too."""
-    if not frame or frame[0] < LEAST_B or frame[0] in GAP_B:
-        return None
+def telegram_b(frame: bytes) -> bytes:
+    """`FrameB` read: the telegram in a frame of format B, whose L counts the CRCs too, or the first fault (`FaultB`)."""
+    _not_short(frame, LEAST_B)
+    if frame[0] in GAP_B:
+        raise FrameFault("gap", frame[0])
     total = frame[0] + 1
     sizes = [total - 2] if total <= FIRST_B + 2 else [FIRST_B, total - FIRST_B - 4]
     return _joined(frame, sizes)

@@ -1,9 +1,10 @@
 """Every data record of EN 13757-3 (2018), read from the standard's tables alone: clause 6 and annex A.
 
-What a record says is given as exact numbers: a decimal as its digits and its power of ten, a real by its bits."""
+What a record says is given in the words of `reading_list`, and numbers exactly."""
 import math
 import struct
 from dataclasses import dataclass, field
+from fractions import Fraction
 
 from reference.records import AFTER_FB, AFTER_FD, VARIABLE, MakerData, Record
 
@@ -110,7 +111,7 @@ class Qualifier:
 
 @dataclass
 class FullRecord:
-    """What a record says. `type` is the letter of annex A, or a dash."""
+    """What a record says. `type` is the letter of annex A, a word for texts and for what nobody is to see, or a dash."""
 
     quantity: str
     unit: str
@@ -119,6 +120,7 @@ class FullRecord:
     type: str
     qualifiers: list[str] = field(default_factory=list)
     unset: bool = False
+    number: str | None = None
 
 
 def _limit_qualifier(code: int) -> Qualifier | None:
@@ -232,9 +234,8 @@ def _moment(width: int, word: int) -> tuple[str | None, str]:
     said, week = _joined("T", _day(word, 24), time), _bits(word, 40, 6)
     if week > 53:
         return None, "I"
-    marks = "!" * _bits(word, 15, 1) + "+" * _bits(word, 6, 1) + "~" * _bits(word, 7, 1)
-    rest = f" day {_bits(word, 21, 3)} week {week} deviation {_bits(word, 14, 1)} {_bits(word, 46, 2)}"
-    return (said and said + marks + rest), "I"
+    marks = "!" * _bits(word, 15, 1) + "+" * _bits(word, 6, 1)
+    return (said and said + marks), "I"
 
 
 def decimal_text(digits: int, exponent: int) -> str:
@@ -245,20 +246,22 @@ def decimal_text(digits: int, exponent: int) -> str:
     return "-" * (digits < 0) + text[:exponent] + "." + text[exponent:]
 
 
-def real_text(bits: int) -> str:
-    """The shortest decimal that reads back as the binary32, its digits and its power of ten."""
+def real_text(bits: int, scale: int) -> str:
+    """The exact decimal of a binary32 times a power of ten; raw where its own digits have more than 127 bits."""
     value = struct.unpack(">f", bits.to_bytes(4, "big"))[0]
     if math.isnan(value):
         return "NaN"
     if math.isinf(value):
         return "-inf" if value < 0 else "inf"
-    for places in range(1, 10):
-        text = f"{value:.{places - 1}e}"
-        if struct.pack(">f", float(text)) == bits.to_bytes(4, "big"):
-            return text
-    raise AssertionError(bits)
+    exact, places = Fraction(value), 0
+    while (exact * 10 ** places).denominator != 1:
+        places += 1
+    if places > MOST_PLACES or abs(exact) >= 1 << 125:
+        return "raw"
+    return decimal_text(int(exact * 10 ** places), scale - places)
 
 
+MOST_PLACES = 44
 LIMIT = 1 << 127
 
 
@@ -285,6 +288,10 @@ def _bcd(raw: bytes, signed: bool, negative: bool) -> int | None:
     return -int(text or "0") if negative else int(text or "0")
 
 
+# Characters of a text that stand for themselves.
+PLAIN = frozenset(map(chr, range(0x20, 0x7F))) - frozenset('"\\,%')
+
+
 def _kind_of(record: Record) -> str:
     """How a number's data are coded: the data field, or the LVAR."""
     data_field = record.dif & 15
@@ -293,27 +300,36 @@ def _kind_of(record: Record) -> str:
     return {0: "none", 5: "H"}.get(data_field, "B" if data_field < 8 else "sA")
 
 
-def _number(record: Record, exponent: int, bits: bool, qualifiers: list[Qualifier]) -> tuple[str, str, bool]:
-    """The value as text, the type, and whether the number stands for none."""
+def _counted(digits: int, text: str, unset: bool) -> str | None:
+    """The number that a decimal counts, as text: of at most fifteen digits without the zeros of its power of ten."""
+    return text if abs(digits) < 10 ** 15 and not unset else None
+
+
+def _number(record: Record, exponent: int, bits: bool, qualifiers: list[Qualifier]) -> tuple[str, str, bool, str | None]:
+    """The value as text, the type, whether the number stands for none, and the number that it counts."""
     kind, raw = _kind_of(record), record.raw
     if kind == "none":
-        return "-", "-", False
+        return "-", "-", False, None
     if kind == "text":
-        return "text", "-", False
+        return "".join(chr(byte) if chr(byte) in PLAIN else f"%{byte:02x}" for byte in raw[::-1]), "text", False, None
     if kind == "H":
         if any(q.adds is not None for q in qualifiers):
-            return "raw", "H", False
+            return "raw", "H", False, None
         scale = exponent + sum(q.scales or 0 for q in qualifiers)
-        return f"{real_text(int.from_bytes(raw, 'little'))} x10^{scale}", "H", False
+        text = real_text(int.from_bytes(raw, "little"), scale)
+        return text, "H", False, None if text in ("raw", "NaN", "inf", "-inf") else text
     if kind == "B":
         if bits:
-            return f"{int.from_bytes(raw, 'little'):b}", "D", False
+            return f"0x{raw[::-1].hex()}", "D", False, None
         digits = int.from_bytes(raw, "little", signed=True)
         unset = len(raw) > 0 and digits == -(1 << 8 * len(raw) - 1)
     else:
         digits, unset = _bcd(raw, kind == "sA", kind == "-A"), len(raw) > 0 and set(raw) == {0xFF}
     exact = None if digits is None else _calculated(digits, exponent, qualifiers)
-    return ("raw" if exact is None else decimal_text(*exact)), kind[-1], unset
+    if exact is None:
+        return "raw", kind[-1], unset, None
+    text = decimal_text(*exact)
+    return text, kind[-1], unset, _counted(exact[0], text, unset)
 
 
 def _dated(record: Record) -> tuple[str, str, bool]:
@@ -344,13 +360,14 @@ def read_in_full(record: Record | MakerData) -> FullRecord:
             unit, exponent = (qualifier.unit or "-"), 0
         elif qualifier.unit:
             unit = qualifier.unit
-    words = [q.word if q.word not in ("kept", "extended", "factor", "constant") else f"{q.word} {q.code:02x}" for q in qualifiers]
+    number = None
+    words = [q.word if q.word not in ("kept", "extended", "factor", "constant") else f"{q.word}-{q.code:02x}" for q in qualifiers]
     if reads == "withheld":
-        value, kind, unset = ("withheld" if record.raw else "-"), "-", False
+        value, kind, unset = ("withheld" if record.raw else "-"), "withheld", False
     elif reads == "raw":
         value, unset = ("raw" if record.raw else "-"), False
     elif reads == "moment":
         value, kind, unset = _dated(record)
     else:
-        value, kind, unset = _number(record, exponent, bits, qualifiers)
-    return FullRecord(quantity, unit, exponent, value, kind, words, unset)
+        value, kind, unset, number = _number(record, exponent, bits, qualifiers)
+    return FullRecord(quantity, unit, exponent, value, kind, words, unset, number)

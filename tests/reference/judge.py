@@ -5,6 +5,7 @@ from dataclasses import dataclass, field
 from reference.roster import RosterFault, read_roster
 from reference.sessions import Place, Session, outputs_of, session_of
 from reference.states import State, read_state, state_of
+from reference.steps import told_over
 
 FAULTY, PAST_LIMIT = 3, 8
 BEFORE, SHOWN = 100, 160
@@ -106,6 +107,16 @@ def differences(wanted: Run, given: Run, most: int = 3) -> list[str]:
             lines = [f"{name} line {behind}: wanted {len(wants) - 1} lines, got {len(gives) - 1}"]
         found += lines[:most]
     return found
+
+
+def steps_judged(known: bytes, heard: bytes, given: Run) -> list[str]:
+    """All that is wrong with a run of `steps`, of which nothing is left to chance: `steps`, `stderr` and `next`."""
+    try:
+        status, told, following = told_over(read_state(known), heard)
+    except RosterFault as fault:
+        return differences(Run(FAULTY, {"steps": "", "stderr": f"wmbus: {fault}\n", "next": ""}), given)
+    errors = "" if status == 0 else "wmbus: receiver 1 goes past the limit\n"
+    return differences(Run(status, {"steps": told, "stderr": errors, "next": following}), given)
 
 
 def judged(command: str, known: bytes, inputs: list[bytes], given: Run) -> list[str]:

@@ -3,6 +3,8 @@
 EN 13757-4 and EN 13757-7; docs/FORMATS.md, "What a telegram says"."""
 from dataclasses import dataclass
 
+from reference.reasons import Reason
+
 LINK = 10
 UPLINKS = frozenset((0x44, 0x46, 0x47, 0x48, 0x08, 0x18, 0x28, 0x38))
 RESPONSES = frozenset((0x08, 0x18, 0x28, 0x38))
@@ -14,7 +16,7 @@ UNUSED = 0x8100
 AFL_FIELDS = ((MCL, 1), (KI, 2), (MCR, 4), (MAC, 8), (ML, 2))
 
 
-class LayerFault(Exception):
+class LayerFault(Reason):
     """Why a layer can't be read, in the report's words behind `layers`."""
 
 
@@ -100,7 +102,7 @@ class Layers:
     afl: Afl | None
     tpl: Tpl | None
     piece: bytes
-    fault: str | None = None
+    fault: Reason | None = None
 
     @property
     def target(self) -> bytes:
@@ -111,35 +113,35 @@ class Layers:
 def read_tpl(content: bytes) -> Tpl:
     """`tpl_at`: a transport header, or its fault (`IsTplFault`)."""
     if not content:
-        raise LayerFault("truncated 0")
+        raise LayerFault("truncated", 0)
     size = TPL_SIZES.get(content[0])
     if size is None:
-        raise LayerFault(f"unbuilt {content[0]:02x}")
+        raise LayerFault("unbuilt", f"{content[0]:02x}")
     if len(content) >= size and content[size - 1] & 31 == 7:
         size += 1
     if len(content) < size:
-        raise LayerFault(f"truncated {len(content)}")
+        raise LayerFault("truncated", len(content))
     return Tpl(content[:size], content[size:])
 
 
 def read_afl(content: bytes) -> tuple[Afl, bytes]:
     """`afl_at`: the layer and what stands behind it, or its fault (`IsAflFault`), the first one."""
     if len(content) < 4:
-        raise LayerFault(f"truncated {len(content)}")
+        raise LayerFault("truncated", len(content))
     control = int.from_bytes(content[2:4], "little")
     there = [(bit, size) for bit, size in AFL_FIELDS if control & bit]
     size = 2 + sum(size for _, size in there)
     if content[1] != size:
-        raise LayerFault(f"length {content[1]} {size}")
+        raise LayerFault("length", content[1], size)
     if len(content) < 2 + size:
-        raise LayerFault(f"truncated {len(content)}")
+        raise LayerFault("truncated", len(content))
     fields, place = {}, 4
     for bit, width in there:
         fields[bit] = content[place:place + width]
         place += width
     afl = Afl(control, fields)
     if is_misplaced(afl):
-        raise LayerFault(f"place {control:04x}")
+        raise LayerFault("place", f"{control:04x}")
     if afl.is_fragment and afl.number == 0:
         raise LayerFault("fidzero")
     return afl, content[place:]
@@ -163,10 +165,10 @@ def _read_ell(content: bytes) -> tuple[int | None, bytes]:
     if not content or content[0] not in (ELL_SHORT, ELL_LONG, *ELL_OTHERS):
         return None, content
     if content[0] in ELL_OTHERS:
-        raise LayerFault(f"kind {content[0]:02x}")
+        raise LayerFault("kind", f"{content[0]:02x}")
     size = ELL_SIZES[content[0]]
     if len(content) < size:
-        raise LayerFault(f"truncated {len(content)}")
+        raise LayerFault("truncated", len(content))
     return content[1], content[size:]
 
 
@@ -183,4 +185,4 @@ def read_layers(telegram: bytes) -> Layers:
         layer = "tpl"
         return Layers(control, link, communication, afl, read_tpl(rest), b"")
     except LayerFault as fault:
-        return Layers(control, link, None, None, None, b"", f"{layer} {fault}")
+        return Layers(control, link, None, None, None, b"", Reason(f"{layer} {fault.words}", *fault.values))

@@ -1,22 +1,30 @@
 """A receiver's lines (docs/FORMATS.md, "Lines of a receiver")."""
 import re
+from collections.abc import Callable, Iterator
 from dataclasses import dataclass
+from typing import TypeVar
 
 from reference.frames import telegram_a, telegram_b
-from reference.roster import ADDRESS, KEY, WORD, lines_of, number_of, unhex
+from reference.reasons import Reason
+from reference.roster import ADDRESS, KEY, WORD, number_of, unhex
 
 LONGEST, MOST_LINES, MOST_BYTES = 1024, 131_072, 67_108_864
 MOMENTS = 1 << 64
 MOST_PAYLOAD = 94
 DIGITS = re.compile(rb"(?:[0-9a-fA-F]{2})*")
+Value = TypeVar("Value")
+
+
+class BadLine(Reason):
+    """What of a line is outside the grammar, the first of `long`, `word`, `fields`, `number`, `address`, `hex`, `payload`, `key`."""
 
 
 @dataclass(frozen=True)
 class Heard:
-    """A frame: its moment, and its telegram where it is one."""
+    """The telegram in a frame, and its moment."""
 
     moment: int
-    telegram: bytes | None
+    telegram: bytes
 
 
 @dataclass(frozen=True)
@@ -29,46 +37,79 @@ class Order:
     number: int = 0
 
 
-def _heard_of(letter: bytes, moment_text: bytes, digits: bytes) -> Heard | None:
+def _or_bad(value: Value | None, words: str) -> Value:
+    """What a field says, or what is wrong with it."""
+    if value is None:
+        raise BadLine(words)
+    return value
+
+
+def _heard_of(letter: bytes, moment_text: bytes, digits: bytes) -> Heard:
     """What a line `A` or `B` says."""
-    moment, frame = number_of(moment_text, MOMENTS), unhex(DIGITS, digits)
-    if moment is None or frame is None:
-        return None
+    moment = _or_bad(number_of(moment_text, MOMENTS), "number")
+    frame = _or_bad(unhex(DIGITS, digits), "hex")
     return Heard(moment, (telegram_a if letter == b"A" else telegram_b)(frame))
 
 
-def _order_of(letter: str, address: bytes, text: bytes) -> Order | None:
+def _order_of(letter: str, address_text: bytes, text: bytes) -> Order:
     """What a line `Q`, `X` or `K` says."""
+    number = _or_bad(number_of(text, WORD), "number") if letter == "X" else 0
+    address = _or_bad(unhex(ADDRESS, address_text), "address")
     if letter == "X":
-        number = number_of(text, WORD)
-        return None if number is None else Order(letter, address, number=number)
-    content = unhex(KEY if letter == "K" else DIGITS, text)
-    if content is None or not 1 <= len(content) <= MOST_PAYLOAD:
-        return None
-    return Order(letter, address, content)
+        return Order(letter, address, number=number)
+    if letter == "K":
+        return Order(letter, address, _or_bad(unhex(KEY, text), "key"))
+    payload = _or_bad(unhex(DIGITS, text), "hex")
+    if not 1 <= len(payload) <= MOST_PAYLOAD:
+        raise BadLine("payload", len(payload))
+    return Order(letter, address, payload)
 
 
-def line_of(line: bytes) -> Heard | Order | None:
-    """`line_of`: what a line says; none where it is bad."""
+def line_of(line: bytes) -> Heard | Order:
+    """`line_of`: what a line says, or its first fault: that of the line, or of its frame."""
     fields = line.split(b" ")
-    if len(line) > LONGEST or fields[0] not in (b"A", b"B", b"T", b"Q", b"X", b"K"):
-        return None
+    if len(line) > LONGEST:
+        raise BadLine("long")
+    if fields[0] not in (b"A", b"B", b"T", b"Q", b"X", b"K"):
+        raise BadLine("word")
     if len(fields) != (2 if fields[0] == b"T" else 3):
-        return None
+        raise BadLine("fields")
     if fields[0] in (b"A", b"B"):
         return _heard_of(fields[0], fields[1], fields[2])
-    address = unhex(ADDRESS, fields[1])
-    if address is None:
-        return None
     if fields[0] == b"T":
-        return Order("T", address)
-    return _order_of(fields[0].decode(), address, fields[2])
+        return Order("T", _or_bad(unhex(ADDRESS, fields[1]), "address"))
+    return _order_of(fields[0].decode(), fields[1], fields[2])
+
+
+@dataclass
+class Feed:
+    """A receiver's lines within the limits (`whole_lines`), and whether something stands behind them (`is_over`).
+
+    A line that the limit of bytes cuts isn't heard."""
+
+    read: Callable[[], bytes]
+    is_over: bool = False
+
+    def __iter__(self) -> Iterator[bytes]:
+        """Each line as soon as it was read; `read` gives the next bytes, none at the end."""
+        rest, left, count = b"", MOST_BYTES, 0
+        while piece := self.read():
+            self.is_over, piece = len(piece) > left, piece[:left]
+            left -= len(piece)
+            *ended, rest = (rest + piece).split(b"\n")
+            for line in ended[:MOST_LINES - count]:
+                yield line.removesuffix(b"\r")
+            count += len(ended)
+            self.is_over |= count > MOST_LINES or (count == MOST_LINES and bool(rest))
+            if self.is_over:
+                return
+            # (of a line that is too long no more is kept than shows it)
+            rest = rest[:LONGEST + 2]
+        if rest:
+            yield rest
 
 
 def heard_lines(text: bytes) -> tuple[list[bytes], bool]:
-    """`whole_lines` within the limits, and whether something stands behind them (`is_over`).
-
-    A line that the limit of bytes cuts isn't heard."""
-    is_over = len(text) > MOST_BYTES
-    lines = lines_of(text[:text.rfind(b"\n", 0, MOST_BYTES) + 1] if is_over else text)
-    return lines[:MOST_LINES], is_over or len(lines) > MOST_LINES
+    """A receiver's lines within the limits, and whether something stands behind them."""
+    feed = Feed(iter((text, b"")).__next__)
+    return list(feed), feed.is_over

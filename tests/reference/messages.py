@@ -5,13 +5,14 @@ from dataclasses import dataclass
 
 from reference.ciphers import METER_CIPHER, METER_MAC, cbc_decrypted, cmac, derived
 from reference.layers import MAC, MCL, MCR, ML, Tpl
+from reference.reasons import Reason
 
 AUTHENTICATION, MAC_OF_EIGHT = 15, 5
 CHECK = b"\x2f\x2f"
 OMS_DERIVATION = 1
 
 
-class Refusal(Exception):
+class Refusal(Reason):
     """Why a step stores and sends nothing, in the report's words behind `refused`."""
 
 
@@ -35,7 +36,7 @@ class Keys:
 def _judge_blocks(tpl: Tpl) -> None:
     """`blocks`: whether the encrypted bytes are there."""
     if tpl.encrypted > len(tpl.body):
-        raise Refusal(f"blocks {tpl.encrypted} {len(tpl.body)}")
+        raise Refusal("blocks", tpl.encrypted, len(tpl.body))
 
 
 def _payload(tpl: Tpl, key: bytes, vector: bytes) -> bytes:
@@ -47,15 +48,15 @@ def open5(message: Message, keys: Keys, last: int | None) -> tuple[int, bytes]:
     """`opened5`: the access number and the payload of a message of mode 5."""
     tpl = message.tpl
     if tpl.mode != 5:
-        raise Refusal(f"mode {tpl.mode} 5")
+        raise Refusal("mode", tpl.mode, 5)
     _judge_blocks(tpl)
     if not tpl.encrypted:
         raise Refusal("unchecked")
     payload = _payload(tpl, keys.first, keys.address + bytes([tpl.access]) * 8)
     if payload[:2] != CHECK:
-        raise Refusal(f"check {payload[:2].hex()}")
+        raise Refusal("check", payload[:2].hex())
     if tpl.access == last:
-        raise Refusal(f"access {tpl.access}")
+        raise Refusal("access", tpl.access)
     return tpl.access, payload
 
 
@@ -63,11 +64,11 @@ def open7(message: Message, keys: Keys, last: int | None) -> tuple[int, bytes]:
     """`opened7`: the counter and the payload of a message of mode 7."""
     tpl, fields = message.tpl, message.fields
     if tpl.mode != 7:
-        raise Refusal(f"mode {tpl.mode} 7")
+        raise Refusal("mode", tpl.mode, 7)
     if not {MCL, MCR, MAC} <= fields.keys() or fields[MCL][0] & AUTHENTICATION != MAC_OF_EIGHT:
         raise Refusal("noauth")
     if tpl.derivation != OMS_DERIVATION:
-        raise Refusal(f"kdf {tpl.derivation}")
+        raise Refusal("kdf", tpl.derivation)
     _judge_blocks(tpl)
     counter, key = int.from_bytes(fields[MCR], "little"), key_of(tpl, keys)
     identification = keys.address[2:6]
@@ -76,7 +77,7 @@ def open7(message: Message, keys: Keys, last: int | None) -> tuple[int, bytes]:
         raise Refusal("mac")
     payload = _payload(tpl, derived(key, METER_CIPHER, counter, identification), bytes(16))
     if last is not None and counter <= last:
-        raise Refusal(f"stale {counter} {last}")
+        raise Refusal("stale", counter, last)
     return counter, payload
 
 

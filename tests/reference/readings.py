@@ -1,9 +1,14 @@
 """The last readings as JSON (docs/FORMATS.md, "Readings as JSON"; `readings_text`)."""
 import json
 
-from reference.records import Listing, MakerData, Record, listing_of
+from reference.records import MakerData, Record, listing_of
 from reference.states import Start
 from reference.values import FUNCTIONS, unit_of, value_of
+
+
+def compact_line(tree: dict[str, object]) -> str:
+    """The compact text of a tree whose members stand in the order of their names, and a newline."""
+    return json.dumps(tree, sort_keys=True, separators=(",", ":")) + "\n"
 
 
 def _record_tree(item: Record | MakerData) -> dict[str, object]:
@@ -18,18 +23,21 @@ def _record_tree(item: Record | MakerData) -> dict[str, object]:
     }
 
 
+def listing_tree(payload: bytes) -> dict[str, object]:
+    """The members of a payload's listing: its records, the fault behind them, whether more follow."""
+    listing = listing_of(payload)
+    return {"fault": listing.fault, "more": listing.more, "records": [_record_tree(it) for it in listing.items]}
+
+
 def _meter_tree(known: Start) -> dict[str, object]:
     """`meter_tree`."""
     reading = known.reading
-    listing = listing_of(reading.payload) if reading else Listing()
     return {
         "address": known.commission.address.hex(), "at": reading and reading.moment,
-        "counter": reading and reading.counter, "fault": listing.fault, "mode": known.commission.mode,
-        "more": listing.more, "records": [_record_tree(it) for it in listing.items],
-    }
+        "counter": reading and reading.counter, "mode": known.commission.mode,
+    } | listing_tree(reading.payload if reading else b"")
 
 
 def readings_text(meters: list[Start]) -> str:
-    """`readings_text`: the compact text of the tree whose members stand in the order of their names, and a newline."""
-    tree = {"meters": [_meter_tree(known) for known in meters]}
-    return json.dumps(tree, sort_keys=True, separators=(",", ":")) + "\n"
+    """`readings_text`."""
+    return compact_line({"meters": [_meter_tree(known) for known in meters]})

@@ -101,13 +101,28 @@ def _read_record(reader: _Reader) -> Record | MakerData:
     first = reader.take(1)[0]
     if first & 0x7F == PLAIN_TEXT:
         reader.take(reader.take(1)[0])
-    vif, modifiers = (first,), reader.extensions(first)
-    if first in (AFTER_FB, AFTER_FD):
-        vif, modifiers = (first, modifiers[0]), modifiers[1:]
+    extensions = reader.extensions(first)
+    has_table = first in (AFTER_FB, AFTER_FD)
+    vif, modifiers = (first, *extensions[:has_table]), extensions[has_table:]
     if dif & 15 == VARIABLE:
         lvar = reader.take(1)[0]
         return Record(dif, *register, vif, modifiers, lvar, reader.take(_variable_size(lvar)))
     return Record(dif, *register, vif, modifiers, None, reader.take(SIZES[dif & 15]))
+
+
+def all_records(payload: bytes) -> list[Record | MakerData]:
+    """All records up to the payload's end or its first fault, however many."""
+    found: list[Record | MakerData] = []
+    reader = _Reader(payload)
+    try:
+        while True:
+            while payload[reader.place:reader.place + 1] == bytes([FILLER]):
+                reader.place += 1
+            if reader.place == len(payload):
+                return found
+            found.append(_read_record(reader))
+    except RecordFault:
+        return found
 
 
 def listing_of(payload: bytes) -> Listing:

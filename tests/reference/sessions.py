@@ -1,12 +1,13 @@
 """A session: the classes of lines, the slots after each meter's steps in an order, and the outputs (`IsSession`)."""
 from dataclasses import dataclass, field
 
-from reference.layers import read_layers
-from reference.lines import Heard, Order, heard_lines, line_of
+from reference.answers import Stored
+from reference.frames import FrameFault
+from reference.lines import BadLine, heard_lines
 from reference.readings import readings_text
 from reference.reports import meter_lines, strangers_lines
 from reference.roster import Roster, roster_text
-from reference.slots import Slot, Telegram
+from reference.slots import Event, Slot, event_of
 from reference.states import State, state_text
 
 Place = tuple[int, int]
@@ -33,7 +34,7 @@ class Session:
 
     state: State
     receivers: list[Receiver] = field(default_factory=list)
-    events: dict[bytes, dict[Place, Telegram | Order]] = field(default_factory=dict)
+    events: dict[bytes, dict[Place, Event]] = field(default_factory=dict)
     strangers: dict[Place, bytes] = field(default_factory=dict)
 
     def hear(self, text: bytes) -> None:
@@ -47,16 +48,12 @@ class Session:
 
     def _take(self, place: Place, line: bytes) -> str:
         """`class_by` and `event_of_line`: notes a line for the meter that it is for; its class."""
-        said = line_of(line)
-        if said is None:
+        try:
+            address, event = event_of(line)
+        except BadLine:
             return "bad"
-        if isinstance(said, Heard):
-            if said.telegram is None:
-                return "unframed"
-            event: Telegram | Order = Telegram(said.moment, read_layers(said.telegram))
-            address = event.layers.target
-        else:
-            event, address = said, said.address
+        except FrameFault:
+            return "unframed"
         if address not in self.events:
             self.strangers[place] = address
             return "strangers"
@@ -89,10 +86,10 @@ def outputs_of(session: Session, orders: dict[bytes, list[Place]], order_of_stra
     for known in meters:
         slot, steps, address = Slot(own, known), [], known.commission.address
         for place in orders[address]:
-            words, frame = slot.step(session.events[address][place])
-            steps.append((*place, words))
-            if frame is not None:
-                session.receivers[place[0] - 1].sent.append((place[1], frame))
+            answer = slot.step(session.events[address][place])
+            steps.append((*place, answer.words))
+            if isinstance(answer, Stored) and answer.sent:
+                session.receivers[place[0] - 1].sent.append((place[1], answer.sent.frame))
         parts += meter_lines(slot, steps)
     lines = ["wmbus-report 1"] + [it.line(number) for number, it in enumerate(session.receivers, 1)] + parts
     lines += strangers_lines([(*place, session.strangers[place]) for place in order_of_strangers]) + ["end"]

@@ -1,4 +1,5 @@
 """States: what is known of each meter, read with their first faulty line, and written (docs/FORMATS.md, "The state")."""
+from collections.abc import Callable
 from dataclasses import dataclass, field
 
 from reference.commands import TRIES, Command, Commands
@@ -122,7 +123,7 @@ def _add_command(start: Start, fields: list[bytes], is_open: bool) -> None:
         raise Cause("command")
 
 
-WORDS = {
+WORDS: dict[bytes, Callable[[Start, list[bytes]], None]] = {
     b"reading": _add_reading,
     b"part": _add_part,
     b"tick": _add_tick,
@@ -187,7 +188,7 @@ def _part_line(piece: Piece) -> str:
     return f"part {(afl_bytes(piece.afl) + piece.content).hex()}"
 
 
-def _block(start: Start) -> list[str]:
+def block_lines(start: Start) -> list[str]:
     """`block_text`: a meter's line, and below it the reading, the fragments with the tick between them, the commands."""
     lines = [meter_line(start.commission_now())]
     if start.reading:
@@ -204,5 +205,5 @@ def _block(start: Start) -> list[str]:
 
 def state_text(state: State) -> str:
     """`state_text`: the text of a state."""
-    lines = [HEAD.decode(), own_line(state.own)] + [line for start in state.meters for line in _block(start)]
+    lines = [HEAD.decode(), own_line(state.own)] + [line for start in state.meters for line in block_lines(start)]
     return "".join(f"{line}\n" for line in [*lines, END.decode()])

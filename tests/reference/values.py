@@ -1,7 +1,7 @@
 """Units and values of data records (EN 13757-3, 6.3, 6.4, annex A; `primary`, `after_fd`, `after_fb`, `value`)."""
 from dataclasses import dataclass
 
-from reference.records import AFTER_FB, AFTER_FD, VARIABLE, Record
+from reference.records import AFTER_FB, AFTER_FD, Record
 
 FUNCTIONS = ("instantaneous", "maximum", "minimum", "error")
 BCD_FIELDS, REAL = frozenset((9, 10, 11, 12, 14)), 5
@@ -39,7 +39,7 @@ _FB = ((0x00, 2, "energy", "MWh", -1), (0x08, 2, "energy", "GJ", -1))
 
 def _rows(runs: tuple[tuple[int, int, str, str, int], ...]) -> dict[int, Unit]:
     """The units of runs of codes, whose exponents rise by one."""
-    units = {}
+    units: dict[int, Unit] = {}
     for first, count, quantity, unit, least in runs:
         units |= {first + step: Unit(quantity, unit, least + step) for step in range(count)}
     return units
@@ -106,9 +106,9 @@ def _moment(raw: bytes) -> str:
     return f"{day}T{hour:02d}:{minute:02d}" + ("!" if raw[0] & 0x80 else "") + ("+" if raw[1] & 0x80 else "")
 
 
-def _variable(record: Record) -> str:
+def _variable(record: Record, lvar: int) -> str:
     """Data of variable length by their length byte: a text, BCD without a sign or below zero, or an integer."""
-    kind = record.lvar >> 4
+    kind = lvar >> 4
     if kind < 0xC:
         return "text"
     if kind == 0xE:
@@ -128,6 +128,6 @@ def value_of(record: Record) -> str:
         return _moment(record.raw) if code == 4 and quantity == "datetime" else "raw"
     if code == REAL:
         return "raw"
-    if code == VARIABLE:
-        return _variable(record)
+    if record.lvar is not None:
+        return _variable(record, record.lvar)
     return _bcd(record.raw, True) if code in BCD_FIELDS else _integer(record.raw)

@@ -19,7 +19,7 @@ GAS_VOLUME = "28\u202f504.27 m³"
 HEAT, HEAT_KEY, HEAT_LABEL = "4304101230400104", "00112233445566778899aabbccddeeff", "ABC 40301210 01 04"
 SECOND_KEY = "a0a1a2a3a4a5a6a7a8a9aaabacadaeaf"
 STRANGERS = {"4304341200702107": "ABC 70001234 21 07", "4304785634121002": "ABC 12345678 10 02"}
-RTL_433 = ["-f", "868.95M", "-s", "1200k", "-R", "104", "-F", "json", "-M", "time:utc", "-T", "3600"]
+RTL_433 = ["-f", "868.95M", "-s", "1200k", "-R", "104", "-F", "json", "-M", "time:unix", "-T", "3600"]
 COMMAND, RESPONSE, LISTENS = "0f01", 0x08, 0x80
 EMPTY = f"wmbus-roster 2\nown {OWN}\n"
 # litres that the heat meter says on the later days, by its counters
@@ -77,7 +77,7 @@ def what_the_sticks_print(walk: Walk) -> None:
     telegrams = [bytes.fromhex(re.sub(r"[|_]", "", line)) for line in (EXAMPLES / "receivers/hex.txt").read_text().splitlines()]
     wanted = [format_a(it).hex() for it in telegrams]
     said = walk.stick("rtl_433", *RTL_433)
-    moments = [int(datetime.fromisoformat(it + "+00:00").timestamp()) for it in re.findall(r'"time" : "([^"]+)"', said.decode())]
+    moments = re.findall(r'"time" : "([0-9]+)"', said.decode())
     ran = walk.run("line_feed", "rtl_433", feed=said, told="line_feed: telegrams taken: 5, lines not taken: 0\n")
     equal("rtl_433's telegrams as lines", [f"A {moment} {frame}" for moment, frame in zip(moments, wanted)], ran.lines)
     walk.write("day1.rx", ran.said)

@@ -13,7 +13,7 @@ from walks.steps import PROGRAMS, Walk, Wrong, documented, equal, true, what_to_
 # of the annex: the telegram without its CRCs, the label, the key, and what the meter says
 TELEGRAM = "2e4493157856341233037a2a0020055923c95aaa26d1b2e7493b013ec4a6f6d3529b520edff0ea6defc99d6d69ebf3"
 LABEL, KEY = "ELS 12345678 33 03", "0102030405060708090a0b0c0d0e0f11"
-VALUES = {"volume": ("28504.27", "m3"), "datetime": ("2008-05-31T23:50", "-"), "errorflags": ("0", "-")}
+VALUES = {"volume": ("28504.27", "m3"), "datetime": ("2008-05-31T23:50", "-"), "errorflags": ("0x0000", "-")}
 MOST_COMMANDS = 10
 ROSTER = f"wmbus-roster 2\nown 9315010000000131\nmeter ADDRESS 5 {KEY} - - 0 0\n"
 # what is typed wrongly in the newcomer's roster: what stands there, what is typed, and the line and the cause that docs/FORMATS.md, "Roster", gives it
@@ -77,7 +77,7 @@ def each_help_and_its_statuses(walk: Walk) -> None:
     """Each program's help names the statuses that docs/FORMATS.md gives it, and no other."""
     for name in PROGRAMS:
         text = in_clone(walk, f"tools/{name}", "--help").stdout.decode()
-        named = {int(it) for it in re.findall(r"(?<![\d,.])(\d{1,2})\s+[a-z]", text[text.index("exit status:"):])}
+        named = {int(it) for it in re.findall(r"(?<![\d,.])(\d{1,2})\s(?:[a-z]|NEXT not)", text[text.index("exit status:"):])}
         equal(f"the statuses of {name} --help and those of docs/FORMATS.md", sorted(documented(name)), sorted(named))
 
 

@@ -31,7 +31,12 @@ PLACES = {
     "frame_inspect": {"FILE 4": {0, 8}},
     "reading_list": {"--csv REPORT": {1, 8}, "REPORT": {1, 8}},
     "usage_totals": {"FILE": {0, 8}},
+    "line_merge": {"FILE rx": {0, 8}},
+    "address_list": {"FILE": {0, 8}},
     "meter_side": {f"FILE {METER} tx": {3}, f"state {METER} FILE": {0, 8}},
+    "line_accept": {"FILE": {3}},
+    "state_merge": {"FILE roster next": {3}, "state FILE next": {3}},
+    "state_raise": {"FILE 1 next": {3}},
     "audit_check": {"FILE report rx": {12}, "state REPORT rx": {12}, "state report FILE": {12}},
 }
 
@@ -211,6 +216,7 @@ def a_site(walk: Walk, place: str) -> None:
     """A folder of sessions with a file that is to be heard."""
     walk.path(f"{place}/rx").mkdir(parents=True)
     shutil.copy(walk.path("state"), walk.path(f"{place}/state"))
+    walk.path(f"{place}/state").chmod(0o600)
     shutil.copy(walk.path("rx"), walk.path(f"{place}/rx/roof.1"))
 
 

@@ -122,9 +122,12 @@ def next_fed_back_ten_times(walk: Walk) -> None:
 
 
 def rounds_over_a_folder(walk: Walk) -> None:
-    """tools/sessions over two receivers' files, in two rounds; of each its state is put aside."""
+    """tools/sessions over two receivers' files, in two rounds; of each its state is put aside. At first others can read it, which is said."""
     walk.path("site/rx").mkdir(parents=True)
     shutil.copy(walk.path("roster"), walk.path("site/state"))
+    walk.path("site/state").chmod(0o644)
+    state = walk.path("site/state").resolve()
+    readable = f"sessions: {state} has keys, and others can read it: chmod 600 {state}\n"
     for number in (1, 2):
         for name in RECEIVERS:
             lines = cuts.lines_of(walk.read(f"{name}.rx"))
@@ -132,7 +135,7 @@ def rounds_over_a_folder(walk: Walk) -> None:
             walk.write(f"site/{name}.tmp", b"".join(half))
             walk.path(f"site/{name}.tmp").rename(walk.path(f"site/rx/{name}.{number:04}"))
         shutil.copy(walk.path("site/state"), walk.path(f"before{number}"))
-        ran = walk.run("sessions", "--program", walk.program("wmbus"), "site", told="")
+        ran = walk.run("sessions", "--program", walk.program("wmbus"), "site", told=readable if number == 1 else "")
         told = f"sessions: round {number:06}: heard roof.{number:04} yard.{number:04}"
         true(f"round {number} says {ran.text!r}", ran.text.startswith(told))
         files = [f"site/heard/{number:06}.{name}.{number:04}" for name in RECEIVERS]
