@@ -1,16 +1,23 @@
-"""A folder's tests: types, then pytest. Counts them, and says by name what was skipped."""
+"""A folder's tests: types, then pytest. Counts them, and says by name what was skipped. Nothing of it goes on without a limit, and nothing
+needs a network or a home that can be written."""
 from __future__ import annotations
 
 import os
 import re
 import shutil
 import subprocess
+import tempfile
+import time
 from collections.abc import Iterable
 from dataclasses import dataclass
 from pathlib import Path
 
 PYTHON = "/usr/bin/python3"
 FOLDERS = "/usr/sbin:/usr/bin:/usr/local/sbin:/usr/local/bin"
+TYPES_SECONDS, INSTALL_SECONDS = 600, 300
+# where there is no network, or another installs, it is given up soon
+NO_PATIENCE = ("-o", "Acquire::Retries=0", "-o", "Acquire::http::Timeout=15", "-o", "Acquire::https::Timeout=15", "-o",
+               "DPkg::Lock::Timeout=60")
 FOUND = """
 import importlib.util, sys
 for name in sys.argv[1:]:
@@ -60,30 +67,44 @@ class Check:
 
     def _types(self) -> int:
         """Whether the types are wrong."""
-        types = subprocess.run([PYTHON, "-m", "mypy", "--config-file", "pyproject.toml", "--cache-dir", f"/tmp/{self.packages[0]}-mypy",
-                                *self.packages], cwd=self.folder, capture_output=True, text=True, check=False)
-        print(types.stdout, end="")
+        types = limited([PYTHON, "-m", "mypy", "--config-file", "pyproject.toml", "--cache-dir", f"/tmp/{self.packages[0]}-mypy",
+                         *self.packages], self.folder, TYPES_SECONDS)
+        print(types.stdout[-5000:], types.stderr[-5000:], sep="", end="")
         return int(types.returncode != 0)
 
     def _tests(self, words: Iterable[str]) -> tuple[int, int]:
         """How many tests passed, and how many didn't."""
-        line = [PYTHON, "-B", "-m", "pytest", "-q", "-rs", "-p", "no:cacheprovider", "-W", "ignore::DeprecationWarning", "-o",
-                "faulthandler_timeout=150", self.packages[-1], *words]
-        tests = subprocess.run(["timeout", "-k", "5", str(self.seconds), *line], cwd=self.folder, stdin=subprocess.DEVNULL,
-                               capture_output=True, text=True, check=False)
+        tests = limited([PYTHON, "-B", "-m", "pytest", "-q", "-rs", "--durations=15", "-p", "no:cacheprovider", "-W",
+                         "ignore::DeprecationWarning", "-o", "faulthandler_timeout=150", self.packages[-1], *words], self.folder, self.seconds)
         print(tests.stdout[-5000:], tests.stderr[-5000:], sep="")
         counts = {word: int(count) for count, word in re.findall(r"(\d+) (passed|failed|error)", tests.stdout)}
         failed = counts.get("failed", 0) + counts.get("error", 0)
         return counts.get("passed", 0), failed + (failed == 0 and tests.returncode != 0)
 
 
-def install(packages: list[str]) -> None:
-    """Installs packages, where this is Debian and root."""
+def limited(words: list[str], folder: Path, seconds: int, environment: dict[str, str] | None = None) -> subprocess.CompletedProcess[str]:
+    """Runs a program with all that it starts, at most so long. What it leaves behind and what holds its output can't hold up who waits."""
+    with tempfile.TemporaryFile("w+", encoding="utf-8", errors="replace") as out, tempfile.TemporaryFile("w+", encoding="utf-8",
+                                                                                                         errors="replace") as err:
+        done = subprocess.run(["timeout", "-k", "5", str(seconds), *words], cwd=folder, env=environment, stdin=subprocess.DEVNULL, stdout=out,
+                              stderr=err, check=False)
+        texts = [file.read() for file in (out, err) if file.seek(0) == 0]
+    late = f"ended after {seconds} s\n" if done.returncode in (124, 137) else ""
+    return subprocess.CompletedProcess(words, done.returncode, texts[0], texts[1] + late)
+
+
+def install(packages: list[str], seconds: int = INSTALL_SECONDS) -> None:
+    """Installs packages, each by itself where not all are to be had, where this is Debian and root."""
     if not packages or os.geteuid() or not os.path.exists("/usr/bin/apt-get"):
         return
-    words = ["apt-get", "install", "-y", "--no-install-recommends", *packages]
     environment = os.environ | {"DEBIAN_FRONTEND": "noninteractive", "RUNLEVEL": "1"}
-    for line in (words, ["apt-get", "update"], words):
-        done = subprocess.run(line, env=environment, stdout=subprocess.DEVNULL, stderr=subprocess.DEVNULL, check=False)
-        if line is words and done.returncode == 0:
-            return
+    until = time.monotonic() + seconds
+
+    def apt_get(*words: str) -> bool:
+        left = int(until - time.monotonic())
+        words = ("apt-get", *NO_PATIENCE, *words)
+        return left > 0 and limited([*words], Path("/"), left, environment).returncode == 0
+    adding = ("install", "-y", "--no-install-recommends")
+    if not apt_get(*adding, *packages) and not (apt_get("update") and apt_get(*adding, *packages)):
+        for package in packages:
+            apt_get(*adding, package)

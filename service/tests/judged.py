@@ -11,6 +11,8 @@ from pathlib import Path
 
 from wmbus_service.steps import state_text
 
+from .processes import PATIENCE
+
 
 class Uncut:
     """One session of `wmbus continue` over all lines."""
@@ -20,7 +22,7 @@ class Uncut:
         (folder / "roster").write_text(roster)
         (folder / "rx").write_bytes("".join(f"{line}\n" for line in lines).encode("latin-1"))
         names = [str(folder / name) for name in ("roster", "next", "readings", "rx", "tx")]
-        done = subprocess.run([wmbus, "continue", *names], capture_output=True, check=True)
+        done = subprocess.run([wmbus, "continue", *names], capture_output=True, check=True, timeout=PATIENCE)
         self.state, self.frames = (folder / "next").read_text(), [line.split()[1] for line in (folder / "tx").read_text().splitlines()]
         self.steps = list(steps_of(done.stdout.decode()))
 

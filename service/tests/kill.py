@@ -7,7 +7,6 @@ import os
 import random
 import signal
 import sqlite3
-import subprocess
 import sys
 import time
 import traceback
@@ -26,6 +25,7 @@ from wmbus_service.store import open_store, prepare_folder
 
 from . import judged, killed_service
 from .meters import OWN, line_of, next_telegrams, roster_of, some_meters
+from .processes import PATIENCE, run
 from .servers import Listener, Mosquitto
 
 TOP = Path(__file__).resolve().parents[2]
@@ -45,16 +45,8 @@ def program(name: str) -> str:
 def steps_words() -> str:
     """The program whose sessions are taken; where `wmbus` doesn't know `steps` yet nothing, and the second implementation stands in
     its place."""
-    known = subprocess.run([program("wmbus"), "--help"], capture_output=True, text=True, check=False).stdout
+    known = run([program("wmbus"), "--help"], check=False).stdout
     return f"{program('wmbus')} steps" if "wmbus steps" in known else ""
-
-
-def until(is_done: Callable[[], object], seconds: float = 20) -> None:
-    """Waits until something is so."""
-    limit = time.monotonic() + seconds
-    while not is_done():
-        assert time.monotonic() < limit, "it took too long"
-        time.sleep(0.02)
 
 
 class Child:
@@ -93,7 +85,7 @@ class Child:
         """Ends it by a signal; its status."""
         if self.is_running():
             os.kill(self.pid, number)
-        limit = time.monotonic() + 20
+        limit = time.monotonic() + PATIENCE
         while self.is_running():
             if time.monotonic() > limit:
                 os.kill(self.pid, signal.SIGKILL)

@@ -16,12 +16,13 @@ import tempfile
 import threading
 import time
 from collections.abc import Iterator, Sequence
-from contextlib import closing
+from contextlib import closing, suppress
 from pathlib import Path
 
 TOP = Path(__file__).resolve().parents[2]
 sys.path[:0] = [str(TOP / "service"), str(TOP / "tools"), str(TOP / "tests")]
 
+from tests.processes import put_down  # noqa: E402
 from tests.meters import OWN, Meter, line_of, next_telegrams, some_meters  # noqa: E402
 from wmbus_service.config import Config, Programs, Receiver, unproved_words  # noqa: E402
 from wmbus_service.meters import add_meter, set_own  # noqa: E402
@@ -69,6 +70,7 @@ class Measured:
         limit = time.monotonic() + PATIENCE
         while "begun" not in log.read_text():
             if started.poll() is not None or time.monotonic() > limit:
+                put_down(started)
                 sys.exit(f"measure: the service doesn't begin: {log.read_text()}")
             time.sleep(LOOK)
         return started
@@ -126,16 +128,18 @@ def measured(name: str, share: float, place: Path) -> str:
     started = over.start()
     try:
         begun = time.monotonic()
-        writer = threading.Thread(target=over.write, args=([] if name == "backlog" else lines, pause))
+        writer = threading.Thread(target=over.write, args=([] if name == "backlog" else lines, pause), daemon=True)
         writer.start()
         over.watch(count)
-        writer.join()
+        writer.join(PATIENCE)
         seconds = over.seen[-1] - begun
         told = f"{count} lines of {len(over.meters)} meters in {seconds:.1f} s ({count / seconds:.0f} a second); {used_by(started)}"
         return told if name == "backlog" else f"{told}; {over.latencies()}"
     finally:
         started.send_signal(signal.SIGTERM)
-        started.wait(PATIENCE)
+        with suppress(subprocess.TimeoutExpired):
+            started.wait(PATIENCE)
+        put_down(started)
 
 
 def main() -> int:

@@ -6,8 +6,11 @@ import os
 import shutil
 import socket
 import subprocess
-import time
+from contextlib import suppress
 from pathlib import Path
+
+from .processes import PATIENCE, put_down, until
+from .processes import free_port as free_port
 
 PACKAGES = {"paho.mqtt": "python3-paho-mqtt", "prometheus_client": "python3-prometheus-client", "cryptography": "python3-cryptography"}
 
@@ -30,13 +33,6 @@ def mosquitto() -> str | None:
     return shutil.which("mosquitto", path=f"{os.environ.get('PATH', '')}:/usr/sbin")
 
 
-def free_port() -> int:
-    """A port that nobody listens at."""
-    with socket.socket() as tried:
-        tried.bind(("127.0.0.1", 0))
-        return int(tried.getsockname()[1])
-
-
 class Mosquitto:
     """A broker that keeps what it has acknowledged."""
 
@@ -55,19 +51,23 @@ class Mosquitto:
         assert program
         with open(self.folder / "log", "ab") as log:
             self.process = subprocess.Popen([program, "-c", str(self.folder / "conf")], stdout=log, stderr=log)
-        limit = time.monotonic() + 10
-        while time.monotonic() < limit:
-            with socket.socket() as tried:
-                if tried.connect_ex(("127.0.0.1", self.port)) == 0:
-                    return
-            time.sleep(0.02)
-        raise AssertionError((self.folder / "log").read_text())
+        try:
+            until(self._listens)
+        except AssertionError:
+            put_down(self.process)
+            raise AssertionError((self.folder / "log").read_text()) from None
+
+    def _listens(self) -> bool:
+        with socket.socket() as tried:
+            return tried.connect_ex(("127.0.0.1", self.port)) == 0
 
     def end(self) -> None:
         """Ends it; what it holds stands in its folder."""
         if self.process:
             self.process.terminate()
-            self.process.wait(10)
+            with suppress(subprocess.TimeoutExpired):
+                self.process.wait(PATIENCE)
+            put_down(self.process)
             self.process = None
 
 

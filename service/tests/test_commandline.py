@@ -5,7 +5,6 @@ import io
 import json
 import os
 import sqlite3
-import subprocess
 from contextlib import redirect_stderr, redirect_stdout
 from dataclasses import dataclass
 from pathlib import Path
@@ -20,6 +19,7 @@ from wmbus_service.service import Service
 from wmbus_service.store import open_store, prepare_folder
 
 from .kill import PYTHON, TOP, program
+from .processes import run
 from .stand_in import use_stand_in
 
 ADDRESS, KEY = "4304101230400104", "00112233445566778899aabbccddeeff"
@@ -99,8 +99,7 @@ def test_from_nothing_to_readings(place: Place) -> None:
     place.hear(recorded())
     told = json.loads(place.said("status", "--json"))
     assert [(it["name"], it["counter"]) for it in told["meters"]] == [("cellar", 8)]
-    wanted = subprocess.run([program("wmbus"), "hear", str(TOP / "examples/heat.roster"), str(TOP / "examples/heat.rx")],
-                            capture_output=True, text=True, check=True)
+    wanted = run([program("wmbus"), "hear", TOP / "examples/heat.roster", TOP / "examples/heat.rx"])
     records = [line.split() for line in wanted.stdout.split("\n") if line.startswith("record ")]
     # the report has the records of the last reading
     rows = [json.loads(line) for line in place.said("export", "--json").splitlines()]
@@ -205,11 +204,11 @@ def test_words(place: Place) -> None:
 def test_demo() -> None:
     """Without a page the demo says what was read, by a process of its own without a configuration."""
     words = [PYTHON, "-m", "wmbus_service", "demo", "--days", "2", "--text", "--steps", STEPS]
-    done = subprocess.run(words, capture_output=True, text=True, env=os.environ | {"PYTHONPATH": str(TOP / "service")}, check=True)
+    done = run(words, env=os.environ | {"PYTHONPATH": str(TOP / "service")})
     # (one meter has been silent for longer, and one has a wrong key)
     assert done.stdout.count(" s ago, by attic)") == 10 and done.stdout.count(": no reading yet") == 2
     assert "isn't proved" in done.stdout
-    faulty = subprocess.run([*words[:4], "--days", "many"], capture_output=True, text=True, cwd=TOP / "service", check=False)
+    faulty = run([*words[:4], "--days", "many"], cwd=TOP / "service", check=False)
     assert faulty.returncode == 2 and "no number" in faulty.stderr
 
 

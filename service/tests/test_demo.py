@@ -4,7 +4,6 @@ from __future__ import annotations
 import os
 import re
 import signal
-import subprocess
 import urllib.request
 from decimal import Decimal
 from pathlib import Path
@@ -15,6 +14,7 @@ from wmbus_service.demo import COMMANDS, demo
 from wmbus_service.made_building import GAS, HEAT, POWER, SILENT, WRONG_KEY
 
 from .kill import PYTHON, TOP
+from .processes import PATIENCE, started, until
 from .stand_in import use_stand_in
 
 STEPS = f"{TOP}/tests/reference/steps"
@@ -52,22 +52,21 @@ def test_what_is_read_is_what_was_made(monkeypatch: pytest.MonkeyPatch) -> None:
 def test_its_page(tmp_path: Path) -> None:
     """The page is served once all days are heard, says what is wrong with three meters, and ends with its folder."""
     words = [PYTHON, "-m", "wmbus_service", "demo", "--days", str(DAYS), "--port", "0", "--steps", STEPS]
-    env = os.environ | {"PYTHONPATH": str(TOP / "service"), "TMPDIR": str(tmp_path), "PYTHONUNBUFFERED": "1"}
-    with subprocess.Popen(words, stdout=subprocess.PIPE, stderr=subprocess.DEVNULL, text=True, env=env) as served:
-        assert served.stdout
-        said = ""
-        for line in served.stdout:
-            said += line
-            if line.startswith("Ctrl-C"):
-                break
+    env = os.environ | {"PYTHONPATH": str(TOP / "service"), "PYTHONUNBUFFERED": "1"}
+    log, home = tmp_path / "log", tmp_path / "home"
+    home.mkdir()
+    with open(log, "wb") as opened, started(words, stdout=opened, stderr=opened, env=env | {"TMPDIR": str(home)}) as served:
+        until(lambda: "Ctrl-C" in log.read_text() or served.poll() is not None)
+        said = log.read_text()
         assert "isn't proved" in said
         found = re.search(r"^the page: (http://127\.0\.0\.1:\d+/)$", said, re.MULTILINE)
         assert found, said
-        with urllib.request.urlopen(found[1], timeout=30) as given:
+        with urllib.request.urlopen(found[1], timeout=PATIENCE) as given:
             page = given.read().decode()
         for told in ("key probably wrong", "silent for 9 days", "command given up", "11 of 12", "Heat, attic"):
             assert told in page
-        assert list(tmp_path.iterdir())
+        assert list(home.iterdir())
         served.send_signal(signal.SIGTERM)
-        assert served.wait(30) == 0
-    assert not list(tmp_path.iterdir())
+        until(lambda: served.poll() is not None)
+        assert served.returncode == 0, log.read_text()
+    assert not list(home.iterdir())

@@ -5,7 +5,6 @@ import json
 import os
 import shutil
 import signal
-import subprocess
 import time
 import urllib.request
 from collections.abc import Iterator
@@ -21,7 +20,8 @@ from wmbus_service.sensors import KINDS, kind_of, shown
 from wmbus_service.trouble import Trouble
 
 from . import servers
-from .kill import TOP, Child, until
+from .kill import TOP, Child
+from .processes import PATIENCE, certificate_of, free_port, run, until
 from .servers import Listener, Mosquitto
 from .test_sessions import House, house_fixture  # noqa: F401
 
@@ -72,7 +72,7 @@ class Served:
     def __init__(self, house: House, mosquitto: Mosquitto, config: Config | None = None) -> None:
         self.house, self.mosquitto = house, mosquitto
         self.config = config or replace(house.config, interval=0.05, mqtt=Mqtt(port=mosquitto.port),
-                                        metrics=Metrics(port=servers.free_port()))
+                                        metrics=Metrics(port=free_port()))
         self.listener = Listener(mosquitto.port, ["wmbus/#", "homeassistant/#"])
         house.database.close()
         self.log = house.config.folder / "log"
@@ -114,8 +114,8 @@ def test_readings_and_commands(house: House, mosquitto: Mosquitto) -> None:
     mosquitto.start()
     until(lambda: [it["counter"] for it in served.heard(f"wmbus/meter/{meter.name}")][-5:] == [3, 4, 5, 6, 7])
     until(lambda: not house.all("select id from publication"))
-    retained = subprocess.run(["mosquitto_sub", "-p", str(mosquitto.port), "-t", f"wmbus/meter/{meter.name}", "-C", "1", "-W", "5"],
-                              capture_output=True, text=True, check=True) if shutil.which("mosquitto_sub") else None
+    retained = run(["mosquitto_sub", "-h", "127.0.0.1", "-p", str(mosquitto.port), "-t", f"wmbus/meter/{meter.name}", "-C", "1",
+                    "-W", "30"]) if shutil.which("mosquitto_sub") else None
     assert retained is None or json.loads(retained.stdout)["volume"] == 0.007
     assert {name for name, _, _ in served.listener.heard
             if name.startswith("homeassistant/")} == {f"homeassistant/sensor/wmbus_{meter.name}/volume/config"}
@@ -161,15 +161,13 @@ def test_password_and_tls(tmp_path: Path, house: House) -> None:
         pytest.skip("openssl or mosquitto_passwd isn't there")
     files = tmp_path / "tls"
     files.mkdir()
-    subprocess.run(["openssl", "req", "-x509", "-newkey", "ec", "-pkeyopt", "ec_paramgen_curve:prime256v1", "-nodes", "-keyout",
-                    files / "key", "-out", files / "cert",
-                    "-subj", "/CN=localhost", "-addext", "subjectAltName=DNS:localhost"], check=True, capture_output=True)
-    subprocess.run(["mosquitto_passwd", "-b", "-c", files / "users", "house", "secret"], check=True, capture_output=True)
+    certificate, key = certificate_of(files)
+    run(["mosquitto_passwd", "-b", "-c", files / "users", "house", "secret"])
     mosquitto = Mosquitto(tmp_path / "broker",
-                          f"certfile {files}/cert\nkeyfile {files}/key\nallow_anonymous false\npassword_file {files}/users\n")
+                          f"certfile {certificate}\nkeyfile {key}\nallow_anonymous false\npassword_file {files}/users\n")
     (files / "password").write_text("secret\n")
-    told = Mqtt(host="localhost", port=mosquitto.port, user="house", password_file=str(files / "password"), tls=True,
-                authority=str(files / "cert"))
+    told = Mqtt(port=mosquitto.port, user="house", password_file=str(files / "password"), tls=True,
+                authority=str(certificate))
     broker.try_connection(told)
     with pytest.raises(Trouble, match="can't be used"):
         broker.try_connection(replace(told, authority=""))
@@ -188,7 +186,7 @@ def test_metrics(house: House, mosquitto: Mosquitto) -> None:
     house.spool(house.whole(meter) + "bad\n" + line_of_nobody())
     until(lambda: len(house.all("select number from line")) == 3)
     assert served.config.metrics
-    with closing(urllib.request.urlopen(f"http://127.0.0.1:{served.config.metrics.port}/metrics")) as answer:
+    with closing(urllib.request.urlopen(f"http://127.0.0.1:{served.config.metrics.port}/metrics", timeout=PATIENCE)) as answer:
         text = answer.read().decode()
     found = {sample.name: sample.value for family in text_string_to_metric_families(text)  # type: ignore[no-untyped-call]
              for sample in family.samples}
@@ -211,7 +209,7 @@ def test_no_key_is_told(house: House, mosquitto: Mosquitto, tmp_path: Path, monk
     slow = tmp_path / "slow"
     slow.write_text(f'#!/bin/sh\nsleep 0.5\nexec {TOP}/tests/reference/steps "$@"\n')
     slow.chmod(0o755)
-    config = replace(house.config, interval=0.05, mqtt=Mqtt(port=mosquitto.port), metrics=Metrics(port=servers.free_port()),
+    config = replace(house.config, interval=0.05, mqtt=Mqtt(port=mosquitto.port), metrics=Metrics(port=free_port()),
                      programs=Programs(steps=str(slow)))
     served = Served(house, mosquitto, config)
     meter = house.meters[0]
@@ -230,9 +228,9 @@ def test_no_key_is_told(house: House, mosquitto: Mosquitto, tmp_path: Path, monk
             except OSError:
                 continue
         return bool(house.all("select id from reading")) and not house.all("select id from publication")
-    until(look, 60)
+    until(look)
     assert served.config.metrics
-    with closing(urllib.request.urlopen(f"http://127.0.0.1:{served.config.metrics.port}/metrics")) as answer:
+    with closing(urllib.request.urlopen(f"http://127.0.0.1:{served.config.metrics.port}/metrics", timeout=PATIENCE)) as answer:
         texts = [answer.read().decode(), served.log.read_text(), *seen, *(name + text for name, text, _ in served.listener.heard)]
     assert seen
     texts += [path.read_text("latin-1") for path in house.config.folder.rglob("*") if path.is_file()

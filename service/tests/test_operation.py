@@ -22,7 +22,8 @@ from wmbus_service.service import Service
 from wmbus_service.trouble import Trouble
 
 from . import measure
-from .kill import MEMORY, Child, until
+from .kill import MEMORY, Child
+from .processes import PATIENCE, until
 from .stand_in import use_stand_in
 from .test_sessions import NOW, House, house_fixture  # noqa: F401
 
@@ -71,8 +72,7 @@ def test_read_only(tmp_path: Path) -> None:
         with pytest.raises((Trouble, sqlite3.Error)):
             store.open_store(folder / "other.db", is_new=True)
     child = Child(tmp_path / "log", look)
-    while child.is_running():
-        time.sleep(0.01)
+    until(lambda: not child.is_running())
     assert child.status == 0, (tmp_path / "log").read_text()
 
 
@@ -128,7 +128,7 @@ def test_what_systemd_is_told(house: House, tmp_path: Path, monkeypatch: pytest.
     """It tells when it is ready, that it lives, and that it ends; SIGTERM ends it, once its session is committed."""
     with socket.socket(socket.AF_UNIX, socket.SOCK_DGRAM) as told:
         told.bind(str(tmp_path / "notify"))
-        told.settimeout(20)
+        told.settimeout(PATIENCE)
         monkeypatch.setenv("NOTIFY_SOCKET", str(tmp_path / "notify"))
         house.database.close()
         house.spool(house.whole(house.meters[0]))

@@ -17,6 +17,7 @@ import messages
 import service_tables
 from .kill import TOP
 from .page_house import DAY, HOUR, PageHouse, page_fixture  # noqa: F401
+from .processes import run
 from .test_sessions import NOW, house_fixture  # noqa: F401
 
 # NOW is the 15th of January 2027, 08:00 in UTC
@@ -235,7 +236,7 @@ def test_page_as_a_file(page: PageHouse, tmp_path: Path) -> None:
     page.write("insert into line (receiver, text, made) values ('attic', 'A 1 00', ?)", NOW)
     file = tmp_path / "page.html"
     words = [f"{TOP}/tools/report_page", "--now", str(int(NOW)), str(page.house.config.database), str(file)]
-    done = subprocess.run(words, capture_output=True, text=True, check=False)
+    done = run(words, check=False)
     assert (done.returncode, done.stderr) == (0, "")
     told = re.sub(r"\s+", " ", re.sub("<[^>]*>", " ", file.read_text()))
     for wanted in ("99.750 m³", "1200 kWh", "silent for 9 days", "key probably wrong", "Cellar", "Command a1: sent 2 times", "attic",
@@ -247,8 +248,7 @@ def test_page_as_a_file(page: PageHouse, tmp_path: Path) -> None:
     for day in ("2027-01-14", "2027-01-13", "2027-01-12"):
         assert f"{day} 0.250 m³" in told and f"{day} 0.250 m³" in served
     assert "Reports" not in told and page.house.all("select count(*) from sqlite_master where type = 'view'") == [0]
-    refused = subprocess.run([f"{TOP}/tools/keep_readings", words[3], str(file)], capture_output=True, text=True, check=False,
-                             env=os.environ | {"READING_LIST": "/bin/true"})
+    refused = run([f"{TOP}/tools/keep_readings", words[3], file], check=False, env=os.environ | {"READING_LIST": "/bin/true"})
     assert refused.returncode == 1 and "which keeps its readings itself" in refused.stderr
     assert (service_tables.APPLICATION, service_tables.VERSION) == (schema.APPLICATION, schema.VERSION)
 

@@ -8,7 +8,7 @@ import os
 import shutil
 import threading
 from base64 import b64decode
-from collections.abc import Iterator
+from collections.abc import Callable, Iterator
 from pathlib import Path
 from typing import Any
 
@@ -16,6 +16,7 @@ import pytest
 import waitress
 
 from .page_house import DAY, HOUR, TOKEN, PageHouse, page_fixture  # noqa: F401
+from .processes import PATIENCE
 from .test_page_hostile import MARKUP
 from .test_sessions import NOW, house_fixture  # noqa: F401
 
@@ -105,14 +106,21 @@ def address_fixture(page: PageHouse) -> Iterator[str]:
 @pytest.fixture(name="browser")
 def browser_fixture(tmp_path: Path) -> Iterator[Any]:
     """A browser that executes no script of a page."""
+    from selenium.webdriver.chrome.service import Service
     options = webdriver.ChromeOptions()
     options.binary_location = CHROMIUM
-    for word in ("--headless=new", "--no-sandbox", "--disable-gpu", "--hide-scrollbars", f"--user-data-dir={tmp_path / 'browser'}"):
+    for word in ("--headless=new", "--no-sandbox", "--disable-gpu", "--hide-scrollbars", "--disable-dev-shm-usage", "--no-first-run",
+                 "--disable-background-networking", "--disable-component-update", f"--user-data-dir={tmp_path / 'browser'}"):
         options.add_argument(word)
-    from selenium.webdriver.chrome.service import Service
-    driver = webdriver.Chrome(service=Service(DRIVER or ""), options=options)
-    yield driver
-    driver.quit()
+    # (programs of the browser write into the home, which may be read-only)
+    service = Service(DRIVER or "", env=os.environ | {"HOME": str(tmp_path), "TMPDIR": str(tmp_path)})
+    driver = webdriver.Chrome(service=service, options=options)
+    try:
+        driver.set_page_load_timeout(PATIENCE)
+        driver.set_script_timeout(PATIENCE)
+        yield driver
+    finally:
+        driver.quit()
 
 
 def test_widths_and_colours(page: PageHouse, address: str, browser: Any) -> None:
@@ -144,31 +152,48 @@ def test_widths_and_colours(page: PageHouse, address: str, browser: Any) -> None
 
 def test_walk_through_the_forms(page: PageHouse, address: str, browser: Any) -> None:
     """Enter, queue a command, cancel it, make a stranger a meter, leave."""
+    from selenium.common.exceptions import NoSuchElementException, StaleElementReferenceException
     from selenium.webdriver.common.by import By
+    from selenium.webdriver.support.wait import WebDriverWait
 
-    def press(words: str) -> None:
-        browser.find_element(By.XPATH, f"//button[normalize-space()='{words}']").click()
+    def wait(is_done: Callable[[], object]) -> None:
+        WebDriverWait(browser, PATIENCE, ignored_exceptions=(NoSuchElementException, StaleElementReferenceException)).until(
+            lambda _: is_done())
+
+    def find(by: str, words: str) -> Any:
+        wait(lambda: browser.find_element(by, words))
+        return browser.find_element(by, words)
+
+    def follow(by: str, words: str, is_done: Callable[[], object]) -> None:
+        """Clicks on what leads to another page, and waits until that one is there."""
+        before = browser.find_element(By.TAG_NAME, "html")
+        find(by, words).click()
+        wait(lambda: browser.find_element(By.TAG_NAME, "html") != before and is_done())
+
+    def press(words: str, is_done: Callable[[], object]) -> None:
+        follow(By.XPATH, f"//button[normalize-space()='{words}']", is_done)
 
     def write(name: str, text: str) -> None:
-        browser.find_element(By.CSS_SELECTOR, f"details[open] [name={name}], main > form [name={name}]").send_keys(text)
+        find(By.CSS_SELECTOR, f"details[open] [name={name}], main > form [name={name}]").send_keys(text)
+
+    def is_told(words: str) -> bool:
+        return words in browser.find_element(By.TAG_NAME, "body").text
     page.write("delete from command")
     browser.get(address)
-    browser.find_element(By.LINK_TEXT, "Enter").click()
+    follow(By.LINK_TEXT, "Enter", lambda: browser.find_element(By.NAME, "token"))
     write("token", TOKEN)
-    press("Enter")
+    press("Enter", lambda: browser.find_element(By.XPATH, "//button[.='Leave']"))
     browser.get(f"{address}/meters/{page.addresses[0]}")
     write("payload", "01 02 ff")
-    press("Queue")
+    press("Queue", lambda: is_told(" waits"))
     ((ident, payload, state),) = page.house.all("select id, payload, state from command")
-    assert (payload, state) == ("0102ff", "waiting") and f"Command {ident} waits" in browser.page_source
-    press(f"Cancel {ident}")
-    assert page.house.all("select state from command") == ["cancelled"]
+    assert (payload, state) == ("0102ff", "waiting") and is_told(f"Command {ident} waits")
+    press(f"Cancel {ident}", lambda: page.house.all("select state from command") == ["cancelled"])
     browser.get(f"{address}/strangers")
-    browser.find_element(By.CSS_SELECTOR, "summary").click()
+    find(By.CSS_SELECTOR, "summary").click()
     write("name", "Garden")
     write("key", KEY)
-    press("Add this meter")
-    assert browser.find_element(By.TAG_NAME, "h1").text == "Garden" and KEY not in browser.page_source
+    press("Add this meter", lambda: browser.find_element(By.TAG_NAME, "h1").text == "Garden")
+    assert KEY not in browser.page_source
     assert page.house.all(f"select name from meter where address = '{STRANGER}'") == ["Garden"]
-    press("Leave")
-    assert not browser.find_elements(By.XPATH, "//button[.='Leave']")
+    press("Leave", lambda: not browser.find_elements(By.XPATH, "//button[.='Leave']"))

@@ -1,6 +1,7 @@
-"""The page as a process: served on this machine as it is, elsewhere with TLS; it ends when it is told to."""
+"""The page as a process: served on this machine as it is, elsewhere with TLS; it ends when it is told to, whatever its connections do."""
 from __future__ import annotations
 
+import shutil
 import signal
 import socket
 import ssl
@@ -8,73 +9,135 @@ import subprocess
 import sys
 import time
 import urllib.request
+from collections.abc import Iterator
+from contextlib import ExitStack, contextmanager
+from dataclasses import dataclass
 from pathlib import Path
+from typing import Any
 
 import pytest
+from wmbus_service.page import serving
 
 from .page_house import TOKEN, PageHouse, page_fixture  # noqa: F401
+from .processes import PATIENCE, certificate_of, free_port, started, until
 from .test_sessions import house_fixture  # noqa: F401
 
 SERVICE = Path(__file__).resolve().parents[1]
-PATIENCE = 30.0
+# what a client of TLS sends first: a record's head, and then nothing
+HALF_A_HANDSHAKE = bytes.fromhex("160301020001")
 
 
-def free_port() -> int:
-    """A port that nothing listens on."""
-    with socket.socket() as opened:
-        opened.bind(("127.0.0.1", 0))
-        return int(opened.getsockname()[1])
+@dataclass(frozen=True)
+class Served:
+    """A page that is a process of its own, and what it says."""
+
+    process: subprocess.Popen[Any]
+    log: Path
+
+    def said(self) -> str:
+        """Its words."""
+        return self.log.read_text(encoding="utf-8")
+
+    def ended(self) -> int:
+        """Its exit status, once it has ended."""
+        until(lambda: self.process.poll() is not None)
+        return int(self.process.returncode)
 
 
-def start(page: PageHouse, words: str) -> subprocess.Popen[bytes]:
-    """Starts `wmbus-service page` by a configuration."""
+@contextmanager
+def served(page: PageHouse, words: str) -> Iterator[Served]:
+    """`wmbus-service page` by a configuration."""
     folder = page.house.config.folder
-    file = folder.parent / "config.toml"
+    file, log = folder.parent / "config.toml", folder.parent / "page.log"
     file.write_text(f'folder = "{folder}"\n[page]\n{words}')
-    return subprocess.Popen([sys.executable, "-m", "wmbus_service", "--config", str(file), "page"], cwd=SERVICE, stderr=subprocess.PIPE)
+    with open(log, "wb") as opened, started([sys.executable, "-m", "wmbus_service", "--config", str(file), "page"], cwd=SERVICE,
+                                            stderr=opened) as process:
+        yield Served(process, log)
 
 
-def fetched(address: str, trust: ssl.SSLContext | None = None) -> str:
+def fetched(it: Served, address: str, trust: ssl.SSLContext | None = None) -> str:
     """A page, once it is served."""
-    until = time.monotonic() + PATIENCE
+    limit = time.monotonic() + PATIENCE
     while True:
         try:
             with urllib.request.urlopen(address, context=trust, timeout=PATIENCE) as given:
                 return str(given.read().decode())
-        except OSError:
-            if time.monotonic() > until:
-                raise
+        except OSError as fault:
+            assert it.process.poll() is None and time.monotonic() < limit, f"{fault}; {it.said()}"
             time.sleep(0.1)
+
+
+def with_tls(tmp_path: Path, port: int) -> tuple[str, ssl.SSLContext]:
+    """The configuration of a page that is served with TLS, without a token, and who trusts it."""
+    pytest.importorskip("cheroot", reason="python3-cheroot isn't there")
+    if not shutil.which("openssl"):
+        pytest.skip("openssl isn't there")
+    certificate, key = certificate_of(tmp_path)
+    words = f'host = "0.0.0.0"\nport = {port}\ncertificate = "{certificate}"\nkey = "{key}"\n'
+    return words, ssl.create_default_context(cafile=str(certificate))
+
+
+def with_token(tmp_path: Path) -> str:
+    """The configuration of a token."""
+    token = tmp_path / "token"
+    token.touch(0o600)
+    token.write_text(TOKEN)
+    return f'token_file = "{token}"\n'
 
 
 def test_on_this_machine(page: PageHouse) -> None:
     """It is served, and ends with status 0."""
     port = free_port()
-    with start(page, f"port = {port}\n") as served:
-        assert "All meters" in fetched(f"http://127.0.0.1:{port}/")
-        served.send_signal(signal.SIGTERM)
-        assert served.wait(PATIENCE) == 0
+    with served(page, f"port = {port}\n") as it:
+        assert "All meters" in fetched(it, f"http://127.0.0.1:{port}/")
+        it.process.send_signal(signal.SIGTERM)
+        assert it.ended() == 0, it.said()
 
 
 def test_elsewhere_with_tls(page: PageHouse, tmp_path: Path) -> None:
     """On all addresses it speaks TLS alone, and asks for the token first; without either it doesn't start."""
-    pytest.importorskip("cheroot", reason="python3-cheroot isn't there")
-    key, certificate, token, port = tmp_path / "key", tmp_path / "certificate", tmp_path / "token", free_port()
-    subprocess.run(["openssl", "req", "-x509", "-newkey", "ec", "-pkeyopt", "ec_paramgen_curve:prime256v1", "-nodes",
-                    "-keyout", str(key), "-out",
-                    str(certificate), "-days", "2", "-subj", "/CN=localhost", "-addext", "subjectAltName=DNS:localhost"],
-                   check=True, capture_output=True)
-    token.write_text(TOKEN)
-    token.chmod(0o600)
-    with_tls = f'host = "0.0.0.0"\nport = {port}\ncertificate = "{certificate}"\nkey = "{key}"\n'
-    for words, told in ((f'host = "0.0.0.0"\nport = {port}\n', b"without TLS they read along"), (with_tls, b"it has no token")):
-        with start(page, words) as refused:
-            _, said = refused.communicate(timeout=PATIENCE)
-            assert refused.returncode == 1 and told in said
-    with start(page, f'{with_tls}token_file = "{token}"\n') as served:
-        text = fetched(f"https://localhost:{port}/", ssl.create_default_context(cafile=str(certificate)))
+    port = free_port()
+    tls, trust = with_tls(tmp_path, port)
+    for words, told in ((f'host = "0.0.0.0"\nport = {port}\n', "without TLS they read along"), (tls, "it has no token")):
+        with served(page, words) as it:
+            assert it.ended() == 1 and told in it.said()
+    with served(page, tls + with_token(tmp_path)) as it:
+        text = fetched(it, f"https://127.0.0.1:{port}/", trust)
         assert "<h1>Enter</h1>" in text and "All meters" not in text
         with pytest.raises(OSError):
             urllib.request.urlopen(f"http://127.0.0.1:{port}/", timeout=PATIENCE)
-        served.send_signal(signal.SIGTERM)
-        assert served.wait(PATIENCE) == 0
+        it.process.send_signal(signal.SIGTERM)
+        assert it.ended() == 0, it.said()
+
+
+def test_a_port_that_is_taken(page: PageHouse, tmp_path: Path) -> None:
+    """It ends, and names the port, with TLS too."""
+    with socket.create_server(("127.0.0.1", 0)) as taken:
+        port = taken.getsockname()[1]
+        tls, _ = with_tls(tmp_path, port)
+        for words in (f"port = {port}\n", tls + with_token(tmp_path)):
+            with served(page, words) as it:
+                assert it.ended() == 1 and f"page.port {port}" in it.said() and "can't be served" in it.said()
+
+
+@pytest.mark.parametrize("is_with_tls", [False, True])
+def test_open_connections(page: PageHouse, tmp_path: Path, is_with_tls: bool) -> None:
+    """Told to end it ends within seconds, though one connection is kept alive, one has sent half a request, and one half a handshake."""
+    port = free_port()
+    words, trust = with_tls(tmp_path, port) if is_with_tls else (f"port = {port}\n", None)
+    with served(page, words + with_token(tmp_path)) as it, ExitStack() as opened:
+        fetched(it, f"http{'s' if trust else ''}://127.0.0.1:{port}/", trust)
+
+        def connection() -> socket.socket:
+            plain = opened.enter_context(socket.create_connection(("127.0.0.1", port), PATIENCE))
+            return opened.enter_context(trust.wrap_socket(plain, server_hostname="127.0.0.1")) if trust else plain
+        kept, half = connection(), connection()
+        kept.sendall(b"GET /enter HTTP/1.1\r\nHost: 127.0.0.1\r\n\r\n")
+        assert kept.recv(100).startswith(b"HTTP/1.1 200")
+        half.sendall(b"GET /enter HTTP/1.1\r\nHost: ")
+        opened.enter_context(socket.create_connection(("127.0.0.1", port), PATIENCE)).sendall(HALF_A_HANDSHAKE)
+        time.sleep(0.5)
+        it.process.send_signal(signal.SIGTERM)
+        began = time.monotonic()
+        assert it.ended() == 0, it.said()
+        assert time.monotonic() - began < serving.GRACE + 15

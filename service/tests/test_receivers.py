@@ -6,9 +6,9 @@ import pty
 import shutil
 import signal
 import socket
-import subprocess
 import threading
 import tty
+from contextlib import suppress
 from pathlib import Path
 
 import pytest
@@ -17,7 +17,8 @@ from wmbus_service.config import Config, Programs, Receiver
 from wmbus_service.receiving import PROFILES, Receiving, feed_of
 from wmbus_service.trouble import Trouble
 
-from .kill import TOP, Child, program, until
+from .kill import TOP, Child, program
+from .processes import PATIENCE, run, until
 
 # a telegram of examples/gas.rx as each of them prints it
 FRAME = (TOP / "examples" / "gas.rx").read_text().split()[2]
@@ -56,10 +57,20 @@ def test_stick_with_culfw(tmp_path: Path) -> None:
     pytest.importorskip("serial")
     ours, theirs = pty.openpty()
     tty.setraw(ours)
+    os.set_blocking(ours, False)
     heard = Heard(tmp_path, Receiver(profile="cul", device=os.ttyname(theirs)))
     asked = b""
-    while b"brt\r\n" not in asked:
-        asked += os.read(ours, 100)
+
+    def is_set() -> bool:
+        nonlocal asked
+        with suppress(BlockingIOError):
+            asked += os.read(ours, 100)
+        return b"brt\r\n" in asked
+    try:
+        until(is_set)
+    except AssertionError:
+        heard.child.end()
+        raise
     os.write(ours, f"TMODE\r\nb{FRAME.upper()}8031\r\n".encode())
     heard.judge()
 
@@ -67,6 +78,7 @@ def test_stick_with_culfw(tmp_path: Path) -> None:
 def test_tcp_port(tmp_path: Path) -> None:
     """What comes over a connection is taken."""
     with socket.create_server(("127.0.0.1", 0)) as server:
+        server.settimeout(PATIENCE)
         heard = Heard(tmp_path, Receiver(profile="tcp", host="127.0.0.1", port=server.getsockname()[1], format="hex"))
 
         def serve() -> None:
@@ -85,7 +97,7 @@ def test_file(tmp_path: Path) -> None:
 
 def test_profiles() -> None:
     """Each profile has a command and a format that line_feed knows; what it lacks is named."""
-    known = subprocess.run([program("line_feed"), "--help"], capture_output=True, text=True, check=True).stdout
+    known = run([program("line_feed"), "--help"]).stdout
     for name in PROFILES:
         told = Receiver(profile=name, device="/dev/ttyUSB0", host="radio", port=1, file="/tmp/a b", format="hex")
         command, form = feed_of("attic", told)
@@ -116,5 +128,5 @@ def test_units(tmp_path: Path) -> None:
         text = path.read_text().replace("/usr/bin/wmbus-service", "/bin/true").replace("User=wmbus", "User=root")
         (tmp_path / path.name).write_text(text)
     units = sorted(str(path) for path in tmp_path.glob("*.service"))
-    done = subprocess.run(["systemd-analyze", "verify", *units], capture_output=True, text=True, check=False)
+    done = run(["systemd-analyze", "verify", *units], check=False)
     assert (done.returncode, done.stderr) == (0, "")

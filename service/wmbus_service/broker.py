@@ -20,6 +20,7 @@ import paho.mqtt.client as mqtt
 from . import store
 from .commands import cancel_command, put_command
 from .config import Config, Mqtt
+from .ending import Ending
 from .publications import Publications
 from .trouble import Trouble
 
@@ -38,7 +39,7 @@ class Lost(Exception):
 class Broker(threading.Thread):
     """What goes to the broker and comes from it."""
 
-    def __init__(self, config: Config, told: Mqtt, ending: threading.Event) -> None:
+    def __init__(self, config: Config, told: Mqtt, ending: Ending) -> None:
         super().__init__(name="mqtt", daemon=True)
         self.config, self.told, self.ending = config, told, ending
         self.is_connected = False

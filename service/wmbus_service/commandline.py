@@ -6,7 +6,6 @@ import getpass
 import logging
 import os
 import secrets
-import signal
 import sqlite3
 import sys
 import time
@@ -280,7 +279,5 @@ def _restore(asked: argparse.Namespace) -> int:
 
 
 def _demo(asked: argparse.Namespace) -> int:
-    for number in (signal.SIGTERM, signal.SIGINT):
-        signal.signal(number, signal.default_int_handler)
     demo.run(Programs(steps=asked.steps), asked.days, None if asked.text else asked.port, lambda words: print(words, flush=True))
     return DONE

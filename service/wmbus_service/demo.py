@@ -51,14 +51,18 @@ class Demo:
         lines = list(self.building.history())
         self._spool(*lines)
         heard = 0
-        while count := self.service.turn():
+        while count := self._turn():
             heard += count
             say(f"{heard} of {len(lines)} telegrams are heard")
         for ident, (name, payload) in COMMANDS.items():
             put_command(self.database, ident, self.building.named(name).address.hex(), payload, time.time())
         self._spool(*self.building.answers())
-        while self.service.turn():
+        while self._turn():
             pass
+
+    def _turn(self) -> int:
+        """A turn of the service; none once the process is to end."""
+        return 0 if self.service.ending.is_set() else self.service.turn()
 
     def _spool(self, *lines: str) -> None:
         with open(self.lines, "a", encoding="ascii") as file:
@@ -67,8 +71,7 @@ class Demo:
     def go_on(self) -> None:
         """Has a meter send from time to time, until this process is told to end."""
         turn, due = 0, time.monotonic()
-        while True:
-            time.sleep(self.config.interval)
+        while not self.service.ending.wait(self.config.interval):
             if time.monotonic() > due:
                 self._spool(self.building.now(turn, int(time.time())))
                 turn, due = turn + 1, due + LIVE_SECONDS
@@ -96,6 +99,7 @@ def run(programs: Programs, days: int, port: int | None, say: Say) -> None:
     """Has all days be heard, then serves the page until the process is told to end, while meters go on to send. Without a port it says what
     was read in place of a page."""
     with demo(programs, days, port or 0) as made:
+        made.service.ending.heed_signals()
         served = None if port is None else Served(made.config)
         say(unproved_words(programs.steps) or f"{programs.steps} tells the sessions")
         made.hear(say)

@@ -16,6 +16,7 @@ from pathlib import Path
 from types import FrameType
 
 from .config import Config, Receiver, words_of
+from .ending import Ending
 from .spool import sync
 from .store import prepare_folder
 from .trouble import Trouble
@@ -78,32 +79,32 @@ class Receiving:
         self.config, self.name = config, name
         self.command, self.form = feed_of(name, config.receivers[name])
         self.running: list[subprocess.Popen[bytes]] = []
-        self.is_ending = False
+        self.ending = Ending()
 
     def run(self) -> None:
         """Feeds the spool until it gets SIGTERM or SIGINT."""
         def end(_number: int, _frame: FrameType | None) -> None:
             # (who waits for the feed's end sees it then, and cleans up)
-            self.is_ending = True
+            self.ending.set()
             self._signal(signal.SIGTERM)
 
         for number in (signal.SIGTERM, signal.SIGINT):
             signal.signal(number, end)
         prepare_folder(self.config.folder)
         was_full = False
-        while not self.is_ending:
+        while not self.ending.is_set():
             if spooled_bytes(self.config.spool) >= self.config.spool_bytes:
                 if not was_full:
                     log.error("%s: the spool is full, and nothing is heard until sessions have taken lines from it", self.name)
                 was_full = True
-                time.sleep(LOOK)
+                self.ending.wait(LOOK)
                 continue
             was_full = False
             log.info("%s: %s | line_feed %s", self.name, self.command, self.form)
             self._feed()
-            if not self.is_ending:
+            if not self.ending.is_set():
                 log.warning("%s: its feed ended, and is started again", self.name)
-                time.sleep(PAUSE)
+                self.ending.wait(PAUSE)
 
     def _feed(self) -> None:
         """One feed to its end, into a file of its own."""
@@ -121,7 +122,8 @@ class Receiving:
             raise Trouble(f"receivers.{self.name}", f"line_feed can't be started: {fault.strerror}", "name it under [programs]") from None
         finally:
             os.close(opened)
-        self.running[1].wait()
+        if not self.ending.is_set():
+            self.running[1].wait()
         self._end_feed()
 
     def _end_feed(self) -> None:

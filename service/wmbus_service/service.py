@@ -4,17 +4,15 @@ from __future__ import annotations
 import fcntl
 import logging
 import os
-import signal
 import socket
 import sqlite3
-import threading
 import time
 from pathlib import Path
-from types import FrameType
 
 from . import meters, retention, store
 from .config import Config, unproved_words
 from .downlinks import send_downlinks
+from .ending import Ending
 from .memory_files import leave_no_core
 from .session import MOST, Sessions
 from .trouble import Trouble
@@ -68,7 +66,7 @@ class Service:
     def __init__(self, config: Config, database: sqlite3.Connection) -> None:
         self.config, self.database = config, database
         self.sessions = Sessions(config, database)
-        self.ending = threading.Event()
+        self.ending = Ending()
         self.session_made = time.time()
         self.trouble = ""
         self.let_go_at = 0.0
@@ -116,12 +114,7 @@ def run(config: Config) -> None:
         service = Service(config, database)
         if config.roster:
             meters.take_roster(config, database, meters.read_roster(Path(config.roster)), config.roster)
-
-        def end(_number: int, _frame: FrameType | None) -> None:
-            service.ending.set()
-
-        for number in (signal.SIGTERM, signal.SIGINT):
-            signal.signal(number, end)
+        service.ending.heed_signals()
         start_beside(config, service)
         notify("READY=1")
         if words := unproved_words(config.programs.steps):

@@ -4,13 +4,14 @@ from __future__ import annotations
 import ipaddress
 import logging
 import os
-import signal
+import threading
+from collections.abc import Callable
 from pathlib import Path
-from types import FrameType
 from typing import Any
 
 from .. import store
 from ..config import Config, Page
+from ..ending import Ending
 from ..memory_files import leave_no_core
 from ..trouble import Trouble
 from .app import create_app
@@ -19,6 +20,8 @@ log = logging.getLogger("wmbus")
 
 LEAST_TOKEN = 24
 THREADS = 4
+# so long an answer that is on its way has when the page is to end
+GRACE = 3.0
 
 
 def is_local(host: str) -> bool:
@@ -57,23 +60,46 @@ def look_at_page(page: Page) -> str | None:
 
 
 def run(config: Config) -> None:
-    """Serves the page until the process ends."""
+    """Serves the page until it gets SIGTERM or SIGINT, and ends the process then."""
+    ending = Ending()
+    ending.heed_signals()
     os.umask(0o077)
     leave_no_core()
     page = config.page or Page()
     token = look_at_page(page)
     # (a database of an earlier version becomes one of this)
     store.open_store(config.database).close()
-    signal.signal(signal.SIGTERM, _end)
     app = create_app(config, token, is_elsewhere=not is_local(page.host))
+    server = server_with_tls(app, page) if page.certificate else plain_server(app, page)
     log.info("the page is at %s://%s:%d/", "https" if page.certificate else "http", page.host, page.port)
-    try:
-        if page.certificate:
-            _serve_with_tls(app, page)
-        else:
-            plain_server(app, page).run()
-    except OSError as fault:
-        raise _unserved(page, fault) from None
+    if page.certificate:
+        serve_until(ending, page, server.start, server.stop)
+    else:
+        serve_until(ending, page, server.run, server.task_dispatcher.shutdown)
+    log.info("ended")
+    # (a server's threads wait for connections, some without end, and may not hold up the process)
+    logging.shutdown()
+    os._exit(0)
+
+
+def serve_until(ending: Ending, page: Page, serve: Callable[[], object], stop: Callable[[], object]) -> None:
+    """Serves by a thread of its own, so that the main one is free to hear of the end; answers that are on their way have some seconds."""
+    faults: list[BaseException] = []
+
+    def work() -> None:
+        try:
+            serve()
+        except BaseException as fault:
+            faults.append(fault)
+        ending.set()
+
+    threading.Thread(target=work, daemon=True).start()
+    ending.wait()
+    for fault in faults:
+        raise _unserved(page, fault) from fault
+    stopping = threading.Thread(target=stop, daemon=True)
+    stopping.start()
+    stopping.join(GRACE)
 
 
 def plain_server(app: object, page: Page) -> Any:
@@ -85,17 +111,8 @@ def plain_server(app: object, page: Page) -> Any:
         raise _unserved(page, fault) from None
 
 
-def _unserved(page: Page, fault: OSError) -> Trouble:
-    return Trouble(f"page.host {page.host} and page.port {page.port}", f"the page can't be served: {fault.strerror}",
-                   "name another port, or end what uses this one")
-
-
-def _end(_number: int, _frame: FrameType | None) -> None:
-    raise KeyboardInterrupt
-
-
-def _serve_with_tls(app: object, page: Page) -> None:
-    """Serves it with TLS."""
+def server_with_tls(app: object, page: Page) -> Any:
+    """A server with TLS."""
     try:
         from cheroot.ssl.builtin import BuiltinSSLAdapter
         from cheroot.wsgi import Server
@@ -106,7 +123,10 @@ def _serve_with_tls(app: object, page: Page) -> None:
         server.ssl_adapter = BuiltinSSLAdapter(page.certificate, page.key)
     except OSError as fault:
         raise Trouble(page.certificate, f"TLS can't be begun: {fault}", "look at page.certificate and page.key") from None
-    try:
-        server.start()
-    finally:
-        server.stop()
+    return server
+
+
+def _unserved(page: Page, fault: BaseException) -> Trouble:
+    words = fault.strerror if isinstance(fault, OSError) and fault.strerror else fault
+    return Trouble(f"page.host {page.host} and page.port {page.port}", f"the page can't be served: {words}",
+                   "name another port, or end what uses this one")
