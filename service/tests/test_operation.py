@@ -1,12 +1,15 @@
 """What goes wrong on a machine: each is a clear error, and nothing is lost."""
 from __future__ import annotations
 
+import functools
+import itertools
 import os
 import resource
 import signal
 import socket
 import sqlite3
 import stat
+import sys
 import tempfile
 import time
 from collections.abc import Callable
@@ -18,6 +21,7 @@ import pytest
 from wmbus_service import receiving, retention, schema, service, session, steps, store
 from wmbus_service.commandline import main
 from wmbus_service.config import Config, Keep, Programs, Receiver
+from wmbus_service.ending import Ending
 from wmbus_service.service import Service
 from wmbus_service.trouble import Trouble
 
@@ -143,6 +147,27 @@ def test_what_systemd_is_told(house: House, tmp_path: Path, monkeypatch: pytest.
     assert not service.is_locked(house.config.folder)
     with closing(store.open_store(house.config.database)) as database:
         assert database.execute("select count(*) from reading").fetchone() == (1,)
+
+
+def test_an_end_at_any_moment(tmp_path: Path) -> None:
+    """A signal ends who waits for the end, at whichever step of the wait it comes."""
+    def end_at(step: int) -> None:
+        ending, steps = Ending(), itertools.count()
+        ending.heed_signals()
+
+        def trace(*_: object) -> object:
+            if next(steps) == step:
+                signal.raise_signal(signal.SIGTERM)
+            return trace
+        sys.settrace(trace)  # type: ignore[arg-type]
+        while not ending.wait(0.01):
+            pass
+    children = [Child(tmp_path / str(step), functools.partial(end_at, step)) for step in range(24)]
+    try:
+        until(lambda: not any([child.is_running() for child in children]))
+    finally:
+        statuses = [child.end() for child in children]
+    assert not any(statuses)
 
 
 def core_files(folder: Path) -> list[Path]:

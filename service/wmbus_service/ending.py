@@ -2,10 +2,11 @@
 from __future__ import annotations
 
 import math
-import queue
+import os
+import select
 import signal
 import time
-from contextlib import suppress
+import weakref
 from types import FrameType
 
 # a signal that comes just before a wait begins is seen when the next slice does
@@ -18,8 +19,10 @@ class Ending:
 
     def __init__(self) -> None:
         self._is_set = False
-        # (its `put` may come in the midst of its `get`)
-        self._woken: queue.SimpleQueue[None] = queue.SimpleQueue()
+        # (there is something to read once the process is to end)
+        self._told, self._tell = os.pipe2(os.O_CLOEXEC | os.O_NONBLOCK)
+        for opened in (self._told, self._tell):
+            weakref.finalize(self, os.close, opened)
 
     def heed_signals(self) -> None:
         """From now on SIGTERM and SIGINT end the process so."""
@@ -35,15 +38,15 @@ class Ending:
 
     def set(self) -> None:
         """It is to end."""
-        self._is_set = True
-        self._woken.put(None)
+        if not self._is_set:
+            self._is_set = True
+            os.write(self._tell, b"e")
 
-    def wait(self, seconds: float = math.inf) -> bool:
-        """Waits so long, or until it is to end; whether it is."""
+    def wait(self, seconds: float = math.inf, watched: int | None = None) -> bool:
+        """Waits so long, or until it is to end or the open file that is watched can be read; whether it is to end."""
         limit = time.monotonic() + seconds
+        opened = [self._told] if watched is None else [self._told, watched]
         while not self._is_set and (left := limit - time.monotonic()) > 0:
-            with suppress(queue.Empty):
-                self._woken.get(timeout=min(left, SLICE))
-                # (others may wait too)
-                self._woken.put(None)
+            if watched in select.select(opened, [], [], min(left, SLICE))[0]:
+                break
         return self._is_set

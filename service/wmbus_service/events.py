@@ -4,15 +4,14 @@ from __future__ import annotations
 
 import sqlite3
 from collections.abc import Sequence
-from dataclasses import dataclass
+from typing import NamedTuple
 
 from .config import Config, words_of
 from .merging import merged, moment_in
 from .spool import Spool, Spooled
 
 
-@dataclass(frozen=True)
-class Event:
+class Event(NamedTuple):
     """A line of a session: of a receiver, for a command (by its id), or a meter's tick, with the moment at which it was due."""
 
     text: str
@@ -53,6 +52,8 @@ def due_ticks(database: sqlite3.Connection, now: float) -> list[tuple[float, str
 
 def with_ticks(heard: Sequence[Spooled], ticks: Sequence[tuple[float, str]]) -> list[Event]:
     """Each tick stands in front of what was heard later than it was due."""
+    if not ticks:
+        return [Event(line.text, line) for line in heard]
     events: list[Event] = []
     waiting, moment = list(ticks), 0
     for line in heard:

@@ -16,6 +16,7 @@ from .ending import Ending
 from .memory_files import leave_no_core
 from .session import MOST, Sessions
 from .trouble import Trouble
+from .watching import Watch
 
 log = logging.getLogger("wmbus")
 
@@ -73,17 +74,21 @@ class Service:
 
     def run(self) -> None:
         """Sessions one after the other; after trouble the same lines come again."""
-        pause = LEAST_PAUSE
+        pause, watch = LEAST_PAUSE, Watch(self.config.spool)
         while not self.ending.is_set():
+            watch.forget()
+            watched = None
             try:
                 count = self.turn()
                 pause, self.trouble = LEAST_PAUSE, ""
                 wait = 0.0 if count >= MOST // 2 or count >= self.sessions.most else self.config.interval
+                # (behind a session the next one waits for the interval, so that lines that come one by one are heard together)
+                watched = None if count else watch.opened
             except (Trouble, OSError, sqlite3.Error) as fault:
                 self._tell(fault)
                 wait, pause = pause, min(2 * pause, MOST_PAUSE)
             notify("WATCHDOG=1")
-            self.ending.wait(wait)
+            self.ending.wait(wait, watched)
 
     def turn(self) -> int:
         """What is committed goes out, then a session, then what it says to be sent; how many lines it took."""

@@ -2,6 +2,7 @@
 or nothing."""
 from __future__ import annotations
 
+import json
 import logging
 import sqlite3
 from collections.abc import Collection, Sequence
@@ -18,7 +19,6 @@ log = logging.getLogger("wmbus")
 
 # a state has 4,096 meters at most, and each line may name another one
 MOST = 4000
-PIECE = 500
 # of each meter its place among all, and its part of the state
 Blocks = dict[str, tuple[int, str]]
 
@@ -107,13 +107,9 @@ def named_in(line: str) -> str:
 
 def blocks_of(database: sqlite3.Connection, addresses: Collection[str]) -> Blocks:
     """What is known of those of these meters that there are."""
-    names, found = sorted(addresses), Blocks()
-    for start in range(0, len(names), PIECE):
-        piece = names[start:start + PIECE]
-        marks = ",".join("?" * len(piece))
-        for address, place, block in database.execute(f"select address, place, block from meter where address in ({marks})", piece):
-            found[address] = place, block
-    return found
+    rows = database.execute("select address, place, block from meter where address in (select value from json_each(?))",
+                            (json.dumps(list(addresses)),))
+    return {address: (place, block) for address, place, block in rows}
 
 
 def set_aside(database: sqlite3.Connection, event: Event, said: str, now: float) -> None:

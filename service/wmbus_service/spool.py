@@ -5,17 +5,16 @@ from __future__ import annotations
 import fcntl
 import os
 import sqlite3
-from collections.abc import Iterator
-from dataclasses import dataclass
+from itertools import accumulate
 from pathlib import Path
+from typing import NamedTuple
 
 # a line of the grammar has 1,024 bytes at most; of a longer one so many are kept, and the program calls it bad
 LONGEST = 1_100
 CHUNK = 1 << 20
 
 
-@dataclass(frozen=True)
-class Spooled:
+class Spooled(NamedTuple):
     """A whole line of a receiver's file, and the place behind it."""
 
     receiver: str
@@ -51,13 +50,16 @@ class Spool:
             self._sync(path, file.fileno())
             file.seek(start)
             content = file.read(most * LONGEST + CHUNK)
-        found: list[Spooled] = []
-        for line in _whole_lines(content):
-            if len(found) == most:
-                break
-            start += len(line)
-            found.append(Spooled(self.receiver, path.name, start, line.removesuffix(b"\n")[:LONGEST].decode("latin-1")))
-        return found
+        whole = content.split(b"\n", most)
+        rest = whole.pop()
+        lengths = [len(line) + 1 for line in whole]
+        if len(whole) < most and len(rest) >= CHUNK:
+            # (what is far too long for a line counts as one)
+            whole.append(rest[:CHUNK])
+            lengths.append(CHUNK)
+        receiver, name = self.receiver, path.name
+        return [Spooled(receiver, name, start + behind, line[:LONGEST].decode("latin-1"))
+                for line, behind in zip(whole, accumulate(lengths), strict=True)]
 
     def _sync(self, path: Path, opened: int) -> None:
         """A place is never committed beyond what stands on the disk."""
@@ -86,16 +88,6 @@ class Spool:
 def sync(opened: int) -> None:
     """Has a file stand on the disk."""
     os.fsync(opened)
-
-
-def _whole_lines(content: bytes) -> Iterator[bytes]:
-    """The lines that have their end, with it; what is far too long for a line counts as one."""
-    start = 0
-    while (end := content.find(b"\n", start)) >= 0:
-        yield content[start:end + 1]
-        start = end + 1
-    if len(content) - start >= CHUNK:
-        yield content[start:start + CHUNK]
 
 
 def place_of(database: sqlite3.Connection, receiver: str, file: str) -> int:

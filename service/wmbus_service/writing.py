@@ -1,9 +1,11 @@
 """The rows of a session, as the program said them."""
 from __future__ import annotations
 
+import json
 import sqlite3
 from collections import Counter
 from collections.abc import Sequence
+from operator import itemgetter
 from typing import Any
 
 from . import store
@@ -14,6 +16,7 @@ from .steps import Block, Told
 
 MOST_STRANGERS = 1000
 RECORD = ("quantity", "unit", "exponent", "value", "function", "storage", "tariff", "subunit", "modifiers", "raw")
+record_row = itemgetter(*RECORD)
 
 
 class Writing:
@@ -27,8 +30,12 @@ class Writing:
         self.receivers: dict[str, str] = {}
         self.opened: set[str] = set()
         self.ticked: set[str] = set()
+        self.outcomes = {"stored": self._stored, "queued": self._queued, "cancelled": self._cancelled, "refused": self._refused,
+                         "rekeyed": self._rekeyed, "ticked": self._ticked}
         # rows that are written at the session's end
         self.lines: list[tuple[Any, ...]] = []
+        (self.next_reading,) = database.execute("select coalesce(max(id), 0) + 1 from reading").fetchone()
+        self.readings: list[tuple[Any, ...]] = []
         self.records: list[tuple[Any, ...]] = []
         self.refusals: dict[tuple[str, str], tuple[str, int, int]] = {}
         self.strangers: dict[str, tuple[int, str | None]] = {}
@@ -44,9 +51,8 @@ class Writing:
                 self._stranger(event, said)
             elif event.command:
                 self._refuse(event.command, f"{said['kind']} {said['reason']}")
-        for address, block in told.blocks.items():
-            self._block(address, block)
         self._gathered()
+        self._blocks(told.blocks)
         self.counts["sessions"] += 1
         for kind in ("strangers", "unframed", "bad"):
             self.counts[kind] += told.counts[kind]
@@ -62,6 +68,9 @@ class Writing:
     def _gathered(self) -> None:
         """The rows that were gathered, of each table at once."""
         self.database.executemany("insert into line (number, receiver, text, due, made) values (?, ?, ?, ?, ?)", self.lines)
+        self.database.executemany(
+            "insert into reading (id, line, address, counter, moment, receiver, payload, fault, more, made)"
+            " values (?, ?, ?, ?, ?, ?, ?, ?, ?, ?)", self.readings)
         self.database.executemany(
             f"insert into record (reading, place, {', '.join(RECORD)}) values (?, ?{', ?' * len(RECORD)})", self.records)
         self.database.executemany(
@@ -81,20 +90,18 @@ class Writing:
         if event.spooled:
             self.receivers[said["address"]] = event.spooled.receiver
         self.counts[said["outcome"]] += 1
-        write = {"stored": self._stored, "queued": self._queued, "cancelled": self._cancelled, "refused": self._refused,
-                 "rekeyed": self._rekeyed, "ticked": self._ticked}.get(said["outcome"])
+        write = self.outcomes.get(said["outcome"])
         if write:
             write(event, said, number)
 
     def _stored(self, event: Event, said: dict[str, Any], number: int) -> None:
         """A reading with its records, the command that it confirms, the downlink that is due."""
         address, receiver = said["address"], event.spooled.receiver if event.spooled else None
-        written = self.database.execute(
-            "insert into reading (line, address, counter, moment, receiver, payload, fault, more, made)"
-            " values (?, ?, ?, ?, ?, ?, ?, ?, ?)",
-            (number, address, said["counter"], _signed(said["at"]), receiver, said["payload"], said["fault"], said["more"], self.now))
-        self.records += [(written.lastrowid, place, *(record[name] for name in RECORD)) for place, record in enumerate(said["records"])
-                         if "quantity" in record]
+        ident = self.next_reading
+        self.next_reading += 1
+        self.readings.append((ident, number, address, said["counter"], _signed(said["at"]), receiver, said["payload"], said["fault"],
+                              said["more"], self.now))
+        self.records += [(ident, place, *record_row(record)) for place, record in enumerate(said["records"]) if "quantity" in record]
         self.publications.reading(number, said)
         if said["confirmed"] is not None:
             self._change(address, said["confirmed"], "confirmed")
@@ -170,13 +177,16 @@ class Writing:
             self._refuse(event.command, "the meter is unknown")
         self.strangers[said["address"]] = self.strangers.get(said["address"], (0, None))[0] + 1, receiver
 
-    def _block(self, address: str, block: Block) -> None:
-        """What is known of a meter now, and when its tick is due."""
-        (due,) = self.database.execute("select due from meter where address = ?", (address,)).fetchone()
-        self.database.execute("update meter set block = ?, waits = ?, holds = ?, receiver = coalesce(?, receiver) where address = ?",
-                              (block.text, block.waits, block.holds, self.receivers.get(address), address))
-        is_anew = address in self.opened or address in self.ticked
-        put_due(self.database, address, next_due(self.config.ticks, self.now, block, None if is_anew else due))
+    def _blocks(self, blocks: dict[str, Block]) -> None:
+        """What is known of the meters now, and when their ticks are due."""
+        self.database.executemany("update meter set block = ?, waits = ?, holds = ?, receiver = coalesce(?, receiver) where address = ?",
+                                  [(it.text, it.waits, it.holds, self.receivers.get(address), address) for address, it in blocks.items()])
+        was_due = dict(self.database.execute("select address, due from meter where address in (select value from json_each(?))",
+                                             (json.dumps(list(blocks)),)).fetchall())
+        anew = self.opened | self.ticked
+        due = {address: next_due(self.config.ticks, self.now, it, None if address in anew else was_due[address])
+               for address, it in blocks.items()}
+        put_due(self.database, [(moment, address) for address, moment in due.items() if moment != was_due[address]])
 
 
 def next_due(ticks: Ticks, now: float, block: Block, due: float | None) -> float | None:
@@ -190,9 +200,9 @@ def next_due(ticks: Ticks, now: float, block: Block, due: float | None) -> float
     return min(due, now + max(ticks.window, ticks.fragments))
 
 
-def put_due(database: sqlite3.Connection, address: str, due: float | None) -> None:
-    """When the meter's tick is due, in the transaction of the session that says so."""
-    database.execute("update meter set due = ? where address = ?", (due, address))
+def put_due(database: sqlite3.Connection, rows: Sequence[tuple[float | None, str]]) -> None:
+    """When meters' ticks are due, in the transaction of the session that says so."""
+    database.executemany("update meter set due = ? where address = ?", rows)
 
 
 def _signed(moment: int) -> int:
