@@ -5,6 +5,7 @@ import functools
 import logging
 import os
 import random
+import shutil
 import signal
 import sqlite3
 import sys
@@ -31,7 +32,8 @@ from .servers import Listener, Mosquitto
 TOP = Path(__file__).resolve().parents[2]
 PYTHON = "/usr/bin/python3"
 RECEIVERS = ("cellar", "roof")
-MEMORY = "/dev/shm" if os.access("/dev/shm", os.W_OK) else None
+# a folder in memory, where there is one with room for a trial
+MEMORY = "/dev/shm" if os.access("/dev/shm", os.W_OK) and shutil.disk_usage("/dev/shm").free > 256 << 20 else None
 TICK = 0.4
 
 

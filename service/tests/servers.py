@@ -61,10 +61,10 @@ class Mosquitto:
         with socket.socket() as tried:
             return tried.connect_ex(("127.0.0.1", self.port)) == 0
 
-    def end(self) -> None:
-        """Ends it; what it holds stands in its folder."""
+    def end(self, is_killed: bool = False) -> None:
+        """Ends it; what it holds stands in its folder, unless it is killed."""
         if self.process:
-            self.process.terminate()
+            self.process.kill() if is_killed else self.process.terminate()
             with suppress(subprocess.TimeoutExpired):
                 self.process.wait(PATIENCE)
             put_down(self.process)
