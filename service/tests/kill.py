@@ -27,6 +27,7 @@ from wmbus_service.store import open_store, prepare_folder
 from . import judged, killed_service
 from .meters import OWN, line_of, next_telegrams, roster_of, some_meters
 from .processes import PATIENCE, run
+from .processes import until as until
 from .servers import Listener, Mosquitto
 
 TOP = Path(__file__).resolve().parents[2]
