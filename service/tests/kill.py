@@ -277,15 +277,17 @@ class Trial:
             return int(database.execute("select count(*) from line where due is not null").fetchone()[0])
 
     def _drain(self) -> None:
-        """Lets the service take what is left."""
-        limit = time.monotonic() + 60
+        """Lets the service take what is left; as long as it becomes less it may take its time."""
+        limit, before = 0.0, ""
         if self.service:
             self.service.end()
         self.start_service(0.0)
-        while (left := self._left()) and time.monotonic() < limit:
+        while left := self._left():
+            if left != before:
+                limit, before = time.monotonic() + PATIENCE, left
+            assert time.monotonic() < limit, f"{left}; {self._log()}"
             assert self.service and self.service.is_running(), self._log()
             time.sleep(0.05)
-        assert not left, f"{left}; {self._log()}"
 
     def _log(self) -> str:
         return (self.folder / "log").read_text()[-2000:]

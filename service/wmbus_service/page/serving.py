@@ -96,7 +96,7 @@ def serve_until(ending: Ending, page: Page, serve: Callable[[], object], stop: C
     threading.Thread(target=work, daemon=True).start()
     ending.wait()
     for fault in faults:
-        raise _unserved(page, fault) from fault
+        raise _unserved(page, fault) if isinstance(fault, OSError) else fault
     stopping = threading.Thread(target=stop, daemon=True)
     stopping.start()
     stopping.join(GRACE)
@@ -126,7 +126,6 @@ def server_with_tls(app: object, page: Page) -> Any:
     return server
 
 
-def _unserved(page: Page, fault: BaseException) -> Trouble:
-    words = fault.strerror if isinstance(fault, OSError) and fault.strerror else fault
-    return Trouble(f"page.host {page.host} and page.port {page.port}", f"the page can't be served: {words}",
+def _unserved(page: Page, fault: OSError) -> Trouble:
+    return Trouble(f"page.host {page.host} and page.port {page.port}", f"the page can't be served: {fault.strerror or fault}",
                    "name another port, or end what uses this one")
