@@ -24,7 +24,7 @@ def limit_fixture() -> Iterator[None]:
     def end(_number: int, _frame: FrameType | None) -> None:
         raise TimeoutError("the test took too long")
     before = signal.signal(signal.SIGALRM, end)
-    signal.setitimer(signal.ITIMER_REAL, MOST + 10 * float(os.environ.get("WMBUS_KILL_SECONDS", "0")), AGAIN)
+    signal.setitimer(signal.ITIMER_REAL, MOST + 5 * float(os.environ.get("WMBUS_KILL_SECONDS", "20")), AGAIN)
     yield
     signal.setitimer(signal.ITIMER_REAL, 0)
     signal.signal(signal.SIGALRM, before)
