@@ -47,7 +47,7 @@ def overview(config: Config, database: sqlite3.Connection, now: float) -> dict[s
             kinds[look.link.removeprefix("/meters/")] = look.kind, look.what
     totals = dict(database.execute("select name, value from total").fetchall())
     (waiting,) = database.execute("select count(*) from command where state in ('waiting', 'queued', 'sent')").fetchone()
-    return {"now": now, "looks": [vars(look) for look in found],
+    return {"now": now, "sqlite": f"{config.database.absolute().as_uri()}?mode=ro", "looks": [vars(look) for look in found],
             "meters": [meter_data(meter) | {"look": kinds.get(meter.address)} for meter in meters],
             "totals": {"lines": totals.get("lines", 0), "stored": totals.get("stored", 0), "commands": waiting,
                        "read": sum(it.heard is not None for it in meters)}}
