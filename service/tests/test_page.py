@@ -82,6 +82,16 @@ def test_consumption(page: PageHouse) -> None:
     assert "0.297 m³" in text and "2026-12" in text
 
 
+def test_one_unit(page: PageHouse) -> None:
+    """What was used in an hour, a day and a month is told in one unit, that of the greatest."""
+    address = page.addresses[0]
+    for back, kilowatt_hours in ((20, 1000), (2, 1400), (1, 1420), (0, 1425)):
+        page.read(address, NOW - back * DAY - 60, ("energy", "Wh", 3, str(kilowatt_hours)))
+    told = page.client().get(f"/api/meters/{address}").json
+    assert told
+    assert {by: rows[0]["text"] for by, rows in told["used"][0]["by"].items()} == {"hour": "5 kWh", "day": "5 kWh", "month": "425 kWh"}
+
+
 def test_replaced_meter(page: PageHouse) -> None:
     """A register that falls is said to be reset or replaced, and what it fell by isn't counted."""
     address = page.addresses[0]

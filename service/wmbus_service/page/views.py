@@ -62,7 +62,8 @@ def meter_page(database: sqlite3.Connection, address: str, span: str, now: float
     refusals = refusals_of(database, meter.address)
     used = []
     for register in [it.register for it in values if it.register.rises][:4]:
-        rows = {by: [asdict(row) for row in periods.used_rows(database, meter.address, register, by, now)] for by in periods.PERIODS}
+        tables = periods.used_tables(database, meter.address, register, now)
+        rows = {by: [asdict(row) for row in table] for by, table in tables.items()}
         if any(rows.values()):
             used.append({"register": register_data(register), "title": register.title, "by": rows})
     drawn = periods.curves_of(database, meter.address, values, span, now)
