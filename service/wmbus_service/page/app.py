@@ -17,6 +17,7 @@ from flask import (
 )
 from markupsafe import Markup
 from werkzeug.exceptions import HTTPException
+from werkzeug.routing import Map
 from werkzeug.wrappers import Response as AnyResponse
 
 from .. import store
@@ -51,9 +52,23 @@ WORDS = {
 }
 
 
+class Addresses(Map):
+    """An address is that of a page or of none: none is put right by leading to another one."""
+
+    def __init__(self, *rules: Any, **named: Any) -> None:
+        named["merge_slashes"] = False
+        super().__init__(*rules, **named)
+
+
+class Pages(Flask):
+    """The page with its addresses."""
+
+    url_map_class: type[Map] = Addresses
+
+
 def create_app(config: Config, token: str | None = None, is_elsewhere: bool = False) -> Flask:
     """The page over a configuration's database. Without a token it only reads; elsewhere than on this machine reading needs it too."""
-    app = Flask(__name__)
+    app = Pages(__name__)
     app.config.update(WMBUS=config, TOKEN=token, IS_ELSEWHERE=is_elsewhere, CLOCK=time.time, MAX_CONTENT_LENGTH=MOST_BYTES,
                       SESSION_COOKIE_NAME="wmbus", PERMANENT_SESSION_LIFETIME=ENTERED_SECONDS,
                       SESSION_COOKIE_SAMESITE="Strict", SESSION_COOKIE_SECURE=is_elsewhere)
@@ -158,7 +173,7 @@ def _http_fault(fault: HTTPException) -> AnyResponse:
     status = fault.code or 500
     if fault.response is not None or status < 400:
         return make_response(fault.get_response())
-    return _fault_page(status, fault.words if isinstance(fault, Worded) else WORDS.get(status, "This can't be answered."))
+    return _fault_page(status, fault.words if isinstance(fault, Worded) else WORDS.get(status, "This can't be answered as it was asked."))
 
 
 class Worded(HTTPException):
