@@ -4,6 +4,9 @@
 mod forms;
 mod lister;
 mod notes;
+mod page;
+mod pages;
+mod passing;
 mod record_lines;
 mod running;
 mod said;
@@ -13,5 +16,6 @@ pub use forms::{Form, Member};
 pub use lister::Lister;
 pub use notes::LineNote;
 pub use running::list_report;
-pub use said::{LINE_MAX, LineFault, SaidRead, StepRead, Unread, read_line};
+pub use pages::REPORT_MAX;
+pub use said::{LineFault, SaidRead, StepRead, Unread, read_line};
 pub use status::ListStatus;
