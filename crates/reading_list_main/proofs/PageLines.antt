@@ -1,5 +1,5 @@
 -- The lines of bytes that are read page by page.
-use Rattle.std.proofs.Common.{◌≡◌, ℕ, suc, ◌<◌, ◌≤◌, ◌+◌, ◌==◌, ◌⊎◌, inl, inr, Bool, true, false, cond, List, [], ◌∷◌, ◌++◌, length, take, drop, get_or, Option, Some, None, refl, sym, ap, ◌∙◌, subst, append_assoc, arith, eqb-true, ⊎_elim}
+use Rattle.std.proofs.Common.{◌≡◌, ℕ, suc, ◌<◌, ◌≤◌, ◌+◌, inl, inr, Bool, true, false, cond, List, [], ◌∷◌, ◌++◌, length, take, drop, get_or, Option, Some, None, refl, sym, ap, ◌∙◌, subst, append_assoc, arith, eqb-true, ⊎_elim}
 use Rattle.std.specs.Prelude.{position, min}
 use Rattle.std.specs.Str.Lines.{lines, strip_carriage_return}
 use Rattle.std.proofs.lemmas.Bool.{cases_lt}
@@ -8,7 +8,7 @@ use Rattle.std.proofs.lemmas.List.Sums.{sum_by-cons}
 use Rattle.memchr.specs.Find.{is_byte, IsLastByte}
 use Rattle.line_reader.specs.Keeps.{IsFinished}
 use Rattle.line_reader.specs.Newlines.{newlines}
-use Rattle.line_reader.proofs.LinesLemmas.{lines_front, lines_alone, finished_more, some_line, length-strip}
+use Rattle.line_reader.proofs.LinesLemmas.{lines_front, lines_alone, finished_more, length-strip}
 use Rattle.line_reader.proofs.NewlineLemmas.{is_newline, newlines-append, newlines-take, newlines-both, no_place, first_place}
 use Rattle.reading_list_main.specs.Said.{said_of}
 use Rattle.reading_list_main.specs.Pages.{IsEnded, EndsAt}
@@ -157,9 +157,10 @@ long_alike kept behind more is none long = by_place (position is_newline more) r
         ∙ lines_front (kept ++ line.front) line.rest (newlines-both kept line.front kept_none line.alone)))
         (subst (λ l. Alike (strip_carriage_return (kept ++ line.front) ∷ lines line.rest) l)
         (sym (ap (λ m. lines (behind ++ m)) line.cut ∙ ap lines (sym (append_assoc behind line.front (10 ∷ line.rest)))
-        ∙ lines_front (behind ++ line.front) line.rest (newlines-both behind line.front none line.alone)))
-        (both (strip_carriage_return (kept ++ line.front)) (strip_carriage_return (behind ++ line.front)) (omega arith) (omega arith)
-        , alike_self (lines line.rest)))
+        ∙ lines_front (behind ++ line.front) line.rest (newlines-both behind line.front none line.alone))) (
+          both (strip_carriage_return (kept ++ line.front)) (strip_carriage_return (behind ++ line.front)) (omega arith) (omega arith),
+          alike_self (lines line.rest),
+        ))
 
 pub kept_alike : (kept behind more : List ℕ) → kept ≡ take 8194 behind → newlines behind ≡ 0
     → Alike (lines (kept ++ more)) (lines (behind ++ more))

@@ -1,5 +1,5 @@
 -- Pages that are listed one after another.
-use Rattle.std.proofs.Common.{◌≡◌, ℕ, ◌<◌, ◌≤◌, ◌+◌, ◌⊎◌, Bool, true, false, cond, List, [], ◌∷◌, ◌++◌, length, take, drop, Result, Ok, Err, refl, sym, ap, ◌∙◌, subst, append_assoc, append-nil, arith, nat_lt}
+use Rattle.std.proofs.Common.{◌≡◌, ℕ, ◌<◌, ◌≤◌, ◌+◌, Bool, true, false, cond, List, [], ◌∷◌, ◌++◌, length, take, drop, Result, Ok, Err, refl, sym, ap, ◌∙◌, subst, append_assoc, append-nil, arith}
 use Rattle.std.specs.Prelude.{IsTrue, IfErr, OnErr}
 use Rattle.std.specs.Str.Lines.{lines}
 use Rattle.std.proofs.lemmas.Bool.Decides.{nat_tests}
@@ -470,7 +470,7 @@ ended_stopped first old ends.Cut source count bytes taken left kept out_tells no
       lines = lines s.front;
       lines_are = (
         over (source.taken ++ source.left) (omega arith),
-        sym (ap whole_lines same ∙ whole_full s.front s.behind added s.finished s.alone (omega arith))
+        sym (ap whole_lines same ∙ whole_full s.front s.behind added s.finished s.alone (omega arith)),
       );
       now_is = λ whole. s.listed.new_is;
       written = λ on. s.listed.written on;

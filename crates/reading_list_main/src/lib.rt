@@ -15,7 +15,7 @@ mod status;
 pub use forms::{Form, Member};
 pub use lister::Lister;
 pub use notes::LineNote;
-pub use running::list_report;
 pub use pages::REPORT_MAX;
+pub use running::list_report;
 pub use said::{LineFault, SaidRead, StepRead, Unread, read_line};
 pub use status::ListStatus;

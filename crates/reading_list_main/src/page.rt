@@ -91,11 +91,7 @@ impl Page {
     }
 
     /// Reads at most `most` bytes more, and answers how many, none at the source's end.
-    pub(crate) fn fill<S: Source>(
-        &mut self,
-        source: &mut S,
-        most: usize,
-    ) -> Result<usize, Failed>
+    pub(crate) fn fill<S: Source>(&mut self, source: &mut S, most: usize) -> Result<usize, Failed>
         requires some { 0 < most }
         requires room { length self.old < 65536 }
         ensures few { IfOk result (λ n. n ≤ most) }

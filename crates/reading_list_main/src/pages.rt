@@ -118,11 +118,7 @@ fn list_page<K: Sink, E: Sink>(
 }
 
 // Reads on behind so many bytes that were taken, and answers how many more are, none at the report's end; or why it can't go on.
-fn read_on<S: Source>(
-    page: &mut Page,
-    taken: usize,
-    report: &mut S,
-) -> Result<usize, LinesEnd>
+fn read_on<S: Source>(page: &mut Page, taken: usize, report: &mut S) -> Result<usize, LinesEnd>
     requires room { length page.old < 65536 }
     requires within { taken ≤ 1073741824 }
     ensures few { IfOk result (λ n. taken + n ≤ 1073741824) }

@@ -1,5 +1,5 @@
 -- The last newline ends the lines that end with one.
-use Rattle.std.proofs.Common.{Option, Some, None, subst}
+use Rattle.std.proofs.Common.{subst}
 use Rattle.memchr.specs.Find.{is_byte, IsLastByte}
 use Rattle.reading_list_main.proofs.PageLines.{ends_behind, ends_nowhere}
 use Rattle.reading_list_main.proofs.page.ended_len.Goals as goal

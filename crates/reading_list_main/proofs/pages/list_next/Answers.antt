@@ -1,5 +1,4 @@
 -- What was read is listed up to its last newline, or the lines end.
-use Rattle.std.proofs.Common.{◌≡◌, ◌∙◌, drop, length}
 use Rattle.std.proofs.lemmas.Result.{err_from_is_err_and}
 use Rattle.reading_list_main.proofs.PageRuns.{by_err, cut_of_page, ended_amid, ended_done, ended_part, ended_stopped, few_after, kept_few, last_left, last_page, last_taken, more_bytes, stands_then}
 use Rattle.reading_list_main.proofs.pages.list_next.Goals as goal

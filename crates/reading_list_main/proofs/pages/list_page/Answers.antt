@@ -1,5 +1,5 @@
 -- Each line stands behind those before it.
-use Rattle.std.proofs.Common.{◌≡◌, ◌+◌, ◌≤◌, ◌<◌, length, arith}
+use Rattle.std.proofs.Common.{arith}
 use Rattle.outer_io.specs.Shown.{sink_shown}
 use Rattle.reading_list_main.proofs.PageLines.{lines_few}
 use Rattle.reading_list_main.proofs.PageRuns.{on_err, amid_few, amid_count, amid_next, amid_part, amid_rest}
