@@ -4,7 +4,7 @@ use Rattle.paper.proofs.Calls.{none}
 use Rattle.line_teller.proofs.Keeping.{told_by}
 use Rattle.reading_list_main.specs.Said.{Means, said_of, said_read}
 use Rattle.reading_list_main.proofs.Lines.{lists_said}
-use Rattle.reading_list_main.proofs.lister.ListerTeller.tell.Goals as goal
+use Rattle.reading_list_main.proofs.lister.Lister.tell.Goals as goal
 
 pub returns-in-Ok : goal.returns-in-Ok
 returns-in-Ok c =
