@@ -1,0 +1,4 @@
+pub mod Cuts
+pub mod StreamReads
+pub mod Files
+pub mod Limits

@@ -1,2 +1,4 @@
 pub mod Opened
 pub mod Streams
+pub mod Files
+pub mod Laws

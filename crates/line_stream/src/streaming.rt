@@ -1,8 +1,10 @@
 //! All lines of a stream, told on two sinks.
-ghost use Rattle.std.specs.Prelude.{ℕ, ◌≡◌, ◌≤◌, ◌<◌, ◌+◌, ◌-◌, ◌^◌, ◌++◌, [], ◌∷◌, ◌≢◌, List, length, Err, IsTrue, OnOk, IfErr};
+ghost use Rattle.std.specs.Prelude.{ℕ, ◌≡◌, ◌≤◌, ◌<◌, ◌+◌, ◌-◌, ◌^◌, ◌++◌, [], ◌∷◌, ◌≢◌, List, length, false, Ok, Err, IsTrue, OnOk, OnErr, IfErr};
+ghost use Rattle.outer_io.specs.Bytes.{AppendsFront};
 ghost use Rattle.outer_io.specs.Faults.{Rose};
 ghost use Rattle.outer_io.specs.Shown.{source_shown, sink_change, WriteFailed};
 ghost use Rattle.line_reader.specs.Newlines.{newlines};
+ghost use Rattle.line_teller.specs.Ending.{IsNoted};
 ghost use Rattle.line_teller.specs.Telling.{Tells};
 ghost use Rattle.line_stream.specs.Opened.{Keeps, StandsAt, told_line};
 ghost use Rattle.line_stream.specs.Streams.{StreamEnded, TellsMore, Goes, EndsRead, Stops, StopsAtLine};
@@ -18,6 +20,23 @@ use std::alloc::Global;
 // How many bytes a read asks for.
 const READ_MOST: usize = 16_384;
 
+// How a line that was told ends the stream: for want of memory alone.
+fn ended_by(told: Result<(), Memory>, text: &Sheet, note: &Sheet) -> Result<(), LinesEnd>
+    ensures ok { OnOk result ((told ≡ Ok tt) × (text.now.failed ≡ false) × (note.now.failed ≡ false)) }
+    ensures err { IfErr result (λ end. end ≡ LinesEnd.Memory) }
+{
+    if told.is_err() {
+        return Err(LinesEnd::Memory);
+    }
+    if text.failed() {
+        return Err(LinesEnd::Memory);
+    }
+    if note.failed() {
+        return Err(LinesEnd::Memory);
+    }
+    Ok(())
+}
+
 // Tells a line on two sheets.
 fn hear<T: StreamTeller>(
     alloc: Global,
@@ -27,17 +46,45 @@ fn hear<T: StreamTeller>(
     teller: &mut T,
     text: &mut Sheet,
     note: &mut Sheet,
-) -> Result<(), Memory>
+) -> Result<(), LinesEnd>
     requires longest { begun.now.longest ≡ T.longest }
-    ensures { OnOk result ((line : List ℕ) → Keeps begun.now line →
+    ensures heard { OnOk result ((line : List ℕ) → Keeps begun.now line →
         Tells (T.tells teller.old number (told_line ended line)) teller.new text.old text.new note.old note.new) }
+    ensures sound { OnOk result ((text.new.failed ≡ false) × (note.new.failed ≡ false)) }
+    ensures memory { IfErr result (λ end. end ≡ LinesEnd.Memory) }
 {
     match begun.text(ended) {
-        Some(line) => teller.tell(alloc, number, line, text, note),
+        Some(line) => {
+            let told = teller.tell(alloc, number, line, text, note);
+            ended_by(told, text, note)
+        }
         None => {
             teller.tell_long(number, text, note);
-            Ok(())
+            ended_by(Ok(()), text, note)
         }
+    }
+}
+
+// Passes on what was told of a line.
+fn pass_both<K: Sink, E: Sink>(
+    text: &mut Sheet,
+    note: &mut Sheet,
+    out: &mut K,
+    notes: &mut E,
+) -> Result<(), LinesEnd>
+    ensures ok { OnOk result (IsTrue K.tells → K.written out.new ≡ K.written out.old ++ text.old.text) }
+    ensures no_text { OnOk result (text.new.text ≡ []) }
+    ensures front { OnErr result (IsTrue K.tells → AppendsFront text.old.text (K.written out.old) (K.written out.new)) }
+    ensures write { IfErr result (λ end. (end ≡ LinesEnd.Write) × WriteFailed (sink_change K.Sink out.old out.new)) }
+    ensures no_note { note.new.text ≡ [] }
+    ensures noted { IsTrue E.tells → IsNoted note.old.text (sink_change E.Sink notes.old notes.new) }
+    ensures later_out { K.faults out.old ≤ K.faults out.new }
+    ensures later_notes { E.faults notes.old ≤ E.faults notes.new }
+{
+    pass_note(note, notes);
+    match pass_text(text, out) {
+        Ok(()) => Ok(()),
+        Err(_) => Err(LinesEnd::Write),
     }
 }
 
@@ -68,20 +115,9 @@ fn tell_line<K: Sink, E: Sink, T: StreamTeller>(
     ensures later_out { K.faults out.old ≤ K.faults out.new }
     ensures later_notes { E.faults notes.old ≤ E.faults notes.new }
 {
-    let told = hear(alloc, number, begun, ended, teller, text, note);
-    if told.is_err() {
-        return Err(LinesEnd::Memory);
-    }
-    if text.failed() {
-        return Err(LinesEnd::Memory);
-    }
-    if note.failed() {
-        return Err(LinesEnd::Memory);
-    }
-    pass_note(note, notes);
-    match pass_text(text, out) {
-        Ok(()) => Ok(()),
-        Err(_) => Err(LinesEnd::Write),
+    match hear(alloc, number, begun, ended, teller, text, note) {
+        Ok(()) => pass_both(text, note, out, notes),
+        Err(end) => Err(end),
     }
 }
 
@@ -119,20 +155,26 @@ fn finish_line<K: Sink, E: Sink, T: StreamTeller>(
     ensures told { OnOk result ((bytes : List ℕ) → StandsAt bytes begun.old →
         Goes T.tells bytes (bytes ++ (piece.now ++ 10 ∷ [])) begun.old begun.new teller.old teller.new
         K.tells (sink_change K.Sink out.old out.new) E.tells (sink_change E.Sink notes.old notes.new)) }
-    ensures ended { IfErr result (λ end. (bytes : List ℕ) → StandsAt bytes begun.old →
-        Stops T.tells bytes (bytes ++ (piece.now ++ 10 ∷ [])) begun.old teller.old teller.new end
+    ensures ended { IfErr result (λ end. (bytes rest : List ℕ) → StandsAt bytes begun.old →
+        Stops T.tells bytes (bytes ++ (piece.now ++ 10 ∷ rest)) begun.old teller.old teller.new end
         K.tells (sink_change K.Sink out.old out.new) E.tells (sink_change E.Sink notes.old notes.new)) }
     ensures write { result ≡ Err LinesEnd.Write → WriteFailed (sink_change K.Sink out.old out.new) }
     ensures later_out { K.faults out.old ≤ K.faults out.new }
     ensures later_notes { E.faults notes.old ≤ E.faults notes.new }
 {
-    add(begun, piece)?;
+    if let Err(end) = add(begun, piece) {
+        return Err(end);
+    }
     let Some(number) = begun.finished().checked_add(1) else {
         return Err(LinesEnd::Cut);
     };
-    tell_line(alloc, number, begun, true, teller, text, note, out, notes)?;
-    begun.begin_next(number);
-    Ok(())
+    match tell_line(alloc, number, begun, true, teller, text, note, out, notes) {
+        Ok(()) => {
+            begun.begin_next(number);
+            Ok(())
+        }
+        Err(end) => Err(end),
+    }
 }
 
 // Tells all lines that these bytes finish, and keeps what they have of the next one.
@@ -166,11 +208,12 @@ fn tell_bytes<K: Sink, E: Sink, T: StreamTeller>(
     'lines: loop {
         let (_, rest) = read.split_at(at);
         let Some(place) = first_place(rest, b'\n') else {
-            add(begun, rest)?;
-            return Ok(());
+            return add(begun, rest);
         };
         let (piece, _) = rest.split_at(place);
-        finish_line(alloc, piece, begun, teller, text, note, out, notes)?;
+        if let Err(end) = finish_line(alloc, piece, begun, teller, text, note, out, notes) {
+            return Err(end);
+        }
         at += place + 1;
     }
 }
