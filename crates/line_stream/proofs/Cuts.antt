@@ -12,6 +12,7 @@ use Rattle.line_reader.proofs.LinesLemmas.{lines_more, lines_alone, finished_mor
 use Rattle.line_reader.proofs.NewlineLemmas.{is_newline, newlines-append, newlines-both, first_place}
 use Rattle.line_teller.specs.Ending.{AreFirst}
 use Rattle.line_stream.specs.Opened.{Open, Keeps, StandsAt}
+use Rattle.line_stream.specs.Pieces.{IsPlace}
 
 -- ---- first ones of a list
 
@@ -145,38 +146,33 @@ finished_at bytes piece old new number longest s none next is =
 
 -- ---- the first newline of bytes
 
-pub record CutsAt (bytes : List ℕ) (place : ℕ) : Type 0 where
-  pub rest : List ℕ
-  pub alone : newlines (take place bytes) ≡ 0
-  pub cut : bytes ≡ take place bytes ++ 10 ∷ rest
-  pub within : place < length bytes
-  pub first : length (take place bytes) ≡ place
-
-pub cuts_at : (bytes : List ℕ) (place : ℕ) → position is_newline bytes ≡ Some place → CutsAt bytes place
-cuts_at bytes place found =
-    let line = first_place bytes place found in
-    let long : length line.front ≡ place = omega (arith, line.long) in
-    let front : take place bytes ≡ line.front = ap (take place) line.cut ∙ take_at line.front (10 ∷ line.rest) place long in
-    let all : length bytes ≡ length line.front + length (10 ∷ line.rest) = ap length line.cut ∙ length-append line.front (10 ∷ line.rest) in
+cut_at : (read front rest : List ℕ) (at place : ℕ) → at ≤ length read → drop at read ≡ front ++ 10 ∷ rest → newlines front ≡ 0
+    → length front ≡ place → take place (drop at read) ≡ front → IsPlace read at place
+cut_at read front rest at place within cut alone long piece_is =
+    let whole : read ≡ take at read ++ (front ++ 10 ∷ rest) = sym (take-append-drop at read) ∙ ap (λ t. take at read ++ t) cut in
+    let parts : read ≡ (take at read ++ (front ++ 10 ∷ [])) ++ rest =
+    whole ∙ ap (λ t. take at read ++ t) (sym (append_assoc front (10 ∷ []) rest))
+    ∙ sym (append_assoc (take at read) (front ++ 10 ∷ []) rest) in
+    let first : length (take at read) ≡ at = length-take-le at read within in
+    let second : length (front ++ 10 ∷ []) ≡ length front + 1 = length-append front (10 ∷ []) in
+    let both : length (take at read ++ (front ++ 10 ∷ [])) ≡ at + (place + 1) =
+    length-append (take at read) (front ++ 10 ∷ []) ∙ omega (arith, first, second, long) in
+    let all : length read ≡ length (take at read ++ (front ++ 10 ∷ [])) + length rest =
+    ap length parts ∙ length-append (take at read ++ (front ++ 10 ∷ [])) rest in
     record {
-      rest = line.rest;
-      alone = ap newlines front ∙ line.alone;
-      cut = line.cut ∙ ap (λ t. t ++ 10 ∷ line.rest) (sym front);
-      within = omega (arith, all, long);
-      first = ap length front ∙ long;
+      rest = rest;
+      alone = ap newlines piece_is ∙ alone;
+      whole = whole ∙ ap (λ t. take at read ++ (t ++ 10 ∷ rest)) (sym piece_is);
+      within = omega (arith, both, all);
+      taken = ap (take (at + (place + 1))) parts
+          ∙ take_at (take at read ++ (front ++ 10 ∷ [])) rest (at + (place + 1)) both
+          ∙ ap (λ t. take at read ++ (t ++ 10 ∷ [])) (sym piece_is);
     }
 
--- one more line of bytes that are read from their front
-pub taken_more : (read : List ℕ) (at place : ℕ) (c : CutsAt (drop at read) place) → at ≤ length read
-    → (take (at + (place + 1)) read ≡ take at read ++ (take place (drop at read) ++ 10 ∷ []))
-    × (read ≡ take at read ++ (take place (drop at read) ++ 10 ∷ c.rest))
-taken_more read at place c within =
-    let piece = take place (drop at read) in
-    let whole : read ≡ take at read ++ (piece ++ 10 ∷ c.rest) = sym (take-append-drop at read) ∙ ap (λ t. take at read ++ t) c.cut in
-    let cut : read ≡ (take at read ++ (piece ++ 10 ∷ [])) ++ c.rest =
-    whole ∙ ap (λ t. take at read ++ t) (sym (append_assoc piece (10 ∷ []) c.rest))
-    ∙ sym (append_assoc (take at read) (piece ++ 10 ∷ []) c.rest) in
-    let long : length (take at read ++ (piece ++ 10 ∷ [])) ≡ at + (place + 1) =
-    length-append (take at read) (piece ++ 10 ∷ [])
-    ∙ omega (arith, length-append piece (10 ∷ []), c.first, length-take-le at read within) in
-    (ap (take (at + (place + 1))) cut ∙ take_at (take at read ++ (piece ++ 10 ∷ [])) c.rest (at + (place + 1)) long, whole)
+-- what stands in front of it behind the first bytes
+pub place_at : (read : List ℕ) (at place : ℕ) → at ≤ length read → position is_newline (drop at read) ≡ Some place → IsPlace read at place
+place_at read at place within found =
+    let line = first_place (drop at read) place found in
+    let long : length line.front ≡ place = omega (arith, line.long) in
+    cut_at read line.front line.rest at place within line.cut line.alone long
+    (ap (take place) line.cut ∙ take_at line.front (10 ∷ line.rest) place long)

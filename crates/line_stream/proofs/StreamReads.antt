@@ -17,7 +17,26 @@ use Rattle.line_teller.proofs.Steps.{noted_then, none_noted, one_told, told_then
 use Rattle.line_stream.specs.Opened.{Open, Keeps, StandsAt, told_line}
 use Rattle.line_stream.specs.Streams.{EndsStream, StreamEnded, TellsMore, Goes, TellsLast, EndsRead, is_stop, Stops, StopsAtLine}
 use Rattle.std.proofs.Math.Seq.{take-append-add}
+use Rattle.std.proofs.lemmas.List.{take-append-drop}
+use Rattle.line_stream.specs.Pieces.{IsPlace, Adds}
 use Rattle.line_stream.proofs.Cuts.{first_by, first_behind, first_more, ended_first, ended_at, lines_at, count_at, few_at, added_at, added_ended, ended_after, finished_at}
+
+-- ---- answers
+
+-- what follows from how a step ended
+pub err_then : (result : Result (Unit {0}) LinesEnd) (P Q : LinesEnd → Type 0) → IfErr result P → ((end : LinesEnd) → P end → Q end)
+    → IfErr result Q
+err_then (Ok done) P Q err f = tt
+err_then (Err end) P Q err f = f end err
+
+-- a step that ends by a write alone isn't ended by a read
+pub not_read : (result : Result (Unit {0}) LinesEnd) (F : Type 0) → IfErr result (λ end. (end ≡ ends.Write) × F) → result ≢ Err ends.Read
+not_read (Ok done) F err = λ is. absurd cc
+not_read (Err end) F err = λ is. absurd (let written = err.0 in cc)
+
+pub not_read_by_memory : (result : Result (Unit {0}) LinesEnd) → IfErr result (λ end. end ≡ ends.Memory) → result ≢ Err ends.Read
+not_read_by_memory (Ok done) err = λ is. absurd cc
+not_read_by_memory (Err end) err = λ is. absurd cc
 
 -- ---- texts
 
@@ -495,3 +514,85 @@ module _ {T : Type 0} (tells : T → ℕ → List ℕ → List ℕ → List ℕ 
         written = from_one.written;
         noted = from_one.noted;
       }
+
+  -- ---- the pieces of a read
+
+  pub goes_piece : (bytes read piece : List ℕ) (at place : ℕ) (o0 o1 o2 : Open) (t t' t'' : T) (out_tells notes_tell : Bool) (a b c x y z : SinkShown)
+      → x.faults ≤ y.faults → y.faults ≤ z.faults → piece ≡ take place (drop at read) → IsPlace read at place → StandsAt bytes o0
+      → Goes tells bytes (bytes ++ take at read) o0 o1 t t' out_tells (record { before = a; now = b }) notes_tell
+      (record { before = x; now = y })
+      → ((bs : List ℕ) → StandsAt bs o1
+      → Goes tells bs (bs ++ (piece ++ 10 ∷ [])) o1 o2 t' t'' out_tells (record { before = b; now = c }) notes_tell
+      (record { before = y; now = z }))
+      → Goes tells bytes (bytes ++ take (at + (place + 1)) read) o0 o2 t t'' out_tells (record { before = a; now = c }) notes_tell
+      (record { before = x; now = z })
+  goes_piece bytes read piece at place o0 o1 o2 t t' t'' out_tells notes_tell a b c x y z one two is p s g h =
+      subst (λ bs. Goes tells bytes bs o0 o2 t t'' out_tells (record { before = a; now = c }) notes_tell (record { before = x; now = z }))
+      (append_assoc bytes (take at read) (piece ++ 10 ∷ []) ∙ ap (λ bs. bytes ++ bs) (ap (λ q. take at read ++ (q ++ 10 ∷ [])) is ∙ sym p.taken))
+      (goes_then bytes (bytes ++ take at read) ((bytes ++ take at read) ++ (piece ++ 10 ∷ [])) o0 o1 o2 t t' t'' out_tells notes_tell
+      a b c x y z one two s g (h (bytes ++ take at read) g.stands))
+
+  pub goes_rest : (bytes read rest : List ℕ) (at : ℕ) (o0 o1 o2 : Open) (t t' : T) (out_tells notes_tell : Bool) (out notes : Change SinkShown)
+      → rest ≡ drop at read → newlines (drop at read) ≡ 0 → o2.finished ≡ o1.finished
+      → ((line : List ℕ) → Keeps o1 line → Keeps o2 (line ++ rest))
+      → Goes tells bytes (bytes ++ take at read) o0 o1 t t' out_tells out notes_tell notes
+      → Goes tells bytes (bytes ++ read) o0 o2 t t' out_tells out notes_tell notes
+  goes_rest bytes read rest at o0 o1 o2 t t' out_tells notes_tell out notes is none same kept g =
+      subst (λ bs. Goes tells bytes bs o0 o2 t t' out_tells out notes_tell notes)
+      (append_assoc bytes (take at read) (drop at read) ∙ ap (λ bs. bytes ++ bs) (take-append-drop at read))
+      (goes_added bytes (bytes ++ take at read) (drop at read) o0 o1 o2 t t' out_tells notes_tell out notes none same
+      (λ line keeps. subst (λ q. Keeps o2 (line ++ q)) is (kept line keeps)) g)
+
+  pub stops_piece : (bytes read piece : List ℕ) (at place : ℕ) (o0 o1 : Open) (t t' t'' : T) (end : LinesEnd) (out_tells notes_tell : Bool)
+      (a b c x y z : SinkShown)
+      → x.faults ≤ y.faults → y.faults ≤ z.faults → piece ≡ take place (drop at read) → IsPlace read at place → StandsAt bytes o0
+      → Goes tells bytes (bytes ++ take at read) o0 o1 t t' out_tells (record { before = a; now = b }) notes_tell
+      (record { before = x; now = y })
+      → ((bs rest : List ℕ) → StandsAt bs o1
+      → Stops tells bs (bs ++ (piece ++ 10 ∷ rest)) o1 t' t'' end out_tells (record { before = b; now = c }) notes_tell
+      (record { before = y; now = z }))
+      → Stops tells bytes (bytes ++ read) o0 t t'' end out_tells (record { before = a; now = c }) notes_tell (record { before = x; now = z })
+  stops_piece bytes read piece at place o0 o1 t t' t'' end out_tells notes_tell a b c x y z one two is p s g h =
+      subst (λ bs. Stops tells bytes bs o0 t t'' end out_tells (record { before = a; now = c }) notes_tell (record { before = x; now = z }))
+      (append_assoc bytes (take at read) (piece ++ 10 ∷ p.rest) ∙ ap (λ bs. bytes ++ bs) (ap (λ q. take at read ++ (q ++ 10 ∷ p.rest)) is ∙ sym p.whole))
+      (stops_then bytes (bytes ++ take at read) ((bytes ++ take at read) ++ (piece ++ 10 ∷ p.rest)) o0 o1 t t' t'' end out_tells notes_tell
+      a b c x y z one two s g (h (bytes ++ take at read) p.rest g.stands))
+
+  pub stops_rest : (bytes read : List ℕ) (at : ℕ) (o0 o1 : Open) (t t' t'' : T) (end : LinesEnd) (out_tells notes_tell : Bool) (a b x y : SinkShown)
+      → x.faults ≤ y.faults → newlines (drop at read) ≡ 0 → end ≡ ends.Memory → StandsAt bytes o0
+      → Goes tells bytes (bytes ++ take at read) o0 o1 t t' out_tells (record { before = a; now = b }) notes_tell
+      (record { before = x; now = y })
+      → Stops tells bytes (bytes ++ read) o0 t t'' end out_tells (record { before = a; now = b }) notes_tell (record { before = x; now = y })
+  stops_rest bytes read at o0 o1 t t' t'' end out_tells notes_tell a b x y one none is s g =
+      subst (λ bs. Stops tells bytes bs o0 t t'' end out_tells (record { before = a; now = b }) notes_tell (record { before = x; now = y }))
+      (append_assoc bytes (take at read) (drop at read) ∙ ap (λ bs. bytes ++ bs) (take-append-drop at read))
+      (stops_then bytes (bytes ++ take at read) ((bytes ++ take at read) ++ drop at read) o0 o1 t t' t'' end out_tells notes_tell
+      a b b x y y one (omega arith) s g (rest_quiet (bytes ++ take at read) (drop at read) o1 t' t'' end out_tells notes_tell b y none is g.stands))
+
+  -- ---- the line that was added to last
+
+  pub open_goes : (bytes piece : List ℕ) (before mid new : Open) (number longest : ℕ) (t t' : T) (out_tells notes_tell : Bool)
+      (out notes : Change SinkShown)
+      → Adds before piece mid → number ≡ mid.finished + 1
+      → ((line : List ℕ) → Keeps mid line → TellsMore tells number t t' (told_line true line ∷ []) out_tells out notes_tell notes)
+      → new ≡ record { kept = []; long = false; finished = number; longest = longest }
+      → StandsAt bytes before
+      → Goes tells bytes (bytes ++ (piece ++ 10 ∷ [])) before new t t' out_tells out notes_tell notes
+  open_goes bytes piece before mid new number longest t t' out_tells notes_tell out notes adds next told is s =
+      line_goes bytes piece before mid new number longest t t' out_tells notes_tell out notes adds.alone adds.same adds.kept next told is s
+
+  pub open_stops : (bytes piece rest : List ℕ) (before mid : Open) (number : ℕ) (t t' : T) (end : LinesEnd) (out_tells notes_tell : Bool)
+      (out notes : Change SinkShown)
+      → Adds before piece mid → number ≡ mid.finished + 1
+      → ((line : List ℕ) → Keeps mid line → StopsAtLine tells number (told_line true line) t t' end out_tells out notes_tell notes)
+      → StandsAt bytes before
+      → Stops tells bytes (bytes ++ (piece ++ 10 ∷ rest)) before t t' end out_tells out notes_tell notes
+  open_stops bytes piece rest before mid number t t' end out_tells notes_tell out notes adds next told s =
+      line_stops bytes piece rest before mid number t t' end out_tells notes_tell out notes adds.alone adds.same adds.kept next told s
+
+  pub open_cut : (bytes piece rest : List ℕ) (before mid : Open) (t : T) (out_tells notes_tell : Bool) (a x : SinkShown)
+      → Adds before piece mid → 2 ^ 64 - 1 ≤ mid.finished → StandsAt bytes before
+      → Stops tells bytes (bytes ++ (piece ++ 10 ∷ rest)) before t t ends.Cut out_tells (record { before = a; now = a }) notes_tell
+      (record { before = x; now = x })
+  open_cut bytes piece rest before mid t out_tells notes_tell a x adds many s =
+      line_cut bytes piece rest before t out_tells notes_tell a x adds.alone (subst (λ n. 2 ^ 64 - 1 ≤ n) adds.same many) s

@@ -2,3 +2,4 @@ pub mod Opened
 pub mod Streams
 pub mod Files
 pub mod Laws
+pub mod Pieces

@@ -1,12 +1,13 @@
 //! All lines of a stream, told on two sinks.
-ghost use Rattle.std.specs.Prelude.{ℕ, ◌≡◌, ◌≤◌, ◌<◌, ◌+◌, ◌-◌, ◌^◌, ◌++◌, [], ◌∷◌, ◌≢◌, List, length, false, Ok, Err, IsTrue, OnOk, OnErr, IfErr};
+ghost use Rattle.std.specs.Prelude.{ℕ, ◌≡◌, ◌≤◌, ◌<◌, ◌+◌, ◌-◌, ◌^◌, ◌++◌, [], ◌∷◌, ◌≢◌, List, length, take, drop, false, Ok, Err, IsTrue, OnOk, OnErr, IfErr, MatchOption};
 ghost use Rattle.outer_io.specs.Bytes.{AppendsFront};
 ghost use Rattle.outer_io.specs.Faults.{Rose};
 ghost use Rattle.outer_io.specs.Shown.{source_shown, sink_change, WriteFailed};
 ghost use Rattle.line_reader.specs.Newlines.{newlines};
 ghost use Rattle.line_teller.specs.Ending.{IsNoted};
 ghost use Rattle.line_teller.specs.Telling.{Tells};
-ghost use Rattle.line_stream.specs.Opened.{Keeps, StandsAt, told_line};
+ghost use Rattle.line_stream.specs.Opened.{Open, Keeps, StandsAt, told_line};
+ghost use Rattle.line_stream.specs.Pieces.{IsPlace, Adds};
 ghost use Rattle.line_stream.specs.Streams.{StreamEnded, TellsMore, Goes, EndsRead, Stops, StopsAtLine};
 
 use crate::opened::{LONGEST_MAX, OpenLine};
@@ -111,6 +112,7 @@ fn tell_line<K: Sink, E: Sink, T: StreamTeller>(
     ensures ended { IfErr result (λ end. (line : List ℕ) → Keeps begun.now line →
         StopsAtLine T.tells number (told_line ended line) teller.old teller.new end
         K.tells (sink_change K.Sink out.old out.new) E.tells (sink_change E.Sink notes.old notes.new)) }
+    ensures read { result ≢ Err LinesEnd.Read }
     ensures write { result ≡ Err LinesEnd.Write → WriteFailed (sink_change K.Sink out.old out.new) }
     ensures later_out { K.faults out.old ≤ K.faults out.new }
     ensures later_notes { E.faults notes.old ≤ E.faults notes.new }
@@ -119,6 +121,13 @@ fn tell_line<K: Sink, E: Sink, T: StreamTeller>(
         Ok(()) => pass_both(text, note, out, notes),
         Err(end) => Err(end),
     }
+}
+
+// The number of the line that isn't finished yet, unless the count is at its end.
+fn next_number(begun: &OpenLine) -> Option<u64>
+    ensures { MatchOption result (2 ^ 64 - 1 ≤ begun.now.finished) (λ number. number ≡ begun.now.finished + 1) }
+{
+    begun.finished().checked_add(1)
 }
 
 // Adds bytes without a newline to the begun line.
@@ -131,6 +140,45 @@ fn add(begun: &mut OpenLine, piece: &[u8]) -> Result<(), LinesEnd>
     match begun.add(piece) {
         Ok(()) => Ok(()),
         Err(_) => Err(LinesEnd::Memory),
+    }
+}
+
+// Tells the line that was added to last, behind which its newline stands, and begins the next one.
+fn tell_open<K: Sink, E: Sink, T: StreamTeller>(
+    alloc: Global,
+    begun: &mut OpenLine,
+    teller: &mut T,
+    text: &mut Sheet,
+    note: &mut Sheet,
+    out: &mut K,
+    notes: &mut E,
+) -> Result<(), LinesEnd>
+    requires longest { begun.old.longest ≡ T.longest }
+    requires no_text { text.old.text ≡ [] }
+    requires no_note { note.old.text ≡ [] }
+    ensures longest { OnOk result (begun.new.longest ≡ T.longest) }
+    ensures no_text { OnOk result (text.new.text ≡ []) }
+    ensures no_note { OnOk result (note.new.text ≡ []) }
+    ensures told { OnOk result ((bytes piece : List ℕ) (before : Open) → Adds before piece begun.old → StandsAt bytes before →
+        Goes T.tells bytes (bytes ++ (piece ++ 10 ∷ [])) before begun.new teller.old teller.new
+        K.tells (sink_change K.Sink out.old out.new) E.tells (sink_change E.Sink notes.old notes.new)) }
+    ensures ended { IfErr result (λ end. (bytes piece rest : List ℕ) (before : Open) → Adds before piece begun.old → StandsAt bytes before →
+        Stops T.tells bytes (bytes ++ (piece ++ 10 ∷ rest)) before teller.old teller.new end
+        K.tells (sink_change K.Sink out.old out.new) E.tells (sink_change E.Sink notes.old notes.new)) }
+    ensures read { result ≢ Err LinesEnd.Read }
+    ensures write { result ≡ Err LinesEnd.Write → WriteFailed (sink_change K.Sink out.old out.new) }
+    ensures later_out { K.faults out.old ≤ K.faults out.new }
+    ensures later_notes { E.faults notes.old ≤ E.faults notes.new }
+{
+    let Some(number) = next_number(begun) else {
+        return Err(LinesEnd::Cut);
+    };
+    match tell_line(alloc, number, begun, true, teller, text, note, out, notes) {
+        Ok(()) => {
+            begun.begin_next(number);
+            Ok(())
+        }
+        Err(end) => Err(end),
     }
 }
 
@@ -162,19 +210,38 @@ fn finish_line<K: Sink, E: Sink, T: StreamTeller>(
     ensures later_out { K.faults out.old ≤ K.faults out.new }
     ensures later_notes { E.faults notes.old ≤ E.faults notes.new }
 {
-    if let Err(end) = add(begun, piece) {
-        return Err(end);
-    }
-    let Some(number) = begun.finished().checked_add(1) else {
-        return Err(LinesEnd::Cut);
-    };
-    match tell_line(alloc, number, begun, true, teller, text, note, out, notes) {
-        Ok(()) => {
-            begun.begin_next(number);
-            Ok(())
-        }
+    match add(begun, piece) {
+        Ok(()) => tell_open(alloc, begun, teller, text, note, out, notes),
         Err(end) => Err(end),
     }
+}
+
+// How many bytes stand behind the first `at` and in front of the first newline there.
+fn next_place(read: &[u8], at: usize) -> Option<usize>
+    requires { at ≤ length read.now }
+    ensures { MatchOption result (newlines (drop at read.now) ≡ 0) (λ place. IsPlace read.now at place) }
+{
+    let (_, rest) = read.split_at(at);
+    let place = first_place(rest, b'\n')?;
+    Some(place)
+}
+
+// The bytes behind the first `at`.
+fn rest_of(read: &[u8], at: usize) -> &[u8]
+    requires { at ≤ length read.now }
+    ensures { result.now ≡ drop at read.now }
+{
+    let (_, rest) = read.split_at(at);
+    rest
+}
+
+// So many bytes behind the first `at`.
+fn piece_of(read: &[u8], at: usize, place: usize) -> &[u8]
+    requires { at + (place + 1) ≤ length read.now }
+    ensures { result.now ≡ take place (drop at read.now) }
+{
+    let (piece, _) = rest_of(read, at).split_at(place);
+    piece
 }
 
 // Tells all lines that these bytes finish, and keeps what they have of the next one.
@@ -206,11 +273,10 @@ fn tell_bytes<K: Sink, E: Sink, T: StreamTeller>(
 {
     let mut at = 0;
     'lines: loop {
-        let (_, rest) = read.split_at(at);
-        let Some(place) = first_place(rest, b'\n') else {
-            return add(begun, rest);
+        let Some(place) = next_place(read, at) else {
+            return add(begun, rest_of(read, at));
         };
-        let (piece, _) = rest.split_at(place);
+        let piece = piece_of(read, at, place);
         if let Err(end) = finish_line(alloc, piece, begun, teller, text, note, out, notes) {
             return Err(end);
         }
@@ -242,13 +308,68 @@ fn tell_last<K: Sink, E: Sink, T: StreamTeller>(
     if begun.is_empty() {
         return LinesEnd::Done;
     }
-    let Some(number) = begun.finished().checked_add(1) else {
+    let Some(number) = next_number(begun) else {
         return LinesEnd::Cut;
     };
     match tell_line(alloc, number, begun, false, teller, text, note, out, notes) {
         Ok(()) => LinesEnd::Done,
         Err(end) => end,
     }
+}
+
+// The first `count` bytes.
+fn front_of(buffer: &[u8], count: usize) -> &[u8]
+    requires { count ≤ length buffer.now }
+    ensures { result.now ≡ take count buffer.now }
+{
+    let (front, _) = buffer.split_at(count);
+    front
+}
+
+// Tells what a read of `count` bytes finishes, or the last line of a stream that is at its end.
+fn tell_count<K: Sink, E: Sink, T: StreamTeller>(
+    alloc: Global,
+    buffer: &[u8],
+    count: usize,
+    begun: &mut OpenLine,
+    teller: &mut T,
+    text: &mut Sheet,
+    note: &mut Sheet,
+    out: &mut K,
+    notes: &mut E,
+) -> Result<(), LinesEnd>
+    requires within { count ≤ length buffer.now }
+    requires longest { begun.old.longest ≡ T.longest }
+    requires no_text { text.old.text ≡ [] }
+    requires no_note { note.old.text ≡ [] }
+    ensures longest { OnOk result (begun.new.longest ≡ T.longest) }
+    ensures no_text { OnOk result (text.new.text ≡ []) }
+    ensures no_note { OnOk result (note.new.text ≡ []) }
+    ensures told { OnOk result ((bytes : List ℕ) → StandsAt bytes begun.old →
+        Goes T.tells bytes (bytes ++ take count buffer.now) begun.old begun.new teller.old teller.new
+        K.tells (sink_change K.Sink out.old out.new) E.tells (sink_change E.Sink notes.old notes.new)) }
+    ensures some { OnOk result (0 < length (take count buffer.now)) }
+    ensures ended { IfErr result (λ end. (bytes left : List ℕ) → StandsAt bytes begun.old → (count ≡ 0 → left ≡ []) →
+        EndsRead T.tells bytes (bytes ++ take count buffer.now) left begun.old teller.old teller.new end
+        K.tells (sink_change K.Sink out.old out.new) E.tells (sink_change E.Sink notes.old notes.new)) }
+    ensures read { result ≢ Err LinesEnd.Read }
+    ensures write { result ≡ Err LinesEnd.Write → WriteFailed (sink_change K.Sink out.old out.new) }
+    ensures later_out { K.faults out.old ≤ K.faults out.new }
+    ensures later_notes { E.faults notes.old ≤ E.faults notes.new }
+{
+    if count == 0 {
+        return Err(tell_last(alloc, begun, teller, text, note, out, notes));
+    }
+    tell_bytes(
+        alloc,
+        front_of(buffer, count),
+        begun,
+        teller,
+        text,
+        note,
+        out,
+        notes,
+    )
 }
 
 /// Reads once, tells all lines that this finishes, and keeps what it has of the next one; or answers how the stream ends. When it returns, the
@@ -294,13 +415,16 @@ pub fn tell_read<S: Source, K: Sink, E: Sink, T: StreamTeller>(
     ensures bytes { IsTrue S.tells → S.taken source.new ++ S.left source.new ≡ S.taken source.old ++ S.left source.old }
 {
     match source.read(buffer) {
-        Ok(0) => Err(tell_last(alloc, begun, teller, text, note, out, notes)),
-        Ok(count) => {
-            let (read, _) = buffer.split_at(count);
-            tell_bytes(alloc, read, begun, teller, text, note, out, notes)
-        }
+        Ok(count) => tell_count(alloc, buffer, count, begun, teller, text, note, out, notes),
         Err(_) => Err(LinesEnd::Read),
     }
+}
+
+// The number of reads with the next one, unless the count is at its end.
+fn next_read(reads: u64) -> Option<u64>
+    ensures { MatchOption result (2 ^ 64 - 1 ≤ reads) (λ next. (next ≡ reads + 1) × (reads < 2 ^ 64 - 1)) }
+{
+    reads.checked_add(1)
 }
 
 /// Tells all lines of a stream, of which nothing was taken yet: their texts on the sink `out`, and their notes on `notes`. The lines that a read
@@ -331,8 +455,11 @@ pub fn tell_stream<S: Source, K: Sink, E: Sink, T: StreamTeller>(
     let mut begun = OpenLine::new(alloc, longest);
     let mut text = Sheet::new(alloc);
     let mut note = Sheet::new(alloc);
-    let mut reads = 0u64;
-    'reads: while reads < u64::MAX {
+    let mut reads = 0;
+    'reads: loop {
+        let Some(next) = next_read(reads) else {
+            return LinesEnd::Cut;
+        };
         if let Err(end) = tell_read(
             alloc,
             source,
@@ -346,7 +473,6 @@ pub fn tell_stream<S: Source, K: Sink, E: Sink, T: StreamTeller>(
         ) {
             return end;
         }
-        reads += 1;
+        reads = next;
     }
-    LinesEnd::Cut
 }

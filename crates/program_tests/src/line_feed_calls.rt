@@ -87,6 +87,8 @@ fn a_line_that_is_not_written_ends_the_feed(rt: HostRuntime) -> Result<(), Fail>
 #[derive(Drop)]
 struct MemoryFile {
     bytes: Vec<u8>,
+    // Whether nothing can be cut off.
+    fixed: bool,
 }
 
 impl Sink for MemoryFile {
@@ -113,17 +115,25 @@ impl LineFile for MemoryFile {
     }
 
     fn cut(&mut self, count: usize) -> Result<(), Failed> {
+        if self.fixed {
+            return Err(Failed);
+        }
         self.bytes.truncate(self.bytes.len().saturating_sub(count));
         Ok(())
     }
 }
 
 // Feeds a telegram into a file that held this, and answers how that ended and what the file has.
-fn appended(rt: &HostRuntime, held: &str) -> Result<(Result<FeedStatus, Unfit>, Vec<u8>), Fail> {
+fn appended(
+    rt: &HostRuntime,
+    held: &str,
+    fixed: bool,
+) -> Result<(Result<FeedStatus, Unfit>, Vec<u8>), Fail> {
     let alloc = rt.alloc();
     let mut input = MemorySource::steady(alloc, HEX.as_bytes().to_vec(alloc)?);
     let mut file = MemoryFile {
         bytes: held.as_bytes().to_vec(alloc)?,
+        fixed,
     };
     let mut notes = MemorySink::steady(alloc);
     let clock = Stopped { at: 7 };
@@ -135,7 +145,7 @@ fn appended(rt: &HostRuntime, held: &str) -> Result<(Result<FeedStatus, Unfit>, 
         &mut file,
         &mut notes,
     );
-    let MemoryFile { bytes } = file;
+    let MemoryFile { bytes, fixed: _ } = file;
     Ok((ended, bytes))
 }
 
@@ -147,10 +157,13 @@ fn a_half_line_is_cut_off(rt: HostRuntime) -> Result<(), Fail> {
         ("A 7 2e\nA 8 2e44", "A 7 2e\n"),
         ("A 7", ""),
     ] {
-        let (ended, bytes) = appended(&rt, held)?;
+        let (ended, bytes) = appended(&rt, held, false)?;
         let want = format!(in rt.alloc(); "{kept}A 7 {FRAME}\n")?;
         assert_eq!(rt; ended, Ok(FeedStatus::Done));
         assert_eq!(rt; bytes.as_slice(), want.as_bytes());
     }
+    let (ended, bytes) = appended(&rt, "A 7 2e\nA 8", true)?;
+    assert_eq!(rt; ended, Err(Unfit::Failed));
+    assert_eq!(rt; bytes.as_slice(), b"A 7 2e\nA 8");
     Ok(())
 }
