@@ -80,6 +80,8 @@ pub fn feed_file<S: Source, F: LineFile, E: Sink, C: Clock + Drop>(
         F.tells (sink_change F.Sink file.old file.new) E.tells (sink_change E.Sink notes.old notes.new)) }
     ensures same { OnErr result (IsTrue F.tells → F.written file.new ≡ F.written file.old) }
 {
-    cut_half_line(file)?;
-    Ok(feed_lines(alloc, printing, clock, input, file, notes))
+    match cut_half_line(file) {
+        Ok(()) => Ok(feed_lines(alloc, printing, clock, input, file, notes)),
+        Err(unfit) => Err(unfit),
+    }
 }

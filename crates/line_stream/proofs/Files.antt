@@ -1,39 +1,27 @@
 -- A file that ends in the middle of a line.
-use Rattle.std.proofs.Common.{◌≡◌, ℕ, suc, ◌+◌, ◌-◌, ◌<◌, ◌≤◌, ◌⊎◌, ◌==◌, Bool, true, false, cond, List, [], ◌∷◌, ◌++◌, length, take, drop, get_or, refl, sym, ap, ◌∙◌, subst, append_assoc, inl, inr, arith}
-use Rattle.std.proofs.lemmas.List.{append-nil, length-append, take-append-drop, take_more, drop_more, length-drop}
+use Rattle.std.proofs.Common.{◌≡◌, ℕ, ◌+◌, ◌-◌, ◌<◌, ◌≤◌, ◌⊎◌, List, [], ◌∷◌, ◌++◌, length, take, drop, refl, sym, ap, ◌∙◌, subst, append_assoc, inl, inr, arith}
+use Rattle.std.proofs.lemmas.List.{append-nil, length-append, length-take, take-append-drop}
 use Rattle.line_reader.specs.Newlines.{newlines}
-use Rattle.line_reader.proofs.NewlineLemmas.{is_newline, newlines-both}
-use Rattle.line_stream.specs.Files.{ShowsEnd, EndsLine, AreWholeLines, IsWholePart, HasNoNewline, IsHalf}
+use Rattle.line_stream.specs.Files.{ShowsEnd, EndsLine, AreWholeLines, IsWholePart, HasNoNewline, IsHalf, EndsInHalf}
+use Rattle.line_stream.specs.Pieces.{IsPlace}
 
--- one byte more from the back that is no newline
-pub one_back : (bytes : List ℕ) (at k : ℕ) (d : ℕ) → k ≡ suc at → at < length bytes → is_newline (get_or bytes at d) ≡ false
-    → newlines (drop k bytes) ≡ 0 → newlines (drop at bytes) ≡ 0
-one_back bytes at k d next within is none =
-    ap newlines (drop_more bytes at d within)
-    ∙ newlines-both (get_or bytes at d ∷ []) (drop (at + 1) bytes) (ap (λ b. 0 + cond b 1 0) is)
-    (let same : at + 1 ≡ k = omega (arith, next) in ap (λ n. newlines (drop n bytes)) same ∙ none)
+-- behind a newline the bytes are whole lines
+pub ends_line : (bytes : List ℕ) (at place : ℕ) → IsPlace bytes at place → AreWholeLines (take (at + (place + 1)) bytes)
+ends_line bytes at place p = inr (record {
+  front = take at bytes ++ take place (drop at bytes);
+  is = p.taken ∙ sym (append_assoc (take at bytes) (take place (drop at bytes)) (10 ∷ []));
+})
 
--- behind a newline
-pub half_behind : (bytes : List ℕ) (half k : ℕ) (d : ℕ) → k + half ≡ length bytes → 0 < k → get_or bytes (k - 1) d ≡ 10
-    → newlines (drop k bytes) ≡ 0 → IsHalf bytes half
-half_behind bytes half k d all some newline none = record {
-  left = take k bytes;
-  half = drop k bytes;
-  parts = sym (take-append-drop k bytes);
-  long = length-drop k bytes ∙ omega (arith, all);
+pub half_behind : (bytes : List ℕ) (at count : ℕ) → length (drop at bytes) ≡ count → newlines (drop at bytes) ≡ 0
+    → AreWholeLines (take at bytes) → IsHalf bytes count
+half_behind bytes at count long none whole = record {
+  left = take at bytes;
+  half = drop at bytes;
+  parts = sym (take-append-drop at bytes);
+  long = long;
   alone = none;
-  whole = inr (record {
-    front = take (k - 1) bytes;
-    is = let at : k ≡ (k - 1) + 1 = omega arith in
-        let within : k - 1 < length bytes = omega arith in
-        ap (λ n. take n bytes) at ∙ take_more bytes (k - 1) d within ∙ ap (λ b. take (k - 1) bytes ++ b ∷ []) newline;
-  });
+  whole = whole;
 }
-
--- bytes that are all of one line
-pub half_whole : (bytes : List ℕ) (half : ℕ) → half ≡ length bytes → newlines bytes ≡ 0 → IsHalf bytes half
-half_whole bytes half all none =
-    record { left = []; half = bytes; parts = refl; long = sym all; alone = none; whole = inl refl }
 
 -- whole lines behind any front
 whole_behind : (front left : List ℕ) → (left ≡ [] → front ≡ []) → AreWholeLines left → AreWholeLines (front ++ left)
@@ -43,43 +31,54 @@ whole_behind front left closed (inr line) = inr (record {
   is = ap (λ t. front ++ t) line.is ∙ sym (append_assoc front line.front (10 ∷ []));
 })
 
--- what is left where the half line is cut off
-pub part_left : (bytes shown : List ℕ) (room count : ℕ) → (s : ShowsEnd bytes shown room) → (h : IsHalf shown count) → count < room → length shown ≤ room
-    → IsWholePart bytes (s.front ++ h.left)
-part_left bytes shown room count s h short within = record {
+shown_half : (bytes shown : List ℕ) (room count : ℕ) → room ≡ 1024 → (s : ShowsEnd bytes shown room) → (h : IsHalf shown count)
+    → EndsInHalf bytes count
+shown_half bytes shown room count full s h = record {
+  left = s.front ++ h.left;
   half = h.half;
   parts = s.parts ∙ ap (λ t. s.front ++ t) h.parts ∙ sym (append_assoc s.front h.left h.half);
+  long = h.long;
   alone = h.alone;
-  whole = whole_behind s.front h.left (λ none.
-      s.all (let all : length shown ≡ length h.left + length h.half = ap length h.parts ∙ length-append h.left h.half in
-      let zero_left : length h.left ≡ 0 = ap length none in
-      omega (arith, h.long))) h.whole;
+  whole = λ short.
+      whole_behind s.front h.left (λ none.
+      let all : length shown ≡ length h.left + length h.half = ap length h.parts ∙ length-append h.left h.half in
+      let closed : length h.left ≡ 0 = ap length none in
+      let long : length h.half ≡ count = h.long in
+      s.all (omega (arith, all, closed, long, short, full))) h.whole;
 }
 
-pub parts_cut : (bytes shown : List ℕ) (room count : ℕ) → (s : ShowsEnd bytes shown room) → (h : IsHalf shown count)
-    → bytes ≡ (s.front ++ h.left) ++ h.half
-parts_cut bytes shown room count s h = s.parts ∙ ap (λ t. s.front ++ t) h.parts ∙ sym (append_assoc s.front h.left h.half)
+-- what is shown is a front of what there is room for
+pub ends_in_half : (bytes buffer shown : List ℕ) (room count : ℕ) {read : ℕ} → shown ≡ take read buffer → room ≡ 1024 → read ≤ room
+    → ShowsEnd bytes (take read buffer) room → IsHalf shown count → EndsInHalf bytes count
+ends_in_half bytes buffer shown room count {read} front full within s h =
+    shown_half bytes (take read buffer) room count full s (subst (λ t. IsHalf t count) front h)
 
 no_half : (half : List ℕ) → length half ≡ 0 → half ≡ []
 no_half [] none = refl
 no_half (b ∷ half) none = absurd (omega arith)
 
 -- nothing is cut off where there is no half line
-pub part_same : (bytes shown : List ℕ) (room count : ℕ) → (s : ShowsEnd bytes shown room) → (h : IsHalf shown count) → count ≡ 0 → 0 < room
-    → length shown ≤ room → IsWholePart bytes bytes
-part_same bytes shown room count s h zero_count some within =
-    let none : h.half ≡ [] = no_half h.half (h.long ∙ zero_count) in
-    let same : s.front ++ h.left ≡ bytes =
-    sym (append-nil (s.front ++ h.left)) ∙ ap (λ t. (s.front ++ h.left) ++ t) (sym none) ∙ sym (parts_cut bytes shown room count s h) in
-    subst (IsWholePart bytes) same (part_left bytes shown room count s h (omega (arith, zero_count)) within)
+pub part_same : (bytes now : List ℕ) (count : ℕ) → EndsInHalf bytes count → count ≡ 0 → now ≡ bytes → IsWholePart bytes now
+part_same bytes now count e none same =
+    let closed : e.half ≡ [] = no_half e.half (e.long ∙ none) in
+    let left : bytes ≡ e.left = e.parts ∙ ap (λ t. e.left ++ t) closed ∙ append-nil e.left in
+    let short : count < 1024 = omega (arith, none) in
+    subst (IsWholePart bytes) (sym (same ∙ left))
+    (record { half = e.half; parts = e.parts; alone = e.alone; whole = e.whole short })
 
--- there is no newline in all that is shown
-pub no_newline : (bytes shown : List ℕ) (room count : ℕ) → ShowsEnd bytes shown room → IsHalf shown count → count ≡ room → length shown ≤ room
-    → HasNoNewline bytes room
-no_newline bytes shown room count s h full within = record {
-  front = s.front ++ h.left;
-  last = h.half;
-  parts = parts_cut bytes shown room count s h;
-  long = h.long ∙ full;
-  alone = h.alone;
+-- what is left where it is cut off
+pub part_cut : (bytes seen now : List ℕ) (count : ℕ) → EndsInHalf bytes count → count < 1024 → seen ≡ bytes
+    → ((front half : List ℕ) → seen ≡ front ++ half → length half ≡ count → now ≡ front) → IsWholePart bytes now
+part_cut bytes seen now count e short same cut =
+    subst (IsWholePart bytes) (sym (cut e.left e.half (same ∙ e.parts) e.long))
+    (record { half = e.half; parts = e.parts; alone = e.alone; whole = e.whole short })
+
+-- there is no newline in all that is looked at
+pub no_newline : (bytes : List ℕ) (count : ℕ) → EndsInHalf bytes count → 1024 ≤ count → HasNoNewline bytes 1024
+no_newline bytes count e full = record {
+  front = e.left;
+  last = e.half;
+  parts = e.parts;
+  long = omega (arith, e.long, full);
+  alone = e.alone;
 }

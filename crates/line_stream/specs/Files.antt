@@ -23,12 +23,12 @@ pub record IsWholePart (bytes left : List ℕ) : Type 0 where
   pub alone : newlines half ≡ 0
   pub whole : AreWholeLines left
 
--- the last bytes have no newline, so many of them
+-- the last bytes, so many or more, have no newline
 pub record HasNoNewline (bytes : List ℕ) (room : ℕ) : Type 0 where
   pub front : List ℕ
   pub last : List ℕ
   pub parts : bytes ≡ front ++ last
-  pub long : length last ≡ room
+  pub long : room ≤ length last
   pub alone : newlines last ≡ 0
 
 -- ---- words of private contracts
@@ -41,3 +41,12 @@ pub record IsHalf (bytes : List ℕ) (count : ℕ) : Type 0 where
   pub long : length half ≡ count
   pub alone : newlines half ≡ 0
   pub whole : AreWholeLines left
+
+-- the same of a file of which at most 1,024 bytes are looked at
+pub record EndsInHalf (bytes : List ℕ) (count : ℕ) : Type 0 where
+  pub left : List ℕ
+  pub half : List ℕ
+  pub parts : bytes ≡ left ++ half
+  pub long : length half ≡ count
+  pub alone : newlines half ≡ 0
+  pub whole : count < 1024 → AreWholeLines left

@@ -216,8 +216,8 @@ fn finish_line<K: Sink, E: Sink, T: StreamTeller>(
     }
 }
 
-// How many bytes stand behind the first `at` and in front of the first newline there.
-fn next_place(read: &[u8], at: usize) -> Option<usize>
+/// How many bytes stand behind the first `at` and in front of the first newline there.
+pub(crate) fn next_place(read: &[u8], at: usize) -> Option<usize>
     requires { at ≤ length read.now }
     ensures { MatchOption result (newlines (drop at read.now) ≡ 0) (λ place. IsPlace read.now at place) }
 {

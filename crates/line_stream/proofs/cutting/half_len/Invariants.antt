@@ -1,12 +1,12 @@
-use Rattle.std.proofs.Common.{◌≡◌, ◌≤◌, ◌-◌, length, drop}
-use Rattle.line_reader.specs.Newlines.{newlines}
+use Rattle.std.proofs.Common.{◌≤◌, ◌-◌, length, take}
+use Rattle.line_stream.specs.Files.{AreWholeLines}
 use Rattle.line_stream.proofs.cutting.half_len.Given as goal
 
-abbrev pub invariant-bytes : goal.invariant-bytes
-invariant-bytes g l = record {
-  within : l.half ≤ length l.bytes;
-  alone : newlines (drop (length l.bytes - l.half) l.bytes) ≡ 0;
+abbrev pub invariant-lines : goal.invariant-lines
+invariant-lines l = record {
+  within : l.at ≤ length l.bytes;
+  whole : AreWholeLines (take l.at l.bytes);
 }
 
-abbrev pub decreases-bytes : goal.decreases-bytes
-decreases-bytes g l = length l.bytes - l.half
+abbrev pub decreases-lines : goal.decreases-lines
+decreases-lines l = length l.bytes - l.at

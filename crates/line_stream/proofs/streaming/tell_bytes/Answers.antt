@@ -18,13 +18,13 @@ lines-init g c = record {
 pub lines-preserved : goal.lines-preserved
 lines-preserved g c = record {
   within = c.in-Some.ensures.within;
-  longest = c.in_default.ensures.longest;
-  no_text = c.in_default.ensures.no_text;
-  no_note = c.in_default.ensures.no_note;
+  longest = c.in_default-finish_line.ensures.longest;
+  no_text = c.in_default-finish_line.ensures.no_text;
+  no_note = c.in_default-finish_line.ensures.no_note;
   goes = λ bytes s.
       goes_piece g.T.StreamTeller.tells bytes _ _ _ _ _ _ _ _ _ _ _ _ _ _ _ _ _ _ c.lines.invariant.later_notes
       c.finish_line.ensures.later_notes c.piece_of-piece.ensures c.in-Some.ensures s (c.lines.invariant.goes bytes s)
-      c.in_default.ensures.told;
+      c.in_default-finish_line.ensures.told;
   later_out = omega (arith, c.lines.invariant.later_out, c.finish_line.ensures.later_out);
   later_notes = omega (arith, c.lines.invariant.later_notes, c.finish_line.ensures.later_notes);
 }

@@ -25,3 +25,6 @@ pub returns-clause-ended : goal.returns-clause-ended
 returns-clause-ended g c =
     err_then c.tell_bytes.result _ _ c.tell_bytes.ensures.ended (λ end ended bytes left s closed.
     stops_front g.T.StreamTeller.tells bytes _ _ left _ _ _ _ _ _ _ _ c.front_of.ensures (ended bytes s))
+
+pub returns-clause-read : goal.returns-clause-read
+returns-clause-read g c = c.tell_bytes.ensures.read

@@ -25,17 +25,17 @@ reads-init g c =
 
 pub reads-preserved : goal.reads-preserved
 reads-preserved g c = record {
-  longest = c.in_default.ensures.longest;
-  no_text = c.in_default.ensures.no_text;
-  no_note = c.in_default.ensures.no_note;
+  longest = c.in_default-tell_read.ensures.longest;
+  no_text = c.in_default-tell_read.ensures.no_text;
+  no_note = c.in_default-tell_read.ensures.no_note;
   room = c.tell_read.ensures.room ∙ c.reads.invariant.room;
   stands = c.reads.invariant.stands;
   fresh = c.reads.invariant.fresh;
   goes = λ tells.
       goes_then g.T.StreamTeller.tells _ _ _ _ _ _ _ _ _ _ _ _ _ _ _ _ _ c.reads.invariant.later_notes c.tell_read.ensures.later_notes
       c.reads.invariant.stands (c.reads.invariant.goes tells)
-      (c.in_default.ensures.told tells ((c.reads.invariant.goes tells).stands));
-  counted = λ tells. omega (arith, c.reads.invariant.counted tells, c.in_default.ensures.more tells, c.in-Some.ensures.0);
+      (c.in_default-tell_read.ensures.told tells ((c.reads.invariant.goes tells).stands));
+  counted = λ tells. omega (arith, c.reads.invariant.counted tells, c.in_default-tell_read.ensures.more tells, c.in-Some.ensures.0);
   later = omega (arith, c.reads.invariant.later, c.tell_read.ensures.later);
   later_out = omega (arith, c.reads.invariant.later_out, c.tell_read.ensures.later_out);
   later_notes = omega (arith, c.reads.invariant.later_notes, c.tell_read.ensures.later_notes);
