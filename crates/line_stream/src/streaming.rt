@@ -133,6 +133,7 @@ fn next_number(begun: &OpenLine) -> Option<u64>
 // Adds bytes without a newline to the begun line.
 fn add(begun: &mut OpenLine, piece: &[u8]) -> Result<(), LinesEnd>
     ensures memory { IfErr result (λ end. end ≡ LinesEnd.Memory) }
+    ensures read { result ≢ Err LinesEnd.Read }
     ensures longest { begun.new.longest ≡ begun.old.longest }
     ensures finished { begun.new.finished ≡ begun.old.finished }
     ensures kept { OnOk result ((line : List ℕ) → Keeps begun.old line → Keeps begun.new (line ++ piece.now)) }
@@ -206,6 +207,7 @@ fn finish_line<K: Sink, E: Sink, T: StreamTeller>(
     ensures ended { IfErr result (λ end. (bytes rest : List ℕ) → StandsAt bytes begun.old →
         Stops T.tells bytes (bytes ++ (piece.now ++ 10 ∷ rest)) begun.old teller.old teller.new end
         K.tells (sink_change K.Sink out.old out.new) E.tells (sink_change E.Sink notes.old notes.new)) }
+    ensures read { result ≢ Err LinesEnd.Read }
     ensures write { result ≡ Err LinesEnd.Write → WriteFailed (sink_change K.Sink out.old out.new) }
     ensures later_out { K.faults out.old ≤ K.faults out.new }
     ensures later_notes { E.faults notes.old ≤ E.faults notes.new }
@@ -267,6 +269,7 @@ fn tell_bytes<K: Sink, E: Sink, T: StreamTeller>(
     ensures ended { IfErr result (λ end. (bytes : List ℕ) → StandsAt bytes begun.old →
         Stops T.tells bytes (bytes ++ read.now) begun.old teller.old teller.new end
         K.tells (sink_change K.Sink out.old out.new) E.tells (sink_change E.Sink notes.old notes.new)) }
+    ensures read { result ≢ Err LinesEnd.Read }
     ensures write { result ≡ Err LinesEnd.Write → WriteFailed (sink_change K.Sink out.old out.new) }
     ensures later_out { K.faults out.old ≤ K.faults out.new }
     ensures later_notes { E.faults notes.old ≤ E.faults notes.new }

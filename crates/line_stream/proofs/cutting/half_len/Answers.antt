@@ -15,5 +15,5 @@ lines-preserved c = record {
 
 pub returns-in_default : goal.returns-in_default
 returns-in_default c =
-    half_behind c.args.bytes.now c.lines.at _ (omega (arith, length-drop c.lines.at c.args.bytes.now, c.len.ensures))
+    half_behind c.args.bytes.now c.lines.at _ (length-drop c.lines.at c.args.bytes.now)
     c.in_default.ensures c.lines.invariant.whole
