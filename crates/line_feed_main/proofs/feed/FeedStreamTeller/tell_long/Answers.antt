@@ -2,7 +2,7 @@
 use Rattle.paper.proofs.Calls.{none}
 use Rattle.line_teller.proofs.Keeping.{told_by}
 use Rattle.line_feed_main.proofs.FedLines.{feeds_left_out, long_heard}
-use Rattle.line_feed_main.proofs.feed.FeedTeller.tell_long.Goals as goal
+use Rattle.line_feed_main.proofs.feed.FeedStreamTeller.tell_long.Goals as goal
 
 pub returns : goal.returns
 returns g c = λ line long.

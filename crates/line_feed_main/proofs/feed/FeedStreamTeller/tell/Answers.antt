@@ -5,7 +5,7 @@ use Rattle.line_teller.proofs.Keeping.{told_by}
 use Rattle.line_feed_main.specs.Heard.{Means}
 use Rattle.line_feed_main.specs.Lines.{heard_of}
 use Rattle.line_feed_main.proofs.FedLines.{feeds_taken, feeds_left_out}
-use Rattle.line_feed_main.proofs.feed.FeedTeller.tell.Goals as goal
+use Rattle.line_feed_main.proofs.feed.FeedStreamTeller.tell.Goals as goal
 
 pub returns-in-Ok : goal.returns-in-Ok
 returns-in-Ok g c =
