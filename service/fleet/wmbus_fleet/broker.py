@@ -2,6 +2,7 @@
 from __future__ import annotations
 
 import logging
+import random
 import signal
 import ssl
 from collections.abc import Callable, Iterator
@@ -32,9 +33,12 @@ FAULTS = (pika.exceptions.AMQPError, OSError)
 
 @contextmanager
 def connected(told: Broker) -> Iterator[Any]:
-    """A connection, which ends with the block."""
+    """A connection to one of the broker's nodes, any that answers, which ends with the block."""
+    nodes = told.nodes()
+    if not nodes:
+        raise Trouble("broker.host", "it names no node")
     with within(PATIENCE):
-        connection = pika.BlockingConnection(_parameters(told))
+        connection = pika.BlockingConnection([_parameters(told, *node) for node in random.sample(nodes, len(nodes))])
     try:
         yield connection
     finally:
@@ -42,7 +46,7 @@ def connected(told: Broker) -> Iterator[Any]:
             connection.close()
 
 
-def _parameters(told: Broker) -> Any:
+def _parameters(told: Broker, host: str, port: int) -> Any:
     password = "guest"
     if told.password_file:
         try:
@@ -51,8 +55,8 @@ def _parameters(told: Broker) -> Any:
             raise Trouble(told.password_file, f"the broker's password can't be read: {fault.strerror}") from None
     context = ssl.create_default_context(cafile=told.authority or None) if told.tls else None
     return pika.ConnectionParameters(
-        told.host, told.port, credentials=pika.PlainCredentials(told.user, password), heartbeat=10, socket_timeout=5,
-        blocked_connection_timeout=PATIENCE, ssl_options=pika.SSLOptions(context, told.host) if context else None)
+        host, port, credentials=pika.PlainCredentials(told.user, password), heartbeat=10, socket_timeout=5,
+        blocked_connection_timeout=PATIENCE, ssl_options=pika.SSLOptions(context, host) if context else None)
 
 
 @contextmanager
@@ -93,10 +97,11 @@ def declare_area(channel: Any, area: str) -> None:
         channel.queue_bind(area_queue(area), EXCHANGE, up_key(area, "*"))
 
 
-def declare_gateway(channel: Any, name: str) -> None:
-    """Makes a gateway's queue."""
+def declare_gateway(channel: Any, name: str) -> int:
+    """Makes a gateway's queue; how many listen to it already."""
     with within(PATIENCE):
-        channel.queue_declare(gateway_queue(name), durable=True, arguments=QUORUM)
+        declared = channel.queue_declare(gateway_queue(name), durable=True, arguments=QUORUM)
+    return int(declared.method.consumer_count)
 
 
 def consume(channel: Any, queue: str, take: Callable[..., None]) -> None:

@@ -43,7 +43,7 @@ def main(given: list[str]) -> int:
     except Trouble as trouble:
         said = str(trouble)
     except psycopg.Error as fault:
-        said = f"the database: {str(fault).strip()}"
+        said = f"the database: {store.told_of(fault)}"
     except broker.FAULTS as fault:
         said = f"{type(fault).__name__}: {fault}"
     except KeyboardInterrupt:

@@ -22,12 +22,18 @@ class Programs:
 class Broker:
     """RabbitMQ, and whom it knows this machine as."""
 
+    # one node or several, with blanks between; each may have a port of its own behind a colon
     host: str = "127.0.0.1"
     port: int = 5672
     user: str = "guest"
     password_file: str = ""
     tls: bool = False
     authority: str = ""
+
+    def nodes(self) -> list[tuple[str, int]]:
+        """The host and the port of each node."""
+        told = [name.partition(":") for name in self.host.split()]
+        return [(host, int(port) if port.isdecimal() else self.port) for host, _, port in told]
 
 
 @dataclass(frozen=True)

@@ -50,13 +50,18 @@ def lines_body(epoch: int, number: int, until: int, lines: bytes) -> bytes:
     return f"wmbus-lines 1 {epoch} {number} {until}\n".encode() + lines
 
 
+def gateway_in(key: str) -> str:
+    """Whose message one is, by its key, `up.AREA.GATEWAY`, which RabbitMQ lets its own user alone use."""
+    return key.split(".")[-1]
+
+
 def read_lines(key: str, body: bytes) -> Message | None:
     """A message by its key, `up.AREA.GATEWAY`, and its body; none where it is out of form."""
     head, *lines = body.decode("latin-1").split("\n")
     found = HEAD.fullmatch(head)
     if found is None or len(body) > LONGEST or len(lines) > MOST + 1 or lines[-1:] != [""]:
         return None
-    return Message(key.split(".")[-1], int(found[1]), int(found[2]), int(found[3]), tuple(lines[:-1]))
+    return Message(gateway_in(key), int(found[1]), int(found[2]), int(found[3]), tuple(lines[:-1]))
 
 
 def frames_in(lines: Sequence[str]) -> list[tuple[int, str]]:

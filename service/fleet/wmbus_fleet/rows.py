@@ -11,6 +11,7 @@ from wmbus_service.steps import Told
 
 from .arrived import Arrived
 
+COMPACT = json.JSONEncoder(separators=(",", ":")).encode
 # what becomes of a command: by its id, or by its meter and the program's number
 Change = dict[str, Any]
 
@@ -69,7 +70,7 @@ class Rows:
         it = arrived_of(event)
         gateway = it.receiver if it else None
         self.readings.append((number, said["address"], gateway, said["counter"], said["at"], said["payload"], said["fault"],
-                              said["more"], json.dumps(said["records"], separators=(",", ":")), self.now))
+                              said["more"], COMPACT(said["records"]), self.now))
         if said["confirmed"] is not None:
             self._change(said["address"], said["confirmed"], "confirmed")
         sent = said["sent"]

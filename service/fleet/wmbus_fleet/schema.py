@@ -32,15 +32,15 @@ create sequence line_number;
 create table line (
     number bigint primary key, address text not null, gateway text, epoch bigint, message bigint, place integer, text text not null,
     due double precision, made double precision not null);
-create index line_by_age on line (made);
 create table reading (
     line bigint primary key, address text not null, gateway text, counter bigint not null, moment numeric not null, payload text not null,
     fault text, more boolean not null, records json not null, made double precision not null);
 create index reading_of_meter on reading (address, moment);
-create index reading_by_age on reading (made);
 create table refusal (
     address text, reason text, words text not null, times bigint not null, last_line bigint not null, last_made double precision not null,
     primary key (address, reason));
+-- what a gateway says and nobody can take, by its name
+create table oddity (gateway text, what text, times bigint not null, last_made double precision not null, primary key (gateway, what));
 create table stranger (address text primary key, times bigint not null, gateway text, last_made double precision not null);
 -- what an operator asked for: state is waiting, queued, sent, confirmed, expired, cancelled, refused or done; number is the program's id
 create table command (

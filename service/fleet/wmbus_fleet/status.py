@@ -25,6 +25,11 @@ def figures(database: Database) -> dict[str, Any]:
         "downlinks_waiting": store.one(database, "select count(*) from outbox where sent is null and missed is null"),
         "ticks_late": store.one(database, "select count(*) from meter where due < %s", (time.time() - 60,)),
         "commands": store.pairs(database, "select state, count(*) from command group by state order by state"),
+        "clocks": _rows(database, "select name, (until - extract(epoch from seen))::bigint as ahead from gateway where seen > now()"
+                                  f" - interval '{SILENT} seconds' and abs(until - extract(epoch from seen)) > {SILENT} order by name"),
+        "asked": _rows(database, "select name, epoch, number + 1 as number from gateway where asked < now() - interval '60 seconds'"
+                                 " and (seen is null or seen <= asked) order by name"),
+        "oddities": _rows(database, f"select gateway, what, times from oddity order by last_made desc limit {LAST}"),
         "gateways": _rows(database, "select name, area, epoch, number, extract(epoch from now() - seen)::bigint as age from gateway"
                                     f" where seen is null or seen < now() - interval '{SILENT} seconds' order by name"),
         "missing": _rows(database, f"select gateway, epoch, number from missing order by made desc limit {LAST}"),
@@ -53,6 +58,13 @@ def in_words(told: dict[str, Any]) -> Iterator[str]:
         yield "commands: " + ", ".join(f"{count} {state}" for state, count in told["commands"].items())
     for it in told["gateways"]:
         yield f"gateway {it['name']} in {it['area']}: " + ("never heard" if it["age"] is None else f"not heard for {it['age']} s")
+    for it in told["clocks"]:
+        yield f"gateway {it['name']} tells a moment {abs(it['ahead'])} s " + (
+            "ahead: its clock is wrong" if it["ahead"] > 0 else "behind: its clock is wrong, or it was cut off and sends what it kept")
+    for it in told["asked"]:
+        yield f"gateway {it['name']} was asked for message {it['number']} of epoch {it['epoch']} and hasn't sent it"
+    for it in told["oddities"]:
+        yield f"{it['gateway']} sent {it['times']} times {it['what']}, which is left"
     for it in told["missing"]:
         yield f"gateway {it['gateway']} began a new epoch behind message {it['number']} of {it['epoch']}: its later ones may be gone"
     for it in told["downlinks_missed"]:
