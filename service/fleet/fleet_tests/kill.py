@@ -1,7 +1,6 @@
 """Kills the fleet's processes and servers (-9) and judges what is left."""
 from __future__ import annotations
 
-import itertools
 import os
 import random
 import signal
@@ -34,6 +33,8 @@ RADIO, EACH = "radio", "each"
 FILE, PATIENCE = 60, 60
 # seconds for which a process that is thought dead stands still; so many digits are no accident
 FROZEN, SHORTEST = 0.7, 10
+# seconds for which it is waited that the broker has something
+HELD = 2
 
 
 @dataclass(frozen=True)
@@ -120,8 +121,6 @@ class Trial:
         self.died: Counter[str] = Counter()
         self.commands = 0
         self.parts: dict[Part, Child] = {}
-        self.places_of = {kind: itertools.cycle([f"{kind}: {when} {name}" for _, name in places for when in ("before", "behind")])
-                          for kind, places in killed_fleet.PLACES.items()}
 
     def _commission(self, areas: list[str]) -> None:
         """Makes the fleet known to itself."""
@@ -159,10 +158,16 @@ class Trial:
 
     def start(self, part: Part, chance: float) -> None:
         """Starts a part."""
-        place = next(self.places_of[part.kind]) if self.plan.place == EACH else self.plan.place
+        place = self._next_place(part) if self.plan.place == EACH and chance else self.plan.place
         told = replace(self.config, database=make_conninfo(self.config.database, application_name=part.name))
         words = told, part, chance, str(self.folder / "deaths"), self.plan.wrong if chance else "", place
         self.parts[part] = Child(self.folder / f"{part.name}.log", lambda: killed_fleet.run(*words))
+
+    def _next_place(self, part: Part) -> str:
+        """A place of its kind, one at which none has died yet as long as there is one."""
+        own = f"{part.kind}: "
+        return self.draw.choice(sorted(it for it in self.places_left() if it.startswith(own))
+                                or sorted(it for it in EVERYWHERE if it.startswith(own)))
 
     def operate(self) -> None:
         """An operator puts commands and keys, and thinks again of some."""
@@ -203,9 +208,11 @@ class Trial:
                           ("freeze", self.plan.freezes)) for _ in range(count))
         while (passed := time.monotonic() - begun) < self.plan.seconds or passed < self.plan.patience and self.places_left():
             for station in self.stations:
-                station.feed(int(len(station.lines) * passed / (self.plan.seconds * 0.9)) + 1)
+                station.feed(int(len(station.lines) * passed / (max(self.plan.seconds, self.plan.patience) * 0.9)) + 1)
             while moments and moments[0][0] < passed:
                 self._strike(moments.pop(0)[1])
+            if self.plan.patience and self.draw.random() < 0.1:
+                self._strike("loss")
             self.operate()
             if self.plan.place in ("", EACH) and self.draw.random() < 0.3:
                 self._kill(self.draw.choice(list(self.parts)))
@@ -243,10 +250,22 @@ class Trial:
         elif kind == "freeze":
             self._freeze(self.draw.choice([part for part in self.parts if part.kind != "gateway"]))
         else:
-            with suppress(*broker.FAULTS), broker.connected(self.config.broker) as connection:
-                channel = connection.channel()
-                for area in {station.told.area for station in self.stations}:
-                    channel.queue_purge(broker.area_queue(area))
+            self._lose()
+
+    def _lose(self) -> None:
+        """Has the broker forget what it acknowledged. (While intakes work it has next to nothing.)"""
+        for part in list(self.parts):
+            if part.kind == "intake":
+                self._kill(part)
+        limit = time.monotonic() + HELD
+        with suppress(*broker.FAULTS), broker.connected(self.config.broker) as connection:
+            channel, lost = connection.channel(), 0
+            while not lost and time.monotonic() < limit:
+                for station in self.stations:
+                    station.feed(station.fed + 1)
+                    lost += channel.queue_purge(broker.area_queue(station.told.area)).method.message_count
+                time.sleep(0.05)
+            self.kills["lost messages"] += lost
 
     def _freeze(self, part: Part) -> None:
         """Has a process stand still in the middle of what it does, until others have done its work."""

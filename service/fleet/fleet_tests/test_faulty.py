@@ -13,10 +13,11 @@ import pytest
 from tests.meters import line_of, payload_of
 from tests.stand_in import stand_in
 from wmbus_fleet import broker, intake, sessions, store
-from wmbus_fleet.config import Gateway
+from wmbus_fleet.config import Gateway, Keep
 from wmbus_fleet.gateway import Agent, open_gateway
 from wmbus_fleet.intake import Intake
 from wmbus_fleet.messages import Again, Message
+from wmbus_fleet.retention import let_go
 from wmbus_fleet.status import figures, in_words
 from wmbus_service.config import Config as ServiceConfig
 from wmbus_service.config import Receiver
@@ -178,3 +179,18 @@ def test_what_is_told_has_no_rows(fleet: Fleet, both: Both) -> None:
     assert payload not in store.told_of(told.value) and words in store.told_of(told.value)
     log = both.postgres.log.read_text()
     assert words in log and payload not in log
+
+
+@pytest.mark.parametrize("keep, lines, readings", [(Keep(7, 0), [3, 4], [1, 2, 3]), (Keep(0, 5), [1, 2, 3, 4], [2, 3]), (Keep(2, 2), [4], [3])])
+def test_what_is_kept_no_longer(fleet: Fleet, keep: Keep, lines: list[int], readings: list[int]) -> None:
+    """Lines and readings go by their age, in days, each by its own; nothing else does."""
+    day, now = 86_400.0, time.time()
+    made = [("m", None, None, None, None, LINE, None, now - days * day) for days in (9, 8, 6, 1)]
+    store.copy_rows(fleet.database, "line (number, address, gateway, epoch, message, place, text, due, made)",
+                    [(number, *row) for number, row in enumerate(made, 1)])
+    store.copy_rows(fleet.database, "reading (line, address, gateway, counter, moment, payload, fault, more, records, made)",
+                    [(number, "m", "g", number, 0, "00", None, False, "[]", now - days * day) for number, days in ((1, 6), (2, 4), (3, 1))])
+    assert let_go(fleet.database, keep, now) is (len(lines) + len(readings) < 7)
+    assert not let_go(fleet.database, keep, now)
+    assert store.one(fleet.database, "select array_agg(number order by number) from line") == lines
+    assert store.one(fleet.database, "select array_agg(line order by line) from reading") == readings

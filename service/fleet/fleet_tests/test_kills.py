@@ -37,7 +37,7 @@ def test_live(both: Both) -> None:
 
 def test_each_step(both: Both) -> None:
     """Each process dies in front of and behind one of its steps after the other."""
-    plan = Plan("steps", rounds=10, seconds=SECONDS / 2, chance=0.5, place=EACH, losses=3, patience=PATIENCE)
+    plan = Plan("steps", rounds=40, seconds=SECONDS / 2, chance=0.7, place=EACH, patience=PATIENCE)
     trial, found = tried(both, plan, 2)
     assert not found
     assert not EVERYWHERE - trial.died.keys()
