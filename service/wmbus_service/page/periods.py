@@ -2,10 +2,10 @@
 from __future__ import annotations
 
 import calendar
-import sqlite3
 import time
 from dataclasses import dataclass, replace
 
+from ..asking import Database
 from .reading import Value, day_values, points_of
 from .shared import Register, curve_words, is_time, line_of, rising_points, time_text, used_notes, used_of
 
@@ -62,7 +62,7 @@ def bounds_of(by: str, now: float) -> list[int]:
     return sorted(found) + [int(now) + 1]
 
 
-def used_rows(database: sqlite3.Connection, address: str, register: Register, by: str, now: float) -> list[Row]:
+def used_rows(database: Database, address: str, register: Register, by: str, now: float) -> list[Row]:
     """What was used in the last periods, the last one first."""
     bounds = bounds_of(by, now)
     # (the last reading in front of them is what the first difference is taken from)
@@ -79,7 +79,7 @@ def used_rows(database: sqlite3.Connection, address: str, register: Register, by
     return rows
 
 
-def _with_days(database: sqlite3.Connection, address: str, register: Register,
+def _with_days(database: Database, address: str, register: Register,
                points: list[tuple[int, None, str]]) -> list[tuple[int, None, str]]:
     """The points with those of days whose readings are gone in front of them."""
     first = points[0][0] if points else 1 << 62
@@ -99,7 +99,7 @@ def _period_text(period: tuple[int, ...]) -> str:
     return f"{day} {period[3]:02d}:00" if len(period) > 3 else day
 
 
-def curves_of(database: sqlite3.Connection, address: str, values: list[Value], span: str, now: float) -> list[Curve]:
+def curves_of(database: Database, address: str, values: list[Value], span: str, now: float) -> list[Curve]:
     """The curves of a meter's first registers."""
     end = int(now) + 1
     width = SPANS[span] * DAY
