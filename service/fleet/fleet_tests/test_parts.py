@@ -7,14 +7,16 @@ import subprocess
 import time
 from collections.abc import Iterator
 from contextlib import closing
+from functools import partial
 from pathlib import Path
 from typing import Any
 
 import messages
 import psycopg
 import pytest
-from tests.kill import PYTHON, program, steps_words, until
+from tests.kill import PYTHON, program, steps_words
 from tests.meters import OWN, Meter, line_of, next_telegrams, payload_of, roster_of, some_meters
+from tests.processes import until
 from tests.stand_in import stand_in
 from wmbus_fleet import backup, broker, commandline, commands, downlinks, sessions, store
 from wmbus_fleet.config import Config, Gateway, Programs, Ticks
@@ -356,6 +358,9 @@ def test_all_parts_as_processes(fleet: Fleet, tmp_path: Path) -> None:
     meter = fleet.meters[1]
     commands.put_command(fleet.database, "c1", meter.name, "0102", time.time())
     command = Path(__file__).parents[1] / "wmbus-fleet"
+
+    def has_readings(count: int) -> bool:
+        return bool(store.one(fleet.database, "select count(*) from reading") == count)
     running = [subprocess.Popen([PYTHON, command, "--config", path, part]) for part in ("gateway", "intake", "sessions", "downlinks")]
     try:
         spool = tmp_path / "service/spool/radio.00000001.1.lines"
@@ -364,7 +369,7 @@ def test_all_parts_as_processes(fleet: Fleet, tmp_path: Path) -> None:
             with open(spool, "a", encoding="ascii") as file:
                 text = messages.whole(meter.key, meter.address, number, payload_of(number), 0x44, 0x84)
                 file.write(line_of(text, number))
-            until(lambda number=number: store.one(fleet.database, "select count(*) from reading") == number)  # type: ignore[misc]
+            until(partial(has_readings, number))
             until(lambda: store.one(fleet.database, "select count(*) from outbox where sent is null") == 0)
             # (the gateway has what the queue has a moment later)
             time.sleep(0.5)

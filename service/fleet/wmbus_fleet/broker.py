@@ -46,16 +46,20 @@ def connected(told: Broker) -> Iterator[Any]:
             connection.close()
 
 
+def password_of(told: Broker) -> str:
+    """The password of who connects."""
+    if not told.password_file:
+        return "guest"
+    try:
+        return Path(told.password_file).read_text(encoding="utf-8").rstrip("\n")
+    except OSError as fault:
+        raise Trouble(told.password_file, f"the broker's password can't be read: {fault.strerror}") from None
+
+
 def _parameters(told: Broker, host: str, port: int) -> Any:
-    password = "guest"
-    if told.password_file:
-        try:
-            password = Path(told.password_file).read_text(encoding="utf-8").rstrip("\n")
-        except OSError as fault:
-            raise Trouble(told.password_file, f"the broker's password can't be read: {fault.strerror}") from None
     context = ssl.create_default_context(cafile=told.authority or None) if told.tls else None
     return pika.ConnectionParameters(
-        host, port, credentials=pika.PlainCredentials(told.user, password), heartbeat=10, socket_timeout=5,
+        host, port, credentials=pika.PlainCredentials(told.user, password_of(told)), heartbeat=10, socket_timeout=5,
         blocked_connection_timeout=PATIENCE, ssl_options=pika.SSLOptions(context, host) if context else None)
 
 
@@ -102,6 +106,18 @@ def declare_gateway(channel: Any, name: str) -> int:
     with within(PATIENCE):
         declared = channel.queue_declare(gateway_queue(name), durable=True, arguments=QUORUM)
     return int(declared.method.consumer_count)
+
+
+def delete_gateway(channel: Any, name: str) -> None:
+    """Takes a gateway's queue away, with what is in it."""
+    with within(PATIENCE):
+        channel.queue_delete(gateway_queue(name))
+
+
+def depth(channel: Any, queue: str) -> int:
+    """How many messages of a queue wait."""
+    with within(PATIENCE):
+        return int(channel.queue_declare(queue, passive=True).method.message_count)
 
 
 def consume(channel: Any, queue: str, take: Callable[..., None]) -> None:

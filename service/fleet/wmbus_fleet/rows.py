@@ -28,8 +28,9 @@ class Rows:
         self.strangers: dict[str, tuple[int, str | None]] = {}
         self.downlinks: list[tuple[str, str, int, str, int]] = []
         self.changes: list[Change] = []
-        # the gateway that heard a meter last, and the meters whose windows were opened or closed last
+        # the gateway that heard a meter last, the meters with readings, and those whose windows were opened or closed last
         self.gateways: dict[str, str] = {}
+        self.read: set[str] = set()
         self.opened: set[str] = set()
         self.ticked: set[str] = set()
 
@@ -69,6 +70,7 @@ class Rows:
         """A reading, the command that it confirms, the downlink that is due."""
         it = arrived_of(event)
         gateway = it.receiver if it else None
+        self.read.add(said["address"])
         self.readings.append((number, said["address"], gateway, said["counter"], said["at"], said["payload"], said["fault"],
                               said["more"], COMPACT(said["records"]), self.now))
         if said["confirmed"] is not None:

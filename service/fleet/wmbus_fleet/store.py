@@ -10,7 +10,7 @@ import psycopg
 from psycopg.conninfo import make_conninfo
 from wmbus_service.trouble import Trouble
 
-from . import schema
+from . import page_tables, schema
 
 Database = psycopg.Connection[tuple[Any, ...]]
 # advisory locks: of a shard's sessions, of the sender, of a change of the tables
@@ -32,7 +32,8 @@ def connect(words: str) -> Database:
         database.close()
         raise Trouble("the database", "it hasn't the fleet's tables" if version is None else
                       f"its tables are of version {version}, and this program knows {schema.VERSION}",
-                      "`wmbus-fleet init` makes them" if version is None else "install the release that fits")
+                      "`wmbus-fleet init` makes them" if version is None or version < schema.VERSION
+                      else "install the release that fits")
     return database
 
 
@@ -43,12 +44,16 @@ def told_of(fault: Exception) -> str:
 
 
 def init(words: str) -> None:
-    """Makes the tables, all in one transaction, in a database that has none."""
+    """Makes the tables, or of those of an earlier release this one's, all in one transaction."""
     with psycopg.connect(words, autocommit=True, connect_timeout=5) as database:
         with transaction(database):
             database.execute("select pg_advisory_xact_lock(%s, 0)", (TABLES,))
-            if _version(database) is None:
-                database.execute(schema.TABLES + schema.INBOXES)
+            version = _version(database)
+            if version is None:
+                database.execute(schema.TABLES + schema.INBOXES + page_tables.VIEWS)
+            elif version == 1:
+                database.execute(schema.SECOND + page_tables.VIEWS)
+            if version in (None, 1):
                 set_setting(database, "version", str(schema.VERSION))
 
 

@@ -78,10 +78,12 @@ def put_blocks(database: Database, ticks: Ticks, rows: Rows, blocks: Mapping[str
     due = store.pairs(database, "select address, due from meter where address = any(%s)", (names,)) if names else {}
     anew = rows.opened | rows.ticked
     told = [(name, block.text, block.waits, block.holds,
-             next_due(ticks, rows.now, block, None if name in anew else due.get(name)), rows.gateways.get(name))
+             next_due(ticks, rows.now, block, None if name in anew else due.get(name)), rows.gateways.get(name),
+             rows.now if name in rows.read else None)
             for name, block in blocks.items()]
     written = put_all(
         database, "update meter m set block = n.block, waits = n.waits, holds = n.holds, due = n.due,"
-                  " gateway = coalesce(n.gateway, m.gateway) from {} where m.address = n.address",
-        {"address": "text", "block": "text", "waits": "bigint", "holds": "integer", "due": "double precision", "gateway": "text"}, told)
+                  " gateway = coalesce(n.gateway, m.gateway), heard = coalesce(n.heard, m.heard) from {} where m.address = n.address",
+        {"address": "text", "block": "text", "waits": "bigint", "holds": "integer", "due": "double precision", "gateway": "text",
+         "heard": "double precision"}, told)
     assert written == len(blocks), "a meter's row is gone"
