@@ -117,7 +117,7 @@ class LostDisk(Losing):
             lost = self.stations[0]
             part = next(it for it in self.parts if it.name == lost.told.name)
             self.parts[part].end()
-            self._lose(part)
+            self._lose_disk(part)
             self.start(part, 0.0)
             self.feed(True)
             self._drain()
@@ -126,7 +126,7 @@ class LostDisk(Losing):
         finally:
             self.end_all()
 
-    def _lose(self, part: Part) -> None:
+    def _lose_disk(self, part: Part) -> None:
         """Nothing is left of its folder. (An epoch is the second in which the file was made.)"""
         epoch, _ = self.stations[0].numbered() or (0, 0)
         assert part.service and part.told
