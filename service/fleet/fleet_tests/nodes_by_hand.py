@@ -9,6 +9,7 @@ import sys
 import tempfile
 import threading
 from pathlib import Path
+from typing import cast
 
 TOP = Path(__file__).resolve().parents[3]
 sys.path[:0] = [str(TOP / "service/fleet"), str(TOP / "service"), str(TOP / "tools"), str(TOP / "tests")]
@@ -16,7 +17,7 @@ sys.path[:0] = [str(TOP / "service/fleet"), str(TOP / "service"), str(TOP / "too
 from fleet_tests import kill  # noqa: E402
 from fleet_tests.kill import Plan, Trial  # noqa: E402
 from fleet_tests.nodes import NodesAndPostgres  # noqa: E402
-from fleet_tests.servers import MEMORY  # noqa: E402
+from fleet_tests.servers import MEMORY, Both  # noqa: E402
 
 DRAINED = 240
 
@@ -49,7 +50,8 @@ def main() -> int:
         try:
             (Path(folder) / "trial").mkdir()
             plan = Plan("nodes", meters=15, rounds=max(6, int(1.5 * seconds)), seconds=seconds, chance=0.003, rabbit=int(kills), losses=1)
-            trial = NodesTrial(servers, Path(folder) / "trial", plan, 1)
+            # (they have what a trial needs of one of each)
+            trial = NodesTrial(cast(Both, servers), Path(folder) / "trial", plan, 1)
             found = trial.run()
             print(trial.counts(), f"leaders killed: {servers.rabbit.led}; lines: {sum(len(it.lines) for it in trial.stations)}")
             print("\n".join([*found, trial.logs()]) if found else "nothing lost, nothing doubled, no difference to the uncut sessions")
