@@ -1,16 +1,19 @@
 """Processes of the tests: whatever a test does or doesn't do, none is waited for without a limit, and none is left behind."""
 from __future__ import annotations
 
+import random
 import socket
 import subprocess
 import time
 from collections.abc import Callable, Iterator, Sequence
-from contextlib import contextmanager
+from contextlib import contextmanager, suppress
 from pathlib import Path
 from typing import Any
 
 # beside provers on all processors a process may take long, but not so long
 PATIENCE = 60.0
+# below those of connections (net.ipv4.ip_local_port_range)
+PORTS = 16_384, 32_768
 
 
 @contextmanager
@@ -47,10 +50,12 @@ def until(is_done: Callable[[], object], seconds: float = PATIENCE) -> None:
 
 
 def free_port() -> int:
-    """A port that nobody listens at."""
-    with socket.socket() as tried:
-        tried.bind(("127.0.0.1", 0))
-        return int(tried.getsockname()[1])
+    """A port that nobody listens at, and that the system gives to nobody who connects, so that a server may start slowly, or again."""
+    while True:
+        port = random.randrange(*PORTS)
+        with socket.socket() as tried, suppress(OSError):
+            tried.bind(("127.0.0.1", port))
+            return port
 
 
 def certificate_of(folder: Path) -> tuple[Path, Path]:

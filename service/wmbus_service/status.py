@@ -9,6 +9,7 @@ from decimal import Decimal
 from typing import Any
 
 from . import service, store
+from .asking import Database
 from .config import Config
 from .sensors import NUMBER
 
@@ -63,7 +64,7 @@ def shown(value: str, exponent: int) -> str:
     return f"{Decimal(value).scaleb(exponent):f}" if NUMBER.fullmatch(value) else value
 
 
-def waiting_bytes(config: Config, database: sqlite3.Connection) -> int:
+def waiting_bytes(config: Config, database: Database) -> int:
     """How many bytes of lines no session has taken yet."""
     taken = dict(database.execute("select file, taken from source").fetchall())
     return sum(max(0, path.stat().st_size - taken.get(path.name, 0)) for path in config.spool.glob("*.lines"))

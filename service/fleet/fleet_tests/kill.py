@@ -1,17 +1,19 @@
 """Kills the fleet's processes and servers (-9) and judges what is left."""
 from __future__ import annotations
 
-import itertools
+import os
 import random
+import signal
 import sqlite3
 import tempfile
 import time
 from collections import Counter
 from contextlib import closing, suppress
-from dataclasses import dataclass
+from dataclasses import dataclass, replace
 from pathlib import Path
 
 import psycopg
+from psycopg.conninfo import make_conninfo
 from tests.kill import Child, program, steps_words
 from tests.meters import OWN, line_of, next_telegrams, roster_of, some_meters
 from wmbus_fleet import broker, commands, store
@@ -24,9 +26,15 @@ from . import judged_fleet, killed_fleet
 from .killed_fleet import Part
 from .servers import MEMORY, Both
 
+# each place at which a process may die
+EVERYWHERE = {f"{kind}: {when} {name}" for kind, places in killed_fleet.PLACES.items() for _, name in places for when in ("before", "behind")}
 RADIO, EACH = "radio", "each"
 # so many lines a file; seconds for what is left at the end
 FILE, PATIENCE = 60, 60
+# seconds for which a process that is thought dead stands still; so many digits are no accident
+FROZEN, SHORTEST = 0.7, 10
+# seconds for which it is waited that the broker has something
+HELD = 2
 
 
 @dataclass(frozen=True)
@@ -46,6 +54,10 @@ class Plan:
     rabbit: int = 0
     postgres: int = 0
     losses: int = 0
+    # how often a process is thought dead: it stands still, the database ends its connections, others do its work, and then it goes on
+    freezes: int = 0
+    # that it goes on until processes died at each place, for so many seconds at most
+    patience: float = 0.0
     workers: int = 2
 
 
@@ -99,7 +111,7 @@ class Trial:
         self.meters = some_meters(self.draw, plan.meters)
         self.shared = {meter.name for number, meter in enumerate(self.meters) if meter.mode == 7 and number % 2}
         self.config = Config(
-            database=both.postgres.make(self.name), interval=0.05, broker=both.rabbit.told, ticks=Ticks(plan.window, plan.window / 2),
+            database=quiet(both.postgres.make(self.name), self.name), interval=0.05, broker=both.rabbit.told, ticks=Ticks(plan.window, plan.window / 2),
             programs=Programs(steps_words(), program("line_accept"), program("address_list"), program("state_raise")))
         areas = [f"{self.name}-north", f"{self.name}-south"]
         self.stations = [Station(folder, f"{self.name}-{number}", areas[number // 2]) for number in range(3)]
@@ -109,8 +121,6 @@ class Trial:
         self.died: Counter[str] = Counter()
         self.commands = 0
         self.parts: dict[Part, Child] = {}
-        self.places_of = {kind: itertools.cycle([f"{kind}: {when} {name}" for _, name in places for when in ("before", "behind")])
-                          for kind, places in killed_fleet.PLACES.items()}
 
     def _commission(self, areas: list[str]) -> None:
         """Makes the fleet known to itself."""
@@ -148,9 +158,16 @@ class Trial:
 
     def start(self, part: Part, chance: float) -> None:
         """Starts a part."""
-        place = next(self.places_of[part.kind]) if self.plan.place == EACH else self.plan.place
-        words = self.config, part, chance, str(self.folder / "deaths"), self.plan.wrong if chance else "", place
+        place = self._next_place(part) if self.plan.place == EACH and chance else self.plan.place
+        told = replace(self.config, database=make_conninfo(self.config.database, application_name=part.name))
+        words = told, part, chance, str(self.folder / "deaths"), self.plan.wrong if chance else "", place
         self.parts[part] = Child(self.folder / f"{part.name}.log", lambda: killed_fleet.run(*words))
+
+    def _next_place(self, part: Part) -> str:
+        """A place of its kind, one at which none has died yet as long as there is one."""
+        own = f"{part.kind}: "
+        return self.draw.choice(sorted(it for it in self.places_left() if it.startswith(own))
+                                or sorted(it for it in EVERYWHERE if it.startswith(own)))
 
     def operate(self) -> None:
         """An operator puts commands and keys, and thinks again of some."""
@@ -187,12 +204,15 @@ class Trial:
             self.start(part, self.plan.chance)
         begun = time.monotonic()
         moments = sorted((self.draw.uniform(0.1, 0.9) * self.plan.seconds, kind) for kind, count in
-                         (("rabbit", self.plan.rabbit), ("postgres", self.plan.postgres), ("loss", self.plan.losses)) for _ in range(count))
-        while (passed := time.monotonic() - begun) < self.plan.seconds:
+                         (("rabbit", self.plan.rabbit), ("postgres", self.plan.postgres), ("loss", self.plan.losses),
+                          ("freeze", self.plan.freezes)) for _ in range(count))
+        while (passed := time.monotonic() - begun) < self.plan.seconds or passed < self.plan.patience and self.places_left():
             for station in self.stations:
-                station.feed(int(len(station.lines) * passed / (self.plan.seconds * 0.9)) + 1)
+                station.feed(int(len(station.lines) * passed / (max(self.plan.seconds, self.plan.patience) * 0.9)) + 1)
             while moments and moments[0][0] < passed:
                 self._strike(moments.pop(0)[1])
+            if self.plan.patience and self.draw.random() < 0.1:
+                self._strike("loss")
             self.operate()
             if self.plan.place in ("", EACH) and self.draw.random() < 0.3:
                 self._kill(self.draw.choice(list(self.parts)))
@@ -227,11 +247,42 @@ class Trial:
         elif kind == "rabbit":
             self.both.rabbit.kill()
             self.both.rabbit.begin()
+        elif kind == "freeze":
+            self._freeze(self.draw.choice([part for part in self.parts if part.kind != "gateway"]))
         else:
-            with suppress(*broker.FAULTS), broker.connected(self.config.broker) as connection:
-                channel = connection.channel()
-                for area in {station.told.area for station in self.stations}:
-                    channel.queue_purge(broker.area_queue(area))
+            self._lose()
+
+    def _lose(self) -> None:
+        """Has the broker forget what it acknowledged. (While intakes work it has next to nothing.)"""
+        for part in list(self.parts):
+            if part.kind == "intake":
+                self._kill(part)
+        limit = time.monotonic() + HELD
+        with suppress(*broker.FAULTS), broker.connected(self.config.broker) as connection:
+            channel, lost = connection.channel(), 0
+            while not lost and time.monotonic() < limit:
+                for station in self.stations:
+                    station.feed(station.fed + 1)
+                    lost += channel.queue_purge(broker.area_queue(station.told.area)).method.message_count
+                time.sleep(0.05)
+            self.kills["lost messages"] += lost
+
+    def _freeze(self, part: Part) -> None:
+        """Has a process stand still in the middle of what it does, until others have done its work."""
+        child = self.parts[part]
+        if not child.is_running():
+            return
+        os.kill(child.pid, signal.SIGSTOP)
+        try:
+            with suppress(psycopg.Error), psycopg.connect(self.config.database, autocommit=True) as database:
+                database.execute("select pg_terminate_backend(pid) from pg_stat_activity where application_name = %s", (part.name,))
+            time.sleep(FROZEN)
+        finally:
+            os.kill(child.pid, signal.SIGCONT)
+
+    def places_left(self) -> set[str]:
+        """Where no process has died yet."""
+        return EVERYWHERE - self.places().keys()
 
     def _drain(self) -> None:
         """Lets the fleet take what is left, without dying."""
@@ -274,13 +325,18 @@ class Trial:
                 found += judged_fleet.meter_faults(database, program("wmbus"), meter, self.folder / "uncut")
             found += judged_fleet.reading_faults(database, self.meters, self.shared) + judged_fleet.twice_ticked(database)
             found += judged_fleet.radio_faults(database, [frame for station in self.stations for frame in station.sent()])
-        return found + self._keys_told()
+        return found + self.secrets_told()
 
-    def _keys_told(self) -> list[str]:
-        """No key stands in a log."""
-        keys = [key.hex() for meter in self.meters for key in (meter.key, meter.other) if key]
-        texts = [path.read_text() for path in self.folder.glob("*.log")]
-        return ["a key stands in a log"] if any(key in text for key in keys for text in texts) else []
+    def secrets_told(self) -> list[str]:
+        """No key, no payload and no frame stands in a log, of the fleet's processes and of the servers."""
+        with store.connect(self.config.database) as database:
+            texts = [text for (text,) in database.execute("select payload from command union select payload from reading union"
+                                                          " select frame from outbox").fetchall() if len(text) >= SHORTEST]
+        secrets = {"a key": [key.hex() for meter in self.meters for key in (meter.key, meter.other) if key], "a payload": texts,
+                   "a line": [line.split(" ")[2] for station in self.stations for line in station.lines]}
+        logs = [*self.folder.glob("*.log"), *self.both.folder.glob("*.log"), *self.both.folder.rglob("log/*.log")]
+        told = "\n".join(path.read_text(errors="replace").lower() for path in logs)
+        return [f"{name} stands in a log" for name, them in secrets.items() if any(it in told for it in them)]
 
     def places(self) -> Counter[str]:
         """Where processes died of themselves, and how often."""
@@ -302,6 +358,13 @@ class Trial:
         sent = sum(len(station.sent()) for station in self.stations)
         return (f"ended {dict(self.kills)} at {len(self.places())} places; {tables}, ticks {ticks}, sent by radios {sent},"
                 f" commands {states}, totals {totals}")
+
+
+def quiet(words: str, name: str) -> str:
+    """Has PostgreSQL tell no rows in its log (docs/FLEET.md, "From nothing to readings")."""
+    with psycopg.connect(words, autocommit=True) as database:
+        database.execute(f"alter database {name} set log_error_verbosity = terse")
+    return words
 
 
 def tried(both: Both, plan: Plan, seed: int) -> tuple[Trial, list[str]]:

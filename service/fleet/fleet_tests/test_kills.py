@@ -5,14 +5,18 @@ WMBUS_KILL_SECONDS says for how long the first of these goes on."""
 from __future__ import annotations
 
 import os
+from pathlib import Path
 
 import pytest
+from wmbus_fleet import store
+from wmbus_fleet.status import figures, in_words
 
-from .kill import EACH, Plan, tried
+from .kill import EACH, EVERYWHERE, Plan, tried
+from .losing import LostDisk, SetBack
 from .servers import Both
 
 SECONDS = float(os.environ.get("WMBUS_KILL_SECONDS", "12"))
-TRIES = 5
+TRIES, PATIENCE = 5, 60
 # of each wrong order: whose step the process dies at, and what is to be seen of it then
 WRONG = {
     "place first": ("gateway: before put_places", "lost"),
@@ -24,17 +28,19 @@ WRONG = {
 
 def test_live(both: Both) -> None:
     """Gateways, intakes, sessions, senders, RabbitMQ and PostgreSQL, commands, keys and ticks at the same time, all killed at random."""
-    plan = Plan("live", meters=15, rounds=max(6, int(1.5 * SECONDS)), seconds=SECONDS, chance=0.01, rabbit=1, postgres=2, losses=2)
+    plan = Plan("live", meters=15, rounds=max(6, int(1.5 * SECONDS)), seconds=SECONDS, chance=0.01, rabbit=1, postgres=2, losses=2,
+                freezes=max(3, int(SECONDS / 10)))
     trial, found = tried(both, plan, 1)
     assert not found
-    assert {"gateway", "intake", "sessions", "downlinks", "rabbit", "postgres", "loss"} <= trial.kills.keys()
+    assert {"gateway", "intake", "sessions", "downlinks", "rabbit", "postgres", "loss", "freeze"} <= trial.kills.keys()
 
 
 def test_each_step(both: Both) -> None:
     """Each process dies in front of and behind one of its steps after the other."""
-    trial, found = tried(both, Plan("steps", rounds=10, seconds=SECONDS / 2, chance=0.5, place=EACH), 2)
+    plan = Plan("steps", rounds=40, seconds=SECONDS / 2, chance=0.7, place=EACH, patience=PATIENCE)
+    trial, found = tried(both, plan, 2)
     assert not found
-    assert len(trial.died) > 20
+    assert not EVERYWHERE - trial.died.keys()
 
 
 @pytest.mark.parametrize("wrong", WRONG)
@@ -55,3 +61,26 @@ def test_acknowledgement_first_is_healed(both: Both) -> None:
     trial, found = tried(both, plan, 1)
     assert not found
     assert trial.kills["intake"]
+
+
+@pytest.mark.parametrize("margin, is_right", [(1000, True), (0, False)])
+def test_set_back_to_a_copy(both: Both, tmp_path: Path, monkeypatch: pytest.MonkeyPatch, margin: int, is_right: bool) -> None:
+    """PostgreSQL is set back to a copy under load: gateways send again by themselves what came since, and no counter gets a second frame;
+    without a margin some do."""
+    monkeypatch.setenv("PATH", "/usr/lib/postgresql/15/bin:/usr/bin:/bin")
+    trial = SetBack(both, tmp_path, Plan(f"copy{margin}x", meters=9, rounds=8, window=600), 4, margin)
+    found = trial.run()
+    print(found, trial.heard_before, trial.heard_copy, trial.counts())
+    assert trial.heard_copy < trial.heard_before
+    assert not found if is_right else [it for it in found if "counters with two frames" in it]
+
+
+def test_a_gateway_that_lost_its_disk(both: Both, tmp_path: Path) -> None:
+    """It begins an epoch, which is told; nothing that was sent before is lost or doubled, and the other gateways go on."""
+    trial = LostDisk(both, tmp_path, Plan("disk", meters=9, rounds=6), 5)
+    assert not trial.run()
+    with store.connect(trial.config.database) as database:
+        rows = database.execute("select gateway from missing").fetchall()
+        words = "\n".join(in_words(figures(database)))
+    assert rows == [(trial.stations[0].told.name,)]
+    assert f"gateway {trial.stations[0].told.name} began a new epoch behind message" in words

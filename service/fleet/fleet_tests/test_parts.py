@@ -7,20 +7,22 @@ import subprocess
 import time
 from collections.abc import Iterator
 from contextlib import closing
+from functools import partial
 from pathlib import Path
 from typing import Any
 
 import messages
 import psycopg
 import pytest
-from tests.kill import PYTHON, program, steps_words, until
+from tests.kill import PYTHON, program, steps_words
 from tests.meters import OWN, Meter, line_of, next_telegrams, payload_of, roster_of, some_meters
+from tests.processes import until
 from tests.stand_in import stand_in
 from wmbus_fleet import backup, broker, commandline, commands, downlinks, sessions, store
 from wmbus_fleet.config import Config, Gateway, Programs, Ticks
 from wmbus_fleet.gateway import Agent, arm, open_gateway
 from wmbus_fleet.intake import Intake
-from wmbus_fleet.messages import Again, Down, Message, again_body, down_body, frames_in, lines_body, read_lines, read_order
+from wmbus_fleet.messages import Again, Down, Message, again_body, down_body, frames_in, gateway_in, lines_body, read_lines, read_order
 from wmbus_service.config import Config as ServiceConfig
 from wmbus_service.config import Receiver
 from wmbus_service.steps import ProgramFailed
@@ -46,6 +48,12 @@ def programs() -> Programs:
 def test_a_message_out_of_form(body: bytes) -> None:
     """What isn't a numbered message of at most 100 whole lines is none."""
     assert read_lines("up.north.gw1", body) is None
+
+
+@pytest.mark.parametrize("key, name", [("up.north.GW1", "???1"), ("up.north.a\0b", "a?b"), ("up.north.", ""), ("up.north." + 99 * "a", 65 * "a")])
+def test_a_gateway_without_a_name(key: str, name: str) -> None:
+    """A message under a name that no gateway can have is none."""
+    assert gateway_in(key) == name and read_lines(key, lines_body(5, 7, 9, b"")) is None
 
 
 def test_messages_are_read_back() -> None:
@@ -356,6 +364,9 @@ def test_all_parts_as_processes(fleet: Fleet, tmp_path: Path) -> None:
     meter = fleet.meters[1]
     commands.put_command(fleet.database, "c1", meter.name, "0102", time.time())
     command = Path(__file__).parents[1] / "wmbus-fleet"
+
+    def has_readings(count: int) -> bool:
+        return bool(store.one(fleet.database, "select count(*) from reading") == count)
     running = [subprocess.Popen([PYTHON, command, "--config", path, part]) for part in ("gateway", "intake", "sessions", "downlinks")]
     try:
         spool = tmp_path / "service/spool/radio.00000001.1.lines"
@@ -364,7 +375,7 @@ def test_all_parts_as_processes(fleet: Fleet, tmp_path: Path) -> None:
             with open(spool, "a", encoding="ascii") as file:
                 text = messages.whole(meter.key, meter.address, number, payload_of(number), 0x44, 0x84)
                 file.write(line_of(text, number))
-            until(lambda number=number: store.one(fleet.database, "select count(*) from reading") == number)  # type: ignore[misc]
+            until(partial(has_readings, number))
             until(lambda: store.one(fleet.database, "select count(*) from outbox where sent is null") == 0)
             # (the gateway has what the queue has a moment later)
             time.sleep(0.5)

@@ -2,6 +2,7 @@
 from __future__ import annotations
 
 import logging
+import random
 import signal
 import ssl
 from collections.abc import Callable, Iterator
@@ -32,9 +33,12 @@ FAULTS = (pika.exceptions.AMQPError, OSError)
 
 @contextmanager
 def connected(told: Broker) -> Iterator[Any]:
-    """A connection, which ends with the block."""
+    """A connection to one of the broker's nodes, any that answers, which ends with the block."""
+    nodes = told.nodes()
+    if not nodes:
+        raise Trouble("broker.host", "it names no node")
     with within(PATIENCE):
-        connection = pika.BlockingConnection(_parameters(told))
+        connection = pika.BlockingConnection([_parameters(told, *node) for node in random.sample(nodes, len(nodes))])
     try:
         yield connection
     finally:
@@ -42,17 +46,21 @@ def connected(told: Broker) -> Iterator[Any]:
             connection.close()
 
 
-def _parameters(told: Broker) -> Any:
-    password = "guest"
-    if told.password_file:
-        try:
-            password = Path(told.password_file).read_text(encoding="utf-8").rstrip("\n")
-        except OSError as fault:
-            raise Trouble(told.password_file, f"the broker's password can't be read: {fault.strerror}") from None
+def password_of(told: Broker) -> str:
+    """The password of who connects."""
+    if not told.password_file:
+        return "guest"
+    try:
+        return Path(told.password_file).read_text(encoding="utf-8").rstrip("\n")
+    except OSError as fault:
+        raise Trouble(told.password_file, f"the broker's password can't be read: {fault.strerror}") from None
+
+
+def _parameters(told: Broker, host: str, port: int) -> Any:
     context = ssl.create_default_context(cafile=told.authority or None) if told.tls else None
     return pika.ConnectionParameters(
-        told.host, told.port, credentials=pika.PlainCredentials(told.user, password), heartbeat=10, socket_timeout=5,
-        blocked_connection_timeout=PATIENCE, ssl_options=pika.SSLOptions(context, told.host) if context else None)
+        host, port, credentials=pika.PlainCredentials(told.user, password_of(told)), heartbeat=10, socket_timeout=5,
+        blocked_connection_timeout=PATIENCE, ssl_options=pika.SSLOptions(context, host) if context else None)
 
 
 @contextmanager
@@ -93,10 +101,23 @@ def declare_area(channel: Any, area: str) -> None:
         channel.queue_bind(area_queue(area), EXCHANGE, up_key(area, "*"))
 
 
-def declare_gateway(channel: Any, name: str) -> None:
-    """Makes a gateway's queue."""
+def declare_gateway(channel: Any, name: str) -> int:
+    """Makes a gateway's queue; how many listen to it already."""
     with within(PATIENCE):
-        channel.queue_declare(gateway_queue(name), durable=True, arguments=QUORUM)
+        declared = channel.queue_declare(gateway_queue(name), durable=True, arguments=QUORUM)
+    return int(declared.method.consumer_count)
+
+
+def delete_gateway(channel: Any, name: str) -> None:
+    """Takes a gateway's queue away, with what is in it."""
+    with within(PATIENCE):
+        channel.queue_delete(gateway_queue(name))
+
+
+def depth(channel: Any, queue: str) -> int:
+    """How many messages of a queue wait."""
+    with within(PATIENCE):
+        return int(channel.queue_declare(queue, passive=True).method.message_count)
 
 
 def consume(channel: Any, queue: str, take: Callable[..., None]) -> None:

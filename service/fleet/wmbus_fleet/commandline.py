@@ -20,9 +20,9 @@ import psycopg
 from wmbus_service.config import read_config as read_service
 from wmbus_service.trouble import Trouble
 
-from . import backup, broker, commands, downlinks, gateway, intake, sessions, store
+from . import backup, broker, commands, downlinks, gateway, gateways, intake, sessions, store
 from .config import Config, read_config
-from .status import status
+from .status import command_words, gateway_words, status
 
 DONE, TROUBLE = 0, 1
 VERSION = "0.1.0"
@@ -34,16 +34,18 @@ Command = Callable[[str, Callable[[Config, argparse.Namespace], None], str], arg
 def main(given: list[str]) -> int:
     """Does what is asked for; the exit status."""
     asked = words().parse_args(given)
+    # (under which PostgreSQL shows who works)
+    os.environ.setdefault("PGAPPNAME", f"wmbus {asked.word}")
     logging.basicConfig(level=logging.INFO, format="%(levelname)s %(message)s", stream=sys.stderr)
     os.umask(0o077)
     try:
-        asked.work(read_config(asked.config), asked)
+        asked.work(read_config(asked.config) if asked.is_configured else Config(), asked)
         sys.stdout.flush()
         return DONE
     except Trouble as trouble:
         said = str(trouble)
     except psycopg.Error as fault:
-        said = f"the database: {str(fault).strip()}"
+        said = f"the database: {store.told_of(fault)}"
     except broker.FAULTS as fault:
         said = f"{type(fault).__name__}: {fault}"
     except KeyboardInterrupt:
@@ -62,10 +64,12 @@ def words() -> argparse.ArgumentParser:
 
     def command(name: str, work: Callable[[Config, argparse.Namespace], None], told: str) -> argparse.ArgumentParser:
         made = kinds.add_parser(name, help=told, description=told, epilog=STATUSES)
-        made.set_defaults(work=work)
+        made.set_defaults(work=work, word=name, is_configured=name != "demo")
         return made
 
     _running_words(command)
+    _showing_words(command)
+    _making_words(command)
     _operating_words(command)
     return parser
 
@@ -80,16 +84,42 @@ def _running_words(command: Command) -> None:
     command("downlinks", lambda config, _: downlinks.run(config, _ending()), "sends downlinks to gateways")
 
 
-def _operating_words(command: Command) -> None:
-    """The words of those who run the fleet."""
-    command("init", lambda config, _: store.init(config.database), "makes the tables in an empty database")
+def _showing_words(command: Command) -> None:
+    """The words of what is looked at."""
+    command("page", lambda config, _: _run_page(config), "serves the page over the fleet's database")
+    command("metrics", lambda config, _: _run_metrics(config), "serves the metrics of the fleet")
+    made = command("demo", lambda _, asked: _demo(asked), "has a fleet on this machine hear made meters, and serves its page; all goes when it ends")
+    made.add_argument("--meters", metavar="N", type=int, default=1000, help="how many meters send, 1000")
+    made.add_argument("--seconds", metavar="N", type=float, default=30.0, help="how often each of them sends, 30")
+    made.add_argument("--port", metavar="N", type=int, default=9103, help="of the page, 9103; 0 is any")
+    made.add_argument("--text", action="store_true", help="says what was read in place of a page, and ends")
+    made = command("status", _status, "says what was heard and what somebody should look at")
+    made.add_argument("--json", action="store_true", help="as data")
+    made.add_argument("--gateways", action="store_true", help="names each gateway, and when it was heard")
+    made = command("commands", _commands, "says what became of the last commands, of a meter or of all")
+    made.add_argument("address", metavar="METER", nargs="?")
+
+
+def _making_words(command: Command) -> None:
+    """The words that make a fleet."""
+    command("init", lambda config, _: store.init(config.database), "makes the tables in an empty database, or this release's of an earlier one's")
     made = command("area", _area, "makes an area, whose gateways' messages are one queue")
     made.add_argument("name", metavar="AREA")
-    made = command("gateways", _gateways, "makes gateways of an area known")
+    made = command("gateways", _gateways, "makes gateways of an area known, or moves them to it; where broker.management is set each gets a"
+                                          " user of RabbitMQ's that has its own queue and its own name alone")
     made.add_argument("area", metavar="AREA")
     made.add_argument("names", metavar="GATEWAY", nargs="+")
+    made.add_argument("--files", metavar="FOLDER", type=Path, help="gets FOLDER/GATEWAY with what goes to the gateway's /etc/wmbus, its new"
+                                                                   " password too")
+    made = command("remove", _remove, "takes gateways away, with their users and queues; what they sent stays")
+    made.add_argument("names", metavar="GATEWAY", nargs="+")
     made = command("commission", _commission, "adds a roster's new meters")
-    made.add_argument("roster", metavar="ROSTER", type=Path)
+    made.add_argument("roster", metavar="ROSTER", help="a file that its owner alone may read, or - for the standard input")
+    made.add_argument("--names", metavar="FILE", type=Path, help="names of meters, in each line an address, a space and a name")
+
+
+def _operating_words(command: Command) -> None:
+    """The words of those who run the fleet."""
     made = command("command", _command, "has a command sent to a meter once it listens, or cancels one")
     made.add_argument("address", metavar="METER", nargs="?")
     made.add_argument("payload", metavar="HEX", nargs="?", help="what the meter gets, 1 to 94 bytes")
@@ -97,8 +127,6 @@ def _operating_words(command: Command) -> None:
     made.add_argument("--cancel", metavar="ID", help="has this command not be sent any more")
     made = command("rekey", _rekey, "gives a meter of mode 7 its new second key, which is asked for, or read from the standard input")
     made.add_argument("address", metavar="METER")
-    made = command("status", _status, "says what was heard and what somebody should look at")
-    made.add_argument("--json", action="store_true", help="as data")
     made = command("backup", lambda config, asked: backup.back_up(config, asked.file), "copies the database, also while the fleet works")
     made.add_argument("file", metavar="FILE", type=Path)
     made = command("restore", _restore, "puts a copy into an empty database, before any part of the fleet is started")
@@ -133,13 +161,55 @@ def _area(config: Config, asked: argparse.Namespace) -> None:
 
 def _gateways(config: Config, asked: argparse.Namespace) -> None:
     with store.connect(config.database) as database:
-        count = sum(commands.add_gateway(config, database, asked.area, name) for name in asked.names)
+        count = sum(gateways.add(config, database, asked.area, name, asked.files) for name in asked.names)
     print(f"{count} new gateways")
+
+
+def _remove(config: Config, asked: argparse.Namespace) -> None:
+    with store.connect(config.database) as database:
+        for name in asked.names:
+            gateways.remove(config, database, name)
 
 
 def _commission(config: Config, asked: argparse.Namespace) -> None:
     with store.connect(config.database) as database:
-        print(f"{commands.commission(config, database, asked.roster)} new meters")
+        if asked.roster == "-":
+            count = commands.take_roster(config, database, sys.stdin.read(), "the standard input")
+        else:
+            count = commands.commission(config, database, Path(asked.roster))
+        print(f"{count} new meters")
+        if asked.names:
+            print(f"{commands.put_names(database, asked.names)} names")
+
+
+def _commands(config: Config, asked: argparse.Namespace) -> None:
+    with store.connect(config.database) as database:
+        for line in command_words(database, asked.address):
+            print(line)
+
+
+def _run_page(config: Config) -> None:
+    try:
+        from .view import serving
+    except ImportError as fault:
+        raise Trouble("the page", f"it can't be served: {fault}", "apt-get install python3-flask python3-waitress") from None
+    serving.run(config)
+
+
+def _run_metrics(config: Config) -> None:
+    try:
+        from . import metrics
+    except ImportError as fault:
+        raise Trouble("the metrics", f"they can't be served: {fault}", "apt-get install python3-prometheus-client") from None
+    metrics.run(config, _ending())
+
+
+def _demo(asked: argparse.Namespace) -> None:
+    try:
+        from . import demo
+    except ImportError as fault:
+        raise Trouble("the demo", f"it can't run: {fault}", "apt-get install python3-flask python3-waitress") from None
+    demo.run(asked.meters, asked.seconds, None if asked.text else asked.port, _ending(), lambda words: print(words, flush=True))
 
 
 def _command(config: Config, asked: argparse.Namespace) -> None:
@@ -165,7 +235,10 @@ def _rekey(config: Config, asked: argparse.Namespace) -> None:
 
 def _status(config: Config, asked: argparse.Namespace) -> None:
     with store.connect(config.database) as database:
-        print(status(database, asked.json))
+        if asked.gateways:
+            print("\n".join(gateway_words(database)))
+        else:
+            print(status(database, asked.json))
 
 
 def _restore(config: Config, asked: argparse.Namespace) -> None:

@@ -15,6 +15,7 @@ from .store import Database
 
 # a roster that the program judges has so many meters at most
 PIECE = 4096
+MOST_NAME = 80
 
 
 def put_command(database: Database, ident: str, address: str, payload: str, now: float) -> bool:
@@ -78,8 +79,12 @@ def _judge_name(name: str) -> None:
 
 
 def commission(config: Config, database: Database, path: Path) -> int:
+    """Adds the new meters of a roster's file, which nobody else may read. How many are new."""
+    return take_roster(config, database, read_roster(path), path)
+
+
+def take_roster(config: Config, database: Database, text: str, path: object) -> int:
     """Adds a roster's new meters; what is known of the others stays. How many are new. A roster may have any number of meters."""
-    text = read_roster(path)
     head, lines = _taken_apart(text)
     added = 0
     for start in range(0, max(1, len(lines)), PIECE):
@@ -108,3 +113,18 @@ def _add_meters(database: Database, meters: Sequence[Sequence[str]]) -> int:
     added = database.execute("insert into meter (address, block) select address, block from unnest(%s::text[], %s::text[])"
                              " as n (address, block) on conflict do nothing", ([it for it, _ in rows], [block for _, block in rows]))
     return added.rowcount
+
+
+def put_names(database: Database, path: Path) -> int:
+    """Names meters, as a file's lines say; how many."""
+    try:
+        lines = [line.split(" ", 1) for line in path.read_text(encoding="utf-8").splitlines() if line.strip()]
+    except (OSError, UnicodeDecodeError) as fault:
+        raise Trouble(path, f"the names can't be read: {fault}") from None
+    for number, words in enumerate(lines, 1):
+        if len(words) != 2 or not words[1].strip():
+            raise Trouble(f"{path}, line {number}", "it isn't an address, a space and a name")
+    named = database.execute("update meter m set name = n.name from unnest(%s::text[], %s::text[]) as n (address, name)"
+                             " where m.address = n.address",
+                             ([address.lower() for address, _ in lines], [name.strip()[:MOST_NAME] for _, name in lines]))
+    return named.rowcount

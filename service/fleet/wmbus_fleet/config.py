@@ -22,12 +22,20 @@ class Programs:
 class Broker:
     """RabbitMQ, and whom it knows this machine as."""
 
+    # one node or several, with blanks between; each may have a port of its own behind a colon
     host: str = "127.0.0.1"
     port: int = 5672
     user: str = "guest"
     password_file: str = ""
     tls: bool = False
     authority: str = ""
+    # where its management plugin is asked for users and queues
+    management: str = ""
+
+    def nodes(self) -> list[tuple[str, int]]:
+        """The host and the port of each node."""
+        told = [name.partition(":") for name in self.host.split()]
+        return [(host, int(port) if port.isdecimal() else self.port) for host, _, port in told]
 
 
 @dataclass(frozen=True)
@@ -57,6 +65,20 @@ class Gateway:
 
 
 @dataclass(frozen=True)
+class Page(service.Page):
+    """Where the page is to be had."""
+
+    port: int = 9103
+
+
+@dataclass(frozen=True)
+class Metrics(service.Metrics):
+    """Where the metrics are to be had."""
+
+    port: int = 9104
+
+
+@dataclass(frozen=True)
 class Keep:
     """For how many days something is kept; 0 keeps it for ever."""
 
@@ -76,6 +98,8 @@ class Config:
     programs: Programs = field(default_factory=Programs)
     ticks: Ticks = field(default_factory=Ticks)
     keep: Keep = field(default_factory=Keep)
+    page: Page | None = None
+    metrics: Metrics | None = None
     gateway: Gateway | None = None
 
 

@@ -67,7 +67,7 @@ def run(config: Config, ending: threading.Event) -> None:
                         if not send(config, database, channel, time.time()):
                             connection.process_data_events(config.interval)
         except (psycopg.Error, *broker.FAULTS) as fault:
-            told = f"downlinks: {type(fault).__name__}: {str(fault).strip()}"
+            told = f"downlinks: {store.told_of(fault)}"
             if told != trouble:
                 log.error("%s", told)
             trouble = told

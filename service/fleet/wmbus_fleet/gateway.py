@@ -213,7 +213,10 @@ class Agent:
     def _serve(self, connection: Any, ending: threading.Event) -> None:
         """Goes on as long as the connection stands."""
         channel = broker.opened(connection)
-        broker.declare_gateway(channel, self.told.name)
+        if broker.declare_gateway(channel, self.told.name):
+            # (both would number messages of their own under one name, and of each number one is taken)
+            raise Trouble(f"gateway {self.told.name}", "another one with this name is connected, or its connection isn't closed yet",
+                          "where it stays so, give each its own name")
 
         def told(_channel: Any, method: Any, _properties: Any, body: bytes) -> None:
             self.hear(body, time.time())

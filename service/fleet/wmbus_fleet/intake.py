@@ -14,7 +14,7 @@ from wmbus_service.steps import ProgramFailed
 
 from . import broker, store
 from .config import Config
-from .messages import Again, Message, again_body, frames_in, read_lines
+from .messages import Again, Message, again_body, frames_in, gateway_in, read_lines
 from .programs import Fence, accept, addresses_of
 from .store import Database
 
@@ -33,9 +33,9 @@ class Intake:
     def __init__(self, config: Config, database: Database, name: str) -> None:
         self.config, self.database, self.worker = config, database, f"intake {name}"
 
-    def take(self, messages: Sequence[Message]) -> list[Again]:
-        """One transaction over messages: what is taken of them, and how far; who has to be asked."""
-        counts: Counter[str] = Counter(messages=len(messages))
+    def take(self, messages: Sequence[Message], rubbish: Sequence[str] = ()) -> list[Again]:
+        """One transaction over messages: what is taken of them, and how far; who has to be asked. Of these gateways one was out of form."""
+        counts: Counter[str] = Counter(messages=len(messages) + len(rubbish))
         with store.transaction(self.database):
             fences = self._fences({it.gateway for it in messages})
             told = accept(words_of(self.config.programs.line_accept), fences, messages)
@@ -44,6 +44,7 @@ class Intake:
             put_fences(self.database, told.fences, {message.gateway: message.until for message in taken})
             self._put_missing(fences, taken)
             asked = self._asked(fences, messages, told.answers)
+            put_oddities(self.database, oddities(fences, messages, told.answers, rubbish))
             counts.update(answer.split(" ")[0] for answer in told.answers)
             counts["asked"] = len(asked)
             store.add_totals(self.database, self.worker, counts)
@@ -86,6 +87,32 @@ class Intake:
         return [wanted[name] for (name,) in rows]
 
 
+def oddities(fences: Mapping[str, Fence], messages: Sequence[Message], answers: Sequence[str], rubbish: Sequence[str]
+             ) -> Counter[tuple[str, str]]:
+    """What nobody can take of what gateways say: of each gateway what it is, and how often."""
+    found = Counter((name, "a message that is out of form") for name in rubbish)
+    epochs = {name: epoch for name, (epoch, _) in fences.items()}
+    for message, answer in zip(messages, answers, strict=True):
+        if answer == "unknown":
+            found[message.gateway, "a message, though no such gateway is known"] += 1
+        elif answer == "again" and message.epoch < epochs[message.gateway]:
+            found[message.gateway, "a message of an epoch that is over"] += 1
+        elif answer == "take":
+            epochs[message.gateway] = message.epoch
+            found[message.gateway, "a line that is no frame"] += len(message.lines) - len(frames_in(message.lines))
+    return +found
+
+
+def put_oddities(database: Database, found: Mapping[tuple[str, str], int]) -> None:
+    """Counts them on, and says once what is new."""
+    for (gateway, what), times in sorted(found.items()):
+        count = store.one(database, "insert into oddity values (%s, %s, %s, %s) on conflict (gateway, what) do update set times ="
+                                    " oddity.times + excluded.times, last_made = excluded.last_made returning times",
+                          (gateway, what, times, time.time()))
+        if count == times:
+            log.warning("%s sent %s, which is left (`wmbus-fleet status` counts them)", gateway, what)
+
+
 def put_lines(config: Config, database: Database, taken: Sequence[Message]) -> int:
     """Puts the lines of messages into the inbox in their order, each with the meter that it is for."""
     lines = [(message, place, text) for message in taken for place, text in frames_in(message.lines)]
@@ -111,7 +138,8 @@ class Consuming:
         self.intake, self.connection = intake, connection
         self.channel = broker.opened(connection)
         self.channel.basic_qos(prefetch_count=PREFETCH)
-        self.held: list[tuple[int, Message | None]] = []
+        # of each message its tag, its gateway, and what it is, where it is in form
+        self.held: list[tuple[int, str, Message | None]] = []
         self.since = 0.0
         for area in areas:
             broker.declare_area(self.channel, area)
@@ -121,21 +149,18 @@ class Consuming:
         """A message is in hand."""
         if not self.held:
             self.since = time.monotonic()
-        message = read_lines(method.routing_key, body)
-        if message is None:
-            log.error("a message of %s is out of form, and is left", method.routing_key)
-        self.held.append((method.delivery_tag, message))
+        self.held.append((method.delivery_tag, gateway_in(method.routing_key), read_lines(method.routing_key, body)))
 
     def turn(self) -> None:
         """A batch, once it is due."""
-        lines = sum(len(message.lines) for _, message in self.held if message)
+        lines = sum(len(message.lines) for _, _, message in self.held if message)
         is_due = time.monotonic() - self.since >= self.intake.config.interval or lines >= MOST
         self.connection.process_data_events(0 if self.held and is_due else LOOK)
         if not self.held or not is_due:
             return
         count = self._count()
-        tag, messages = self.held[count - 1][0], [message for _, message in self.held[:count] if message]
-        asked = self.intake.take(messages) if messages else []
+        tag, batch = self.held[count - 1][0], self.held[:count]
+        asked = self.intake.take([it for _, _, it in batch if it], [name for _, name, it in batch if it is None])
         del self.held[:count]
         acknowledge(self.channel, tag)
         for it in asked:
@@ -144,7 +169,7 @@ class Consuming:
     def _count(self) -> int:
         """How many messages the batch has, one at least: no more lines than one transaction takes."""
         lines = 0
-        for count, (_, message) in enumerate(self.held):
+        for count, (_, _, message) in enumerate(self.held):
             lines += len(message.lines) if message else 0
             if count and lines > MOST:
                 return count
@@ -175,7 +200,7 @@ def run(config: Config, areas: Sequence[str], name: str, ending: threading.Event
                 while not ending.is_set():
                     consuming.turn()
         except (psycopg.Error, ProgramFailed, *broker.FAULTS) as fault:
-            told = f"intake: {type(fault).__name__}: {str(fault).strip()}"
+            told = f"intake: {store.told_of(fault)}"
             if told != trouble:
                 log.error("%s", told)
             trouble = told

@@ -15,9 +15,13 @@ def let_go(database: Database, keep: Keep, now: float) -> bool:
     for table, key, days in (("line", "number", keep.lines), ("reading", "line", keep.readings)):
         if days:
             with store.transaction(database):
-                found = database.execute(f"delete from {table} where {key} in (select {key} from {table} where made < %s order by made"
-                                         " limit %s for update skip locked)", (now - days * DAY, STEP))
+                # (numbers rise with the moments, and so no index by age is needed)
+                found = database.execute(f"with first as (select {key} from {table} order by {key} limit %s for update skip locked)"
+                                         f" delete from {table} it using first where it.{key} = first.{key} and it.made < %s",
+                                         (STEP, now - days * DAY))
                 gone += found.rowcount
     database.execute("delete from stranger where address in (select address from stranger order by last_made desc offset %s)",
+                     (MOST_STRANGERS,))
+    database.execute("delete from oddity where (gateway, what) in (select gateway, what from oddity order by last_made desc offset %s)",
                      (MOST_STRANGERS,))
     return gone > 0

@@ -11,6 +11,7 @@ from wmbus_service.steps import Told
 
 from .arrived import Arrived
 
+COMPACT = json.JSONEncoder(separators=(",", ":")).encode
 # what becomes of a command: by its id, or by its meter and the program's number
 Change = dict[str, Any]
 
@@ -27,8 +28,9 @@ class Rows:
         self.strangers: dict[str, tuple[int, str | None]] = {}
         self.downlinks: list[tuple[str, str, int, str, int]] = []
         self.changes: list[Change] = []
-        # the gateway that heard a meter last, and the meters whose windows were opened or closed last
+        # the gateway that heard a meter last, the meters with readings, and those whose windows were opened or closed last
         self.gateways: dict[str, str] = {}
+        self.read: set[str] = set()
         self.opened: set[str] = set()
         self.ticked: set[str] = set()
 
@@ -68,8 +70,9 @@ class Rows:
         """A reading, the command that it confirms, the downlink that is due."""
         it = arrived_of(event)
         gateway = it.receiver if it else None
+        self.read.add(said["address"])
         self.readings.append((number, said["address"], gateway, said["counter"], said["at"], said["payload"], said["fault"],
-                              said["more"], json.dumps(said["records"], separators=(",", ":")), self.now))
+                              said["more"], COMPACT(said["records"]), self.now))
         if said["confirmed"] is not None:
             self._change(said["address"], said["confirmed"], "confirmed")
         sent = said["sent"]

@@ -1,25 +1,25 @@
 """The fleet's tables in PostgreSQL."""
 from __future__ import annotations
 
-VERSION = 1
+VERSION = 2
 SHARDS = 16
 
 TABLES = f"""
 create table setting (name text primary key, value text not null);
 create table area (name text primary key);
 -- the fence: a gateway's last message that was taken, until when all that it heard is taken, by its clock; when it was asked to send again,
--- and when it was heard last
+-- when it was heard last, and when it was taken away
 create table gateway (
     name text primary key, area text not null references area, epoch bigint not null default 0, number bigint not null default 0,
-    until bigint not null default 0, asked timestamptz, seen timestamptz);
+    until bigint not null default 0, asked timestamptz, seen timestamptz, gone timestamptz);
 -- a meter's shard, whose sessions are one after the other
 create function shard_of(address text) returns integer immutable language sql
     return ('x' || substr(md5(address), 1, 2))::bit(8)::integer & {SHARDS - 1};
 -- a meter: its part of the program's state, with its key; whether its window waits for an answer, how many fragments are held, when its
--- tick is due, and the gateway that heard it last
+-- tick is due, the gateway that heard it last, and when its last reading was written
 create table meter (
     address text primary key, name text not null default '', block text not null, waits bigint, holds integer not null default 0,
-    due double precision, gateway text) with (fillfactor = 70);
+    due double precision, gateway text, heard double precision) with (fillfactor = 70);
 create index meter_due on meter (shard_of(address), due) where due is not null;
 -- lines that were taken of gateways and that no session has heard yet
 create sequence inbox_id;
@@ -32,15 +32,15 @@ create sequence line_number;
 create table line (
     number bigint primary key, address text not null, gateway text, epoch bigint, message bigint, place integer, text text not null,
     due double precision, made double precision not null);
-create index line_by_age on line (made);
 create table reading (
     line bigint primary key, address text not null, gateway text, counter bigint not null, moment numeric not null, payload text not null,
     fault text, more boolean not null, records json not null, made double precision not null);
 create index reading_of_meter on reading (address, moment);
-create index reading_by_age on reading (made);
 create table refusal (
     address text, reason text, words text not null, times bigint not null, last_line bigint not null, last_made double precision not null,
     primary key (address, reason));
+-- what a gateway says and nobody can take, by its name
+create table oddity (gateway text, what text, times bigint not null, last_made double precision not null, primary key (gateway, what));
 create table stranger (address text primary key, times bigint not null, gateway text, last_made double precision not null);
 -- what an operator asked for: state is waiting, queued, sent, confirmed, expired, cancelled, refused or done; number is the program's id
 create table command (
@@ -66,3 +66,13 @@ INBOXES = "".join(
     f"create table inbox_{shard} partition of inbox for values in ({shard})"
     " with (autovacuum_vacuum_scale_factor = 0, autovacuum_vacuum_threshold = 20000);\n"
     f"create index inbox_{shard}_id on inbox_{shard} (id);\n" for shard in range(SHARDS))
+
+# what makes of version 1 this one
+SECOND = """
+drop index line_by_age;
+drop index reading_by_age;
+create table oddity (gateway text, what text, times bigint not null, last_made double precision not null, primary key (gateway, what));
+alter table gateway add column gone timestamptz;
+alter table meter add column heard double precision;
+update meter m set heard = (select r.made from reading r where r.address = m.address order by r.moment desc limit 1);
+"""

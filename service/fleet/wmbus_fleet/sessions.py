@@ -66,7 +66,7 @@ class Sessions:
         own = store.setting(self.database, "own")
         if own is None:
             raise Trouble("the database", "the collector's own address isn't known", "`wmbus-fleet commission ROSTER` gives it")
-        return run_steps(words_of(self.config.programs.steps), state_text(own, blocks_of(self.database, addresses)), lines)
+        return run_steps(words_of(self.config.programs.steps), state_text(own, [blocks_of(self.database, addresses)]), lines)
 
     def _halve(self, shard: int, batch: Sequence[Event], failed: ProgramFailed, now: float) -> int:
         """After a failed session the shard's next one takes half of its lines, until the line at which the program fails is found; that
@@ -119,10 +119,18 @@ def due_ticks(database: Database, ticks: Ticks, shard: int, now: float, most: in
 
 def take(database: Database, shard: int, most: int) -> list[Arrived]:
     """The oldest lines of a shard, which are gone from the inbox with the commit."""
-    rows = database.execute(
-        f"with old as (select id from inbox_{int(shard)} order by id limit %s), gone as (delete from inbox_{int(shard)} i using old"
-        " where i.id = old.id returning i.*) select address, gateway, epoch, message, place, text from gone order by id", (most,))
-    return [arrived(*row) for row in rows.fetchall()]
+    # (as one text, which is read much faster than rows of values; a line has no newline, and what stands in front of it no tab)
+    told = store.one(
+        database, f"with old as (select id from inbox_{int(shard)} order by id limit %s), gone as (delete from inbox_{int(shard)} i"
+        " using old where i.id = old.id returning i.*) select coalesce(string_agg(concat_ws(E'\\t', address, gateway, epoch, message,"
+        " place, text), E'\\n' order by id), '') from gone", (most,))
+    return [arrived_row(row) for row in told.split("\n")] if told else []
+
+
+def arrived_row(row: str) -> Arrived:
+    """A line by its row."""
+    address, gateway, epoch, message, place, text = row.split("\t", 5)
+    return arrived(address, gateway, int(epoch), int(message), int(place), text)
 
 
 def address_of(event: Event) -> str:
@@ -131,10 +139,10 @@ def address_of(event: Event) -> str:
     return it.address if it else event.text.split(" ")[1]
 
 
-def blocks_of(database: Database, addresses: Collection[str]) -> list[str]:
-    """What is known of those of these meters that there are."""
-    rows = database.execute("select block from meter where address = any(%s) order by address", (sorted(addresses),)).fetchall()
-    return [block for (block,) in rows]
+def blocks_of(database: Database, addresses: Collection[str]) -> str:
+    """What is known of those of these meters that there are, one behind the other."""
+    return str(store.one(database, "select coalesce(string_agg(block, '' order by address), '') from meter"
+                                   " where address = any(string_to_array(%s, ' '))", (" ".join(sorted(addresses)),)))
 
 
 def set_aside(database: Database, event: Event, shard: int, said: str, now: float) -> None:
@@ -166,7 +174,7 @@ def run(config: Config, ending: threading.Event) -> None:
                         let_go_at = time.monotonic() + LET_GO
                     ending.wait(0 if count >= MOST // 2 else config.interval)
         except (psycopg.Error, ProgramFailed, Trouble, OSError) as fault:
-            told = f"sessions: {type(fault).__name__}: {str(fault).strip()}"
+            told = f"sessions: {store.told_of(fault)}"
             if told != trouble:
                 log.error("%s", told)
             trouble = told

@@ -11,8 +11,19 @@ from psycopg.rows import dict_row
 from . import store
 from .store import Database
 
-LAST = 10
+LAST, MOST = 10, 50
 SILENT = 600
+
+
+IS_SILENT = f"g.seen is null or g.seen < now() - interval '{SILENT} seconds'"
+# by the gateway that heard a meter last
+REFUSALS = """
+    select coalesce(g.area, '') as area, r.reason, sum(r.times)::bigint as times, count(*) as meters
+    from refusal r left join meter m using (address) left join gateway g on g.name = m.gateway
+    group by 1, 2 order by 1, 3 desc, 2"""
+# parts without which nothing is heard
+UNITS = {"intake": "wmbus-intake@0", "sessions": "wmbus-sessions@0", "downlinks": "wmbus-downlinks"}
+PARTS = tuple(UNITS)
 
 
 def figures(database: Database) -> dict[str, Any]:
@@ -20,13 +31,23 @@ def figures(database: Database) -> dict[str, Any]:
     totals = "select name, sum(value)::bigint from total group by name order by name"
     return {
         "totals": store.pairs(database, totals),
+        "workers": store.pairs(database, "select name, count from page.worker order by name"),
+        "areas": _rows(database, f"""
+            select a.name, count(g.name) as gateways, count(g.name) filter (where {IS_SILENT}) as silent
+            from area a left join gateway g on g.area = a.name and g.gone is null group by a.name order by a.name"""),
+        "refusals_by_area": _rows(database, REFUSALS),
         "meters": store.one(database, "select count(*) from meter"),
         "inbox": store.one(database, "select count(*) from inbox"),
         "downlinks_waiting": store.one(database, "select count(*) from outbox where sent is null and missed is null"),
         "ticks_late": store.one(database, "select count(*) from meter where due < %s", (time.time() - 60,)),
         "commands": store.pairs(database, "select state, count(*) from command group by state order by state"),
+        "clocks": _rows(database, "select name, (until - extract(epoch from seen))::bigint as ahead from gateway where seen > now()"
+                                  f" - interval '{SILENT} seconds' and abs(until - extract(epoch from seen)) > {SILENT} order by name"),
+        "asked": _rows(database, "select name, epoch, number + 1 as number from gateway where asked < now() - interval '60 seconds'"
+                                 " and (seen is null or seen <= asked) order by name"),
+        "oddities": _rows(database, f"select gateway, what, times from oddity order by last_made desc limit {LAST}"),
         "gateways": _rows(database, "select name, area, epoch, number, extract(epoch from now() - seen)::bigint as age from gateway"
-                                    f" where seen is null or seen < now() - interval '{SILENT} seconds' order by name"),
+                                    f" g where gone is null and ({IS_SILENT}) order by name limit {MOST}"),
         "missing": _rows(database, f"select gateway, epoch, number from missing order by made desc limit {LAST}"),
         "downlinks_missed": _rows(database, "select address, gateway, down, missed from outbox where missed is not null"
                                             f" order by id desc limit {LAST}"),
@@ -47,16 +68,32 @@ def in_words(told: dict[str, Any]) -> Iterator[str]:
     taken, heard, stored = (totals.get(name, 0) for name in ("lines", "heard", "stored"))
     yield f"{told['meters']} meters; {taken} lines taken, {heard} heard, {stored} readings"
     yield f"{told['inbox']} lines wait for a session, {told['downlinks_waiting']} downlinks for the broker"
+    runs = {part: sum(count for name, count in told["workers"].items() if name == f"wmbus {part}") for part in PARTS}
+    yield "at work: " + ", ".join(f"{count} {part}" for part, count in runs.items())
+    for part, count in runs.items():
+        if not count:
+            yield f"no {part} works: systemctl start {UNITS[part]}, whose log says why it ended"
+    for it in told["areas"]:
+        yield f"area {it['name']}: {it['gateways']} gateways, {it['silent']} of them silent"
     if told["ticks_late"]:
         yield f"{told['ticks_late']} ticks are late: no sessions run, or too few"
     if told["commands"]:
         yield "commands: " + ", ".join(f"{count} {state}" for state, count in told["commands"].items())
     for it in told["gateways"]:
         yield f"gateway {it['name']} in {it['area']}: " + ("never heard" if it["age"] is None else f"not heard for {it['age']} s")
+    for it in told["clocks"]:
+        yield f"gateway {it['name']} tells a moment {abs(it['ahead'])} s " + (
+            "ahead: its clock is wrong" if it["ahead"] > 0 else "behind: its clock is wrong, or it was cut off and sends what it kept")
+    for it in told["asked"]:
+        yield f"gateway {it['name']} was asked for message {it['number']} of epoch {it['epoch']} and hasn't sent it"
+    for it in told["oddities"]:
+        yield f"{it['gateway']} sent {it['times']} times {it['what']}, which is left"
     for it in told["missing"]:
         yield f"gateway {it['gateway']} began a new epoch behind message {it['number']} of {it['epoch']}: its later ones may be gone"
     for it in told["downlinks_missed"]:
         yield f"downlink {it['down']} for {it['address']} wasn't sent: {it['missed']}"
+    for it in told["refusals_by_area"]:
+        yield f"refused in {it['area'] or 'no area'}: {it['times']} times {it['reason']}, of {it['meters']} meters"
     for it in told["refusals"]:
         yield f"refused {it['times']} times for {it['address']}: {it['words']} (docs/FORMATS.md says what to do)"
     for it in told["strangers"]:
@@ -69,3 +106,19 @@ def status(database: Database, is_json: bool) -> str:
     """What is told, as a text."""
     told = figures(database)
     return json.dumps(told, ensure_ascii=False, indent=1) if is_json else "\n".join(in_words(told))
+
+
+def gateway_words(database: Database) -> Iterator[str]:
+    """Each gateway, and when it was heard."""
+    for name, area, epoch, number, age, is_gone in database.execute(
+            "select name, area, epoch, number, extract(epoch from now() - seen)::bigint, gone is not null from gateway order by name"):
+        heard = "never heard" if age is None else f"message {number} of {epoch}, {age} s ago"
+        yield f"gateway {name} in {area}: {'taken away, ' if is_gone else ''}{heard}"
+
+
+def command_words(database: Database, address: str | None) -> Iterator[str]:
+    """What became of the last commands, the last one first."""
+    for ident, meter, kind, state, tries, reason in database.execute(
+            "select id, address, kind, state, tries, reason from command where address = coalesce(%s, address) order by place desc limit %s",
+            (address and address.lower(), MOST)):
+        yield f"{ident} for {meter}, {kind}: {state}, sent {tries} times" + (f" ({reason})" if reason else "")

@@ -1,41 +1,59 @@
 """PostgreSQL, which has the truth: every commit of it stands."""
 from __future__ import annotations
 
+import json
 from collections.abc import Iterator, Mapping, Sequence
 from contextlib import contextmanager, suppress
 from typing import Any
 
 import psycopg
+from psycopg.conninfo import make_conninfo
 from wmbus_service.trouble import Trouble
 
-from . import schema
+from . import page_tables, schema
 
 Database = psycopg.Connection[tuple[Any, ...]]
 # advisory locks: of a shard's sessions, of the sender, of a change of the tables
 SESSIONS, SENDER, TABLES = 7101, 7102, 7103
+# a server that says nothing for so long is gone, and so is a worker that its server hears nothing of, or that stands still in the middle of
+# a transaction: what it locks is another one's then, and its own commit fails (a program may take 60 seconds of a transaction)
+ALIVE = {"keepalives_idle": 10, "keepalives_interval": 5, "keepalives_count": 4, "tcp_user_timeout": 30_000}
+SERVER_ALIVE = ("tcp_keepalives_idle = 10", "tcp_keepalives_interval = 5", "tcp_keepalives_count = 4", "tcp_user_timeout = 30000",
+                "idle_in_transaction_session_timeout = 120000")
 
 
 def connect(words: str) -> Database:
     """A connection to the fleet's database, the tables of which are there."""
-    database = psycopg.connect(words, autocommit=True, connect_timeout=5)
+    database = psycopg.connect(make_conninfo(words, **ALIVE), autocommit=True, connect_timeout=5)
     # (each commit stands before it is acknowledged, whatever the server's configuration says)
-    database.execute("set synchronous_commit = on")
+    database.execute("; ".join(f"set {setting}" for setting in ("synchronous_commit = on", *SERVER_ALIVE)))
     version = _version(database)
     if version != schema.VERSION:
         database.close()
         raise Trouble("the database", "it hasn't the fleet's tables" if version is None else
                       f"its tables are of version {version}, and this program knows {schema.VERSION}",
-                      "`wmbus-fleet init` makes them" if version is None else "install the release that fits")
+                      "`wmbus-fleet init` makes them" if version is None or version < schema.VERSION
+                      else "install the release that fits")
     return database
 
 
+def told_of(fault: Exception) -> str:
+    """What is the matter, without the rows that PostgreSQL tells of behind it, in which payloads stand."""
+    said = fault.diag.message_primary if isinstance(fault, psycopg.Error) else None
+    return f"{type(fault).__name__}: {(said or str(fault)).strip()}"
+
+
 def init(words: str) -> None:
-    """Makes the tables, all in one transaction, in a database that has none."""
+    """Makes the tables, or of those of an earlier release this one's, all in one transaction."""
     with psycopg.connect(words, autocommit=True, connect_timeout=5) as database:
         with transaction(database):
             database.execute("select pg_advisory_xact_lock(%s, 0)", (TABLES,))
-            if _version(database) is None:
-                database.execute(schema.TABLES + schema.INBOXES)
+            version = _version(database)
+            if version is None:
+                database.execute(schema.TABLES + schema.INBOXES + page_tables.VIEWS)
+            elif version == 1:
+                database.execute(schema.SECOND + page_tables.VIEWS)
+            if version in (None, 1):
                 set_setting(database, "version", str(schema.VERSION))
 
 
@@ -86,19 +104,19 @@ def copy_rows(database: Database, target: str, rows: Sequence[Sequence[Any]]) ->
     """Adds rows to a table, whose columns are named."""
     if rows:
         with database.cursor() as cursor, cursor.copy(f"copy {target} from stdin") as out:
-            out.write("".join("\t".join(map(_field, row)) + "\n" for row in rows))
+            out.write("".join(map(_copied, rows)))
 
 
+NULL = "\\N"
 ESCAPES = str.maketrans({"\\": "\\\\", "\t": "\\t", "\n": "\\n", "\r": "\\r"})
 
 
-def _field(value: object) -> str:
-    """A value as COPY reads it."""
-    if value is None:
-        return "\\N"
-    if isinstance(value, float):
-        return repr(value)
-    return str(value).translate(ESCAPES)
+def _copied(row: Sequence[Any]) -> str:
+    """A row as COPY reads it. (Most have nothing to escape, and this is where the time of large batches went.)"""
+    text = "\t".join([NULL if value is None else str(value) for value in row])
+    if "\n" in text or "\r" in text or text.count("\t") != len(row) - 1 or text.count("\\") != row.count(None):
+        text = "\t".join([NULL if value is None else str(value).translate(ESCAPES) for value in row])
+    return text + "\n"
 
 
 def setting(database: Database, name: str) -> str | None:
@@ -114,7 +132,6 @@ def set_setting(database: Database, name: str, value: str) -> None:
 
 def add_totals(database: Database, worker: str, counts: Mapping[str, int]) -> None:
     """Counts on, over all starts; each worker has rows of its own, so that none waits for another."""
-    rows = [(worker, name, count) for name, count in sorted(counts.items()) if count]
-    if rows:
-        database.cursor().executemany("insert into total values (%s, %s, %s) on conflict (worker, name) do update"
-                                      " set value = total.value + excluded.value", rows)
+    told = {name: count for name, count in counts.items() if count}
+    database.execute("insert into total select %s, key, value::bigint from json_each_text(%s) order by key on conflict (worker, name)"
+                     " do update set value = total.value + excluded.value", (worker, json.dumps(told)))

@@ -1,6 +1,7 @@
 """Writes a session's rows into PostgreSQL, within the session's transaction."""
 from __future__ import annotations
 
+import json
 from collections.abc import Mapping, Sequence
 
 from wmbus_service.events import Event
@@ -29,7 +30,8 @@ def write(database: Database, ticks: Ticks, shard: int, batch: Sequence[Event], 
 
 def numbers_for(database: Database, count: int) -> list[int]:
     """The numbers of lines among all."""
-    return [number for (number,) in database.execute("select nextval('line_number') from generate_series(1, %s)", (count,)).fetchall()]
+    told = store.one(database, "select string_agg(nextval('line_number')::text, ' ') from generate_series(1, %s)", (count,))
+    return [int(number) for number in told.split(" ")]
 
 
 def change_command(database: Database, change: Change, now: float) -> None:
@@ -47,32 +49,41 @@ def change_command(database: Database, change: Change, now: float) -> None:
 
 def put_refusals(database: Database, rows: Rows) -> None:
     """Refusals by meter and reason, and meters that aren't known."""
-    cursor = database.cursor()
     if rows.refusals:
-        cursor.executemany(
-            "insert into refusal values (%s, %s, %s, %s, %s, %s) on conflict (address, reason) do update set words = excluded.words,"
-            " times = refusal.times + excluded.times, last_line = excluded.last_line, last_made = excluded.last_made",
-            [(*key, words, times, line, rows.now) for key, (words, times, line) in rows.refusals.items()])
+        put_all(database, "insert into refusal select address, reason, words, times, line, made from {} on conflict (address, reason)"
+                          " do update set words = excluded.words, times = refusal.times + excluded.times,"
+                          " last_line = excluded.last_line, last_made = excluded.last_made",
+                {"address": "text", "reason": "text", "words": "text", "times": "bigint", "line": "bigint", "made": "double precision"},
+                [(*key, words, times, line, rows.now) for key, (words, times, line) in rows.refusals.items()])
     if rows.strangers:
-        cursor.executemany(
-            "insert into stranger values (%s, %s, %s, %s) on conflict (address) do update set times = stranger.times + excluded.times,"
-            " gateway = excluded.gateway, last_made = excluded.last_made",
-            [(address, times, gateway, rows.now) for address, (times, gateway) in sorted(rows.strangers.items())])
+        put_all(database, "insert into stranger select address, times, gateway, made from {} on conflict (address) do update"
+                          " set times = stranger.times + excluded.times, gateway = excluded.gateway, last_made = excluded.last_made",
+                {"address": "text", "times": "bigint", "gateway": "text", "made": "double precision"},
+                [(address, times, gateway, rows.now) for address, (times, gateway) in sorted(rows.strangers.items())])
+
+
+def put_all(database: Database, query: str, columns: Mapping[str, str], rows: Sequence[Sequence[object]]) -> int:
+    """Does something with rows, which stand in the query's braces: in one go, as one text (a value each takes much longer); how many
+    rows of the table it did it to."""
+    told = json.dumps([dict(zip(columns, row, strict=True)) for row in rows])
+    types = ", ".join(f"{name} {kind}" for name, kind in columns.items())
+    return database.execute(query.format(f"json_to_recordset(%s::json) as n ({types})"), (told,)).rowcount
 
 
 def put_blocks(database: Database, ticks: Ticks, rows: Rows, blocks: Mapping[str, Block]) -> None:
     """What is known of the meters now, and when their ticks are due."""
     if not blocks:
         return
-    names = list(blocks)
-    due = store.pairs(database, "select address, due from meter where address = any(%s)", (names,))
+    names = [name for name, block in blocks.items() if block.waits is not None or block.holds]
+    due = store.pairs(database, "select address, due from meter where address = any(%s)", (names,)) if names else {}
     anew = rows.opened | rows.ticked
     told = [(name, block.text, block.waits, block.holds,
-             next_due(ticks, rows.now, block, None if name in anew else due[name]), rows.gateways.get(name))
+             next_due(ticks, rows.now, block, None if name in anew else due.get(name)), rows.gateways.get(name),
+             rows.now if name in rows.read else None)
             for name, block in blocks.items()]
-    written = database.execute(
-        "update meter m set block = n.block, waits = n.waits, holds = n.holds, due = n.due, gateway = coalesce(n.gateway, m.gateway)"
-        " from unnest(%s::text[], %s::text[], %s::bigint[], %s::integer[], %s::double precision[], %s::text[])"
-        " as n (address, block, waits, holds, due, gateway) where m.address = n.address",
-        tuple(list(column) for column in zip(*told, strict=True)))
-    assert written.rowcount == len(blocks), "a meter's row is gone"
+    written = put_all(
+        database, "update meter m set block = n.block, waits = n.waits, holds = n.holds, due = n.due,"
+                  " gateway = coalesce(n.gateway, m.gateway), heard = coalesce(n.heard, m.heard) from {} where m.address = n.address",
+        {"address": "text", "block": "text", "waits": "bigint", "holds": "integer", "due": "double precision", "gateway": "text",
+         "heard": "double precision"}, told)
+    assert written == len(blocks), "a meter's row is gone"

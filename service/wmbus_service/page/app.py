@@ -4,7 +4,6 @@ from __future__ import annotations
 import logging
 import re
 import secrets
-import sqlite3
 import time
 from collections.abc import Iterator
 from contextlib import closing
@@ -20,16 +19,19 @@ from werkzeug.exceptions import HTTPException
 from werkzeug.routing import Map
 from werkzeug.wrappers import Response as AnyResponse
 
-from .. import store
+from ..asking import Database
 from ..config import Config
 from ..tool_modules import FOLDER
 from ..trouble import Trouble
 from . import periods, reading, views
+from .house import Door, HouseDoor
 from .shared import counted, grouped, is_address, time_text, times, zone_text
 
 log = logging.getLogger("wmbus")
 
+# what is shown of any store, and what of one house's alone
 pages = Blueprint("pages", __name__)
+house = Blueprint("house", __name__)
 # nothing is loaded from elsewhere, nothing is executed, and no other page may show this one within itself
 HEADERS = {
     "Content-Security-Policy": "default-src 'none'; style-src 'self'; img-src 'self'; form-action 'self'; frame-ancestors 'none';"
@@ -68,8 +70,16 @@ class Pages(Flask):
 
 def create_app(config: Config, token: str | None = None, is_elsewhere: bool = False) -> Flask:
     """The page over a configuration's database. Without a token it only reads; elsewhere than on this machine reading needs it too."""
+    app = create_page(HouseDoor(config), token, is_elsewhere)
+    app.config.update(WMBUS=config)
+    app.register_blueprint(house)
+    return app
+
+
+def create_page(door: Door, token: str | None, is_elsewhere: bool) -> Flask:
+    """The page over a store: what is shown of any."""
     app = Pages(__name__)
-    app.config.update(WMBUS=config, TOKEN=token, IS_ELSEWHERE=is_elsewhere, CLOCK=time.time, MAX_CONTENT_LENGTH=MOST_BYTES,
+    app.config.update(DOOR=door, TOKEN=token, IS_ELSEWHERE=is_elsewhere, CLOCK=time.time, MAX_CONTENT_LENGTH=MOST_BYTES,
                       SESSION_COOKIE_NAME="wmbus", PERMANENT_SESSION_LIFETIME=ENTERED_SECONDS,
                       SESSION_COOKIE_SAMESITE="Strict", SESSION_COOKIE_SECURE=is_elsewhere)
     # (a new token ends all sessions)
@@ -77,7 +87,7 @@ def create_app(config: Config, token: str | None = None, is_elsewhere: bool = Fa
     app.jinja_options = {"trim_blocks": True, "lstrip_blocks": True}
     app.jinja_env.filters.update(moment=_moment_text, ago=_ago, grouped=grouped, counted=counted, times=times, html=Markup)
     app.jinja_env.globals.update(zone=zone_text, may_write=may_write, has_token=lambda: token is not None, forms=_forms_word,
-                                 spans=list(periods.SPANS))
+                                 spans=list(periods.SPANS), door=door)
     app.register_blueprint(pages)
     from .forms import forms
     app.register_blueprint(forms)
@@ -86,7 +96,7 @@ def create_app(config: Config, token: str | None = None, is_elsewhere: bool = Fa
     app.teardown_appcontext(_close)
     app.register_error_handler(HTTPException, _http_fault)
     app.register_error_handler(Trouble, _trouble)
-    app.register_error_handler(sqlite3.Error, _database_fault)
+    app.register_error_handler(door.faults, _database_fault)
     app.register_error_handler(Exception, _any_fault)
     return app
 
@@ -95,7 +105,18 @@ def config_now() -> tuple[Config, float]:
     """The configuration and the clock."""
     config = current_app.config["WMBUS"]
     assert isinstance(config, Config)
-    return config, float(current_app.config["CLOCK"]())
+    return config, clock()
+
+
+def clock() -> float:
+    """Now."""
+    return float(current_app.config["CLOCK"]())
+
+
+def door_of() -> Door:
+    """The store's door."""
+    door: Door = current_app.config["DOOR"]
+    return door
 
 
 def may_write() -> bool:
@@ -103,12 +124,12 @@ def may_write() -> bool:
     return current_app.config["TOKEN"] is not None and bool(session.get("entered"))
 
 
-def database() -> sqlite3.Connection:
+def database() -> Database:
     """The database of this request, for reading."""
     if "database" not in g:
-        g.database = reading.open_reading(current_app.config["WMBUS"].database)
-    assert isinstance(g.database, sqlite3.Connection)
-    return g.database
+        g.database = door_of().opened()
+    opened: Database = g.database
+    return opened
 
 
 def _close(_fault: BaseException | None) -> None:
@@ -151,7 +172,7 @@ def _ago(moment: float | None) -> str:
     """How long ago something was."""
     if moment is None:
         return "never"
-    seconds = max(0, int(config_now()[1] - moment))
+    seconds = max(0, int(clock() - moment))
     for size, one, many in ((86_400, "day", "days"), (3600, "hour", "hours"), (60, "minute", "minutes")):
         if seconds >= 2 * size:
             return f"{counted(seconds // size, one, many)} ago"
@@ -188,8 +209,8 @@ def _trouble(trouble: Trouble) -> AnyResponse:
     return _fault_page(400 if request.method == "POST" else 503, str(trouble))
 
 
-def _database_fault(fault: sqlite3.Error) -> AnyResponse:
-    trouble = store.trouble_of(current_app.config["WMBUS"].database, fault)
+def _database_fault(fault: Exception) -> AnyResponse:
+    trouble = door_of().trouble_of(fault)
     log.error("the page: %s", trouble)
     return _fault_page(503, str(trouble))
 
@@ -205,7 +226,7 @@ def common_style() -> Response:
     return send_file(FOLDER / "page.css", mimetype="text/css")
 
 
-@pages.get("/")
+@house.get("/")
 def overview() -> str:
     """What needs a person, then all meters."""
     config, now = config_now()
@@ -222,7 +243,7 @@ def _meter(address: str) -> dict[str, Any]:
     span = request.args.get("span", "month")
     if span not in periods.SPANS:
         raise Worded(f"A span is one of {', '.join(periods.SPANS)}.")
-    told = views.meter_page(database(), _address(address), span, config_now()[1])
+    told = views.meter_page(database(), _address(address), span, clock())
     return told if told is not None else abort(404)
 
 
@@ -232,7 +253,7 @@ def _address(text: str) -> str:
     return text.lower()
 
 
-@pages.get("/receivers")
+@house.get("/receivers")
 def receivers() -> str:
     """The receivers."""
     config, now = config_now()
@@ -242,17 +263,17 @@ def receivers() -> str:
 @pages.get("/strangers")
 def strangers() -> str:
     """The meters that aren't known."""
-    return render_template("strangers.html", **views.strangers_page(database(), config_now()[1]))
+    return render_template("strangers.html", **views.strangers_page(database(), clock()))
 
 
-@pages.get("/api/overview")
+@house.get("/api/overview")
 def api_overview() -> Response:
     """The overview as data."""
     config, now = config_now()
     return jsonify(views.overview(config, database(), now))
 
 
-@pages.get("/api/meters")
+@house.get("/api/meters")
 def api_meters() -> Response:
     """All meters with their last values."""
     now = config_now()[1]
@@ -265,7 +286,7 @@ def api_meter(address: str) -> Response:
     return jsonify(_meter(address))
 
 
-@pages.get("/api/receivers")
+@house.get("/api/receivers")
 def api_receivers() -> Response:
     """The receivers as data."""
     config, now = config_now()
@@ -275,10 +296,10 @@ def api_receivers() -> Response:
 @pages.get("/api/strangers")
 def api_strangers() -> Response:
     """The meters that aren't known, as data."""
-    return jsonify(views.strangers_page(database(), config_now()[1]))
+    return jsonify(views.strangers_page(database(), clock()))
 
 
-@pages.get("/readings.csv")
+@house.get("/readings.csv")
 def all_readings() -> Response:
     """All meters' readings in a span."""
     return _csv("readings.csv", [it for (it,) in database().execute("select address from meter order by place")])
@@ -287,17 +308,17 @@ def all_readings() -> Response:
 @pages.get("/meters/<address>/readings.csv")
 def meter_readings(address: str) -> Response:
     """A meter's readings in a span."""
-    known = reading.one_meter(database(), _address(address), config_now()[1])
+    known = reading.one_meter(database(), _address(address), clock())
     return abort(404) if known is None else _csv(f"{known.address}.csv", [known.address])
 
 
 def _csv(name: str, addresses: list[str]) -> Response:
     """Readings from a moment or day to another, line by line."""
     begin, end = _bound("from", 0, 0), _bound("to", LAST_MOMENT, 86_399)
-    path = current_app.config["WMBUS"].database
+    door = door_of()
 
     def rows() -> Iterator[str]:
-        with closing(reading.open_reading(path)) as opened:
+        with closing(door.opened()) as opened:
             yield from views.readings_csv(opened, addresses, begin, end)
     return Response(rows(), mimetype="text/csv", headers={"Content-Disposition": f'attachment; filename="{name}"'})
 

@@ -3,20 +3,15 @@ from __future__ import annotations
 
 import re
 import secrets
-import sqlite3
-from contextlib import closing
 from hmac import compare_digest
 from urllib.parse import urlsplit
 
 from flask import Blueprint, abort, current_app, flash, redirect, render_template, request, session
 from werkzeug.wrappers import Response
 
-from .. import meters, store
-from ..commands import KEY, cancel_command, put_command
+from ..commands import KEY
 from ..importing import ADDRESS
-from ..publications import Publications
-from ..trouble import Trouble
-from .app import Worded, config_now, may_write
+from .app import Worded, clock, door_of, may_write
 
 forms = Blueprint("forms", __name__)
 MODES = ("5", "7")
@@ -41,10 +36,6 @@ def guard() -> None:
 
 def _field(name: str) -> str:
     return request.form.get(name, "").strip()
-
-
-def _opened() -> closing[sqlite3.Connection]:
-    return closing(store.open_store(config_now()[0].database))
 
 
 @forms.get("/enter")
@@ -78,8 +69,7 @@ def queue(address: str) -> Response:
     if not ADDRESS.fullmatch(address):
         raise Worded("A meter's address has sixteen hexadecimal digits.")
     ident = _field("id") or f"page-{secrets.token_hex(4)}"
-    with _opened() as database:
-        is_new = put_command(database, ident, address, re.sub(r"\s", "", _field("payload")), config_now()[1])
+    is_new = door_of().put_command(address, ident, re.sub(r"\s", "", _field("payload")), clock())
     flash(f"Command {ident} waits for the next session." if is_new else f"Command {ident} was taken before; nothing is sent again.")
     return redirect(f"/meters/{address}", 303)
 
@@ -87,12 +77,10 @@ def queue(address: str) -> Response:
 @forms.post("/meters/<address>/commands/cancel")
 def cancel(address: str) -> Response:
     """Has a command not be sent any more."""
-    config, now = config_now()
     ident = _field("id")
-    with _opened() as database:
-        if not database.execute("select 1 from command where id = ? and address = ?", (ident, address)).fetchone():
-            raise Worded("This meter has no such command.")
-        state = cancel_command(database, ident, now, Publications(config.mqtt, database))
+    state = door_of().cancel_command(address, ident, clock())
+    if state is None:
+        raise Worded("This meter has no such command.")
     flash(f"The next session cancels command {ident}." if state in ("queued", "sent") else f"Command {ident} is {state}.")
     return redirect(f"/meters/{address}", 303)
 
@@ -106,14 +94,7 @@ def add() -> Response:
     if not KEY.fullmatch(key):
         raise Worded("A key has 32 hexadecimal digits.")
     name = "".join(letter for letter in _field("name") if letter.isprintable())[:MOST_NAME]
-    config = config_now()[0]
-    with _opened() as database:
-        own = store.setting(database, "own")
-        if own is None:
-            raise Trouble("the meter", "the collector's own address isn't known", "add the first meter by `wmbus-service add --own`")
-        text = f"wmbus-roster 2\nown {own}\nmeter {address} {mode} {key} - - 0 0\n"
-        if not meters.take_roster(config, database, text, f"meter {address}"):
-            raise Worded("This meter is known already; its key stays as it is.")
-        database.execute("update meter set name = ? where address = ?", (name, address))
+    if not door_of().add_meter(f"meter {address} {mode} {key} - - 0 0", name):
+        raise Worded("This meter is known already; its key stays as it is.")
     flash(f"{name or address} was added. What it sends from now on is read.")
     return redirect(f"/meters/{address}", 303)

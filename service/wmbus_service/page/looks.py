@@ -1,11 +1,11 @@
 """What needs a person: what is wrong, with which meter, receiver or command, and what to do about it."""
 from __future__ import annotations
 
-import sqlite3
 from collections.abc import Iterator
 from dataclasses import dataclass
 from typing import Any
 
+from ..asking import Database
 from ..config import Config
 from ..service import is_locked
 from ..status import waiting_bytes
@@ -97,7 +97,7 @@ def radio_looks(radio: Radio, now: float) -> Iterator[Look]:
         yield Look("bad", silence(now - radio.heard), title, "/receivers", "Is it plugged in, and does its unit run?")
 
 
-def all_looks(config: Config, database: sqlite3.Connection, meters: list[Meter], radios: list[Radio], now: float) -> list[Look]:
+def all_looks(config: Config, database: Database, meters: list[Meter], radios: list[Radio], now: float) -> list[Look]:
     """All that needs a person, what stands above all meters first."""
     found = list(_of_service(config, database))
     for radio in radios:
@@ -113,7 +113,7 @@ def all_looks(config: Config, database: sqlite3.Connection, meters: list[Meter],
     return sorted(found, key=lambda it: it.kind != "bad")
 
 
-def _of_service(config: Config, database: sqlite3.Connection) -> Iterator[Look]:
+def _of_service(config: Config, database: Database) -> Iterator[Look]:
     """What keeps the whole service from its work."""
     if not is_locked(config.folder):
         yield Look("bad", "stands still", "The service", "/receivers", "It doesn't run: systemctl start wmbus. Its log says why it ended.")
@@ -124,7 +124,7 @@ def _of_service(config: Config, database: sqlite3.Connection) -> Iterator[Look]:
                    f"The program failed at it: {row['said'][:200]}. Tell the makers of this program.")
 
 
-def _of_commands(database: sqlite3.Connection, titles: dict[str, str], now: float) -> Iterator[Look]:
+def _of_commands(database: Database, titles: dict[str, str], now: float) -> Iterator[Look]:
     """Commands that were given up, and downlinks that didn't go out."""
     for row in commands_of(database):
         if row["state"] in ("expired", "refused") and row["changed"] > now - RECENT:
@@ -137,7 +137,7 @@ def _of_commands(database: sqlite3.Connection, titles: dict[str, str], now: floa
                    f"A downlink by receiver {row['receiver'] or '(none)'} wasn't sent: {row['missed']}.")
 
 
-def _of_strangers(database: sqlite3.Connection, now: float) -> Iterator[Look]:
+def _of_strangers(database: Database, now: float) -> Iterator[Look]:
     """Strangers that are heard often."""
     for row in strangers(database, 10):
         if row["times"] >= OFTEN and row["last_made"] > now - METER_SILENCE:

@@ -2,11 +2,11 @@
 from __future__ import annotations
 
 import calendar
-import sqlite3
 import time
 from dataclasses import dataclass, replace
 from decimal import Decimal
 
+from ..asking import Database
 from .reading import Value, day_values, points_of
 from .shared import Register, Used, curve_words, is_time, line_of, rising_points, time_text, used_notes, used_of
 
@@ -63,14 +63,14 @@ def bounds_of(by: str, now: float) -> list[int]:
     return sorted(found) + [int(now) + 1]
 
 
-def used_tables(database: sqlite3.Connection, address: str, register: Register, now: float) -> dict[str, list[Row]]:
+def used_tables(database: Database, address: str, register: Register, now: float) -> dict[str, list[Row]]:
     """What was used in the last hours, days and months, the last one first, all in the unit that the greatest of these takes."""
     found = {by: _used(database, address, register, by, now) for by in PERIODS}
     greatest = max((it.amount for used in found.values() for _, it in used), default=0)
     return {by: [_row(register, by, period, it, greatest) for period, it in used] for by, used in found.items()}
 
 
-def _used(database: sqlite3.Connection, address: str, register: Register, by: str, now: float) -> list[tuple[tuple[int, ...], Used]]:
+def _used(database: Database, address: str, register: Register, by: str, now: float) -> list[tuple[tuple[int, ...], Used]]:
     """What was used in the last periods, the last one first."""
     bounds = bounds_of(by, now)
     # (the last reading in front of them is what the first difference is taken from)
@@ -87,7 +87,7 @@ def _row(register: Register, by: str, period: tuple[int, ...], used: Used, great
     return Row(_period_text(period), amount, register.unit, text, ", ".join(used_notes(used, is_longer)))
 
 
-def _with_days(database: sqlite3.Connection, address: str, register: Register,
+def _with_days(database: Database, address: str, register: Register,
                points: list[tuple[int, None, str]]) -> list[tuple[int, None, str]]:
     """The points with those of days whose readings are gone in front of them."""
     first = points[0][0] if points else 1 << 62
@@ -107,7 +107,7 @@ def _period_text(period: tuple[int, ...]) -> str:
     return f"{day} {period[3]:02d}:00" if len(period) > 3 else day
 
 
-def curves_of(database: sqlite3.Connection, address: str, values: list[Value], span: str, now: float) -> list[Curve]:
+def curves_of(database: Database, address: str, values: list[Value], span: str, now: float) -> list[Curve]:
     """The curves of a meter's first registers."""
     end = int(now) + 1
     width = SPANS[span] * DAY

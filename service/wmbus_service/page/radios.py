@@ -1,10 +1,10 @@
 """The receivers: how many lines come of each, since when none does, and which share of them is whole."""
 from __future__ import annotations
 
-import sqlite3
 from collections.abc import Iterator
 from dataclasses import dataclass
 
+from ..asking import Database
 from ..config import Config
 
 # the last lines, over all receivers, of which each receiver's are counted, and as many of one receiver whose frames are looked at
@@ -26,7 +26,7 @@ class Radio:
     is_configured: bool
 
 
-def receivers(config: Config, database: sqlite3.Connection, now: float, with_frames: bool = False) -> list[Radio]:
+def receivers(config: Config, database: Database, now: float, with_frames: bool = False) -> list[Radio]:
     """All receivers that are configured or were heard, by name."""
     rows = database.execute("select receiver, max(made), min(made), sum(made > ?), count(*) from"
                             " (select receiver, made from line order by number desc limit ?) group by receiver",
@@ -46,7 +46,7 @@ def receivers(config: Config, database: sqlite3.Connection, now: float, with_fra
     return found
 
 
-def _framed(database: sqlite3.Connection, name: str) -> float | None:
+def _framed(database: Database, name: str) -> float | None:
     """Which share of a receiver's last frames is whole."""
     rows = database.execute("select text from (select receiver, text from line order by number desc limit ?)"
                             " where receiver = ? and substr(text, 1, 2) in ('A ', 'B ') limit ?", (LAST_LINES, name, LAST_FRAMES))

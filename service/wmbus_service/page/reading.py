@@ -9,6 +9,7 @@ from pathlib import Path
 from typing import Any
 
 from .. import store
+from ..asking import Database
 from ..sensors import NUMBER
 from ..trouble import Trouble
 from .shared import GRACE, NAMES, PREFIXED, Register, is_number, is_time, label_of, maker_of, prefix_for, type_of
@@ -110,19 +111,23 @@ def exact(value: str, exponent: int) -> str:
     return f"{Decimal(f'{value}E{exponent}'):f}"
 
 
-def all_meters(database: sqlite3.Connection, now: float) -> list[Meter]:
+def all_meters(database: Database, now: float) -> list[Meter]:
     """All meters, in the order in which they were added."""
-    rows = database.execute("select address, name, receiver from meter order by place").fetchall()
+    return meters_of(database, database.execute("select address, name, receiver from meter order by place").fetchall(), now)
+
+
+def meters_of(database: Database, rows: Sequence[tuple[str, str, str | None]], now: float) -> list[Meter]:
+    """The meters of these rows."""
     return [_meter(database, row, now) for row in rows]
 
 
-def one_meter(database: sqlite3.Connection, address: str, now: float) -> Meter | None:
+def one_meter(database: Database, address: str, now: float) -> Meter | None:
     """The meter of an address, if it is known."""
     row = database.execute("select address, name, receiver from meter where address = ?", (address.lower(),)).fetchone()
     return _meter(database, row, now) if row else None
 
 
-def _meter(database: sqlite3.Connection, row: tuple[str, str, str | None], now: float) -> Meter:
+def _meter(database: Database, row: tuple[str, str, str | None], now: float) -> Meter:
     last = _last_readings(database, row[0], now, FEW_READINGS)
     if not last:
         return Meter(*row, heard=None, counter=None, main=None)
@@ -130,17 +135,17 @@ def _meter(database: sqlite3.Connection, row: tuple[str, str, str | None], now: 
     return Meter(*row, heard=heard_at(moment, made, now), counter=counter, main=_main_value(database, last, now))
 
 
-def _last_readings(database: sqlite3.Connection, address: str, now: float, most: int) -> list[tuple[int, int, float, int]]:
+def _last_readings(database: Database, address: str, now: float, most: int) -> list[tuple[int, int, float, int]]:
     """A meter's last readings, the last one first; those of a clock that is ahead only where there are no others."""
     query = "select id, moment, made, counter from reading where address = ? and moment <= ? order by moment desc, id desc limit ?"
     for until in (int(now) + GRACE, (1 << 63) - 1):
-        found = database.execute(query, (address, until, most)).fetchall()
+        found: list[tuple[int, int, float, int]] = database.execute(query, (address, until, most)).fetchall()
         if found:
             return found
     return []
 
 
-def _main_value(database: sqlite3.Connection, readings: list[tuple[int, int, float, int]], now: float) -> Value | None:
+def _main_value(database: Database, readings: list[tuple[int, int, float, int]], now: float) -> Value | None:
     """Of a meter's last values the one that says most."""
     for ident, moment, made, _ in readings:
         rows = database.execute(f"select quantity, unit, exponent, value, raw from record where reading = ? and {FIRST_ALWAYS}"
@@ -152,7 +157,7 @@ def _main_value(database: sqlite3.Connection, readings: list[tuple[int, int, flo
     return None
 
 
-def last_values(database: sqlite3.Connection, address: str, now: float) -> list[Value]:
+def last_values(database: Database, address: str, now: float) -> list[Value]:
     """The last value of each of a meter's registers, the main ones first."""
     # (by columns: thousands of registers are compared in a moment so)
     found: dict[tuple[Any, ...], Value] = {}
@@ -178,7 +183,7 @@ POINT = ("select moment, exponent, value from reading cross join record on recor
          " and tariff = ? and subunit = ? order by moment desc limit 1")
 
 
-def points_of(database: sqlite3.Connection, address: str, register: Register, bounds: Sequence[int]) -> Iterator[tuple[int, None, str]]:
+def points_of(database: Database, address: str, register: Register, bounds: Sequence[int]) -> Iterator[tuple[int, None, str]]:
     """The last value in each stretch between bounds, where there is one."""
     kind = (register.quantity, register.unit, register.function, register.storage, register.tariff, register.subunit)
     for begin, end in zip(bounds, bounds[1:], strict=False):
@@ -187,7 +192,7 @@ def points_of(database: sqlite3.Connection, address: str, register: Register, bo
             yield row[0], None, exact(row[2], row[1])
 
 
-def day_values(database: sqlite3.Connection, address: str, register: Register) -> Iterator[tuple[str, str]]:
+def day_values(database: Database, address: str, register: Register) -> Iterator[tuple[str, str]]:
     """The last values of days whose readings are gone: day and number."""
     rows = database.execute("select day, exponent, value from daily where address = ? and quantity = ? and unit = ? and function = ?"
                             " and storage = ? and tariff = ? and subunit = ? order by day",
@@ -198,28 +203,29 @@ def day_values(database: sqlite3.Connection, address: str, register: Register) -
             yield day, exact(value, exponent)
 
 
-def rows_of(database: sqlite3.Connection, query: str, given: Sequence[object] = ()) -> list[dict[str, Any]]:
+def rows_of(database: Database, query: str, given: Sequence[object] = ()) -> list[dict[str, Any]]:
     """Rows with the names of their columns."""
     asked = database.execute(query, given)
     names = [column[0] for column in asked.description]
     return [dict(zip(names, row, strict=True)) for row in asked]
 
 
-def commands_of(database: sqlite3.Connection, address: str | None = None, most: int = 50) -> list[dict[str, Any]]:
+def commands_of(database: Database, address: str | None = None, most: int = 50) -> list[dict[str, Any]]:
     """A meter's commands, or all, the last ones first; those of new keys without the key."""
     return rows_of(database, "select id, address, kind, case kind when 'send' then payload else '' end as payload, state, number, tries,"
                              " reason, wish, made, changed from command where address = coalesce(?, address) order by rowid desc limit ?",
                    (address, most))
 
 
-def refusals_of(database: sqlite3.Connection, address: str) -> list[dict[str, Any]]:
+def refusals_of(database: Database, address: str) -> list[dict[str, Any]]:
     """Why telegrams of a meter were refused, what came last first."""
     return rows_of(database, "select address, reason, words, times, last_made from refusal where address = ? order by last_made desc",
                    (address,))
 
 
-def strangers(database: sqlite3.Connection, most: int = 200) -> list[dict[str, Any]]:
+def strangers(database: Database, most: int = 200) -> list[dict[str, Any]]:
     """Meters that aren't known, those that were heard most first."""
-    found = rows_of(database, "select address, times, receiver, last_made from stranger where address not in (select address from meter)"
+    found = rows_of(database, "select address, times, receiver, last_made from stranger where not exists"
+                              " (select 1 from meter where meter.address = stranger.address)"
                               " order by times desc, address limit ?", (most,))
     return [row | {"label": label_of(row["address"]), "maker": maker(row["address"]), "type": type_of(row["address"])} for row in found]

@@ -61,15 +61,22 @@ def look_at_page(page: Page) -> str | None:
 
 def run(config: Config) -> None:
     """Serves the page until it gets SIGTERM or SIGINT, and ends the process then."""
+    def made(token: str | None, is_elsewhere: bool) -> object:
+        # (a database of an earlier version becomes one of this)
+        store.open_store(config.database).close()
+        return create_app(config, token, is_elsewhere)
+
+    serve_page(config.page or Page(), made)
+
+
+def serve_page(page: Page, made: Callable[[str | None, bool], object]) -> None:
+    """Serves what is made for a token, and for others than those of this machine, until SIGTERM or SIGINT, and ends the process then."""
     ending = Ending()
     ending.heed_signals()
     os.umask(0o077)
     leave_no_core()
-    page = config.page or Page()
     token = look_at_page(page)
-    # (a database of an earlier version becomes one of this)
-    store.open_store(config.database).close()
-    app = create_app(config, token, is_elsewhere=not is_local(page.host))
+    app = made(token, not is_local(page.host))
     server = server_with_tls(app, page) if page.certificate else plain_server(app, page)
 
     def serve_with_tls() -> None:

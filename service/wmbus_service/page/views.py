@@ -3,11 +3,11 @@ from __future__ import annotations
 
 import csv
 import io
-import sqlite3
 from collections.abc import Iterator
 from dataclasses import asdict
 from typing import Any
 
+from ..asking import Database
 from ..config import Config
 from ..exporting import HEAD
 from . import looks, periods, radios
@@ -37,7 +37,7 @@ def value_data(value: Value) -> dict[str, Any]:
                                       "title": register.name, "of_what": register.of_what}
 
 
-def overview(config: Config, database: sqlite3.Connection, now: float) -> dict[str, Any]:
+def overview(config: Config, database: Database, now: float) -> dict[str, Any]:
     """What needs a person first, then all meters."""
     meters = all_meters(database, now)
     found = looks.all_looks(config, database, meters, radios.receivers(config, database, now), now)
@@ -53,7 +53,7 @@ def overview(config: Config, database: sqlite3.Connection, now: float) -> dict[s
                        "read": sum(it.heard is not None for it in meters)}}
 
 
-def meter_page(database: sqlite3.Connection, address: str, span: str, now: float) -> dict[str, Any] | None:
+def meter_page(database: Database, address: str, span: str, now: float) -> dict[str, Any] | None:
     """All of a meter, if it is known."""
     meter = one_meter(database, address, now)
     if meter is None:
@@ -74,7 +74,7 @@ def meter_page(database: sqlite3.Connection, address: str, span: str, now: float
             "commands": [row | {"words": looks.STATES[row["state"]]} for row in commands_of(database, meter.address)]}
 
 
-def receivers_page(config: Config, database: sqlite3.Connection, now: float) -> dict[str, Any]:
+def receivers_page(config: Config, database: Database, now: float) -> dict[str, Any]:
     """The receivers, and the lines that were set aside."""
     found = radios.receivers(config, database, now, with_frames=True)
     told = [asdict(it) | {"looks": [asdict(look) for look in looks.radio_looks(it, now)]} for it in found]
@@ -83,7 +83,7 @@ def receivers_page(config: Config, database: sqlite3.Connection, now: float) -> 
     return {"now": now, "receivers": told, "totals": totals, "aside": aside}
 
 
-def strangers_page(database: sqlite3.Connection, now: float) -> dict[str, Any]:
+def strangers_page(database: Database, now: float) -> dict[str, Any]:
     """The meters that aren't known."""
     return {"now": now, "strangers": strangers(database)}
 
@@ -94,7 +94,7 @@ READINGS = ("select moment, reading.address, meter.name, counter, quantity, valu
             " where reading.address = ? and moment >= ? and moment <= ? order by moment, reading.id, record.place")
 
 
-def readings_csv(database: sqlite3.Connection, addresses: list[str], begin: int, end: int) -> Iterator[str]:
+def readings_csv(database: Database, addresses: list[str], begin: int, end: int) -> Iterator[str]:
     """The values of some meters' readings in a span, as lines of CSV."""
     yield _csv_line(HEAD)
     for address in addresses:

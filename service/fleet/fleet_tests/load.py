@@ -1,0 +1,331 @@
+"""How much the fleet carries, by hand: the load of many meters, published as gateways publish it, and what it costs.
+
+load.py run      lines come at a rate, with a peak; prints lag, processors by part, sizes of tables, bytes a reading
+load.py drain    the inbox is filled, and one and two session workers after each other empty it; lines a second of each
+
+Everything runs on this machine, with servers of its own in a folder that is taken away at the end, and shares it with what else runs."""
+from __future__ import annotations
+
+import argparse
+import os
+import shutil
+import signal
+import subprocess
+import sys
+import tempfile
+import time
+from collections import Counter
+from collections.abc import Callable, Sequence
+from pathlib import Path
+
+TOP = Path(__file__).resolve().parents[3]
+sys.path[:0] = [str(TOP / "service/fleet"), str(TOP / "service"), str(TOP / "tools"), str(TOP / "tests")]
+
+from fleet_tests.made_load import COPIES, EPOCH, Load, Publisher, meter_rows, shuffled_messages  # noqa: E402
+from fleet_tests.servers import Postgres, Rabbit  # noqa: E402
+from tests.kill import PYTHON, program, steps_words  # noqa: E402
+from tests.meters import OWN  # noqa: E402
+from wmbus_fleet import broker, commands, store  # noqa: E402
+from wmbus_fleet.config import Config, Programs  # noqa: E402
+
+AREA, PUBLISHERS, DRAIN_LIMIT = "north", 2, 600
+LOOK = 0.25
+TABLES = ("meter", "line", "reading", "refusal", "inbox", "gateway", "total")
+TUNED = """shared_buffers = 1GB
+max_wal_size = 4GB
+checkpoint_timeout = 5min
+log_error_verbosity = terse
+"""
+
+
+def ticks_of(pid: int) -> tuple[float, float]:
+    """Seconds of a processor that a process took, and those of the processes that it started and that have ended."""
+    try:
+        told = Path(f"/proc/{pid}/stat").read_text().rpartition(")")[2].split()
+    except OSError:
+        return 0.0, 0.0
+    own, ended = int(told[11]) + int(told[12]), int(told[13]) + int(told[14])
+    return own / os.sysconf("SC_CLK_TCK"), ended / os.sysconf("SC_CLK_TCK")
+
+
+def ticks_of_server(leader: int) -> float:
+    """Seconds of a processor of a server with all that it started, of which PostgreSQL's have sessions of their own."""
+    used = 0.0
+    for path in Path("/proc").glob("[0-9]*"):
+        try:
+            parent = int((path / "stat").read_text().rpartition(")")[2].split()[1])
+            if leader in (parent, os.getsid(int(path.name))):
+                used += sum(ticks_of(int(path.name)))
+        except OSError:
+            continue
+    return used
+
+
+class Fleet:
+    """Servers, a fleet of so many meters, and its processes."""
+
+    def __init__(self, folder: Path, load: Load, wants_broker: bool) -> None:
+        self.folder, self.load = folder, load
+        folder.chmod(0o711)
+        self.workers: list[tuple[str, subprocess.Popen[bytes]]] = []
+        self.ended: Counter[str] = Counter()
+        self.postgres = Postgres(folder)
+        with open(self.postgres.folder / "postgresql.conf", "a", encoding="ascii") as conf:
+            conf.write(TUNED)
+        self.rabbit = Rabbit(folder) if wants_broker else None
+        try:
+            self._begin()
+        except BaseException:
+            self.end()
+            raise
+
+    def _begin(self) -> None:
+        self.postgres.start()
+        if self.rabbit:
+            self.rabbit.begin()
+            self.rabbit.wait()
+        told = Programs(steps_words(), program("line_accept"), program("address_list"), program("state_raise"))
+        self.config = Config(database=self.postgres.make("load"), programs=told)
+        store.init(self.config.database)
+        begun = time.monotonic()
+        with store.connect(self.config.database) as database:
+            store.set_setting(database, "own", OWN)
+            store.copy_rows(database, "meter (address, block)", meter_rows(self.load.meters))  # type: ignore[arg-type]
+            database.execute("insert into area values (%s)", (AREA,))
+            if self.rabbit:
+                self.config = Config(database=self.config.database, programs=told, broker=self.rabbit.told)
+                with broker.connected(self.config.broker) as connection:
+                    broker.declare_area(broker.opened(connection), AREA)
+                names = [f"g{number}" for number in range(self.load.gateways)]
+                database.execute("insert into gateway (name, area) select name, %s from unnest(%s::text[]) as n (name)", (AREA, names))
+            database.execute("vacuum analyze meter")
+        print(f"{self.load.meters} meters in {time.monotonic() - begun:.0f} s", flush=True)
+        path = self.folder / "fleet.toml"
+        path.write_text(f'database = "{self.config.database}"\n[broker]\nport = {self.config.broker.port}\n[programs]\n'
+                        f'steps = "{told.steps}"\nline_accept = "{told.line_accept}"\naddress_list = "{told.address_list}"\n')
+
+    def start(self, part: str) -> None:
+        """Starts a process of a part."""
+        log = open(self.folder / f"{part}.{len(self.workers)}.log", "ab")
+        with log:
+            words = [PYTHON, str(Path(__file__).parents[1] / "wmbus-fleet"), "--config", str(self.folder / "fleet.toml"), part]
+            self.workers.append((part, subprocess.Popen(words, stdin=subprocess.DEVNULL, stdout=log, stderr=log)))
+
+    def stop(self, part: str, number: signal.Signals) -> None:
+        """Ends the oldest process of a part."""
+        place = next(place for place, (name, _) in enumerate(self.workers) if name == part)
+        _, process = self.workers.pop(place)
+        own, programs = ticks_of(process.pid)
+        self.ended.update({f"{part}: Python": int(own * 1e6), f"{part}: programs": int(programs * 1e6)})
+        process.send_signal(number)
+        try:
+            process.wait(30)
+        except subprocess.TimeoutExpired:
+            process.kill()
+            process.wait()
+
+    def used(self) -> Counter[str]:
+        """Microseconds of a processor by part."""
+        found = Counter(self.ended)
+        for part, process in self.workers:
+            own, programs = ticks_of(process.pid)
+            found.update({f"{part}: Python": int(own * 1e6), f"{part}: programs": int(programs * 1e6)})
+        for name, server in (("PostgreSQL", self.postgres), ("RabbitMQ", self.rabbit)):
+            if server and server.process:
+                found[name] += int(ticks_of_server(server.process.pid) * 1e6)
+        return found
+
+    def end(self) -> None:
+        """Ends all."""
+        for part in {part for part, _ in self.workers}:
+            while any(part == it for it, _ in self.workers):
+                self.stop(part, signal.SIGTERM)
+        if self.rabbit:
+            self.rabbit.end()
+        self.postgres.kill(signal.SIGINT)
+
+
+def sizes(database: store.Database) -> str:
+    """How large the tables are."""
+    told = []
+    for table in TABLES:
+        names = "(select inhrelid::regclass from pg_inherits where inhparent = %s::regclass union select %s::regclass)"
+        size = store.one(database, f"select sum(pg_total_relation_size(oid)) from {names} as n (oid)", (table, table))
+        count = store.one(database, f"select count(*) from {table}")
+        told.append(f"{table} {int(size) / 1e6:.0f} MB, {count} rows" + (f", {int(size) / count:.0f} bytes each" if count else ""))
+    return "; ".join(told)
+
+
+class Watch:
+    """What was published, taken in and heard over time; how far behind the published lines each is."""
+
+    def __init__(self) -> None:
+        self.published: list[tuple[float, int]] = [(0.0, 0)]
+        self.lags: dict[str, list[tuple[float, float]]] = {"lines": [], "heard": []}
+
+    def see(self, moment: float, published: int, totals: dict[str, int]) -> None:
+        """At a moment of the load, so much of each."""
+        self.published.append((moment, published))
+        for name, lags in self.lags.items():
+            done = totals.get(name, 0)
+            reached = next((when for when, count in reversed(self.published) if count <= done), 0.0)
+            lags.append((moment, moment - reached))
+
+    def told(self, first: float, last: float) -> str:
+        """The lag between two moments: the mean, the 95th of a hundred, the worst."""
+        found = []
+        for name, words in (("lines", "in the inbox"), ("heard", "heard and committed")):
+            lags = sorted(lag for moment, lag in self.lags[name] if first <= moment < last)
+            if lags:
+                found.append(f"{words}: mean {sum(lags) / len(lags):.2f} s, 95% within {lags[len(lags) * 95 // 100]:.2f} s,"
+                             f" worst {lags[-1]:.2f} s")
+        return "; ".join(found)
+
+
+def run(asked: argparse.Namespace, folder: Path) -> None:
+    """Lines come at a rate, with a peak in the middle; a session worker is killed and another one is added."""
+    middle = asked.seconds * 2 // 3
+    load = Load(asked.meters, asked.gateways, asked.rate, asked.seconds, asked.peak, middle, middle + asked.peak_seconds)
+    fleet = Fleet(folder, load, True)
+    publishers: list[Publisher] = []
+    try:
+        begun, moment = time.monotonic(), int(time.time())
+        publishers += [Publisher(fleet.config.broker, load, AREA, part, PUBLISHERS, moment) for part in range(PUBLISHERS)]
+        while not all(it.ready.value for it in publishers):
+            assert time.monotonic() - begun < DRAIN_LIMIT, "the load wasn't made in time"
+            time.sleep(0.2)
+        count = sum(it.ready.value for it in publishers)
+        print(f"{count} lines made in {time.monotonic() - begun:.0f} s", flush=True)
+        for part in ["intake"] * asked.intakes + ["sessions"] * asked.sessions:
+            fleet.start(part)
+        changes: list[tuple[float, Callable[[], None]]] = [
+            (asked.seconds / 4, lambda: fleet.stop("sessions", signal.SIGKILL)), (asked.seconds / 4 + 5, lambda: fleet.start("sessions")),
+            (asked.seconds / 2, lambda: fleet.start("sessions"))] if asked.change else []
+        _watched(fleet, load, publishers, count, changes)
+    finally:
+        for it in publishers:
+            it.process.kill()
+            it.process.join()
+        fleet.end()
+
+
+def _watched(fleet: Fleet, load: Load, publishers: Sequence[Publisher], count: int, changes: list[tuple[float, Callable[[], None]]]) -> None:
+    """Has the load come, and prints what became of it."""
+    watch, before, lsn = Watch(), fleet.used(), "0/0"
+    with store.connect(fleet.config.database) as database:
+        lsn = store.one(database, "select pg_current_wal_lsn()::text")
+        start = time.time() + 0.5
+        for it in publishers:
+            it.begin.value = start
+        limit, heard, used_at = start + load.seconds + DRAIN_LIMIT, 0, None
+        while heard < count and time.time() < limit:
+            time.sleep(LOOK)
+            now = time.time() - start
+            totals = {name: int(value) for name, value in database.execute(
+                "select name, sum(value)::bigint from total where name in ('lines', 'heard') group by name").fetchall()}
+            heard = totals.get("heard", 0)
+            watch.see(now, sum(it.published.value for it in publishers), totals)
+            while changes and changes[0][0] <= now:
+                changes.pop(0)[1]()
+            if used_at is None and now >= load.peak_from:
+                used_at = (now, fleet.used(), heard)
+        took = time.time() - start
+        _print(watch, load, took, used_at or (took, fleet.used(), heard), before)
+        _judge(database, count, lsn)
+
+
+def _print(watch: Watch, load: Load, took: float, used_at: tuple[float, Counter[str], int], before: Counter[str]) -> None:
+    """Lag and processors."""
+    seconds, used, heard = used_at
+    print(f"load of this machine {os.getloadavg()[0]:.1f} on {os.cpu_count()} processors")
+    print(f"steady, {load.rate} lines/s for {load.peak_from} s: {watch.told(5, load.peak_from)}")
+    print(f"peak, {load.rate_at(load.peak_from):.0f} lines/s for {load.peak_until - load.peak_from} s: "
+          f"{watch.told(load.peak_from, load.peak_until)}")
+    print(f"behind it: {watch.told(load.peak_until + 2, load.seconds)}; all was heard {took - load.seconds:.1f} s after the last was due")
+    for name, micros in sorted((used - before).items()):
+        print(f"  {name}: {micros / seconds / 1e6:.2f} processors, {micros / max(1, heard):.1f} us a line (steady)")
+
+
+def _judge(database: store.Database, count: int, lsn: str) -> None:
+    """What stands in the tables, and how large they are."""
+    lines, apart = database.execute("select count(*), count(distinct (gateway, epoch, message, place)) from line").fetchone() or (0, 0)
+    readings = store.one(database, "select count(*) from reading")
+    asked = store.one(database, "select coalesce(sum(value), 0)::bigint from total where name = 'asked'")
+    print(f"published {count}, committed {lines}: {count - apart} lost, {lines - apart} doubled; {readings} readings of {count // COPIES}"
+          f" messages; asked to send again {asked} times")
+    wal = store.one(database, "select pg_wal_lsn_diff(pg_current_wal_lsn(), %s)", (lsn,))
+    print(f"write-ahead log: {int(wal) / max(1, lines):.0f} bytes a line")
+    print(sizes(database), flush=True)
+
+
+def drain(asked: argparse.Namespace, folder: Path) -> None:
+    """The inbox is filled and emptied again and again, by one worker and by two in turn."""
+    fleet = Fleet(folder, Load(asked.meters, 1, 1, 1), False)
+    try:
+        for turn, workers in enumerate((1, 2) * asked.turns):
+            _fill(fleet, asked.lines, turn * asked.lines)
+            before = fleet.used()
+            begun = time.monotonic()
+            for _ in range(workers):
+                fleet.start("sessions")
+            with store.connect(fleet.config.database) as database:
+                first, last = _emptied(database)
+            used = fleet.used() - before
+            print(f"{workers} workers: {asked.lines / 2 / (last - first):.0f} lines/s over the second half of {asked.lines}, "
+                  f"{last - begun:.1f} s in all; load {os.getloadavg()[0]:.1f}; us a line: "
+                  + ", ".join(f"{name} {micros / asked.lines:.1f}" for name, micros in sorted(used.items())), flush=True)
+            for _ in range(workers):
+                fleet.stop("sessions", signal.SIGTERM)
+    finally:
+        fleet.end()
+
+
+def _fill(fleet: Fleet, count: int, start: int) -> None:
+    """Puts lines into the inbox, each message heard once."""
+    rows = [(address, "g0", EPOCH, place // 100 + 1, place % 100 + 1, text)
+            for place, (address, text) in enumerate(shuffled_messages(fleet.load, count, start), start)]
+    with store.connect(fleet.config.database) as database:
+        store.copy_rows(database, "inbox (address, gateway, epoch, message, place, text)", rows)
+        database.execute("analyze inbox")
+
+
+def _emptied(database: store.Database) -> tuple[float, float]:
+    """When half of the inbox was heard, and when all was."""
+    count, half = store.one(database, "select count(*) from inbox"), 0.0
+    limit = time.monotonic() + DRAIN_LIMIT
+    while (left := store.one(database, "select count(*) from inbox")) and time.monotonic() < limit:
+        if not half and left <= count // 2:
+            half = time.monotonic()
+        time.sleep(0.05)
+    assert not left, f"{left} lines are left"
+    return half or time.monotonic(), time.monotonic()
+
+
+def main() -> int:
+    """One measurement."""
+    parser = argparse.ArgumentParser(description=__doc__, formatter_class=argparse.RawDescriptionHelpFormatter)
+    kinds = parser.add_subparsers(required=True)
+    made = kinds.add_parser("run")
+    made.set_defaults(work=run)
+    for name, value in (("meters", 100_000), ("gateways", 2000), ("rate", 6700), ("seconds", 60), ("peak_seconds", 10), ("intakes", 1),
+                        ("sessions", 1)):
+        made.add_argument(f"--{name.replace('_', '-')}", type=int, default=value)
+    made.add_argument("--peak", type=float, default=5.0)
+    made.add_argument("--change", action="store_true", help="a session worker is killed, one comes in its place, and one more")
+    other = kinds.add_parser("drain")
+    other.set_defaults(work=drain)
+    for name, value in (("meters", 100_000), ("lines", 40_000), ("turns", 2)):
+        other.add_argument(f"--{name}", type=int, default=value)
+    for it in (made, other):
+        it.add_argument("--folder", default="/var/tmp", help="where the servers' folder is made")
+    asked = parser.parse_args()
+    folder = Path(tempfile.mkdtemp(prefix="wmbus-load-", dir=asked.folder))
+    try:
+        asked.work(asked, folder)
+    finally:
+        shutil.rmtree(folder, ignore_errors=True)
+    return 0
+
+
+if __name__ == "__main__":
+    sys.exit(main())

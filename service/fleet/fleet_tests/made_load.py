@@ -1,0 +1,145 @@
+"""A made load: so many meters, of which each message is heard by two of many gateways, and what publishes it at its time."""
+from __future__ import annotations
+
+import hashlib
+import multiprocessing
+import random
+import time
+from collections import defaultdict
+from collections.abc import Iterator, Sequence
+from ctypes import c_double, c_longlong
+from dataclasses import dataclass
+from multiprocessing.sharedctypes import RawValue
+from typing import Any
+
+import messages
+import pika
+from frames import format_a
+from tests.meters import payload_of
+from wmbus_fleet import broker
+from wmbus_fleet.config import Broker
+from wmbus_fleet.messages import lines_body
+
+# seconds of which a gateway puts the lines into one message; every so many meters' messages open an access window
+GATHERED, LISTENING = 2.0, 10
+EPOCH, COPIES, LONGEST = 1, 2, 100
+
+
+@dataclass(frozen=True)
+class Load:
+    """How much comes: so many lines a second, and in these seconds so many times as many."""
+
+    meters: int
+    gateways: int
+    rate: int
+    seconds: int
+    peak: float = 5.0
+    peak_from: int = 0
+    peak_until: int = 0
+
+    def rate_at(self, second: float) -> float:
+        """Lines a second at a moment of the load."""
+        return self.rate * (self.peak if self.peak_from <= second < self.peak_until else 1.0)
+
+    def messages_until(self, second: float) -> int:
+        """How many messages of meters there are until a moment."""
+        peak = max(0.0, min(second, self.peak_until) - self.peak_from) if self.peak_until else 0.0
+        return int((second + peak * (self.peak - 1)) * self.rate / COPIES)
+
+
+def address_of(number: int) -> bytes:
+    """A meter's address."""
+    return bytes.fromhex("9315") + bytes.fromhex(f"{number:08d}")[::-1] + b"\x01\x07"
+
+
+def key_of(number: int) -> bytes:
+    """Its key."""
+    return hashlib.sha256(f"meter {number}".encode()).digest()[:16]
+
+
+def mode_of(number: int) -> int:
+    """Every third meter is of mode 5."""
+    return 5 if number % 3 == 0 else 7
+
+
+def meter_rows(count: int) -> Iterator[tuple[str, str]]:
+    """Each meter as commissioning makes it known."""
+    for number in range(count):
+        address = address_of(number).hex()
+        yield address, f"meter {address} {mode_of(number)} {key_of(number).hex()} - - 0 0\n"
+
+
+def frame_of(number: int, counter: int) -> str:
+    """What a meter sends for a counter, as a receiver prints it."""
+    address, listens = address_of(number), counter % LISTENING == 0
+    if mode_of(number) == 5:
+        made = messages.whole_5(key_of(number), address, counter % 256, payload_of(counter), 0x44, listens)
+    else:
+        made = messages.whole(key_of(number), address, counter, payload_of(counter), 0x44, 0x84 if listens else 0x80)
+    return str(format_a(made).hex())
+
+
+def bodies(load: Load, part: int, parts: int, moment: int) -> list[tuple[float, str, bytes, int]]:
+    """What the gateways of one part publish, in the order of time: when, by whom, what, how many lines.
+
+    The meters send one after the other, from the first on again; message i is heard by the gateways i % n and i % n + 1 of its part."""
+    own = range(part, load.gateways, parts)
+    numbers: dict[int, int] = defaultdict(int)
+    found = []
+    for step in range(int(load.seconds / GATHERED)):
+        first, last = load.messages_until(step * GATHERED), load.messages_until((step + 1) * GATHERED)
+        heard: dict[int, list[str]] = {gateway: [] for gateway in own}
+        for message in range(first, last):
+            if message % parts == part:
+                line = f"A {moment + int((step + 1) * GATHERED)} {frame_of(message % load.meters, message // load.meters + 1)}\n"
+                place = message // parts
+                for copy in range(COPIES):
+                    heard[own[(place + copy) % len(own)]].append(line)
+        for place, (gateway, lines) in enumerate(heard.items()):
+            due = (step + 1 + place / len(own)) * GATHERED
+            for start in range(0, max(1, len(lines)), LONGEST):
+                numbers[gateway] += 1
+                piece = lines[start:start + LONGEST]
+                body = lines_body(EPOCH, numbers[gateway], moment + int((step + 1) * GATHERED), "".join(piece).encode("ascii"))
+                found.append((due, f"g{gateway}", body, len(piece)))
+    return sorted(found, key=lambda it: it[0])
+
+
+class Publisher:
+    """A process that publishes a part of the load over one connection, acknowledged as it comes."""
+
+    def __init__(self, told: Broker, load: Load, area: str, part: int, parts: int, moment: int) -> None:
+        self.begin, self.ready, self.published = RawValue(c_double, 0.0), RawValue(c_longlong, 0), RawValue(c_longlong, 0)
+        self.process = multiprocessing.Process(target=self._work, args=(told, load, area, part, parts, moment), daemon=True)
+        self.process.start()
+
+    def _work(self, told: Broker, load: Load, area: str, part: int, parts: int, moment: int) -> None:
+        made = bodies(load, part, parts, moment)
+        self.ready.value = sum(count for _, _, _, count in made)
+        while not self.begin.value:
+            time.sleep(0.01)
+        with broker.connected(told) as connection:
+            channel = connection.channel()
+            # (each publishing waiting for its acknowledgement would hold this process up; what is lost shows at the end)
+            channel._impl.confirm_delivery(lambda _frame: None)
+            self._publish(connection, channel, area, made)
+
+    def _publish(self, connection: Any, channel: Any, area: str, made: Sequence[tuple[float, str, bytes, int]]) -> None:
+        properties = pika.BasicProperties(delivery_mode=broker.PERSISTENT)
+        for place, (due, gateway, body, count) in enumerate(made):
+            while (wait := self.begin.value + due - time.time()) > 0:
+                connection.process_data_events(wait)
+            if place % 200 == 0:
+                connection.process_data_events(0)
+            channel.basic_publish(broker.EXCHANGE, broker.up_key(area, gateway), body, properties, mandatory=True)
+            self.published.value += count
+        connection.process_data_events(1.0)
+
+
+def shuffled_messages(load: Load, count: int, start: int) -> Iterator[tuple[str, str]]:
+    """So many lines of as many messages, each with its meter's address, from one on; in an order of their own."""
+    order = list(range(start, start + count))
+    random.Random(start).shuffle(order)
+    for message in order:
+        number = message % load.meters
+        yield address_of(number).hex(), f"A {message} {frame_of(number, message // load.meters + 1)}"

@@ -1,0 +1,82 @@
+"""RabbitMQ's users, over HTTP by its management plugin. A gateway has one of its own, which reads its own queue, and publishes under its
+own name alone."""
+from __future__ import annotations
+
+import base64
+import hashlib
+import json
+import re
+import secrets
+import ssl
+import urllib.error
+import urllib.request
+from typing import Any
+from urllib.parse import quote, urlsplit
+
+from wmbus_service.trouble import Trouble
+
+from . import broker
+from .config import Broker
+
+PATIENCE = 20.0
+# RabbitMQ's own words for a virtual host, and for salted SHA-256
+HOST, HASHING = "%2F", "rabbit_password_hashing_sha256"
+NONE = "^$"
+
+
+class Administration:
+    """What RabbitMQ is told by who administers it."""
+
+    def __init__(self, told: Broker) -> None:
+        address = urlsplit(told.management)
+        if address.scheme not in ("http", "https") or not address.netloc:
+            raise Trouble("broker.management", "users are made by RabbitMQ's management plugin, and its address isn't known",
+                          "name it, as http://127.0.0.1:15672; `rabbitmq-plugins enable rabbitmq_management` has it work")
+        self.told, self.base = told, told.management.rstrip("/")
+        login = f"{told.user}:{broker.password_of(told)}".encode()
+        self.head = {"Authorization": "Basic " + base64.b64encode(login).decode(), "Content-Type": "application/json"}
+        self.context = ssl.create_default_context(cafile=told.authority or None) if address.scheme == "https" else None
+
+    def put_password(self, gateway: str, password: str) -> None:
+        """Gives a gateway's user this password, of which RabbitMQ gets the hash; the user is made first where there is none."""
+        self._ask("PUT", f"users/{quote(gateway)}", {"password_hash": hash_of(password, secrets.token_bytes(4)),
+                                                     "hashing_algorithm": HASHING, "tags": ""})
+
+    def put_rights(self, area: str, gateway: str) -> None:
+        """Lets a gateway read its own queue, and publish under its own name in its area; nothing else."""
+        queue = f"^{re.escape(broker.gateway_queue(gateway))}$"
+        self._ask("PUT", f"permissions/{HOST}/{quote(gateway)}", {"configure": queue, "write": f"^{broker.EXCHANGE}$", "read": queue})
+        self._ask("PUT", f"topic-permissions/{HOST}/{quote(gateway)}",
+                  {"exchange": broker.EXCHANGE, "write": f"^{re.escape(broker.up_key(area, gateway))}$", "read": NONE})
+
+    def remove(self, gateway: str) -> None:
+        """Takes a gateway's user away, and ends its connections."""
+        self._ask("DELETE", f"users/{quote(gateway)}", may_lack=True)
+        for it in self._ask("GET", f"connections/username/{quote(gateway)}") or []:
+            self._ask("DELETE", f"connections/{quote(str(it['name']), safe='')}", may_lack=True)
+
+    def depths(self) -> dict[str, int]:
+        """How many messages each queue has."""
+        return {str(it["name"]): int(it.get("messages", 0)) for it in self._ask("GET", f"queues/{HOST}?columns=name,messages")}
+
+    def _ask(self, method: str, path: str, told: Any = None, may_lack: bool = False) -> Any:
+        """Asks the plugin; what it answers."""
+        asked = urllib.request.Request(f"{self.base}/api/{path}", None if told is None else json.dumps(told).encode(), self.head,
+                                       method=method)
+        try:
+            with urllib.request.urlopen(asked, timeout=PATIENCE, context=self.context) as answer:
+                text = answer.read()
+        except urllib.error.HTTPError as fault:
+            if fault.code == 404 and may_lack:
+                return None
+            remedy = f"has {self.told.user} the tag `administrator`?" if fault.code in (401, 403) else ""
+            raise Trouble(self.base, f"RabbitMQ refuses {method} {path}: {fault.code} {fault.reason}", remedy) from None
+        except OSError as fault:
+            raise Trouble(self.base, f"RabbitMQ's management plugin can't be asked: {fault}",
+                          "`rabbitmq-plugins enable rabbitmq_management` has it work") from None
+        return json.loads(text) if text else None
+
+
+def hash_of(password: str, salt: bytes) -> str:
+    """A password's hash as RabbitMQ keeps it: the salt, and SHA-256 of salt and password."""
+    return base64.b64encode(salt + hashlib.sha256(salt + password.encode()).digest()).decode()

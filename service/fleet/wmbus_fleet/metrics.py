@@ -1,0 +1,144 @@
+"""The fleet's metrics in Prometheus' text format, over HTTP on this machine: figures that are taken every few seconds, however many ask."""
+from __future__ import annotations
+
+import logging
+import threading
+import time
+from collections.abc import Iterator
+from contextlib import closing
+from dataclasses import dataclass, field
+from typing import Any
+
+import psycopg
+from prometheus_client import CollectorRegistry, start_http_server
+from prometheus_client.core import CounterMetricFamily, GaugeMetricFamily, Metric
+from prometheus_client.registry import Collector
+from wmbus_service.metrics import COUNTERS as OF_SESSIONS
+from wmbus_service.trouble import Trouble
+
+from . import broker
+from .config import Config, Metrics
+from .view import looking
+from .view.door import FleetDoor
+
+log = logging.getLogger("wmbus")
+
+INTERVAL = 15.0
+PREFIX = "wmbus_fleet_"
+# totals of all workers, over all starts
+COUNTERS = {name: words for name, words in OF_SESSIONS.items() if name != "lines"} | {
+    "lines": "lines of gateways that were taken", "heard": "lines of gateways that a session heard", "messages": "messages of gateways that came",
+    "take": "messages that were taken", "again": "messages that had come before", "ask": "messages behind a gap", "asked": "questions to gateways",
+    "unknown": "messages of gateways that aren't known",
+}
+GAUGES = {
+    "lag_seconds": "how long ago the oldest line that waits for a session was heard, by its receiver's clock",
+    "inbox_lines": "lines that wait for a session", "meters": "meters that are known", "meters_silent": "meters without a reading for two days",
+    "meters_unheard": "meters that never had a reading", "downlinks_waiting": "downlinks that the broker hasn't got yet",
+    "downlinks_missed": "downlinks that weren't sent in time", "commands_open": "commands that aren't done",
+    "aside_lines": "lines at which the program failed", "gaps": "epochs of gateways that ended with a gap",
+    "ticks_late": "ticks that were due a minute ago or earlier", "broker_up": "1 where the broker answers",
+}
+LABELLED = {
+    "gateways": ("gateways that are known", "area"), "gateways_silent": ("gateways that weren't heard for ten minutes", "area"),
+    "area_meters": ("meters, by the gateway that heard them last", "area"), "area_refusals": ("refused lines", "area"),
+    "queue_messages": ("messages of an area that wait for an intake", "area"), "workers": ("processes that are connected", "part"),
+    "commands": ("commands", "state"), "table_bytes": ("size of a table with its indexes", "table"),
+}
+TABLES = ("meter", "line", "reading", "outbox", "command", "refusal")
+QUERIES = {
+    "downlinks_missed": "select count(*) from outbox where missed is not null", "aside_lines": "select count(*) from aside",
+    "gaps": "select count(*) from missing", "ticks_late": "select count from late",
+}
+NAMES = {"lag_seconds": "lag", "inbox_lines": "inbox", "meters": "meters", "meters_silent": "silent_meters", "meters_unheard": "unheard_meters",
+         "downlinks_waiting": "downlinks_waiting", "commands_open": "commands"}
+
+
+@dataclass
+class Taken:
+    """The figures of a moment."""
+
+    counters: dict[str, float] = field(default_factory=dict)
+    gauges: dict[str, float] = field(default_factory=dict)
+    labelled: dict[str, dict[str, float]] = field(default_factory=dict)
+    moment: float = 0.0
+
+
+def take(config: Config) -> Taken:
+    """All figures as they are."""
+    taken = Taken(moment=time.time())
+    with closing(FleetDoor(config).opened()) as database:
+        told = looking.counts(database, taken.moment)
+        taken.counters = {name: float(told.get(name, 0)) for name in COUNTERS}
+        taken.gauges = {name: float(told[key]) for name, key in NAMES.items()}
+        taken.gauges |= {name: float(database.execute(query).fetchall()[0][0]) for name, query in QUERIES.items()}
+        areas = looking.areas(database, taken.moment)
+        for name, key in (("gateways", "gateways"), ("gateways_silent", "silent_gateways"), ("area_meters", "meters"),
+                          ("area_refusals", "refused")):
+            taken.labelled[name] = {row["name"]: float(row[key]) for row in areas}
+        taken.labelled["workers"] = {part: float(count) for part, count in looking.workers(database).items()}
+        taken.labelled["commands"] = _floats(database.execute("select state, count(*) from command group by state").fetchall())
+        taken.labelled["table_bytes"] = _floats(
+            (name, database.execute("select pg_total_relation_size(?::text::regclass)", (f"public.{name}",)).fetchall()[0][0])
+            for name in TABLES)
+    _take_queues(config, taken, [row["name"] for row in areas])
+    return taken
+
+
+def _floats(rows: Any) -> dict[str, float]:
+    return {str(name): float(value) for name, value in rows}
+
+
+def _take_queues(config: Config, taken: Taken, areas: list[str]) -> None:
+    """How many messages wait with the broker."""
+    try:
+        with broker.connected(config.broker) as connection:
+            channel = broker.opened(connection)
+            taken.labelled["queue_messages"] = {area: float(broker.depth(channel, broker.area_queue(area))) for area in areas}
+        taken.gauges["broker_up"] = 1.0
+    except broker.FAULTS as fault:
+        log.error("the metrics: the broker: %s: %s", type(fault).__name__, fault)
+        taken.gauges["broker_up"] = 0.0
+
+
+class Figures(Collector):
+    """What was taken last."""
+
+    def __init__(self) -> None:
+        self.taken = Taken()
+
+    def collect(self) -> Iterator[Metric]:
+        """All metrics."""
+        taken = self.taken
+        yield GaugeMetricFamily(f"{PREFIX}figures_age_seconds", "how old these figures are", value=time.time() - taken.moment)
+        for name, words in COUNTERS.items():
+            counter = CounterMetricFamily(f"{PREFIX}{name}", f"{words}, over all starts")
+            counter.add_metric([], taken.counters.get(name, 0.0))
+            yield counter
+        for name, words in GAUGES.items():
+            if name in taken.gauges:
+                yield GaugeMetricFamily(f"{PREFIX}{name}", words, value=taken.gauges[name])
+        for name, (words, label) in LABELLED.items():
+            gauge = GaugeMetricFamily(f"{PREFIX}{name}", words, labels=[label])
+            for value, number in taken.labelled.get(name, {}).items():
+                gauge.add_metric([value], number)
+            yield gauge
+
+
+def run(config: Config, ending: threading.Event) -> None:
+    """Serves the metrics until the process is told to end."""
+    told = config.metrics or Metrics()
+    figures, registry = Figures(), CollectorRegistry()
+    registry.register(figures)
+    try:
+        start_http_server(told.port, addr=told.host, registry=registry)
+    except OSError as fault:
+        raise Trouble(f"metrics.host {told.host} and metrics.port {told.port}", f"the metrics can't be served: {fault.strerror}",
+                      "name another port, or end what uses this one") from None
+    while True:
+        try:
+            figures.taken = take(config)
+        except (psycopg.Error, Trouble) as fault:
+            log.error("the metrics: %s", str(fault).strip())
+        if ending.wait(INTERVAL):
+            return

@@ -1,0 +1,45 @@
+"""What the page reads of the fleet's database: views under the names that the service's tables have, so that the same questions are asked
+of both. None of them has a key, or what was made with one; any role of the server may read them, and by itself nothing else."""
+from __future__ import annotations
+
+from .schema import SHARDS
+
+# a shard's oldest line that waits, and when its receiver heard it, where that says so
+_WAITING = " union all ".join(
+    f"(select {shard} as shard, case when text ~ '^[AB] [0-9]{{1,12}} ' then split_part(text, ' ', 2)::bigint end as heard"
+    f" from public.inbox_{shard} order by id limit 1)" for shard in range(SHARDS))
+
+VIEWS = f"""
+create schema page;
+create view page.meter as select address, name, gateway as receiver, gateway, heard from public.meter;
+create view page.reading as select line as id, line, address, counter, moment, gateway as receiver, made from public.reading;
+create view page.record as
+    select r.line as reading, e.place - 1 as place, e.it ->> 'quantity' as quantity, e.it ->> 'unit' as unit,
+        (e.it ->> 'exponent')::integer as exponent, e.it ->> 'value' as value, e.it ->> 'function' as function,
+        (e.it ->> 'storage')::bigint as storage, (e.it ->> 'tariff')::bigint as tariff, (e.it ->> 'subunit')::bigint as subunit,
+        e.it ->> 'modifiers' as modifiers, e.it ->> 'raw' as raw
+    from public.reading r cross join lateral json_array_elements(r.records) with ordinality as e (it, place)
+    where e.it ->> 'quantity' is not null;
+-- no day's last value outlives its reading here
+create view page.daily as select ''::text as address, ''::text as day, ''::text as quantity, ''::text as unit, 0 as exponent,
+    ''::text as value, ''::text as function, 0 as storage, 0 as tariff, 0 as subunit where false;
+create view page.refusal as select address, reason, words, times, last_made from public.refusal;
+create view page.stranger as select address, times, gateway as receiver, last_made from public.stranger;
+create view page.command as
+    select place as rowid, id, address, kind, case kind when 'send' then payload else '' end as payload, state, number, tries, reason, wish,
+        made, changed from public.command;
+create view page.outbox as select id, gateway as receiver, address, down, missed, made, sent from public.outbox;
+create view page.aside as select id, gateway as receiver, said, made from public.aside;
+create view page.total as select name, sum(value)::bigint as value from public.total group by name;
+create view page.area as select name from public.area;
+create view page.gateway as select name, area, epoch, number, until, extract(epoch from seen)::double precision as seen,
+    gone is not null as gone from public.gateway;
+create view page.missing as select gateway, epoch, number, made from public.missing;
+create view page.inbox as select gateway from public.inbox;
+create view page.waiting as {_WAITING};
+create view page.late as select count(*) as count, min(due) as since from public.meter where due < extract(epoch from now()) - 60;
+create view page.worker as select application_name as name, count(*) as count from pg_stat_activity
+    where datname = current_database() and application_name like 'wmbus %' group by application_name;
+grant usage on schema page to public;
+grant select on all tables in schema page to public;
+"""

@@ -1,0 +1,195 @@
+"""What the fleet's own pages show: the overview, areas, gateways, and the meters that somebody looks for."""
+from __future__ import annotations
+
+import re
+from collections.abc import Iterator
+from dataclasses import asdict
+from typing import Any
+
+from wmbus_service.asking import Database
+from wmbus_service.page.looks import METER_SILENCE, OFTEN, RECENT, Look, explained, silence
+from wmbus_service.page.reading import meters_of, rows_of, strangers
+from wmbus_service.page.shared import counted, times
+from wmbus_service.page.views import meter_data
+
+from ..status import PARTS, SILENT, UNITS
+
+# so many rows a page, so many things to look at of a kind
+MOST, FEW = 100, 10
+DAY = 86_400.0
+LAG = 300
+# (each goes once over the meters, of which there may be a million)
+METERS = """
+select count(*) as meters, count(heard) as read, count(*) filter (where heard < ?) as silent_meters,
+    count(*) filter (where heard is null) as unheard_meters from meter"""
+COUNTS = {
+    "inbox": "select count(*) from inbox",
+    "commands": "select count(*) from command where state in ('waiting', 'queued', 'sent')",
+    "downlinks_waiting": "select count(*) from outbox where sent is null and missed is null",
+}
+AREAS = """
+with heard as (select g.area, count(*) as meters, count(*) filter (where m.heard < ?) as silent_meters
+        from meter m join gateway g on g.name = m.gateway group by g.area),
+    refused as (select g.area, sum(r.times) as refused
+        from refusal r join meter m on m.address = r.address join gateway g on g.name = m.gateway group by g.area),
+    sending as (select area, count(*) as gateways, count(*) filter (where seen is null or seen < ?) as silent_gateways
+        from gateway where not gone group by area)
+select a.name, coalesce(gateways, 0) as gateways, coalesce(silent_gateways, 0) as silent_gateways, coalesce(meters, 0) as meters,
+    coalesce(silent_meters, 0) as silent_meters, coalesce(refused, 0) as refused
+from area a left join heard on heard.area = a.name left join refused on refused.area = a.name left join sending on sending.area = a.name
+order by a.name"""
+REFUSALS = """
+select r.reason, max(r.words) as words, sum(r.times) as times, count(*) as meters, max(r.last_made) as last_made
+from refusal r join meter m on m.address = r.address join gateway g on g.name = m.gateway where g.area = ?
+group by r.reason order by times desc, r.reason"""
+GATEWAYS = """
+select g.name, g.area, g.seen, g.until, g.epoch, g.number, g.gone from gateway g where g.area = coalesce(?, g.area) and (not ? or not gone and (seen is null or seen < ?)) and g.name > ?
+order by g.name limit ?"""
+
+
+def counts(database: Database, now: float) -> dict[str, Any]:
+    """How much there is, and how far behind it is."""
+    found: dict[str, Any] = rows_of(database, METERS, (now - METER_SILENCE,))[0]
+    found |= {name: database.execute(query).fetchone()[0] for name, query in COUNTS.items()}
+    found |= dict(database.execute("select name, value from total").fetchall())
+    found["lag"] = lag(database, now)
+    found["gateways"], found["silent_gateways"] = database.execute(
+        "select count(*), count(*) filter (where seen is null or seen < ?) from gateway where not gone", (now - SILENT,)).fetchone()
+    return found
+
+
+def lag(database: Database, now: float) -> float:
+    """How long ago the oldest line that waits for a session was heard, by its receiver's clock; 0 where none waits."""
+    heard = [moment for (moment,) in database.execute("select heard from waiting").fetchall() if moment is not None]
+    return max([0.0, *(float(now - moment) for moment in heard if moment <= now)])
+
+
+def workers(database: Database) -> dict[str, int]:
+    """How many processes of each part have a connection."""
+    found = {name.removeprefix("wmbus "): count for name, count in database.execute("select name, count from worker").fetchall()}
+    return {part: found.get(part, 0) for part in PARTS}
+
+
+def overview(database: Database, now: float) -> dict[str, Any]:
+    """What needs a person first, then areas."""
+    told = counts(database, now)
+    running = workers(database)
+    found = [*_of_parts(running, told, now), *_of_gateways(database, now), *_of_rows(database, now)]
+    return {"now": now, "counts": told, "workers": running, "looks": [asdict(it) for it in sorted(found, key=lambda it: it.kind != "bad")],
+            "areas": areas(database, now)}
+
+
+def areas(database: Database, now: float) -> list[dict[str, Any]]:
+    """Areas with their gateways, meters and refusals."""
+    return rows_of(database, AREAS, (now - METER_SILENCE, now - SILENT))
+
+
+def _of_parts(running: dict[str, int], told: dict[str, Any], _now: float) -> Iterator[Look]:
+    """Parts that don't work, and what waits for them."""
+    for part, count in running.items():
+        if not count:
+            yield Look("bad", "stands still", f"No {part}", "/", f"None is connected: systemctl start {UNITS[part]}. Its log says why it ended.")
+    if told["lag"] > LAG:
+        yield Look("look", f"lags by {int(told['lag'] // 60)} min", "Sessions", "/",
+                   f"{counted(told['inbox'], 'line waits', 'lines wait')}. Start another wmbus-sessions@N, or wait where a gateway was cut off.")
+    silent = told["silent_meters"]
+    if silent:
+        yield Look("look", "silent", counted(silent, "meter", "meters"), "/meters?state=silent",
+                   "Each had a reading, and none for two days.")
+
+
+def _of_gateways(database: Database, now: float) -> Iterator[Look]:
+    """Silent gateways, and gaps."""
+    for row in gateways(database, now, None, True, "", FEW)["gateways"]:
+        what = "never heard" if row["seen"] is None else _silence(now - row["seen"])
+        yield Look("bad", what, f"Gateway {row['name']} in {row['area']}", f"/gateways?area={row['area']}",
+                   "Has it power and a network? Its own log says whether the broker takes its name.")
+    for row in rows_of(database, f"select gateway, epoch, number, made from missing where made > ? order by made desc limit {FEW}",
+                       (now - RECENT,)):
+        yield Look("look", "began anew", f"Gateway {row['gateway']}", "/gateways",
+                   f"Behind message {row['number']} of {row['epoch']}: what came later of it and wasn't sent may be gone.")
+
+
+def _silence(seconds: float) -> str:
+    """For how long nothing was heard."""
+    return str(silence(seconds)) if seconds >= 7200 else f"silent for {counted(int(seconds // 60), 'minute', 'minutes')}"
+
+
+def _of_rows(database: Database, now: float) -> Iterator[Look]:
+    """Lines that were set aside, commands and downlinks that came to nothing, strangers that are heard often."""
+    for row in rows_of(database, f"select id, receiver, said from aside order by id desc limit {FEW}"):
+        yield Look("bad", "line set aside", f"Line {row['id']} of {row['receiver'] or 'the fleet'}", "/gateways",
+                   f"The program failed at it: {row['said'][:200]}. Tell the makers of this program.")
+    for row in rows_of(database, "select id, address, state, reason from command where state in ('expired', 'refused') and changed > ?"
+                                 f" order by changed desc limit {FEW}", (now - RECENT,)):
+        yield Look("look", "command given up" if row["state"] == "expired" else "command refused", row["address"], f"/meters/{row['address']}",
+                   f"Command {row['id']}: {row['reason'] or 'it was sent three times without an answer'}. Queue it again once it is in reach.")
+    for row in rows_of(database, f"select address, receiver, missed from outbox where missed is not null and made > ? order by id desc limit {FEW}",
+                       (now - DAY,)):
+        yield Look("look", "not sent", row["address"], f"/meters/{row['address']}",
+                   f"A downlink by gateway {row['receiver'] or '(none)'} wasn't sent: {row['missed']}.")
+    for row in strangers(database, FEW):
+        if row["times"] >= OFTEN and row["last_made"] > now - METER_SILENCE:
+            yield Look("look", f"heard {times(row['times'])}", row["label"], f"/strangers#{row['address']}",
+                       f"It isn't known ({row['type']}, maker {row['maker']}). Is it one of the fleet's? Then commission it.")
+
+
+def gateways(database: Database, now: float, area: str | None, is_silent: bool, after: str, most: int = MOST) -> dict[str, Any]:
+    """Gateways by name, of an area or all, the silent ones or all, behind a name."""
+    rows = rows_of(database, GATEWAYS, (area, is_silent, now - SILENT, after, most + 1))
+    heard = dict(database.execute("select gateway, count(*) from meter where gateway = any(?) group by gateway",
+                                  ([row["name"] for row in rows],)).fetchall())
+    for row in rows:
+        row["meters"] = heard.get(row["name"], 0)
+        row["is_silent"] = not row["gone"] and (row["seen"] is None or row["seen"] < now - SILENT)
+    return {"now": now, "area": area, "silent": is_silent, "gateways": rows[:most],
+            "after": rows[most - 1]["name"] if len(rows) > most else None}
+
+
+def area_page(database: Database, now: float, area: str) -> dict[str, Any] | None:
+    """An area: why lines of it are refused, and its gateways."""
+    if not database.execute("select 1 from area where name = ?", (area,)).fetchone():
+        return None
+    refused = [row | asdict(explained(row["words"])) for row in rows_of(database, REFUSALS, (area,))]
+    return {"refusals": refused, **gateways(database, now, area, False, "")}
+
+
+STATES = {
+    "": "", "silent": " and (m.heard is null or m.heard < {moment})", "read": " and m.heard >= {moment}",
+    "refused": " and exists (select 1 from refusal r where r.address = m.address and r.last_made > coalesce(m.heard, 0))",
+}
+
+
+def meters(database: Database, now: float, asked: dict[str, str]) -> dict[str, Any]:
+    """The meters that somebody looks for, in the order of their addresses, behind one of them."""
+    where, values = ["m.address > ?"], [asked["after"]]
+    if asked["q"]:
+        condition, given = _looked_for(asked["q"])
+        where.append(condition)
+        values += given
+    if asked["gateway"]:
+        where.append("m.gateway = ?")
+        values.append(asked["gateway"])
+    if asked["area"]:
+        where.append("m.gateway in (select name from gateway where area = ?)")
+        values.append(asked["area"])
+    query = (f"select m.address, m.name, m.receiver from meter m where {' and '.join(where)}"
+             f"{STATES[asked['state']].format(moment=now - METER_SILENCE)} order by m.address limit {MOST + 1}")
+    rows = database.execute(query, values).fetchall()
+    found = [meter_data(it) for it in meters_of(database, rows[:MOST], now)]
+    return {"now": now, "asked": asked, "meters": found, "states": list(STATES), "after": rows[MOST - 1][0] if len(rows) > MOST else None,
+            "areas": [name for (name,) in database.execute("select name from area order by name").fetchall()]}
+
+
+def _looked_for(text: str) -> tuple[str, list[Any]]:
+    """How a meter is looked for: by a part of its name, the first digits of its address, or the number on its label."""
+    conditions: list[str] = ["position(? in lower(m.name)) > 0"]
+    values: list[Any] = [text.lower()]
+    if re.fullmatch("[0-9a-fA-F]{4,16}", text):
+        conditions.append("left(m.address, ?) = ?")
+        values += [len(text), text.lower()]
+    if re.fullmatch("[0-9]{8}", text):
+        # (it stands there with its low byte first)
+        conditions.append("substr(m.address, 5, 8) = ?")
+        values.append("".join(text[place:place + 2] for place in (6, 4, 2, 0)))
+    return f"({' or '.join(conditions)})", values
