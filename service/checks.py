@@ -14,7 +14,7 @@ from pathlib import Path
 
 PYTHON = "/usr/bin/python3"
 FOLDERS = "/usr/sbin:/usr/bin:/usr/local/sbin:/usr/local/bin"
-TYPES_SECONDS, INSTALL_SECONDS = 600, 300
+TYPES_SECONDS, INSTALL_SECONDS, UNPACK_SECONDS = 600, 300, 900
 # where there is no network, or another installs, it is given up soon
 NO_PATIENCE = ("-o", "Acquire::Retries=0", "-o", "Acquire::http::Timeout=15", "-o", "Acquire::https::Timeout=15", "-o",
                "DPkg::Lock::Timeout=60")
@@ -94,17 +94,23 @@ def limited(words: list[str], folder: Path, seconds: int, environment: dict[str,
 
 
 def install(packages: list[str], seconds: int = INSTALL_SECONDS) -> None:
-    """Installs packages, each by itself where not all are to be had, where this is Debian and root."""
+    """Installs packages, each by itself where not all are to be had, where this is Debian and root; what can't be fetched in time is
+    left."""
     if not packages or os.geteuid() or not os.path.exists("/usr/bin/apt-get"):
         return
     environment = os.environ | {"DEBIAN_FRONTEND": "noninteractive", "RUNLEVEL": "1"}
     until = time.monotonic() + seconds
 
-    def apt_get(*words: str) -> bool:
-        left = int(until - time.monotonic())
-        words = ("apt-get", *NO_PATIENCE, *words)
-        return left > 0 and limited([*words], Path("/"), left, environment).returncode == 0
-    adding = ("install", "-y", "--no-install-recommends")
-    if not apt_get(*adding, *packages) and not (apt_get("update") and apt_get(*adding, *packages)):
+    def apt_get(limit: int, *words: str) -> bool:
+        return limit > 0 and limited(["apt-get", *NO_PATIENCE, *words], Path("/"), limit, environment).returncode == 0
+
+    def left() -> int:
+        return int(until - time.monotonic())
+
+    def add(*names: str) -> bool:
+        # (what is fetched may be cut off at any moment; what is put in place mustn't be)
+        words = ("install", "-y", "--no-install-recommends")
+        return apt_get(left(), *words, "--download-only", *names) and apt_get(UNPACK_SECONDS, *words, *names)
+    if not add(*packages) and not (apt_get(left(), "update") and add(*packages)):
         for package in packages:
-            apt_get(*adding, package)
+            add(package)

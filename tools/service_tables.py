@@ -16,7 +16,9 @@ LATE = 6 * 3600
 VIEWS = f"""
 CREATE TEMP VIEW report AS SELECT 2 AS id, 'the database' AS name, strftime('%Y-%m-%dT%H:%M:%SZ', 'now') AS kept;
 CREATE TEMP VIEW receiver AS
-    SELECT 2 AS report, receiver AS number, (SELECT count(*) FROM main.line WHERE line.receiver = source.receiver) AS lines
+    SELECT 2 AS report, receiver AS number, (SELECT count(*) FROM main.line WHERE line.receiver = source.receiver) AS lines,
+        -- (which lines say nothing the service counts over all receivers alone)
+        0 AS unframed, 0 AS bad
     FROM (SELECT DISTINCT receiver FROM main.source) AS source;
 CREATE TEMP VIEW reading AS SELECT id, address, counter, moment, receiver, line FROM main.reading;
 CREATE TEMP TABLE register AS

@@ -12,6 +12,8 @@ import pytest
 
 TOP = Path(__file__).resolve().parents[2]
 sys.path[:0] = [str(TOP / "service"), str(TOP / "tools"), str(TOP / "tests")]
+# (what the tests fetch is on this machine, whatever stands between it and the network)
+os.environ |= {"no_proxy": "127.0.0.1,localhost", "NO_PROXY": "127.0.0.1,localhost"}
 # of a test in seconds, beside what the kill tests are given; where it goes on all the same it is told again
 MOST, AGAIN = 180.0, 15.0
 
@@ -22,7 +24,7 @@ def limit_fixture() -> Iterator[None]:
     def end(_number: int, _frame: FrameType | None) -> None:
         raise TimeoutError("the test took too long")
     before = signal.signal(signal.SIGALRM, end)
-    signal.setitimer(signal.ITIMER_REAL, MOST + 10 * float(os.environ.get("WMBUS_KILL_SECONDS", "0")), AGAIN)
+    signal.setitimer(signal.ITIMER_REAL, MOST + 5 * float(os.environ.get("WMBUS_KILL_SECONDS", "20")), AGAIN)
     yield
     signal.setitimer(signal.ITIMER_REAL, 0)
     signal.signal(signal.SIGALRM, before)

@@ -5,6 +5,7 @@ import functools
 import logging
 import os
 import random
+import shutil
 import signal
 import sqlite3
 import sys
@@ -26,12 +27,14 @@ from wmbus_service.store import open_store, prepare_folder
 from . import judged, killed_service
 from .meters import OWN, line_of, next_telegrams, roster_of, some_meters
 from .processes import PATIENCE, run
+from .processes import until as until
 from .servers import Listener, Mosquitto
 
 TOP = Path(__file__).resolve().parents[2]
 PYTHON = "/usr/bin/python3"
 RECEIVERS = ("cellar", "roof")
-MEMORY = "/dev/shm" if os.access("/dev/shm", os.W_OK) else None
+# a folder in memory, where there is one with room for a trial
+MEMORY = "/dev/shm" if os.access("/dev/shm", os.W_OK) and shutil.disk_usage("/dev/shm").free > 256 << 20 else None
 TICK = 0.4
 
 
@@ -274,15 +277,17 @@ class Trial:
             return int(database.execute("select count(*) from line where due is not null").fetchone()[0])
 
     def _drain(self) -> None:
-        """Lets the service take what is left."""
-        limit = time.monotonic() + 60
+        """Lets the service take what is left; as long as it becomes less it may take its time."""
+        limit, before = 0.0, ""
         if self.service:
             self.service.end()
         self.start_service(0.0)
-        while (left := self._left()) and time.monotonic() < limit:
+        while left := self._left():
+            if left != before:
+                limit, before = time.monotonic() + PATIENCE, left
+            assert time.monotonic() < limit, f"{left}; {self._log()}"
             assert self.service and self.service.is_running(), self._log()
             time.sleep(0.05)
-        assert not left, f"{left}; {self._log()}"
 
     def _log(self) -> str:
         return (self.folder / "log").read_text()[-2000:]

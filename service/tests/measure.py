@@ -3,7 +3,7 @@
 NAME is latency (from a line to its commit at an interval of 0.1 s), meters (10,000 meters at 100 lines a second) or backlog (131,072 lines
 that wait at the start). SHARE, as 0.01, measures so much of it. The service is a process of its own over a folder on the disk; its program
 is the one that `wmbus-service check` names. A line's latency runs from its write until another connection to the database sees it
-committed."""
+committed. With latency each meter has commands, whose downlinks are written into a file."""
 from __future__ import annotations
 
 import os
@@ -24,6 +24,7 @@ sys.path[:0] = [str(TOP / "service"), str(TOP / "tools"), str(TOP / "tests")]
 
 from tests.processes import put_down  # noqa: E402
 from tests.meters import OWN, Meter, line_of, next_telegrams, some_meters  # noqa: E402
+from wmbus_service.commands import put_command  # noqa: E402
 from wmbus_service.config import Config, Programs, Receiver, unproved_words  # noqa: E402
 from wmbus_service.meters import add_meter, set_own  # noqa: E402
 from wmbus_service.store import open_store, prepare_folder, transaction  # noqa: E402
@@ -48,10 +49,22 @@ class Measured:
             for meter in self.meters:
                 add_meter(database, meter.line().split())
         (place / "config.toml").write_text(f'folder = "{self.config.folder}"\ninterval = {interval}\n[receivers.attic]\ncommand = "cat"\n'
-                                           'format = "hex"\n')
+                                           f'format = "hex"\ndownlinks = "{place}/sent"\n')
         self.place, self.written, self.seen = place, list[float](), list[float]()
         self.spool = self.config.spool / "attic.00000001.1.lines"
         self.spool.touch()
+
+    def command(self) -> None:
+        """Puts some commands to each meter."""
+        with closing(open_store(self.config.database)) as database:
+            for number, meter in enumerate(4 * self.meters):
+                put_command(database, f"c{number}", meter.name, "0102", time.time())
+
+    def downlinks(self) -> str:
+        """How long downlinks took from the beginning of their session to the radio, in words."""
+        with closing(sqlite3.connect(self.config.database)) as database:
+            count, longest = database.execute("select count(*), max(sent - made) from outbox where sent is not null").fetchone()
+        return f"{count} downlinks, with the radio at most {1000 * (longest or 0):.0f} ms behind the beginning of their session"
 
     def lines(self, count: int) -> Iterator[str]:
         """So many lines, of one meter after another."""
@@ -125,6 +138,8 @@ def measured(name: str, share: float, place: Path) -> str:
     lines = list(over.lines(count))
     if name == "backlog":
         over.spool.write_text("".join(lines))
+    if name == "latency":
+        over.command()
     started = over.start()
     try:
         begun = time.monotonic()
@@ -134,6 +149,8 @@ def measured(name: str, share: float, place: Path) -> str:
         writer.join(PATIENCE)
         seconds = over.seen[-1] - begun
         told = f"{count} lines of {len(over.meters)} meters in {seconds:.1f} s ({count / seconds:.0f} a second); {used_by(started)}"
+        if name == "latency":
+            told += f"; {over.downlinks()}"
         return told if name == "backlog" else f"{told}; {over.latencies()}"
     finally:
         started.send_signal(signal.SIGTERM)

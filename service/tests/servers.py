@@ -37,13 +37,25 @@ class Mosquitto:
     """A broker that keeps what it has acknowledged."""
 
     def __init__(self, folder: Path, extra: str = "") -> None:
-        self.folder, self.port = folder, free_port()
+        self.folder = folder
         folder.mkdir()
+        self.process: subprocess.Popen[bytes] | None = None
+        for tries in range(3):
+            self.port = free_port()
+            self._configure(extra)
+            try:
+                self.start()
+                break
+            except AssertionError:
+                # (another may have taken the port meanwhile)
+                if tries == 2:
+                    raise
+
+    def _configure(self, extra: str) -> None:
+        folder = self.folder
         text = f"listener {self.port} 127.0.0.1\npersistence true\npersistence_location {folder}/\n"
         text += "max_queued_messages 0\nmax_inflight_messages 0\nset_tcp_nodelay true\n"
         (folder / "conf").write_text(text + (extra or "allow_anonymous true\n") + ("user root\n" if os.geteuid() == 0 else ""))
-        self.process: subprocess.Popen[bytes] | None = None
-        self.start()
 
     def start(self) -> None:
         """Starts it, and waits until it listens."""
@@ -52,19 +64,23 @@ class Mosquitto:
         with open(self.folder / "log", "ab") as log:
             self.process = subprocess.Popen([program, "-c", str(self.folder / "conf")], stdout=log, stderr=log)
         try:
-            until(self._listens)
+            until(lambda: self._listens() or self._is_gone())
+            assert not self._is_gone()
         except AssertionError:
             put_down(self.process)
             raise AssertionError((self.folder / "log").read_text()) from None
+
+    def _is_gone(self) -> bool:
+        return self.process is None or self.process.poll() is not None
 
     def _listens(self) -> bool:
         with socket.socket() as tried:
             return tried.connect_ex(("127.0.0.1", self.port)) == 0
 
-    def end(self) -> None:
-        """Ends it; what it holds stands in its folder."""
+    def end(self, is_killed: bool = False) -> None:
+        """Ends it; what it holds stands in its folder, unless it is killed."""
         if self.process:
-            self.process.terminate()
+            self.process.kill() if is_killed else self.process.terminate()
             with suppress(subprocess.TimeoutExpired):
                 self.process.wait(PATIENCE)
             put_down(self.process)

@@ -13,7 +13,7 @@ import pytest
 from . import servers
 from .kill import MEMORY, Plan, Trial
 
-SECONDS = float(os.environ.get("WMBUS_KILL_SECONDS", "6"))
+SECONDS = float(os.environ.get("WMBUS_KILL_SECONDS", "20"))
 TRIES = 4
 # of each wrong order: where the service dies, and what is to be seen of it then
 WRONG = {

@@ -92,7 +92,7 @@ class Served:
 
 def test_readings_and_commands(house: House, mosquitto: Mosquitto) -> None:
     """Readings come retained, sensors once; a command comes in once, its states go back; what can't be taken is answered; a broker
-    that was away gets all."""
+    that was away gets all, and one that was killed what it hasn't acknowledged."""
     served, meter = Served(house, mosquitto), house.meters[0]
     until(lambda: ("wmbus/status", "online", False) in served.listener.heard)
     send = served.listener.client.publish
@@ -113,10 +113,14 @@ def test_readings_and_commands(house: House, mosquitto: Mosquitto) -> None:
     assert len(house.all("select id from publication")) >= 5
     mosquitto.start()
     until(lambda: [it["counter"] for it in served.heard(f"wmbus/meter/{meter.name}")][-5:] == [3, 4, 5, 6, 7])
+    mosquitto.end(is_killed=True)
+    house.spool("".join(house.whole(meter) for _ in range(3)))
+    until(lambda: len(house.all("select id from reading")) == 10)
+    mosquitto.start()
     until(lambda: not house.all("select id from publication"))
     retained = run(["mosquitto_sub", "-h", "127.0.0.1", "-p", str(mosquitto.port), "-t", f"wmbus/meter/{meter.name}", "-C", "1",
                     "-W", "30"]) if shutil.which("mosquitto_sub") else None
-    assert retained is None or json.loads(retained.stdout)["volume"] == 0.007
+    assert retained is None or json.loads(retained.stdout)["volume"] == 0.010
     assert {name for name, _, _ in served.listener.heard
             if name.startswith("homeassistant/")} == {f"homeassistant/sensor/wmbus_{meter.name}/volume/config"}
     served.end()

@@ -35,6 +35,19 @@ NOBODY = 65534
 DAY = 86_400
 
 
+def may_give_away() -> bool:
+    """Whether this user may give files to another one."""
+    with tempfile.NamedTemporaryFile() as file:
+        try:
+            os.chown(file.name, NOBODY, NOBODY)
+        except OSError:
+            return False
+    return True
+
+
+as_root = pytest.mark.skipif(not may_give_away(), reason="only root can give files to another user")
+
+
 def test_disk_full(house: House, caplog: pytest.LogCaptureFixture) -> None:
     """No room for a session: it is said once, nothing of it counts, and once there is room all is heard."""
     lines = [house.whole(house.meters[0]) for _ in range(300)]
@@ -54,7 +67,7 @@ def test_disk_full(house: House, caplog: pytest.LogCaptureFixture) -> None:
     assert len(house.all("select id from reading")) == 300
 
 
-@pytest.mark.skipif(os.geteuid() != 0, reason="only root can do it")
+@as_root
 def test_read_only(tmp_path: Path) -> None:
     """A database that can't be written is said to be so, before anything is heard."""
     folder = tmp_path / "wmbus"
@@ -96,13 +109,13 @@ def test_rights(tmp_path: Path) -> None:
     folder.chmod(0o755)
     with pytest.raises(Trouble, match="chmod 700"):
         store.prepare_folder(folder)
-    if os.geteuid() == 0:
+    if may_give_away():
         os.chown(folder, NOBODY, NOBODY)
         with pytest.raises(Trouble, match="belongs to the user"):
             store.prepare_folder(folder)
 
 
-@pytest.mark.skipif(os.geteuid() != 0, reason="only root can do it")
+@as_root
 def test_root_acts_as_the_owner() -> None:
     """Where root adds a meter the database belongs to the service's user all the same."""
     with tempfile.TemporaryDirectory() as place:
@@ -168,6 +181,26 @@ def test_an_end_at_any_moment(tmp_path: Path) -> None:
     finally:
         statuses = [child.end() for child in children]
     assert not any(statuses)
+
+
+def test_a_line_is_heard_at_once(house: House, tmp_path: Path) -> None:
+    """Once nothing is left the next line is heard when it comes, and not an interval later; the ones behind it wait for the interval."""
+    house.database.close()
+    config = replace(house.config, interval=100_000.0)
+    path = house.spool("")
+    child = Child(tmp_path / "log", lambda: service.run(config))
+    try:
+        until(lambda: "begun" in (tmp_path / "log").read_text())
+        with closing(store.open_store(config.database)) as database:
+            for number in (1, 2):
+                with open(path, "a", encoding="ascii") as file:
+                    file.write(house.whole(house.meters[0]))
+                if number == 1:
+                    until(lambda: database.execute("select count(*) from reading").fetchone() == (1,))
+            time.sleep(0.5)
+            assert database.execute("select count(*) from reading").fetchone() == (1,)
+    finally:
+        assert child.end(signal.SIGTERM) == 0
 
 
 def core_files(folder: Path) -> list[Path]:

@@ -2,10 +2,13 @@
 from __future__ import annotations
 
 import csv
+import html
 import io
 import os
 import re
+import sqlite3
 import subprocess
+from contextlib import closing
 from pathlib import Path
 
 import pytest
@@ -77,6 +80,16 @@ def test_consumption(page: PageHouse) -> None:
     assert rows["hour"][:2] == [("2027-01-15 07:00", "0.007", ""), ("2027-01-15 06:00", "0.010", "from 2027-01-14 12:00 UTC")]
     text = page.client().get(f"/meters/{address}").text
     assert "0.297 m³" in text and "2026-12" in text
+
+
+def test_one_unit(page: PageHouse) -> None:
+    """What was used in an hour, a day and a month is told in one unit, that of the greatest."""
+    address = page.addresses[0]
+    for back, kilowatt_hours in ((20, 1000), (2, 1400), (1, 1420), (0, 1425)):
+        page.read(address, NOW - back * DAY - 60, ("energy", "Wh", 3, str(kilowatt_hours)))
+    told = page.client().get(f"/api/meters/{address}").json
+    assert told
+    assert {by: rows[0]["text"] for by, rows in told["used"][0]["by"].items()} == {"hour": "5 kWh", "day": "5 kWh", "month": "425 kWh"}
 
 
 def test_replaced_meter(page: PageHouse) -> None:
@@ -207,6 +220,47 @@ def test_csv(page: PageHouse) -> None:
     assert [row[5] for row in rows(f"/meters/{first}/readings.csv?from={int(NOW) - 2 * DAY}")[1:]] == ["0.020", "0.030"]
     assert [row[5] for row in rows("/readings.csv?from=2027-01-14")[1:]] == ["0.030", "0.005"]
     assert page.client().get(f"/meters/{first}/readings.csv?from=yesterday").status_code == 400
+
+
+def test_json_is_the_page(page: PageHouse) -> None:
+    """What stands in the JSON of a page stands on the page, meter for meter, and in that order."""
+    first, second, third = page.addresses
+    page.write("update meter set name = 'Cellar' where address = ?", first)
+    for back in range(4, 0, -1):
+        page.volume(first, NOW - back * DAY, 2000 - 30 * back)
+    page.read(second, NOW - 5 * DAY, ("energy", "Wh", 3, "12345"), ("flowtemperature", "C", -1, "713"))
+    page.write("insert into refusal values (?, 'mac', 'mac', 9, 1, ?), (?, 'stale', 'stale 4 9', 2, 1, ?)", third, NOW - 60, first, NOW)
+    page.write("insert into stranger values ('2d2c785634121b16', 50, 'attic', ?), ('4304123040010404', 3, 'roof', ?)", NOW - 60, NOW)
+    page.write("insert into line (receiver, text, made) values ('attic', 'A 1 00', ?)", NOW - 60)
+    page.write("insert into command (id, address, kind, payload, state, made, changed) values ('c1', ?, 'send', '00', 'expired', 1, ?)",
+               first, NOW - 60)
+    parts = {"": ("looks.what looks.title looks.to_do", "meters.title meters.about"),
+             "/receivers": ("receivers.name receivers.per_minute",), "/strangers": ("strangers.label strangers.type strangers.address",),
+             f"/meters/{first}": ("values.title values.text", "commands.id commands.words", "curves.most curves.least curves.count")}
+    told = {path: page.client().get(f"/api{path or '/overview'}").json or {} for path in parts}
+    for path, lists in parts.items():
+        given = re.sub(r"\s+", " ", html.unescape(re.sub("<[^>]*>", " ", page.client().get(path or "/").text)))
+        for fields in lists:
+            name, wanted = fields.split(".")[0], [field.split(".")[1] for field in fields.split()]
+            assert told[path][name]
+            place = 0
+            for row in told[path][name]:
+                for field in wanted:
+                    place = given.find(str(row[field]), place)
+                    assert place >= 0, (path, name, field, row[field])
+    rows = told[f"/meters/{first}"]["used"][0]["by"]["day"]
+    assert rows and all(f"{row['period']} {row['text']}" in given or row["note"] for row in rows)
+
+
+def test_where_viewers_find_it(page: PageHouse) -> None:
+    """The overview names the database so that a viewer of SQLite opens it, for reading alone."""
+    page.volume(page.addresses[0], NOW - 60, 7)
+    place = (page.client().get("/api/overview").json or {})["sqlite"]
+    assert place in html.unescape(page.client().get("/").text)
+    with closing(sqlite3.connect(place, uri=True)) as viewer:
+        assert viewer.execute("select address, value from reading join record on reading = id").fetchall() == [(page.addresses[0], "7")]
+        with pytest.raises(sqlite3.OperationalError, match="readonly"):
+            viewer.execute("delete from reading")
 
 
 def test_no_key_can_be_read(page: PageHouse) -> None:

@@ -6,6 +6,7 @@ from __future__ import annotations
 import json
 import os
 import shutil
+import socket
 import threading
 from base64 import b64decode
 from collections.abc import Callable, Iterator
@@ -20,9 +21,20 @@ from .processes import PATIENCE
 from .test_page_hostile import MARKUP
 from .test_sessions import NOW, house_fixture  # noqa: F401
 
+
+
+def is_named(host: str) -> bool:
+    """Whether a name has an address."""
+    try:
+        return bool(socket.getaddrinfo(host, 80))
+    except OSError:
+        return False
+
+
 webdriver = pytest.importorskip("selenium.webdriver", reason="python3-selenium isn't there")
 CHROMIUM, DRIVER = shutil.which("chromium"), shutil.which("chromedriver")
-pytestmark = pytest.mark.skipif(not (CHROMIUM and DRIVER), reason="chromium and chromium-driver aren't there")
+pytestmark = [pytest.mark.skipif(not (CHROMIUM and DRIVER), reason="chromium and chromium-driver aren't there"),
+              pytest.mark.skipif(not is_named("localhost"), reason="selenium asks for the name localhost, which isn't known here")]
 WIDTHS = (390, 768, 1400)
 STRANGER = "2d2c785634121b16"
 KEY = "0123456789abcdef" * 2

@@ -1,10 +1,8 @@
-"""The page over what is hostile: names and payloads with markup, huge values, thousands of registers, addresses with anything in them."""
+"""The page over what is hostile: names and payloads with markup, huge values, thousands of registers."""
 from __future__ import annotations
 
-import random
 import re
 from html.parser import HTMLParser
-from urllib.parse import quote_from_bytes
 
 import pytest
 from flask.testing import FlaskClient
@@ -19,18 +17,20 @@ TAGS = {"html", "head", "meta", "title", "link", "body", "a", "nav", "form", "in
 
 
 class Tags(HTMLParser):
-    """What stands on a page: its tags and their attributes."""
+    """What stands on a page: its tags, their attributes, and where its links and forms lead."""
 
     def __init__(self, text: str) -> None:
         super().__init__()
         self.tags: set[str] = set()
         self.attributes: set[str] = set()
+        self.targets: set[str] = set()
         self.feed(text)
 
     def handle_starttag(self, tag: str, attrs: list[tuple[str, str | None]]) -> None:
         """A tag."""
         self.tags.add(tag)
         self.attributes |= {name for name, _ in attrs}
+        self.targets |= {value or "" for name, value in attrs if name in ("href", "action", "formaction")}
 
 
 def look_at(client: FlaskClient, path: str) -> str:
@@ -93,25 +93,6 @@ def test_many_registers(page: PageHouse) -> None:
     assert text.count("storage ") == 199 and "And 2800 more" in text
     told = client.get(f"/api/meters/{address}").json
     assert told and len(told["values"]) == 3000
-
-
-def test_any_address(page: PageHouse) -> None:
-    """A fuzzer over routes: whatever stands in a URL, the answer has words."""
-    hostile(page)
-    draw = random.Random(7)
-    client, word = entered(page.page(TOKEN))
-    pieces = ["/", "..", "%00", "meters", page.addresses[0], "api", "readings.csv", "strangers", "enter", "static", "page.css", "?span=",
-              "?from=", "&to=", "9" * 30, "-1", "2026-02-30", "9999-12-31", "0001-01-01", "week", quote_from_bytes(MARKUP.encode()), "%ff",
-              "%", "#", ";", "'or 1=1--", "\u0660" * 16, "{{7*7}}", "commands", "cancel", "x" * 3000]
-    for _ in range(400):
-        path = "/" + "".join(draw.choice(pieces) + draw.choice(["", "/"]) for _ in range(draw.randrange(1, 6)))
-        for given in (client.get(path), client.post(path, data={"forms": word, "payload": path, "id": path, "address": path})):
-            assert given.status_code < 500, path
-            assert given.status_code == 303 or given.data or given.status_code in (308, 304) or given.mimetype == "text/csv", path
-            if given.mimetype == "text/html":
-                assert Tags(given.text).tags <= TAGS, path
-    assert client.delete("/").status_code == 405 and "can&#39;t be asked" in client.delete("/").text
-    assert page.house.all("select count(*) from meter") == [3]
 
 
 def test_trouble_has_words(page: PageHouse, monkeypatch: pytest.MonkeyPatch) -> None:

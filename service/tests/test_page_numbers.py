@@ -30,6 +30,7 @@ UNITS = {"m³": "m3", "m³/h": "m3/h", "m³/min": "m3/min", "m³/s": "m3/s", "°
 PREFIXES = {"": 0, "k": 3, "M": 6, "G": 9, "T": 12}
 NUMBER = re.compile(r"(-?[0-9 \u2009\u202f,]+(?:\.[0-9]+)?) (.+)")
 
+REGISTER = ("function", "storage", "tariff", "subunit", "quantity", "unit")
 # a value: function, storage, tariff, subunit, quantity, unit, and its number or word
 Told = tuple[str, int, int, int, str, str, str]
 
@@ -86,7 +87,8 @@ class Committed:
         """A reading's values, as the database has them."""
         rows = self.database.execute("select function, storage, tariff, subunit, quantity, unit, value, exponent from record"
                                      " where reading = ? order by place", (reading,))
-        return [(*row[:6], number_text(*row[6:])) for row in rows]
+        return [(function, storage, tariff, subunit, quantity, unit, number_text(value, exponent))
+                for function, storage, tariff, subunit, quantity, unit, value, exponent in rows]
 
 
 def number_text(value: str, exponent: int) -> str:
@@ -123,10 +125,10 @@ def look_at_meter(made: Committed, heard: Heard, address: str) -> None:
     """A meter's page, JSON and CSV are what the report says."""
     given = made.client.get(f"/api/meters/{address}").json
     assert given
-    shown = {(it["function"], it["storage"], it["tariff"], it["subunit"], it["quantity"], it["unit"]): it["value"] for it in given["values"]}
+    shown = {tuple(it[name] for name in REGISTER): it["value"] for it in given["values"]}
     # (a register that only earlier readings have stands there with the last of these)
-    earlier = [row for (ident,) in made.database.execute("select id from reading where address = ? order by moment desc, id desc", (address,))
-               for row in made.values(ident)]
+    readings = made.database.execute("select id from reading where address = ? order by moment desc, id desc", (address,)).fetchall()
+    earlier = [row for (ident,) in readings for row in made.values(ident)]
     assert shown == last_of(heard.values[address] + earlier)
     refused: Counter[str] = Counter()
     for row in given["refusals"]:
@@ -148,12 +150,12 @@ def look_at_meter(made: Committed, heard: Heard, address: str) -> None:
     assert sorted([*told, *((str(counter), str(moment)) for counter, moment in bare)]) == sorted(heard.readings[address])
     if heard.readings[address]:
         counter, moment = heard.readings[address][-1]
-        assert [tuple(row[place[name]] for name in ("function", "storage", "tariff", "subunit", "quantity", "unit", "value"))
+        assert [tuple(row[place[name]] for name in (*REGISTER, "value"))
                 for row in read if (row[place["counter"]], row[place["moment"]]) == (counter, moment)] == [
                     tuple(map(str, value)) for value in heard.values[address]]
 
 
-@pytest.mark.parametrize("place", EXAMPLES + SESSIONS, ids=lambda it: it.name)
+@pytest.mark.parametrize("place", EXAMPLES + SESSIONS, ids=[place.name for place in EXAMPLES + SESSIONS])
 def test_numbers_are_those_of_the_report(place: Path, tmp_path: Path, monkeypatch: pytest.MonkeyPatch) -> None:
     """Values, readings, refusals, strangers and lines are those of the report; so are the database's."""
     monkeypatch.setenv("TZ", "UTC")

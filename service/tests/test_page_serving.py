@@ -1,6 +1,7 @@
 """The page as a process: served on this machine as it is, elsewhere with TLS; it ends when it is told to, whatever its connections do."""
 from __future__ import annotations
 
+import re
 import shutil
 import signal
 import socket
@@ -9,7 +10,6 @@ import subprocess
 import sys
 import threading
 import time
-import urllib.error
 import urllib.request
 from collections.abc import Iterator
 from contextlib import ExitStack, contextmanager, suppress
@@ -21,7 +21,7 @@ import pytest
 from wmbus_service.page import serving
 
 from .page_house import TOKEN, PageHouse, page_fixture  # noqa: F401
-from .processes import PATIENCE, certificate_of, free_port, started, until
+from .processes import PATIENCE, certificate_of, started, until
 from .test_sessions import house_fixture  # noqa: F401
 
 SERVICE = Path(__file__).resolve().parents[1]
@@ -40,6 +40,13 @@ class Served:
         """Its words."""
         return self.log.read_text(encoding="utf-8")
 
+    def port(self) -> int:
+        """The port that it took."""
+        until(lambda: "the page is at" in self.said() or self.process.poll() is not None)
+        found = re.search(r"the page is at https?://[0-9.]+:(\d+)/", self.said())
+        assert found, self.said()
+        return int(found[1])
+
     def ended(self) -> int:
         """Its exit status, once it has ended."""
         until(lambda: self.process.poll() is not None)
@@ -57,21 +64,14 @@ def served(page: PageHouse, words: str) -> Iterator[Served]:
         yield Served(process, log)
 
 
-def fetched(it: Served, address: str, trust: ssl.SSLContext | None = None) -> str:
-    """A page, once it is served."""
-    limit = time.monotonic() + PATIENCE
-    while True:
-        try:
-            with urllib.request.urlopen(address, context=trust, timeout=PATIENCE) as given:
-                return str(given.read().decode())
-        except urllib.error.HTTPError as fault:
-            raise AssertionError(f"{fault}; {it.said()[-2000:]}") from None
-        except OSError as fault:
-            assert it.process.poll() is None and time.monotonic() < limit, f"{fault}; {it.said()}"
-            time.sleep(0.1)
+def fetched(it: Served, trust: ssl.SSLContext | None = None) -> str:
+    """The page."""
+    address = f"http{'s' if trust else ''}://127.0.0.1:{it.port()}/"
+    with urllib.request.urlopen(address, context=trust, timeout=PATIENCE) as given:
+        return str(given.read().decode())
 
 
-def with_tls(tmp_path: Path, port: int) -> tuple[str, ssl.SSLContext]:
+def with_tls(tmp_path: Path, port: int = 0) -> tuple[str, ssl.SSLContext]:
     """The configuration of a page that is served with TLS, without a token, and who trusts it."""
     pytest.importorskip("cheroot", reason="python3-cheroot isn't there")
     if not shutil.which("openssl"):
@@ -91,25 +91,23 @@ def with_token(tmp_path: Path) -> str:
 
 def test_on_this_machine(page: PageHouse) -> None:
     """It is served, and ends with status 0."""
-    port = free_port()
-    with served(page, f"port = {port}\n") as it:
-        assert "All meters" in fetched(it, f"http://127.0.0.1:{port}/")
+    with served(page, "port = 0\n") as it:
+        assert "All meters" in fetched(it)
         it.process.send_signal(signal.SIGTERM)
         assert it.ended() == 0, it.said()
 
 
 def test_elsewhere_with_tls(page: PageHouse, tmp_path: Path) -> None:
     """On all addresses it speaks TLS alone, and asks for the token first; without either it doesn't start."""
-    port = free_port()
-    tls, trust = with_tls(tmp_path, port)
-    for words, told in ((f'host = "0.0.0.0"\nport = {port}\n', "without TLS they read along"), (tls, "it has no token")):
+    tls, trust = with_tls(tmp_path)
+    for words, told in (('host = "0.0.0.0"\nport = 0\n', "without TLS they read along"), (tls, "it has no token")):
         with served(page, words) as it:
             assert it.ended() == 1 and told in it.said()
     with served(page, tls + with_token(tmp_path)) as it:
-        text = fetched(it, f"https://127.0.0.1:{port}/", trust)
+        text = fetched(it, trust)
         assert "<h1>Enter</h1>" in text and "All meters" not in text
         with pytest.raises(OSError):
-            urllib.request.urlopen(f"http://127.0.0.1:{port}/", timeout=PATIENCE)
+            urllib.request.urlopen(f"http://127.0.0.1:{it.port()}/", timeout=PATIENCE)
         it.process.send_signal(signal.SIGTERM)
         assert it.ended() == 0, it.said()
 
@@ -136,20 +134,19 @@ def go_on(opened: socket.socket) -> None:
 def test_open_connections(page: PageHouse, tmp_path: Path, is_with_tls: bool) -> None:
     """Told to end, once or twice, it ends within seconds, though one connection is kept alive, one goes on with its request without end,
     and one has begun a handshake."""
-    port = free_port()
-    words, trust = with_tls(tmp_path, port) if is_with_tls else (f"port = {port}\n", None)
+    words, trust = with_tls(tmp_path) if is_with_tls else ("port = 0\n", None)
     with served(page, words + with_token(tmp_path)) as it, ExitStack() as opened:
-        fetched(it, f"http{'s' if trust else ''}://127.0.0.1:{port}/", trust)
+        fetched(it, trust)
 
         def connection() -> socket.socket:
-            plain = opened.enter_context(socket.create_connection(("127.0.0.1", port), PATIENCE))
+            plain = opened.enter_context(socket.create_connection(("127.0.0.1", it.port()), PATIENCE))
             return opened.enter_context(trust.wrap_socket(plain, server_hostname="127.0.0.1")) if trust else plain
         kept, half = connection(), connection()
         kept.sendall(b"GET /enter HTTP/1.1\r\nHost: 127.0.0.1\r\n\r\n")
         assert kept.recv(100).startswith(b"HTTP/1.1 200")
         half.sendall(b"GET /enter HTTP/1.1\r\nHost: ")
         threading.Thread(target=go_on, args=(half,), daemon=True).start()
-        opened.enter_context(socket.create_connection(("127.0.0.1", port), PATIENCE)).sendall(HALF_A_HANDSHAKE)
+        opened.enter_context(socket.create_connection(("127.0.0.1", it.port()), PATIENCE)).sendall(HALF_A_HANDSHAKE)
         time.sleep(0.5)
         it.process.send_signal(signal.SIGTERM)
         time.sleep(serving.GRACE / 3)

@@ -25,10 +25,12 @@ class Publications:
         for record in said["records"]:
             kind = kind_of(said["address"], record)
             text = shown(record, kind) if kind else None
-            if kind is None or text is None or name_of(record) in values:
+            if kind is None or text is None or (name := name_of(record)) in values:
                 continue
-            values[name_of(record)] = text
-            self._announce(said["address"], record, kind)
+            values[name] = text
+            if (said["address"], name) not in self.known:
+                self.known.add((said["address"], name))
+                self._announce(said["address"], name, record, kind)
         members = [f'"moment":{said["at"]}', f'"counter":{said["counter"]}', f'"line":{line}']
         members += [f'"{name}":{text}' for name, text in values.items()]
         self._put(f"{self.mqtt.topic}/meter/{said['address']}", "{" + ",".join(members) + "}", True)
@@ -46,13 +48,9 @@ class Publications:
         if self.mqtt is not None:
             self._put(f"{self.mqtt.topic}/commands/{address}", json.dumps({"error": words}), False)
 
-    def _announce(self, address: str, record: dict[str, Any], kind: Kind) -> None:
+    def _announce(self, address: str, name: str, record: dict[str, Any], kind: Kind) -> None:
         """Tells Home Assistant of a sensor, once."""
         assert self.mqtt is not None
-        name = name_of(record)
-        if (address, name) in self.known:
-            return
-        self.known.add((address, name))
         if not self.database.execute("insert or ignore into announced values (?, ?)", (address, name)).rowcount:
             return
         (label,) = self.database.execute("select name from meter where address = ?", (address,)).fetchone()

@@ -5,16 +5,17 @@ from __future__ import annotations
 import fcntl
 import os
 import sqlite3
+from dataclasses import dataclass
 from itertools import accumulate
 from pathlib import Path
-from typing import NamedTuple
 
 # a line of the grammar has 1,024 bytes at most; of a longer one so many are kept, and the program calls it bad
 LONGEST = 1_100
 CHUNK = 1 << 20
 
 
-class Spooled(NamedTuple):
+@dataclass(frozen=True)
+class Spooled:
     """A whole line of a receiver's file, and the place behind it."""
 
     receiver: str

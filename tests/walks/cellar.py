@@ -117,7 +117,7 @@ def names_from_labels(walk: Walk) -> None:
 def a_wrong_key(walk: Walk) -> None:
     """Keys of one digit, a digit that was copied wrongly, and another meter's key: the hints, the report, what to do, the page."""
     walk.keys |= {HEAT_KEY, GAS_KEY, SECOND_KEY}
-    for key, words in (("00" * 16, "its key is sixteen equal bytes"), (GAS_KEY, "another meter has the same key")):
+    for key, words in (("00" * 16, "its key is sixteen equal bytes"), (GAS_KEY, f"it has the same key as meter {GAS}")):
         walk.write("roster", roster(GAS_KEY, key))
         hints = walk.run("input_check", "roster", "day1.rx").text
         true(f"input_check doesn't say {words!r}: {hints}", re.search(rf"^meter {HEAT} .*: {words}", hints, re.M))

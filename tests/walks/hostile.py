@@ -101,10 +101,10 @@ def texts_saved_otherwise(walk: Walk) -> None:
     for name in ("roster", "rx"):
         walk.write(f"{name}.crlf", walk.read(name).replace(b"\n", b"\r\n"))
     equal("the report over files with carriage returns", report, walk.session("hear", "roster.crlf", "rx.crlf"))
-    for code in ("utf-16", "utf-8-sig"):
+    for code, said in (("utf-16", "roster line 1: "), ("utf-8-sig", "roster: a byte order mark ")):
         walk.write("other", walk.text("roster").encode(code))
         walk.run("wmbus", "hear", "other", "rx", status=3, told="wmbus: roster line 1 head\n")
-        true(f"input_check says nothing of the first line in {code}", walk.run("input_check", "other", status=1).text.startswith("roster line 1: "))
+        true(f"input_check doesn't begin with {said!r} in {code}", walk.run("input_check", "other", status=1).text.startswith(said))
         what_to_do("Roster", "head")
     frame = walk.read("rx").splitlines()[1].split(b" ")[2]
     numbers = [b"18446744073709551615", b"18446744073709551616", b"9" * 900, b"-1", b"+1", b"1e3", b"0x10", b" 1", b"01", "١".encode()]

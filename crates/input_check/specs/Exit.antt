@@ -15,9 +15,8 @@ code_of (statuses.Stopped stops.Read) = 5
 code_of (statuses.Stopped stops.Write) = 7
 code_of (statuses.Stopped stops.Cut) = 8
 code_of (statuses.Stopped stops.Memory) = 10
-code_of statuses.Unopened = 11
 
--- how a check ends that found a faulty line, or none, or that stopped
+-- how a check ends that found something faulty, or nothing, or that stopped
 abbrev pub status_of : Result Bool Stop → CheckStatus
 status_of (Ok false) = statuses.Done
 status_of (Ok true) = statuses.Found
@@ -28,7 +27,7 @@ abbrev pub names_state : {A : Type 0} → List A → Bool
 names_state [] = false
 names_state (state ∷ receivers) = true
 
--- how a check ends: no line is faulty, some are, a file that can't be read, an output that can't be written, a file past its limit, no
+-- how a check ends: nothing is faulty, something is, a file that can't be read, an output that can't be written, a file past its limit, no
 -- memory, a file that can't be opened
 abbrev pub run_exits : List ℕ
 run_exits = 0 ∷ 1 ∷ 5 ∷ 7 ∷ 8 ∷ 10 ∷ 11 ∷ []

@@ -17,7 +17,7 @@ mod status;
 use input_check_main::{Stop, check_inputs};
 use line_reader::Lines;
 use outer_io::{Sink, Source, StdSink, StdSource};
-use program_words::{NoWords, OwnText, command_words, own_text, tell};
+use program_words::{NoWords, OwnText, cannot_open, command_words, own_text, tell};
 use status::CheckStatus;
 use std::fs::{File, Files};
 use std::process::ExitCode;
@@ -32,13 +32,14 @@ usage: input_check STATE [RX ..]
 prints every faulty line of the file STATE, which is a state by its first line or
 else a roster, and of the files of receivers RX, of which each has the number of
 its place, with what is wrong and what to do. Of a receiver the first 100 are
-printed, and how many there are. Where STATE is right it also says which meters
-have the same key, or one of sixteen equal bytes, which were not heard, and which
-strangers were heard most often.
+printed, and how many there are. A byte order mark in front of STATE is named,
+and its lines are judged as if it weren't there. Where STATE is right it also
+says which meters have the same key, or one of sixteen equal bytes, which were
+not heard, and which strangers were heard most often.
 
-exit status: 0 no line is faulty, 1 some are, 2 faulty words, 5 a file not read,
-7 output not written, 8 a file past its limit, 10 no memory, 11 a file that
-can't be opened
+exit status: 0 nothing is faulty, 1 a line is or a mark stands in front of STATE,
+2 faulty words, 5 a file not read, 7 output not written, 8 a file past its limit,
+10 no memory, 11 a file that can't be opened
 
 docs/FORMATS.md says what each fault, refusal and message means and what to do about
 it; docs/input_check.1 is the man page.
@@ -98,13 +99,13 @@ fn check<R: Eprint + AllocGlobal, S: Source, K: Sink>(
     end(rt, status_of(checked))
 }
 
-// Opens a file, or ends with status 11.
+// Opens a file, or ends with status 11, and names it.
 fn open<R: Eprint + Files<File = File>>(rt: &R, name: &str) -> Result<StdSource, ExitCode>
     ensures unopened { IfErr result (λ ended. exit_status ended ≡ 11) }
 {
     match File::open(rt, name) {
         Ok(file) => Ok(StdSource::file(file)),
-        Err(_unopened) => Err(end(rt, CheckStatus::Unopened)),
+        Err(_unopened) => Err(cannot_open(rt, "input_check", name)),
     }
 }
 

@@ -5,16 +5,14 @@ use std::fmt;
 /// How a check ended.
 #[derive(Clone, Copy, Debug, PartialEq, Eq)]
 pub enum CheckStatus {
-    /// Status 0: no line is faulty.
+    /// Status 0: nothing is faulty.
     Done,
-    /// Status 1: some lines are.
+    /// Status 1: some lines are, or a byte order mark stands in front.
     Found,
     /// Status 2: the words name no state.
     Words,
     /// Status 5, 7, 8 or 10: why not all could be checked.
     Stopped(Stop),
-    /// Status 11: a file that can't be opened.
-    Unopened,
 }
 
 impl CheckStatus {
@@ -33,7 +31,6 @@ impl CheckStatus {
             CheckStatus::Stopped(Stop::Write) => 7,
             CheckStatus::Stopped(Stop::Cut) => 8,
             CheckStatus::Stopped(Stop::Memory) => 10,
-            CheckStatus::Unopened => 11,
         }
     }
 }
@@ -51,7 +48,6 @@ impl fmt::Display for CheckStatus {
                 "input_check: a file has more lines or bytes than are read"
             }
             CheckStatus::Stopped(Stop::Memory) => "input_check: no memory",
-            CheckStatus::Unopened => "input_check: a file can't be opened",
         })
     }
 }

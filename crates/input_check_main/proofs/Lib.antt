@@ -1,4 +1,5 @@
 pub mod Kept
 mod LaterFaults
 mod Limits
+mod MarkedTexts
 mod RosterMeters

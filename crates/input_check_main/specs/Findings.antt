@@ -6,7 +6,7 @@ use Rattle.state_file.specs.declared.fault.StateFault.{StateFault}
 use Rattle.state_file.specs.declared.fault.StateFault.TheVariants.{Roster, Line, Memory}
 use Rattle.state_file.specs.Faults.{is_state, state_faults_of}
 use Rattle.input_check_main.specs.declared.faulty.FaultyLine.{FaultyLine}
-use Rattle.input_check_main.specs.Bytes.{bytes_words}
+use Rattle.input_check_main.specs.Bytes.{unmarked, mark_words, bytes_words}
 use Rattle.input_check_main.specs.Causes.{roster_words, state_words, line_words}
 use Rattle.input_check_main.specs.Texts.{between_two}
 
@@ -29,17 +29,18 @@ abbrev pub bytes_words_if : List StateFault → List ℕ → List ℕ → List �
 bytes_words_if [] word bytes = []
 bytes_words_if (fault ∷ faults) word bytes = bytes_words word bytes
 
--- these faulty lines, and what may be behind them in a file with these bytes; the word says what the file is
+-- these faulty lines, a mark in front, and what may be behind faulty lines, of a file with these bytes; the word says what the file is
 unfoldable pub findings_text : List StateFault → List ℕ → List ℕ → List ℕ
-findings_text faults word bytes = fault_lines faults ++ bytes_words_if faults word bytes
+findings_text faults word bytes = fault_lines faults ++ mark_words word bytes ++ bytes_words_if faults word bytes
 
 -- what a text is: with the head of a state it is to be one, and any other is to be a roster
 abbrev pub file_word : List ℕ → List ℕ
 file_word bytes = if is_state bytes then codes "state" else codes "roster"
 
--- all that is said of a text that is to be a state or a roster
+-- all that is said of a text that is to be a state or a roster: what it is, and which of its lines are faulty, is that of the text behind
+-- a mark
 abbrev pub state_text : List ℕ → List ℕ
-state_text bytes = findings_text (state_faults_of bytes) (file_word bytes) bytes
+state_text bytes = findings_text (state_faults_of (unmarked bytes)) (file_word (unmarked bytes)) bytes
 
 -- a faulty line of this receiver
 unfoldable pub receiver_line : ℕ → FaultyLine → List ℕ

@@ -18,9 +18,13 @@ turned_text turned =
     codes "it was not heard, but with its bytes turned round it is " ++ encode_lower (bytes_of turned)
     ++ codes ", which was heard or stands in the roster: write that in its place?"
 
+unfoldable pub shared_text : Address → List ℕ
+shared_text other =
+    codes "it has the same key as meter " ++ encode_lower (bytes_of other) ++ codes ": one of the two may have been copied wrongly"
+
 abbrev pub hint_text : Hint → List ℕ
 hint_text hints.EqualBytes = codes "its key is sixteen equal bytes: ask the maker for the right one"
-hint_text hints.SharedKey = codes "another meter has the same key: one of the two may have been copied wrongly"
+hint_text (hints.SharedKey other) = shared_text other
 hint_text hints.Unheard = codes "it was not heard: is it in reach, and is its address that of the label (meter_name)?"
 hint_text (hints.Turned turned) = turned_text turned
 hint_text (hints.Stranger count) = between (codes "it is not in the roster, and was heard ") count (codes " times")

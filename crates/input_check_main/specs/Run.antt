@@ -1,28 +1,28 @@
 -- A check of a state, which may be a roster, and of receivers: what its sources and its sink showed before and after it, and what is
 -- promised of it.
-use Rattle.std.specs.Prelude.{ℕ, ◌≡◌, ◌⊎◌, ◌<◌, ◌||◌, nat_lt, Bool, true, List, ◌++◌, length, Result, Err, IsTrue, IfOk, OnOk}
+use Rattle.std.specs.Prelude.{ℕ, ◌≡◌, ◌⊎◌, ◌<◌, ◌||◌, Bool, true, List, ◌++◌, length, Result, Err, IsTrue, IfOk, OnOk}
 use Rattle.outer_io.specs.Each.{PassUntil}
 use Rattle.outer_io.specs.Shown.{Change, SourceShown, SinkShown, ReadFailed, WriteFailed}
 use Rattle.line_reader.specs.Lines.{is_over}
-use Rattle.state_file.specs.Faults.{most_bytes, state_faults_of}
 use Rattle.input_check_main.specs.declared.hints.Note.{Note}
 use Rattle.input_check_main.specs.declared.states.Stop.{Stop}
 use Rattle.input_check_main.specs.declared.states.Stop.TheVariants as stops
 use Rattle.input_check_main.specs.Findings.{state_text}
 use Rattle.input_check_main.specs.Hints.{notes_text}
 use Rattle.input_check_main.specs.Receivers.{any_faulty, receivers_text}
+use Rattle.input_check_main.specs.States.{is_faulty_text, most_in}
 
 -- ---- what is found
 
--- a line of the state or of a receiver is faulty
+-- the state, or a line of a receiver, is faulty
 abbrev pub is_faulty : (state : List ℕ) → (receivers : List (List ℕ)) → Bool
-is_faulty state receivers = nat_lt 0 (length (state_faults_of state)) || any_faulty receivers
+is_faulty state receivers = is_faulty_text state || any_faulty receivers
 
 -- notes were printed, and nothing else
 abbrev pub AddsNotes : (old new : List ℕ) → Type 0
 AddsNotes old new = (notes : List Note) × (new ≡ old ++ notes_text notes)
 
--- All that is printed: the faulty lines of the state, notes on its keys, the faulty lines of each receiver, and notes on what they heard.
+-- All that is printed: what is faulty of the state, notes on its keys, the faulty lines of each receiver, and notes on what they heard.
 pub record IsPrinted (state : List ℕ) (receivers : List (List ℕ)) (old new : List ℕ) : Type 0 where
   pub keys : List Note
   pub hearing : List Note
@@ -39,7 +39,7 @@ pub record Run : Type 0 where
   -- the bytes that each receiver had
   pub bytes : List (List ℕ)
   pub out : Change SinkShown
-  -- whether a line is faulty, or why not all was checked
+  -- whether something is faulty, or why not all was checked
   pub checked : Result Bool Stop
 
 -- one of these fails
@@ -59,5 +59,5 @@ pub record IsRun (run : Run) : Type 0 where
       → IsPrinted run.state.before.left run.bytes run.out.before.written run.out.now.written)
   -- why it stops; want of memory is free
   pub read : run.checked ≡ Err stops.Read → ReadFailed run.state ⊎ AnyReadFailed run.receivers
-  pub cut : run.checked ≡ Err stops.Cut → IsTrue run.sources_tell → (most_bytes run.state.before.left < length run.state.before.left) ⊎ AnyOver run.bytes
+  pub cut : run.checked ≡ Err stops.Cut → IsTrue run.sources_tell → (most_in run.state.before.left < length run.state.before.left) ⊎ AnyOver run.bytes
   pub write : run.checked ≡ Err stops.Write → WriteFailed run.out

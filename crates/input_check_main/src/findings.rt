@@ -3,7 +3,7 @@ ghost use Rattle.std.specs.List.{flat_map};
 ghost use Rattle.paper.specs.Puts.{Puts};
 ghost use Rattle.input_check_main.specs.Findings.{faulty_line, fault_line, fault_lines, bytes_words_if, receiver_line, count_line};
 
-use crate::bytes::put_bytes_words;
+use crate::bytes::{put_bytes_words, put_mark_words};
 use crate::causes::{put_line_words, roster_words, state_words};
 use crate::faulty::{FaultyLine, FaultyLines};
 use crate::pieces::put_between_two;
@@ -70,9 +70,10 @@ impl Printed for StateFindings<'_> {
 
     ghost text = { λ f. findings_text f.faults.now f.word.now f.bytes.now };
 
-    #[tactic(auto, unfolding(crate::specs::Findings::findings_text), using(paper::proofs::Calls::two_make))]
+    #[tactic(auto, unfolding(crate::specs::Findings::findings_text), using(paper::proofs::Calls::three_make))]
     fn print<P: Paper>(&self, paper: &mut P) {
         put_fault_lines(paper, self.faults);
+        put_mark_words(paper, self.word, self.bytes);
         put_bytes_words_if(paper, self.faults, self.word, self.bytes);
     }
 }

@@ -4,7 +4,7 @@ ghost use Rattle.paper.specs.Puts.{Puts};
 ghost use Rattle.outer_io.specs.Shown.{WriteFailed, sink_change};
 ghost use Rattle.input_check_main.specs.declared.states.Stop.{Stop};
 ghost use Rattle.meter_label.specs.Label.{label_of};
-ghost use Rattle.input_check_main.specs.Hints.{turned_text, hint_text, name_text, name_text_if, note_text, notes_text};
+ghost use Rattle.input_check_main.specs.Hints.{turned_text, shared_text, hint_text, name_text, name_text_if, note_text, notes_text};
 
 use crate::pieces::put_between;
 use crate::states::Stop;
@@ -18,8 +18,8 @@ use paper::{Paper, Printed, put_hex, put_text, write};
 pub enum Hint {
     /// Its key is sixteen equal bytes.
     EqualBytes,
-    /// Another meter has its key.
-    SharedKey,
+    /// This other meter has its key.
+    SharedKey(Address),
     /// It was not heard.
     Unheard,
     /// It was not heard, but this address was, or another meter has it: its own bytes turned round.
@@ -52,6 +52,15 @@ fn put_turned<P: Paper>(paper: &mut P, turned: Address)
     );
 }
 
+#[tactic(auto, unfolding(crate::specs::Hints::shared_text), using(paper::proofs::Calls::three_make))]
+fn put_shared<P: Paper>(paper: &mut P, other: Address)
+    ensures { Puts P.takes paper.old (shared_text other) paper.new }
+{
+    put_text(paper, "it has the same key as meter ");
+    put_hex(paper, &other.to_bytes());
+    put_text(paper, ": one of the two may have been copied wrongly");
+}
+
 fn put_hint<P: Paper>(paper: &mut P, hint: Hint)
     ensures { Puts P.takes paper.old (hint_text hint) paper.new }
 {
@@ -60,10 +69,7 @@ fn put_hint<P: Paper>(paper: &mut P, hint: Hint)
             paper,
             "its key is sixteen equal bytes: ask the maker for the right one",
         ),
-        Hint::SharedKey => put_text(
-            paper,
-            "another meter has the same key: one of the two may have been copied wrongly",
-        ),
+        Hint::SharedKey(other) => put_shared(paper, other),
         Hint::Unheard => put_text(
             paper,
             "it was not heard: is it in reach, and is its address that of the label (meter_name)?",

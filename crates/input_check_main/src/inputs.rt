@@ -2,10 +2,10 @@
 ghost use Rattle.std.specs.Prelude.{◌≡◌, ◌++◌, ◌+◌, ◌<◌, ◌≤◌, ◌⊎◌, ◌||◌, nat_lt, [], length, Err, IsTrue, IfOk, OnOk};
 ghost use Rattle.outer_io.specs.Each.{Each};
 ghost use Rattle.outer_io.specs.Shown.{ReadFailed, WriteFailed, source_change, sink_change};
-ghost use Rattle.state_file.specs.Faults.{most_bytes, state_faults_of};
 ghost use Rattle.input_check_main.specs.declared.states.Stop.{Stop};
 ghost use Rattle.input_check_main.specs.Findings.{state_text};
 ghost use Rattle.input_check_main.specs.Receivers.{IsFresh, reader_changes, bytes_of_each, any_faulty, heard_by_all, receivers_text};
+ghost use Rattle.input_check_main.specs.States.{is_faulty_text, most_in};
 ghost use Rattle.input_check_main.specs.Run.{IsRun, IsPrinted, AddsNotes, AnyReadFailed, AnyOver, is_faulty};
 
 use crate::faulty::FaultyLines;
@@ -96,13 +96,13 @@ fn check_keys<S: Source, K: Sink>(
     state: &mut S,
     out: &mut K,
 ) -> Result<CheckedState, Stop>
-    ensures count { IfOk result (λ checked. IsTrue S.tells → checked.faulty ≡ length (state_faults_of (S.left state.old))) }
+    ensures faulty { IfOk result (λ checked. IsTrue S.tells → checked.faulty ≡ is_faulty_text (S.left state.old)) }
     ensures printed { OnOk result (IsTrue S.tells → IsTrue K.tells →
         AddsNotes (K.written out.old ++ state_text (S.left state.old)) (K.written out.new)) }
 
     // Why it stops.
     ensures read { result ≡ Err Stop.Read → ReadFailed (source_change S.Source state.old state.new) }
-    ensures cut { result ≡ Err Stop.Cut → IsTrue S.tells → most_bytes (S.left state.old) < length (S.left state.old) }
+    ensures cut { result ≡ Err Stop.Cut → IsTrue S.tells → most_in (S.left state.old) < length (S.left state.old) }
     ensures write { result ≡ Err Stop.Write → WriteFailed (sink_change K.Sink out.old out.new) }
     ensures later { K.faults out.old ≤ K.faults out.new }
 {
@@ -116,8 +116,7 @@ fn check_keys<S: Source, K: Sink>(
     }
 }
 
-// Prints notes on what was heard, where it can be compared with the meters of a state: none of its lines is faulty, and there are
-// receivers.
+// Prints notes on what was heard, where it can be compared with the meters of a state: that isn't faulty, and there are receivers.
 fn print_hearing<K: Sink>(
     alloc: Global,
     checked: &CheckedState,
@@ -130,13 +129,13 @@ fn print_hearing<K: Sink>(
     ensures cut { result ≡ Err Stop.Cut → ⊥ }
     ensures write { result ≡ Err Stop.Write → WriteFailed (sink_change K.Sink out.old out.new) }
 {
-    if checked.faulty > 0 || !has_receivers {
+    if checked.faulty || !has_receivers {
         return Ok(());
     }
     print_noted(hearing_notes(alloc, &checked.meters, heard), out)
 }
 
-// Checks a state and receivers, prints what is wrong with them, and answers whether a line is faulty.
+// Checks a state and receivers, prints what is wrong with them, and answers whether one of them is faulty.
 fn check_all<S: Source, K: Sink>(
     alloc: Global,
     state: &mut S,
@@ -153,7 +152,7 @@ fn check_all<S: Source, K: Sink>(
     // Why it stops.
     ensures read { result ≡ Err Stop.Read → ReadFailed (source_change S.Source state.old state.new)
         ⊎ AnyReadFailed (reader_changes S.Source receivers.old receivers.new) }
-    ensures cut { result ≡ Err Stop.Cut → IsTrue S.tells → (most_bytes (S.left state.old) < length (S.left state.old))
+    ensures cut { result ≡ Err Stop.Cut → IsTrue S.tells → (most_in (S.left state.old) < length (S.left state.old))
         ⊎ AnyOver (bytes_of_each S.Source receivers.old) }
     ensures write { result ≡ Err Stop.Write → WriteFailed (sink_change K.Sink out.old out.new) }
 {
@@ -167,13 +166,13 @@ fn check_all<S: Source, K: Sink>(
         Err(stop) => return Err(stop),
     };
     match print_hearing(alloc, &checked, !receivers.is_empty(), &mut heard, out) {
-        Ok(()) => Ok(checked.faulty > 0 || faulty),
+        Ok(()) => Ok(checked.faulty || faulty),
         Err(stop) => Err(stop),
     }
 }
 
 /// Prints what is wrong with a state, which may be a roster, and with the lines of receivers, which are numbered from 1 in their order, with
-/// notes on keys and on what was heard; and answers whether a line is faulty. Nothing was taken of any of the sources yet.
+/// notes on keys and on what was heard; and answers whether one of them is faulty. Nothing was taken of any of the sources yet.
 ///
 /// `Read` comes only where a read failed, `Write` only where a write did, `Cut` only where a file is past its limit.
 pub fn check_inputs<S: Source, K: Sink>(

@@ -17,4 +17,6 @@ pub use hints::{Hint, Note, print_notes};
 pub use inputs::check_inputs;
 pub use noticing::{hearing_notes, key_notes};
 pub use receivers::check_receiver;
-pub use states::{CheckedState, Stop, check_state, rosters_have_their_meters};
+pub use states::{
+    CheckedState, Stop, check_state, faulty_texts_are_refused, rosters_have_their_meters,
+};

@@ -17,14 +17,14 @@ fn is_of_equal_bytes(key: &[u8; 16]) -> bool {
     key.iter().all(|byte| *byte == first)
 }
 
-// Whether another meter has the key of this one.
-fn shares_its_key(meters: &[Commission], meter: &Commission) -> bool {
+// The first other meter that has the key of this one.
+fn with_its_key(meters: &[Commission], meter: &Commission) -> Option<Address> {
     for other in meters {
         if other.address != meter.address && other.key == meter.key {
-            return true;
+            return Some(other.address);
         }
     }
-    false
+    None
 }
 
 /// What there is to say of the keys of these meters.
@@ -35,8 +35,8 @@ pub fn key_notes(alloc: Global, meters: &[Commission]) -> Result<Vec<Note>, Memo
         if is_of_equal_bytes(&meter.key) {
             let hint = Hint::EqualBytes;
             notes.push(Note { address, hint })?;
-        } else if shares_its_key(meters, meter) {
-            let hint = Hint::SharedKey;
+        } else if let Some(other) = with_its_key(meters, meter) {
+            let hint = Hint::SharedKey(other);
             notes.push(Note { address, hint })?;
         }
     }

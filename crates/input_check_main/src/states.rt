@@ -1,12 +1,14 @@
 //! The faulty lines of a state, or of a roster.
-ghost use Rattle.std.specs.Prelude.{◌≡◌, ◌++◌, ◌<◌, ◌≤◌, length, map, Err, IsTrue, IfOk, IfErr};
+ghost use Rattle.std.specs.Prelude.{◌≡◌, ◌++◌, ◌<◌, ◌≤◌, ◌||◌, nat_lt, length, map, Err, IsTrue, IfOk, IfErr};
 ghost use Rattle.outer_io.specs.Shown.{ReadFailed, WriteFailed, source_change, sink_change};
 ghost use Rattle.meter_slots.specs.Journal.{commission_of};
 ghost use Rattle.state_file.specs.Whole.{state_of};
-ghost use Rattle.state_file.specs.Faults.{most_bytes, state_faults_of};
-ghost use Rattle.input_check_main.specs.States.{meters_in, RostersHaveTheirMeters};
+ghost use Rattle.state_file.specs.Faults.{most_bytes};
+ghost use Rattle.input_check_main.specs.Bytes.{has_mark};
+ghost use Rattle.input_check_main.specs.States.{is_faulty_text, meters_in, most_in, FaultyAreRefused, RostersHaveTheirMeters};
 ghost use Rattle.input_check_main.specs.Findings.{file_word, state_text};
 
+use crate::bytes::{has_mark, unmarked};
 use crate::findings::StateFindings;
 use meter_address::Commission;
 use meter_slots::MeterStart;
@@ -32,8 +34,8 @@ pub enum Stop {
 /// What a state comes to, which may be a roster.
 #[derive(Debug, Drop)]
 pub struct CheckedState {
-    /// How many of its lines are faulty.
-    pub faulty: usize,
+    /// Whether it has a byte order mark in front, or a faulty line.
+    pub faulty: bool,
     /// Its meters, where none is.
     pub meters: Vec<Commission>,
 }
@@ -85,7 +87,7 @@ fn read_within<S: Source>(alloc: Global, state: &mut S) -> Result<Vec<u8>, Stop>
 
     // Why they aren't read.
     ensures read { result ≡ Err Stop.Read → ReadFailed (source_change S.Source state.old state.new) }
-    ensures cut { result ≡ Err Stop.Cut → IsTrue S.tells → most_bytes (S.left state.old) < length (S.left state.old) }
+    ensures cut { result ≡ Err Stop.Cut → IsTrue S.tells → most_in (S.left state.old) < length (S.left state.old) }
     ensures write { result ≡ Err Stop.Write → ⊥ }
 {
     let bytes = match read_all(alloc, state, STATE_MOST) {
@@ -94,7 +96,7 @@ fn read_within<S: Source>(alloc: Global, state: &mut S) -> Result<Vec<u8>, Stop>
         Err(ReadError::TooMany) => return Err(Stop::Cut),
         Err(ReadError::Memory) => return Err(Stop::Memory),
     };
-    if bytes.len() > most_bytes(&bytes) {
+    if bytes.len() > most_bytes(unmarked(&bytes)) {
         return Err(Stop::Cut);
     }
     Ok(bytes)
@@ -108,14 +110,21 @@ fn file_word(bytes: &[u8]) -> &'static str
     if is_state(bytes) { "state" } else { "roster" }
 }
 
-/// Prints every faulty line of a state, which may be a roster, and where there is one what in its bytes may be behind that; and answers how
-/// many there are, and its meters where there is none.
+// Whether a file with these bytes, and so many faulty lines behind a mark, is faulty.
+fn is_faulty(bytes: &[u8], lines: usize) -> bool
+    ensures { result ≡ (has_mark bytes.now || nat_lt 0 lines) }
+{
+    has_mark(bytes) || lines > 0
+}
+
+/// Prints every faulty line of a state, which may be a roster, then a byte order mark in front of it, behind which its lines are judged, and
+/// where a line is faulty what in its bytes may be behind that; and answers whether it is faulty, and its meters where it isn't.
 pub fn check_state<S: Source, K: Sink>(
     alloc: Global,
     state: &mut S,
     out: &mut K,
 ) -> Result<CheckedState, Stop>
-    ensures count { IfOk result (λ checked. IsTrue S.tells → checked.faulty ≡ length (state_faults_of (S.left state.old))) }
+    ensures faulty { IfOk result (λ checked. IsTrue S.tells → checked.faulty ≡ is_faulty_text (S.left state.old)) }
     ensures meters { IfOk result (λ checked. IsTrue S.tells → checked.meters.items ≡ meters_in (state_of (S.left state.old))) }
     ensures printed { IfOk result (λ _. IsTrue S.tells → IsTrue K.tells →
         K.written out.new ≡ K.written out.old ++ state_text (S.left state.old)) }
@@ -123,24 +132,25 @@ pub fn check_state<S: Source, K: Sink>(
     // Why it stops.
     ensures read { result ≡ Err Stop.Read → ReadFailed (source_change S.Source state.old state.new) }
     ensures write { result ≡ Err Stop.Write → WriteFailed (sink_change K.Sink out.old out.new) }
-    ensures cut { result ≡ Err Stop.Cut → IsTrue S.tells → most_bytes (S.left state.old) < length (S.left state.old) }
+    ensures cut { result ≡ Err Stop.Cut → IsTrue S.tells → most_in (S.left state.old) < length (S.left state.old) }
     ensures later { K.faults out.old ≤ K.faults out.new }
 {
     let bytes = match read_within(alloc, state) {
         Ok(bytes) => bytes,
         Err(stop) => return Err(stop),
     };
-    let Ok(faults) = state_faults(alloc, &bytes) else {
+    let text = unmarked(&bytes);
+    let Ok(faults) = state_faults(alloc, text) else {
         return Err(Stop::Memory);
     };
     let meters = match meters_in(alloc, &bytes) {
         Ok(meters) => meters,
         Err(stop) => return Err(stop),
     };
-    let faulty = faults.len();
+    let faulty = is_faulty(&bytes, faults.len());
     let findings = StateFindings {
         faults: &faults,
-        word: file_word(&bytes),
+        word: file_word(text),
         bytes: &bytes,
     };
     match write(out, &findings) {
@@ -148,6 +158,12 @@ pub fn check_state<S: Source, K: Sink>(
         Err(_) => Err(Stop::Write),
     }
 }
+
+/// A file is faulty exactly where it is refused: with a byte order mark in front it is, whatever stands behind that.
+#[tactic(auto, using(crate::proofs::MarkedTexts::faulty_are_refused))]
+pub fn faulty_texts_are_refused()
+    ensures { FaultyAreRefused }
+{}
 
 /// The meters of a roster are its own.
 #[tactic(auto, using(crate::proofs::RosterMeters::their_meters))]

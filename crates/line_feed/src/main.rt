@@ -1,31 +1,37 @@
 //! The program `line_feed`: prints the lines of a radio receiver on the standard input as lines that `wmbus` reads.
 #![tactic(auto)]
 
-ghost use Rattle.std.specs.Prelude.{◌≡◌, true, false, map, None, IfSome};
+ghost use Rattle.std.specs.Prelude.{◌≡◌, ◌⊎◌, [], true, false, map, None, IsTrue, IfSome, MatchOption};
 ghost use Rattle.std.specs.String.{string_bytes};
 ghost use Rattle.std.specs.Process.{exit_status};
 ghost use Rattle.outer_io.specs.Shown.{source_change, sink_change};
 ghost use Rattle.line_feed_main.specs.declared.status.FeedStatus.{FeedStatus};
 ghost use Rattle.line_feed_main.specs.Run.{IsRun, code_of};
+ghost use Rattle.line_feed_main.specs.FileRun.{IsFileRun};
+ghost use Rattle.line_feed_main.specs.Printings.{printing_of};
 ghost use Rattle.program_words.specs.OwnTexts.{asks_for_text, IsTold};
-ghost use Rattle.line_feed.specs.Words.{printing_asked};
+ghost use Rattle.line_feed.specs.Words.{printing_asked, asks_for_file};
 
+mod appended;
 mod host_clock;
 mod status_words;
 
+use appended::open_appended;
 use error_sink::ErrorSink;
 use host_clock::HostClock;
-use line_feed_main::{Clock, FeedStatus, LINE_MAX, Printing, feed_lines};
-use line_reader::TextReader;
+use line_feed_main::{Clock, FeedStatus, Printing, feed_file, feed_lines};
+use line_stream::{LineFile, Unfit};
 use outer_io::{Sink, Source, StdSink, StdSource};
 use program_words::{NoWords, OwnText, command_words, own_text, tell};
-use status_words::{Said, Stopped};
+use status_words::{Said, Stopped, UnfitFile};
+use std::fs::{File, Files};
 use std::process::ExitCode;
 
 const HELP: &str =
     "line_feed: what a radio receiver prints, as the lines that wmbus and the other programs read
 
 usage: line_feed FORMAT <PRINTED >LINES
+       line_feed FORMAT --restart-safe FILE <PRINTED
        line_feed --help
        line_feed --version
 
@@ -38,14 +44,19 @@ hex        a telegram without CRCs in hexadecimal in each line; | and _ may stan
 For each telegram its frame of format A is printed, with the moment in seconds since
 1970: the line's own time, or the clock's where the line has none. A date and a time
 without a zone are taken as those of UTC: start rtl_433 with -M time:unix, and rtl_wmbus
-with TZ=UTC. Each line is written at once, so that line_feed stands in a pipe. A line
-that isn't a telegram is named on the standard error with its number and the reason, and
-at the end how many were taken and how many weren't.
+with TZ=UTC. Each line is written at once, so that line_feed stands in a pipe, for as
+long as the receiver runs: it reads any number of lines. A line that isn't a telegram is
+named on the standard error with its number and the reason, and at the end how many were
+taken and how many weren't.
+
+With --restart-safe the lines are appended to FILE, which is made where there is none,
+each by one write. A line at its end that has no newline, which a line_feed left that was
+killed, is cut off first; so FILE has whole lines alone, however often this is begun anew.
 
 exit status: 0 every line was taken, 1 some lines weren't, 2 faulty words, 5 the input
-can't be read, 7 a line not written, 8 the input goes past 131,072 lines or 67,108,864
-bytes: start it again, 10 no memory. docs/FORMATS.md says what each reason means, and
-docs/line_feed.1 is the man page
+can't be read, 7 a line not written, 8 the input has more bytes than 64 bits count, 10 no
+memory, 11 FILE can't be opened, another program appends to it or it isn't one of lines.
+docs/FORMATS.md says what each reason means, and docs/line_feed.1 is the man page
 ";
 
 const VERSION: &str = "line_feed 0.1.0\n";
@@ -93,13 +104,11 @@ fn perform<R: Print + Eprint + AllocGlobal, S: Source, K: Sink, E: Sink, C: Cloc
     rt: &R,
     command: &[String],
     clock: C,
-    input: &mut TextReader<S>,
+    input: &mut S,
     out: &mut K,
     notes: &mut E,
 ) -> ExitCode
-    requires fresh { input.old.reader.line ≡ 0 }
-    requires goes_on { input.old.reader.done ≡ false }
-    requires longest { input.old.longest ≡ 4096 }
+    requires fresh { IsTrue S.tells → S.taken input.old ≡ [] }
     ensures text { asks_for_text (map string_bytes command.now) ≡ true → IsTold 7 (exit_status result) }
     ensures faulty { asks_for_text (map string_bytes command.now) ≡ false → printing_asked (map string_bytes command.now) ≡ None →
         exit_status result ≡ 2 }
@@ -112,7 +121,7 @@ fn perform<R: Print + Eprint + AllocGlobal, S: Source, K: Sink, E: Sink, C: Cloc
           input_tells = S.tells;
           out_tells = K.tells;
           notes_tell = E.tells;
-          input = source_change S.Source input.old.reader.source input.new.reader.source;
+          input = source_change S.Source input.old input.new;
           out = sink_change K.Sink out.old out.new;
           notes = sink_change E.Sink notes.old notes.new;
           status = status;
@@ -139,20 +148,80 @@ fn end_without_words(rt: &impl Eprint, reason: NoWords) -> ExitCode
     }
 }
 
+// The words of a feed into a file: its format, `--restart-safe` and the file's name.
+fn file_asked(command: &[String]) -> Option<(&str, &str)>
+    ensures { MatchOption result (asks_for_file (map string_bytes command.now) ≡ false) (λ _. asks_for_file (map string_bytes command.now) ≡ true) }
+{
+    let [word, option, name] = command else {
+        return None;
+    };
+    if option.as_str() != "--restart-safe" {
+        return None;
+    }
+    Some((word.as_str(), name.as_str()))
+}
+
+// Says why a file can't be appended to, and ends with status 11.
+fn end_unfit(rt: &impl Eprint, name: &str, reason: Unfit) -> ExitCode
+    ensures { exit_status result ≡ 11 }
+{
+    program_words::end(rt, 11, UnfitFile { name, reason })
+}
+
+// Feeds the input into a file.
+fn append<R: Eprint + AllocGlobal, S: Source, F: LineFile, E: Sink, C: Clock + Drop>(
+    rt: &R,
+    printing: Printing,
+    name: &str,
+    clock: C,
+    input: &mut S,
+    file: &mut F,
+    notes: &mut E,
+) -> ExitCode
+    requires fresh { IsTrue S.tells → S.taken input.old ≡ [] }
+
+    // The exit status is that of a feed into the file, or the file is left as it is.
+    ensures run { ((status : FeedStatus) × (exit_status result ≡ code_of status) × IsFileRun printing status
+        S.tells (source_change S.Source input.old input.new) F.tells (sink_change F.Sink file.old file.new)
+        E.tells (sink_change E.Sink notes.old notes.new))
+        ⊎ ((exit_status result ≡ 11) × (IsTrue F.tells → F.written file.new ≡ F.written file.old)) }
+{
+    match feed_file(rt.alloc(), printing, clock, input, file, notes) {
+        Ok(status) => end(rt, status),
+        Err(reason) => end_unfit(rt, name, reason),
+    }
+}
+
+// Opens the file that is appended to, and feeds the input into it.
+fn perform_in_file<
+    R: Eprint + AllocGlobal + Files<File = File>,
+    S: Source,
+    E: Sink,
+    C: Clock + Drop,
+>(rt: &R, word: &str, name: &str, clock: C, input: &mut S, notes: &mut E) -> ExitCode
+    requires fresh { IsTrue S.tells → S.taken input.old ≡ [] }
+    ensures faulty { printing_of word.now ≡ None → exit_status result ≡ 2 }
+{
+    let Some(printing) = Printing::of_word(word.as_bytes()) else {
+        return end_faulty(rt);
+    };
+    match open_appended(rt, name) {
+        Ok(mut file) => append(rt, printing, name, clock, input, &mut file, notes),
+        Err(ended) => ended,
+    }
+}
+
 fn main(rt: HostRuntime) -> ExitCode {
     match command_words(&rt) {
         Ok(command) => {
-            let mut input = TextReader::new(StdSource::standard(rt.stdin()), LINE_MAX);
-            let mut out = StdSink::standard(rt.stdout());
+            let mut input = StdSource::standard(rt.stdin());
             let mut notes = ErrorSink::new(rt.stderr());
-            perform(
-                &rt,
-                &command,
-                HostClock::new(&rt),
-                &mut input,
-                &mut out,
-                &mut notes,
-            )
+            let clock = HostClock::new(&rt);
+            if let Some((word, name)) = file_asked(&command) {
+                return perform_in_file(&rt, word, name, clock, &mut input, &mut notes);
+            }
+            let mut out = StdSink::standard(rt.stdout());
+            perform(&rt, &command, clock, &mut input, &mut out, &mut notes)
         }
         Err(reason) => end_without_words(&rt, reason),
     }

@@ -1,19 +1,20 @@
 -- What a feed comes to, by how its lines ended.
-use Rattle.std.proofs.Common.{Bool, true, false, ℕ, ◌⊎◌, ◌==◌, inl, inr, ◌≡◌, ◌≤◌, cond, [], ◌++◌, refl, sym, ap, ◌∙◌, subst}
+use Rattle.std.proofs.Common.{Bool, true, false, ℕ, ◌⊎◌, ◌==◌, inl, inr, ◌≡◌, ◌≤◌, ◌<◌, ◌-◌, ◌+◌, ◌^◌, cond, [], ◌++◌, length, arith, refl, sym, ap, ◌∙◌, subst}
 use Rattle.std.specs.Prelude.{IsTrue}
+use Rattle.std.proofs.lemmas.List.{length-append}
 use Rattle.outer_io.specs.Shown.{SinkShown, ReadFailed, WriteFailed, LosesNothing}
-use Rattle.line_reader.specs.Lines.{is_over}
 use Rattle.line_teller.specs.declared.ending.LinesEnd.{LinesEnd}
 use Rattle.line_teller.specs.declared.ending.LinesEnd.TheVariants as ends
-use Rattle.line_teller.specs.Ending.{IsNoted, Ended}
+use Rattle.line_teller.specs.Ending.{IsNoted}
 use Rattle.line_teller.proofs.Steps.{noted_then}
+use Rattle.line_stream.specs.Streams.{StreamEnded}
 use Rattle.line_feed_main.specs.declared.status.FeedStatus.TheVariants as statuses
 use Rattle.line_feed_main.specs.Feeding.{Fed, fresh, AreFed, noted, fed_behind, FeedsLine}
 use Rattle.line_feed_main.specs.Run.{Run, IsRun, IsFed, IsUnhindered, feeds_all, status_of, ending_of, end_notes}
 use Rattle.line_feed_main.proofs.FedLines.{are_fed}
 
 pub fed_run : (run : Run) (end : LinesEnd) (first now : Fed) (middle : SinkShown) → first ≡ fresh run.printing
-    → Ended FeedsLine first now end run.input.now run.out_tells run.out run.notes_tell (record { before = run.notes.before; now = middle })
+    → StreamEnded FeedsLine first now end run.input.now run.out_tells run.out run.notes_tell (record { before = run.notes.before; now = middle })
     → run.notes.before.faults ≤ middle.faults → middle.faults ≤ run.notes.now.faults
     → (IsTrue run.notes_tell → IsNoted (end_notes end now) (record { before = middle; now = run.notes.now }))
     → run.status ≡ status_of end now.left_out → IsFed run end
@@ -44,16 +45,15 @@ by_count : (b : Bool) → IsTrue (feeds_all (cond b statuses.Done statuses.LeftO
 by_count true = refl
 by_count false = refl
 
-over_clash : {A : Type 0} (b : Bool) → b ≡ true → b ≡ false → A
-over_clash b on off = let no_way : true ≡ false = sym on ∙ off in absurd cc
-
 complete_by : (run : Run) (end : LinesEnd) (left_out : ℕ) → IsFed run end
     → (end ≡ ends.Read → ReadFailed run.input) → (end ≡ ends.Write → WriteFailed run.out)
     → LosesNothing run.input → IsUnhindered run → IsTrue (feeds_all (status_of end left_out)) ⊎ (status_of end left_out ≡ statuses.Memory)
 complete_by run ends.Done left_out fed read write kept u = inl (by_count (left_out == 0))
 complete_by run ends.Read left_out fed read write kept u = absurd (u.read (read refl))
 complete_by run ends.Cut left_out fed read write kept u =
-    over_clash (is_over (run.input.before.taken ++ run.input.before.left)) (ap is_over (sym kept) ∙ fed.lines_are.0) u.within
+    absurd (let all : length run.input.now.taken + length run.input.now.left ≡ length (run.input.before.taken ++ run.input.before.left) =
+    sym (length-append run.input.now.taken run.input.now.left) ∙ ap length kept in
+    omega (arith, all, u.within, fed.lines_are.0))
 complete_by run ends.Write left_out fed read write kept u = absurd (u.written (write refl))
 complete_by run ends.Memory left_out fed read write kept u = inr refl
 

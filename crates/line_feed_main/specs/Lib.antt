@@ -13,4 +13,5 @@ pub mod Lines
 pub mod Notes
 pub mod Feeding
 pub mod Run
+pub mod FileRun
 pub mod Laws

@@ -1,10 +1,10 @@
 -- A feed: what its source and its sinks showed before and after it, and what is promised of it.
-use Rattle.std.specs.Prelude.{ℕ, ◌≡◌, ◌⊎◌, ◌==◌, Bool, true, false, List, [], ◌++◌, IsTrue, if◌then◌else◌}
+use Rattle.std.specs.Prelude.{ℕ, ◌≡◌, ◌⊎◌, ◌==◌, ◌<◌, ◌-◌, ◌^◌, Bool, true, false, List, [], ◌++◌, length, IsTrue, if◌then◌else◌}
 use Rattle.outer_io.specs.Shown.{Change, SourceShown, SinkShown, ReadFailed, WriteFailed, LosesNothing}
-use Rattle.line_reader.specs.Lines.{is_over}
 use Rattle.line_teller.specs.declared.ending.LinesEnd.{LinesEnd}
 use Rattle.line_teller.specs.declared.ending.LinesEnd.TheVariants as ends
-use Rattle.line_teller.specs.Ending.{EndsLines, EndsText, IsNoted, is_whole}
+use Rattle.line_teller.specs.Ending.{EndsText, IsNoted, is_whole}
+use Rattle.line_stream.specs.Streams.{EndsStream}
 use Rattle.line_feed_main.specs.declared.printings.Printing.{Printing}
 use Rattle.line_feed_main.specs.declared.status.FeedStatus.{FeedStatus}
 use Rattle.line_feed_main.specs.declared.status.FeedStatus.TheVariants as statuses
@@ -60,16 +60,16 @@ feeds_all _ = false
 
 -- nothing stands in the way
 pub record IsUnhindered (run : Run) : Type 0 where
-  pub within : is_over (run.input.before.taken ++ run.input.before.left) ≡ false
+  pub within : length (run.input.before.taken ++ run.input.before.left) < 2 ^ 64 - 1
   pub read : ReadFailed run.input → ⊥
   pub written : WriteFailed run.out → ⊥
 
--- Lines of the input were fed: all of them, or those that `EndsLines` says of this end. What is printed for them stands behind what was
+-- Lines of the input were fed: all of them, or those that `EndsStream` says of this end. What is printed for them stands behind what was
 -- written before, or a front of it where not all could be written; and what is noted of them stands on the other sink.
 pub record IsFed (run : Run) (end : LinesEnd) : Type 0 where
   pub lines : List (List ℕ)
   pub text : List ℕ
-  pub lines_are : EndsLines end run.input.now.taken run.input.now.left lines
+  pub lines_are : EndsStream end run.input.now.taken run.input.now.left lines
   pub fed : AreFed run.printing lines text
   pub written : IsTrue run.out_tells → EndsText end text run.out
   pub noted : IsTrue (is_whole end) → IsTrue run.notes_tell → IsNoted (notes_of run.printing lines) run.notes

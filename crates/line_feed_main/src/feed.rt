@@ -13,7 +13,8 @@ use crate::notes::{put_note, put_zone_note};
 use crate::printings::Printing;
 use crate::reasons::NotTaken;
 use frame_formats::{Telegram, encode_a};
-use line_teller::{Sheet, Teller};
+use line_stream::StreamTeller;
+use line_teller::Sheet;
 use outer_io::Memory;
 use paper::{Paper, put_labelled, put_labelled_bytes, put_text};
 use std::alloc::Global;
@@ -92,7 +93,7 @@ fn lacks_zone(printing: Printing, heard: &Heard) -> bool
 
 // Puts the note of a line that lacks a zone, if it is the first.
 #[tactic(auto, using(paper::proofs::Calls::none))]
-fn put_zone_note_if<P: Paper>(note: &mut P, number: u32, first: bool)
+fn put_zone_note_if<P: Paper>(note: &mut P, number: u64, first: bool)
     ensures { Puts P.takes note.old (if first then zone_text number else []) note.new }
 {
     if first {
@@ -143,7 +144,7 @@ impl<C: Clock + Drop> Feed<C> {
     }
 
     // Puts the line of a telegram, notes the first that lacks a zone, and counts it.
-    fn take<P: Paper>(&mut self, text: &mut P, note: &mut P, number: u32, heard: &Heard)
+    fn take<P: Paper>(&mut self, text: &mut P, note: &mut P, number: u64, heard: &Heard)
         ensures text { PutsLine P.takes heard.now text.old text.new }
         ensures note { Puts P.takes note.old (taken_note self.old number heard.now) note.new }
         ensures fed { self.new ≡ fed_after self.old (Ok heard.now) }
@@ -157,7 +158,7 @@ impl<C: Clock + Drop> Feed<C> {
     }
 
     // Notes a line that isn't taken, and counts it.
-    fn leave_out<P: Paper>(&mut self, note: &mut P, number: u32, reason: NotTaken)
+    fn leave_out<P: Paper>(&mut self, note: &mut P, number: u64, reason: NotTaken)
         ensures note { Puts P.takes note.old (note_text number reason) note.new }
         ensures fed { self.new ≡ fed_after self.old (Err reason) }
     {
@@ -166,7 +167,7 @@ impl<C: Clock + Drop> Feed<C> {
     }
 }
 
-impl<C: Clock + Drop> Teller for Feed<C> {
+impl<C: Clock + Drop> StreamTeller for Feed<C> {
     ghost use Rattle.line_feed_main.specs.Feeding.{FeedsLine};
 
     ghost longest = { 4096 };
@@ -176,7 +177,7 @@ impl<C: Clock + Drop> Teller for Feed<C> {
     fn tell(
         &mut self,
         alloc: Global,
-        number: u32,
+        number: u64,
         line: &[u8],
         text: &mut Sheet,
         note: &mut Sheet,
@@ -194,7 +195,7 @@ impl<C: Clock + Drop> Teller for Feed<C> {
         }
     }
 
-    fn tell_long(&mut self, number: u32, text: &mut Sheet, note: &mut Sheet) {
+    fn tell_long(&mut self, number: u64, text: &mut Sheet, note: &mut Sheet) {
         self.leave_out(note, number, NotTaken::TooLong);
     }
 }

@@ -29,5 +29,5 @@ pub use lines::{LINE_MAX, read_line};
 pub use moments::Moment;
 pub use printings::Printing;
 pub use reasons::NotTaken;
-pub use running::feed_lines;
+pub use running::{feed_file, feed_lines};
 pub use status::FeedStatus;

@@ -53,25 +53,25 @@ fn zone_words() -> &'static str
 
 // Puts what is noted of the line with this number.
 #[tactic(auto, unfolding(crate::specs::Notes::line_note), using(paper::proofs::Calls::five_make))]
-fn put_line_note<P: Paper>(paper: &mut P, number: u32, words: &str)
+fn put_line_note<P: Paper>(paper: &mut P, number: u64, words: &str)
     ensures { Puts P.takes paper.old (line_note number words.now) paper.new }
 {
     put_text(paper, "line_feed: line ");
-    put_number(paper, u64::from(number));
+    put_number(paper, number);
     put_text(paper, ": ");
     put_text(paper, words);
     put_text(paper, "\n");
 }
 
 /// Puts the note of a line that isn't taken, which has this number.
-pub(crate) fn put_note<P: Paper>(paper: &mut P, number: u32, reason: NotTaken)
+pub(crate) fn put_note<P: Paper>(paper: &mut P, number: u64, reason: NotTaken)
     ensures { Puts P.takes paper.old (note_text number reason) paper.new }
 {
     put_line_note(paper, number, reason_words(reason));
 }
 
 /// Puts the note of the line with this number, the first whose time names no zone.
-pub(crate) fn put_zone_note<P: Paper>(paper: &mut P, number: u32)
+pub(crate) fn put_zone_note<P: Paper>(paper: &mut P, number: u64)
     ensures { Puts P.takes paper.old (zone_text number) paper.new }
 {
     put_line_note(paper, number, zone_words());

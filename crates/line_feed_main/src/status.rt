@@ -10,7 +10,7 @@ pub enum FeedStatus {
     LeftOut,
     /// Status 5: the input can't be read; the whole lines that were read are fed.
     Read,
-    /// Status 8: the input goes past the limit of lines or bytes; the lines before are fed.
+    /// Status 8: the input has more bytes than 64 bits count; those before are fed.
     Cut,
     /// Status 7: a line can't be written.
     Write,

@@ -27,15 +27,16 @@ fn hints_are_given(rt: HostRuntime) -> Result<(), Fail> {
     let meters = read_roster(rt.alloc(), ROSTER)?.into_meters();
     let keys = key_notes(rt.alloc(), &meters)?;
     assert_eq!(rt; keys.len(), 3);
-    assert!(rt; says(&keys, 0x9315_7856_3412_3303, Hint::SharedKey));
-    assert!(rt; says(&keys, 0x9315_1234_5678_3303, Hint::SharedKey));
+    let gas = Address(0x9315_7856_3412_3303);
+    let other = Address(0x9315_1234_5678_3303);
+    assert!(rt; says(&keys, gas.0, Hint::SharedKey(other)));
+    assert!(rt; says(&keys, other.0, Hint::SharedKey(gas)));
     assert!(rt; says(&keys, 0x9315_0000_0099_3307, Hint::EqualBytes));
     let stranger = Address(0x2d2c_0000_5051_1b16);
-    let gas = Address(0x9315_7856_3412_3303);
     let mut heard = vec![in rt.alloc(); stranger, gas, stranger, stranger]?;
     let notes = hearing_notes(rt.alloc(), &meters, &mut heard)?;
     assert_eq!(rt; notes.len(), 3);
-    assert!(rt; says(&notes, 0x9315_1234_5678_3303, Hint::Turned(gas)));
+    assert!(rt; says(&notes, other.0, Hint::Turned(gas)));
     assert!(rt; says(&notes, 0x9315_0000_0099_3307, Hint::Unheard));
     assert!(rt; says(&notes, stranger.0, Hint::Stranger(3)));
     Ok(())

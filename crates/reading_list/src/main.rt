@@ -14,10 +14,9 @@ ghost use Rattle.reading_list.specs.Words.{form_asked};
 mod status_words;
 
 use error_sink::ErrorSink;
-use line_reader::TextReader;
 use outer_io::{Sink, Source, StdSink, StdSource};
 use program_words::{NoWords, OwnText, cannot_open, command_words, own_text, tell};
-use reading_list_main::{Form, LINE_MAX, ListStatus, list_report};
+use reading_list_main::{Form, ListStatus, list_report};
 use status_words::{Said, Stopped};
 use std::fs::{File, Files};
 use std::process::ExitCode;
@@ -39,8 +38,8 @@ listed is named on the standard error, with its line.
 
 exit status: 0 all is listed, 1 some lines couldn't be listed whole or the report is
 cut off, 2 faulty words, 5 the report can't be read, 7 output not written, 8 the report
-goes past 131,072 lines or 67,108,864 bytes, 10 no memory, 11 a file that can't be
-opened. docs/FORMATS.md says what each fault means, docs/reading_list.1 is the man page
+goes past 1,073,741,824 bytes, 10 no memory, 11 a file that can't be opened.
+docs/FORMATS.md says what each fault means, docs/reading_list.1 is the man page
 ";
 
 const VERSION: &str = "reading_list 0.1.0\n";
@@ -94,14 +93,11 @@ fn form_asked(command: &[String]) -> Option<Form>
 fn list<R: Eprint + AllocGlobal, S: Source, K: Sink, E: Sink>(
     rt: &R,
     command: &[String],
-    report: &mut TextReader<S>,
+    report: &mut S,
     out: &mut K,
     notes: &mut E,
 ) -> ExitCode
-    requires fresh { report.old.reader.line ≡ 0 }
-    requires goes_on { report.old.reader.done ≡ false }
-    requires longest { report.old.longest ≡ 8192 }
-    requires untaken { IsTrue S.tells → S.taken report.old.reader.source ≡ [] }
+    requires untaken { IsTrue S.tells → S.taken report.old ≡ [] }
     requires empty { IsTrue K.tells → K.written out.old ≡ [] }
     requires unnoted { IsTrue E.tells → E.written notes.old ≡ [] }
     ensures faulty { form_asked (map string_bytes command.now) ≡ None → exit_status result ≡ 2 }
@@ -113,7 +109,7 @@ fn list<R: Eprint + AllocGlobal, S: Source, K: Sink, E: Sink>(
           report_tells = S.tells;
           list_tells = K.tells;
           notes_tell = E.tells;
-          report = source_change S.Source report.old.reader.source report.new.reader.source;
+          report = source_change S.Source report.old report.new;
           out = sink_change K.Sink out.old out.new;
           notes = sink_change E.Sink notes.old notes.new;
           status = status;
@@ -161,7 +157,7 @@ fn perform<R: Print + Eprint + Files<File = File> + AllocGlobal>(
         Ok(file) => file,
         Err(ended) => return ended,
     };
-    let mut report = TextReader::new(StdSource::file(file), LINE_MAX);
+    let mut report = StdSource::file(file);
     list(rt, command, &mut report, &mut out, &mut notes)
 }
 

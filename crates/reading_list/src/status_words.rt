@@ -18,7 +18,7 @@ impl fmt::Display for Said {
                 "reading_list: the report can't be read; what was read of it is listed",
             ListStatus::Write => "reading_list: cannot write the list",
             ListStatus::Cut => {
-                "reading_list: the report has more than 131,072 lines or 67,108,864 bytes; those before are listed"
+                "reading_list: the report has more than 1,073,741,824 bytes; the lines before are listed"
             }
             ListStatus::Memory => "reading_list: no memory",
         })

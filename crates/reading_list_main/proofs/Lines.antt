@@ -1,17 +1,16 @@
 -- Lines of a report that are listed one after another.
-use Rattle.std.proofs.Common.{◌≡◌, ℕ, ◌+◌, ◌<◌, true, cond, List, [], ◌∷◌, ◌++◌, length, Option, Result, Err, refl, sym, ap, ◌∙◌, append_assoc, arith}
+use Rattle.std.proofs.Common.{◌≡◌, ℕ, ◌<◌, true, cond, List, [], ◌∷◌, ◌++◌, length, Option, Result, Err, refl, sym, ap, ◌∙◌, append_assoc, arith}
 use Rattle.std.specs.Prelude.{nat_lt}
 use Rattle.std.proofs.lemmas.Bool.Decides.{nat_tests}
 use Rattle.plain_text.specs.Parts.{fields_of}
 use Rattle.paper.specs.Pieces.{text_if}
-use Rattle.line_teller.specs.Telling.{AreTold}
 use Rattle.reading_list_main.specs.declared.said.LineFault.{LineFault}
 use Rattle.reading_list_main.specs.declared.said.LineFault.TheVariants as faults
 use Rattle.reading_list_main.specs.declared.notes.LineNote.{LineNote}
 use Rattle.reading_list_main.specs.declared.lister.Lister.{Lister}
 use Rattle.reading_list_main.specs.Said.{Said, by_word, said_of}
 use Rattle.reading_list_main.specs.Notes.{note_text}
-use Rattle.reading_list_main.specs.Listing.{text_of, note_of, lister_after, listed, noted, lister_behind, ListsLine}
+use Rattle.reading_list_main.specs.Listing.{text_of, note_of, lister_after, listed, lister_behind, ListsLine}
 
 -- ---- one line
 
@@ -34,28 +33,6 @@ unfolding said_of
 long_said line long = ap (λ test. cond test (Err faults.TooLong) (by_word (fields_of line))) (long_test line long)
 
 -- ---- all lines
-
-joined : (a a' b b' : List ℕ) → a ≡ a' → b ≡ b' → a ++ b ≡ a' ++ b'
-joined a a' b b' e f = cc
-
--- what is told of lines is what is listed and noted of them
-pub record AreListed (number : ℕ) (first last : Lister) (lines : List (List ℕ)) (text note : List ℕ) : Type 0 where
-  pub text_is : text ≡ listed first lines
-  pub note_is : note ≡ noted number first lines
-  pub last_is : last ≡ lister_behind first lines
-
-pub are_listed : (number : ℕ) (first last : Lister) (lines : List (List ℕ)) (text note : List ℕ)
-    → AreTold ListsLine number first lines text note last
-    → AreListed number first last lines text note
-are_listed number first last [] text note told = record { text_is = told.0; note_is = told.1; last_is = told.2 }
-are_listed number first last (line ∷ lines) text note told =
-    let later = are_listed (number + 1) told.next last lines told.later_text told.later_note told.later in
-    let one : ListsLine first number line told.first_text told.first_note told.next = told.told in
-    record {
-      text_is = told.text_is ∙ joined _ _ _ _ one.text_is (later.text_is ∙ ap (λ l. listed l lines) one.new_is);
-      note_is = told.note_is ∙ joined _ _ _ _ one.note_is (later.note_is ∙ ap (λ l. noted (number + 1) l lines) one.new_is);
-      last_is = later.last_is ∙ ap (λ l. lister_behind l lines) one.new_is;
-    }
 
 -- the list of lines is a front of that of more lines
 pub listed_more : (l : Lister) (xs ys : List (List ℕ)) → listed l (xs ++ ys) ≡ listed l xs ++ listed (lister_behind l xs) ys

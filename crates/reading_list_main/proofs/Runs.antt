@@ -1,14 +1,13 @@
 -- What a run comes to, by how its lines ended.
-use Rattle.std.proofs.Common.{◌≡◌, ℕ, ◌+◌, ◌≤◌, ◌⊎◌, ◌||◌, not, Bool, true, false, cond, List, [], ◌++◌, length, take, drop, refl, sym, ap, ◌∙◌, subst, append_assoc, inl, inr, arith}
+use Rattle.std.proofs.Common.{◌≡◌, ℕ, ◌+◌, ◌≤◌, ◌⊎◌, ◌||◌, not, Bool, true, false, cond, List, [], ◌++◌, length, take, refl, sym, ap, ◌∙◌, subst, inl, inr, arith}
 use Rattle.std.specs.Prelude.{IsTrue}
-use Rattle.std.proofs.lemmas.List.{append-nil, length-append, take-append-le, take-append-drop}
+use Rattle.std.proofs.lemmas.List.{append-nil, length-append}
 use Rattle.std.proofs.Math.Seq.{take-append-add}
 use Rattle.outer_io.specs.Bytes.{AppendsFront}
 use Rattle.outer_io.specs.Shown.{Change, SinkShown, WriteFailed}
-use Rattle.line_reader.specs.Lines.{is_over, all_lines}
 use Rattle.line_teller.specs.declared.ending.LinesEnd.{LinesEnd}
 use Rattle.line_teller.specs.declared.ending.LinesEnd.TheVariants as ends
-use Rattle.line_teller.specs.Ending.{AreFirst, EndsLines, EndsText, IsNoted, Ended, is_whole}
+use Rattle.line_teller.specs.Ending.{EndsText, IsNoted, is_whole}
 use Rattle.line_teller.proofs.Steps.{noted_then, none_noted, rose_then}
 use Rattle.reading_list_main.specs.declared.forms.Form.{Form}
 use Rattle.reading_list_main.specs.declared.lister.Lister.{Lister}
@@ -16,10 +15,11 @@ use Rattle.reading_list_main.specs.declared.status.ListStatus.{ListStatus}
 use Rattle.reading_list_main.specs.declared.status.ListStatus.TheVariants as statuses
 use Rattle.reading_list_main.specs.RecordLines.{head_text}
 use Rattle.reading_list_main.specs.Notes.{ending_text}
-use Rattle.reading_list_main.specs.Listing.{fresh, listed, noted, lister_behind, ListsLine}
+use Rattle.reading_list_main.specs.Listing.{fresh, listed, noted, lister_behind}
+use Rattle.reading_list_main.specs.Limits.{is_over, all_lines}
+use Rattle.reading_list_main.specs.Pages.{EndsLines, Ended}
 use Rattle.reading_list_main.specs.Run.{Run, IsRun, IsListed, IsListedSoFar, IsCausedBy, IsUnhindered, lists_all, list_text, report_notes, is_faultless, status_of}
 use Rattle.reading_list_main.specs.Running.{is_read_out, end_notes, ToldLines, IsToldRun}
-use Rattle.reading_list_main.proofs.Lines.{are_listed, listed_more}
 
 -- ---- notes behind all lines
 
@@ -37,65 +37,44 @@ whole_end end l sink on noted =
 -- ---- lines that were told
 
 pub told_lines : (run : Run) (end : LinesEnd) (first now : Lister) (middle : SinkShown) → first ≡ fresh run.form
-    → Ended ListsLine first now end run.report.now run.list_tells run.out run.notes_tell
-    (record { before = run.notes.before; now = middle })
+    → Ended first now end run.report.now run.list_tells run.out run.notes_tell (record { before = run.notes.before; now = middle })
     → run.notes.before.faults ≤ middle.faults → middle.faults ≤ run.notes.now.faults
     → (IsTrue run.notes_tell → IsNoted (end_notes end now) (record { before = middle; now = run.notes.now }))
     → run.status ≡ status_of end (is_faultless now) → ToldLines run end
 told_lines run end first now middle first_is e one two noted_end status =
-    let are = are_listed 1 first e.last e.lines e.text e.note e.told in
-    let text_is : e.text ≡ listed (fresh run.form) e.lines = are.text_is ∙ ap (λ l. listed l e.lines) first_is in
-    let note_is : e.note ≡ noted 1 (fresh run.form) e.lines = are.note_is ∙ ap (λ l. noted 1 l e.lines) first_is in
-    let behind : e.last ≡ lister_behind (fresh run.form) e.lines = are.last_is ∙ ap (λ l. lister_behind l e.lines) first_is in
+    let note_is : noted 1 first e.lines ≡ noted 1 (fresh run.form) e.lines = ap (λ l. noted 1 l e.lines) first_is in
     record {
       lines = e.lines;
       lines_are = e.lines_are;
-      listed = λ on. subst (λ t. EndsText end t run.out) text_is (e.written on);
+      listed = λ on. subst (λ l. EndsText end (listed l e.lines) run.out) first_is (e.written on);
       noted = λ whole on.
-          let now_is : now ≡ lister_behind (fresh run.form) e.lines = sym (e.last_is whole) ∙ behind in
+          let now_is : now ≡ lister_behind (fresh run.form) e.lines = e.now_is whole ∙ ap (λ l. lister_behind l e.lines) first_is in
           let ending : end_notes end now ≡ ending_text (not (is_read_out end) || (lister_behind (fresh run.form) e.lines).whole)
           (lister_behind (fresh run.form) e.lines).noted =
           ap (λ b. cond b (ending_text (not (is_read_out end) || now.whole) now.noted) []) whole
           ∙ ap (λ (l : Lister). ending_text (not (is_read_out end) || l.whole) l.noted) now_is in
           subst (λ t. IsNoted (t ++ ending_text (not (is_read_out end) || (lister_behind (fresh run.form) e.lines).whole)
           (lister_behind (fresh run.form) e.lines).noted) run.notes) note_is
-          (subst (λ t. IsNoted (e.note ++ t) run.notes) ending
-          (noted_then run.notes.before middle run.notes.now e.note (end_notes end now) one two (e.noted on) (noted_end on)));
-      status = λ whole. status ∙ ap (λ (l : Lister). status_of end (is_faultless l)) (sym (e.last_is whole) ∙ behind);
+          (subst (λ t. IsNoted (noted 1 first e.lines ++ t) run.notes) ending
+          (noted_then run.notes.before middle run.notes.now (noted 1 first e.lines) (end_notes end now) one two (e.noted whole on)
+          (noted_end on)));
+      status = λ whole.
+          status ∙ ap (λ (l : Lister). status_of end (is_faultless l)) (e.now_is whole ∙ ap (λ l. lister_behind l e.lines) first_is);
     }
 
 -- ---- the whole run
 
-front_of_more : (a b written : List ℕ) → AppendsFront a [] written → AppendsFront (a ++ b) [] written
-front_of_more a b written front = record {
-  count = front.count;
-  within = omega (arith, front.within, length-append a b);
-  appended = front.appended ∙ sym (take-append-le front.count a b front.within);
-}
-
--- some first lines and those behind them are all
-first_and_more : (lines all : List (List ℕ)) (f : AreFirst lines all) → all ≡ lines ++ drop f.count all
-first_and_more lines all f = sym (take-append-drop f.count all) ∙ ap (λ t. t ++ drop f.count all) (sym f.first)
-
-more_listed : (form : Form) (lines all : List (List ℕ)) (f : AreFirst lines all)
-    → list_text form all ≡ list_text form lines ++ listed (lister_behind (fresh form) lines) (drop f.count all)
-more_listed form lines all f =
-    ap (λ ls. head_text form ++ listed (fresh form) ls) (first_and_more lines all f)
-    ∙ ap (λ t. head_text form ++ t) (listed_more (fresh form) lines (drop f.count all))
-    ∙ sym (append_assoc (head_text form) (listed (fresh form) lines) (listed (lister_behind (fresh form) lines) (drop f.count all)))
-
 -- a front of the lines' list behind the head is a front of the whole list
-front_behind : (form : Form) (lines all : List (List ℕ)) (before written : List ℕ) → AreFirst lines all → before ≡ head_text form
+front_behind : (form : Form) (lines all : List (List ℕ)) (before written : List ℕ) → lines ≡ all → before ≡ head_text form
     → AppendsFront (listed (fresh form) lines) before written
     → AppendsFront (list_text form all) [] written
-front_behind form lines all before written f head front =
-    subst (λ t. AppendsFront t [] written) (sym (more_listed form lines all f))
-    (front_of_more (list_text form lines) (listed (lister_behind (fresh form) lines) (drop f.count all)) written (record {
+front_behind form lines all before written is head front =
+    subst (λ ls. AppendsFront (list_text form ls) [] written) is (record {
       count = length (head_text form) + front.count;
       within = omega (arith, front.within, length-append (head_text form) (listed (fresh form) lines));
       appended = front.appended ∙ ap (λ t. t ++ take front.count (listed (fresh form) lines)) head
           ∙ sym (take-append-add (head_text form) (listed (fresh form) lines) front.count);
-    }))
+    })
 
 module _ (run : Run) (head : SinkShown) (later : run.out.before.faults ≤ head.faults) (head_is : IsTrue run.list_tells
     → head.written ≡ head_text run.form)

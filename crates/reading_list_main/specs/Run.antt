@@ -2,7 +2,7 @@
 use Rattle.std.specs.Prelude.{ℕ, ◌≡◌, ◌⊎◌, ◌==◌, ◌&&◌, ◌||◌, not, Bool, true, false, List, [], ◌++◌, IsTrue, if◌then◌else◌}
 use Rattle.outer_io.specs.Bytes.{AppendsFront}
 use Rattle.outer_io.specs.Shown.{Change, SourceShown, SinkShown, ReadFailed, WriteFailed, LosesNothing, IsReadOut}
-use Rattle.line_reader.specs.Lines.{is_over, whole_lines, all_lines}
+use Rattle.reading_list_main.specs.Limits.{is_over, whole_lines, all_lines}
 use Rattle.line_teller.specs.declared.ending.LinesEnd.{LinesEnd}
 use Rattle.line_teller.specs.declared.ending.LinesEnd.TheVariants as ends
 use Rattle.reading_list_main.specs.declared.forms.Form.{Form}

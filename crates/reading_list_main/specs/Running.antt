@@ -3,10 +3,11 @@ use Rattle.std.specs.Prelude.{ℕ, ◌≡◌, ◌||◌, not, Bool, true, false, 
 use Rattle.outer_io.specs.Shown.{ReadFailed, WriteFailed, LosesNothing}
 use Rattle.line_teller.specs.declared.ending.LinesEnd.{LinesEnd}
 use Rattle.line_teller.specs.declared.ending.LinesEnd.TheVariants as ends
-use Rattle.line_teller.specs.Ending.{EndsLines, EndsText, IsNoted, is_whole}
+use Rattle.line_teller.specs.Ending.{EndsText, IsNoted, is_whole}
 use Rattle.reading_list_main.specs.declared.lister.Lister.{Lister}
 use Rattle.reading_list_main.specs.Notes.{ending_text}
 use Rattle.reading_list_main.specs.Listing.{fresh, listed, noted, lister_behind}
+use Rattle.reading_list_main.specs.Pages.{EndsLines}
 use Rattle.reading_list_main.specs.Run.{Run, is_faultless, status_of}
 
 abbrev pub is_read_out : LinesEnd → Bool

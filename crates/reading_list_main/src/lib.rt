@@ -4,6 +4,9 @@
 mod forms;
 mod lister;
 mod notes;
+mod page;
+mod pages;
+mod passing;
 mod record_lines;
 mod running;
 mod said;
@@ -12,6 +15,7 @@ mod status;
 pub use forms::{Form, Member};
 pub use lister::Lister;
 pub use notes::LineNote;
+pub use pages::REPORT_MAX;
 pub use running::list_report;
-pub use said::{LINE_MAX, LineFault, SaidRead, StepRead, Unread, read_line};
+pub use said::{LineFault, SaidRead, StepRead, Unread, read_line};
 pub use status::ListStatus;

@@ -11,7 +11,7 @@ use crate::forms::Form;
 use crate::notes::{LineNote, put_note};
 use crate::record_lines::put_records;
 use crate::said::{LineFault, SaidRead, StepRead, Unread, read_line};
-use line_teller::{Sheet, Teller};
+use line_teller::Sheet;
 use meter_address::Address;
 use outer_io::Memory;
 use paper::Paper;
@@ -71,11 +71,12 @@ fn put_note_if<P: Paper>(paper: &mut P, number: u32, note: Option<LineNote>)
 }
 
 impl Lister {
-    ghost use Rattle.std.specs.Prelude.{◌≡◌, Ok, Err, None};
+    ghost use Rattle.std.specs.Prelude.{◌≡◌, Ok, Err, None, OnOk};
     ghost use Rattle.paper.specs.Puts.{Puts};
+    ghost use Rattle.line_teller.specs.Telling.{Tells};
     ghost use Rattle.reading_list_main.specs.Said.{said_read};
     ghost use Rattle.reading_list_main.specs.Run.{is_faultless};
-    ghost use Rattle.reading_list_main.specs.Listing.{fresh, text_of, note_of, count_after, lister_after};
+    ghost use Rattle.reading_list_main.specs.Listing.{fresh, text_of, note_of, count_after, lister_after, ListsLine};
 
     /// Before the first line.
     pub fn new(form: Form) -> Lister
@@ -147,23 +148,19 @@ impl Lister {
             noted: self.count_after(Some(LineNote::Unread(fault))),
         }
     }
-}
 
-impl Teller for Lister {
-    ghost use Rattle.reading_list_main.specs.Listing.{ListsLine};
-
-    ghost longest = { 8192 };
-
-    ghost tells = { ListsLine };
-
-    fn tell(
+    /// Lists the line with this number, which is given without its end: its text goes on the one sheet, and its note on the other.
+    /// `Memory` leaves the lister and the sheets as they happen to be.
+    pub(crate) fn tell(
         &mut self,
         alloc: Global,
         number: u32,
         line: &[u8],
         text: &mut Sheet,
         note: &mut Sheet,
-    ) -> Result<(), Memory> {
+    ) -> Result<(), Memory>
+        ensures { OnOk result (Tells (ListsLine self.old number line.now) self.new text.old text.new note.old note.new) }
+    {
         match read_line(alloc, line) {
             Ok(said) => {
                 let found = self.put_said(text, &said);
@@ -178,10 +175,5 @@ impl Teller for Lister {
             }
             Err(Unread::Memory) => Err(Memory),
         }
-    }
-
-    fn tell_long(&mut self, number: u32, text: &mut Sheet, note: &mut Sheet) {
-        put_note(note, number, LineNote::Unread(LineFault::TooLong));
-        *self = self.behind_fault(LineFault::TooLong);
     }
 }

@@ -11,15 +11,12 @@ ghost use Rattle.reading_list_main.specs.Running.{IsToldRun, end_notes, is_read_
 use crate::forms::Form;
 use crate::lister::Lister;
 use crate::notes::EndingNote;
+use crate::pages::list_pages;
 use crate::status::ListStatus;
-use line_reader::TextReader;
-use line_teller::{LinesEnd, tell_lines};
+use line_teller::LinesEnd;
 use outer_io::{Failed, Sink, Source, write_all};
 use paper::write;
 use std::alloc::Global;
-
-// How many bytes of the list wait at most before they are written.
-const ROOM: usize = 16_384;
 
 // Whether the report was read to its end.
 fn is_read_out(end: LinesEnd) -> bool
@@ -62,19 +59,17 @@ fn write_head<K: Sink>(form: Form, out: &mut K) -> Result<(), Failed>
 fn list_lines<S: Source, K: Sink, E: Sink>(
     alloc: Global,
     form: Form,
-    report: &mut TextReader<S>,
+    report: &mut S,
     out: &mut K,
     notes: &mut E,
 ) -> ListStatus
-    requires fresh { report.old.reader.line ≡ 0 }
-    requires goes_on { report.old.reader.done ≡ false }
-    requires longest { report.old.longest ≡ 8192 }
+    requires untaken { IsTrue S.tells → S.taken report.old ≡ [] }
     ensures run { IsToldRun (record {
       form = form;
       report_tells = S.tells;
       list_tells = K.tells;
       notes_tell = E.tells;
-      report = source_change S.Source report.old.reader.source report.new.reader.source;
+      report = source_change S.Source report.old report.new;
       out = sink_change K.Sink out.old out.new;
       notes = sink_change E.Sink notes.old notes.new;
       status = result;
@@ -82,25 +77,20 @@ fn list_lines<S: Source, K: Sink, E: Sink>(
     ensures later { K.faults out.old ≤ K.faults out.new }
 {
     let mut lister = Lister::new(form);
-    let end = tell_lines(alloc, report, &mut lister, out, notes, ROOM);
+    let end = list_pages(alloc, &mut lister, report, out, notes);
     note_end(end, &lister, notes);
     ListStatus::of_lines(end, lister.is_faultless())
 }
 
-/// Lists the readings of a report in this form on `out`, and notes on `notes` what can't be listed.
-///
-/// The reader is one that was just made over the report, for lines of at most `LINE_MAX` bytes.
+/// Lists the readings of a report in this form on `out`, and notes on `notes` what can't be listed. At most `REPORT_MAX` bytes of it are read.
 pub fn list_report<S: Source, K: Sink, E: Sink>(
     alloc: Global,
     form: Form,
-    report: &mut TextReader<S>,
+    report: &mut S,
     out: &mut K,
     notes: &mut E,
 ) -> ListStatus
-    requires fresh { report.old.reader.line ≡ 0 }
-    requires goes_on { report.old.reader.done ≡ false }
-    requires longest { report.old.longest ≡ 8192 }
-    requires untaken { IsTrue S.tells → S.taken report.old.reader.source ≡ [] }
+    requires untaken { IsTrue S.tells → S.taken report.old ≡ [] }
     requires empty { IsTrue K.tells → K.written out.old ≡ [] }
     requires unnoted { IsTrue E.tells → E.written notes.old ≡ [] }
     ensures { IsRun (record {
@@ -108,7 +98,7 @@ pub fn list_report<S: Source, K: Sink, E: Sink>(
       report_tells = S.tells;
       list_tells = K.tells;
       notes_tell = E.tells;
-      report = source_change S.Source report.old.reader.source report.new.reader.source;
+      report = source_change S.Source report.old report.new;
       out = sink_change K.Sink out.old out.new;
       notes = sink_change E.Sink notes.old notes.new;
       status = result;

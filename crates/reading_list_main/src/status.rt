@@ -10,7 +10,7 @@ pub enum ListStatus {
     Noted,
     /// Status 5: the report can't be read; the readings of the lines taken are listed.
     Read,
-    /// Status 8: the report goes past the limit of lines or bytes; the readings of the lines before are listed.
+    /// Status 8: the report goes past the limit of bytes; the readings of the lines before are listed.
     Cut,
     /// Status 7: the list can't be written.
     Write,

@@ -16,6 +16,7 @@ from flask import (
 )
 from markupsafe import Markup
 from werkzeug.exceptions import HTTPException
+from werkzeug.routing import Map
 from werkzeug.wrappers import Response as AnyResponse
 
 from ..asking import Database
@@ -53,6 +54,20 @@ WORDS = {
 }
 
 
+class Addresses(Map):
+    """An address is that of a page or of none: none is put right by leading to another one."""
+
+    def __init__(self, *rules: Any, **named: Any) -> None:
+        named["merge_slashes"] = False
+        super().__init__(*rules, **named)
+
+
+class Pages(Flask):
+    """The page with its addresses."""
+
+    url_map_class: type[Map] = Addresses
+
+
 def create_app(config: Config, token: str | None = None, is_elsewhere: bool = False) -> Flask:
     """The page over a configuration's database. Without a token it only reads; elsewhere than on this machine reading needs it too."""
     app = create_page(HouseDoor(config), token, is_elsewhere)
@@ -63,7 +78,7 @@ def create_app(config: Config, token: str | None = None, is_elsewhere: bool = Fa
 
 def create_page(door: Door, token: str | None, is_elsewhere: bool) -> Flask:
     """The page over a store: what is shown of any."""
-    app = Flask(__name__)
+    app = Pages(__name__)
     app.config.update(DOOR=door, TOKEN=token, IS_ELSEWHERE=is_elsewhere, CLOCK=time.time, MAX_CONTENT_LENGTH=MOST_BYTES,
                       SESSION_COOKIE_NAME="wmbus", PERMANENT_SESSION_LIFETIME=ENTERED_SECONDS,
                       SESSION_COOKIE_SAMESITE="Strict", SESSION_COOKIE_SECURE=is_elsewhere)
@@ -179,7 +194,7 @@ def _http_fault(fault: HTTPException) -> AnyResponse:
     status = fault.code or 500
     if fault.response is not None or status < 400:
         return make_response(fault.get_response())
-    return _fault_page(status, fault.words if isinstance(fault, Worded) else WORDS.get(status, "This can't be answered."))
+    return _fault_page(status, fault.words if isinstance(fault, Worded) else WORDS.get(status, "This can't be answered as it was asked."))
 
 
 class Worded(HTTPException):

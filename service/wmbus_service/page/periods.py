@@ -4,10 +4,11 @@ from __future__ import annotations
 import calendar
 import time
 from dataclasses import dataclass, replace
+from decimal import Decimal
 
 from ..asking import Database
 from .reading import Value, day_values, points_of
-from .shared import Register, curve_words, is_time, line_of, rising_points, time_text, used_notes, used_of
+from .shared import Register, Used, curve_words, is_time, line_of, rising_points, time_text, used_notes, used_of
 
 # how many parts of a moment name a period, and how many periods are shown
 PERIODS = {"hour": (4, 48), "day": (3, 31), "month": (2, 13)}
@@ -62,21 +63,28 @@ def bounds_of(by: str, now: float) -> list[int]:
     return sorted(found) + [int(now) + 1]
 
 
-def used_rows(database: Database, address: str, register: Register, by: str, now: float) -> list[Row]:
+def used_tables(database: Database, address: str, register: Register, now: float) -> dict[str, list[Row]]:
+    """What was used in the last hours, days and months, the last one first, all in the unit that the greatest of these takes."""
+    found = {by: _used(database, address, register, by, now) for by in PERIODS}
+    greatest = max((it.amount for used in found.values() for _, it in used), default=0)
+    return {by: [_row(register, by, period, it, greatest) for period, it in used] for by, used in found.items()}
+
+
+def _used(database: Database, address: str, register: Register, by: str, now: float) -> list[tuple[tuple[int, ...], Used]]:
     """What was used in the last periods, the last one first."""
     bounds = bounds_of(by, now)
     # (the last reading in front of them is what the first difference is taken from)
     points = list(points_of(database, address, register, [bounds[0] - BACK, *bounds]))
     if by == "month":
         points = _with_days(database, address, register, points)
-    used = list(used_of(rising_points(points), PERIODS[by][0]).items())
-    greatest = max((it.amount for _, it in used), default=0)
-    rows = []
-    for period, it in used[:-PERIODS[by][1] - 1:-1]:
-        is_longer = it.since < _begin_of_hour(it.first) - 3600 if by == "hour" else it.is_longer()
-        amount, text = register.used_text(it.amount, greatest)
-        rows.append(Row(_period_text(period), amount, register.unit, text, ", ".join(used_notes(it, is_longer))))
-    return rows
+    return list(used_of(rising_points(points), PERIODS[by][0]).items())[:-PERIODS[by][1] - 1:-1]
+
+
+def _row(register: Register, by: str, period: tuple[int, ...], used: Used, greatest: Decimal | int) -> Row:
+    """A period's row."""
+    is_longer = used.since < _begin_of_hour(used.first) - 3600 if by == "hour" else used.is_longer()
+    amount, text = register.used_text(used.amount, greatest)
+    return Row(_period_text(period), amount, register.unit, text, ", ".join(used_notes(used, is_longer)))
 
 
 def _with_days(database: Database, address: str, register: Register,

@@ -159,15 +159,15 @@ def _main_value(database: Database, readings: list[tuple[int, int, float, int]],
 
 def last_values(database: Database, address: str, now: float) -> list[Value]:
     """The last value of each of a meter's registers, the main ones first."""
-    found: dict[Register, Value] = {}
+    # (by columns: thousands of registers are compared in a moment so)
+    found: dict[tuple[Any, ...], Value] = {}
     count = 0
     for ident, moment, made, _ in _last_readings(database, address, now, MOST_READINGS):
         rows = database.execute("select quantity, unit, function, storage, tariff, subunit, exponent, value, raw from record"
                                 " where reading = ? order by place limit ?", (ident, MOST_VALUES)).fetchall()
-        for *kind, exponent, value, raw in rows:
-            register = Register(*kind)
-            if register not in found:
-                found[register] = Value(register, exact(value, exponent), raw, heard_at(moment, made, now))
+        for row in rows:
+            if (kind := row[:6]) not in found:
+                found[kind] = Value(Register(*kind), exact(row[7], row[6]), row[8], heard_at(moment, made, now))
         count += len(rows)
         if count > MOST_VALUES:
             break

@@ -78,11 +78,19 @@ def serve_page(page: Page, made: Callable[[str | None, bool], object]) -> None:
     token = look_at_page(page)
     app = made(token, not is_local(page.host))
     server = server_with_tls(app, page) if page.certificate else plain_server(app, page)
-    log.info("the page is at %s://%s:%d/", "https" if page.certificate else "http", page.host, page.port)
+
+    def serve_with_tls() -> None:
+        server.prepare()
+        log.info("the page is at https://%s:%s/", page.host, server.bind_addr[1])
+        server.serve()
+
+    def serve_plainly() -> None:
+        log.info("the page is at http://%s:%s/", page.host, server.effective_port)
+        server.run()
     if page.certificate:
-        serve_until(ending, page, server.start, server.stop)
+        serve_until(ending, page, serve_with_tls, server.stop)
     else:
-        serve_until(ending, page, server.run, server.task_dispatcher.shutdown)
+        serve_until(ending, page, serve_plainly, server.task_dispatcher.shutdown)
     log.info("ended")
     # (a server's threads wait for connections, some without end, and may not hold up the process)
     logging.shutdown()
@@ -103,7 +111,7 @@ def serve_until(ending: Ending, page: Page, serve: Callable[[], object], stop: C
     threading.Thread(target=work, daemon=True).start()
     ending.wait()
     for fault in faults:
-        raise _unserved(page, fault) from fault
+        raise _unserved(page, fault) if isinstance(fault, OSError) else fault
     stopping = threading.Thread(target=stop, daemon=True)
     stopping.start()
     stopping.join(GRACE)
@@ -133,7 +141,6 @@ def server_with_tls(app: object, page: Page) -> Any:
     return server
 
 
-def _unserved(page: Page, fault: BaseException) -> Trouble:
-    words = fault.strerror if isinstance(fault, OSError) and fault.strerror else fault
-    return Trouble(f"page.host {page.host} and page.port {page.port}", f"the page can't be served: {words}",
+def _unserved(page: Page, fault: OSError) -> Trouble:
+    return Trouble(f"page.host {page.host} and page.port {page.port}", f"the page can't be served: {fault.strerror or fault}",
                    "name another port, or end what uses this one")

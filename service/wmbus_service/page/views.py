@@ -47,7 +47,7 @@ def overview(config: Config, database: Database, now: float) -> dict[str, Any]:
             kinds[look.link.removeprefix("/meters/")] = look.kind, look.what
     totals = dict(database.execute("select name, value from total").fetchall())
     (waiting,) = database.execute("select count(*) from command where state in ('waiting', 'queued', 'sent')").fetchone()
-    return {"now": now, "looks": [vars(look) for look in found],
+    return {"now": now, "sqlite": f"{config.database.absolute().as_uri()}?mode=ro", "looks": [vars(look) for look in found],
             "meters": [meter_data(meter) | {"look": kinds.get(meter.address)} for meter in meters],
             "totals": {"lines": totals.get("lines", 0), "stored": totals.get("stored", 0), "commands": waiting,
                        "read": sum(it.heard is not None for it in meters)}}
@@ -62,7 +62,8 @@ def meter_page(database: Database, address: str, span: str, now: float) -> dict[
     refusals = refusals_of(database, meter.address)
     used = []
     for register in [it.register for it in values if it.register.rises][:4]:
-        rows = {by: [asdict(row) for row in periods.used_rows(database, meter.address, register, by, now)] for by in periods.PERIODS}
+        tables = periods.used_tables(database, meter.address, register, now)
+        rows = {by: [asdict(row) for row in table] for by, table in tables.items()}
         if any(rows.values()):
             used.append({"register": register_data(register), "title": register.title, "by": rows})
     drawn = periods.curves_of(database, meter.address, values, span, now)

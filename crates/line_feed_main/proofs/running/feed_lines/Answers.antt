@@ -6,10 +6,10 @@ use Rattle.line_feed_main.proofs.running.feed_lines.Goals as goal
 
 pub returns : goal.returns
 returns g c =
-    let status = c.of_lines.ensures ∙ ap (status_of c.tell_lines-end.result) c.left_out.ensures in
-    ran _ c.tell_lines-end.result c.left_out.result c.of_lines.ensures
+    let status = c.of_lines.ensures ∙ ap (status_of c.tell_stream-end.result) c.left_out.ensures in
+    ran _ c.tell_stream-end.result c.left_out.result c.of_lines.ensures
     (λ tells.
-    fed_run _ c.tell_lines-end.result c.new-feed.result c.tell_lines-end.new.teller _ c.new-feed.ensures
-    (c.tell_lines-end.ensures.ended tells)
-    c.tell_lines-end.ensures.later_notes c.note_end.ensures.later c.note_end.ensures.noted status)
-    c.tell_lines-end.ensures.read c.tell_lines-end.ensures.write c.tell_lines-end.ensures.bytes
+    fed_run _ c.tell_stream-end.result c.new-feed.result c.tell_stream-end.new.teller _ c.new-feed.ensures
+    (c.tell_stream-end.ensures.ended tells)
+    c.tell_stream-end.ensures.later_notes c.note_end.ensures.later c.note_end.ensures.noted status)
+    c.tell_stream-end.ensures.read c.tell_stream-end.ensures.write c.tell_stream-end.ensures.bytes

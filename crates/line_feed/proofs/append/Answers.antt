@@ -1,0 +1,9 @@
+-- The input is fed into the file, or that is left as it is.
+use Rattle.std.proofs.Common.{inl, inr}
+use Rattle.line_feed.proofs.append.Goals as goal
+
+pub returns-in-Ok-clause-run : goal.returns-in-Ok-clause-run
+returns-in-Ok-clause-run g c = inl (c.in-Ok.status, c.end.ensures, c.in-Ok.ensures.run)
+
+pub returns-in-Err-clause-run : goal.returns-in-Err-clause-run
+returns-in-Err-clause-run g c = inr (c.end_unfit.ensures, c.in-Err.ensures.same)

@@ -1,0 +1,5 @@
+pub mod Cuts
+pub mod StreamReads
+pub mod Files
+pub mod Limits
+pub mod StreamEnds

@@ -1,0 +1,5 @@
+pub mod Opened
+pub mod Streams
+pub mod Files
+pub mod Laws
+pub mod Pieces
