@@ -28,7 +28,7 @@ from .servers import Both
 COUNT, SPACE = 40, 60.0
 TOKEN = "a-token-of-the-tests-0123456789"
 DASHBOARD = Path(__file__).parents[1] / "dashboard.json"
-# of each kind of meter what it counts, into how many parts of a kWh or m³, and how great one is in Wh or m³ (EN 13757-3, what the VIF says)
+# of each kind of meter what it counts, into how many parts of a kWh or m³, and how great one is in Wh or m³ (by the VIF of EN 13757-3)
 READS = {0x04: ("energy", 1, "1000"), 0x02: ("energy", 100, "10"), 0x03: ("volume", 100, "0.01")}
 WATER = ("volume", 1000, "0.001")
 
@@ -95,7 +95,8 @@ def test_what_is_read_is_what_was_made(shown: Shown) -> None:
 def test_the_overview(shown: Shown) -> None:
     """It counts meters and gateways, names the silent gateway and what is refused, and has no part that stands still."""
     told = shown.data("/api/overview")
-    assert (told["counts"]["meters"], told["counts"]["read"], told["counts"]["gateways"], told["counts"]["silent_gateways"]) == (40, 39, 5, 1)
+    counts = told["counts"]
+    assert (counts["meters"], counts["read"], counts["gateways"], counts["silent_gateways"]) == (40, 39, 5, 1)
     assert told["workers"] == {"intake": 1, "sessions": 2, "downlinks": 1}
     assert [(it["what"], it["title"]) for it in told["looks"]] == [("never heard", "Gateway shown-south-3 in shown-south")]
     # (each fourth meter is heard by one of four gateways; the wrong meter's one is in the south)
@@ -107,8 +108,8 @@ def test_the_overview(shown: Shown) -> None:
 
 @pytest.mark.parametrize("asked, wanted", [
     ("q=50000007", [7]), ("q=50000099", []), ("q=gas, flat 2", [9]), ("q=43040700", [7]), ("gateway=shown-north-2", list(range(1, 40, 4))),
-    ("area=shown-south&q=flat 1", [2, 3]), ("state=refused", [39]), ("state=silent", [39]), ("q=power, flat 1&state=read", [3]), ("q=%25", []),
-    ("q=%00", list(range(40))), ("area=nowhere", [])])
+    ("area=shown-south&q=flat 1", [2, 3]), ("state=refused", [39]), ("state=silent", [39]), ("q=power, flat 1&state=read", [3]),
+    ("q=%25", []), ("q=%00", list(range(40))), ("area=nowhere", [])])
 def test_search(shown: Shown, asked: str, wanted: list[int]) -> None:
     """Meters by the number on the label, the address, a part of the name, gateway, area and state."""
     found = shown.data(f"/api/meters?{asked}")["meters"]

@@ -88,7 +88,8 @@ def _showing_words(command: Command) -> None:
     """The words of what is looked at."""
     command("page", lambda config, _: _run_page(config), "serves the page over the fleet's database")
     command("metrics", lambda config, _: _run_metrics(config), "serves the metrics of the fleet")
-    made = command("demo", lambda _, asked: _demo(asked), "has a fleet on this machine hear made meters, and serves its page; all goes when it ends")
+    made = command("demo", lambda _, asked: _demo(asked), "has a fleet on this machine hear made meters, and serves its page;"
+                                                          " all goes when it ends")
     made.add_argument("--meters", metavar="N", type=int, default=1000, help="how many meters send, 1000")
     made.add_argument("--seconds", metavar="N", type=float, default=30.0, help="how often each of them sends, 30")
     made.add_argument("--port", metavar="N", type=int, default=9103, help="of the page, 9103; 0 is any")
@@ -102,7 +103,8 @@ def _showing_words(command: Command) -> None:
 
 def _making_words(command: Command) -> None:
     """The words that make a fleet."""
-    command("init", lambda config, _: store.init(config.database), "makes the tables in an empty database, or this release's of an earlier one's")
+    command("init", lambda config, _: store.init(config.database), "makes the tables in an empty database, or this release's of an earlier"
+                                                                   " one's")
     made = command("area", _area, "makes an area, whose gateways' messages are one queue")
     made.add_argument("name", metavar="AREA")
     made = command("gateways", _gateways, "makes gateways of an area known, or moves them to it; where broker.management is set each gets a"

@@ -27,13 +27,14 @@ INTERVAL = 15.0
 PREFIX = "wmbus_fleet_"
 # totals of all workers, over all starts
 COUNTERS = {name: words for name, words in OF_SESSIONS.items() if name != "lines"} | {
-    "lines": "lines of gateways that were taken", "heard": "lines of gateways that a session heard", "messages": "messages of gateways that came",
-    "take": "messages that were taken", "again": "messages that had come before", "ask": "messages behind a gap", "asked": "questions to gateways",
-    "unknown": "messages of gateways that aren't known",
+    "lines": "lines of gateways that were taken", "heard": "lines of gateways that a session heard",
+    "messages": "messages of gateways that came", "take": "messages that were taken", "again": "messages that had come before",
+    "ask": "messages behind a gap", "asked": "questions to gateways", "unknown": "messages of gateways that aren't known",
 }
 GAUGES = {
     "lag_seconds": "how long ago the oldest line that waits for a session was heard, by its receiver's clock",
-    "inbox_lines": "lines that wait for a session", "meters": "meters that are known", "meters_silent": "meters without a reading for two days",
+    "inbox_lines": "lines that wait for a session", "meters": "meters that are known",
+    "meters_silent": "meters without a reading for two days",
     "meters_unheard": "meters that never had a reading", "downlinks_waiting": "downlinks that the broker hasn't got yet",
     "downlinks_missed": "downlinks that weren't sent in time", "commands_open": "commands that aren't done",
     "aside_lines": "lines at which the program failed", "gaps": "epochs of gateways that ended with a gap",
@@ -50,8 +51,8 @@ QUERIES = {
     "downlinks_missed": "select count(*) from outbox where missed is not null", "aside_lines": "select count(*) from aside",
     "gaps": "select count(*) from missing", "ticks_late": "select count from late",
 }
-NAMES = {"lag_seconds": "lag", "inbox_lines": "inbox", "meters": "meters", "meters_silent": "silent_meters", "meters_unheard": "unheard_meters",
-         "downlinks_waiting": "downlinks_waiting", "commands_open": "commands"}
+NAMES = {"lag_seconds": "lag", "inbox_lines": "inbox", "meters": "meters", "meters_silent": "silent_meters",
+         "meters_unheard": "unheard_meters", "downlinks_waiting": "downlinks_waiting", "commands_open": "commands"}
 
 
 @dataclass

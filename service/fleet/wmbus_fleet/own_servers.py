@@ -1,4 +1,5 @@
-"""A RabbitMQ and a PostgreSQL of one's own, of Debian's packages: on loopback, on free ports, in a folder of their own, ended by their ids."""
+"""A RabbitMQ and a PostgreSQL of one's own, of Debian's packages: on loopback, on free ports, in a folder of their own, ended by their
+ids."""
 from __future__ import annotations
 
 import importlib.util

@@ -43,7 +43,8 @@ select r.reason, max(r.words) as words, sum(r.times) as times, count(*) as meter
 from refusal r join meter m on m.address = r.address join gateway g on g.name = m.gateway where g.area = ?
 group by r.reason order by times desc, r.reason"""
 GATEWAYS = """
-select g.name, g.area, g.seen, g.until, g.epoch, g.number, g.gone from gateway g where g.area = coalesce(?, g.area) and (not ? or not gone and (seen is null or seen < ?)) and g.name > ?
+select g.name, g.area, g.seen, g.until, g.epoch, g.number, g.gone from gateway g
+where g.area = coalesce(?, g.area) and (not ? or not gone and (seen is null or seen < ?)) and g.name > ?
 order by g.name limit ?"""
 
 
@@ -88,10 +89,12 @@ def _of_parts(running: dict[str, int], told: dict[str, Any], _now: float) -> Ite
     """Parts that don't work, and what waits for them."""
     for part, count in running.items():
         if not count:
-            yield Look("bad", "stands still", f"No {part}", "/", f"None is connected: systemctl start {UNITS[part]}. Its log says why it ended.")
+            yield Look("bad", "stands still", f"No {part}", "/",
+                       f"None is connected: systemctl start {UNITS[part]}. Its log says why it ended.")
     if told["lag"] > LAG:
         yield Look("look", f"lags by {int(told['lag'] // 60)} min", "Sessions", "/",
-                   f"{counted(told['inbox'], 'line waits', 'lines wait')}. Start another wmbus-sessions@N, or wait where a gateway was cut off.")
+                   f"{counted(told['inbox'], 'line waits', 'lines wait')}. Start another wmbus-sessions@N, or wait where a gateway was cut"
+                   " off.")
     silent = told["silent_meters"]
     if silent:
         yield Look("look", "silent", counted(silent, "meter", "meters"), "/meters?state=silent",
@@ -122,10 +125,12 @@ def _of_rows(database: Database, now: float) -> Iterator[Look]:
                    f"The program failed at it: {row['said'][:200]}. Tell the makers of this program.")
     for row in rows_of(database, "select id, address, state, reason from command where state in ('expired', 'refused') and changed > ?"
                                  f" order by changed desc limit {FEW}", (now - RECENT,)):
-        yield Look("look", "command given up" if row["state"] == "expired" else "command refused", row["address"], f"/meters/{row['address']}",
-                   f"Command {row['id']}: {row['reason'] or 'it was sent three times without an answer'}. Queue it again once it is in reach.")
-    for row in rows_of(database, f"select address, receiver, missed from outbox where missed is not null and made > ? order by id desc limit {FEW}",
-                       (now - DAY,)):
+        what = "command given up" if row["state"] == "expired" else "command refused"
+        yield Look("look", what, row["address"], f"/meters/{row['address']}",
+                   f"Command {row['id']}: {row['reason'] or 'it was sent three times without an answer'}. Queue it again once it is in"
+                   " reach.")
+    for row in rows_of(database, "select address, receiver, missed from outbox where missed is not null and made > ?"
+                                 f" order by id desc limit {FEW}", (now - DAY,)):
         yield Look("look", "not sent", row["address"], f"/meters/{row['address']}",
                    f"A downlink by gateway {row['receiver'] or '(none)'} wasn't sent: {row['missed']}.")
     for row in strangers(database, FEW):
