@@ -22,7 +22,7 @@ from wmbus_fleet import backup, broker, commandline, commands, downlinks, sessio
 from wmbus_fleet.config import Config, Gateway, Programs, Ticks
 from wmbus_fleet.gateway import Agent, arm, open_gateway
 from wmbus_fleet.intake import Intake
-from wmbus_fleet.messages import Again, Down, Message, again_body, down_body, frames_in, lines_body, read_lines, read_order
+from wmbus_fleet.messages import Again, Down, Message, again_body, down_body, frames_in, gateway_in, lines_body, read_lines, read_order
 from wmbus_service.config import Config as ServiceConfig
 from wmbus_service.config import Receiver
 from wmbus_service.steps import ProgramFailed
@@ -48,6 +48,12 @@ def programs() -> Programs:
 def test_a_message_out_of_form(body: bytes) -> None:
     """What isn't a numbered message of at most 100 whole lines is none."""
     assert read_lines("up.north.gw1", body) is None
+
+
+@pytest.mark.parametrize("key, name", [("up.north.GW1", "??1"), ("up.north.a\0b", "a?b"), ("up.north.", ""), ("up.north." + 99 * "a", 65 * "a")])
+def test_a_gateway_without_a_name(key: str, name: str) -> None:
+    """A message under a name that no gateway can have is none."""
+    assert gateway_in(key) == name and read_lines(key, lines_body(5, 7, 9, b"")) is None
 
 
 def test_messages_are_read_back() -> None:

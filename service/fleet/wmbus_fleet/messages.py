@@ -5,6 +5,8 @@ import re
 from collections.abc import Sequence
 from dataclasses import dataclass
 
+from wmbus_service.config import NAME
+
 # so many lines a message at most, the numbers that an epoch has, and so many bytes a message
 MOST = 100
 LAST = (1 << 32) - 1
@@ -13,6 +15,9 @@ HEAD = re.compile(r"wmbus-lines 1 (0|[1-9][0-9]{0,17}) ([1-9][0-9]{0,9}) (0|[1-9
 AGAIN = re.compile(r"wmbus-again 1 (0|[1-9][0-9]{0,17}) ([1-9][0-9]{0,9})")
 DOWN = re.compile(r"wmbus-down 1 ([0-9a-f]{16}) (0|[1-9][0-9]{0,9}) ([0-9a-f]{2,600}) ([1-9][0-9]{0,8})")
 FRAMES = ("A ", "B ")
+# (RabbitMQ itself takes any name; of one that is too long so much is kept that it still is)
+LONGEST_NAME = 64
+UNNAMED = re.compile("[^a-z0-9_-]")
 
 
 @dataclass(frozen=True)
@@ -51,15 +56,15 @@ def lines_body(epoch: int, number: int, until: int, lines: bytes) -> bytes:
 
 
 def gateway_in(key: str) -> str:
-    """Whose message one is, by its key, `up.AREA.GATEWAY`, which RabbitMQ lets its own user alone use."""
-    return key.split(".")[-1]
+    """Whose message one is, by its key, `up.AREA.GATEWAY`, which RabbitMQ lets its own user alone use; in letters of names."""
+    return UNNAMED.sub("?", key.split(".")[-1][:LONGEST_NAME + 1])
 
 
 def read_lines(key: str, body: bytes) -> Message | None:
     """A message by its key, `up.AREA.GATEWAY`, and its body; none where it is out of form."""
     head, *lines = body.decode("latin-1").split("\n")
     found = HEAD.fullmatch(head)
-    if found is None or len(body) > LONGEST or len(lines) > MOST + 1 or lines[-1:] != [""]:
+    if found is None or not NAME.fullmatch(gateway_in(key)) or len(body) > LONGEST or len(lines) > MOST + 1 or lines[-1:] != [""]:
         return None
     return Message(gateway_in(key), int(found[1]), int(found[2]), int(found[3]), tuple(lines[:-1]))
 
