@@ -50,7 +50,7 @@ def test_a_message_out_of_form(body: bytes) -> None:
     assert read_lines("up.north.gw1", body) is None
 
 
-@pytest.mark.parametrize("key, name", [("up.north.GW1", "???1"), ("up.north.a\0b", "a?b"), ("up.north.", ""), ("up.north." + 99 * "a", 65 * "a")])
+@pytest.mark.parametrize("key, name", [("up.north.GW1", "??1"), ("up.north.a\0b", "a?b"), ("up.north.", ""), ("up.north." + 99 * "a", 65 * "a")])
 def test_a_gateway_without_a_name(key: str, name: str) -> None:
     """A message under a name that no gateway can have is none."""
     assert gateway_in(key) == name and read_lines(key, lines_body(5, 7, 9, b"")) is None
