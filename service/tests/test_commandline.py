@@ -5,6 +5,7 @@ import io
 import json
 import os
 import sqlite3
+import subprocess
 from contextlib import redirect_stderr, redirect_stdout
 from dataclasses import dataclass
 from pathlib import Path
@@ -19,7 +20,7 @@ from wmbus_service.service import Service
 from wmbus_service.store import open_store, prepare_folder
 
 from .kill import PYTHON, TOP, program
-from .processes import run
+from .processes import PATIENCE, run
 from .stand_in import use_stand_in
 
 ADDRESS, KEY = "4304101230400104", "00112233445566778899aabbccddeeff"
@@ -199,6 +200,21 @@ def test_words(place: Place) -> None:
     for name in ("run", "receive", "check", "status", "add", "import", "rekey", "command", "export", "backup", "restore", "demo"):
         assert name in place.said("--help")
         assert "exit status" in place.said(name, "--help")
+
+
+@pytest.mark.parametrize("command", ["wmbus-service", "fleet/wmbus-fleet"])
+def test_output_that_takes_nothing(command: str) -> None:
+    """Help for which nobody is there ends without a word, and with one where its file is full."""
+    if command.startswith("fleet"):
+        pytest.importorskip("psycopg", reason="python3-psycopg isn't there")
+        pytest.importorskip("pika", reason="python3-pika isn't there")
+    reader, writer = os.pipe()
+    os.close(reader)
+    for output, told in ((writer, ""), (os.open("/dev/full", os.O_WRONLY), "No space left")):
+        with os.fdopen(output, "w") as opened:
+            done = subprocess.run([PYTHON, f"{TOP}/service/{command}", "--help"], check=False, stdout=opened, stderr=subprocess.PIPE, text=True,
+                                  timeout=PATIENCE)
+        assert done.returncode == 1 and told in done.stderr and "Traceback" not in done.stderr and bool(done.stderr) == bool(told)
 
 
 def test_demo() -> None:

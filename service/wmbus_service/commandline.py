@@ -16,6 +16,7 @@ from pathlib import Path
 from . import backup, checking, demo, exporting, importing, meters, service, store
 from .commands import cancel_command, put_command, put_key
 from .config import Config, Page, Programs, read_config
+from .printing import leave_unread, parsed
 from .publications import Publications
 from .receiving import Receiving
 from .status import status
@@ -30,9 +31,9 @@ MOST_COUNT = 65_535
 
 def main(given: list[str]) -> int:
     """Does what is asked for; the exit status."""
-    asked = words().parse_args(given)
     logging.basicConfig(level=logging.INFO, format="%(levelname)s %(message)s", stream=sys.stderr)
     try:
+        asked = parsed(words(), given)
         done: int = asked.work(asked)
         sys.stdout.flush()
         return done
@@ -41,7 +42,7 @@ def main(given: list[str]) -> int:
     except sqlite3.Error as fault:
         said = str(store.trouble_of(Path("the database"), fault))
     except BrokenPipeError:
-        os.dup2(os.open(os.devnull, os.O_WRONLY), sys.stdout.fileno())
+        leave_unread()
         return TROUBLE
     except OSError as fault:
         said = str(fault)

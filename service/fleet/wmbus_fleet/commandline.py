@@ -18,6 +18,7 @@ from types import FrameType
 
 import psycopg
 from wmbus_service.config import read_config as read_service
+from wmbus_service.printing import leave_unread, parsed
 from wmbus_service.trouble import Trouble
 
 from . import backup, broker, commands, downlinks, gateway, gateways, intake, sessions, store
@@ -33,12 +34,12 @@ Command = Callable[[str, Callable[[Config, argparse.Namespace], None], str], arg
 
 def main(given: list[str]) -> int:
     """Does what is asked for; the exit status."""
-    asked = words().parse_args(given)
-    # (under which PostgreSQL shows who works)
-    os.environ.setdefault("PGAPPNAME", f"wmbus {asked.word}")
     logging.basicConfig(level=logging.INFO, format="%(levelname)s %(message)s", stream=sys.stderr)
     os.umask(0o077)
     try:
+        asked = parsed(words(), given)
+        # (under which PostgreSQL shows who works)
+        os.environ.setdefault("PGAPPNAME", f"wmbus {asked.word}")
         asked.work(read_config(asked.config) if asked.is_configured else Config(), asked)
         sys.stdout.flush()
         return DONE
@@ -46,6 +47,9 @@ def main(given: list[str]) -> int:
         said = str(trouble)
     except psycopg.Error as fault:
         said = f"the database: {store.told_of(fault)}"
+    except BrokenPipeError:
+        leave_unread()
+        return TROUBLE
     except broker.FAULTS as fault:
         said = f"{type(fault).__name__}: {fault}"
     except KeyboardInterrupt:
