@@ -164,6 +164,6 @@ fn a_half_line_is_cut_off(rt: HostRuntime) -> Result<(), Fail> {
     }
     let (ended, bytes) = appended(&rt, "A 7 2e\nA 8", true)?;
     assert_eq!(rt; ended, Err(Unfit::Failed));
-    assert_eq!(rt; bytes.as_slice(), b"A 7 2e\nA 8");
+    assert_eq!(rt; bytes.as_slice(), b"A 7 2e\nA 8".as_slice());
     Ok(())
 }

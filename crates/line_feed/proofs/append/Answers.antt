@@ -2,8 +2,8 @@
 use Rattle.std.proofs.Common.{inl, inr}
 use Rattle.line_feed.proofs.append.Goals as goal
 
-pub returns-in-Ok-clause-run : goal.returns-in-Ok-clause-run
-returns-in-Ok-clause-run g c = inl (c.in-Ok.status, c.end.ensures, c.in-Ok.ensures.run)
+pub returns-in-Ok : goal.returns-in-Ok
+returns-in-Ok g c = inl (c.in-Ok.status, c.end.ensures, c.in-Ok.ensures.run)
 
-pub returns-in-Err-clause-run : goal.returns-in-Err-clause-run
-returns-in-Err-clause-run g c = inr (c.end_unfit.ensures, c.in-Err.ensures.same)
+pub returns-in-Err : goal.returns-in-Err
+returns-in-Err g c = inr (c.end_unfit.ensures, c.in-Err.ensures.same)
