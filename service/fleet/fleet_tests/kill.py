@@ -206,7 +206,10 @@ class Trial:
         moments = sorted((self.draw.uniform(0.1, 0.9) * self.plan.seconds, kind) for kind, count in
                          (("rabbit", self.plan.rabbit), ("postgres", self.plan.postgres), ("loss", self.plan.losses),
                           ("freeze", self.plan.freezes)) for _ in range(count))
-        while (passed := time.monotonic() - begun) < self.plan.seconds or passed < self.plan.patience and self.places_left():
+        # (on a busy machine it goes on until all that was planned came, and each kind of process died)
+        kinds = {part.kind for part in self.parts} if self.plan.place in ("", EACH) else set()
+        while ((passed := time.monotonic() - begun) < self.plan.seconds or moments or passed < 9 * self.plan.seconds and kinds - self.kills.keys()
+               or passed < self.plan.patience and self.places_left()):
             for station in self.stations:
                 station.feed(int(len(station.lines) * passed / (max(self.plan.seconds, self.plan.patience) * 0.9)) + 1)
             while moments and moments[0][0] < passed:

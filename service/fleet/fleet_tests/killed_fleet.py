@@ -2,7 +2,6 @@
 forked off."""
 from __future__ import annotations
 
-import threading
 import time
 from collections.abc import Callable, Iterator
 from contextlib import ExitStack, contextmanager
@@ -17,6 +16,7 @@ from wmbus_fleet.messages import Down, down_body
 from wmbus_service import spool
 from wmbus_service import store as gateway_store
 from wmbus_service.config import Config as ServiceConfig
+from wmbus_service.ending import Ending
 
 # the steps in front of and behind which each process may die: (whose name it is, the name)
 PLACES: dict[str, list[tuple[Any, str]]] = {
@@ -137,7 +137,7 @@ def run(config: Config, part: Part, chance: float, deaths: str, wrong: str, plac
     for owner, name, value in ((sessions, "MOST", MOST), (intake, "MOST", MOST), (gateway, "MOST", 5), (gateway, "PAUSE", 0.2),
                                (intake, "PAUSE", 0.2), (sessions, "PAUSE", 0.2), (downlinks, "PAUSE", 0.2), (intake, "ASKED_SECONDS", 0.5)):
         setattr(owner, name, value)
-    ending = threading.Event()
+    ending = Ending()
     if part.kind == "gateway":
         assert part.told and part.service
         gateway.run(config, part.told, part.service, ending)

@@ -21,6 +21,7 @@ from wmbus_fleet.retention import let_go
 from wmbus_fleet.status import figures, in_words
 from wmbus_service.config import Config as ServiceConfig
 from wmbus_service.config import Receiver
+from wmbus_service.ending import Ending
 from wmbus_service.store import prepare_folder
 from wmbus_service.trouble import Trouble
 
@@ -80,7 +81,7 @@ def test_two_gateways_of_one_name(fleet: Fleet, tmp_path: Path) -> None:
     prepare_folder(service.folder)
     database = open_gateway(tmp_path / "gateway.db", time.time())
     agent = Agent(fleet.config, Gateway(fleet.gateway, fleet.area, "radio"), service, database)
-    ending = threading.Event()
+    ending = Ending()
     ending.set()
     with broker.connected(fleet.config.broker) as second:
         with broker.connected(fleet.config.broker) as first:

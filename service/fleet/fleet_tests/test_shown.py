@@ -3,7 +3,6 @@ from __future__ import annotations
 
 import json
 import re
-import threading
 import time
 from collections.abc import Iterator
 from dataclasses import dataclass
@@ -22,6 +21,7 @@ from wmbus_fleet.config import Broker
 from wmbus_fleet.demo import COMMAND, Demo
 from wmbus_fleet.made_town import LISTENING
 from wmbus_fleet.view.app import create_app
+from wmbus_service.ending import Ending
 
 from .servers import Both
 
@@ -58,14 +58,14 @@ def shown_fixture(both: Both, tmp_path_factory: pytest.TempPathFactory) -> Itera
         made.command()
         told: list[str] = []
         lines = sum(made.send_round(int(time.time()) - ago) for ago in (1800, 60))
-        made.wait(lines, threading.Event(), told.append)
+        made.wait(lines, Ending(), told.append)
         # (the downlink was armed behind the first round, and goes out behind this one)
         limit = time.monotonic() + SPACE
         while not made.answer():
             assert time.monotonic() < limit
             lines += made.send_round(int(time.time()))
-            made.wait(lines, threading.Event(), told.append)
-        made.wait(lines + 1, threading.Event(), told.append)
+            made.wait(lines, Ending(), told.append)
+        made.wait(lines + 1, Ending(), told.append)
         yield Shown(made, both)
     finally:
         made.end()
@@ -251,4 +251,4 @@ def test_the_demo_wants_sense(tmp_path: Path) -> None:
     """No meters, or more than it can make, are refused in words before anything is started."""
     for count, seconds in ((0, 1.0), (100_001, 1.0), (5, 0.0)):
         with pytest.raises(Exception, match="1 to 100,000"):
-            demo.run(count, seconds, None, threading.Event(), print)
+            demo.run(count, seconds, None, Ending(), print)

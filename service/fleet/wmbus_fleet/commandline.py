@@ -7,17 +7,15 @@ import logging
 import os
 import resource
 import secrets
-import signal
 import socket
 import sys
-import threading
 import time
 from collections.abc import Callable
 from pathlib import Path
-from types import FrameType
 
 import psycopg
 from wmbus_service.config import read_config as read_service
+from wmbus_service.ending import Ending
 from wmbus_service.printing import leave_unread, parsed
 from wmbus_service.trouble import Trouble
 
@@ -141,16 +139,11 @@ def _operating_words(command: Command) -> None:
                       help=f"raises downlink counters so far, at least by what was sent to a meter since the copy ({MARGIN})")
 
 
-def _ending() -> threading.Event:
+def _ending() -> Ending:
     """What SIGTERM and SIGINT set. No core file with keys is left."""
     resource.setrlimit(resource.RLIMIT_CORE, (0, 0))
-    ending = threading.Event()
-
-    def end(_number: int, _frame: FrameType | None) -> None:
-        ending.set()
-
-    for number in (signal.SIGTERM, signal.SIGINT):
-        signal.signal(number, end)
+    ending = Ending()
+    ending.heed_signals()
     return ending
 
 

@@ -14,6 +14,7 @@ from contextlib import contextmanager, suppress
 from pathlib import Path
 
 from wmbus_service.config import unproved_words
+from wmbus_service.ending import Ending
 from wmbus_service.trouble import Trouble
 
 from . import commands, gateways, own_servers, store
@@ -133,7 +134,7 @@ class Demo:
         self._spool(iter([self.town.answer(int(time.time()))]))
         return True
 
-    def wait(self, count: int, ending: threading.Event, say: Say) -> None:
+    def wait(self, count: int, ending: Ending, say: Say) -> None:
         """Waits until so many lines are heard."""
         limit = time.monotonic() + PATIENCE
         while (heard := self.heard()) < count and not ending.is_set():
@@ -156,7 +157,7 @@ class Demo:
     def _last_words(self) -> str:
         return (self.folder / "parts.log").read_text(encoding="utf-8", errors="replace")[-1000:]
 
-    def go_on(self, ending: threading.Event) -> None:
+    def go_on(self, ending: Ending) -> None:
         """Has the meters send, each once in so many seconds, until the process is told to end."""
         count, sent = len(self.town.meters), 0
         begun, is_answered = time.monotonic(), False
@@ -196,7 +197,7 @@ def servers(folder: Path) -> Iterator[Both]:
         both.stop()
 
 
-def run(count: int, seconds: float, port: int | None, ending: threading.Event, say: Say) -> None:
+def run(count: int, seconds: float, port: int | None, ending: Ending, say: Say) -> None:
     """Has a fleet hear a town until the process is told to end, and serves its page; without a port it says what was read, and ends."""
     if not 1 <= count <= 100_000 or seconds <= 0:
         raise Trouble("the demo", "it takes 1 to 100,000 meters, which send within seconds above 0")
@@ -206,7 +207,7 @@ def run(count: int, seconds: float, port: int | None, ending: threading.Event, s
             served(both, Path(place), count, seconds, port, ending, say)
 
 
-def served(both: Both, folder: Path, count: int, seconds: float, port: int | None, ending: threading.Event, say: Say) -> None:
+def served(both: Both, folder: Path, count: int, seconds: float, port: int | None, ending: Ending, say: Say) -> None:
     """A demo over servers."""
     made = Demo(both, folder, "wmbus", count, seconds)
     say(unproved_words(made.config.programs.steps) or f"{made.config.programs.steps} tells the sessions")

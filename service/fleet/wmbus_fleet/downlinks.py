@@ -3,11 +3,11 @@ acknowledgement."""
 from __future__ import annotations
 
 import logging
-import threading
 import time
 from typing import Any
 
 import psycopg
+from wmbus_service.ending import Ending
 
 from . import broker, store
 from .config import Config
@@ -52,7 +52,7 @@ def mark_sent(database: Database, ident: int, now: float) -> None:
                      " and c.state = 'queued'", (now, ident, now))
 
 
-def run(config: Config, ending: threading.Event) -> None:
+def run(config: Config, ending: Ending) -> None:
     """Sends without end; one process at a time does, and others wait until it is gone."""
     trouble = ""
     while not ending.is_set():

@@ -5,7 +5,6 @@ from __future__ import annotations
 import logging
 import os
 import sqlite3
-import threading
 import time
 from collections.abc import Sequence
 from contextlib import closing
@@ -16,6 +15,7 @@ from wmbus_service import store
 from wmbus_service.config import Config as ServiceConfig
 from wmbus_service.config import words_of
 from wmbus_service.downlinks import write_downlink
+from wmbus_service.ending import Ending
 from wmbus_service.spool import Spool, Spooled, put_places
 from wmbus_service.steps import ProgramFailed
 from wmbus_service.trouble import Trouble
@@ -190,7 +190,7 @@ class Agent:
 
     # ---- without end
 
-    def run(self, ending: threading.Event) -> None:
+    def run(self, ending: Ending) -> None:
         """Goes on until it is told to end; without the broker it numbers lines and sends what is armed."""
         trouble = ""
         while not ending.is_set():
@@ -210,7 +210,7 @@ class Agent:
                     log.error("%s: %s", self.told.name, fault)
                 ending.wait(LOOK)
 
-    def _serve(self, connection: Any, ending: threading.Event) -> None:
+    def _serve(self, connection: Any, ending: Ending) -> None:
         """Goes on as long as the connection stands."""
         channel = broker.opened(connection)
         if broker.declare_gateway(channel, self.told.name):
@@ -245,7 +245,7 @@ def arm(database: sqlite3.Connection, told: Down, now: float) -> None:
                      " where excluded.down > armed.down", (told.address, told.down, told.frame, now + told.seconds))
 
 
-def run(config: Config, told: Gateway, service: ServiceConfig, ending: threading.Event) -> None:
+def run(config: Config, told: Gateway, service: ServiceConfig, ending: Ending) -> None:
     """Runs a gateway over the folder of its machine's service."""
     if told.receiver not in service.receivers:
         raise Trouble("gateway.receiver", f"the service's configuration has no receiver {told.receiver}", f"see {told.service}")

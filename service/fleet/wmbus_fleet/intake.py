@@ -2,7 +2,6 @@
 from __future__ import annotations
 
 import logging
-import threading
 import time
 from collections import Counter
 from collections.abc import Mapping, Sequence
@@ -10,6 +9,7 @@ from typing import Any
 
 import psycopg
 from wmbus_service.config import words_of
+from wmbus_service.ending import Ending
 from wmbus_service.steps import ProgramFailed
 
 from . import broker, store
@@ -189,7 +189,7 @@ def ask(channel: Any, asked: Again) -> None:
         log.warning("%s: it has no queue yet, and can't be asked to send again", asked.gateway)
 
 
-def run(config: Config, areas: Sequence[str], name: str, ending: threading.Event) -> None:
+def run(config: Config, areas: Sequence[str], name: str, ending: Ending) -> None:
     """Takes in the messages of these areas, or of all; after trouble those that weren't acknowledged come again."""
     trouble = ""
     while not ending.is_set():

@@ -2,7 +2,6 @@
 from __future__ import annotations
 
 import logging
-import threading
 import time
 from collections.abc import Iterator
 from contextlib import closing
@@ -13,6 +12,7 @@ import psycopg
 from prometheus_client import CollectorRegistry, start_http_server
 from prometheus_client.core import CounterMetricFamily, GaugeMetricFamily, Metric
 from prometheus_client.registry import Collector
+from wmbus_service.ending import Ending
 from wmbus_service.metrics import COUNTERS as OF_SESSIONS
 from wmbus_service.trouble import Trouble
 
@@ -126,7 +126,7 @@ class Figures(Collector):
             yield gauge
 
 
-def run(config: Config, ending: threading.Event) -> None:
+def run(config: Config, ending: Ending) -> None:
     """Serves the metrics until the process is told to end."""
     told = config.metrics or Metrics()
     figures, registry = Figures(), CollectorRegistry()

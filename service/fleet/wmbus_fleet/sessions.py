@@ -4,12 +4,12 @@ from __future__ import annotations
 
 import logging
 import random
-import threading
 import time
 from collections.abc import Collection, Sequence
 
 import psycopg
 from wmbus_service.config import words_of
+from wmbus_service.ending import Ending
 from wmbus_service.events import Event, order_line, with_ticks
 from wmbus_service.steps import ProgramFailed, Told, run_steps, state_text
 from wmbus_service.trouble import Trouble
@@ -161,7 +161,7 @@ def set_aside(database: Database, event: Event, shard: int, said: str, now: floa
     store.add_totals(database, f"shard {shard}", {"aside": 1})
 
 
-def run(config: Config, ending: threading.Event) -> None:
+def run(config: Config, ending: Ending) -> None:
     """Sessions without end; after trouble the same lines come again."""
     trouble = ""
     while not ending.is_set():
