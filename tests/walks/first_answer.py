@@ -77,7 +77,7 @@ def each_help_and_its_statuses(walk: Walk) -> None:
     """Each program's help names the statuses that docs/FORMATS.md gives it, and no other."""
     for name in PROGRAMS:
         text = in_clone(walk, f"tools/{name}", "--help").stdout.decode()
-        named = {int(it) for it in re.findall(r"(?<![\d,.])(\d{1,2})\s(?!bits)(?:[a-z]|NEXT not)", text[text.index("exit status:"):])}
+        named = {int(it) for it in re.findall(r"(?<![\d,.])(\d{1,2})\s(?!bits)(?:[a-z]|FILE |NEXT not)", text[text.index("exit status:"):])}
         equal(f"the statuses of {name} --help and those of docs/FORMATS.md", sorted(documented(name)), sorted(named))
 
 
