@@ -125,6 +125,21 @@ def test_a_program_that_always_fails(house: House, monkeypatch: pytest.MonkeyPat
     assert len(house.all("select id from reading")) == 5
 
 
+def test_a_program_that_is_ended(house: House, monkeypatch: pytest.MonkeyPatch) -> None:
+    """Where the program is ended from outside, as when a machine is shut down, its only line is heard again."""
+    house.spool(house.whole(house.meters[0]))
+
+    def ended(_words: Sequence[str], _state: str, lines: Sequence[str]) -> steps.Told:
+        steps.output_of(["sh", "-c", "kill $$" if lines else "true"], lines)
+        return steps.Told([], {})
+    with monkeypatch.context() as within:
+        within.setattr(session, "run_steps", ended)
+        house.hear()
+    assert not house.all("select id from aside")
+    house.hear()
+    assert len(house.all("select id from reading")) == 1
+
+
 def test_an_output_that_is_cut_off(monkeypatch: pytest.MonkeyPatch, tmp_path: Path) -> None:
     """What isn't whole doesn't count, whatever the status says."""
     line = '{"kind":"unframed","line":1,"reason":"empty","values":[]}'

@@ -82,6 +82,9 @@ class Sessions:
             log.error("the program failed over %d lines, and nothing of it counts: %s", len(batch), failed)
             self.most = len(batch) // 2
             return len(batch)
+        if failed.is_ended():
+            log.warning("the program was ended over a line, which is heard again: %s", failed)
+            return 0
         self._look_without_lines(batch)
         with store.transaction(self.database):
             set_aside(self.database, batch[0], str(failed), now)

@@ -3,6 +3,7 @@
 from __future__ import annotations
 
 import json
+import signal
 import subprocess
 from collections.abc import Iterable, Sequence
 from dataclasses import dataclass, field
@@ -20,6 +21,11 @@ class ProgramFailed(Exception):
 
     def __init__(self, status: int | None, said: str) -> None:
         super().__init__(f"status {'none' if status is None else status}: {said.strip()[:SAID_MOST]}")
+        self.status = status
+
+    def is_ended(self) -> bool:
+        """Whether it was ended from outside, as all processes of a service are that is stopped: that is no line's fault."""
+        return self.status is not None and -self.status in (signal.SIGHUP, signal.SIGINT, signal.SIGKILL, signal.SIGTERM)
 
 
 @dataclass(frozen=True)

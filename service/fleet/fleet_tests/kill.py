@@ -320,6 +320,7 @@ class Trial:
         """What isn't as it has to be."""
         found = [f"left: {self.left}"] if self.left else []
         with store.connect(self.config.database) as database:
+            found += [f"set aside: {text}, since {said}" for text, said in database.execute("select text, said from aside limit 3").fetchall()]
             for station in self.stations:
                 found += judged_fleet.line_faults(database, station.told.name, station.lines)
                 if self.plan.window > self.plan.seconds:

@@ -75,6 +75,9 @@ class Sessions:
             log.error("the program failed over %d lines of shard %d, and nothing of it counts: %s", len(batch), shard, failed)
             self.most[shard] = len(batch) // 2
             return len(batch)
+        if failed.is_ended():
+            log.warning("the program was ended over a line, which is heard again: %s", failed)
+            return 0
         try:
             self._run({address_of(event) for event in batch}, [])
         except ProgramFailed as again:
