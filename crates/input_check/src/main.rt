@@ -5,10 +5,9 @@ ghost use Rattle.std.specs.Prelude.{◌≡◌, [], true, false, length, map, Boo
 ghost use Rattle.std.specs.String.{string_bytes};
 ghost use Rattle.std.specs.Process.{exit_status};
 ghost use Rattle.outer_io.specs.Each.{Each};
-ghost use Rattle.outer_io.specs.Shown.{source_change, sink_change};
 ghost use Rattle.input_check_main.specs.declared.states.Stop.{Stop};
-ghost use Rattle.input_check_main.specs.Receivers.{IsFresh, reader_changes, bytes_of_each};
-ghost use Rattle.input_check_main.specs.Run.{IsRun};
+ghost use Rattle.input_check_main.specs.Receivers.{IsFresh};
+ghost use Rattle.input_check_main.specs.Run.{run_of, IsRun};
 ghost use Rattle.program_words.specs.OwnTexts.{asks_for_text, IsTold};
 ghost use Rattle.input_check.specs.Exit.{code_of, status_of, names_state, IsRunExit, IsUnopened};
 
@@ -84,15 +83,8 @@ fn check<R: Eprint + AllocGlobal, S: Source, K: Sink>(
     requires untaken { IsTrue S.tells → Each (λ r. S.taken r.source ≡ []) receivers.old }
 
     // The exit status is that of a check of all of them, and one of those that the program has for a check.
-    ensures run { (checked : Result Bool Stop) × (exit_status result ≡ code_of (status_of checked)) × IsRun (record {
-      sources_tell = S.tells;
-      sinks_tell = K.tells;
-      state = source_change S.Source state.old state.new;
-      receivers = reader_changes S.Source receivers.old receivers.new;
-      bytes = bytes_of_each S.Source receivers.old;
-      out = sink_change K.Sink out.old out.new;
-      checked = checked;
-    }) }
+    ensures run { (checked : Result Bool Stop) × (exit_status result ≡ code_of (status_of checked))
+        × IsRun (run_of S.Source K.Sink state.old state.new receivers.old receivers.new out.old out.new checked) }
     ensures exit { IsRunExit (exit_status result) }
 {
     let checked = check_inputs(rt.alloc(), state, receivers, out);

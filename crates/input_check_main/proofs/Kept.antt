@@ -1,5 +1,5 @@
 -- Faulty lines that are gathered, a line after another.
-use Rattle.std.proofs.Common.{◌≡◌, ℕ, ◌+◌, ◌<◌, ◌≤◌, List, [], ◌∷◌, ◌++◌, length, take, Option, Some, None, Result, Ok, Err, refl, sym, ap, ◌∙◌, append_assoc, arith, subst, length-append}
+use Rattle.std.proofs.Common.{◌≡◌, ℕ, ◌+◌, ◌<◌, ◌≤◌, List, [], ◌∷◌, ◌++◌, length, take, Result, Ok, Err, sym, ap, ◌∙◌, append_assoc, arith, subst, length-append}
 use Rattle.std.specs.Prelude.{OnOk, min}
 use Rattle.std.proofs.lemmas.List.{append-nil, length-take, take_all, take-append-le}
 use Rattle.line_reader.specs.Reader.{Gives, GivesLine}
@@ -7,11 +7,9 @@ use Rattle.line_reader.specs.declared.next.Next.{Next}
 use Rattle.line_reader.specs.declared.next.Next.TheVariants as next
 use Rattle.meter_address.specs.declared.address.Address.{Address}
 use Rattle.line_reader.specs.Grammar.{line_of}
-use Rattle.line_reader.specs.Lines.{is_over, all_lines}
 use Rattle.line_reader.specs.Reader.{IsAtEnd}
 use Rattle.line_reader.specs.declared.line.Line.{Line}
 use Rattle.line_reader.specs.declared.line.BadLine.{BadLine}
-use Rattle.input_check_main.specs.declared.faulty.LineFault.{LineFault}
 use Rattle.input_check_main.specs.declared.faulty.FaultyLine.{FaultyLine}
 use Rattle.input_check_main.specs.declared.faulty.FaultyLines.{FaultyLines}
 use Rattle.input_check_main.specs.Faulty.{numbered, looked_at, faulty_from, faulty_lines, heard_of, heard_in}

@@ -1,8 +1,13 @@
--- The most bytes of a text.
-use Rattle.std.proofs.Common.{ℕ, ◌<◌, Bool, true, false, cond, List, length, arith}
+-- The most bytes of a file, and files that were read.
+use Rattle.std.proofs.Common.{◌≡◌, ℕ, ◌<◌, ◌≤◌, Bool, true, false, cond, List, [], ◌++◌, length, sym, ap, ◌∙◌, append-nil, subst, arith}
+use Rattle.outer_io.specs.Shown.{Change, SourceShown, LosesNothing, IsReadOut}
+use Rattle.line_reader.specs.Lines.{is_over}
 use Rattle.state_file.specs.Faults.{is_state}
+use Rattle.input_check_main.specs.declared.faulty.FaultyLines.{FaultyLines}
 use Rattle.input_check_main.specs.Bytes.{unmarked}
-use Rattle.input_check_main.specs.States.{most_in}
+use Rattle.input_check_main.specs.Finding.{AreAllFound}
+use Rattle.input_check_main.specs.States.{most_in, IsReadWithin}
+use Rattle.input_check_main.specs.Stops.{IsHeardOut}
 
 -- what is too long for a state is too long for a roster
 pub past_most : (bytes : List ℕ) → 134217728 < length bytes → most_in bytes < length bytes
@@ -11,3 +16,19 @@ past_most bytes long = by_form (is_state (unmarked bytes))
     by_form : (b : Bool) → cond b 134217728 1048576 < length bytes
     by_form true = long
     by_form false = omega (arith, long)
+
+pub read_within : (file : Change SourceShown) (bytes : List ℕ) → bytes ≡ file.before.left → length bytes ≤ most_in bytes → IsReadOut file
+    → IsReadWithin file
+read_within file bytes is short read = record { read = read; within = subst (λ b. length b ≤ most_in b) is short }
+
+-- all lines of a receiver of which nothing was taken yet were looked at
+pub heard_out : (source : Change SourceShown) (found : FaultyLines) → source.before.taken ≡ [] → LosesNothing source
+    → AreAllFound source.now.taken source.now.left found → IsHeardOut source
+heard_out source found untaken kept all =
+    let took : source.now.taken ≡ source.before.taken ++ source.before.left =
+    sym (append-nil source.now.taken) ∙ ap (λ t. source.now.taken ++ t) (sym all.nothing_left) ∙ kept in
+    let bytes : source.now.taken ≡ source.before.left = took ∙ ap (λ t. t ++ source.before.left) untaken in
+    record {
+      read = record { took_all = took; nothing_left = all.nothing_left };
+      within = ap is_over (sym bytes) ∙ all.within;
+    }

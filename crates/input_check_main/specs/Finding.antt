@@ -1,5 +1,5 @@
 -- Words of private contracts: faulty lines that are gathered.
-use Rattle.std.specs.Prelude.{ℕ, ◌≡◌, Bool, false, List, [], length, take}
+use Rattle.std.specs.Prelude.{ℕ, ◌≡◌, false, List, [], length, take}
 use Rattle.meter_address.specs.declared.address.Address.{Address}
 use Rattle.line_reader.specs.Lines.{is_over, all_lines}
 use Rattle.input_check_main.specs.declared.faulty.FaultyLine.{FaultyLine}

@@ -1,7 +1,7 @@
 -- What is printed for faulty lines.
 use Rattle.std.specs.Prelude.{ℕ, nat_lt, List, [], ◌∷◌, ◌++◌, length, take, codes, if◌then◌else◌}
 use Rattle.std.specs.List.{flat_map}
-use Rattle.paper.specs.Pieces.{labelled, labelled_two}
+use Rattle.paper.specs.Pieces.{labelled}
 use Rattle.state_file.specs.declared.fault.StateFault.{StateFault}
 use Rattle.state_file.specs.declared.fault.StateFault.TheVariants.{Roster, Line, Memory}
 use Rattle.state_file.specs.Faults.{is_state, state_faults_of}

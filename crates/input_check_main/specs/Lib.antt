@@ -4,7 +4,10 @@ pub mod Texts
 pub mod Causes
 pub mod Findings
 pub mod Hints
+pub mod Noticing
+pub mod Counting
 pub mod States
 pub mod Bytes
 pub mod Receivers
+pub mod Stops
 pub mod Run

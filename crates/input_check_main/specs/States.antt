@@ -1,6 +1,7 @@
 -- What is faulty of a state, or of a roster, and its meters.
-use Rattle.std.specs.Prelude.{ℕ, ◌≡◌, ◌||◌, nat_lt, Bool, List, [], length, map, Result, Ok, Err}
+use Rattle.std.specs.Prelude.{ℕ, ◌≡◌, ◌<◌, ◌≤◌, ◌||◌, nat_lt, Bool, List, [], length, map, Result, Ok, Err}
 use Rattle.std.specs.Result.{is_err}
+use Rattle.outer_io.specs.Shown.{Change, SourceShown, IsReadOut}
 use Rattle.meter_address.specs.Commission.{Commissioned}
 use Rattle.meter_slots.specs.Journal.{commission_of}
 use Rattle.roster_file.specs.Roster.{Enrolled, roster_of}
@@ -20,6 +21,15 @@ FaultyAreRefused = (bytes : List ℕ) → is_faulty_text bytes ≡ is_err (state
 -- the most bytes of a file: those of a state, or of a roster, as the text behind a mark is one
 abbrev pub most_in : List ℕ → ℕ
 most_in bytes = most_bytes (unmarked bytes)
+
+-- a file has more
+abbrev pub IsTooLong : List ℕ → Type 0
+IsTooLong bytes = most_in bytes < length bytes
+
+-- a file was read to its end, and has no more
+pub record IsReadWithin (file : Change SourceShown) : Type 0 where
+  pub read : IsReadOut file
+  pub within : length file.before.left ≤ most_in file.before.left
 
 -- the commissions of a state's meters, or none where it is refused
 abbrev pub meters_in : Result Known StateFault → List Commissioned

@@ -1,6 +1,7 @@
 //! What a person most often did wrong, though each line by itself may be right.
-ghost use Rattle.std.specs.Prelude.{◌≡◌, ◌≤◌, ◌++◌, Err, IsTrue, OnOk};
+ghost use Rattle.std.specs.Prelude.{◌≡◌, ◌≤◌, ◌++◌, Err, IsTrue, OnOk, OnErr};
 ghost use Rattle.paper.specs.Puts.{Puts};
+ghost use Rattle.outer_io.specs.Bytes.{AppendsFront};
 ghost use Rattle.outer_io.specs.Shown.{WriteFailed, sink_change};
 ghost use Rattle.input_check_main.specs.declared.states.Stop.{Stop};
 ghost use Rattle.meter_label.specs.Label.{label_of};
@@ -25,7 +26,7 @@ pub enum Hint {
     /// It was not heard, but this address was, or another meter has it: its own bytes turned round.
     Turned(Address),
     /// It is not in the roster, and was heard so often.
-    Stranger(u32),
+    Stranger(u64),
 }
 
 /// A meter and what is to be said of it.
@@ -78,7 +79,7 @@ fn put_hint<P: Paper>(paper: &mut P, hint: Hint)
         Hint::Stranger(count) => put_between(
             paper,
             "it is not in the roster, and was heard ",
-            count as u64,
+            count,
             " times",
         ),
     }
@@ -141,10 +142,11 @@ impl Printed for Notes<'_> {
     }
 }
 
-/// Prints notes, a line each.
+/// Prints notes, a line each. `Write` comes only where a write failed, and leaves a front of them.
 pub fn print_notes<K: Sink>(notes: &[Note], out: &mut K) -> Result<(), Stop>
     ensures printed { OnOk result (IsTrue K.tells → K.written out.new ≡ K.written out.old ++ notes_text notes.now) }
     ensures write { (stop : Stop) → result ≡ Err stop → (stop ≡ Stop.Write) × WriteFailed (sink_change K.Sink out.old out.new) }
+    ensures front { OnErr result (IsTrue K.tells → AppendsFront (notes_text notes.now) (K.written out.old) (K.written out.new)) }
     ensures later { K.faults out.old ≤ K.faults out.new }
 {
     match write(out, &Notes { notes }) {

@@ -1,7 +1,8 @@
 //! The faulty lines of a receiver.
-ghost use Rattle.std.specs.Prelude.{◌≡◌, ◌++◌, ◌+◌, ◌≤◌, List, [], false, true, length, Err, IsTrue, IfOk, IfErr, OnOk};
+ghost use Rattle.std.specs.Prelude.{◌≡◌, ◌++◌, ◌+◌, ◌≤◌, List, [], false, true, length, take, Err, IsTrue, IfOk, IfErr, OnOk, OnErr};
+ghost use Rattle.outer_io.specs.Bytes.{AppendsFront};
 ghost use Rattle.outer_io.specs.Faults.{Rose};
-ghost use Rattle.outer_io.specs.Shown.{ReadFailed, WriteFailed, source_change, sink_change};
+ghost use Rattle.outer_io.specs.Shown.{LosesNothing, source_change, sink_change};
 ghost use Rattle.meter_address.specs.declared.address.Address.{Address};
 ghost use Rattle.line_reader.specs.Lines.{is_over, all_lines};
 ghost use Rattle.line_reader.specs.Reader.{given, IsAtEnd, IsPastLimit};
@@ -9,6 +10,7 @@ ghost use Rattle.input_check_main.specs.declared.faulty.FaultyLine.{FaultyLine};
 ghost use Rattle.input_check_main.specs.Faulty.{numbered, faulty_lines, heard_of, heard_in};
 ghost use Rattle.input_check_main.specs.Finding.{Holds, IsFound, AreAllFound};
 ghost use Rattle.input_check_main.specs.Findings.{receiver_lines};
+ghost use Rattle.input_check_main.specs.Stops.{FileStops, IsHeardOut, IsLong};
 
 use crate::faulty::{FaultyLines, LineFault, look_at_line};
 use crate::findings::ReceiverFindings;
@@ -110,6 +112,10 @@ fn check_lines<S: Source>(alloc: Global, lines: &mut Lines<S>) -> Result<FaultyL
 
 /// Prints the faulty lines of a receiver, numbered from 1, the first 100 of them and how many there are; and answers what its
 /// lines come to. The lines are those of a source of which nothing was taken yet.
+///
+/// `Read` comes only where a read failed, `Cut` only where the source has a byte behind a limit, and both leave nothing printed; `Write` comes
+/// only where a write failed, and leaves a front of the text.
+#[tactic(auto, using(crate::proofs::Stopping::unprinted, crate::proofs::Fronts::none, crate::proofs::Limits::heard_out))]
 pub fn check_receiver<S: Source, K: Sink>(
     alloc: Global,
     receiver: u64,
@@ -119,18 +125,24 @@ pub fn check_receiver<S: Source, K: Sink>(
     requires fresh { lines.old.line ≡ 0 }
     requires goes_on { lines.old.done ≡ false }
     requires untaken { IsTrue S.tells → S.taken lines.old.source ≡ [] }
+    ensures first { IfOk result (λ found. IsTrue S.tells →
+        found.first.items ≡ take 100 (faulty_lines (all_lines (S.left lines.old.source)))) }
     ensures count { IfOk result (λ found. IsTrue S.tells →
         found.count ≡ length (faulty_lines (all_lines (S.left lines.old.source)))) }
     ensures heard { IfOk result (λ found. IsTrue S.tells →
         found.heard.items ≡ heard_in (all_lines (S.left lines.old.source))) }
     ensures printed { IfOk result (λ _. IsTrue S.tells → IsTrue K.tells →
         K.written out.new ≡ K.written out.old ++ receiver_lines receiver (faulty_lines (all_lines (S.left lines.old.source)))) }
+    ensures read { IfOk result (λ _. IsTrue S.tells → IsHeardOut (source_change S.Source lines.old.source lines.new.source)) }
 
-    // Why it stops.
-    ensures read { result ≡ Err Stop.Read → ReadFailed (source_change S.Source lines.old.source lines.new.source) }
-    ensures write { result ≡ Err Stop.Write → WriteFailed (sink_change K.Sink out.old out.new) }
-    ensures cut { result ≡ Err Stop.Cut → IsTrue S.tells → is_over (S.left lines.old.source) ≡ true }
+    // Why it stops, and what it leaves.
+    ensures stops { IfErr result (FileStops (IsLong S.tells (source_change S.Source lines.old.source lines.new.source))
+        (IsTrue S.tells → IsHeardOut (source_change S.Source lines.old.source lines.new.source))
+        (source_change S.Source lines.old.source lines.new.source) (sink_change K.Sink out.old out.new)) }
+    ensures front { OnErr result (IsTrue S.tells → IsTrue K.tells →
+        AppendsFront (receiver_lines receiver (faulty_lines (all_lines (S.left lines.old.source)))) (K.written out.old) (K.written out.new)) }
     ensures later { K.faults out.old ≤ K.faults out.new }
+    ensures no_loss { IsTrue S.tells → LosesNothing (source_change S.Source lines.old.source lines.new.source) }
 {
     let found = match check_lines(alloc, lines) {
         Ok(found) => found,

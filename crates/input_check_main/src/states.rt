@@ -1,11 +1,13 @@
 //! The faulty lines of a state, or of a roster.
-ghost use Rattle.std.specs.Prelude.{◌≡◌, ◌++◌, ◌<◌, ◌≤◌, ◌||◌, nat_lt, length, map, Err, IsTrue, IfOk, IfErr};
-ghost use Rattle.outer_io.specs.Shown.{ReadFailed, WriteFailed, source_change, sink_change};
+ghost use Rattle.std.specs.Prelude.{◌≡◌, ◌++◌, ◌≤◌, ◌||◌, nat_lt, length, map, IsTrue, IfOk, IfErr, OnErr};
+ghost use Rattle.outer_io.specs.Bytes.{AppendsFront};
+ghost use Rattle.outer_io.specs.Shown.{ReadFailed, IsReadOut, LosesNothing, source_change, sink_change};
 ghost use Rattle.meter_slots.specs.Journal.{commission_of};
 ghost use Rattle.state_file.specs.Whole.{state_of};
 ghost use Rattle.state_file.specs.Faults.{most_bytes};
 ghost use Rattle.input_check_main.specs.Bytes.{has_mark};
-ghost use Rattle.input_check_main.specs.States.{is_faulty_text, meters_in, most_in, FaultyAreRefused, RostersHaveTheirMeters};
+ghost use Rattle.input_check_main.specs.States.{is_faulty_text, meters_in, most_in, IsTooLong, IsReadWithin, FaultyAreRefused, RostersHaveTheirMeters};
+ghost use Rattle.input_check_main.specs.Stops.{StopsBy, FileStops};
 ghost use Rattle.input_check_main.specs.Findings.{file_word, state_text};
 
 use crate::bytes::{has_mark, unmarked};
@@ -52,16 +54,12 @@ fn commissions(alloc: Global, starts: &[MeterStart]) -> Result<Vec<Commission>, 
 }
 
 // The meters of a state, or none where it is refused.
-fn meters_in(alloc: Global, bytes: &[u8]) -> Result<Vec<Commission>, Stop>
-    ensures meters { IfOk result (λ meters. meters.items ≡ meters_in (state_of bytes.now)) }
-    ensures memory { IfErr result (λ stop. stop ≡ Stop.Memory) }
+fn meters_in(alloc: Global, bytes: &[u8]) -> Result<Vec<Commission>, Memory>
+    ensures { IfOk result (λ meters. meters.items ≡ meters_in (state_of bytes.now)) }
 {
     match read_state(alloc, bytes) {
-        Ok(state) => match commissions(alloc, state.starts()) {
-            Ok(meters) => Ok(meters),
-            Err(_) => Err(Stop::Memory),
-        },
-        Err(StateFault::Memory) => Err(Stop::Memory),
+        Ok(state) => commissions(alloc, state.starts()),
+        Err(StateFault::Memory) => Err(Memory),
         Err(StateFault::Roster(..)) => Ok(Vec::new(alloc)),
         Err(StateFault::Line(..)) => Ok(Vec::new(alloc)),
     }
@@ -84,11 +82,13 @@ fn most_bytes(bytes: &[u8]) -> usize
 fn read_within<S: Source>(alloc: Global, state: &mut S) -> Result<Vec<u8>, Stop>
     ensures bytes { IfOk result (λ bytes. IsTrue S.tells → bytes.items ≡ S.left state.old) }
     ensures few { IfOk result (λ bytes. length bytes.items ≤ 134217728) }
+    ensures within { IfOk result (λ bytes. length bytes.items ≤ most_in bytes.items) }
+    ensures read { IfOk result (λ _. IsTrue S.tells → IsReadOut (source_change S.Source state.old state.new)) }
 
     // Why they aren't read.
-    ensures read { result ≡ Err Stop.Read → ReadFailed (source_change S.Source state.old state.new) }
-    ensures cut { result ≡ Err Stop.Cut → IsTrue S.tells → most_in (S.left state.old) < length (S.left state.old) }
-    ensures write { result ≡ Err Stop.Write → ⊥ }
+    ensures stops { IfErr result (StopsBy (ReadFailed (source_change S.Source state.old state.new))
+        (IsTrue S.tells → IsTooLong (S.left state.old)) ⊥) }
+    ensures no_loss { IsTrue S.tells → LosesNothing (source_change S.Source state.old state.new) }
 {
     let bytes = match read_all(alloc, state, STATE_MOST) {
         Ok(bytes) => bytes,
@@ -119,6 +119,10 @@ fn is_faulty(bytes: &[u8], lines: usize) -> bool
 
 /// Prints every faulty line of a state, which may be a roster, then a byte order mark in front of it, behind which its lines are judged, and
 /// where a line is faulty what in its bytes may be behind that; and answers whether it is faulty, and its meters where it isn't.
+///
+/// `Read` comes only where a read failed, `Cut` only where the file has more bytes than a state, or a roster, may have, and both leave
+/// nothing printed; `Write` comes only where a write failed, and leaves a front of the text.
+#[tactic(auto, using(crate::proofs::Stopping::unprinted, crate::proofs::Fronts::none, crate::proofs::Limits::read_within))]
 pub fn check_state<S: Source, K: Sink>(
     alloc: Global,
     state: &mut S,
@@ -128,12 +132,16 @@ pub fn check_state<S: Source, K: Sink>(
     ensures meters { IfOk result (λ checked. IsTrue S.tells → checked.meters.items ≡ meters_in (state_of (S.left state.old))) }
     ensures printed { IfOk result (λ _. IsTrue S.tells → IsTrue K.tells →
         K.written out.new ≡ K.written out.old ++ state_text (S.left state.old)) }
+    ensures read { IfOk result (λ _. IsTrue S.tells → IsReadWithin (source_change S.Source state.old state.new)) }
 
-    // Why it stops.
-    ensures read { result ≡ Err Stop.Read → ReadFailed (source_change S.Source state.old state.new) }
-    ensures write { result ≡ Err Stop.Write → WriteFailed (sink_change K.Sink out.old out.new) }
-    ensures cut { result ≡ Err Stop.Cut → IsTrue S.tells → most_in (S.left state.old) < length (S.left state.old) }
+    // Why it stops, and what it leaves.
+    ensures stops { IfErr result (FileStops (IsTrue S.tells → IsTooLong (S.left state.old))
+        (IsTrue S.tells → IsReadWithin (source_change S.Source state.old state.new))
+        (source_change S.Source state.old state.new) (sink_change K.Sink out.old out.new)) }
+    ensures front { OnErr result (IsTrue S.tells → IsTrue K.tells →
+        AppendsFront (state_text (S.left state.old)) (K.written out.old) (K.written out.new)) }
     ensures later { K.faults out.old ≤ K.faults out.new }
+    ensures no_loss { IsTrue S.tells → LosesNothing (source_change S.Source state.old state.new) }
 {
     let bytes = match read_within(alloc, state) {
         Ok(bytes) => bytes,
@@ -143,9 +151,8 @@ pub fn check_state<S: Source, K: Sink>(
     let Ok(faults) = state_faults(alloc, text) else {
         return Err(Stop::Memory);
     };
-    let meters = match meters_in(alloc, &bytes) {
-        Ok(meters) => meters,
-        Err(stop) => return Err(stop),
+    let Ok(meters) = meters_in(alloc, &bytes) else {
+        return Err(Stop::Memory);
     };
     let faulty = is_faulty(&bytes, faults.len());
     let findings = StateFindings {

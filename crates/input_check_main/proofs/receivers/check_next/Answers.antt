@@ -1,6 +1,5 @@
-use Rattle.std.proofs.Common.{Ok, Err, sym, ap, ◌∙◌, ◌++◌}
+use Rattle.std.proofs.Common.{Ok, Err}
 use Rattle.line_reader.specs.Reader.{given}
-use Rattle.input_check_main.specs.Faulty.{numbered}
 use Rattle.input_check_main.proofs.Kept.{found_more, on_ok, gives_said, gives_bad}
 use Rattle.input_check_main.proofs.receivers.check_next.Goals as goal
 

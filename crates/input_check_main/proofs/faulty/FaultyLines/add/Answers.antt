@@ -1,4 +1,4 @@
-use Rattle.std.proofs.Common.{◌≡◌, ◌≤◌, ◌<◌, ◌+◌, ◌++◌, length, refl, arith}
+use Rattle.std.proofs.Common.{◌≤◌, ◌<◌, ◌+◌, length, refl, arith}
 use Rattle.input_check_main.specs.declared.faulty.FaultyLine.{FaultyLine}
 use Rattle.input_check_main.specs.declared.faulty.FaultyLines.{FaultyLines}
 use Rattle.input_check_main.proofs.Kept.{held_room, held_full}
