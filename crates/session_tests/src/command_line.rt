@@ -1,19 +1,10 @@
 //! The words of the command line, and what the program says of a status.
+use crate::harness::{NO_MEMORY, assert_shown, words_of};
 use collector_main::{Status, WordsFault, words};
 use roster_file::LineCause;
 use state_file::{FileCause, StateCause};
-use std::alloc::{AllocError, Global};
-use std::fmt::Write;
-use std::test::Fail;
-
-// The words of a line, with single spaces between them; an empty line has none.
-fn words_of(alloc: Global, line: &str) -> Result<Vec<String>, AllocError> {
-    let mut given = Vec::new(alloc);
-    for word in line.split_whitespace() {
-        given.push(String::from_str(alloc, word)?)?;
-    }
-    Ok(given)
-}
+use std::alloc::Global;
+use std::process::Abort;
 
 // Command lines, of which the first is empty, and behind each what its words ask for or their first fault. Two are of 16 receivers and of
 // 17, each with its two files.
@@ -35,54 +26,71 @@ made 1 01 1 = Err(Number(2))
 made 1 1 18446744073709551616 = Err(Number(3))
 ";
 
-#[test]
-fn words_ask_for_a_plan_or_have_a_first_fault(rt: HostRuntime) -> Result<(), Fail> {
-    let alloc = rt.alloc();
-    let mut count = 0_u32;
-    for row in COMMANDS.lines() {
-        let (line, wanted) = row.split_once("= ").ok_or("no answer")?;
-        let plan = words(&words_of(alloc, line)?);
-        assert_eq!(rt; format!(in alloc; "{plan:?}")?.as_str(), wanted, "{line}");
-        count = count.saturating_add(1);
-    }
-    assert_eq!(rt; count, 15);
-    Ok(())
+fn assert_plan(rt: &impl Abort, alloc: Global, line: &str, wanted: &str) {
+    let given = words_of(alloc, line).expect(rt, NO_MEMORY);
+    assert_shown(rt, alloc, &words(&given), wanted, line);
 }
 
 #[test]
-fn a_status_has_a_text(rt: HostRuntime) -> Result<(), Fail> {
-    let texts = [
-        (Status::Done, ""),
-        (Status::Words(WordsFault::Command), "wmbus: words"),
-        (Status::ReadRoster, "wmbus: cannot read the roster"),
-        (
-            Status::Roster(3, LineCause::Key),
-            "wmbus: roster line 3 key",
-        ),
-        (
-            Status::State(1, FileCause::Roster(LineCause::Own)),
-            "wmbus: state line 1 own",
-        ),
-        (
-            Status::State(4, FileCause::Meter(StateCause::Twice)),
-            "wmbus: state line 4 twice",
-        ),
-        (
-            Status::State(5, FileCause::Behind),
-            "wmbus: state line 5 behind",
-        ),
-        (Status::Read(1), "wmbus: cannot read receiver 1"),
-        (Status::Transmit(2), "wmbus: cannot transmit at receiver 2"),
-        (Status::Cut(1), "wmbus: receiver 1 goes past the limit"),
-        (Status::Write(1), "wmbus: cannot write next"),
-        (Status::Write(2), "wmbus: cannot write readings"),
-        (Status::Write(3), "wmbus: cannot write report"),
-        (Status::Memory, "wmbus: no memory"),
-    ];
-    for (status, text) in texts {
-        let mut said = String::new(rt.alloc());
-        write!(said, "{status}")?;
-        assert_eq!(rt; said.as_str(), text);
+fn words_ask_for_a_plan_or_have_a_first_fault(rt: HostRuntime) {
+    let mut count = 0_u32;
+    for row in COMMANDS.lines() {
+        let (line, wanted) = row.split_once("= ").expect(&rt, "no answer");
+        assert_plan(&rt, rt.alloc(), line, wanted);
+        count = count.saturating_add(1);
     }
-    Ok(())
+    assert_eq!(rt; count, 15);
+}
+
+fn assert_text(rt: &impl Abort, alloc: Global, status: Status, text: &str) {
+    let said = format!(in alloc; "{status}").expect(rt, NO_MEMORY);
+    assert_eq!(rt; said.as_str(), text);
+}
+
+#[test]
+fn a_status_has_a_text(rt: HostRuntime) {
+    let a = rt.alloc();
+    assert_text(&rt, a, Status::Done, "");
+    assert_text(&rt, a, Status::Words(WordsFault::Command), "wmbus: words");
+    assert_text(&rt, a, Status::Read(1), "wmbus: cannot read receiver 1");
+    assert_text(
+        &rt,
+        a,
+        Status::Transmit(2),
+        "wmbus: cannot transmit at receiver 2",
+    );
+    assert_text(
+        &rt,
+        a,
+        Status::Cut(1),
+        "wmbus: receiver 1 goes past the limit",
+    );
+    assert_text(&rt, a, Status::Write(1), "wmbus: cannot write next");
+    assert_text(&rt, a, Status::Write(2), "wmbus: cannot write readings");
+    assert_text(&rt, a, Status::Write(3), "wmbus: cannot write report");
+    assert_text(&rt, a, Status::Memory, "wmbus: no memory");
+}
+
+#[test]
+fn a_fault_of_a_roster_or_state_has_a_text(rt: HostRuntime) {
+    let a = rt.alloc();
+    let (own, twice) = (
+        FileCause::Roster(LineCause::Own),
+        FileCause::Meter(StateCause::Twice),
+    );
+    assert_text(&rt, a, Status::ReadRoster, "wmbus: cannot read the roster");
+    assert_text(
+        &rt,
+        a,
+        Status::Roster(3, LineCause::Key),
+        "wmbus: roster line 3 key",
+    );
+    assert_text(&rt, a, Status::State(1, own), "wmbus: state line 1 own");
+    assert_text(&rt, a, Status::State(4, twice), "wmbus: state line 4 twice");
+    assert_text(
+        &rt,
+        a,
+        Status::State(5, FileCause::Behind),
+        "wmbus: state line 5 behind",
+    );
 }

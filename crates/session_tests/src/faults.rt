@@ -1,10 +1,14 @@
 //! Reads and writes that fail at one chosen call, each in a session of the heat meter.
-use crate::harness::{FIRST_FAILS, Given, HEAT, Listener, Pieces, STEADY, Session};
+ghost use Rattle.std.specs.Prelude.{◌≤◌};
+
+use crate::harness::{
+    FIRST_FAILS, Given, HEAT, Listener, NO_MEMORY, Pieces, STEADY, Session, assert_bytes,
+    assert_shown, collect_line, row_of, text_named, word,
+};
 use plain_text::read_number;
-use std::alloc::{AllocError, Global};
+use std::alloc::Global;
 use std::process::Abort;
 use std::sync::Wait;
-use std::test::Fail;
 use std::thread::Threads;
 
 // The messages with the counters 5 and 6: lines of 120 bytes and their ends.
@@ -100,18 +104,6 @@ end
 wmbus-roster 2
 ";
 
-// The text below a name.
-fn text_named(name: &str) -> Result<&'static str, Fail> {
-    for section in TEXTS.split("== ") {
-        if let Some((head, text)) = section.split_once('\n') {
-            if head == name {
-                return Ok(text);
-            }
-        }
-    }
-    Err("no text of the name".into())
-}
-
 // Each session: its name; how the roster is read; of the first receiver its lines, and how they are read and its downlinks written; the
 // same of the second, where there is one; how the next roster and the report are written; the status; and the names of what the next
 // roster, the readings and the report have.
@@ -138,122 +130,94 @@ the roster: 1/3 message steady steady - - - steady steady \
     ReadRoster nothing nothing nothing
 ";
 
-// How bytes are moved: the size of a piece and the number of the call that fails.
-fn pieces_of(word: &str) -> Result<Pieces, Fail> {
-    if word == "steady" {
-        return Ok(STEADY);
-    }
-    if word == "first" {
-        return Ok(FIRST_FAILS);
-    }
-    let (size, fail) = word.split_once('/').ok_or("no pieces")?;
-    Ok(Pieces {
-        size: read_number(size.as_bytes(), 4096).ok_or("no size")? as usize,
-        fail: read_number(fail.as_bytes(), 4096).ok_or("no call")?,
-    })
+// A number of at most four digits.
+fn number_of(rt: &impl Abort, digits: &str) -> u64 {
+    read_number(digits.as_bytes(), 4096).expect(rt, "no number")
 }
 
-fn listener_of(lines: &str, reads: &str, writes: &str) -> Result<Listener<'static>, Fail> {
-    let lines = match lines {
+// How bytes are moved: the size of a piece and the number of the call that fails.
+fn pieces_of(rt: &impl Abort, word: &str) -> Pieces {
+    match word.split_once('/') {
+        Some((size, fail)) => Pieces {
+            size: number_of(rt, size) as usize,
+            fail: number_of(rt, fail),
+        },
+        None => { if word == "first" { FIRST_FAILS } else { STEADY } }
+    }
+}
+
+fn lines_named(rt: &impl Abort, name: &str) -> &'static str {
+    match name {
         "message" => MESSAGE,
         "two" => TWO_LINES,
         "commanded" => COMMANDED,
-        _ => return Err("no lines of the name".into()),
+        _ => panic!(rt; "no lines of the name"),
+    }
+}
+
+// The receiver whose words stand behind a place of a row.
+fn listener_of(rt: &impl Abort, row: &[&str], place: usize) -> Listener<'static>
+    requires { place ≤ 13 }
+{
+    Listener {
+        lines: lines_named(rt, word(row, place)),
+        reads: pieces_of(rt, word(row, place + 1)),
+        writes: pieces_of(rt, word(row, place + 2)),
+    }
+}
+
+// The receivers of a row.
+fn receivers_of(rt: &impl Abort, alloc: Global, row: &[&str]) -> Vec<Listener<'static>> {
+    let mut receivers = vec![in alloc; listener_of(rt, row, 1)].expect(rt, NO_MEMORY);
+    if word(row, 4) != "-" {
+        receivers
+            .push(listener_of(rt, row, 4))
+            .expect(rt, NO_MEMORY);
+    }
+    receivers
+}
+
+fn assert_case<R: Threads + Wait + Abort + Sync>(rt: &R, alloc: Global, name: &str, row: &[&str]) {
+    let receivers = receivers_of(rt, alloc, row);
+    let given = Given {
+        command: collect_line(receivers.len()),
+        roster: HEAT,
+        roster_reads: pieces_of(rt, word(row, 0)),
+        receivers: receivers.as_slice(),
+        next: pieces_of(rt, word(row, 7)),
+        readings: STEADY,
+        report: pieces_of(rt, word(row, 8)),
     };
-    Ok(Listener {
-        lines,
-        reads: pieces_of(reads)?,
-        writes: pieces_of(writes)?,
-    })
-}
-
-fn receivers_of(alloc: Global, words: &[&str; 6]) -> Result<Vec<Listener<'static>>, Fail> {
-    let [lines, reads, writes, other_lines, other_reads, other_writes] = *words;
-    let mut receivers = vec![in alloc; listener_of(lines, reads, writes)?]?;
-    if other_lines != "-" {
-        receivers.push(listener_of(other_lines, other_reads, other_writes)?)?;
-    }
-    Ok(receivers)
-}
-
-// A session, and what it comes to.
-#[derive(Drop)]
-struct Case<'t> {
-    roster: Pieces,
-    receivers: Vec<Listener<'static>>,
-    next: Pieces,
-    report: Pieces,
-    status: &'t str,
-    texts: [&'t str; 3],
-}
-
-impl<'t> Case<'t> {
-    fn read(alloc: Global, row: &'t str) -> Result<Case<'t>, Fail> {
-        let words: Vec<&str> = row.split_whitespace().collect(alloc)?;
-        let [roster, a, b, c, d, e, f, next, report, status, x, y, z] = *words.as_slice() else {
-            return Err("no session".into());
-        };
-        Ok(Case {
-            roster: pieces_of(roster)?,
-            receivers: receivers_of(alloc, &[a, b, c, d, e, f])?,
-            next: pieces_of(next)?,
-            report: pieces_of(report)?,
-            status,
-            texts: [x, y, z],
-        })
-    }
-
-    fn run<R: Threads + Wait + Sync>(&self, rt: &R, alloc: Global) -> Result<Session, Fail> {
-        let given = Given {
-            roster: HEAT,
-            roster_reads: self.roster,
-            receivers: self.receivers.as_slice(),
-            next: self.next,
-            readings: STEADY,
-            report: self.report,
-        };
-        Session::of(rt, alloc, &given)
-    }
-}
-
-fn assert_case<R: Threads + Wait + Abort + Sync>(
-    rt: &R,
-    alloc: Global,
-    name: &str,
-    case: &Case<'_>,
-) -> Result<(), Fail> {
-    let session = case.run(rt, alloc)?;
-    let status = session.status;
-    let status = format!(in alloc; "{status:?}")?;
-    let [next, readings, report] = case.texts;
-    assert_eq!(rt; status.as_str(), case.status, "{name}");
-    assert_eq!(rt;
+    let session = Session::of(rt, alloc, &given);
+    assert_shown(rt, alloc, &session.status, word(row, 9), name);
+    assert_bytes(
+        rt,
         session.next.bytes(),
-        text_named(next)?.as_bytes(),
-        "{name}"
+        text_named(rt, TEXTS, word(row, 10)),
+        name,
     );
-    assert_eq!(rt;
+    assert_bytes(
+        rt,
         session.readings.bytes(),
-        text_named(readings)?.as_bytes(),
-        "{name}"
+        text_named(rt, TEXTS, word(row, 11)),
+        name,
     );
-    assert_eq!(rt;
+    assert_bytes(
+        rt,
         session.report.bytes(),
-        text_named(report)?.as_bytes(),
-        "{name}"
+        text_named(rt, TEXTS, word(row, 12)),
+        name,
     );
-    assert_eq!(rt; session.sent(0).len(), 0, "{name}");
-    Ok(())
+    assert_bytes(rt, session.sent(0), "", name);
 }
 
 #[test]
-fn a_fault_ends_what_it_meets_and_nothing_else(rt: HostRuntime) -> Result<(), Fail> {
+fn a_fault_ends_what_it_meets_and_nothing_else(rt: HostRuntime) {
     let mut count = 0_u32;
     for row in CASES.lines() {
-        let (name, rest) = row.split_once(": ").ok_or("no name")?;
-        assert_case(&rt, rt.alloc(), name, &Case::read(rt.alloc(), rest)?)?;
+        let (name, rest) = row.split_once(": ").expect(&rt, "no name");
+        assert_case(&rt, rt.alloc(), name, &row_of(&rt, rt.alloc(), rest));
         count = count.saturating_add(1);
     }
     assert_eq!(rt; count, 10);
-    Ok(())
 }

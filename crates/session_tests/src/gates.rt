@@ -3,13 +3,13 @@ ghost use Rattle.std.specs.Prelude.{◌≡◌, IfOk, None};
 ghost use Rattle.outer_io.specs.Each.{Each};
 ghost use Rattle.collector_main.specs.Showing.{IsFresh};
 
-use crate::harness::{HEAT, collect};
-use collector_main::{Receiver, Status};
+use crate::harness::{HEAT, assert_bytes, assert_shown, collect_line, run_line};
+use collector_main::Receiver;
 use outer_io::{Failed, Sink, Source};
 use std::alloc::{AllocError, Global};
+use std::process::Abort;
 use std::sync::Wait;
 use std::sync::atomic::{AtomicU64, Ordering};
-use std::test::Fail;
 use std::thread::Threads;
 
 const TURNS: u64 = 1_000_000_000;
@@ -131,59 +131,72 @@ impl Sink for GatedSink<'_> {
 
 type Gated<'g> = Receiver<GatedSource<'g>, GatedSink<'g>>;
 
-// A session of gated receivers: its status.
-fn status_of<'g, R: Threads + Wait + Sync>(
+// Receivers of these lines, each of which waits at a gate in its first read, and at another in the first write of a downlink.
+fn gated<'g>(
+    alloc: Global,
+    texts: &[&'g str],
+    reads: Option<&'g Gate>,
+    writes: Option<&'g Gate>,
+) -> Result<Vec<Gated<'g>>, AllocError>
+    ensures { IfOk result (λ receivers. Each IsFresh receivers.items) }
+{
+    let [text, later @ ..] = texts else {
+        return Ok(Vec::new(alloc));
+    };
+    let mut receivers = gated(alloc, later, reads, writes)?;
+    let source = GatedSource::new(text, reads);
+    receivers.insert(0, Receiver::new(source, GatedSink::new(alloc, writes)))?;
+    Ok(receivers)
+}
+
+// Has such receivers work, asserts how their session ends, and returns them.
+fn worked<'g, R: Threads + Wait + Abort + Sync>(
     rt: &R,
     alloc: Global,
     roster: &'g str,
-    receivers: &mut Vec<Gated<'g>>,
-) -> Result<Status, Fail>
-    requires { Each IsFresh receivers.old.items }
-{
-    collect(
+    texts: &[&'g str],
+    reads: Option<&'g Gate>,
+    writes: Option<&'g Gate>,
+    wanted: &str,
+) -> Vec<Gated<'g>> {
+    let Ok(mut receivers) = gated(alloc, texts, reads, writes) else {
+        panic!(rt; "no memory");
+    };
+    let status = run_line(
         rt,
         alloc,
+        collect_line(texts.len()),
         &mut GatedSource::new(roster, None),
-        receivers,
+        &mut receivers,
         &mut GatedSink::new(alloc, None),
         &mut GatedSink::new(alloc, None),
         &mut GatedSink::new(alloc, None),
-    )
+    );
+    assert_shown(rt, alloc, &status, wanted, "gates");
+    receivers
 }
 
 const TICK: &str = "T 9315010203040107\n";
 
-// So many receivers, each of which waits at the gate in its first read.
-fn readers(alloc: Global, gate: &Gate, count: u64) -> Result<Vec<Gated<'_>>, AllocError>
-    ensures { IfOk result (λ receivers. Each IsFresh receivers.items) }
-{
-    if count == 0 {
-        return Ok(Vec::new(alloc));
-    }
-    let mut receivers = readers(alloc, gate, count - 1)?;
-    let source = GatedSource::new(TICK, Some(gate));
-    receivers.insert(0, Receiver::new(source, GatedSink::new(alloc, None)))?;
-    Ok(receivers)
+#[test]
+fn receivers_read_at_the_same_time(rt: HostRuntime) {
+    let (two, eight) = (Gate::new(2, TURNS), Gate::new(8, TURNS));
+    worked(&rt, rt.alloc(), HEAT, &[TICK; 2], Some(&two), None, "Done");
+    worked(
+        &rt,
+        rt.alloc(),
+        HEAT,
+        &[TICK; 8],
+        Some(&eight),
+        None,
+        "Done",
+    );
 }
 
 #[test]
-fn receivers_read_at_the_same_time(rt: HostRuntime) -> Result<(), Fail> {
-    for count in [2, 8] {
-        let gate = Gate::new(count, TURNS);
-        let mut receivers = readers(rt.alloc(), &gate, count)?;
-        let status = status_of(&rt, rt.alloc(), HEAT, &mut receivers)?;
-        assert_eq!(rt; status, Status::Done);
-    }
-    Ok(())
-}
-
-#[test]
-fn a_receiver_for_which_no_other_comes_cannot_read(rt: HostRuntime) -> Result<(), Fail> {
+fn a_receiver_for_which_no_other_comes_cannot_read(rt: HostRuntime) {
     let gate = Gate::new(2, 1_000);
-    let mut receivers = readers(rt.alloc(), &gate, 1)?;
-    let status = status_of(&rt, rt.alloc(), HEAT, &mut receivers)?;
-    assert_eq!(rt; status, Status::Read(1));
-    Ok(())
+    worked(&rt, rt.alloc(), HEAT, &[TICK], Some(&gate), None, "Read(1)");
 }
 
 // Two heat meters with one key.
@@ -216,38 +229,40 @@ D 38439315010000000131247b900f002c25010000001a7ffa7830b9f337eada5b01020304931502
 ",
 ];
 
-// A receiver that waits at the gate in the first write of a downlink.
-fn writer<'g>(alloc: Global, lines: &'g str, gate: &'g Gate) -> Gated<'g>
-    ensures { IsFresh result }
-{
-    Receiver::new(
-        GatedSource::new(lines, None),
-        GatedSink::new(alloc, Some(gate)),
-    )
-}
-
-#[test]
-fn receivers_write_at_the_same_time(rt: HostRuntime) -> Result<(), Fail> {
-    let alloc = rt.alloc();
-    let gate = Gate::new(2, TURNS);
-    let [first, second] = COMMANDED;
-    let mut receivers = vec![in alloc; writer(alloc, first, &gate), writer(alloc, second, &gate)]?;
-    let status = status_of(&rt, alloc, TWO_METERS, &mut receivers)?;
-    assert_eq!(rt; status, Status::Done);
-    assert_eq!(rt; receivers.len(), 2);
-    for (receiver, downlink) in receivers.iter().zip(DOWNLINKS) {
-        assert_eq!(rt; receiver.tx().bytes.as_slice(), downlink.as_bytes());
+// Asserts that each receiver sent one of these downlinks.
+fn assert_sent(rt: &impl Abort, receivers: &[Gated<'_>], downlinks: &[&str]) {
+    assert_eq!(rt; receivers.len(), downlinks.len());
+    for (receiver, downlink) in receivers.iter().zip(downlinks) {
+        assert_bytes(rt, receiver.tx().bytes.as_slice(), downlink, "downlink");
     }
-    Ok(())
 }
 
 #[test]
-fn a_receiver_for_which_no_other_comes_cannot_write(rt: HostRuntime) -> Result<(), Fail> {
-    let alloc = rt.alloc();
+fn receivers_write_at_the_same_time(rt: HostRuntime) {
+    let gate = Gate::new(2, TURNS);
+    let receivers = worked(
+        &rt,
+        rt.alloc(),
+        TWO_METERS,
+        &COMMANDED,
+        None,
+        Some(&gate),
+        "Done",
+    );
+    assert_sent(&rt, receivers.as_slice(), &DOWNLINKS);
+}
+
+#[test]
+fn a_receiver_for_which_no_other_comes_cannot_write(rt: HostRuntime) {
     let gate = Gate::new(2, 1_000);
     let [lines, _] = COMMANDED;
-    let mut receivers = vec![in alloc; writer(alloc, lines, &gate)]?;
-    let status = status_of(&rt, alloc, TWO_METERS, &mut receivers)?;
-    assert_eq!(rt; status, Status::Transmit(1));
-    Ok(())
+    worked(
+        &rt,
+        rt.alloc(),
+        TWO_METERS,
+        &[lines],
+        None,
+        Some(&gate),
+        "Transmit(1)",
+    );
 }

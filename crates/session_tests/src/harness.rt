@@ -1,15 +1,19 @@
 //! Sessions of `collect` in memory: receivers and outputs that move their bytes in pieces and fail at chosen calls, and sessions as texts.
-ghost use Rattle.std.specs.Prelude.{◌≡◌, ◌≤◌, [], IsTrue, IfOk, length};
+//! What can only fail for want of memory aborts the test: a function that hands an error on takes much longer to prove.
+ghost use Rattle.std.specs.Prelude.{◌≡◌, [], IsTrue};
 ghost use Rattle.outer_io.specs.Each.{Each};
-ghost use Rattle.collector_main.specs.Showing.{IsFresh};
+ghost use Rattle.collector_main.specs.Showing.{IsFresh, receiver_count};
 
 use collector_main::{Plan, Receiver, Status, run, words};
 use outer_io::{MemorySink, MemorySource, Sink, Source};
 use std::alloc::{AllocError, Global};
+use std::fmt::{Debug, Write};
 use std::process::Abort;
 use std::sync::Wait;
-use std::test::Fail;
 use std::thread::Threads;
+
+/// What a test says where an allocation failed.
+pub(crate) const NO_MEMORY: &str = "no memory";
 
 /// The roster of the gas meter of the OMS examples.
 pub(crate) const GAS: &str = "\
@@ -34,44 +38,81 @@ meter 9315010203040107 7 000102030405060708090a0b0c0d0e0f - 0 0
 const HEAT_LINE: &str =
     "own 9315010000000131\nmeter 9315010203040107 7 000102030405060708090a0b0c0d0e0f";
 
-// The words of a session of so many receivers.
-fn command_of(alloc: Global, receivers: usize) -> Result<Vec<String>, AllocError> {
-    let mut command = Vec::new(alloc);
-    for word in ["collect", "roster", "next", "readings"] {
-        command.push(String::from_str(alloc, word)?)?;
+/// The words of a line, with single spaces between them; an empty line has none.
+pub(crate) fn words_of(alloc: Global, line: &str) -> Result<Vec<String>, AllocError> {
+    let mut given = Vec::new(alloc);
+    for word in line.split_whitespace() {
+        given.push(String::from_str(alloc, word)?)?;
     }
-    for place in 0..receivers {
-        command.push(format!(in alloc; "rx{place}")?)?;
-        command.push(format!(in alloc; "tx{place}")?)?;
-    }
-    Ok(command)
+    Ok(given)
 }
 
-/// Has receivers work by the command `collect`.
-pub(crate) fn collect<R: Threads + Wait + Sync, S: Source + Send + Drop, K: Sink + Send + Drop>(
+/// The word at a place of a row; an empty one where there is none.
+pub(crate) fn word<'t>(row: &[&'t str], place: usize) -> &'t str {
+    match row.get(place) {
+        Some(word) => word,
+        None => "",
+    }
+}
+
+/// The words of a row.
+pub(crate) fn row_of<'t>(rt: &impl Abort, alloc: Global, row: &'t str) -> Vec<&'t str> {
+    row.split_whitespace().collect(alloc).expect(rt, NO_MEMORY)
+}
+
+// How many receivers a plan has.
+fn count_of(plan: Plan) -> usize
+    ensures { result ≡ receiver_count plan }
+{
+    match plan {
+        Plan::Hear => 1,
+        Plan::Collect(count) => count as usize,
+        Plan::Continue(count) => count as usize,
+        Plan::Made { .. } => 0,
+    }
+}
+
+/// Runs the command of a line, over receivers and outputs that were not used yet.
+pub(crate) fn run_line<
+    R: Threads + Wait + Abort + Sync,
+    S: Source + Send + Drop,
+    K: Sink + Send + Drop,
+>(
     rt: &R,
     alloc: Global,
+    line: &str,
     roster: &mut S,
     receivers: &mut Vec<Receiver<S, K>>,
     next: &mut K,
     readings: &mut K,
     report: &mut K,
-) -> Result<Status, Fail>
+) -> Status
     requires fresh { Each IsFresh receivers.old.items }
     requires empty_next { IsTrue K.tells → K.written next.old ≡ [] }
     requires empty_readings { IsTrue K.tells → K.written readings.old ≡ [] }
     requires empty { IsTrue K.tells → K.written report.old ≡ [] }
 {
-    let command = command_of(alloc, receivers.len())?;
-    let Ok(Plan::Collect(count)) = words(&command) else {
-        return Err("no words of a session".into());
+    let command = words_of(alloc, line).expect(rt, NO_MEMORY);
+    let Ok(plan) = words(&command) else {
+        panic!(rt; "no words of a session");
     };
-    if receivers.len() != count as usize {
-        return Err("another number of receivers".into());
+    if receivers.len() != count_of(plan) {
+        panic!(rt; "another number of receivers");
     }
-    Ok(run(
+    run(
         rt, alloc, &command, roster, receivers, next, readings, report,
-    ))
+    )
+}
+
+/// The command of a session of 1, 2, 3, 4 or 8 receivers.
+pub(crate) fn collect_line(receivers: usize) -> &'static str {
+    match receivers {
+        1 => "collect roster next readings a b",
+        2 => "collect roster next readings a b c d",
+        3 => "collect roster next readings a b c d e f",
+        4 => "collect roster next readings a b c d e f g h",
+        _ => "collect roster next readings a b c d e f g h i j k l m n o p",
+    }
 }
 
 /// How bytes are moved: at most so many in one call, and the call with this number fails; none has the number 0.
@@ -93,17 +134,20 @@ pub(crate) const FIRST_FAILS: Pieces = Pieces {
     fail: 1,
 };
 
-fn source_of(alloc: Global, text: &str, pieces: Pieces) -> Result<MemorySource, AllocError>
-    ensures { IfOk result (λ s. s.taken ≡ []) }
+/// A source of a text.
+pub(crate) fn source_of(rt: &impl Abort, alloc: Global, text: &str, pieces: Pieces) -> MemorySource
+    ensures { result.taken ≡ [] }
 {
-    let bytes = text.as_bytes().to_vec(alloc)?;
-    Ok(MemorySource::pieces(bytes, pieces.size.max(1), vec![in alloc; pieces.fail]?))
+    let bytes = text.as_bytes().to_vec(alloc).expect(rt, NO_MEMORY);
+    let fails = vec![in alloc; pieces.fail].expect(rt, NO_MEMORY);
+    MemorySource::pieces(bytes, pieces.size.max(1), fails)
 }
 
-fn sink_of(alloc: Global, pieces: Pieces) -> Result<MemorySink, AllocError>
-    ensures { IfOk result (λ s. s.written ≡ []) }
+fn sink_of(rt: &impl Abort, alloc: Global, pieces: Pieces) -> MemorySink
+    ensures { result.written ≡ [] }
 {
-    Ok(MemorySink::pieces(alloc, pieces.size.max(1), vec![in alloc; pieces.fail]?))
+    let fails = vec![in alloc; pieces.fail].expect(rt, NO_MEMORY);
+    MemorySink::pieces(alloc, pieces.size.max(1), fails)
 }
 
 /// A receiver: its lines, how they are read, and how its downlinks are written.
@@ -125,28 +169,29 @@ pub(crate) fn hears(lines: &str) -> Listener<'_> {
 
 type Radio = Receiver<MemorySource, MemorySink>;
 
-fn radio(alloc: Global, listener: &Listener<'_>) -> Result<Radio, AllocError>
-    ensures { IfOk result IsFresh }
+fn radio(rt: &impl Abort, alloc: Global, listener: &Listener<'_>) -> Radio
+    ensures { IsFresh result }
 {
-    let source = source_of(alloc, listener.lines, listener.reads)?;
-    let tx = sink_of(alloc, listener.writes)?;
-    Ok(Receiver::new(source, tx))
+    let source = source_of(rt, alloc, listener.lines, listener.reads);
+    Receiver::new(source, sink_of(rt, alloc, listener.writes))
 }
 
-fn radios(alloc: Global, listeners: &[Listener<'_>]) -> Result<Vec<Radio>, AllocError>
-    ensures { IfOk result (λ radios. Each IsFresh radios.items) }
+fn radios<R: Abort>(rt: &R, alloc: Global, listeners: &[Listener<'_>]) -> Vec<Radio>
+    ensures { Each IsFresh result.items }
 {
     let [listener, later @ ..] = listeners else {
-        return Ok(Vec::new(alloc));
+        return Vec::new(alloc);
     };
-    let mut all = radios(alloc, later)?;
-    all.insert(0, radio(alloc, listener)?)?;
-    Ok(all)
+    let mut all = radios(rt, alloc, later);
+    all.insert(0, radio(rt, alloc, listener))
+        .expect(rt, NO_MEMORY);
+    all
 }
 
 /// What a session is over.
 #[derive(Clone, Copy)]
 pub(crate) struct Given<'t> {
+    pub(crate) command: &'t str,
     pub(crate) roster: &'t str,
     pub(crate) roster_reads: Pieces,
     pub(crate) receivers: &'t [Listener<'t>],
@@ -155,9 +200,14 @@ pub(crate) struct Given<'t> {
     pub(crate) report: Pieces,
 }
 
-/// A session of these receivers, whose roster and outputs never fail.
-pub(crate) fn steady<'t>(roster: &'t str, receivers: &'t [Listener<'t>]) -> Given<'t> {
+/// A session of a command and of these receivers, whose roster and outputs never fail.
+pub(crate) fn steady<'t>(
+    command: &'t str,
+    roster: &'t str,
+    receivers: &'t [Listener<'t>],
+) -> Given<'t> {
     Given {
+        command,
         roster,
         roster_reads: STEADY,
         receivers,
@@ -165,6 +215,11 @@ pub(crate) fn steady<'t>(roster: &'t str, receivers: &'t [Listener<'t>]) -> Give
         readings: STEADY,
         report: STEADY,
     }
+}
+
+/// A session in which these receivers are collected, and nothing fails.
+pub(crate) fn collected<'t>(roster: &'t str, receivers: &'t [Listener<'t>]) -> Given<'t> {
+    steady(collect_line(receivers.len()), roster, receivers)
 }
 
 /// What a session came to.
@@ -178,32 +233,33 @@ pub(crate) struct Session {
 }
 
 impl Session {
-    pub(crate) fn of<R: Threads + Wait + Sync>(
+    pub(crate) fn of<R: Threads + Wait + Abort + Sync>(
         rt: &R,
         alloc: Global,
         given: &Given<'_>,
-    ) -> Result<Session, Fail> {
-        let mut roster = source_of(alloc, given.roster, given.roster_reads)?;
-        let mut receivers = radios(alloc, given.receivers)?;
-        let mut next = sink_of(alloc, given.next)?;
-        let mut readings = sink_of(alloc, given.readings)?;
-        let mut report = sink_of(alloc, given.report)?;
-        let status = collect(
+    ) -> Session {
+        let mut roster = source_of(rt, alloc, given.roster, given.roster_reads);
+        let mut receivers = radios(rt, alloc, given.receivers);
+        let mut next = sink_of(rt, alloc, given.next);
+        let mut readings = sink_of(rt, alloc, given.readings);
+        let mut report = sink_of(rt, alloc, given.report);
+        let status = run_line(
             rt,
             alloc,
+            given.command,
             &mut roster,
             &mut receivers,
             &mut next,
             &mut readings,
             &mut report,
-        )?;
-        Ok(Session {
+        );
+        Session {
             status,
             next,
             readings,
             report,
             receivers,
-        })
+        }
     }
 
     /// The downlinks of the receiver at this place.
@@ -213,10 +269,40 @@ impl Session {
             None => &[],
         }
     }
+}
 
-    pub(crate) fn report(&self) -> Result<&str, Fail> {
-        Ok(std::str::from_utf8(self.report.bytes())?)
+/// These bytes as a text.
+pub(crate) fn text_of<'t>(rt: &impl Abort, bytes: &'t [u8]) -> &'t str {
+    std::str::from_utf8(bytes).expect(rt, "no text")
+}
+
+/// Asserts that bytes are those of a text.
+pub(crate) fn assert_bytes(rt: &impl Abort, bytes: &[u8], wanted: &str, name: &str) {
+    assert_eq!(rt; bytes, wanted.as_bytes(), "{name}");
+}
+
+/// Asserts that a value is shown so.
+pub(crate) fn assert_shown<T: Debug>(
+    rt: &impl Abort,
+    alloc: Global,
+    value: &T,
+    wanted: &str,
+    name: &str,
+) {
+    let shown = format!(in alloc; "{value:?}").expect(rt, NO_MEMORY);
+    assert_eq!(rt; shown.as_str(), wanted, "{name}");
+}
+
+/// The text below a name, among texts of which each stands below a row `== ` and its name.
+pub(crate) fn text_named(rt: &impl Abort, texts: &'static str, name: &str) -> &'static str {
+    for section in texts.split("== ") {
+        if let Some((head, text)) = section.split_once('\n') {
+            if head == name {
+                return text;
+            }
+        }
     }
+    panic!(rt; "no text of the name {name}")
 }
 
 fn put_row(text: &mut String, row: &str) -> Result<(), AllocError> {
@@ -224,86 +310,96 @@ fn put_row(text: &mut String, row: &str) -> Result<(), AllocError> {
     text.push('\n')
 }
 
+// What stands in a row behind a word, where it begins with the word.
+fn behind<'t>(row: &'t str, word: &str) -> Option<&'t str> {
+    let (first, rest) = row.split_once(' ')?;
+    if first == word { Some(rest) } else { None }
+}
+
 // What stands in a text behind a word, at the first row that begins with it.
-fn said<'t>(text: &'t str, word: &str) -> Result<&'t str, Fail> {
+fn said<'t>(rt: &impl Abort, text: &'t str, word: &str) -> &'t str {
     for row in text.lines() {
-        if let Some((first, rest)) = row.split_once(' ') {
-            if first == word {
-                return Ok(rest);
-            }
+        if let Some(rest) = behind(row, word) {
+            return rest;
         }
     }
-    Err("no row of the word".into())
+    panic!(rt; "no row of the word {word}")
 }
 
 // What stands there behind a word, at each row that begins with it.
-fn all_said(alloc: Global, text: &str, word: &str) -> Result<String, AllocError> {
+fn all_said(rt: &impl Abort, alloc: Global, text: &str, word: &str) -> String {
     let mut all = String::new(alloc);
     for row in text.lines() {
-        if let Some((first, rest)) = row.split_once(' ') {
-            if first == word {
-                put_row(&mut all, rest)?;
-            }
+        if let Some(rest) = behind(row, word) {
+            put_row(&mut all, rest).expect(rt, NO_MEMORY);
         }
     }
-    Ok(all)
+    all
 }
 
 // The lines that are heard: their rows begin with a capital.
-fn heard(alloc: Global, text: &str) -> Result<String, AllocError> {
+fn heard(rt: &impl Abort, alloc: Global, text: &str) -> String {
     let mut lines = String::new(alloc);
     for row in text.lines() {
         if let [b'A'..=b'Z', ..] = row.as_bytes() {
-            put_row(&mut lines, row)?;
+            put_row(&mut lines, row).expect(rt, NO_MEMORY);
         }
     }
-    Ok(lines)
+    lines
 }
 
 // The steps of the report that they make, each of which stands below its line.
-fn steps(alloc: Global, text: &str) -> Result<String, AllocError> {
+fn steps(rt: &impl Abort, alloc: Global, text: &str) -> String {
     let mut steps = String::new(alloc);
     let mut line = 0_u32;
     for row in text.lines() {
         if let Some(step) = row.strip_prefix("= ") {
             line = line.saturating_add(1);
-            steps.push_str(&format!(in alloc; "step 1 {line} {step}\n")?)?;
+            write!(steps, "step 1 {line} {step}\n").expect(rt, NO_MEMORY);
         }
     }
-    Ok(steps)
+    steps
 }
 
 // The report of a session of one receiver, whose lines are all the heat meter's own.
-fn report_of(alloc: Global, text: &str) -> Result<String, Fail> {
-    let (count, meter) = (said(text, "count")?, said(text, "meter")?);
-    let steps = steps(alloc, text)?;
-    let behind = all_said(alloc, text, "behind")?;
-    Ok(format!(in alloc;
+fn report_of(rt: &impl Abort, alloc: Global, text: &str) -> String {
+    let (count, meter) = (said(rt, text, "count"), said(rt, text, "meter"));
+    let steps = steps(rt, alloc, text);
+    let behind = all_said(rt, alloc, text, "behind");
+    format!(in alloc;
         "wmbus-report 1\nreceiver 1 lines {count} own {count} strangers 0 unframed 0 bad 0 end\n\
         meter 9315010203040107 ELS mode 7 {meter}\n{steps}{behind}strangers 0\nend\n"
-    )?)
+    )
+    .expect(rt, NO_MEMORY)
+}
+
+// A roster of the heat meter, of which its head and what it knows of the meter are given.
+fn roster_of(rt: &impl Abort, alloc: Global, head: &str, known: &str) -> String {
+    format!(in alloc; "{head}\n{HEAT_LINE} {known}\n").expect(rt, NO_MEMORY)
 }
 
 // Asserts that a session of one receiver, whose lines are all the heat meter's own, is as its text says. It has rows of what the roster
 // knows of the meter, its last counter, downlink counter and command id; how many lines there are; each line, with its step below it; what
 // the report says of the meter, and behind its steps; what the next roster knows of it; and each downlink that is sent.
-fn assert_own_lines<R: Threads + Wait + Abort + Sync>(
-    rt: &R,
-    alloc: Global,
-    text: &str,
-) -> Result<(), Fail> {
-    let (known, next) = (said(text, "known")?, said(text, "next")?);
-    let roster = format!(in alloc; "wmbus-roster 1\n{HEAT_LINE} {known}\n")?;
-    let lines = heard(alloc, text)?;
-    let session = Session::of(rt, alloc, &steady(&roster, &[hears(&lines)]))?;
-    let next_roster = format!(in alloc; "wmbus-roster 2\n{HEAT_LINE} - {next}\n")?;
-    let report = report_of(alloc, text)?;
-    let sent = all_said(alloc, text, "sent")?;
-    assert_eq!(rt; session.status, Status::Done, "{text}");
-    assert_eq!(rt; session.report()?, report.as_str(), "{text}");
-    assert_eq!(rt; session.next.bytes(), next_roster.as_bytes(), "{text}");
-    assert_eq!(rt; session.sent(0), sent.as_bytes(), "{text}");
-    Ok(())
+fn assert_own_lines<R: Threads + Wait + Abort + Sync>(rt: &R, alloc: Global, text: &str) {
+    let roster = roster_of(rt, alloc, "wmbus-roster 1", said(rt, text, "known"));
+    let lines = heard(rt, alloc, text);
+    let session = Session::of(rt, alloc, &collected(&roster, &[hears(&lines)]));
+    let next = roster_of(rt, alloc, "wmbus-roster 2", said(rt, text, "next"));
+    assert_shown(rt, alloc, &session.status, "Done", text);
+    assert_bytes(
+        rt,
+        session.report.bytes(),
+        &report_of(rt, alloc, text),
+        text,
+    );
+    assert_bytes(rt, session.next.bytes(), &next, text);
+    assert_bytes(
+        rt,
+        session.sent(0),
+        &all_said(rt, alloc, text, "sent"),
+        text,
+    );
 }
 
 /// Asserts that so many sessions, with empty rows between them, are as their texts say.
@@ -312,12 +408,11 @@ pub(crate) fn assert_sessions<R: Threads + Wait + Abort + Sync>(
     alloc: Global,
     texts: &str,
     wanted: u32,
-) -> Result<(), Fail> {
+) {
     let mut count = 0_u32;
     for text in texts.split("\n\n") {
-        assert_own_lines(rt, alloc, text)?;
+        assert_own_lines(rt, alloc, text);
         count = count.saturating_add(1);
     }
     assert_eq!(rt; count, wanted);
-    Ok(())
 }

@@ -1,9 +1,11 @@
 //! Frames that a sender of ill will may send, and floods of other meters' lines.
-use crate::harness::{HEAT, Session, assert_sessions, hears, steady};
-use collector_main::Status;
+use crate::harness::{
+    HEAT, NO_MEMORY, Session, assert_sessions, assert_shown, collected, hears, text_of,
+};
 use frame_formats::{Telegram, encode_a};
-use std::alloc::{AllocError, Global};
-use std::test::Fail;
+use std::alloc::Global;
+use std::fmt::Write;
+use std::process::Abort;
 
 // Telegrams to the heat meter whose layers or whose message are refused, one whose message is sent plain, and fragments of nothing; and
 // sixteen fragments of one byte each, of which each says that more follow, and then a whole message.
@@ -45,7 +47,7 @@ A 100 0d449315010203040107bb9e900202003ef7
 = refused message truncated 0
 meter last 5 down 0 steps 16 readings 1
 behind record instantaneous 0 0 0 volume m3 -3 - 5 05000000
-next 5 0 0
+next - 5 0 0
 
 name fragments without end
 known - 0 0
@@ -86,14 +88,12 @@ A 100 30449315010203040107b178900f002c2509000000b4c8837383214e5c22677a0100100710
 = stored 9 100 2f2f0c13090000002f2f2f2f2f2f2f2f
 meter last 9 down 0 steps 17 readings 1
 behind record instantaneous 0 0 0 volume m3 -3 - 9 09000000
-next 9 0 0
+next - 9 0 0
 ";
 
 #[test]
-fn hostile_frames_are_refused_by_name_and_hold_up_no_whole_message(
-    rt: HostRuntime,
-) -> Result<(), Fail> {
-    assert_sessions(&rt, rt.alloc(), SESSIONS, 2)
+fn hostile_frames_are_refused_by_name_and_hold_up_no_whole_message(rt: HostRuntime) {
+    assert_sessions(&rt, rt.alloc(), SESSIONS, 2);
 }
 
 // The message of the heat meter with the counter 1.
@@ -102,77 +102,90 @@ A 100 30449315010203040107b178900f002c2501000000bf60473154d1f007da447a0100100710
 ";
 
 // The line of a telegram of another meter, whose identification is this number.
-fn put_stranger(alloc: Global, lines: &mut String, number: u32) -> Result<(), Fail> {
+fn put_stranger(rt: &impl Abort, alloc: Global, lines: &mut String, number: u32) {
     let [i, j, k, l] = number.to_be_bytes();
     let bytes = [
         0x0e, 0x44, 0x93, 0x15, i, j, k, l, 0x01, 0x07, 0x7a, 0, 0, 0, 0,
     ];
-    let telegram = Telegram::from_bytes(&bytes).ok_or("no telegram")?;
+    let telegram = Telegram::from_bytes(&bytes).expect(rt, "no telegram");
     let mut frame = [0; 290];
     let len = encode_a(&telegram, &mut frame);
-    let hex = hex::encode(alloc, &frame[..len])?;
-    lines.push_str(&format!(in alloc; "A 100 {hex}\n")?)?;
-    Ok(())
+    let hex = hex::encode(alloc, &frame[..len]).expect(rt, NO_MEMORY);
+    write!(lines, "A 100 {hex}\n").expect(rt, NO_MEMORY);
 }
 
 // The lines of telegrams of so many other meters.
-fn strangers(alloc: Global, count: u32) -> Result<String, Fail> {
+fn strangers(rt: &impl Abort, alloc: Global, count: u32) -> String {
     let mut lines = String::new(alloc);
     for number in 0..count {
-        put_stranger(alloc, &mut lines, number)?;
+        put_stranger(rt, alloc, &mut lines, number);
     }
-    Ok(lines)
+    lines
 }
 
-// The report's lines on the last 256 of so many other meters.
-fn ring_of(alloc: Global, count: u32) -> Result<String, AllocError> {
-    let mut ring = String::new(alloc);
+// The end of a report whose last stranger is on this line, after so many others: it names the last 256 of them.
+fn put_ring(rt: &impl Abort, report: &mut String, count: u32) {
     for number in count.saturating_sub(256)..count {
-        ring.push_str(&format!(in alloc; "ring 9315{number:08x}0107\n")?)?;
+        write!(report, "ring 9315{number:08x}0107\n").expect(rt, NO_MEMORY);
     }
-    Ok(ring)
+}
+
+fn assert_has(rt: &impl Abort, report: &str, part: &str) {
+    assert!(rt; report.contains(part), "{part}");
+}
+
+fn joined(rt: &impl Abort, alloc: Global, front: &str, behind: &str) -> String {
+    format!(in alloc; "{front}{behind}").expect(rt, NO_MEMORY)
 }
 
 #[test]
-fn the_last_256_of_ten_thousand_strangers_are_named(rt: HostRuntime) -> Result<(), Fail> {
+fn the_last_256_of_ten_thousand_strangers_are_named(rt: HostRuntime) {
     let alloc = rt.alloc();
-    let mut lines = String::from_str(alloc, MESSAGE)?;
-    lines.push_str(&strangers(alloc, 10_000)?)?;
-    let session = Session::of(&rt, alloc, &steady(HEAT, &[hears(&lines)]))?;
-    let report = session.report()?;
-    assert_eq!(rt; session.status, Status::Done);
-    assert!(rt;
-        report.contains("receiver 1 lines 10001 own 1 strangers 10000 unframed 0 bad 0 end\n")
+    let lines = joined(&rt, alloc, MESSAGE, &strangers(&rt, alloc, 10_000));
+    let mut end = String::new(alloc);
+    put_ring(&rt, &mut end, 10_000);
+    let end = joined(
+        &rt,
+        alloc,
+        "\nstranger 1 10001\n",
+        &joined(&rt, alloc, &end, "end\n"),
     );
-    assert!(rt; report.contains(" last 1 down 0 steps 1 readings 1\n"));
-    assert!(rt; report.contains("\nstrangers 10000\nstranger 1 2\n"));
-    let end = format!(in alloc; "\nstranger 1 10001\n{}end\n", ring_of(alloc, 10_000)?)?;
+    let session = Session::of(&rt, alloc, &collected(HEAT, &[hears(&lines)]));
+    let report = text_of(&rt, session.report.bytes());
+    assert_shown(&rt, alloc, &session.status, "Done", "status");
+    assert_has(
+        &rt,
+        report,
+        "receiver 1 lines 10001 own 1 strangers 10000 unframed 0 bad 0 end\n",
+    );
+    assert_has(&rt, report, " last 1 down 0 steps 1 readings 1\n");
+    assert_has(&rt, report, "\nstrangers 10000\nstranger 1 2\n");
     assert!(rt; report.ends_with(end.as_str()));
-    Ok(())
 }
 
-// How many lines of a report begin so.
-fn count_of(report: &str, word: &str) -> usize {
-    report.lines().filter(|line| line.starts_with(word)).count()
+// Asserts that so many lines of a report begin so.
+fn assert_count(rt: &impl Abort, report: &str, word: &str, wanted: usize) {
+    let count = report.lines().filter(|line| line.starts_with(word)).count();
+    assert_eq!(rt; count, wanted, "{word}");
 }
 
 #[test]
-fn a_flood_of_strangers_at_eight_receivers_loses_no_message(rt: HostRuntime) -> Result<(), Fail> {
+fn a_flood_of_strangers_at_eight_receivers_loses_no_message(rt: HostRuntime) {
     let alloc = rt.alloc();
-    let flood = strangers(alloc, 1_000)?;
-    let mut with_message = String::from_str(alloc, flood.as_str())?;
-    with_message.push_str(MESSAGE)?;
+    let flood = strangers(&rt, alloc, 1_000);
+    let with_message = joined(&rt, alloc, &flood, MESSAGE);
     let (first, other) = (hears(&with_message), hears(&flood));
     let receivers = [first, other, other, other, other, other, other, other];
-    let session = Session::of(&rt, alloc, &steady(HEAT, &receivers))?;
-    let report = session.report()?;
-    assert_eq!(rt; session.status, Status::Done);
-    assert!(rt;
-        report.contains("receiver 1 lines 1001 own 1 strangers 1000 unframed 0 bad 0 end\n")
+    let session = Session::of(&rt, alloc, &collected(HEAT, &receivers));
+    let report = text_of(&rt, session.report.bytes());
+    assert_shown(&rt, alloc, &session.status, "Done", "status");
+    assert_has(
+        &rt,
+        report,
+        "receiver 1 lines 1001 own 1 strangers 1000 unframed 0 bad 0 end\n",
     );
-    assert!(rt; report.contains(" last 1 down 0 steps 1 readings 1\n"));
-    assert!(rt; report.contains("\nstrangers 8000\n"));
-    assert_eq!(rt; count_of(report, "stranger "), 8_000);
-    assert_eq!(rt; count_of(report, "ring "), 256);
-    Ok(())
+    assert_has(&rt, report, " last 1 down 0 steps 1 readings 1\n");
+    assert_has(&rt, report, "\nstrangers 8000\n");
+    assert_count(&rt, report, "stranger ", 8_000);
+    assert_count(&rt, report, "ring ", 256);
 }

@@ -1,63 +1,25 @@
 //! Made sessions: their summaries and reports, and the same lines heard by `collect`.
-ghost use Rattle.std.specs.Prelude.{◌≡◌, [], IfOk};
-ghost use Rattle.collector_main.specs.Showing.{IsFresh};
-
-use crate::harness::collect;
-use collector_main::{Plan, Receiver, Status, run, words};
-use made_input::{Made, make};
-use outer_io::{MemorySink, MemorySource};
+use crate::harness::{
+    NO_MEMORY, Session, assert_bytes, assert_shown, collected, hears, steady, text_of,
+};
+use made_input::{MadeText, make};
 use plain_text::read_number;
-use std::alloc::{AllocError, Global};
+use std::alloc::Global;
 use std::process::Abort;
 use std::sync::Wait;
-use std::test::Fail;
 use std::thread::Threads;
-
-// What a made session came to: its status, its report and its summary.
-#[derive(Drop)]
-struct Outputs {
-    status: Status,
-    report: MemorySink,
-    summary: MemorySink,
-}
-
-// The session of these numbers of meters and telegrams, drawn from the third.
-fn run_made<R: Threads + Wait + Sync>(
-    rt: &R,
-    alloc: Global,
-    numbers: [&str; 3],
-) -> Result<Outputs, Fail> {
-    let mut command = vec![in alloc; String::from_str(alloc, "made")?]?;
-    for word in numbers {
-        command.push(String::from_str(alloc, word)?)?;
-    }
-    let Ok(Plan::Made { .. }) = words(&command) else {
-        return Err("no words of a made session".into());
-    };
-    let mut roster = MemorySource::steady(alloc, Vec::new(alloc));
-    let mut report = MemorySink::steady(alloc);
-    let mut summary = MemorySink::steady(alloc);
-    let status = run(
-        rt,
-        alloc,
-        &command,
-        &mut roster,
-        &mut Vec::new(alloc),
-        &mut MemorySink::steady(alloc),
-        &mut report,
-        &mut summary,
-    );
-    Ok(Outputs {
-        status,
-        report,
-        summary,
-    })
-}
 
 const SUMMARY: &str = "\
 wmbus-made 1
 meters 50 receivers 4 lines 20000 steps 19608 strangers 392
 highest 4902
+end
+";
+
+const LEAST_SUMMARY: &str = "\
+wmbus-made 1
+meters 1 receivers 4 lines 4 steps 4 strangers 0
+highest 1
 end
 ";
 
@@ -94,67 +56,64 @@ fn sum_of(report: &str, front: &str, word: &str) -> u64 {
     sum
 }
 
+fn assert_sum(rt: &impl Abort, report: &str, front: &str, word: &str, wanted: u64) {
+    assert_eq!(rt; sum_of(report, front, word), wanted, "{word}");
+}
+
 // Asserts that a report has the numbers of the summary.
-fn assert_numbers(rt: &impl Abort, report: &MemorySink) -> Result<(), Fail> {
-    let report = std::str::from_utf8(report.bytes())?;
+fn assert_numbers(rt: &impl Abort, report: &[u8]) {
+    let report = text_of(rt, report);
     assert!(rt; report.starts_with(FRONT));
-    assert_eq!(rt; sum_of(report, "receiver ", " lines "), 20_000);
-    assert_eq!(rt; sum_of(report, "meter ", " steps "), 19_608);
-    assert_eq!(rt; sum_of(report, "meter ", " last "), 4_902);
-    assert_eq!(rt; sum_of(report, "strangers ", "strangers "), 392);
-    Ok(())
+    assert_sum(rt, report, "receiver ", " lines ", 20_000);
+    assert_sum(rt, report, "meter ", " steps ", 19_608);
+    assert_sum(rt, report, "meter ", " last ", 4_902);
+    assert_sum(rt, report, "strangers ", "strangers ", 392);
+}
+
+// Makes the session of a command, whose report stands among its readings, and asserts its summary.
+fn summed_up<R: Threads + Wait + Abort + Sync>(
+    rt: &R,
+    alloc: Global,
+    command: &str,
+    summary: &str,
+) -> Session {
+    let session = Session::of(rt, alloc, &steady(command, "", &[]));
+    assert_shown(rt, alloc, &session.status, "Done", command);
+    assert_bytes(rt, session.report.bytes(), summary, command);
+    session
 }
 
 #[test]
-fn a_made_session_is_summed_up(rt: HostRuntime) -> Result<(), Fail> {
-    let session = run_made(&rt, rt.alloc(), ["50", "5000", "7"])?;
-    assert_eq!(rt; session.status, Status::Done);
-    assert_eq!(rt; session.summary.bytes(), SUMMARY.as_bytes());
-    assert_numbers(&rt, &session.report)
+fn a_made_session_is_summed_up(rt: HostRuntime) {
+    let session = summed_up(&rt, rt.alloc(), "made 50 5000 7", SUMMARY);
+    assert_numbers(&rt, session.readings.bytes());
 }
 
 #[test]
-fn the_least_made_session(rt: HostRuntime) -> Result<(), Fail> {
-    let session = run_made(&rt, rt.alloc(), ["1", "1", "0"])?;
-    let summary =
-        "wmbus-made 1\nmeters 1 receivers 4 lines 4 steps 4 strangers 0\nhighest 1\nend\n";
-    assert_eq!(rt; session.status, Status::Done);
-    assert_eq!(rt; session.summary.bytes(), summary.as_bytes());
-    Ok(())
+fn the_least_made_session(rt: HostRuntime) {
+    summed_up(&rt, rt.alloc(), "made 1 1 0", LEAST_SUMMARY);
 }
 
-fn hears(alloc: Global, text: Vec<u8>) -> Receiver<MemorySource, MemorySink>
-    ensures { IsFresh result }
-{
-    Receiver::new(MemorySource::steady(alloc, text), MemorySink::steady(alloc))
+fn joined(rt: &impl Abort, alloc: Global, text: &MadeText) -> Vec<u8> {
+    text.joined(alloc).expect(rt, NO_MEMORY)
 }
 
 #[test]
-fn made_lines_are_collected_with_the_numbers_of_the_summary(rt: HostRuntime) -> Result<(), Fail> {
+fn made_lines_are_collected_with_the_numbers_of_the_summary(rt: HostRuntime) {
     let alloc = rt.alloc();
-    let Made {
-        roster,
-        first,
-        second,
-        third,
-        fourth,
-    } = make(&rt, alloc, 50, 5_000, 7)?;
-    let mut receivers = vec![in alloc;
-        hears(alloc, first.joined(alloc)?),
-        hears(alloc, second.joined(alloc)?),
-        hears(alloc, third.joined(alloc)?),
-        hears(alloc, fourth.joined(alloc)?),
-    ]?;
-    let mut report = MemorySink::steady(alloc);
-    let status = collect(
-        &rt,
-        alloc,
-        &mut MemorySource::steady(alloc, roster),
-        &mut receivers,
-        &mut MemorySink::steady(alloc),
-        &mut MemorySink::steady(alloc),
-        &mut report,
-    )?;
-    assert_eq!(rt; status, Status::Done);
-    assert_numbers(&rt, &report)
+    let made = make(&rt, alloc, 50, 5_000, 7).expect(&rt, NO_MEMORY);
+    let first = joined(&rt, alloc, &made.first);
+    let second = joined(&rt, alloc, &made.second);
+    let third = joined(&rt, alloc, &made.third);
+    let fourth = joined(&rt, alloc, &made.fourth);
+    let receivers = [
+        hears(text_of(&rt, &first)),
+        hears(text_of(&rt, &second)),
+        hears(text_of(&rt, &third)),
+        hears(text_of(&rt, &fourth)),
+    ];
+    let roster = text_of(&rt, &made.roster);
+    let session = Session::of(&rt, alloc, &collected(roster, &receivers));
+    assert_shown(&rt, alloc, &session.status, "Done", "status");
+    assert_numbers(&rt, session.report.bytes());
 }

@@ -1,13 +1,11 @@
 //! Sessions of `hear`.
-ghost use Rattle.std.specs.Prelude.{◌≡◌, []};
-
-use crate::harness::{GAS, GAS_LINE};
-use collector_main::{Plan, Receiver, Status, WordsFault, run, words};
-use outer_io::{MemorySink, MemorySource};
-use std::alloc::{AllocError, Global};
+use crate::harness::{
+    GAS, GAS_LINE, Given, Listener, NO_MEMORY, Pieces, STEADY, Session, assert_bytes, assert_shown,
+    hears, row_of, steady, text_of, word,
+};
+use std::alloc::Global;
 use std::process::Abort;
 use std::sync::Wait;
-use std::test::Fail;
 use std::thread::Threads;
 
 const EMPTY_REPORT: &str = "\
@@ -75,141 +73,132 @@ strangers 0
 end
 ";
 
-// A session of one receiver.
-fn hear<R: Threads + Wait + Sync>(
-    rt: &R,
-    alloc: Global,
-    mut roster: MemorySource,
-    lines: MemorySource,
-    report: &mut MemorySink,
-) -> Result<Status, AllocError>
-    requires lines { lines.taken ≡ [] }
-    requires report { report.old.written ≡ [] }
-{
-    let mut command = Vec::new(alloc);
-    for word in ["hear", "r", "x"] {
-        command.push(String::from_str(alloc, word)?)?;
-    }
-    let Ok(Plan::Hear) = words(&command) else {
-        return Ok(Status::Words(WordsFault::Command));
-    };
-    let mut receivers = Vec::new(alloc);
-    receivers.push(Receiver::new(lines, MemorySink::steady(alloc)))?;
-    let status = run(
-        rt,
-        alloc,
-        &command,
-        &mut roster,
-        &mut receivers,
-        &mut MemorySink::steady(alloc),
-        &mut MemorySink::steady(alloc),
-        report,
-    );
-    Ok(status)
-}
+const COMMAND: &str = "hear r x";
 
-// A session in which the reads and the write with these numbers, each a digit, fail; none has the number 0.
-fn hear_failing<R: Threads + Wait + Sync>(
-    rt: &R,
-    alloc: Global,
-    roster: &str,
-    lines: &str,
-    fail: &str,
-) -> Result<(Status, MemorySink), AllocError> {
-    let roster = MemorySource::new(roster.as_bytes().to_vec(alloc)?, failing(alloc, fail, 0)?);
-    let lines = MemorySource::new(lines.as_bytes().to_vec(alloc)?, failing(alloc, fail, 1)?);
-    let mut report = MemorySink::new(alloc, failing(alloc, fail, 2)?);
-    let status = hear(rt, alloc, roster, lines, &mut report)?;
-    Ok((status, report))
-}
-
-// The number at a place of the digits.
-fn failing(alloc: Global, digits: &str, place: usize) -> Result<Vec<u64>, AllocError> {
-    let number = match digits.as_bytes().get(place) {
-        Some(byte) => u64::from(byte.saturating_sub(b'0')),
-        None => 0,
-    };
-    Ok(vec![in alloc; number]?)
-}
-
-// Each session: the roster, the lines, the reads and the write that fail, the report, and how it ends.
+// Each session: the roster, the lines, the reads and the write that fail, each a digit, the report, and how it ends; none has the number 0.
 const SESSIONS: &str = "\
-gas nothing 000 empty-report Done
-gas nothing 100 nothing ReadRoster
-gas nothing 001 nothing Write(3)
-gas lines 020 lines-report Read(1)
-nothing nothing 000 nothing Roster(1, Missing)
-nine nothing 000 nothing Roster(1, Head)
+gas nothing 000 empty-report = Done
+gas nothing 100 nothing = ReadRoster
+gas nothing 001 nothing = Write(3)
+gas lines 020 lines-report = Read(1)
+nothing nothing 000 nothing = Roster(1, Missing)
+nine nothing 000 nothing = Roster(1, Head)
 ";
 
-fn text_named(name: &str) -> Result<&'static str, Fail> {
+fn text_named(rt: &impl Abort, name: &str) -> &'static str {
     match name {
-        "nothing" => Ok(""),
-        "gas" => Ok(GAS),
-        "nine" => Ok("wmbus-roster 9"),
-        "lines" => Ok(LINES),
-        "empty-report" => Ok(EMPTY_REPORT),
-        "lines-report" => Ok(LINES_REPORT),
-        _ => Err("no text of the name".into()),
+        "nothing" => "",
+        "gas" => GAS,
+        "nine" => "wmbus-roster 9",
+        "lines" => LINES,
+        "empty-report" => EMPTY_REPORT,
+        "lines-report" => LINES_REPORT,
+        _ => panic!(rt; "no text of the name"),
     }
 }
 
-fn assert_session<R: Threads + Wait + Abort + Sync>(
+// The call fails whose number is the digit at a place.
+fn failing(digits: &str, place: usize) -> Pieces {
+    match digits.as_bytes().get(place) {
+        Some(byte) => Pieces {
+            size: 4096,
+            fail: u64::from(byte.saturating_sub(b'0')),
+        },
+        None => STEADY,
+    }
+}
+
+// Asserts how a session ends and what its report is.
+fn assert_heard<R: Threads + Wait + Abort + Sync>(
     rt: &R,
     alloc: Global,
-    row: &str,
-) -> Result<(), Fail> {
-    let words: Vec<&str> = row.split_whitespace().collect(alloc)?;
-    let [roster, lines, fail, wanted, ..] = *words.as_slice() else {
-        return Err("no session".into());
+    given: &Given<'_>,
+    status: &str,
+    report: &str,
+) {
+    let session = Session::of(rt, alloc, given);
+    assert_shown(rt, alloc, &session.status, status, status);
+    assert_bytes(rt, session.report.bytes(), report, status);
+}
+
+fn assert_session<R: Threads + Wait + Abort + Sync>(rt: &R, alloc: Global, row: &str) {
+    let (given, status) = row.split_once(" = ").expect(rt, "no status");
+    let words = row_of(rt, alloc, given);
+    let fail = word(&words, 2);
+    let listener = Listener {
+        lines: text_named(rt, word(&words, 1)),
+        reads: failing(fail, 1),
+        writes: STEADY,
     };
-    let (status, report) = hear_failing(rt, alloc, text_named(roster)?, text_named(lines)?, fail)?;
-    let status = format!(in alloc; " {status:?}")?;
-    assert!(rt; row.ends_with(status.as_str()), "{row}: {status}");
-    assert_eq!(rt; report.bytes(), text_named(wanted)?.as_bytes(), "{row}");
-    Ok(())
+    let given = Given {
+        command: COMMAND,
+        roster: text_named(rt, word(&words, 0)),
+        roster_reads: failing(fail, 0),
+        receivers: &[listener],
+        next: STEADY,
+        readings: STEADY,
+        report: failing(fail, 2),
+    };
+    assert_heard(rt, alloc, &given, status, text_named(rt, word(&words, 3)));
 }
 
 #[test]
-fn sessions_end_by_their_status(rt: HostRuntime) -> Result<(), Fail> {
+fn sessions_end_by_their_status(rt: HostRuntime) {
     let mut count = 0_u32;
     for row in SESSIONS.lines() {
-        assert_session(&rt, rt.alloc(), row)?;
+        assert_session(&rt, rt.alloc(), row);
         count = count.saturating_add(1);
     }
     assert_eq!(rt; count, 6);
-    Ok(())
+}
+
+// Asserts the report of a session whose calls move one byte each, of which this read of the gas meter's line fails.
+fn assert_cut_off<R: Threads + Wait + Abort + Sync>(
+    rt: &R,
+    alloc: Global,
+    fail: u64,
+    report: &str,
+) {
+    let bytewise = Pieces { size: 1, fail: 0 };
+    let listener = Listener {
+        lines: GAS_LINE,
+        reads: Pieces { size: 1, fail },
+        writes: STEADY,
+    };
+    let given = Given {
+        command: COMMAND,
+        roster: GAS,
+        roster_reads: bytewise,
+        receivers: &[listener],
+        next: STEADY,
+        readings: STEADY,
+        report: bytewise,
+    };
+    assert_heard(rt, alloc, &given, "Read(1)", report);
+}
+
+// The newline is byte 117.
+#[test]
+fn a_line_counts_once_its_end_was_read(rt: HostRuntime) {
+    assert_cut_off(&rt, rt.alloc(), 117, UNREAD_REPORT);
+    assert_cut_off(&rt, rt.alloc(), 118, GAS_REPORT);
+}
+
+// Asserts what a session of so many empty lines comes to.
+fn assert_newlines<R: Threads + Wait + Abort + Sync>(
+    rt: &R,
+    alloc: Global,
+    count: usize,
+    status: &str,
+    report: &str,
+) {
+    let newlines = vec![in alloc; b'\n'; count].expect(rt, NO_MEMORY);
+    let receivers = [hears(text_of(rt, &newlines))];
+    assert_heard(rt, alloc, &steady(COMMAND, GAS, &receivers), status, report);
 }
 
 #[test]
-fn a_line_counts_once_its_end_was_read(rt: HostRuntime) -> Result<(), Fail> {
-    let alloc = rt.alloc();
-    // The read that fails, and the report; each read gives one byte, and the newline is byte 117.
-    for (failing, text) in [(117, UNREAD_REPORT), (118, GAS_REPORT)] {
-        let roster = MemorySource::pieces(GAS.as_bytes().to_vec(alloc)?, 1, Vec::new(alloc));
-        let lines = MemorySource::pieces(
-            GAS_LINE.as_bytes().to_vec(alloc)?,
-            1,
-            vec![in alloc; failing]?,
-        );
-        let mut report = MemorySink::pieces(alloc, 1, Vec::new(alloc));
-        let status = hear(&rt, alloc, roster, lines, &mut report)?;
-        assert_eq!(rt; status, Status::Read(1));
-        assert_eq!(rt; report.bytes(), text.as_bytes());
-    }
-    Ok(())
-}
-
-#[test]
-fn a_receiver_is_cut_at_a_byte_behind_its_last_line(rt: HostRuntime) -> Result<(), Fail> {
-    let alloc = rt.alloc();
-    let mut newlines = vec![in alloc; b'\n'; 131_072]?;
-    let (given, report) = hear_failing(&rt, alloc, GAS, str::from_utf8(&newlines)?, "000")?;
-    assert_eq!(rt; given, Status::Done);
-    assert_eq!(rt; report.bytes(), FULL_REPORT.as_bytes());
-    newlines.push(b'\n')?;
-    let (given, report) = hear_failing(&rt, alloc, GAS, str::from_utf8(&newlines)?, "000")?;
-    assert_eq!(rt; given, Status::Cut(1));
-    assert_eq!(rt; report.bytes(), CUT_REPORT.as_bytes());
-    Ok(())
+fn a_receiver_is_cut_at_a_byte_behind_its_last_line(rt: HostRuntime) {
+    assert_newlines(&rt, rt.alloc(), 131_072, "Done", FULL_REPORT);
+    assert_newlines(&rt, rt.alloc(), 131_073, "Cut(1)", CUT_REPORT);
 }

@@ -1,8 +1,9 @@
 //! Sessions of `collect`: what their reports, next rosters, readings and downlinks are.
-use crate::harness::{GAS, GAS_LINE, HEAT, Session, assert_sessions, hears, steady};
-use collector_main::Status;
+use crate::harness::{
+    GAS, GAS_LINE, HEAT, NO_MEMORY, Session, assert_bytes, assert_sessions, assert_shown,
+    collected, hears, text_of,
+};
 use std::alloc::{AllocError, Global};
-use std::test::Fail;
 
 // Among them a command that is given up after three tries and one that is confirmed, with their downlinks as another implementation makes
 // them; one command more than a meter's queue holds, of which one is cancelled and another takes its place; a message after which the meter
@@ -15,7 +16,7 @@ A 100 30449315010203040107b178900f002c250500000070e9657d1ed61163fb587a0100100710
 = stored 5 100 2f2f0c13050000002f2f2f2f2f2f2f2f
 meter last 5 down 0 steps 1 readings 1
 behind record instantaneous 0 0 0 volume m3 -3 - 5 05000000
-next 5 0 0
+next - 5 0 0
 
 name a command that is given up and one that is confirmed
 known - 0 0
@@ -46,7 +47,7 @@ A 100 33089315010203040107685c8c0001900f002c25070000001369e83f0b6ed7d8bfeb7a0100
 = stored 7 100 2f2f0c13070000002f2f2f2f2f2f2f2f confirmed 2
 meter last 7 down 4 steps 12 readings 7
 behind record instantaneous 0 0 0 volume m3 -3 - 7 07000000
-next 7 4 2
+next - 7 4 2
 sent D 38439315010000000131247b900f002c25010000007cdc9b50de7dca9cdbda5b01020304931501070100100710744c8678dbb10103da50b76d22ae4e8f67427c6e
 sent D 38439315010000000131247b900f002c25020000001ac5813f910c6fe04ba95b01020304931501070200100710da9cc39cb22b61a7e06ac86017f5a0303fb593f4
 sent D 38439315010000000131247b900f002c250300000011100aaf13d8d7cd92465b010203049315010703001007109162ab99cfa8d5693be13b3fd6fb40ced43808cf
@@ -88,7 +89,7 @@ behind pending 6 0
 behind pending 7 0
 behind pending 8 0
 behind pending 9 0
-next - 0 9
+next - - 0 9
 
 name the last command id was given
 known - 0 4294967295
@@ -96,7 +97,7 @@ count 1
 Q 9315010203040107 01
 = refused ids
 meter last - down 0 steps 1 readings 0
-next - 0 4294967295
+next - - 0 4294967295
 
 name the last downlink counter was used
 known - 4294967295 0
@@ -108,7 +109,7 @@ A 100 33449315010203040107fdcd8c8001900f002c2501000000bf604731110054d1f0447a0100
 meter last 1 down 4294967295 steps 2 readings 1
 behind record instantaneous 0 0 0 volume m3 -3 - 1 01000000
 behind pending 1 0
-next 1 4294967295 1
+next - 1 4294967295 1
 
 name a command that was cancelled isn't confirmed
 known - 0 0
@@ -123,30 +124,31 @@ A 100 33089315010203040107685c8c0001900f002c25020000007e57ee18e98ff34dd5ec7a0100
 = stored 2 100 2f2f0c13020000002f2f2f2f2f2f2f2f
 meter last 2 down 1 steps 4 readings 2
 behind record instantaneous 0 0 0 volume m3 -3 - 2 02000000
-next 2 1 1
+next - 2 1 1
 sent D 38439315010000000131247b900f002c25010000007cdc9b50de7dca9cdbda5b01020304931501070100100710744c8678dbb10103da50b76d22ae4e8f67427c6e
 ";
 
 #[test]
-fn sessions_of_one_meter(rt: HostRuntime) -> Result<(), Fail> {
-    assert_sessions(&rt, rt.alloc(), SESSIONS, 6)
+fn sessions_of_one_meter(rt: HostRuntime) {
+    assert_sessions(&rt, rt.alloc(), SESSIONS, 6);
 }
 
 const MESSAGE: &str = "\
 A 100 30449315010203040107b178900f002c250500000070e9657d1ed61163fb587a010010071079f0dc80708ec46fba58a2f74d0582fe3496c881
 ";
 
-// The outcomes of a report's steps, without their receivers and lines.
+// The outcome in a row of a report, without its receiver and line, where the row is a step.
+fn outcome(row: &str) -> Option<&str> {
+    let (_, line_and_outcome) = row.strip_prefix("step ")?.split_once(' ')?;
+    let (_, outcome) = line_and_outcome.split_once(' ')?;
+    Some(outcome)
+}
+
+// The outcomes of a report's steps.
 fn outcomes(alloc: Global, report: &str) -> Result<String, AllocError> {
     let mut text = String::new(alloc);
     for row in report.lines() {
-        let Some(step) = row.strip_prefix("step ") else {
-            continue;
-        };
-        let Some((_, line_and_outcome)) = step.split_once(' ') else {
-            continue;
-        };
-        if let Some((_, outcome)) = line_and_outcome.split_once(' ') {
+        if let Some(outcome) = outcome(row) {
             text.push_str(outcome)?;
             text.push('\n')?;
         }
@@ -154,17 +156,20 @@ fn outcomes(alloc: Global, report: &str) -> Result<String, AllocError> {
     Ok(text)
 }
 
+const OUTCOMES: &str = "\
+stored 5 100 2f2f0c13050000002f2f2f2f2f2f2f2f
+refused stale 5 5
+refused stale 5 5
+";
+
 // Whichever of three receivers hears it first: the message is stored once.
 #[test]
-fn a_message_that_three_receivers_hear_is_stored_once(rt: HostRuntime) -> Result<(), Fail> {
+fn a_message_that_three_receivers_hear_is_stored_once(rt: HostRuntime) {
     let alloc = rt.alloc();
-    let session = Session::of(&rt, alloc, &steady(HEAT, &[hears(MESSAGE); 3]))?;
-    assert_eq!(rt; session.status, Status::Done);
-    assert_eq!(rt;
-        outcomes(alloc, session.report()?)?.as_str(),
-        "stored 5 100 2f2f0c13050000002f2f2f2f2f2f2f2f\nrefused stale 5 5\nrefused stale 5 5\n"
-    );
-    Ok(())
+    let session = Session::of(&rt, alloc, &collected(HEAT, &[hears(MESSAGE); 3]));
+    let outcomes = outcomes(alloc, text_of(&rt, session.report.bytes())).expect(&rt, NO_MEMORY);
+    assert_shown(&rt, alloc, &session.status, "Done", "status");
+    assert_bytes(&rt, outcomes.as_bytes(), OUTCOMES, "outcomes");
 }
 
 const GAS_READINGS: &str = "\
@@ -177,9 +182,8 @@ const GAS_READINGS: &str = "\
     \"storage\":0,\"subunit\":0,\"tariff\":0,\"unit\":\"-\",\"value\":\"0\"}]}]}\n";
 
 #[test]
-fn the_readings_of_a_published_telegram(rt: HostRuntime) -> Result<(), Fail> {
-    let session = Session::of(&rt, rt.alloc(), &steady(GAS, &[hears(GAS_LINE)]))?;
-    assert_eq!(rt; session.status, Status::Done);
-    assert_eq!(rt; session.readings.bytes(), GAS_READINGS.as_bytes());
-    Ok(())
+fn the_readings_of_a_published_telegram(rt: HostRuntime) {
+    let session = Session::of(&rt, rt.alloc(), &collected(GAS, &[hears(GAS_LINE)]));
+    assert_shown(&rt, rt.alloc(), &session.status, "Done", "status");
+    assert_bytes(&rt, session.readings.bytes(), GAS_READINGS, "readings");
 }

@@ -2,6 +2,8 @@
 #![tactic(auto)]
 
 #[cfg(test)]
+mod asserts;
+#[cfg(test)]
 mod line_reader_calls;
 #[cfg(test)]
 mod meter_address_calls;

@@ -1,13 +1,14 @@
 //! Lines as the grammar says, and readers of sources that give their bytes in pieces, fail, or pass a limit.
 ghost use Rattle.std.specs.Prelude.{false, []};
 
+use crate::asserts::{NO_MEMORY, assert_bytes, bytes_of, call};
 use crate::rows::{wanted_and_tried, with_line_ends};
 use line_reader::{
     BadLine, LINES_MAX, Line, LineFormat, Lines, Next, NextText, TextReader, read_line,
 };
 use outer_io::{Failed, MemorySource, Source};
 use std::alloc::{AllocError, Global};
-use std::test::Fail;
+use std::process::Abort;
 
 // Gives one byte so many times, and then a text, at most `most` bytes a read.
 #[derive(Drop)]
@@ -129,128 +130,159 @@ k |K 9315010203040107 f0f1f2f3f4f5f6f7f8f9fafbfcfdfef|
 k |K 9315010203040107 f0f1f2f3f4f5f6f7f8f9fafbfcfdfeff00|
 k |K 9315010203040107 g0f1f2f3f4f5f6f7f8f9fafbfcfdfeff|";
 
+fn assert_said(rt: &impl Abort, alloc: Global, row: &str) {
+    let (wanted, tried) = wanted_and_tried(row).expect(rt, "no row");
+    let text = with_line_ends(alloc, tried).expect(rt, NO_MEMORY);
+    let said = letter(&read_line(text.as_bytes()));
+    assert_eq!(rt; wanted.chars().next(), Some(said), "in {row}");
+}
+
 #[test]
-fn a_line_says_what_the_grammar_says_or_its_first_fault(rt: HostRuntime) -> Result<(), Fail> {
+fn a_line_says_what_the_grammar_says_or_its_first_fault(rt: HostRuntime) {
     let mut count: u32 = 0;
     for row in SAID.lines() {
-        let (wanted, tried) = wanted_and_tried(row).ok_or("a row")?;
-        let text = with_line_ends(rt.alloc(), tried)?;
-        let said = letter(&read_line(text.as_bytes()));
-        assert_eq!(rt; wanted.chars().next(), Some(said), "in {row}");
+        assert_said(&rt, rt.alloc(), row);
         count = count.saturating_add(1);
     }
     assert_eq!(rt; count, 30);
-    Ok(())
+}
+
+// Asserts the answers of a reader of these pieces, of which it asks for many bytes at once, and how many lines they are.
+fn assert_answers(rt: &impl Abort, alloc: Global, pieces: Pieces<'_>, wanted: &str, count: u32) {
+    let mut lines = Lines::new(pieces);
+    let letters = answers(alloc, &mut lines).expect(rt, NO_MEMORY);
+    assert_eq!(rt; letters.as_str(), wanted);
+    assert_eq!(rt; lines.line(), count, "{wanted}");
+    assert!(rt; lines.source().least_asked >= 1_024, "{wanted}");
+    assert!(rt; lines.into_source().text.is_empty(), "{wanted}");
 }
 
 #[test]
-fn how_a_source_cuts_its_pieces_makes_no_difference(rt: HostRuntime) -> Result<(), Fail> {
+fn how_a_source_cuts_its_pieces_makes_no_difference(rt: HostRuntime) {
     let text = b"A 1 00\r\n\nT 9315010203040107\nT 9315010203040107\r\r\nB 7 0\r";
     for most in [1, 2, 7, 1_024, 100_000] {
-        let mut lines = Lines::new(Pieces::new(0, 0, text, most));
-        assert_eq!(rt;
-            answers(rt.alloc(), &mut lines)?.as_str(),
-            "AwTah.",
-            "in pieces of {most}"
-        );
-        assert_eq!(rt; lines.line(), 5);
-        assert_eq!(rt; lines.source().least_asked >= 1_024, true);
-        assert_eq!(rt; lines.into_source().text.len(), 0);
+        assert_answers(&rt, rt.alloc(), Pieces::new(0, 0, text, most), "AwTah.", 5);
     }
-    Ok(())
+}
+
+// Asserts the answers over so many zeros and a text, in pieces of this size.
+fn assert_zeros(rt: &impl Abort, alloc: Global, most: usize) {
+    assert_answers(rt, alloc, Pieces::new(b'0', 1_024, b"", most), "w.", 1);
+    assert_answers(rt, alloc, Pieces::new(b'0', 1_024, b"\n", most), "w.", 1);
+    assert_answers(rt, alloc, Pieces::new(b'0', 1_024, b"\r\n", most), "w.", 1);
+    assert_answers(
+        rt,
+        alloc,
+        Pieces::new(b'0', 1_023, b"\r\r\n", most),
+        "w.",
+        1,
+    );
+    assert_answers(rt, alloc, Pieces::new(b'0', 1_025, b"\n", most), "l.", 1);
+    assert_answers(rt, alloc, Pieces::new(b'0', 1_025, b"\r\n", most), "l.", 1);
+    assert_answers(rt, alloc, Pieces::new(b'0', 1_024, b"\r", most), "l.", 1);
+    let behind = b"\r\nT 9315010203040107\n";
+    assert_answers(
+        rt,
+        alloc,
+        Pieces::new(b'0', 100_000, behind, most),
+        "lT.",
+        2,
+    );
 }
 
 #[test]
-fn a_line_of_1024_bytes_is_not_too_long(rt: HostRuntime) -> Result<(), Fail> {
-    let cases: [(usize, &[u8], &str); 8] = [
-        (1_024, b"", "w."),
-        (1_024, b"\n", "w."),
-        (1_024, b"\r\n", "w."),
-        (1_023, b"\r\r\n", "w."),
-        (1_025, b"\n", "l."),
-        (1_025, b"\r\n", "l."),
-        (1_024, b"\r", "l."),
-        (100_000, b"\r\nT 9315010203040107\n", "lT."),
-    ];
+fn a_line_of_1024_bytes_is_not_too_long(rt: HostRuntime) {
+    assert_zeros(&rt, rt.alloc(), 1);
+    assert_zeros(&rt, rt.alloc(), 1_000);
+    assert_zeros(&rt, rt.alloc(), 100_000);
+}
+
+// Asserts what a reader answers next, and what it then lends.
+fn assert_next(
+    rt: &impl Abort,
+    reader: &mut TextReader<Pieces<'_>>,
+    wanted: NextText,
+    text: &[u8],
+) {
+    if reader.done() {
+        panic!(rt; "it is done");
+    }
+    let answer = reader.next();
+    assert_eq!(rt; answer, Ok(wanted));
+    assert_eq!(rt; reader.text(), text);
+}
+
+// Asserts what a reader of lines of 8,000 bytes answers where the first line has so many, all of them zeros, and whether that is lent.
+fn assert_lent(rt: &impl Abort, alloc: Global, times: usize, lent: bool, most: usize) {
+    let zeros = vec![in alloc; b'0'; times].expect(rt, NO_MEMORY);
+    let mut reader = TextReader::new(Pieces::new(b'0', times, b"\r\nab\n\nc\r", most), 8_000);
+    if lent {
+        assert_next(rt, &mut reader, NextText::Line, zeros.as_slice());
+    } else {
+        assert_next(rt, &mut reader, NextText::TooLong, b"");
+    }
+    assert_next(rt, &mut reader, NextText::Line, b"ab");
+    assert_next(rt, &mut reader, NextText::Line, b"");
+    assert_next(rt, &mut reader, NextText::Line, b"c\r");
+    assert_next(rt, &mut reader, NextText::End, b"");
+    assert_eq!(rt; (reader.done(), reader.line()), (true, 4));
+    assert!(rt; reader.source().least_asked >= 1_024);
+    assert!(rt; reader.into_source().text.is_empty());
+}
+
+#[test]
+fn a_reader_lends_lines_of_its_own_length(rt: HostRuntime) {
     for most in [1, 1_000, 100_000] {
-        for (times, text, want) in cases {
-            let mut lines = Lines::new(Pieces::new(b'0', times, text, most));
-            assert_eq!(rt;
-                answers(rt.alloc(), &mut lines)?.as_str(),
-                want,
-                "{times} and {text:?}"
-            );
-            assert_eq!(rt; lines.source().least_asked >= 1_024, true);
-        }
+        assert_lent(&rt, rt.alloc(), 0, true, most);
+        assert_lent(&rt, rt.alloc(), 7_999, true, most);
+        assert_lent(&rt, rt.alloc(), 8_000, true, most);
+        assert_lent(&rt, rt.alloc(), 8_001, false, most);
     }
-    Ok(())
+}
+
+// Asserts how many lines there are of so many bytes and a text, and the letter of the last answer.
+fn assert_last(rt: &impl Abort, alloc: Global, pieces: Pieces<'_>, count: u32, last: u8) {
+    let mut lines = Lines::new(pieces);
+    let letters = answers(alloc, &mut lines).expect(rt, NO_MEMORY);
+    assert_eq!(rt; lines.line(), count);
+    assert_eq!(rt; letters.as_bytes().last().copied(), Some(last), "{count}");
+}
+
+// A text behind so many newlines, or zeros.
+fn newlines(times: usize, text: &[u8]) -> Pieces<'_> {
+    Pieces::new(b'\n', times, text, 100_000)
+}
+
+fn zeros(times: usize, text: &[u8]) -> Pieces<'_> {
+    Pieces::new(b'0', times, text, 100_000)
 }
 
 #[test]
-fn a_reader_lends_lines_of_its_own_length(rt: HostRuntime) -> Result<(), Fail> {
-    // How many bytes the first line has, and whether it is lent by a reader of lines of 8,000 bytes.
-    for (times, lent) in [(0, true), (7_999, true), (8_000, true), (8_001, false)] {
-        for most in [1, 1_000, 100_000] {
-            let pieces = Pieces::new(b'0', times, b"\r\nab\n\nc\r", most);
-            let mut reader = TextReader::new(pieces, 8_000);
-            let first = reader.next().map_err(|_| "a line")?;
-            let answer = if lent {
-                NextText::Line
-            } else {
-                NextText::TooLong
-            };
-            assert_eq!(rt; first, answer, "{times}");
-            assert_eq!(rt; reader.text().len(), if lent { times } else { 0 });
-            let others: [&[u8]; 3] = [b"ab", b"", b"c\r"];
-            for text in others {
-                assert_eq!(rt; reader.done(), false);
-                assert_eq!(rt; reader.next(), Ok(NextText::Line));
-                assert_eq!(rt; reader.text(), text);
-            }
-            assert_eq!(rt; reader.done(), false);
-            assert_eq!(rt; reader.next(), Ok(NextText::End));
-            assert_eq!(rt; (reader.done(), reader.line()), (true, 4));
-            assert_eq!(rt; reader.source().least_asked >= 1_024, true);
-            assert_eq!(rt; reader.into_source().text.len(), 0);
-        }
-    }
-    Ok(())
-}
-
-#[test]
-fn a_byte_behind_a_limit_is_a_cut(rt: HostRuntime) -> Result<(), Fail> {
-    let cases: [(u8, usize, &[u8], u32, u8); 8] = [
-        (b'\n', 131_072, b"", 131_072, b'.'),
-        (b'\n', 131_071, b"x", 131_072, b'.'),
-        (b'\n', 131_072, b"x", 131_072, b'!'),
-        (b'0', 67_108_864, b"", 1, b'.'),
-        (b'0', 67_108_864, b"\n", 0, b'!'),
-        (b'0', 67_108_863, b"\n", 1, b'.'),
-        (b'0', 67_108_863, b"\nx", 1, b'!'),
-        (b'0', 67_108_865, b"", 0, b'!'),
-    ];
-    for (byte, times, text, count, last) in cases {
-        let mut lines = Lines::new(Pieces::new(byte, times, text, 100_000));
-        let letters = answers(rt.alloc(), &mut lines)?;
-        assert_eq!(rt; lines.line(), count, "{times} and {text:?}");
-        assert_eq!(rt;
-            letters.as_bytes().last().copied(),
-            Some(last),
-            "{times} and {text:?}"
-        );
-    }
-    Ok(())
-}
-
-#[test]
-fn after_a_fault_the_unfinished_line_is_no_line(rt: HostRuntime) -> Result<(), Fail> {
+fn a_byte_behind_a_limit_is_a_cut(rt: HostRuntime) {
     let alloc = rt.alloc();
-    for (fail, want) in [(0, "Ta."), (1, "?"), (2, "T?"), (3, "Ta.")] {
-        let bytes = b"T 9315010203040107\nT 93150".to_vec(alloc)?;
-        let source = MemorySource::new(bytes, vec![in alloc; fail]?);
-        let mut lines = Lines::new(source);
-        assert_eq!(rt; answers(alloc, &mut lines)?.as_str(), want, "read {fail}");
-        assert_eq!(rt; lines.done(), true);
-    }
-    Ok(())
+    assert_last(&rt, alloc, newlines(131_072, b""), 131_072, b'.');
+    assert_last(&rt, alloc, newlines(131_071, b"x"), 131_072, b'.');
+    assert_last(&rt, alloc, newlines(131_072, b"x"), 131_072, b'!');
+    assert_last(&rt, alloc, zeros(67_108_864, b""), 1, b'.');
+    assert_last(&rt, alloc, zeros(67_108_864, b"\n"), 0, b'!');
+    assert_last(&rt, alloc, zeros(67_108_863, b"\n"), 1, b'.');
+    assert_last(&rt, alloc, zeros(67_108_863, b"\nx"), 1, b'!');
+    assert_last(&rt, alloc, zeros(67_108_865, b""), 0, b'!');
+}
+
+// Asserts the answers over two lines where this read fails.
+fn assert_after_fault(rt: &impl Abort, alloc: Global, fail: u64, wanted: &str) {
+    let bytes = bytes_of(rt, alloc, "T 9315010203040107\nT 93150");
+    let mut lines = Lines::new(MemorySource::new(bytes, call(rt, alloc, fail)));
+    let letters = answers(alloc, &mut lines).expect(rt, NO_MEMORY);
+    assert_bytes(rt, letters.as_bytes(), wanted, wanted);
+    assert!(rt; lines.done(), "{wanted}");
+}
+
+#[test]
+fn after_a_fault_the_unfinished_line_is_no_line(rt: HostRuntime) {
+    assert_after_fault(&rt, rt.alloc(), 0, "Ta.");
+    assert_after_fault(&rt, rt.alloc(), 1, "?");
+    assert_after_fault(&rt, rt.alloc(), 2, "T?");
+    assert_after_fault(&rt, rt.alloc(), 3, "Ta.");
 }

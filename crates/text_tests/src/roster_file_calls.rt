@@ -1,10 +1,14 @@
 //! Rosters of both versions, their faults, and rosters that are written.
+use crate::asserts::{NO_MEMORY, assert_bytes, assert_shown, bytes_of, call};
 use crate::rows::{wanted_and_tried, with_line_ends};
-use meter_address::Mode;
+use meter_address::Commission;
 use outer_io::MemorySource;
-use roster_file::{LineCause, LoadFault, RosterFault, load_roster, read_roster, write_roster};
-use std::alloc::{AllocError, Global};
-use std::test::Fail;
+use roster_file::{
+    LineCause, LoadFault, Roster, RosterFault, load_roster, read_roster, write_roster,
+};
+use std::alloc::Global;
+use std::fmt::Write;
+use std::process::Abort;
 
 // The gas meter and the heat meter in version 1, with a comment, an empty line and no newline at the end.
 const READ: &str = "# the gas meter\r
@@ -14,20 +18,38 @@ own 9315010000000131
 meter 9315785634123303 5 0102030405060708090A0b0c0d0e0f11 42 7 8
 meter 9315010203040107 7 000102030405060708090a0b0c0d0e0f - 0 0";
 
+// The roster of a text.
+fn read(rt: &impl Abort, alloc: Global, text: &str) -> Roster {
+    read_roster(alloc, text.as_bytes()).expect(rt, "no roster")
+}
+
+// Asserts all that is known of a meter but its keys.
+fn assert_meter(rt: &impl Abort, alloc: Global, meter: &Commission, address: u64, known: &str) {
+    assert_eq!(rt; meter.address.0, address);
+    assert_shown(
+        rt,
+        alloc,
+        &(meter.mode, meter.last, meter.down, meter.ids),
+        known,
+        "meter",
+    );
+}
+
 #[test]
-fn reads_a_roster(rt: HostRuntime) -> Result<(), Fail> {
-    let roster = read_roster(rt.alloc(), READ.as_bytes())?;
+fn reads_a_roster(rt: HostRuntime) {
+    let roster = read(&rt, rt.alloc(), READ);
     assert_eq!(rt; roster.own().0, 0x9315_0100_0000_0131);
     let meters = roster.into_meters();
     assert_eq!(rt; meters.len(), 2);
     let meter = meters[0];
-    assert_eq!(rt; meter.address.0, 0x9315_7856_3412_3303);
-    assert_eq!(rt; meter.mode, Mode::Five);
+    assert_meter(
+        &rt,
+        rt.alloc(),
+        &meter,
+        0x9315_7856_3412_3303,
+        "(Five, Some(42), 7, 8)",
+    );
     assert_eq!(rt; meter.key[15], 0x11);
-    assert_eq!(rt; meter.last, Some(42));
-    assert_eq!(rt; meter.down, 7);
-    assert_eq!(rt; meter.ids, 8);
-    Ok(())
 }
 
 // The first fault of each text, its line and its cause; `/` is a newline and `^` a return.
@@ -54,22 +76,24 @@ const FIRST_FAULTS: &str = "1 LineCause::Missing ||
 3 LineCause::Other |wmbus-roster 2/own 9315010000000131/meter 9315785634123303 5 0102030405060708090a0b0c0d0e0f11 \
      f0f1f2f3f4f5f6f7f8f9fafbfcfdfeff - 0 0/|";
 
+fn assert_fault(rt: &impl Abort, alloc: Global, row: &str) {
+    let (wanted, tried) = wanted_and_tried(row).expect(rt, "no row");
+    let text = with_line_ends(alloc, tried).expect(rt, NO_MEMORY);
+    let Some(RosterFault::Line(line, cause)) = read_roster(alloc, text.as_bytes()).err() else {
+        panic!(rt; "no fault of a line in {row}");
+    };
+    let found = format!(in alloc; "{line} LineCause::{cause:?}").expect(rt, NO_MEMORY);
+    assert_bytes(rt, found.as_bytes(), wanted, row);
+}
+
 #[test]
-fn names_the_first_fault(rt: HostRuntime) -> Result<(), Fail> {
-    let alloc = rt.alloc();
+fn names_the_first_fault(rt: HostRuntime) {
     let mut count: u32 = 0;
     for row in FIRST_FAULTS.lines() {
-        let (wanted, tried) = wanted_and_tried(row).ok_or("a row")?;
-        let text = with_line_ends(alloc, tried)?;
-        let Some(RosterFault::Line(line, cause)) = read_roster(alloc, text.as_bytes()).err() else {
-            panic!(rt; "no fault of a line in {row}");
-        };
-        let found = format!(in alloc; "{line} LineCause::{cause:?}")?;
-        assert_eq!(rt; found.as_str(), wanted, "in {row}");
+        assert_fault(&rt, rt.alloc(), row);
         count = count.saturating_add(1);
     }
     assert_eq!(rt; count, 20);
-    Ok(())
 }
 
 const SECOND_KEY: [u8; 16] = [
@@ -93,74 +117,79 @@ own 9315010000000131
 meter 9315010203040107 7 000102030405060708090a0b0c0d0e0f - - 0 0
 ";
 
+// Asserts how a roster is written.
+fn assert_written(rt: &impl Abort, alloc: Global, roster: &Roster, wanted: &str) {
+    let text = write_roster(alloc, roster).expect(rt, NO_MEMORY);
+    assert_bytes(rt, &text, wanted, "written");
+}
+
 #[test]
-fn a_roster_is_written_in_version_2(rt: HostRuntime) -> Result<(), Fail> {
-    let alloc = rt.alloc();
-    let roster = read_roster(alloc, WRITTEN.as_bytes())?;
+fn a_roster_is_written_in_version_2(rt: HostRuntime) {
+    let roster = read(&rt, rt.alloc(), WRITTEN);
     let meters = roster.meters();
     assert_eq!(rt; meters.len(), 2);
     let (gas, heat) = (meters[0], meters[1]);
-    assert_eq!(rt; gas.other, None);
-    assert_eq!(rt; heat.other, Some(SECOND_KEY));
-    assert_eq!(rt;
-        write_roster(alloc, &roster)?.as_slice(),
-        WRITTEN.as_bytes()
+    assert_eq!(rt; (gas.other, heat.other), (None, Some(SECOND_KEY)));
+    assert_written(&rt, rt.alloc(), &roster, WRITTEN);
+    assert_written(
+        &rt,
+        rt.alloc(),
+        &read(&rt, rt.alloc(), FIRST),
+        FIRST_WRITTEN,
     );
-    let first = read_roster(alloc, FIRST.as_bytes())?;
-    assert_eq!(rt;
-        write_roster(alloc, &first)?.as_slice(),
-        FIRST_WRITTEN.as_bytes()
-    );
-    Ok(())
 }
 
 // A roster of so many meters, with addresses from 0.
-fn roster_of(alloc: Global, meters: u64) -> Result<Vec<u8>, AllocError> {
-    let mut text = String::from_str(alloc, "wmbus-roster 2\nown 9315010000000131\n")?;
-    for number in 0..meters {
-        let line = format!(in alloc; "meter {number:016x} 7 {number:032x} - - 0 0\n")?;
-        text.push_str(&line)?;
-    }
-    Ok(text.into_bytes())
-}
-
-#[test]
-fn a_roster_has_at_most_4096_meters(rt: HostRuntime) -> Result<(), Fail> {
-    let alloc = rt.alloc();
-    let roster = read_roster(alloc, &roster_of(alloc, 4_096)?)?;
-    assert_eq!(rt; roster.meters().len(), 4_096);
-    let fault = read_roster(alloc, &roster_of(alloc, 4_097)?).err();
-    assert_eq!(rt; fault, Some(RosterFault::Line(4_099, LineCause::TooMany)));
-    Ok(())
-}
-
-#[test]
-fn a_roster_is_read_from_a_source(rt: HostRuntime) -> Result<(), Fail> {
-    let alloc = rt.alloc();
-    let mut source = MemorySource::steady(alloc, WRITTEN.as_bytes().to_vec(alloc)?);
-    let roster = load_roster(alloc, &mut source).map_err(|_| "a roster")?;
-    assert_eq!(rt; roster.own().0, 0x9315_0100_0000_0131);
-    let mut broken = MemorySource::new(WRITTEN.as_bytes().to_vec(alloc)?, vec![in alloc; 1]?);
-    assert_eq!(rt;
-        load_roster(alloc, &mut broken).err(),
-        Some(LoadFault::Read)
+fn roster_of(rt: &impl Abort, alloc: Global, meters: u64) -> String {
+    let mut text = String::from_str(alloc, "wmbus-roster 2\nown 9315010000000131\n").expect(
+        rt, NO_MEMORY,
     );
-    let mut faulty = MemorySource::steady(alloc, b"wmbus-roster 2\n".to_vec(alloc)?);
-    let missing = LoadFault::Line(2, LineCause::Missing);
-    assert_eq!(rt; load_roster(alloc, &mut faulty).err(), Some(missing));
-    let mut long = MemorySource::steady(alloc, vec![in alloc; b'#'; 1_048_577]?);
-    let too_long = LoadFault::Line(0, LineCause::TooLong);
-    assert_eq!(rt; load_roster(alloc, &mut long).err(), Some(too_long));
-    Ok(())
+    for number in 0..meters {
+        write!(text, "meter {number:016x} 7 {number:032x} - - 0 0\n").expect(rt, NO_MEMORY);
+    }
+    text
 }
 
 #[test]
-fn a_roster_prints_no_key(rt: HostRuntime) -> Result<(), Fail> {
-    let roster = read_roster(rt.alloc(), WRITTEN.as_bytes())?;
-    let text = format!(in rt.alloc(); "{roster:?} {roster:#?}")?;
+fn a_roster_has_at_most_4096_meters(rt: HostRuntime) {
+    let alloc = rt.alloc();
+    let roster = read(&rt, alloc, &roster_of(&rt, alloc, 4_096));
+    assert_eq!(rt; roster.meters().len(), 4_096);
+    let fault = read_roster(alloc, roster_of(&rt, alloc, 4_097).as_bytes()).err();
+    assert_shown(&rt, alloc, &fault, "Some(Line(4099, TooMany))", "fault");
+}
+
+// Asserts the fault of a roster that is read from a source.
+fn assert_load_fault(rt: &impl Abort, alloc: Global, mut source: MemorySource, wanted: &str) {
+    let fault: Option<LoadFault> = load_roster(alloc, &mut source).err();
+    assert_shown(rt, alloc, &fault, wanted, wanted);
+}
+
+#[test]
+fn a_roster_is_read_from_a_source(rt: HostRuntime) {
+    let alloc = rt.alloc();
+    let mut source = MemorySource::steady(alloc, bytes_of(&rt, alloc, WRITTEN));
+    let roster = load_roster(alloc, &mut source).expect(&rt, "no roster");
+    assert_eq!(rt; roster.own().0, 0x9315_0100_0000_0131);
+    let broken = MemorySource::new(bytes_of(&rt, alloc, WRITTEN), call(&rt, alloc, 1));
+    assert_load_fault(&rt, alloc, broken, "Some(Read)");
+    let faulty = MemorySource::steady(alloc, bytes_of(&rt, alloc, "wmbus-roster 2\n"));
+    assert_load_fault(&rt, alloc, faulty, "Some(Line(2, Missing))");
+    let signs = vec![in alloc; b'#'; 1_048_577].expect(&rt, NO_MEMORY);
+    assert_load_fault(
+        &rt,
+        alloc,
+        MemorySource::steady(alloc, signs),
+        "Some(Line(0, TooLong))",
+    );
+}
+
+#[test]
+fn a_roster_prints_no_key(rt: HostRuntime) {
+    let roster = read(&rt, rt.alloc(), WRITTEN);
+    let text = format!(in rt.alloc(); "{roster:?} {roster:#?}").expect(&rt, NO_MEMORY);
     for key in ["f0", "F0", "240", "241"] {
         assert!(rt; !text.contains(key), "{text}");
     }
     assert!(rt; text.contains("ids: 8"), "{text}");
-    Ok(())
 }
