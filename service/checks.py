@@ -48,11 +48,14 @@ class Check:
         return lacking + [package for program, package in self.programs.items() if not shutil.which(program, path=FOLDERS)]
 
     def run(self, words: Iterable[str]) -> int:
-        """Types, then tests, to which the words go; the last line counts them. The exit status."""
+        """Types, then tests, to which the words go; the last line counts them. The word --install installs alone. The exit status."""
         if not os.path.exists(PYTHON):
             print(f"{self.name}: skipped, {PYTHON} isn't there\n0 passed, 0 failed")
             return 0
         install(self.missing())
+        words = [*words]
+        if words == ["--install"]:
+            return 0
         lacking = self.missing()
         for package in lacking:
             print(f"{self.name}: {package} isn't there, and what needs it is skipped")

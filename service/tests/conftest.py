@@ -11,7 +11,7 @@ from types import FrameType
 import pytest
 
 TOP = Path(__file__).resolve().parents[2]
-sys.path[:0] = [str(TOP / "service"), str(TOP / "tools"), str(TOP / "tests")]
+sys.path[:0] = [str(TOP / "service"), str(TOP), str(TOP / "tests"), str(TOP / "tests/checks")]
 # (what the tests fetch is on this machine, whatever stands between it and the network)
 os.environ |= {"no_proxy": "127.0.0.1,localhost", "NO_PROXY": "127.0.0.1,localhost"}
 # of a test in seconds, beside what the kill tests are given; where it goes on all the same it is told again

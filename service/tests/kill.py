@@ -17,7 +17,7 @@ from contextlib import closing, suppress
 from dataclasses import dataclass
 from pathlib import Path
 
-import programs
+from readings import programs
 from wmbus_service.commands import cancel_command, put_command, put_key
 from wmbus_service.config import read_config
 from wmbus_service.meters import add_meter, set_own

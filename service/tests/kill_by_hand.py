@@ -6,7 +6,7 @@ import tempfile
 from pathlib import Path
 
 TOP = Path(__file__).resolve().parents[2]
-sys.path[:0] = [str(TOP / "service"), str(TOP / "tools"), str(TOP / "tests")]
+sys.path[:0] = [str(TOP / "service"), str(TOP), str(TOP / "tests"), str(TOP / "tests/checks")]
 
 from tests import kill  # noqa: E402
 

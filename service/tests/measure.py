@@ -20,7 +20,7 @@ from contextlib import closing, suppress
 from pathlib import Path
 
 TOP = Path(__file__).resolve().parents[2]
-sys.path[:0] = [str(TOP / "service"), str(TOP / "tools"), str(TOP / "tests")]
+sys.path[:0] = [str(TOP / "service"), str(TOP), str(TOP / "tests"), str(TOP / "tests/checks")]
 
 from tests.processes import put_down  # noqa: E402
 from tests.meters import OWN, Meter, line_of, next_telegrams, some_meters  # noqa: E402

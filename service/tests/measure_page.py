@@ -24,7 +24,7 @@ from contextlib import closing
 from pathlib import Path
 
 TOP = Path(__file__).resolve().parents[2]
-sys.path[:0] = [str(TOP / "service"), str(TOP / "tools"), str(TOP / "tests")]
+sys.path[:0] = [str(TOP / "service"), str(TOP), str(TOP / "tests"), str(TOP / "tests/checks")]
 
 from tests.meters import OWN, Meter, some_meters  # noqa: E402
 from wmbus_service.meters import add_meter, set_own  # noqa: E402

@@ -153,21 +153,6 @@ def test_counters_raised_by_the_program(tmp_path: Path) -> None:
         (f"meter 4304785634121002 7 {KEY} - - 0 0\nreading 1 2 -\n",), ("meter raised by 12\nreading 1 2 -\n",)]
 
 
-def test_list_of_keys(place: Place) -> None:
-    """Meters come out of a spreadsheet's file, all or none; labels are put together by meter_name."""
-    keys = place.folder / "keys.csv"
-    keys.write_text("\ufeffManufacturer;ID;Version;Medium;AES Key;Name\nABC;40301210;01;04;00112233445566778899AABBCCDDEEFF;Küche\n",
-                    encoding="utf-8")
-    assert place.said("import", str(keys), "--own", OWN) == "1 new meters\n"
-    assert place.said("import", str(keys)) == "0 new meters\n"
-    assert [(it["address"], it["name"]) for it in json.loads(place.said("status", "--json"))["meters"]] == [(ADDRESS, "Küche")]
-    keys.write_text(f"address,mode,key\n4304785634121002,7,{KEY}\n4304341200702107,5,short\n")
-    assert "line 3" in place.fault("import", str(keys))
-    assert len(json.loads(place.said("status", "--json"))["meters"]) == 1
-    keys.write_text("serial\n1\n")
-    assert "columns" in place.fault("import", str(keys))
-
-
 def test_configuration(place: Place) -> None:
     """Each setting that isn't as it has to be is named."""
     folder = f'folder = "{place.folder}/wmbus"\n'

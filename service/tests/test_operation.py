@@ -117,16 +117,19 @@ def test_rights(tmp_path: Path) -> None:
 
 @as_root
 def test_root_acts_as_the_owner() -> None:
-    """Where root adds a meter the database belongs to the service's user all the same."""
+    """Where root adds a meter the database belongs to the service's user all the same; a list may be one that root alone reads."""
     with tempfile.TemporaryDirectory() as place:
         folder, config = Path(place) / "wmbus", Path(place) / "config.toml"
         Path(place).chmod(0o755)
         config.write_text(f'folder = "{folder}"\n')
         folder.mkdir(mode=0o700)
         os.chown(folder, NOBODY, NOBODY)
-        child = Child(Path(place) / "log", lambda: print(main(["--config", str(config), "import", "/dev/null", "--own", "93" * 8])))
+        keys = Path(place) / "keys"
+        keys.write_text("ID;Key\n1;2\n")
+        keys.chmod(0o600)
+        child = Child(Path(place) / "log", lambda: print(main(["--config", str(config), "import", str(keys), "--own", "93" * 8])))
         until(lambda: not child.is_running())
-        assert "the list is empty" in (Path(place) / "log").read_text()
+        assert "line 2, column `Key`" in (Path(place) / "log").read_text()
         assert {path.stat().st_uid for path in folder.rglob("*")} == {NOBODY}
         assert (folder / "wmbus.db").exists()
 

@@ -17,7 +17,7 @@ from wmbus_service.page import radios, reading
 
 import frames
 import messages
-import service_tables
+from readings import service_tables
 from .kill import TOP
 from .page_house import DAY, HOUR, PageHouse, page_fixture  # noqa: F401
 from .processes import run
@@ -276,7 +276,7 @@ def test_no_key_can_be_read(page: PageHouse) -> None:
 
 
 def test_page_as_a_file(page: PageHouse, tmp_path: Path) -> None:
-    """tools/report_page makes of the service's database a file that says what the served page does."""
+    """bin/report_page makes of the service's database a file that says what the served page does."""
     first, second, third = page.addresses
     page.write("update meter set name = 'Cellar' where address = ?", first)
     for back in range(5, 0, -1):
@@ -289,7 +289,7 @@ def test_page_as_a_file(page: PageHouse, tmp_path: Path) -> None:
     page.write("insert into source values ('attic', 'attic.1.1.lines', 10)")
     page.write("insert into line (receiver, text, made) values ('attic', 'A 1 00', ?)", NOW)
     file = tmp_path / "page.html"
-    words = [f"{TOP}/tools/report_page", "--now", str(int(NOW)), str(page.house.config.database), str(file)]
+    words = [f"{TOP}/bin/report_page", "--now", str(int(NOW)), str(page.house.config.database), str(file)]
     done = run(words, check=False)
     assert (done.returncode, done.stderr) == (0, "")
     told = re.sub(r"\s+", " ", re.sub("<[^>]*>", " ", file.read_text()))
@@ -302,7 +302,7 @@ def test_page_as_a_file(page: PageHouse, tmp_path: Path) -> None:
     for day in ("2027-01-14", "2027-01-13", "2027-01-12"):
         assert f"{day} 0.250 m³" in told and f"{day} 0.250 m³" in served
     assert "Reports" not in told and page.house.all("select count(*) from sqlite_master where type = 'view'") == [0]
-    refused = run([f"{TOP}/tools/keep_readings", words[3], file], check=False, env=os.environ | {"READING_LIST": "/bin/true"})
+    refused = run([f"{TOP}/bin/keep_readings", words[3], file], check=False, env=os.environ | {"READING_LIST": "/bin/true"})
     assert refused.returncode == 1 and "which keeps its readings itself" in refused.stderr
     assert (service_tables.APPLICATION, service_tables.VERSION) == (schema.APPLICATION, schema.VERSION)
 

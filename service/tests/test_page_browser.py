@@ -52,29 +52,43 @@ for (const it of document.querySelectorAll("body *")) {
     found.push(it.tagName + " leaves its box: " + it.textContent.slice(0, 40));
 }
 return found;"""
-# texts whose contrast with what lies behind them is below 4.5 (WCAG 2.2, 1.4.3)
-PALE = """
+# the contrast of a colour with what lies behind an element (WCAG 2.2, 1.4.3)
+CONTRAST = """
 const parts = text => text.match(/[\\d.]+/g).map(Number);
 const light = ([r, g, b]) => [r, g, b].map(it => it / 255).map(it => it <= .04045 ? it / 12.92 : ((it + .055) / 1.055) ** 2.4)
   .reduce((sum, it, place) => sum + it * [.2126, .7152, .0722][place], 0);
 const behind = it => { for (; it; it = it.parentElement) { const found = parts(getComputedStyle(it).backgroundColor);
   if (found.length < 4 || found[3] > 0) return found; } return [255, 255, 255]; };
+const contrast_of = (colour, it) => { const [a, b] = [light(parts(colour)), light(behind(it))].sort((x, y) => y - x);
+  return (a + .05) / (b + .05); };
+"""
+# texts whose contrast is below 4.5
+PALE = CONTRAST + """
 const found = [];
 for (const it of document.querySelectorAll("body *")) {
   if (![...it.childNodes].some(node => node.nodeType === 3 && node.data.trim()) || !it.getBoundingClientRect().width) continue;
-  const [a, b] = [light(parts(getComputedStyle(it).color)), light(behind(it))].sort((x, y) => y - x);
-  const contrast = (a + .05) / (b + .05);
+  const contrast = contrast_of(getComputedStyle(it).color, it);
   if (contrast < 4.5) found.push(it.tagName + " " + it.className + " " + contrast.toFixed(2) + ": " + it.textContent.slice(0, 40));
 }
 return found;"""
-# what a screen reader lacks: labels, names, headings that leave out a level
+# what a screen reader lacks: labels, names, heads of columns and rows, headings that leave out a level; what keys can't scroll
 UNNAMED = """
 const found = [];
-for (const it of document.querySelectorAll("input:not([type=hidden]), select")) if (!it.labels.length) found.push("no label: " + it.name);
+for (const it of document.querySelectorAll("input:not([type=hidden]), select, textarea"))
+  if (!it.labels.length) found.push("no label: " + it.name);
 for (const it of document.querySelectorAll("a, button, summary")) if (!it.textContent.trim()) found.push("no words: " + it.outerHTML);
 for (const it of document.querySelectorAll("svg, [role=region]")) if (!it.getAttribute("aria-label")) found.push("no name: " + it.tagName);
+for (const it of document.querySelectorAll("table")) {
+  const heads = it.tHead ? [...it.tHead.rows].flatMap(row => [...row.cells]) : [];
+  if (!heads.length || heads.some(cell => !cell.matches("th[scope=col]") || !cell.textContent.trim())) found.push("no heads of columns");
+  for (const row of [...it.tBodies].flatMap(body => [...body.rows]))
+    if (row.cells.length !== heads.length || !row.cells[0].matches("th[scope=row]")) found.push("no head of the row: " + row.textContent);
+}
+for (const it of document.querySelectorAll("body *:not(input, select)"))
+  if (/auto|scroll/.test(getComputedStyle(it).overflow) && (it.scrollWidth > it.clientWidth || it.scrollHeight > it.clientHeight)
+      && it.tabIndex < 0) found.push("keys can't scroll: " + it.className);
 let last = 0;
-for (const it of document.querySelectorAll("h1, h2, h3")) {
+for (const it of document.querySelectorAll("h1, h2, h3, h4, h5, h6")) {
   const level = Number(it.tagName[1]);
   if (level > last + 1) found.push("leaves out: " + it.textContent);
   last = level;
@@ -135,6 +149,13 @@ def browser_fixture(tmp_path: Path) -> Iterator[Any]:
         driver.quit()
 
 
+def wait(browser: Any, is_done: Callable[[], object]) -> None:
+    """Waits until something is so, on this page or on the next one."""
+    from selenium.common.exceptions import NoSuchElementException, StaleElementReferenceException
+    from selenium.webdriver.support.wait import WebDriverWait
+    WebDriverWait(browser, PATIENCE, ignored_exceptions=(NoSuchElementException, StaleElementReferenceException)).until(lambda _: is_done())
+
+
 def test_widths_and_colours(page: PageHouse, address: str, browser: Any) -> None:
     """At 390, 768 and 1,400 px, light and dark: no element goes beyond the window or its box, every text has contrast, all has a name."""
     pictures = os.environ.get("WMBUS_PICTURES")
@@ -164,23 +185,17 @@ def test_widths_and_colours(page: PageHouse, address: str, browser: Any) -> None
 
 def test_walk_through_the_forms(page: PageHouse, address: str, browser: Any) -> None:
     """Enter, queue a command, cancel it, make a stranger a meter, leave."""
-    from selenium.common.exceptions import NoSuchElementException, StaleElementReferenceException
     from selenium.webdriver.common.by import By
-    from selenium.webdriver.support.wait import WebDriverWait
-
-    def wait(is_done: Callable[[], object]) -> None:
-        WebDriverWait(browser, PATIENCE, ignored_exceptions=(NoSuchElementException, StaleElementReferenceException)).until(
-            lambda _: is_done())
 
     def find(by: str, words: str) -> Any:
-        wait(lambda: browser.find_element(by, words))
+        wait(browser, lambda: browser.find_element(by, words))
         return browser.find_element(by, words)
 
     def follow(by: str, words: str, is_done: Callable[[], object]) -> None:
         """Clicks on what leads to another page, and waits until that one is there."""
         before = browser.find_element(By.TAG_NAME, "html")
         find(by, words).click()
-        wait(lambda: browser.find_element(By.TAG_NAME, "html") != before and is_done())
+        wait(browser, lambda: browser.find_element(By.TAG_NAME, "html") != before and is_done())
 
     def press(words: str, is_done: Callable[[], object]) -> None:
         follow(By.XPATH, f"//button[normalize-space()='{words}']", is_done)

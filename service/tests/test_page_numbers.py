@@ -23,7 +23,7 @@ from .kill import TOP, steps_words
 
 NOW = 1_800_000_000.0
 EXAMPLES = [TOP / "examples" / name for name in ("fragments", "gas", "heat", "keys", "power", "water")]
-SESSIONS = [TOP / "tests/sessions" / name for name in ("hostile", "made_014", "made_042", "made_057", "made_064", "made_071", "made_112",
+SESSIONS = [TOP / "tests/cases/sessions" / name for name in ("hostile", "made_014", "made_042", "made_057", "made_064", "made_071", "made_112",
                                                        "not_read", "spoiled_assembly")]
 # how a person reads a unit, as the database has it, and how many of it a prefix is
 UNITS = {"m³": "m3", "m³/h": "m3/h", "m³/min": "m3/min", "m³/s": "m3/s", "°C": "C"}

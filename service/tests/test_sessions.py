@@ -21,7 +21,7 @@ from wmbus_service.spool import CHUNK, Spool, Spooled, put_places
 from wmbus_service.trouble import Trouble
 
 import messages
-import programs
+from readings import programs
 from . import stand_in
 from .meters import Meter, line_of, next_telegrams, payload_of, roster_of, some_meters
 
@@ -125,16 +125,19 @@ def test_a_program_that_always_fails(house: House, monkeypatch: pytest.MonkeyPat
     assert len(house.all("select id from reading")) == 5
 
 
-def test_a_program_that_is_ended(house: House, monkeypatch: pytest.MonkeyPatch) -> None:
-    """Where the program is ended from outside, as when a machine is shut down, its only line is heard again."""
+@pytest.mark.parametrize("word", ["kill $$", "exit 10"])
+def test_a_program_that_fails_once(house: House, monkeypatch: pytest.MonkeyPatch, word: str) -> None:
+    """Where the program is ended from outside, as when a machine is shut down, or lacks memory for a moment, its only line is heard
+    again."""
     house.spool(house.whole(house.meters[0]))
+    failures = [word]
 
-    def ended(_words: Sequence[str], _state: str, lines: Sequence[str]) -> steps.Told:
-        steps.output_of(["sh", "-c", "kill $$" if lines else "true"], lines)
+    def failing_once(_words: Sequence[str], _state: str, lines: Sequence[str]) -> steps.Told:
+        steps.output_of(["sh", "-c", failures.pop() if lines and failures else "true"], lines)
         return steps.Told([], {})
     with monkeypatch.context() as within:
-        within.setattr(session, "run_steps", ended)
-        house.hear()
+        within.setattr(session, "run_steps", failing_once)
+        assert house.sessions.next(NOW) == (word == "exit 10")
     assert not house.all("select id from aside")
     house.hear()
     assert len(house.all("select id from reading")) == 1

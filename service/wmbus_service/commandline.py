@@ -13,7 +13,7 @@ from collections.abc import Callable, Iterable
 from contextlib import closing
 from pathlib import Path
 
-from . import backup, checking, demo, exporting, importing, meters, service, store
+from . import backup, checking, demo, exporting, importing, key_lists, meters, service, store
 from .commands import cancel_command, put_command, put_key
 from .config import Config, Page, Programs, read_config
 from .printing import leave_unread, parsed
@@ -25,6 +25,7 @@ from .trouble import Trouble
 DONE, TROUBLE = 0, 1
 VERSION = "0.1.0"
 STATUSES = "exit status: 0 all is done or right, 1 something is wrong and was named, 2 faulty words"
+MODES = ("5", "7")
 MARGIN = 1000
 MOST_COUNT = 65_535
 
@@ -86,12 +87,15 @@ def _meter_words(command: Command) -> None:
     """The words of what changes the meters."""
     made = command("add", _add,
                    "adds a meter; its key is asked for, or read from the standard input, so that no list of processes shows it")
-    made.add_argument("address", metavar="METER", help="the meter's address, sixteen hexadecimal digits as tools/meter_name prints them")
-    made.add_argument("--mode", choices=("5", "7"), default="7", help="its security mode, 7 where none is named")
+    made.add_argument("address", metavar="METER", help="the meter's address, sixteen hexadecimal digits as bin/meter_name prints them")
+    made.add_argument("--mode", choices=MODES, default="7", help="its security mode, 7 where none is named")
     made.add_argument("--name", default="", help="what it is called")
     made.add_argument("--own", metavar="ADDRESS", help="the collector's own address, with the first meter")
-    made = command("import", _import, "adds the meters of a list of keys (CSV with a head)")
+    made = command("import", _import, "adds the meters of a list of keys, all or none: CSV with a head, or Kamstrup's key file (KEM), whose"
+                                      " password is asked for, or read from the standard input")
     made.add_argument("list", metavar="FILE", type=Path)
+    made.add_argument("--mode", choices=MODES, default="7", help="the security mode where the list names none, 7 where none is named here")
+    made.add_argument("--heard", action="store_true", help="leaves out meters that weren't heard yet")
     made.add_argument("--own", metavar="ADDRESS", help="the collector's own address, with the first meters")
     made = command("rekey", _rekey, "gives a meter of mode 7 its new second key, which is asked for as with `add`")
     made.add_argument("address", metavar="METER")
@@ -205,17 +209,24 @@ def _own(config: Config, database: sqlite3.Connection, asked: str | None) -> str
     return own
 
 
+def _secret(what: str) -> str:
+    """A key or a password, which no list of processes and no history of a shell shows."""
+    return getpass.getpass(f"{what}: ") if sys.stdin.isatty() else sys.stdin.readline().rstrip("\r\n")
+
+
 def _key(address: str) -> str:
-    """A key, which no list of processes and no history of a shell shows."""
-    told = getpass.getpass(f"key of {address}: ") if sys.stdin.isatty() else sys.stdin.readline()
-    return told.strip().lower().replace(" ", "")
+    return _secret(f"key of {address}").strip().lower().replace(" ", "")
 
 
 def _import(asked: argparse.Namespace) -> int:
+    # (the list may be one that root alone can read)
+    content = key_lists.read_content(asked.list)
     config = _config(asked)
+    rows = importing.read_list(asked.list, content, lambda: _secret(f"password of {asked.list}"))
     with _opened(config, True) as database:
-        count = importing.take_list(config, database, asked.list, _own(config, database, asked.own))
-    print(f"{count} new meters")
+        wish = importing.Wish(_own(config, database, asked.own), asked.mode, asked.heard)
+        added, left = importing.take_list(config, database, asked.list, rows, wish)
+    print(f"{added} new meters" + (f"; {left} weren't heard yet, and are left" if left else ""))
     return DONE
 
 

@@ -25,7 +25,7 @@ HELP_SECONDS = 10
 def program(name: str) -> str:
     """A program beside the package, where it is installed, else as the repository starts it."""
     installed = HERE / name
-    return str(installed if installed.exists() else HERE.parent / "tools" / name)
+    return str(installed if installed.exists() else HERE.parent / "bin" / name)
 
 
 STAND_IN = "tests/reference/steps"
@@ -47,7 +47,7 @@ def _ready_programs(name: str) -> Iterator[str]:
     """Where a program may stand that can be started at once: beside the package, or ready in the repository, where nothing is built."""
     if (HERE / name).exists():
         yield str(HERE / name)
-    elif (start := HERE.parent / "tools/start").exists():
+    elif (start := HERE.parent / "bin/start").exists():
         yield from subprocess.run([start, "--ready", name], capture_output=True, text=True, check=False).stdout.splitlines()
 
 

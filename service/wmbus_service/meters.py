@@ -3,7 +3,7 @@ from __future__ import annotations
 
 import logging
 import sqlite3
-from collections.abc import Sequence
+from collections.abc import Iterator, Sequence
 from pathlib import Path
 
 from . import store
@@ -14,6 +14,9 @@ from .trouble import Trouble
 log = logging.getLogger("wmbus")
 
 OTHER_PLACE, DOWN_PLACE = 4, 6
+MOST_NAME = 80
+# a roster that the program judges has so many meters at most
+PIECE = 4096
 
 
 def count(database: sqlite3.Connection) -> int:
@@ -28,6 +31,11 @@ def set_own(database: sqlite3.Connection, own: str, place: object) -> None:
     if known is not None and known != own:
         raise Trouble(place, f"the collector's own address is {own}, and the database has {known}", "write that of the database there")
     store.set_setting(database, "own", own)
+
+
+def name_of(text: str) -> str:
+    """What a meter may be called: signs of one line that can be shown."""
+    return "".join(letter for letter in text if letter.isprintable())[:MOST_NAME]
 
 
 def add_meter(database: sqlite3.Connection, fields: list[str], name: str = "") -> bool:
@@ -52,6 +60,16 @@ def meters_in(text: str) -> tuple[str, list[list[str]]]:
     return told[1].split(" ")[1].lower(), [fields_of(line) for line in told[2:]]
 
 
+def pieces_of(text: str) -> Iterator[str]:
+    """A roster of any number of meters as rosters that the program judges, of which the first one has all where they aren't too many."""
+    lines = [line for line in (it.removesuffix("\r") for it in text.split("\n")) if line and not line.startswith("#")]
+    if len(lines) <= PIECE + 2:
+        yield text
+        return
+    for start in range(2, len(lines), PIECE):
+        yield "\n".join([*lines[:2], *lines[start:start + PIECE]]) + "\n"
+
+
 def judge_roster(program: Sequence[str], text: str, place: object) -> None:
     """Has the program judge a roster; it names the first faulty line."""
     try:
@@ -72,7 +90,8 @@ def read_roster(path: Path) -> str:
 
 def take_roster(config: Config, database: sqlite3.Connection, text: str, place: object) -> int:
     """Adds a roster's new meters; what is known of the others stays. How many are new."""
-    judge_roster(words_of(config.programs.steps), text, place)
+    for piece in pieces_of(text):
+        judge_roster(words_of(config.programs.steps), piece, place)
     own, told = meters_in(text)
     with store.transaction(database):
         set_own(database, own, place)

@@ -31,6 +31,8 @@ class Sessions:
         self.spools = [Spool(config.spool, name) for name in config.receivers]
         # how many lines the next session takes: fewer after one that the program failed at
         self.most = MOST
+        # the line alone at which the program failed last
+        self.suspect: Event | None = None
 
     def next(self, now: float) -> int:
         """One session over what is there; how many lines it took."""
@@ -77,14 +79,16 @@ class Sessions:
 
     def _halve(self, batch: Sequence[Event], failed: ProgramFailed, now: float) -> int:
         """After a failed session the next one takes half of its lines, until the line at which the program fails is found; that one is
-        set aside."""
+        set aside where the program fails at it once more."""
         if len(batch) > 1:
             log.error("the program failed over %d lines, and nothing of it counts: %s", len(batch), failed)
             self.most = len(batch) // 2
             return len(batch)
-        if failed.is_ended():
-            log.warning("the program was ended over a line, which is heard again: %s", failed)
-            return 0
+        if failed.is_ended() or batch[0] != self.suspect:
+            # (what a machine lacks for a moment, as memory or time, is no line's fault)
+            self.suspect = None if failed.is_ended() else batch[0]
+            log.warning("the program failed over a line, which is heard again: %s", failed)
+            return int(not failed.is_ended())
         self._look_without_lines(batch)
         with store.transaction(self.database):
             set_aside(self.database, batch[0], str(failed), now)

@@ -1,12 +1,11 @@
-"""The way to the modules that the service has in common with the scripts in tools/: they stand in the source tree or, once installed,
-in the library's folder."""
+"""The way to what the service has in common with the repository's scripts, the package readings and the makers of messages: these stand
+in the source tree or, once installed, in the library's folder."""
 from __future__ import annotations
 
 import sys
 
 from .config import HERE
 
-FOLDERS = (HERE.parent / "tools", HERE / "tools")
-FOLDER = next((folder for folder in FOLDERS if (folder / "page_texts.py").exists()), FOLDERS[0])
-if str(FOLDER) not in sys.path:
-    sys.path.append(str(FOLDER))
+FOLDERS = (HERE.parent, HERE)
+FOLDER = next((folder for folder in FOLDERS if (folder / "readings/page_texts.py").exists()), FOLDERS[0])
+sys.path += [it for it in (str(FOLDER), str(FOLDER / "tests/checks")) if it not in sys.path]

@@ -6,7 +6,7 @@ from pathlib import Path
 import pytest
 
 TOP = Path(__file__).resolve().parents[3]
-sys.path[:0] = [str(TOP / "service/fleet"), str(TOP / "service"), str(TOP / "tools"), str(TOP / "tests")]
+sys.path[:0] = [str(TOP / "service/fleet"), str(TOP / "service"), str(TOP), str(TOP / "tests"), str(TOP / "tests/checks")]
 
 from fleet_tests import servers  # noqa: E402
 

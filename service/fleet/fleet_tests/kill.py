@@ -305,13 +305,15 @@ class Trial:
             "commands": "(select count(*) from command where state = 'waiting' or wish is not null)",
             "downlinks": "(select count(*) from outbox where sent is null and missed is null)",
         }
+        rows = {}
         try:
             with store.connect(self.config.database) as database:
-                rows = {name: store.one(database, f"select {query}") for name, query in told.items()}
+                # (in the order in which lines go: what an intake takes between two of these questions is seen by the later one)
                 for station in self.stations:
                     fence = database.execute("select epoch, number from gateway where name = %s", (station.told.name,)).fetchone()
                     # (a message of silence may be on its way)
                     rows[station.told.name] = int(fence != station.numbered())
+                rows |= {name: store.one(database, f"select {query}") for name, query in told.items()}
         except (psycopg.Error, sqlite3.Error) as fault:
             return str(fault)
         return ", ".join(f"{name} {count}" for name, count in rows.items() if count > 0)

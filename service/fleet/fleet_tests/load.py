@@ -19,7 +19,7 @@ from collections.abc import Callable, Sequence
 from pathlib import Path
 
 TOP = Path(__file__).resolve().parents[3]
-sys.path[:0] = [str(TOP / "service/fleet"), str(TOP / "service"), str(TOP / "tools"), str(TOP / "tests")]
+sys.path[:0] = [str(TOP / "service/fleet"), str(TOP / "service"), str(TOP), str(TOP / "tests"), str(TOP / "tests/checks")]
 
 from fleet_tests.made_load import COPIES, EPOCH, Load, Publisher, meter_rows, shuffled_messages  # noqa: E402
 from fleet_tests.servers import Postgres, Rabbit  # noqa: E402

@@ -12,7 +12,7 @@ from pathlib import Path
 from typing import cast
 
 TOP = Path(__file__).resolve().parents[3]
-sys.path[:0] = [str(TOP / "service/fleet"), str(TOP / "service"), str(TOP / "tools"), str(TOP / "tests")]
+sys.path[:0] = [str(TOP / "service/fleet"), str(TOP / "service"), str(TOP), str(TOP / "tests"), str(TOP / "tests/checks")]
 
 from fleet_tests import kill  # noqa: E402
 from fleet_tests.kill import Plan, Trial  # noqa: E402

@@ -253,6 +253,60 @@ def test_a_line_at_which_the_program_fails(fleet: Fleet, monkeypatch: pytest.Mon
     assert [text for (text,) in fleet.database.execute("select text from line order by number")] == lines[:4] + lines[5:]
 
 
+def test_a_line_that_another_process_had_meanwhile(fleet: Fleet, monkeypatch: pytest.MonkeyPatch) -> None:
+    """Between the program's failure in one process and its setting aside of a command, a line or a tick, another one's session has it:
+    nothing is set aside, neither it nor what came since."""
+    meter, failing = fleet.meters[0].name, True
+    shard = store.one(fleet.database, "select shard_of(%s)", (meter,))
+
+    def run(words: Any, state: str, heard: list[str]) -> Any:
+        if heard and failing:
+            raise ProgramFailed(101, "no")
+        return stand_in(words, state, heard)
+    monkeypatch.setattr(sessions, "run_steps", run)
+
+    def arrives(message: int) -> None:
+        store.copy_rows(fleet.database, "inbox (address, gateway, epoch, message, place, text)",
+                        [(meter, fleet.gateway, 1, message, 1, f"A {message} 00")])
+    hearing = sessions.Sessions(fleet.config, fleet.database)
+    with store.connect(fleet.config.database) as second:
+        def meanwhile(_batch: Any) -> None:
+            nonlocal failing
+            failing = False
+            assert sessions.Sessions(fleet.config, second).session(shard, NOW) == 1
+            arrives(message + 1)
+        monkeypatch.setattr(hearing, "_look_without_lines", meanwhile)
+        for message, query in ((1, "insert into command (id, address, kind, payload, made, changed) values ('c1', %s, 'send', '01', 1, 1)"),
+                               (3, ""), (5, "update meter set due = 5 where address = %s")):
+            failing = True
+            if query:
+                fleet.database.execute(query, (meter,))
+            else:
+                arrives(message)
+            assert [hearing.session(shard, NOW), hearing.session(shard, NOW)] == [1, 1]
+            assert fleet.database.execute("select message from inbox").fetchall() == [(message + 1,)]
+            assert sessions.Sessions(fleet.config, second).session(shard, NOW) == 1
+    assert store.one(fleet.database, "select count(*) from aside") == 0
+    assert store.pairs(fleet.database, "select id, state from command") == {"c1": "queued"}
+    assert [message for (message,) in fleet.database.execute("select message from line where gateway is not null order by number")] == [2, 3, 4, 6]
+
+
+@pytest.mark.parametrize("status", [-15, 10])
+def test_a_program_that_fails_once(fleet: Fleet, monkeypatch: pytest.MonkeyPatch, status: int) -> None:
+    """Where it is ended from outside, or lacks memory for a moment, its only line is heard again."""
+    meter, failures = fleet.meters[0], [status]
+
+    def failing(words: Any, state: str, heard: list[str]) -> Any:
+        if heard and failures:
+            raise ProgramFailed(failures.pop(), "no")
+        return stand_in(words, state, heard)
+    monkeypatch.setattr(sessions, "run_steps", failing)
+    store.copy_rows(fleet.database, "inbox (address, gateway, epoch, message, place, text)", [(meter.name, fleet.gateway, 1, 1, 1, "A 1 00")])
+    hearing = sessions.Sessions(fleet.config, fleet.database)
+    assert [hearing.turn(NOW), hearing.turn(NOW), hearing.turn(NOW)] == [int(status > 0), 1, 0]
+    assert store.one(fleet.database, "select count(*) from aside") == 0
+
+
 def test_ticks_wait_for_what_was_heard_before(fleet: Fleet) -> None:
     """A tick is due once its gateway has said all that it heard until then, or is cut off for very long; and while lines wait that no
     session has taken, no tick overtakes them."""

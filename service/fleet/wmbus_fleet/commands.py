@@ -6,16 +6,12 @@ from pathlib import Path
 
 from wmbus_service.commands import OPEN, judge_ident, key_of, payload_of
 from wmbus_service.config import NAME, words_of
-from wmbus_service.meters import judge_roster, meters_in, read_roster
+from wmbus_service.meters import judge_roster, meters_in, name_of, pieces_of, read_roster
 from wmbus_service.trouble import Trouble
 
 from . import broker, store
 from .config import Config
 from .store import Database
-
-# a roster that the program judges has so many meters at most
-PIECE = 4096
-MOST_NAME = 80
 
 
 def put_command(database: Database, ident: str, address: str, payload: str, now: float) -> bool:
@@ -85,10 +81,8 @@ def commission(config: Config, database: Database, path: Path) -> int:
 
 def take_roster(config: Config, database: Database, text: str, path: object) -> int:
     """Adds a roster's new meters; what is known of the others stays. How many are new. A roster may have any number of meters."""
-    head, lines = _taken_apart(text)
     added = 0
-    for start in range(0, max(1, len(lines)), PIECE):
-        piece = "\n".join([*head, *lines[start:start + PIECE]]) + "\n"
+    for piece in pieces_of(text):
         judge_roster(words_of(config.programs.steps), piece, path)
         own, meters = meters_in(piece)
         with store.transaction(database):
@@ -99,12 +93,6 @@ def take_roster(config: Config, database: Database, text: str, path: object) -> 
             store.set_setting(database, "own", own)
             added += _add_meters(database, meters)
     return added
-
-
-def _taken_apart(text: str) -> tuple[list[str], list[str]]:
-    """A roster's first two lines, and those of its meters."""
-    lines = [line for line in (it.removesuffix("\r") for it in text.split("\n")) if line and not line.startswith("#")]
-    return lines[:2], lines[2:]
 
 
 def _add_meters(database: Database, meters: Sequence[Sequence[str]]) -> int:
@@ -126,5 +114,5 @@ def put_names(database: Database, path: Path) -> int:
             raise Trouble(f"{path}, line {number}", "it isn't an address, a space and a name")
     named = database.execute("update meter m set name = n.name from unnest(%s::text[], %s::text[]) as n (address, name)"
                              " where m.address = n.address",
-                             ([address.lower() for address, _ in lines], [name.strip()[:MOST_NAME] for _, name in lines]))
+                             ([address.lower() for address, _ in lines], [name_of(name.strip()) for _, name in lines]))
     return named.rowcount

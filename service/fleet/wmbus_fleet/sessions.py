@@ -36,6 +36,8 @@ class Sessions:
         self.config, self.database = config, database
         # how many lines a shard's next session takes: fewer after one that the program failed at
         self.most = dict.fromkeys(range(SHARDS), MOST)
+        # of a shard the line alone at which the program failed last
+        self.suspects: dict[int, Event | None] = {}
 
     def turn(self, now: float) -> int:
         """A session of each shard that has something to hear, from any shard on; the most lines that one took."""
@@ -70,24 +72,30 @@ class Sessions:
 
     def _halve(self, shard: int, batch: Sequence[Event], failed: ProgramFailed, now: float) -> int:
         """After a failed session the shard's next one takes half of its lines, until the line at which the program fails is found; that
-        one is set aside."""
+        one is set aside where the program fails at it once more."""
         if len(batch) > 1:
             log.error("the program failed over %d lines of shard %d, and nothing of it counts: %s", len(batch), shard, failed)
             self.most[shard] = len(batch) // 2
             return len(batch)
-        if failed.is_ended():
-            log.warning("the program was ended over a line, which is heard again: %s", failed)
-            return 0
+        if failed.is_ended() or batch[0] != self.suspects.get(shard):
+            # (what a machine lacks for a moment, as memory or time, is no line's fault)
+            self.suspects[shard] = None if failed.is_ended() else batch[0]
+            log.warning("the program failed over a line, which is heard again: %s", failed)
+            return int(not failed.is_ended())
+        self._look_without_lines(batch)
+        with store.transaction(self.database):
+            is_aside = lock(self.database, shard) and set_aside(self.database, batch[0], shard, str(failed), now)
+        if is_aside:
+            log.error("the program fails at this line, which is set aside (`wmbus-fleet status` shows it): %s", failed)
+        return 1
+
+    def _look_without_lines(self, batch: Sequence[Event]) -> None:
+        """Where the program fails without a line too, it isn't the line's fault."""
         try:
             self._run({address_of(event) for event in batch}, [])
-        except ProgramFailed as again:
-            raise Trouble(self.config.programs.steps, f"the program fails over what is known of the meter, without any line: {again}",
+        except ProgramFailed as failed:
+            raise Trouble(self.config.programs.steps, f"the program fails over what is known of the meter, without any line: {failed}",
                           "look at its release and at the meter's block") from None
-        with store.transaction(self.database):
-            if lock(self.database, shard):
-                set_aside(self.database, batch[0], shard, str(failed), now)
-        log.error("the program fails at this line, which is set aside (`wmbus-fleet status` shows it): %s", failed)
-        return 1
 
 
 def lock(database: Database, shard: int) -> bool:
@@ -148,20 +156,25 @@ def blocks_of(database: Database, addresses: Collection[str]) -> str:
                                    " where address = any(string_to_array(%s, ' '))", (" ".join(sorted(addresses)),)))
 
 
-def set_aside(database: Database, event: Event, shard: int, said: str, now: float) -> None:
-    """Keeps an event that the program fails at out of all later sessions."""
+def set_aside(database: Database, event: Event, shard: int, said: str, now: float) -> bool:
+    """Keeps an event that the program fails at out of all later sessions; whether it was still there, and no other process's session had
+    it meanwhile."""
     it = arrived_of(event)
     if it:
-        take(database, shard, 1)
-    if event.command:
-        database.execute("update command set state = 'refused', reason = 'the program failed', wish = null, changed = %s where id = %s",
-                         (now, event.command))
-    if event.ticked:
-        database.execute("update meter set due = null where address = %s", (event.ticked,))
+        gone = database.execute(f"delete from inbox_{int(shard)} where gateway = %s and epoch = %s and message = %s and place = %s",
+                                (it.receiver, it.epoch, it.message, it.behind))
+    elif event.command:
+        gone = database.execute("update command set state = 'refused', reason = 'the program failed', wish = null, changed = %s"
+                                " where id = %s and (state = 'waiting' or wish is not null)", (now, event.command))
+    else:
+        gone = database.execute("update meter set due = null where address = %s and due = %s", (event.ticked, event.due))
+    if not gone.rowcount:
+        return False
     text = "(a command; its row has it)" if event.command else event.text
     database.execute("insert into aside (gateway, text, said, made) values (%s, %s, %s, %s)",
                      (it.receiver if it else None, text, said, now))
     store.add_totals(database, f"shard {shard}", {"aside": 1})
+    return True
 
 
 def run(config: Config, ending: Ending) -> None:

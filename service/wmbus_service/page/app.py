@@ -223,7 +223,7 @@ def _any_fault(fault: Exception) -> AnyResponse:
 @pages.get("/common.css")
 def common_style() -> Response:
     """What its looks have in common with the page that is a file."""
-    return send_file(FOLDER / "page.css", mimetype="text/css")
+    return send_file(FOLDER / "readings/page.css", mimetype="text/css")
 
 
 @house.get("/")

@@ -11,11 +11,11 @@ from werkzeug.wrappers import Response
 
 from ..commands import KEY
 from ..importing import ADDRESS
+from ..meters import name_of
 from .app import Worded, clock, door_of, may_write
 
 forms = Blueprint("forms", __name__)
 MODES = ("5", "7")
-MOST_NAME = 80
 
 
 @forms.before_request
@@ -93,7 +93,7 @@ def add() -> Response:
         raise Worded("A meter's address has sixteen hexadecimal digits, and its security mode is 5 or 7.")
     if not KEY.fullmatch(key):
         raise Worded("A key has 32 hexadecimal digits.")
-    name = "".join(letter for letter in _field("name") if letter.isprintable())[:MOST_NAME]
+    name = name_of(_field("name"))
     if not door_of().add_meter(f"meter {address} {mode} {key} - - 0 0", name):
         raise Worded("This meter is known already; its key stays as it is.")
     flash(f"{name or address} was added. What it sends from now on is read.")

@@ -1,14 +1,14 @@
-"""The words, numbers and differences that the page has in common with tools/report_page."""
+"""The words, numbers and differences that the page has in common with bin/report_page."""
 from __future__ import annotations
 
 from .. import tool_modules  # noqa: F401  (the way to the modules below)
-from explained import row_of
-from page_texts import (
+from readings.explained import row_of
+from readings.page_texts import (
     GRACE, NAMES, PREFIXED, REPEATS, WRONG_KEY, counted, grouped, is_address, is_number, is_time, label_of, maker_of, prefix_for, time_text,
     times, type_of, words_of_page, zone_text,
 )
-from registers import Register, curve_words, line_of, used_notes
-from used import Used, rising_points, used_of
+from readings.registers import Register, curve_words, line_of, used_notes
+from readings.used import Used, rising_points, used_of
 
 __all__ = [
     "GRACE", "NAMES", "PREFIXED", "REPEATS", "WRONG_KEY", "Register", "Used", "counted", "curve_words", "grouped", "is_address",

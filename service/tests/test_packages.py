@@ -1,0 +1,72 @@
+"""What Debian's package manager starts when the service's package is purged, over folders of the test's own."""
+from __future__ import annotations
+
+import os
+from pathlib import Path
+
+import pytest
+
+from .kill import TOP
+from .processes import run
+
+POSTRM = TOP / "service/debian/postrm"
+# debconf's words for a shell, with an answer that stands in a file, where there is one
+DEBCONF = """
+db_fset() { :; }
+db_input() { echo "$2" >>"$ASKED"; }
+db_go() { :; }
+db_get() { RET=$ANSWER; }
+db_purge() { :; }
+db_stop() { :; }
+"""
+
+
+class Machine:
+    """A machine's folders below one of the test's, and a package manager that purges."""
+
+    def __init__(self, folder: Path) -> None:
+        self.folder, self.kept, self.settings = folder, folder / "var/lib/wmbus", folder / "etc/wmbus"
+        self.asked, self.users = folder / "asked", folder / "users"
+        for path in (self.kept / "spool", self.settings, folder / "bin"):
+            path.mkdir(parents=True)
+        (folder / "debconf").write_text(DEBCONF)
+        user = folder / "bin/deluser"
+        user.write_text(f'#!/bin/sh\necho "$@" >>{self.users}\n')
+        user.chmod(0o755)
+
+    def purge(self, answer: str | None) -> str:
+        """Purges the service's package; what is said."""
+        text = POSTRM.read_text(encoding="utf-8")
+        debconf = "debconf" if answer is not None else "none"
+        for path, own in (("/var/lib/wmbus", self.kept), ("/etc/wmbus", self.settings),
+                          ("/usr/share/debconf/confmodule", self.folder / debconf)):
+            assert path in text
+            text = text.replace(path, str(own))
+        script = self.folder / "postrm"
+        script.write_text(text)
+        environment = os.environ | {"PATH": f"{self.folder}/bin:{os.environ['PATH']}", "ANSWER": answer or "", "ASKED": str(self.asked)}
+        return run(["sh", script, "purge"], env=environment).stderr
+
+
+@pytest.mark.parametrize("answer", [None, "false", "true"])
+@pytest.mark.parametrize("name", ["wmbus.db", "gateway.cellar-12.db", "gateways/cellar-12/broker.password", "spool/attic.00000001.1.lines"])
+def test_a_purge_asks_for_what_was_kept(tmp_path: Path, name: str, answer: str | None) -> None:
+    """Whatever of the service, of a gateway or of a fleet's server stands in the folder goes by a yes alone, and with it the user."""
+    machine = Machine(tmp_path)
+    file = machine.kept / name
+    file.parent.mkdir(parents=True, exist_ok=True)
+    file.write_text("kept")
+    said = machine.purge(answer)
+    assert file.exists() is (answer != "true") and machine.users.exists() is (answer == "true")
+    assert ("stays" in said) is file.exists()
+    assert machine.asked.exists() is (answer is not None)
+
+
+def test_a_purge_without_data(tmp_path: Path) -> None:
+    """Nothing is asked, and nothing stays."""
+    machine = Machine(tmp_path)
+    (machine.kept / "lock").touch()
+    assert not machine.purge("false")
+    assert not machine.kept.exists() and not machine.settings.exists() and not machine.asked.exists()
+    assert machine.users.read_text() == "--quiet --system wmbus\n"
+    assert not machine.purge(None)
