@@ -80,7 +80,7 @@ def what_the_sticks_print(walk: Walk) -> None:
     moments = re.findall(r'"time" : "([0-9]+)"', said.decode())
     ran = walk.run("line_feed", "rtl_433", feed=said, told="line_feed: telegrams taken: 5, lines not taken: 0\n")
     equal("rtl_433's telegrams as lines", [f"A {moment} {frame}" for moment, frame in zip(moments, wanted)], ran.lines)
-    walk.write("day1.rx", ran.said)
+    walk.write("day1.rx", ran.out)
     ran = walk.run("line_feed", "rtl_wmbus", feed=(EXAMPLES / "receivers/rtl_wmbus.txt").read_bytes())
     equal("rtl_wmbus's telegrams as lines", walk.text("day1.rx"), ran.text)
     # a stick's version, and a telegram that was heard wrongly, stand among them
@@ -151,19 +151,19 @@ def the_first_days(walk: Walk) -> None:
     walk.session("continue", "roster", "state1", "readings.json", "day1.rx", "day1.tx")
     first, second = fragments(bytes.fromhex(HEAT_KEY), bytes.fromhex(HEAT), 10, payload(10), 2)
     said = printed(heat(9), at(2, 6)) + printed(first, at(2, 23))
-    walk.write("day2.rx", walk.run("line_feed", "rtl_433", feed=said.encode()).said)
+    walk.write("day2.rx", walk.run("line_feed", "rtl_433", feed=said.encode()).out)
     report = walk.session("continue", "state1", "state2", "readings.json", "day2.rx", "day2.tx")
     equal("the second day", [stored(9, at(2, 6)), "part"], steps_of(report, HEAT))
     true("the state has the fragment", "\npart " in walk.text("state2"))
     walk.write("day2.report", report)
     kept(walk, "day2.report", "235.91", GAS_VOLUME)
-    walk.write("day3.rx", walk.run("line_feed", "rtl_433", feed=printed(second, at(3, 6)).encode()).said)
+    walk.write("day3.rx", walk.run("line_feed", "rtl_433", feed=printed(second, at(3, 6)).encode()).out)
 
 
 def a_second_key(walk: Walk) -> None:
     """A message under the second key is refused until the line `K` gives it; the fragment of the morning ends the message of the evening."""
     said = printed(heat(11, SECOND_KEY, key_id=1), at(3, 7))
-    lines = walk.run("line_feed", "rtl_433", feed=said.encode()).said
+    lines = walk.run("line_feed", "rtl_433", feed=said.encode()).out
     walk.add("day3.rx", lines + f"K {HEAT} {SECOND_KEY}\n".encode() + lines)
     report = walk.session("continue", "state2", "state3", "readings.json", "day3.rx", "day3.tx")
     equal("the third day", [stored(10, at(3, 6)), "refused mac", "rekeyed", stored(11, at(3, 7))], steps_of(report, HEAT))
@@ -175,7 +175,7 @@ def a_second_key(walk: Walk) -> None:
 def a_command_is_sent(walk: Walk) -> None:
     """A command is queued, and sent after a message behind which the meter listens; the meter executes it."""
     walk.write("day4.rx", f"Q {HEAT} {COMMAND}\n")
-    walk.add("day4.rx", walk.run("line_feed", "rtl_433", feed=printed(heat(12, access=LISTENS), at(4, 6)).encode()).said)
+    walk.add("day4.rx", walk.run("line_feed", "rtl_433", feed=printed(heat(12, access=LISTENS), at(4, 6)).encode()).out)
     report = walk.session("continue", "state3", "state4", "readings.json", "day4.rx", "day4.tx")
     equal("the fourth day", ["queued 1", stored(12, at(4, 6), " sent 1")], steps_of(report, HEAT))
     frame = format_a(downlink(bytes.fromhex(OWN), bytes.fromhex(HEAT_KEY), bytes.fromhex(HEAT), 1, bytes.fromhex(COMMAND)))
@@ -190,7 +190,7 @@ def a_command_is_sent(walk: Walk) -> None:
 
 def and_confirmed(walk: Walk) -> None:
     """The response of the next day confirms it, and nothing waits any more."""
-    walk.write("day5.rx", walk.run("line_feed", "rtl_433", feed=printed(heat(13, control=RESPONSE), at(5, 6)).encode()).said)
+    walk.write("day5.rx", walk.run("line_feed", "rtl_433", feed=printed(heat(13, control=RESPONSE), at(5, 6)).encode()).out)
     report = walk.session("continue", "state4", "state5", "readings.json", "day5.rx", "day5.tx")
     equal("the fifth day", [stored(13, at(5, 6), " confirmed 1")], steps_of(report, HEAT))
     true("a command still waits", "pending" not in report and "waits" not in walk.text("state5"))

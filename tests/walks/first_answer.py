@@ -4,8 +4,8 @@ The telegram is the gas meter's of OMS Volume 2, annex N, with its key; its valu
 import json
 import re
 import shlex
-import subprocess
 
+import running
 from fresh import copy_into
 from reference.roster import RosterFault, read_roster
 from walks.steps import PROGRAMS, Walk, Wrong, documented, equal, true, what_to_do
@@ -32,24 +32,24 @@ MISTAKES = [
 ]
 
 
-def in_clone(walk: Walk, *words: str, status: int = 0, feed: bytes = b"") -> subprocess.CompletedProcess:
+def in_clone(walk: Walk, *words: str, status: int = 0, feed: bytes = b"") -> running.Ran:
     """A command as it is typed in the clone."""
-    ran = subprocess.run(words, cwd=walk.path("clone"), input=feed, capture_output=True, timeout=60, check=False)
-    if ran.returncode != status or b"Traceback" in ran.stderr:
-        raise Wrong(f"{shlex.join(words)}: wanted status {status}, got {ran.returncode}: {ran.stderr.decode()!r:.300}")
+    ran = running.run(words, feed, cwd=walk.path("clone"))
+    if ran.status != status or b"Traceback" in ran.err:
+        raise Wrong(f"{shlex.join(words)}: wanted status {status}, got {ran.status}: {ran.told!r:.300}")
     return ran
 
 
 def unpacked(walk: Walk, name: str) -> str:
     """The path of a program of the clone, for many starts."""
-    return walk.stand_ins.get(name) or in_clone(walk, "tools/start", "--where", name).stdout.decode().strip()
+    return walk.stand_ins.get(name) or in_clone(walk, "bin/start", "--where", name).text.strip()
 
 
 def refused(walk: Walk, status: int, told: str, *words: str) -> None:
     """A command that ends with this status and says this, of which docs/FORMATS.md says what to do."""
     ran = in_clone(walk, *words, status=status)
-    equal(f"{shlex.join(words)}: the standard error", told, ran.stderr.decode())
-    equal(f"{shlex.join(words)}: the standard output", b"", ran.stdout)
+    equal(f"{shlex.join(words)}: the standard error", told, ran.told)
+    equal(f"{shlex.join(words)}: the standard output", b"", ran.out)
     what_to_do("Exit statuses", told)
 
 
@@ -57,7 +57,7 @@ def a_fresh_clone(walk: Walk) -> None:
     """The clone, in which stand-ins lie where the programs do."""
     copy_into(str(walk.path("clone")))
     for name, file in walk.stand_ins.items():
-        script = walk.path(f"clone/tools/{name}")
+        script = walk.path(f"clone/bin/{name}")
         script.unlink()
         script.symlink_to(file)
 
@@ -67,7 +67,7 @@ def the_two_commands_of_the_readme(walk: Walk) -> None:
     first, second = re.findall(r"^```sh(?: root)?\n(.*?)^```$", walk.text("clone/README.md"), re.M | re.S)[:2]
     true(f"README's first command is another one: {first}", first.startswith("sudo apt-get install -y python3 "))
     walk.say("README's first command, since it installs packages")
-    report = in_clone(walk, "bash", "-c", second).stdout.decode()
+    report = in_clone(walk, "bash", "-c", second).text
     records = [line.split(" ") for line in report.splitlines() if line.startswith("record ")]
     equal("what the gas meter says", [["volume", "m3", "-2", "2850427"], ["datetime", "-", "0", "2008-05-31T23:50"], ["errorflags", "-", "0", "0"]],
           [[*fields[5:8], fields[9]] for fields in records])
@@ -76,24 +76,24 @@ def the_two_commands_of_the_readme(walk: Walk) -> None:
 def each_help_and_its_statuses(walk: Walk) -> None:
     """Each program's help names the statuses that docs/FORMATS.md gives it, and no other."""
     for name in PROGRAMS:
-        text = in_clone(walk, f"tools/{name}", "--help").stdout.decode()
+        text = in_clone(walk, f"bin/{name}", "--help").text
         named = {int(it) for it in re.findall(r"(?<![\d,.])(\d{1,2})\s(?!bits)(?:[a-z]|FILE |NEXT not)", text[text.index("exit status:"):])}
         equal(f"the statuses of {name} --help and those of docs/FORMATS.md", sorted(documented(name)), sorted(named))
 
 
 def what_is_typed_wrongly(walk: Walk) -> None:
     """Words that ask for nothing, files that aren't there, folders in their place."""
-    refused(walk, 2, "wmbus: words\n", "tools/wmbus")
-    refused(walk, 2, "wmbus: words\n", "tools/wmbus", "listen", "examples/gas.roster", "examples/gas.rx")
-    refused(walk, 2, "wmbus: words\n", "tools/wmbus", "hear", "examples/gas.roster")
-    refused(walk, 11, "wmbus: cannot open examples/gaz.roster\n", "tools/wmbus", "hear", "examples/gaz.roster", "examples/gas.rx")
-    refused(walk, 11, "wmbus: cannot open examples/gas.xr\n", "tools/wmbus", "hear", "examples/gas.roster", "examples/gas.xr")
-    refused(walk, 4, "wmbus: cannot read the roster\n", "tools/wmbus", "hear", "examples", "examples/gas.rx")
-    refused(walk, 2, "meter_name: the maker isn't three capital letters\n", "tools/meter_name", "els", "12345678", "33", "03")
-    folder = in_clone(walk, "tools/wmbus", "hear", "examples/gas.roster", "examples", status=5)
-    equal("a folder for what was heard", b"wmbus: cannot read receiver 1\n", folder.stderr)
-    what_to_do("Exit statuses", folder.stderr.decode())
-    true("a folder for what was heard: its end in the report", b"\nmeter " in folder.stdout and b" readfault\n" in folder.stdout)
+    refused(walk, 2, "wmbus: words\n", "bin/wmbus")
+    refused(walk, 2, "wmbus: words\n", "bin/wmbus", "listen", "examples/gas.roster", "examples/gas.rx")
+    refused(walk, 2, "wmbus: words\n", "bin/wmbus", "hear", "examples/gas.roster")
+    refused(walk, 11, "wmbus: cannot open examples/gaz.roster\n", "bin/wmbus", "hear", "examples/gaz.roster", "examples/gas.rx")
+    refused(walk, 11, "wmbus: cannot open examples/gas.xr\n", "bin/wmbus", "hear", "examples/gas.roster", "examples/gas.xr")
+    refused(walk, 4, "wmbus: cannot read the roster\n", "bin/wmbus", "hear", "examples", "examples/gas.rx")
+    refused(walk, 2, "meter_name: the maker isn't three capital letters\n", "bin/meter_name", "els", "12345678", "33", "03")
+    folder = in_clone(walk, "bin/wmbus", "hear", "examples/gas.roster", "examples", status=5)
+    equal("a folder for what was heard", b"wmbus: cannot read receiver 1\n", folder.err)
+    what_to_do("Exit statuses", folder.told)
+    true("a folder for what was heard: its end in the report", b"\nmeter " in folder.out and b" readfault\n" in folder.out)
     what_to_do("Report", "readfault")
 
 
@@ -104,19 +104,19 @@ def a_telegram_of_their_own(walk: Walk) -> None:
     def run(*words: str, feed: bytes = b"") -> str:
         nonlocal typed
         typed += 1
-        return in_clone(walk, *words, feed=feed).stdout.decode()
+        return in_clone(walk, *words, feed=feed).text
 
-    walk.write("clone/own.rx", run("tools/line_feed", "hex", feed=f"{TELEGRAM}\n".encode()))
-    true("frame_inspect shows security mode 5", run("tools/frame_inspect", "own.rx", "1").startswith("1 A 47 44 9315785634123303 ELS tpl 7a 42 00 5 2"))
-    address = run("tools/meter_name", *LABEL.split(" ")).strip()
+    walk.write("clone/own.rx", run("bin/line_feed", "hex", feed=f"{TELEGRAM}\n".encode()))
+    true("frame_inspect shows security mode 5", run("bin/frame_inspect", "own.rx", "1").startswith("1 A 47 44 9315785634123303 ELS tpl 7a 42 00 5 2"))
+    address = run("bin/meter_name", *LABEL.split(" ")).strip()
     walk.write("clone/own.roster", ROSTER.replace("ADDRESS", address))
-    equal("input_check of the roster and the line", "", run("tools/input_check", "own.roster", "own.rx"))
-    walk.write("clone/own.report", run("tools/wmbus", "collect", "own.roster", "own.next", "own.json", "own.rx", "own.tx"))
-    listed = [json.loads(line) for line in run("tools/reading_list", "own.report").splitlines()]
+    equal("input_check of the roster and the line", "", run("bin/input_check", "own.roster", "own.rx"))
+    walk.write("clone/own.report", run("bin/wmbus", "collect", "own.roster", "own.next", "own.json", "own.rx", "own.tx"))
+    listed = [json.loads(line) for line in run("bin/reading_list", "own.report").splitlines()]
     equal("the readings", VALUES, {it["quantity"]: (it["value"], it["unit"]) for it in listed})
     equal("their meter", {LABEL}, {it["label"] for it in listed})
-    run("tools/keep_readings", "own.db", "own.report")
-    run("tools/report_page", "own.db", "own.html")
+    run("bin/keep_readings", "own.db", "own.report")
+    run("bin/report_page", "own.db", "own.html")
     true("the page has the meter", LABEL in walk.text("clone/own.html"))
     true(f"{typed} commands up to the page, where {MOST_COMMANDS} are enough", typed <= MOST_COMMANDS)
 
@@ -138,10 +138,10 @@ def a_mistake_in_each_field(walk: Walk) -> None:
         walk.write("clone/wrong.roster", wrong)
         refused(walk, 3, f"wmbus: roster line {line} {cause}\n", wmbus, "hear", "wrong.roster", "own.rx")
         true(f"{cause}: docs/FORMATS.md says what to do", what_to_do("Roster", cause))
-        found = in_clone(walk, input_check, "wrong.roster", status=1).stdout.decode()
+        found = in_clone(walk, input_check, "wrong.roster", status=1).text
         true(f"{typed!r}: input_check names line {line}: {found}", found.startswith(f"roster line {line}: "))
     walk.write("clone/wrong.roster", right)
-    true("the roster is mended", in_clone(walk, wmbus, "hear", "wrong.roster", "own.rx").stdout.decode() == walk.text("clone/own.report"))
+    true("the roster is mended", in_clone(walk, wmbus, "hear", "wrong.roster", "own.rx").text == walk.text("clone/own.report"))
 
 
 STEPS = [a_fresh_clone, the_two_commands_of_the_readme, each_help_and_its_statuses, what_is_typed_wrongly,

@@ -12,6 +12,7 @@ import sqlite3
 import subprocess
 from collections.abc import Callable
 
+import running
 from frames import format_a
 from messages import whole
 from reference.roster import RosterFault
@@ -124,7 +125,7 @@ def refused_state(walk: Walk, text: bytes) -> bool:
         read_state(text)
     except RosterFault as fault:
         ran = walk.run("wmbus", "continue", "hurt", "next", "readings", "rx", "tx", status=3, told=f"wmbus: {fault}\n")
-        equal("the report behind a faulty state", b"", ran.said)
+        equal("the report behind a faulty state", b"", ran.out)
         equal("the outputs behind a faulty state", [b""] * 3, [walk.read(name) for name in ("next", "readings", "tx")])
         what_to_do("The state" if "state line" in str(fault) else "Roster", str(fault).split(" ")[-1])
         return True
@@ -156,7 +157,7 @@ def too_many_meters(walk: Walk) -> None:
     walk.write("site/state", many)
     walk.write("site/rx/roof.1", walk.read("rx"))
     ran = walk.run("sessions", "--program", walk.program("wmbus"), "site", status=3)
-    true(f"what tools/sessions says: {ran.told}", "wmbus: roster line 4099 toomany\n" in ran.told and "nothing of it counts" in ran.told)
+    true(f"what bin/sessions says: {ran.told}", "wmbus: roster line 4099 toomany\n" in ran.told and "nothing of it counts" in ran.told)
     equal("the reports of the folder", [], os.listdir(walk.path("site/reports")))
     equal("the folder's state", many.splitlines(), walk.text("site/state").splitlines())
     equal("the folder's file", walk.read("rx"), walk.read("site/rx/roof.1"))
@@ -167,8 +168,8 @@ def another_programs_files(walk: Walk) -> None:
     walk.run("keep_readings", "kept.db", "report", told="")
     walk.run("report_page", "kept.db", "page.html", told="")
     database, page = walk.read("kept.db"), walk.read("page.html")
-    walk.write("listed", walk.run("reading_list", "report").said)
-    walk.write("inspected", walk.run("frame_inspect", "rx", "1").said)
+    walk.write("listed", walk.run("reading_list", "report").out)
+    walk.write("inspected", walk.run("frame_inspect", "rx", "1").out)
     walk.write("twice", walk.read("report") * 2)
     walk.write("half", walk.read("report")[:-40])
     for name, words in (("listed", "this is no report"), ("inspected", "this is no report"), ("state", "this is no report"),
@@ -277,7 +278,7 @@ def a_full_disk(walk: Walk) -> None:
         equal("the page on a full disk", [], [name for name in os.listdir(disk) if "page" in name])
         for _ in range(2):
             ran = walk.tried("sessions", "--program", walk.program("wmbus"), "disk/site")
-            true(f"tools/sessions on a full disk ends with {ran.status} and says {ran.told!r}", ran.status)
+            true(f"bin/sessions on a full disk ends with {ran.status} and says {ran.told!r}", ran.status)
             equal("the state on a full disk", walk.text("state"), walk.text("disk/site/state"))
         os.unlink(disk / "filler")
         equal("the database behind a full disk", "ok", integrity(walk, "disk/kept.db"))
@@ -300,7 +301,7 @@ def little_memory(walk: Walk) -> None:
         ran = walk.tried("wmbus", "collect", "many", "next", "readings", "much", "tx", before=limited(resource.RLIMIT_AS, most << 20))
         found.add(ran.status)
         if ran.status == 10:
-            equal(f"outputs of {most} MiB", ("wmbus: no memory\n", b"", b"", b""), (ran.told, ran.said, walk.read("next"), walk.read("readings")))
+            equal(f"outputs of {most} MiB", ("wmbus: no memory\n", b"", b"", b""), (ran.told, ran.out, walk.read("next"), walk.read("readings")))
             continue
         true(f"{most} MiB: status {ran.status}", ran.status == 0)
         true(f"{most} MiB: the report isn't whole", ran.text.endswith("\nend\n"))
@@ -320,10 +321,10 @@ def few_files(walk: Walk) -> None:
             what_to_do("Exit statuses", ran.told)
     equal("the statuses", {0, 11}, found)
     for most in (8, 16, 31):
-        ran = subprocess.run([TOP / "tools" / "meter_name", METER], capture_output=True, text=True, check=False,
-                             env=walk.environment() | {"PATH": "/usr/bin:/bin"}, preexec_fn=limited(resource.RLIMIT_NOFILE, most))
-        told = "tools/meter_name: fewer than 32 files may be open at once (ulimit -n)\n"
-        equal(f"tools/meter_name with {most} files", (125, told), (ran.returncode, ran.stderr))
+        ran = running.run([TOP / "bin" / "meter_name", METER], env=walk.environment() | {"PATH": "/usr/bin:/bin"},
+                          preexec_fn=limited(resource.RLIMIT_NOFILE, most))
+        told = "bin/meter_name: fewer than 32 files may be open at once (ulimit -n)\n"
+        equal(f"bin/meter_name with {most} files", (125, told), (ran.status, ran.told))
     for most in range(7, 16, 2):
         place = f"site.{most}"
         a_site(walk, place)

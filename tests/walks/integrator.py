@@ -1,6 +1,6 @@
 """An integrator: two receivers over pipes, the readings as JSON, a chain of sessions, rounds over a folder, audits, lists, totals, statuses.
 
-The sessions are made (tools/made_sessions.py), with a meter beside them that is sent a command while the lines come. What they have to give
+The sessions are made (tests/checks/made_sessions.py), with a meter beside them that is sent a command while the lines come. What they have to give
 is that of the second implementation, or known from the payloads: each says its counter as a volume in litres."""
 import json
 import os
@@ -14,6 +14,7 @@ import cuts
 import made_sessions
 import outputs
 import replay
+import running
 from frames import format_a
 from messages import downlink, whole
 from reference.states import read_state
@@ -97,10 +98,10 @@ def the_readings_as_json(walk: Walk) -> None:
         walk.say("jq isn't there")
         return
     asked = ".meters[] | .address as $a | .records[] | [$a, .quantity, .value, (.exponent | tostring), .unit] | @tsv"
-    rows = subprocess.run(["jq", "-r", asked, "readings.json"], cwd=walk.folder, stdout=subprocess.PIPE, text=True, check=True).stdout
+    rows = running.run(["jq", "-r", asked, "readings.json"], cwd=walk.folder)
     wanted = [[it["address"], record["quantity"], record["value"], str(record["exponent"]), record["unit"]]
               for it in read["meters"] for record in it["records"]]
-    equal("what jq reads", wanted, [line.split("\t") for line in rows.splitlines()])
+    equal("what jq reads", wanted, [line.split("\t") for line in rows.lines])
 
 
 def next_fed_back_ten_times(walk: Walk) -> None:
@@ -122,7 +123,7 @@ def next_fed_back_ten_times(walk: Walk) -> None:
 
 
 def rounds_over_a_folder(walk: Walk) -> None:
-    """tools/sessions over two receivers' files, in two rounds; of each its state is put aside. At first others can read it, which is said."""
+    """bin/sessions over two receivers' files, in two rounds; of each its state is put aside. At first others can read it, which is said."""
     walk.path("site/rx").mkdir(parents=True)
     shutil.copy(walk.path("roster"), walk.path("site/state"))
     walk.path("site/state").chmod(0o644)

@@ -7,12 +7,12 @@ import re
 import subprocess
 import sys
 from collections.abc import Callable
-from dataclasses import dataclass
 from pathlib import Path
 
-import programs
-from explained import Row, explained_rows
+import running
 from judging import content, text_of
+from readings import programs
+from readings.explained import Row, explained_rows
 from reference import judge
 
 TOP = Path(programs.TOP)
@@ -22,32 +22,13 @@ COPIES = {"line_merge"}
 PROGRAMS = ("address_list", "audit_check", "frame_inspect", "input_check", "line_accept", "line_feed", "line_merge", "meter_name", "meter_side", "reading_list",
             "state_merge", "state_raise", "usage_totals", "wmbus")
 SCRIPTS = ("keep_readings", "report_page", "sessions")
-# the statuses that the scripts' own --help names; tools/sessions ends with those of wmbus too
+# the statuses that the scripts' own --help names; bin/sessions ends with those of wmbus too
 OF_SCRIPTS = {"keep_readings": {0, 1, 2}, "report_page": {0, 1, 2}, "sessions": {0, 1, 2, 9}}
 MOST_SECONDS = 60
 
 
 class Wrong(Exception):
     """What of a step isn't as it has to be."""
-
-
-@dataclass
-class Ran:
-    """How a program ended: its status, and what it printed."""
-
-    status: int
-    said: bytes
-    told: str
-
-    @property
-    def text(self) -> str:
-        """The standard output as text; bytes that are none stand for themselves."""
-        return self.said.decode("utf-8", "surrogateescape")
-
-    @property
-    def lines(self) -> list[str]:
-        """The lines of the standard output."""
-        return self.text.splitlines()
 
 
 def equal(what: str, wanted: object, given: object) -> None:
@@ -110,7 +91,7 @@ class Walk:
         """The path of a program or a script."""
         if name in self.stand_ins:
             return self.stand_ins[name]
-        return ready(name) if name in PROGRAMS else str(TOP / "tools" / name)
+        return ready(name) if name in PROGRAMS else str(TOP / "bin" / name)
 
     def command(self, name: str) -> list[str]:
         """The words that start a program, or a script by the Python that runs here."""
@@ -148,28 +129,26 @@ class Walk:
         return kept | {"READING_LIST": self.program("reading_list")}
 
     def tried(self, name: str, *words: str, feed: bytes = b"", output: int = subprocess.PIPE,
-              before: Callable[[], object] | None = None) -> Ran:
+              before: Callable[[], object] | None = None) -> running.Ran:
         """Runs a program, and looks at what holds of every run: a documented status, words on the standard error, no traceback and no key."""
         asked = [*self.command(name), *words]
         told = f"{name} {' '.join(words)}"
         try:
-            done = subprocess.run(asked, cwd=self.folder, input=feed, stdout=output, stderr=subprocess.PIPE,
-                                  timeout=MOST_SECONDS, check=False, preexec_fn=before, env=self.environment())
-        except subprocess.TimeoutExpired:
+            ran = running.run(asked, feed, MOST_SECONDS, cwd=self.folder, stdout=output, preexec_fn=before, env=self.environment())
+        except running.TooLong:
             raise Wrong(f"{told}: it hasn't ended after {MOST_SECONDS} s") from None
-        ran = Ran(done.returncode, done.stdout or b"", done.stderr.decode("utf-8", "surrogateescape"))
         if ran.status not in documented(name):
             raise Wrong(f"{told}: status {ran.status} isn't documented; it said {ran.told:.300}")
         if "Traceback" in ran.told or "Exception" in ran.told:
             raise Wrong(f"{told}: a traceback: {ran.told[-300:]}")
-        if ran.status and not re.search(rf"^(?:tools/)?{name}: .", ran.told, re.M):
+        if ran.status and not re.search(rf"^(?:bin/)?{name}: .", ran.told, re.M):
             raise Wrong(f"{told}: status {ran.status} without a word on the standard error: {ran.told:.300}")
         shown = (ran.text + ran.told).lower()
         if name not in COPIES and any(key in shown for key in self.keys):
             raise Wrong(f"{told}: a key is printed")
         return ran
 
-    def run(self, name: str, *words: str, status: int = 0, told: str | None = None, **how: object) -> Ran:
+    def run(self, name: str, *words: str, status: int = 0, told: str | None = None, **how: object) -> running.Ran:
         """Runs a program that has to end with this status, and to say this on the standard error."""
         ran = self.tried(name, *words, **how)
         if ran.status != status:
@@ -180,7 +159,9 @@ class Walk:
 
     def stick(self, name: str, *words: str) -> bytes:
         """What the stand-in of a radio receiver prints."""
-        return subprocess.run([TOP / "tests" / "stand_ins" / name, *words], stdout=subprocess.PIPE, timeout=MOST_SECONDS, check=True).stdout
+        ran = running.run([TOP / "tests" / "stand_ins" / name, *words])
+        equal(f"the status of the stand-in {name}", 0, ran.status)
+        return ran.out
 
     def session(self, *words: str) -> str:
         """A session of `hear`, `collect` or `continue` that ends with status 0 and is what the second implementation says of it; its report."""

@@ -33,8 +33,8 @@ fn hints_are_given(rt: HostRuntime) -> Result<(), Fail> {
     assert!(rt; says(&keys, other.0, Hint::SharedKey(gas)));
     assert!(rt; says(&keys, 0x9315_0000_0099_3307, Hint::EqualBytes));
     let stranger = Address(0x2d2c_0000_5051_1b16);
-    let mut heard = vec![in rt.alloc(); stranger, gas, stranger, stranger]?;
-    let notes = hearing_notes(rt.alloc(), &meters, &mut heard)?;
+    let heard = vec![in rt.alloc(); stranger, gas, stranger, stranger]?;
+    let notes = hearing_notes(rt.alloc(), &meters, &heard)?;
     assert_eq!(rt; notes.len(), 3);
     assert!(rt; says(&notes, other.0, Hint::Turned(gas)));
     assert!(rt; says(&notes, 0x9315_0000_0099_3307, Hint::Unheard));
