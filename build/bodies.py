@@ -128,21 +128,21 @@ def stated(path, text):
 
 @functools.cache
 def sum_of_statements(crate):
-    """A sum of what the crates above a crate see of it: its definitions, its lemmas, and its sources without bodies."""
+    """A sum of what the crates above a crate see of it and can be held to: its definitions, and its sources without bodies."""
     folder, total = f"{TOP}/crates/{crate}", hashlib.sha256()
     for path in files_below(f"{folder}/src"):
         inside = os.path.relpath(path, folder)
         total.update(f"{inside}\n{stated(inside, read(path))}".encode())
-    lemmas = [it for it in files_below(f"{folder}/proofs") if os.path.dirname(it) == f"{folder}/proofs"]
-    for path in [*files_below(f"{folder}/specs"), *lemmas]:
+    for path in files_below(f"{folder}/specs"):
         total.update(f"{os.path.relpath(path, folder)}\n{read(path)}".encode())
     return total.hexdigest()
 
 
 def sum_of_trial(crate):
-    """A sum of all that a trial of a crate's bodies rests on: its files, the bodies, and the statements of the crates below."""
+    """A sum of all that says whether a crate's bodies are wrong: its sources and definitions, the bodies, and the statements of the crates below. Proofs are none of it:
+    where a body breaks a contract no proof can help it."""
     folder, total = f"{TOP}/crates/{crate}", hashlib.sha256(f"{toolchain()} {known_crates()[crate]}\n".encode())
-    for part in (*PARTS, "must-fail"):
+    for part in ("src", "specs", "must-fail"):
         for path in files_below(f"{folder}/{part}"):
             total.update(f"{os.path.relpath(path, folder)}\n{read(path)}".encode())
     for name in below(crate):
