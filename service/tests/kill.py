@@ -36,6 +36,8 @@ RECEIVERS = ("cellar", "roof")
 # a folder in memory, where there is one with room for a trial
 MEMORY = "/dev/shm" if os.access("/dev/shm", os.W_OK) and shutil.disk_usage("/dev/shm").free > 256 << 20 else None
 TICK = 0.4
+# for so many seconds it is waited that a service in a wrong order dies
+DYING = 240.0
 
 
 @functools.cache
@@ -105,11 +107,9 @@ class Plan:
     rounds: int = 12
     seconds: float = 10.0
     chance: float = 0.02
-    # a backlog's trial ends behind so many
+    # a backlog's trial ends behind so many; one of a wrong order has so many, however long they take
     deaths: int = 2
-    ticks: int = 0
     wrong: str = ""
-    place: str = ""
     is_live: bool = True
     has_broker: bool = True
 
@@ -169,7 +169,7 @@ class Trial:
         """Starts the service."""
         likely, deaths = self.plan.chance if chance is None else chance, str(self.folder / "deaths")
         self.service = Child(self.folder / "log",
-                             lambda: killed_service.run(self.config, likely, deaths, self.plan.wrong, self.plan.place))
+                             lambda: killed_service.run(self.config, likely, deaths, self.plan.wrong))
 
     def start_receiver(self, name: str) -> None:
         """Starts a receiver."""
@@ -201,7 +201,7 @@ class Trial:
         with closing(open_store(self.config.database)) as database:
             query = "select id, state from command where state in ('waiting', 'queued', 'sent') and kind = 'send'"
             for ident, state in database.execute(query).fetchall():
-                if self.draw.random() < (0.9 if is_down and state == "waiting" else 0.1):
+                if self.draw.random() < ((1.0 if self.plan.wrong else 0.9) if is_down and state == "waiting" else 0.1):
                     cancel_command(database, ident, now)
             for meter in self.draw.sample(self.meters, len(self.meters) // (1 if is_down else 4)):
                 self.commands += 1
@@ -228,7 +228,7 @@ class Trial:
             self.start_receiver(name)
         limit = time.monotonic() + 6 * self.plan.seconds
         self.start_service()
-        while time.monotonic() < limit and not self._is_fed():
+        while time.monotonic() < limit and not (self._is_fed() and self.deaths):
             time.sleep(self.draw.uniform(0.05, 0.5))
             self._turn()
             if self.service and self.draw.random() < 0.25:
@@ -265,8 +265,8 @@ class Trial:
         self.keep_links()
         self.operate(True)
         self.start_service()
-        limit = time.monotonic() + self.plan.seconds
-        while time.monotonic() < limit and (self.deaths < self.plan.deaths or self._ticks() < self.plan.ticks or self._left()):
+        limit = time.monotonic() + (DYING if self.plan.wrong else self.plan.seconds)
+        while time.monotonic() < limit and (self.deaths < self.plan.deaths or not self.plan.wrong and self._left()):
             time.sleep(0.02)
             if self.service is None or not self.service.is_running():
                 self._turn()
@@ -319,6 +319,7 @@ class Trial:
                     for line in (self.folder / f"{name}.sent").read_text().splitlines()]
             found += judged.radio_faults(database, sent) + judged.twice_ticked(database)
             if self.listener:
+                self.listener.hear_all()
                 found += judged.message_faults(database, self.listener.heard, "wmbus")
             return found + self._reading_faults(database) + self._keys_told()
 

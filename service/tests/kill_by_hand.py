@@ -1,4 +1,4 @@
-"""The kill tests for longer, by hand: kill_by_hand.py [SECONDS [SEED [WRONG PLACE]]]"""
+"""The kill tests for longer, by hand: kill_by_hand.py [SECONDS [SEED [WRONG]]]"""
 from __future__ import annotations
 
 import sys
@@ -9,6 +9,7 @@ TOP = Path(__file__).resolve().parents[2]
 sys.path[:0] = [str(TOP / "service"), str(TOP), str(TOP / "tests"), str(TOP / "tests/checks")]
 
 from tests import kill  # noqa: E402
+from tests.killed_service import WRONG  # noqa: E402
 
 
 def main() -> int:
@@ -16,8 +17,8 @@ def main() -> int:
     seconds, seed, *rest = [*sys.argv[1:], *["20", "1"][len(sys.argv[1:]):]]
     plan = kill.Plan(rounds=max(1, int(float(seconds) * 4)), seconds=float(seconds))
     if rest:
-        plan = kill.Plan(rounds=6, seconds=float(seconds), chance=0.3, wrong=rest[0], place=rest[1], is_live=False,
-                         has_broker="publish" in rest[1])
+        plan = kill.Plan(rounds=6, seconds=float(seconds), chance=1.0, deaths=3, wrong=rest[0], is_live=False,
+                         has_broker="publish" in WRONG[rest[0]].place)
     with tempfile.TemporaryDirectory(dir=kill.MEMORY) as folder:
         trial = kill.Trial(Path(folder), plan, int(seed))
         found = trial.run()

@@ -7,6 +7,7 @@ import random
 import signal
 import sqlite3
 from collections.abc import Callable
+from dataclasses import dataclass
 from typing import Any
 
 from wmbus_service import broker, downlinks, events, service, session, spool, store, writing
@@ -27,14 +28,14 @@ MOST, AT_ONCE = 20, 5
 
 
 class Dying:
-    """Ends the process by chance."""
+    """Ends the process by chance; at one place alone where one is named, and there where a death tells something of what the step got."""
 
-    def __init__(self, chance: float, log: str, only: str) -> None:
-        self.chance, self.log, self.only, self.draw = chance, log, only, random.Random()
+    def __init__(self, chance: float, log: str, only: str = "", tells: Callable[..., object] = lambda *_: True) -> None:
+        self.chance, self.log, self.only, self.tells, self.draw = chance, log, only, tells, random.Random()
 
-    def at(self, place: str) -> None:
+    def at(self, place: str, *words: Any) -> None:
         """Dies here, by chance."""
-        if (not self.only or place == self.only) and self.draw.random() < self.chance:
+        if (not self.only or place == self.only) and self.draw.random() < self.chance and self.tells(*words):
             with open(self.log, "a", encoding="ascii") as file:
                 file.write(f"{place}\n")
             os.kill(os.getpid(), signal.SIGKILL)
@@ -44,9 +45,9 @@ class Dying:
         step: Callable[..., Any] = getattr(owner, name)
 
         def tried(*words: Any, **named: Any) -> Any:
-            self.at(f"before {name}")
+            self.at(f"before {name}", *words)
             done = step(*words, **named)
-            self.at(f"behind {name}")
+            self.at(f"behind {name}", *words)
             return done
         setattr(owner, name, tried)
 
@@ -114,21 +115,46 @@ def ticks_apart() -> None:
     store.commit = committed
 
 
-WRONG: dict[str, Callable[[], None]] = {
-    "place first": place_first, "downlinks first": downlinks_first, "no fence": no_fence, "marked first": marked_first,
-    "ticks apart": ticks_apart,
+def has(query: str) -> Callable[[sqlite3.Connection], bool]:
+    """Whether the database has such a row."""
+    return lambda database, *_: database.execute(f"select exists ({query})").fetchone()[0] == 1
+
+
+@dataclass(frozen=True)
+class Wrong:
+    """A wrong order: how it is worked in, where the service dies then, each time that the step's words make the death tell of it, and what
+    is to be seen of it."""
+
+    work_in: Callable[[], None]
+    place: str
+    tells: Callable[..., object]
+    sign: str
+
+
+WRONG: dict[str, Wrong] = {
+    # (the lines that are given to the session are lost with it)
+    "place first": Wrong(place_first, "before run_steps", lambda _program, _state, lines: any(it.startswith("A ") for it in lines),
+                         "lines of"),
+    "downlinks first": Wrong(downlinks_first, "before commit", has("select 1 from outbox where sent is null"), "downlinks: "),
+    "no fence": Wrong(no_fence, "behind commit", has("select 1 from line where receiver is not null"), "doubled"),
+    "marked first": Wrong(marked_first, "before publish", lambda _client, rows: any("/meter/" in topic for _, topic, *_ in rows),
+                          "messages: "),
+    # (a tick was committed, and is due as before)
+    "ticks apart": Wrong(ticks_apart, "before put_due",
+                         has("select 1 from line join meter on line.text = 'T ' || meter.address and line.due = meter.due"), "ticks: "),
 }
 
 
-def run(config: Config, chance: float, deaths: str, wrong: str, place: str) -> None:
-    """Runs the service; it dies at one place alone, where one is named."""
-    dying = Dying(chance, deaths, place)
+def run(config: Config, chance: float, deaths: str, wrong: str) -> None:
+    """Runs the service, in a wrong order where one is named."""
+    told = WRONG.get(wrong)
+    dying = Dying(chance, deaths, told.place, told.tells) if told else Dying(chance, deaths)
     if not config.programs.steps:
         setattr(session, "run_steps", stand_in)
     for owner, name in PLACES:
         dying.around(owner, name)
-    if wrong:
-        WRONG[wrong]()
+    if told:
+        told.work_in()
     for owner, name, value in ((session, "MOST", MOST), (service, "MOST", MOST), (broker, "AT_ONCE", AT_ONCE)):
         setattr(owner, name, value)
     service.run(config)

@@ -6,12 +6,14 @@ import os
 import shutil
 import socket
 import subprocess
+import threading
 from contextlib import suppress
 from pathlib import Path
 
 from .processes import PATIENCE, put_down, until
 from .processes import free_port as free_port
 
+END = "the/listener/hears/all"
 PACKAGES = {"paho.mqtt": "python3-paho-mqtt", "prometheus_client": "python3-prometheus-client", "cryptography": "python3-cryptography"}
 
 
@@ -93,13 +95,22 @@ class Listener:
     def __init__(self, port: int, topics: list[str]) -> None:
         import paho.mqtt.client as mqtt
         self.heard: list[tuple[str, str, bool]] = []
+        self.ends, subscribed = 0, threading.Event()
         self.client = mqtt.Client(client_id="listener", clean_session=False)
-        self.client.on_connect = lambda client, *_: client.subscribe([(topic, 1) for topic in topics])
+        self.client.on_connect = lambda client, *_: client.subscribe([(topic, 1) for topic in [*topics, END]])
+        self.client.on_subscribe = lambda *_: subscribed.set()
         self.client.on_message = lambda _client, _data, message: self.heard.append((message.topic, message.payload.decode(),
                                                                                     bool(message.retain)))
         self.client.reconnect_delay_set(1, 1)
         self.client.connect("127.0.0.1", port)
         self.client.loop_start()
+        assert subscribed.wait(PATIENCE), "the broker doesn't answer"
+
+    def hear_all(self) -> None:
+        """Waits for all that the broker has taken by now: what comes to a client comes in its order."""
+        self.ends += 1
+        self.client.publish(END, str(self.ends), qos=1)
+        until(lambda: any(topic == END and text == str(self.ends) for topic, text, _ in self.heard))
 
     def end(self) -> None:
         """Ends it."""

@@ -12,18 +12,9 @@ import pytest
 
 from . import servers
 from .kill import MEMORY, Plan, Trial
+from .killed_service import WRONG
 
 SECONDS = float(os.environ.get("WMBUS_KILL_SECONDS", "20"))
-TRIES = 4
-# of each wrong order: where the service dies, and what is to be seen of it then
-WRONG = {
-    "place first": ("before run_steps", "lines of"),
-    "downlinks first": ("before commit", "downlinks: "),
-    "no fence": ("behind commit", "doubled"),
-    "marked first": ("before publish", "messages: "),
-    "ticks apart": ("before put_due", "ticks: "),
-}
-
 needs_broker = pytest.mark.skipif(servers.mosquitto() is None, reason="mosquitto isn't there")
 
 
@@ -53,14 +44,11 @@ def test_each_step() -> None:
 
 @pytest.mark.parametrize("wrong", WRONG)
 def test_wrong_order_is_found(wrong: str) -> None:
-    """Steps in a wrong order are found by the same trial."""
-    place, sign = WRONG[wrong]
-    if "publish" in place and servers.mosquitto() is None:
+    """Steps in a wrong order are found by the same trial, in which each death falls where it tells of the order. (So nothing is left to
+    chance: what waits at a death is cancelled, and other commands are put, and the frames of the session that is lost differ.)"""
+    has_broker = "publish" in WRONG[wrong].place
+    if has_broker and servers.mosquitto() is None:
         pytest.skip("mosquitto isn't there")
-    for seed in range(TRIES):
-        plan = Plan(rounds=6, seconds=6, chance=0.3, wrong=wrong, place=place, is_live=False, has_broker="publish" in place, ticks=6
-                    if wrong == "ticks apart" else 0)
-        _, found = tried(plan, seed)
-        if any(sign in it for it in found):
-            return
-    pytest.fail(f"{wrong}: {found}")
+    trial, found = tried(Plan(rounds=6, seconds=6, chance=1.0, deaths=3, wrong=wrong, is_live=False, has_broker=has_broker), 0)
+    assert trial.deaths >= 3
+    assert any(WRONG[wrong].sign in it for it in found), found

@@ -71,10 +71,10 @@ def radio_faults(database: Database, sent: list[str]) -> list[str]:
     return found + [f"downlinks: a counter with {len(it)} frames" for it in frames.values() if len(it) > 1]
 
 
-def armed_faults(database: Database, name: str, armed: dict[str, int]) -> list[str]:
-    """A gateway has of each meter the last downlink that is marked as sent to it."""
-    rows = database.execute("select address, max(down) from outbox where gateway = %s and sent is not null group by address", (name,))
-    lacking = [address for address, down in rows if armed.get(address, -1) < down]
+def armed_faults(database: Database, name: str, came: set[tuple[str, int]]) -> list[str]:
+    """A gateway got each downlink that is marked as sent to it."""
+    rows = database.execute("select address, down from outbox where gateway = %s and sent is not null", (name,)).fetchall()
+    lacking = {(address, down) for address, down in rows} - came
     return [f"downlinks: {len(lacking)} are marked and never came to {name}"] if lacking else []
 
 

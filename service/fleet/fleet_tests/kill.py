@@ -18,12 +18,13 @@ from tests.kill import Child, program, steps_words
 from tests.meters import OWN, line_of, next_telegrams, roster_of, some_meters
 from wmbus_fleet import broker, commands, store
 from wmbus_fleet.config import Config, Gateway, Programs, Ticks
+from wmbus_fleet.messages import Down, down_body
 from wmbus_service.config import Config as ServiceConfig
 from wmbus_service.config import Receiver
 from wmbus_service.store import prepare_folder
 
 from . import judged_fleet, killed_fleet
-from .killed_fleet import Part
+from .killed_fleet import Part, Wrong
 from .servers import MEMORY, Both
 
 # each place at which a process may die
@@ -33,8 +34,10 @@ RADIO, EACH = "radio", "each"
 FILE, PATIENCE = 60, 60
 # seconds for which a process that is thought dead stands still; so many digits are no accident
 FROZEN, SHORTEST = 0.7, 10
-# seconds for which it is waited that the broker has something
-HELD = 2
+# seconds for which it is waited that the broker has something, and that processes in a wrong order die
+HELD, DYING = 2, 240
+# a meter that there isn't
+NOBODY = "0" * 16
 
 
 @dataclass(frozen=True)
@@ -47,8 +50,10 @@ class Plan:
     seconds: float = 10.0
     chance: float = 0.004
     window: float = 2.0
-    wrong: str = ""
-    # where a kind of process dies alone; or that each process dies at the next place of its kind, whenever it is started
+    # a wrong order, in which processes die so often, however long it takes
+    wrong: Wrong | None = None
+    deaths: int = 4
+    # that each process dies at the next place of its kind, whenever it is started
     place: str = ""
     # how often each server is killed, and the queues are emptied
     rabbit: int = 0
@@ -88,10 +93,11 @@ class Station:
     def _opened(self) -> closing[sqlite3.Connection]:
         return closing(sqlite3.connect(self.service.folder / f"gateway.{self.told.name}.db", timeout=10))
 
-    def armed(self) -> dict[str, int]:
-        """The last downlink of each meter that it knows."""
-        with self._opened() as database:
-            return dict(database.execute("select address, down from armed").fetchall())
+    def came(self) -> set[tuple[str, int]]:
+        """The downlinks that it got: each meter and its counter."""
+        path = self.sent_path.with_suffix(".came")
+        rows = [line.split() for line in path.read_text().splitlines()] if path.exists() else []
+        return {(address, int(down)) for address, down in rows}
 
     def numbered(self) -> tuple[int, int] | None:
         """Its last message, once all lines of its spool stand in messages."""
@@ -158,9 +164,9 @@ class Trial:
 
     def start(self, part: Part, chance: float) -> None:
         """Starts a part."""
-        place = self._next_place(part) if self.plan.place == EACH and chance else self.plan.place
+        place = self.plan.wrong.place if self.plan.wrong else self._next_place(part) if self.plan.place == EACH and chance else ""
         told = replace(self.config, database=make_conninfo(self.config.database, application_name=part.name))
-        words = told, part, chance, str(self.folder / "deaths"), self.plan.wrong if chance else "", place
+        words = told, part, chance, str(self.folder / "deaths"), self.plan.wrong if chance else None, place
         self.parts[part] = Child(self.folder / f"{part.name}.log", lambda: killed_fleet.run(*words))
 
     def _next_place(self, part: Part) -> str:
@@ -170,14 +176,15 @@ class Trial:
                                 or sorted(it for it in EVERYWHERE if it.startswith(own)))
 
     def operate(self) -> None:
-        """An operator puts commands and keys, and thinks again of some."""
-        now = time.time()
+        """An operator puts commands and keys, and thinks again of some; beside a wrong order of all, so that another session over the same
+        lines has other commands."""
+        now, again = time.time(), (1.0, 1.0) if self.plan.wrong else (0.5, 0.1)
         with suppress(psycopg.Error), store.connect(self.config.database) as database:
             for ident, state in database.execute("select id, state from command where state in ('waiting', 'queued', 'sent')"
                                                  " and kind = 'send' order by place").fetchall():
-                if self.draw.random() < (0.5 if state == "waiting" else 0.1):
+                if self.draw.random() < again[state != "waiting"]:
                     commands.cancel_command(database, ident, now)
-            for meter in self.draw.sample(self.meters, max(1, len(self.meters) // 3)):
+            for meter in self.draw.sample(self.meters, max(1, len(self.meters) // (1 if self.plan.wrong else 3))):
                 self.commands += 1
                 if meter.other and self.draw.random() < 0.1:
                     commands.put_key(database, f"c{self.commands}", meter.name, meter.other.hex(), now)
@@ -189,8 +196,10 @@ class Trial:
     def run(self) -> list[str]:
         """Goes through the trial; what is wrong then."""
         try:
-            self._live()
+            self._die() if self.plan.wrong else self._live()
             self._drain()
+            if not self.left:
+                self.flush(0.0)
             for part in self.parts.values():
                 part.end()
             return self.faults()
@@ -207,7 +216,7 @@ class Trial:
                          (("rabbit", self.plan.rabbit), ("postgres", self.plan.postgres), ("loss", self.plan.losses),
                           ("freeze", self.plan.freezes)) for _ in range(count))
         # (on a busy machine it goes on until all that was planned came, and each kind of process died)
-        kinds = {part.kind for part in self.parts} if self.plan.place in ("", EACH) else set()
+        kinds = {part.kind for part in self.parts}
         while ((passed := time.monotonic() - begun) < self.plan.seconds or moments or passed < 9 * self.plan.seconds and kinds - self.kills.keys()
                or passed < self.plan.patience and self.places_left()):
             for station in self.stations:
@@ -217,12 +226,43 @@ class Trial:
             if self.plan.patience and self.draw.random() < 0.1:
                 self._strike("loss")
             self.operate()
-            if self.plan.place in ("", EACH) and self.draw.random() < 0.3:
+            if self.draw.random() < 0.3:
                 self._kill(self.draw.choice(list(self.parts)))
             self._again(self.plan.chance)
             time.sleep(self.draw.uniform(0.05, 0.3))
         for station in self.stations:
             station.feed(len(station.lines))
+
+    def _die(self) -> None:
+        """Processes die where it tells of their wrong order; what the radios hear goes on by these deaths, and not by time: a part behind
+        each, and what is left once the gateways have what was sent to them."""
+        self.operate()
+        for part in self.all_parts():
+            self.start(part, self.plan.chance)
+        limit = time.monotonic() + DYING
+        while (died := self.places().total()) < self.plan.deaths and time.monotonic() < limit:
+            for station in self.stations:
+                station.feed(len(station.lines) * (died + 1) // (self.plan.deaths + 2) + 1)
+            if not all(child.is_running() for child in self.parts.values()):
+                self.operate()
+                self._again(self.plan.chance)
+            time.sleep(0.05)
+        self.flush(self.plan.chance)
+        for station in self.stations:
+            station.feed(len(station.lines))
+
+    def flush(self, chance: float) -> None:
+        """Waits until each gateway has all that is in its queue by now."""
+        last = max((down for station in self.stations for address, down in station.came() if address == NOBODY), default=0) + 1
+        with broker.connected(self.config.broker) as connection:
+            channel, body = broker.opened(connection), down_body(Down(NOBODY, last, "00", 1))
+            for station in self.stations:
+                broker.publish(channel, "", broker.gateway_queue(station.told.name), body)
+        limit = time.monotonic() + PATIENCE
+        while not all((NOBODY, last) in station.came() for station in self.stations):
+            assert time.monotonic() < limit, self.logs()
+            self._again(chance)
+            time.sleep(0.05)
 
     def _kill(self, part: Part) -> None:
         """Kills a process."""
@@ -326,7 +366,7 @@ class Trial:
             for station in self.stations:
                 found += judged_fleet.line_faults(database, station.told.name, station.lines)
                 if self.plan.window > self.plan.seconds:
-                    found += judged_fleet.armed_faults(database, station.told.name, station.armed())
+                    found += judged_fleet.armed_faults(database, station.told.name, station.came())
             for meter in self.meters:
                 found += judged_fleet.meter_faults(database, program("wmbus"), meter, self.folder / "uncut")
             found += judged_fleet.reading_faults(database, self.meters, self.shared) + judged_fleet.twice_ticked(database)
@@ -379,7 +419,7 @@ def tried(both: Both, plan: Plan, seed: int) -> tuple[Trial, list[str]]:
         trial = Trial(both, Path(folder), plan, seed)
         found = trial.run()
         trial.died = trial.places()
-        print(plan.wrong or plan.name, seed, trial.counts(), dict(trial.died), found[:3])
+        print(plan.name, seed, trial.counts(), dict(trial.died), found[:3])
         if found and not plan.wrong:
             print(trial.logs())
         return trial, found

@@ -6,6 +6,7 @@ import time
 from collections.abc import Callable, Iterator
 from contextlib import ExitStack, contextmanager
 from dataclasses import dataclass
+from pathlib import Path
 from typing import Any
 
 from tests.killed_service import Dying
@@ -107,10 +108,34 @@ def marked_first(_config: Config) -> None:
     setattr(downlinks, "mark_sent", marked)
 
 
-WRONG: dict[str, Callable[[Config], None]] = {
-    "place first": place_first, "no fence": no_fence, "acknowledged first": acknowledged_first, "downlinks first": downlinks_first,
-    "marked first": marked_first,
+def has(query: str) -> Callable[[store.Database], bool]:
+    """Whether the database has such a row."""
+    return lambda database, *_: bool(store.one(database, f"select exists ({query})"))
+
+
+@dataclass(frozen=True)
+class Wrong:
+    """A wrong order: how it is worked in, where its process dies then, each time that the step's words make the death tell of it, and what
+    is to be seen of it."""
+
+    work_in: Callable[[Config], None]
+    place: str
+    tells: Callable[..., object]
+    sign: str
+
+
+WRONG: dict[str, Wrong] = {
+    "place first": Wrong(place_first, "gateway: before put_places", lambda _database, lines: bool(lines), "lost"),
+    "no fence": Wrong(no_fence, "intake: behind commit", has("select 1 from inbox union all select 1 from line where gateway is not null"),
+                      "doubled"),
+    # (the transaction that is lost has made a downlink)
+    "downlinks first": Wrong(downlinks_first, "sessions: before commit",
+                             has("select 1 from outbox where xmin::text = pg_current_xact_id_if_assigned()::xid::text"), "downlinks: "),
+    "marked first": Wrong(marked_first, "downlinks: before publish", lambda *_: True, "marked and never came"),
 }
+# a wrong order that is healed: what is lost by it is asked for again
+HEALED = Wrong(acknowledged_first, "intake: before commit", has("select 1 from inbox where xmin::text ="
+                                                                " pg_current_xact_id_if_assigned()::xid::text"), "")
 
 
 @dataclass(frozen=True, eq=False)
@@ -123,17 +148,20 @@ class Part:
     service: ServiceConfig | None = None
 
 
-def run(config: Config, part: Part, chance: float, deaths: str, wrong: str, place: str) -> None:
-    """Runs a part; it dies at one place alone, where one is named."""
+def run(config: Config, part: Part, chance: float, deaths: str, wrong: Wrong | None, place: str) -> None:
+    """Runs a part; it dies at one place alone, where one is named. A gateway keeps each downlink that came to it in a file of its own."""
+    if part.kind == "gateway":
+        keep_what_comes(Path(deaths).with_name(f"{part.name}.came"))
     kind, _, only = place.partition(": ")
-    dying = Dying(chance if not place or kind == part.kind else 0.0, f"{deaths}.{part.kind}", only)
+    likely, log = chance if not place or kind == part.kind else 0.0, f"{deaths}.{part.kind}"
+    dying = Dying(likely, log, only, wrong.tells) if wrong else Dying(likely, log, only)
     for owner, name in PLACES[part.kind]:
         if name != "run_steps" or config.programs.steps:
             dying.around(owner, name)
     if not config.programs.steps:
         setattr(sessions, "run_steps", around_stand_in(dying))
     if wrong:
-        WRONG[wrong](config)
+        wrong.work_in(config)
     for owner, name, value in ((sessions, "MOST", MOST), (intake, "MOST", MOST), (gateway, "MOST", 5), (gateway, "PAUSE", 0.2),
                                (intake, "PAUSE", 0.2), (sessions, "PAUSE", 0.2), (downlinks, "PAUSE", 0.2), (intake, "ASKED_SECONDS", 0.5)):
         setattr(owner, name, value)
@@ -147,6 +175,17 @@ def run(config: Config, part: Part, chance: float, deaths: str, wrong: str, plac
         sessions.run(config, ending)
     else:
         downlinks.run(config, ending)
+
+
+def keep_what_comes(path: Path) -> None:
+    """Has a gateway tell of each downlink that it has."""
+    arm = gateway.arm
+
+    def armed(database: Any, told: Down, now: float) -> None:
+        arm(database, told, now)
+        with open(path, "a", encoding="ascii") as file:
+            file.write(f"{told.address} {told.down}\n")
+    setattr(gateway, "arm", armed)
 
 
 def around_stand_in(dying: Dying) -> Callable[..., Any]:
