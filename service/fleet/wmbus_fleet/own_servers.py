@@ -19,7 +19,7 @@ from pathlib import Path
 import psycopg
 from wmbus_service.trouble import Trouble
 
-from . import broker
+from . import broker, lifeline
 from .config import Broker
 
 RABBIT = Path("/usr/lib/rabbitmq/bin/rabbitmq-server")
@@ -82,10 +82,10 @@ class Server:
         self.process: subprocess.Popen[bytes] | None = None
 
     def launch(self, words: list[str], environment: Mapping[str, str] | None = None, user: str | None = None) -> None:
-        """Starts the process, in a group of its own."""
-        with open(self.log, "ab") as log:
-            self.process = subprocess.Popen(words, stdin=subprocess.DEVNULL, stdout=log, stderr=log, env=environment, user=user,
-                                            start_new_session=True)
+        """Starts the process, in a group of its own, which ends with this process, however that ends."""
+        # (what is left of one that ended goes)
+        self.kill()
+        self.process = lifeline.started(words, self.log, environment, user)
 
     def is_running(self) -> bool:
         """Whether it hasn't ended."""
@@ -94,8 +94,7 @@ class Server:
     def kill(self, number: int = signal.SIGKILL) -> None:
         """Ends it by a signal; what it started is killed."""
         if self.process:
-            with suppress(ProcessLookupError):
-                os.kill(self.process.pid, number)
+            self.process.send_signal(number)
             try:
                 self.process.wait(ENDING)
             except subprocess.TimeoutExpired:
