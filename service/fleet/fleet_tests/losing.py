@@ -37,11 +37,8 @@ class Losing(Trial):
 
     def heard(self) -> None:
         """Waits until all that was fed is heard."""
-        limit = time.monotonic() + PATIENCE
-        while left := self._left():
-            assert time.monotonic() < limit, f"{left}\n{self.logs()}"
-            self._again(0.0)
-            time.sleep(0.1)
+        left = self.drained()
+        assert not left, f"{left}\n{self.logs()}"
 
     def feed(self, is_all: bool) -> None:
         """Radios hear the first half of their lines, or all."""

@@ -23,8 +23,8 @@ PATIENCE = 200
 
 def test_live(both: Both) -> None:
     """Gateways, intakes, sessions, senders, RabbitMQ and PostgreSQL, commands, keys and ticks at the same time, all killed at random."""
-    plan = Plan("live", meters=15, rounds=max(6, int(1.5 * SECONDS)), seconds=SECONDS, chance=0.01, rabbit=1, postgres=2, losses=2,
-                freezes=max(3, int(SECONDS / 10)))
+    plan = Plan("live", meters=15, rounds=max(6, int(1.5 * SECONDS)), seconds=SECONDS, chance=0.01, rabbit=max(1, int(SECONDS / 240)),
+                postgres=max(2, int(SECONDS / 120)), losses=max(2, int(SECONDS / 60)), freezes=max(3, int(SECONDS / 10)))
     trial, found = tried(both, plan, 1)
     assert not found
     assert {"gateway", "intake", "sessions", "downlinks", "rabbit", "postgres", "loss", "freeze"} <= trial.kills.keys()
