@@ -52,13 +52,14 @@ def says(process: subprocess.Popen[str], words: str) -> None:
 
 
 def processes(folder: Path) -> list[str]:
-    """The processes whose words, or what is open for them, are of a folder."""
+    """The processes whose words, or surroundings, or what is open for them are of a folder."""
     found = []
     for place in Path("/proc").glob("[0-9]*"):
         with suppress(OSError):
             words = (place / "cmdline").read_bytes().replace(b"\0", b" ").decode(errors="replace")
+            around = (place / "environ").read_bytes()
             opened = [os.readlink(it) for it in (place / "fd").iterdir()]
-            if str(folder) in words or any(it.startswith(str(folder)) for it in opened):
+            if str(folder) in words or str(folder).encode() in around or any(it.startswith(str(folder)) for it in opened):
                 found.append(f"{place.name} {words}")
     return found
 
@@ -72,15 +73,15 @@ def test_all_ends_with_the_demo(folder: Path) -> None:
     kill(early, folder)
     (left,) = folder.iterdir()
     first = started(folder, "--port", "0")
-    says(first, "Ctrl-C ends it")
+    says(first, "RabbitMQ and PostgreSQL start")
     assert not left.exists()
     (own,) = folder.iterdir()
     assert demo.FOLDER in own.name
+    second = started(folder, "--port", "0")
+    for it in (first, second):
+        says(it, "Ctrl-C ends it")
     told = " ".join(processes(own))
     assert all(it in told for it in ("beam", "postgres", "epmd", " gateway", " intake", " sessions", " downlinks")), told
-    second = started(folder, "--port", "0")
-    says(second, "Ctrl-C ends it")
-    assert processes(own) and first.poll() is None
     kill(first, own)
     (others,) = set(folder.iterdir()) - {own}
     third = started(folder)

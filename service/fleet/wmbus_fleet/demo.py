@@ -6,7 +6,6 @@ import fcntl
 import os
 import secrets
 import shutil
-import signal
 import subprocess
 import sys
 import tempfile
@@ -107,8 +106,7 @@ class Demo:
             except subprocess.TimeoutExpired:
                 part.kill()
                 part.wait()
-            with suppress(ProcessLookupError):
-                os.killpg(part.pid, signal.SIGKILL)
+            lifeline.put_down(part)
 
     # ---- the load
 
