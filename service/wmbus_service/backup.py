@@ -128,7 +128,8 @@ def raised_by_program(program: Sequence[str], own: str, blocks: Sequence[str], m
 
 def _give_up(database: sqlite3.Connection, now: float) -> None:
     """What was open when the copy was made isn't done again."""
-    database.execute("update command set state = 'cancelled', reason = 'restored', changed = ? where state = 'waiting'", (now,))
+    database.execute("update command set state = 'cancelled', reason = 'restored', changed = ?,"
+                     " payload = case kind when 'rekey' then '' else payload end where state = 'waiting'", (now,))
     marks = ", ".join("?" * len(OPEN))
     database.execute(f"update command set wish = 'cancel', reason = 'restored', changed = ? where state in ({marks})", (now, *OPEN))
     database.execute("update outbox set missed = 'restored' where sent is null and missed is null")

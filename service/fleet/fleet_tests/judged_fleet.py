@@ -61,10 +61,14 @@ def reading_faults(database: Database, meters: list[Meter], shared: set[str]) ->
 
 def radio_faults(database: Database, sent: list[str]) -> list[str]:
     """What the radios sent, and what was committed to be sent."""
+    return frame_faults({frame for (frame,) in database.execute("select frame from outbox")}, sent)
+
+
+def frame_faults(made: set[str], sent: list[str]) -> list[str]:
+    """What the radios sent stands among what was committed, and no counter has two frames."""
     from reference.frames import telegram_a
-    made = {frame for (frame,) in database.execute("select frame from outbox")}
     frames: dict[bytes, set[str]] = {}
-    for frame in sent:
+    for frame in {*made, *sent}:
         telegram = telegram_a(bytes.fromhex(frame))
         frames.setdefault(telegram[15:19] + telegram[28:36], set()).add(frame)
     found = [f"downlinks: {len(set(sent) - made)} frames were sent that aren't committed"] if set(sent) - made else []

@@ -74,6 +74,8 @@ class Station:
         self.sent_path = folder / f"{name}.sent"
         self.service = ServiceConfig(folder / name, receivers={RADIO: Receiver(downlinks=str(self.sent_path))})
         self.lines: list[str] = []
+        # when each line was fed
+        self.times: list[float] = []
         self.fed = 0
         prepare_folder(self.service.folder)
 
@@ -85,6 +87,7 @@ class Station:
             with open(self.service.spool / f"{RADIO}.{number + 1:08d}.1.lines", "ab") as file:
                 file.write("".join(f"{line}\n" for line in piece).encode("latin-1"))
             self.fed += len(piece)
+            self.times += [time.time()] * len(piece)
 
     def sent(self) -> list[str]:
         """What its radio sent."""
@@ -167,7 +170,22 @@ class Trial:
         place = self.plan.wrong.place if self.plan.wrong else self._next_place(part) if self.plan.place == EACH and chance else ""
         told = replace(self.config, database=make_conninfo(self.config.database, application_name=part.name))
         words = told, part, chance, str(self.folder / "deaths"), self.plan.wrong if chance else None, place
-        self.parts[part] = Child(self.folder / f"{part.name}.log", lambda: killed_fleet.run(*words))
+
+        def work() -> None:
+            self.enter(part)
+            killed_fleet.run(*words)
+        self.parts[part] = Child(self.folder / f"{part.name}.log", work)
+
+    def enter(self, part: Part) -> None:
+        """What a part's process does first, where anything."""
+
+    def share(self, passed: float) -> float:
+        """Which share of their lines the radios have heard behind so many seconds."""
+        return passed / (max(self.plan.seconds, self.plan.patience) * 0.9)
+
+    def is_busy(self) -> bool:
+        """Whether something of the trial isn't done yet."""
+        return False
 
     def _next_place(self, part: Part) -> str:
         """A place of its kind, one at which none has died yet as long as there is one."""
@@ -217,10 +235,10 @@ class Trial:
                           ("freeze", self.plan.freezes)) for _ in range(count))
         # (on a busy machine it goes on until all that was planned came, and each kind of process died)
         kinds = {part.kind for part in self.parts}
-        while ((passed := time.monotonic() - begun) < self.plan.seconds or moments or passed < 9 * self.plan.seconds and kinds - self.kills.keys()
-               or passed < self.plan.patience and self.places_left()):
+        while ((passed := time.monotonic() - begun) < self.plan.seconds or moments or self.is_busy()
+               or passed < 9 * self.plan.seconds and kinds - self.kills.keys() or passed < self.plan.patience and self.places_left()):
             for station in self.stations:
-                station.feed(int(len(station.lines) * passed / (max(self.plan.seconds, self.plan.patience) * 0.9)) + 1)
+                station.feed(int(len(station.lines) * self.share(passed)) + 1)
             while moments and moments[0][0] < passed:
                 self._strike(moments.pop(0)[1])
             if self.plan.patience and self.draw.random() < 0.1:
@@ -332,11 +350,19 @@ class Trial:
         for part, child in list(self.parts.items()):
             child.end()
             self.start(part, 0.0)
-        limit = time.monotonic() + PATIENCE
-        while (left := self._left()) and time.monotonic() < limit:
+        self.left = self.drained()
+
+    def drained(self) -> str:
+        """What isn't done, though it was waited for: as long as it becomes less it may take its time."""
+        limit, last, before = 0.0, time.monotonic() + 10 * PATIENCE, ""
+        while (left := self._left()) and time.monotonic() < last:
+            if left != before:
+                limit, before = time.monotonic() + PATIENCE, left
+            if time.monotonic() > limit:
+                break
             self._again(0.0)
             time.sleep(0.1)
-        self.left = left
+        return left
 
     def _left(self) -> str:
         """What isn't done yet. (What was lost for good is told by the faults.)"""

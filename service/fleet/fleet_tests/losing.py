@@ -1,8 +1,12 @@
 """A fleet whose database is set back to a copy, and one of whose gateways loses its disk."""
 from __future__ import annotations
 
+import os
+import signal
+import subprocess
 import time
-from collections.abc import Callable
+from collections.abc import Callable, Iterator, Sequence
+from contextlib import contextmanager
 from dataclasses import replace
 from pathlib import Path
 
@@ -33,11 +37,8 @@ class Losing(Trial):
 
     def heard(self) -> None:
         """Waits until all that was fed is heard."""
-        limit = time.monotonic() + PATIENCE
-        while left := self._left():
-            assert time.monotonic() < limit, f"{left}\n{self.logs()}"
-            self._again(0.0)
-            time.sleep(0.1)
+        left = self.drained()
+        assert not left, f"{left}\n{self.logs()}"
 
     def feed(self, is_all: bool) -> None:
         """Radios hear the first half of their lines, or all."""
@@ -91,6 +92,7 @@ class SetBack(Losing):
         self.config = replace(self.config, database=quiet(self.both.postgres.make(name), name))
         assert backup.restore(self.config, self.folder / "copy", self.margin) == len(self.meters)
         with store.connect(self.config.database) as database:
+            self.last_copied = store.one(database, "select coalesce(max(id), 0) from outbox")
             self.heard_copy = store.one(database, "select count(*) from line where gateway is not null")
 
     def faults(self) -> list[str]:
@@ -103,6 +105,118 @@ class SetBack(Losing):
             made = {*self.made_before, *database.execute("select address, down, frame from outbox").fetchall()}
         twice = len(made) - len({(address, down) for address, down, _ in made})
         return found + ([f"downlinks: {twice} counters with two frames"] if twice else []) + self.secrets_told()
+
+
+class InFlight(SetBack):
+    """The same with commands in flight when the copy is made: some that no session has, a new key among them, some that the program has,
+    some whose downlink waits for the sender, and some that were sent and are confirmed behind the copy."""
+
+    def run(self) -> list[str]:
+        """What isn't as it has to be."""
+        try:
+            self.start_all()
+            self.ask(lambda number: f"01{number:08x}")
+            self._goes_on("select count(*) > 1 and count(distinct state) = 2 from command where state in ('queued', 'sent')")
+            with self.stopped("downlinks"):
+                self._goes_on("select count(*) > 1 from outbox where sent is null")
+                with self.stopped("sessions"):
+                    self.ask(lambda number: f"02{number:08x}")
+                    self._ask_for_key()
+                    backup.back_up(self.config, self.folder / "copy")
+                self.copied = self._copied()
+            sent = [ident for ident, (state, *_) in self.copied.items() if state == "sent"]
+            self.ask(lambda number: f"03{number:08x}")
+            self._goes_on("select count(*) > 0 from command where state = 'confirmed' and id = any(%s)", [sent])
+            self.end_all()
+            self._set_back()
+            self.open_then = self.commands_now()
+            self.start_all()
+            self.heard()
+            self.caught_up = self.commands_now()
+            # (with ids that the copy doesn't know)
+            self.commands -= len(self.meters)
+            self.ask(lambda number: f"04{number:08x}")
+            self.feed(True)
+            self.heard()
+            self.flush(0.0)
+            self.end_all()
+            return self.faults()
+        finally:
+            self.end_all()
+
+    def _ask_for_key(self) -> None:
+        """A new second key for a meter that has one."""
+        meter = next(it for it in self.meters if it.other)
+        assert meter.other
+        with store.connect(self.config.database) as database:
+            commands.put_key(database, "key", meter.name, meter.other[::-1].hex(), time.time())
+
+    def _goes_on(self, query: str, values: Sequence[object] = ()) -> None:
+        """Radios hear line after line, until the database says so."""
+        limit = time.monotonic() + PATIENCE
+        while True:
+            with store.connect(self.config.database) as database:
+                if store.one(database, query, values):
+                    return
+            assert time.monotonic() < limit, f"{query}\n{self.logs()}"
+            for station in self.stations:
+                station.feed(station.fed + 1)
+            time.sleep(0.2)
+
+    @contextmanager
+    def stopped(self, kind: str) -> Iterator[None]:
+        """The processes of a kind stand still meanwhile."""
+        pids = [child.pid for part, child in self.parts.items() if part.kind == kind]
+        for pid in pids:
+            os.kill(pid, signal.SIGSTOP)
+        try:
+            yield
+        finally:
+            for pid in pids:
+                os.kill(pid, signal.SIGCONT)
+
+    def _copied(self) -> dict[str, tuple[str, str, str | None, str]]:
+        """The commands as the copy has them."""
+        name = f"{self.name}seen"
+        words = self.both.postgres.make(name)
+        subprocess.run(["pg_restore", "--no-owner", f"--dbname={words}", str(self.folder / "copy")], check=True)
+        return commands_in(words)
+
+    def commands_now(self) -> dict[str, tuple[str, str, str | None, str]]:
+        """The commands as they are."""
+        return commands_in(self.config.database)
+
+    def faults(self) -> list[str]:
+        """Beside what has to hold of lines, readings and counters: each command of the copy ends as docs/FLEET.md has it ("Copies"), none
+        of them is sent again, and radios sent what stands in one of the histories."""
+        found = super().faults()
+        with store.connect(self.config.database) as database:
+            again = [frame for (frame,) in database.execute("select frame from outbox")]
+            own = {ident for (ident,) in database.execute("select c.id from outbox o join command c on c.address = o.address"
+                                                          " and c.number = o.command where o.id > %s", (self.last_copied,))}
+            waiting = store.one(database, "select count(*) from command where wish is not null or state = 'waiting'")
+        found += judged_fleet.frame_faults({*again, *(str(frame) for _, _, frame in self.made_before)},
+                                           [frame for station in self.stations for frame in station.sent()])
+        found += [f"commands: {waiting} are still open"] if waiting else []
+        found += [f"commands: {sorted(own & self.copied.keys())} of the copy were sent again"] if own & self.copied.keys() else []
+        now = self.commands_now()
+        for ident, (state, kind, _, payload) in self.copied.items():
+            wanted = ("cancelled", "restored") if state in IN_FLIGHT else (state, None)
+            if (now[ident][0], now[ident][2]) != wanted or state not in IN_FLIGHT and self.open_then[ident] != self.copied[ident]:
+                found.append(f"commands: {ident} was {state} in the copy and is {now[ident]}")
+            if kind == "rekey" and now[ident][3]:
+                found.append("commands: a key that wasn't taken is kept")
+        return found
+
+
+IN_FLIGHT = ("waiting", "queued", "sent")
+
+
+def commands_in(words: str) -> dict[str, tuple[str, str, str | None, str]]:
+    """State, kind, reason and payload of each command."""
+    with store.connect(words) as database:
+        return {ident: (state, kind, reason, payload) for ident, state, kind, reason, payload in
+                database.execute("select id, state, kind, reason, payload from command").fetchall()}
 
 
 class LostDisk(Losing):

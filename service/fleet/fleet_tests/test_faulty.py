@@ -30,7 +30,7 @@ from .test_parts import Fleet, fleet
 
 __all__ = ["fleet"]
 LINE = "A 1 00"
-LIMIT = 20
+LIMIT = 120
 
 
 def one_line(name: str, epoch: int, number: int, until: int) -> Message:

@@ -5,6 +5,7 @@ WMBUS_KILL_SECONDS says for how long the first of these goes on."""
 from __future__ import annotations
 
 import os
+from collections import Counter
 from pathlib import Path
 
 import pytest
@@ -13,7 +14,7 @@ from wmbus_fleet.status import figures, in_words
 
 from .kill import EACH, EVERYWHERE, Plan, tried
 from .killed_fleet import HEALED, WRONG
-from .losing import LostDisk, SetBack
+from .losing import IN_FLIGHT, InFlight, LostDisk, SetBack
 from .servers import Both
 
 SECONDS = float(os.environ.get("WMBUS_KILL_SECONDS", "12"))
@@ -22,8 +23,8 @@ PATIENCE = 200
 
 def test_live(both: Both) -> None:
     """Gateways, intakes, sessions, senders, RabbitMQ and PostgreSQL, commands, keys and ticks at the same time, all killed at random."""
-    plan = Plan("live", meters=15, rounds=max(6, int(1.5 * SECONDS)), seconds=SECONDS, chance=0.01, rabbit=1, postgres=2, losses=2,
-                freezes=max(3, int(SECONDS / 10)))
+    plan = Plan("live", meters=15, rounds=max(6, int(1.5 * SECONDS)), seconds=SECONDS, chance=0.01, rabbit=max(1, int(SECONDS / 240)),
+                postgres=max(2, int(SECONDS / 120)), losses=max(2, int(SECONDS / 60)), freezes=max(3, int(SECONDS / 10)))
     trial, found = tried(both, plan, 1)
     assert not found
     assert {"gateway", "intake", "sessions", "downlinks", "rabbit", "postgres", "loss", "freeze"} <= trial.kills.keys()
@@ -65,6 +66,24 @@ def test_set_back_to_a_copy(both: Both, tmp_path: Path, monkeypatch: pytest.Monk
     print(found, trial.heard_before, trial.heard_copy, trial.counts())
     assert trial.heard_copy < trial.heard_before
     assert not found if is_right else [it for it in found if "counters with two frames" in it]
+
+
+@pytest.mark.parametrize("margin, is_right", [(1000, True), (0, False)])
+def test_set_back_with_commands_in_flight(both: Both, tmp_path: Path, monkeypatch: pytest.MonkeyPatch, margin: int, is_right: bool) -> None:
+    """What was open in the copy is cancelled, what was done stays, what was put since isn't known; and no counter has two frames, in both
+    histories and on the air; without a margin some have."""
+    monkeypatch.setenv("PATH", "/usr/lib/postgresql/15/bin:/usr/bin:/bin")
+    trial = InFlight(both, tmp_path, Plan(f"flight{margin}x", meters=9, rounds=20, window=600), 6, margin)
+    found = trial.run()
+    states = {state for state, *_ in trial.copied.values()}
+    print(found, Counter(state for state, *_ in trial.copied.values()), trial.counts())
+    assert not found if is_right else [it for it in found if "frames" in it]
+    assert {"waiting", "queued", "sent"} <= states
+    assert trial.heard_copy < trial.heard_before
+    # (what the program had is cancelled by a session, and shows why until then)
+    assert all(trial.open_then[ident][2] == "restored" for ident, (state, *_) in trial.copied.items() if state in IN_FLIGHT)
+    assert all(trial.caught_up[ident][0] == "cancelled" for ident, (state, *_) in trial.copied.items() if state in IN_FLIGHT)
+    assert trial.copied.keys() == trial.open_then.keys()
 
 
 def test_a_gateway_that_lost_its_disk(both: Both, tmp_path: Path) -> None:

@@ -407,6 +407,12 @@ def test_the_command_line(fleet: Fleet, tmp_path: Path, capsys: pytest.CaptureFi
         assert store.pairs(restored, "select id, reason from command") == {"a1": "restored", "a2": None}
 
 
+def armed(path: Path) -> list[tuple[str, int]]:
+    """The downlinks that a gateway has."""
+    with closing(sqlite3.connect(path)) as database:
+        return database.execute("select address, down from armed").fetchall()
+
+
 def test_all_parts_as_processes(fleet: Fleet, tmp_path: Path) -> None:
     """From a gateway's spool to readings, and from a command to the gateway's radio; each part ends by SIGTERM with status 0."""
     service, path, told = tmp_path / "config.toml", tmp_path / "fleet.toml", fleet.config.programs
@@ -430,9 +436,9 @@ def test_all_parts_as_processes(fleet: Fleet, tmp_path: Path) -> None:
                 text = messages.whole(meter.key, meter.address, number, payload_of(number), 0x44, 0x84)
                 file.write(line_of(text, number))
             until(partial(has_readings, number))
-            until(lambda: store.one(fleet.database, "select count(*) from outbox where sent is null") == 0)
             # (the gateway has what the queue has a moment later)
-            time.sleep(0.5)
+            until(lambda: armed(tmp_path / f"service/gateway.{fleet.gateway}.db") == fleet.database.execute(
+                "select address, down from outbox order by id").fetchall())
         until((tmp_path / "sent").exists)
     finally:
         for process in running:

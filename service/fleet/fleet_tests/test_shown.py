@@ -25,7 +25,7 @@ from wmbus_service.ending import Ending
 
 from .servers import Both
 
-COUNT, SPACE = 40, 60.0
+COUNT, SPACE, LIMIT = 40, 60.0, 240.0
 TOKEN = "a-token-of-the-tests-0123456789"
 DASHBOARD = Path(__file__).parents[1] / "dashboard.json"
 # of each kind of meter what it counts, into how many parts of a kWh or m³, and how great one is in Wh or m³ (by the VIF of EN 13757-3)
@@ -60,7 +60,7 @@ def shown_fixture(both: Both, tmp_path_factory: pytest.TempPathFactory) -> Itera
         lines = sum(made.send_round(int(time.time()) - ago) for ago in (1800, 60))
         made.wait(lines, Ending(), told.append)
         # (the downlink was armed behind the first round, and goes out behind this one)
-        limit = time.monotonic() + SPACE
+        limit = time.monotonic() + LIMIT
         while not made.answer():
             assert time.monotonic() < limit
             lines += made.send_round(int(time.time()))

@@ -64,7 +64,8 @@ def raise_counters(config: Config, database: Database, margin: int) -> int:
 
 def _give_up(database: Database, now: float) -> None:
     """What was open when the copy was made isn't done again."""
-    database.execute("update command set state = 'cancelled', reason = 'restored', changed = %s where state = 'waiting'", (now,))
+    database.execute("update command set state = 'cancelled', reason = 'restored', changed = %s,"
+                     " payload = case kind when 'rekey' then '' else payload end where state = 'waiting'", (now,))
     database.execute("update command set wish = 'cancel', reason = 'restored', changed = %s where state = any(%s)", (now, list(OPEN)))
     database.execute("update outbox set missed = 'restored' where sent is null and missed is null")
 

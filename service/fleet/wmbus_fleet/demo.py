@@ -2,8 +2,10 @@
 that goes again; all without a radio, and beside whatever else runs here."""
 from __future__ import annotations
 
+import fcntl
 import os
 import secrets
+import shutil
 import subprocess
 import sys
 import tempfile
@@ -17,7 +19,7 @@ from wmbus_service.config import unproved_words
 from wmbus_service.ending import Ending
 from wmbus_service.trouble import Trouble
 
-from . import commands, gateways, own_servers, store
+from . import commands, gateways, lifeline, own_servers, store
 from .config import Config, Page
 from .made_town import LISTENING, Town
 from .own_servers import Both
@@ -31,6 +33,7 @@ COMMAND, PAYLOAD = "read-out", "0b"
 # so often the town's next meters send; so long the parts have to end, and to hear what came
 STEP, ENDING, PATIENCE = 0.5, 20.0, 120.0
 FIRST_SECONDS = 3600
+FOLDER = "wmbus-fleet-demo-"
 
 Say = Callable[[str], None]
 
@@ -90,8 +93,7 @@ class Demo:
     def _start(self, path: Path, part: str) -> None:
         words = [sys.executable, "-m", "wmbus_fleet", "--config", str(path), part]
         environment = os.environ | {"PYTHONPATH": os.pathsep.join(it for it in sys.path if it), "PGAPPNAME": f"wmbus {part}"}
-        with open(self.folder / "parts.log", "ab") as log:
-            self.parts.append(subprocess.Popen(words, stdin=subprocess.DEVNULL, stdout=log, stderr=log, env=environment))
+        self.parts.append(lifeline.started(words, self.folder / "parts.log", environment))
 
     def end(self) -> None:
         """Ends all parts, by their ids."""
@@ -104,6 +106,7 @@ class Demo:
             except subprocess.TimeoutExpired:
                 part.kill()
                 part.wait()
+            lifeline.put_down(part)
 
     # ---- the load
 
@@ -197,14 +200,53 @@ def servers(folder: Path) -> Iterator[Both]:
         both.stop()
 
 
+@contextmanager
+def own_folder() -> Iterator[Path]:
+    """A folder that goes with the block, and at the next start where the process is killed: it is locked as long as the process lives."""
+    for left in Path(tempfile.gettempdir()).glob(f"{FOLDER}*"):
+        with suppress(OSError, Trouble):
+            if left.lstat().st_uid == os.geteuid():
+                _locked(left)
+                remove(left)
+    # (it has its name, by which it is found, once it is locked)
+    made = Path(tempfile.mkdtemp(prefix="wmbus-fleet-"))
+    _locked(made)
+    place = made.rename(made.with_name(made.name.replace("wmbus-fleet-", FOLDER)))
+    try:
+        yield place
+    finally:
+        remove(place)
+
+
+def _locked(folder: Path) -> int:
+    """Locks a folder, as long as this process lives; that another one has it is an error."""
+    opened = os.open(folder, os.O_RDONLY | os.O_DIRECTORY | os.O_NOFOLLOW | os.O_CLOEXEC)
+    try:
+        fcntl.flock(opened, fcntl.LOCK_EX | fcntl.LOCK_NB)
+    except OSError:
+        os.close(opened)
+        raise
+    return opened
+
+
+def remove(folder: Path) -> None:
+    """Takes a folder away, also where servers that are ending still write into it."""
+    limit = time.monotonic() + ENDING
+    while folder.exists():
+        shutil.rmtree(folder, ignore_errors=True)
+        if time.monotonic() > limit:
+            raise Trouble(folder, "it can't be taken away", f"rm -r {folder}")
+        time.sleep(0.1)
+
+
 def run(count: int, seconds: float, port: int | None, ending: Ending, say: Say) -> None:
     """Has a fleet hear a town until the process is told to end, and serves its page; without a port it says what was read, and ends."""
     if not 1 <= count <= 100_000 or seconds <= 0:
         raise Trouble("the demo", "it takes 1 to 100,000 meters, which send within seconds above 0")
-    with tempfile.TemporaryDirectory(prefix="wmbus-fleet-demo-") as place:
+    with own_folder() as place:
         say("RabbitMQ and PostgreSQL start, on this machine alone")
-        with servers(Path(place)) as both, suppress(KeyboardInterrupt):
-            served(both, Path(place), count, seconds, port, ending, say)
+        with servers(place) as both, suppress(KeyboardInterrupt):
+            served(both, place, count, seconds, port, ending, say)
 
 
 def served(both: Both, folder: Path, count: int, seconds: float, port: int | None, ending: Ending, say: Say) -> None:

@@ -19,7 +19,7 @@ from pathlib import Path
 import psycopg
 from wmbus_service.trouble import Trouble
 
-from . import broker
+from . import broker, lifeline
 from .config import Broker
 
 RABBIT = Path("/usr/lib/rabbitmq/bin/rabbitmq-server")
@@ -81,11 +81,11 @@ class Server:
         self.log = log
         self.process: subprocess.Popen[bytes] | None = None
 
-    def launch(self, words: list[str], environment: Mapping[str, str] | None = None, user: str | None = None) -> None:
-        """Starts the process, in a group of its own."""
-        with open(self.log, "ab") as log:
-            self.process = subprocess.Popen(words, stdin=subprocess.DEVNULL, stdout=log, stderr=log, env=environment, user=user,
-                                            start_new_session=True)
+    def launch(self, words: list[str], environment: Mapping[str, str] | None = None, user: str | None = None, first: str = "KILL") -> None:
+        """Starts the process, in a group of its own, which ends with this process, however that ends."""
+        # (what is left of one that ended goes)
+        self.kill()
+        self.process = lifeline.started(words, self.log, environment, user, first)
 
     def is_running(self) -> bool:
         """Whether it hasn't ended."""
@@ -94,15 +94,13 @@ class Server:
     def kill(self, number: int = signal.SIGKILL) -> None:
         """Ends it by a signal; what it started is killed."""
         if self.process:
-            with suppress(ProcessLookupError):
-                os.kill(self.process.pid, number)
+            self.process.send_signal(number)
             try:
                 self.process.wait(ENDING)
             except subprocess.TimeoutExpired:
                 self.process.kill()
                 self.process.wait()
-            with suppress(ProcessLookupError):
-                os.killpg(self.process.pid, signal.SIGKILL)
+            lifeline.put_down(self.process)
             self.process = None
 
 
@@ -126,7 +124,7 @@ class Postgres(Server):
         limit = time.monotonic() + PATIENCE
         while True:
             # (after a kill what it had started ends a moment later, and it doesn't begin before)
-            self.launch([str(POSTGRES / "postgres"), "-D", str(self.folder)], {"PATH": "/usr/bin:/bin"}, self.user)
+            self.launch([str(POSTGRES / "postgres"), "-D", str(self.folder)], {"PATH": "/usr/bin:/bin"}, self.user, "INT")
             while self.process and self.process.poll() is None:
                 with suppress(psycopg.Error), psycopg.connect(self.words("postgres"), connect_timeout=2):
                     return
@@ -169,13 +167,14 @@ class Rabbit(Server):
             "RABBITMQ_MNESIA_BASE": str(self.folder / "mnesia"), "RABBITMQ_LOG_BASE": str(self.folder / "log"),
             "RABBITMQ_CONFIG_FILE": str(self.folder / "rabbitmq"), "RABBITMQ_ENABLED_PLUGINS_FILE": str(self.folder / "plugins"),
             "RABBITMQ_CONF_ENV_FILE": "/dev/null", "RABBITMQ_DIST_PORT": str(free_port()), "ERL_EPMD_PORT": str(names),
-            "ERL_EPMD_ADDRESS": "127.0.0.1", "ERL_CRASH_DUMP": "/dev/null", "RABBITMQ_PID_FILE": str(self.folder / "pid"),
+            "ERL_EPMD_ADDRESS": "127.0.0.1", "ERL_FLAGS": "-start_epmd false", "ERL_CRASH_DUMP": "/dev/null",
+            "RABBITMQ_PID_FILE": str(self.folder / "pid"),
             "RABBITMQ_SERVER_ADDITIONAL_ERL_ARGS": f"-kernel inet_dist_use_interface {{127,0,0,1}} {ERLANG}"}
         (self.folder / "rabbitmq.conf").write_text("".join(f"{line}\n" for line in self._settings()), encoding="ascii")
         (self.folder / "plugins").write_text("[rabbitmq_management].\n", encoding="ascii")
         self.names = Server(folder / "epmd.log")
         self.names.launch(["epmd", "-port", str(names), "-address", "127.0.0.1"], {"PATH": FOLDERS})
-        # (else the runtime would start one that outlives it)
+        # (the runtime starts none of itself, which would outlive it)
         until(lambda: _listens(names), self.names)
 
     def _settings(self) -> list[str]:
