@@ -54,6 +54,23 @@ pub record Ended {T : Type 0} (tells : T → ℕ → List ℕ → List ℕ → L
   pub written : IsTrue out_tells → EndsText end text out
   pub noted : IsTrue notes_tell → IsNoted note notes
 
+-- one more line was taken
+pub record TakesOne (old_lines new_lines : List (List ℕ)) : Type 0 where
+  pub line : List ℕ
+  pub more : new_lines ≡ old_lines ++ line ∷ []
+
+-- There was no memory for the last of the lines taken: those before it were told, and their texts are written, with nothing of its own.
+pub record StopsBefore {T : Type 0} (tells : T → ℕ → List ℕ → List ℕ → List ℕ → T → Type 0) (first : T) (taken : List (List ℕ))
+    (out_tells : Bool) (out : Change SinkShown) : Type 0 where
+  pub lines : List (List ℕ)
+  pub untold : List ℕ
+  pub text : List ℕ
+  pub note : List ℕ
+  pub last : T
+  pub told : AreTold tells 1 first lines text note last
+  pub lines_are : taken ≡ lines ++ untold ∷ []
+  pub written : IsTrue out_tells → out.now.written ≡ out.before.written ++ text
+
 -- ---- words of private contracts
 
 -- the lines end as they would, or a text can't be written

@@ -3,7 +3,7 @@ ghost use Rattle.std.specs.Prelude.{◌≡◌, ◌≢◌, ◌≤◌, ◌+◌, �
 ghost use Rattle.outer_io.specs.Faults.{Rose};
 ghost use Rattle.line_reader.specs.Reader.{given};
 ghost use Rattle.line_reader.specs.Lines.{all_lines};
-ghost use Rattle.line_teller.specs.Ending.{HearsLine, EndsLines, AreFirst, is_whole};
+ghost use Rattle.line_teller.specs.Ending.{HearsLine, EndsLines, AreFirst, TakesOne, is_whole};
 
 use crate::ending::LinesEnd;
 use crate::sheet::Sheet;
@@ -50,6 +50,8 @@ pub(crate) fn hear_next<S: Source, T: Teller>(
         EndsLines end (S.taken reader.new.reader.source) (S.left reader.new.reader.source) (given S.taken reader.old.reader)) }
     ensures first { IfErr result (λ end. IsTrue S.tells →
         AreFirst (given S.taken reader.old.reader) (all_lines (S.taken reader.new.reader.source))) }
+    ensures untold { result ≡ Err LinesEnd.Memory → IsTrue S.tells →
+        TakesOne (given S.taken reader.old.reader) (given S.taken reader.new.reader) }
     ensures same { IfErr result (λ end. IsTrue (is_whole end) → (teller.new ≡ teller.old) × (text.new ≡ text.old) × (note.new ≡ note.old)) }
     ensures write { result ≢ Err LinesEnd.Write }
     ensures read { result ≡ Err LinesEnd.Read → Rose (S.faults reader.old.reader.source) (S.faults reader.new.reader.source) }

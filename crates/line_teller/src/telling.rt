@@ -4,7 +4,7 @@ ghost use Rattle.outer_io.specs.Bytes.{AppendsFront};
 ghost use Rattle.outer_io.specs.Faults.{Rose};
 ghost use Rattle.outer_io.specs.Shown.{source_shown, sink_change, WriteFailed};
 ghost use Rattle.line_reader.specs.Reader.{given};
-ghost use Rattle.line_teller.specs.Ending.{Ended, EndsText, IsNoted, IsEndOf, is_whole};
+ghost use Rattle.line_teller.specs.Ending.{Ended, StopsBefore, TakesOne, EndsText, IsNoted, IsEndOf, is_whole};
 ghost use Rattle.line_teller.specs.Standing.{Pours, Steps, TellsOne, EndsStep};
 
 use crate::ending::LinesEnd;
@@ -46,6 +46,7 @@ fn finish<K: Sink>(end: LinesEnd, text: &mut Sheet, out: &mut K) -> LinesEnd
     ensures write { result ≡ LinesEnd.Write → (end ≡ LinesEnd.Write) ⊎ WriteFailed (sink_change K.Sink out.old out.new) }
     ensures text { IsTrue (is_whole end) → IsTrue K.tells → EndsText result text.old.text (sink_change K.Sink out.old out.new) }
     ensures silent { is_whole end ≡ false → IsTrue K.tells → K.written out.new ≡ K.written out.old }
+    ensures memory { result ≡ LinesEnd.Memory → end ≡ LinesEnd.Memory }
     ensures later { K.faults out.old ≤ K.faults out.new }
 {
     if !end.is_whole() {
@@ -82,6 +83,9 @@ fn tell_next<S: Source, K: Sink, E: Sink, T: Teller>(
     ensures ended { IfErr result (λ end. IsTrue S.tells → EndsStep T.tells (reader.old.reader.line + 1) teller.old teller.new end
         (source_shown S.Source reader.new.reader.source) (given S.taken reader.old.reader)
         K.tells (sink_change K.Sink out.old out.new) text.old.text E.tells (sink_change E.Sink notes.old notes.new)) }
+    ensures untold { result ≡ Err LinesEnd.Memory → IsTrue S.tells →
+        TakesOne (given S.taken reader.old.reader) (given S.taken reader.new.reader) }
+    ensures silent { result ≡ Err LinesEnd.Memory → IsTrue K.tells → K.written out.new ≡ K.written out.old }
     ensures read { result ≡ Err LinesEnd.Read → Rose (S.faults reader.old.reader.source) (S.faults reader.new.reader.source) }
     ensures write { result ≡ Err LinesEnd.Write → WriteFailed (sink_change K.Sink out.old out.new) }
     ensures later { S.faults reader.old.reader.source ≤ S.faults reader.new.reader.source }
@@ -164,6 +168,12 @@ pub fn tell_one<S: Source, K: Sink, E: Sink, T: Teller>(
     ensures ended { IfErr result (λ end. IsTrue S.tells → EndsStep T.tells (reader.old.reader.line + 1) teller.old teller.new end
         (source_shown S.Source reader.new.reader.source) (given S.taken reader.old.reader)
         K.tells (sink_change K.Sink out.old out.new) [] E.tells (sink_change E.Sink notes.old notes.new)) }
+
+    // Where there is no memory for the line, it was taken, and nothing of it is written.
+    ensures untold { result ≡ Err LinesEnd.Memory → IsTrue S.tells →
+        TakesOne (given S.taken reader.old.reader) (given S.taken reader.new.reader) }
+    ensures silent { result ≡ Err LinesEnd.Memory → IsTrue K.tells → K.written out.new ≡ K.written out.old }
+
     ensures read { result ≡ Err LinesEnd.Read → Rose (S.faults reader.old.reader.source) (S.faults reader.new.reader.source) }
     ensures write { result ≡ Err LinesEnd.Write → WriteFailed (sink_change K.Sink out.old out.new) }
     ensures later { S.faults reader.old.reader.source ≤ S.faults reader.new.reader.source }
@@ -176,7 +186,7 @@ pub fn tell_one<S: Source, K: Sink, E: Sink, T: Teller>(
 }
 
 /// Tells all lines of a source one by one: the text of each is written before the next one is taken. A text that can't be written ends the
-/// lines; a note that can't be is left out.
+/// lines; a note that can't be is left out. Where there is no memory for a line, the texts of those before it are written, and nothing of it.
 ///
 /// The reader is one that was just made over its source, for lines of at most the teller's longest.
 pub fn tell_one_by_one<S: Source, K: Sink, E: Sink, T: Teller>(
@@ -191,6 +201,8 @@ pub fn tell_one_by_one<S: Source, K: Sink, E: Sink, T: Teller>(
     requires longest { reader.old.longest ≡ T.longest }
     ensures ended { IsTrue S.tells → Ended T.tells teller.old teller.new result (source_shown S.Source reader.new.reader.source)
         K.tells (sink_change K.Sink out.old out.new) E.tells (sink_change E.Sink notes.old notes.new) }
+    ensures memory { result ≡ LinesEnd.Memory → IsTrue S.tells →
+        StopsBefore T.tells teller.old (given S.taken reader.new.reader) K.tells (sink_change K.Sink out.old out.new) }
     ensures read { result ≡ LinesEnd.Read → Rose (S.faults reader.old.reader.source) (S.faults reader.new.reader.source) }
     ensures write { result ≡ LinesEnd.Write → WriteFailed (sink_change K.Sink out.old out.new) }
     ensures later { S.faults reader.old.reader.source ≤ S.faults reader.new.reader.source }

@@ -16,10 +16,7 @@ no_fault : (edit : Edit) (old new : Table Row) (found : Option TotalsFault) (edi
     → StandsFor edits old
     → fault_of (rows_after edits) edit ≡ found → found ≡ None
 no_fault edit old new None edits a s is = refl
-no_fault edit old new (Some fault) edits a s is =
-    let fine : Result (Unit {0}) TotalsFault = Ok tt in
-    let clash : fine ≡ Err fault = a.refused edits fault s is in
-    absurd cc
+no_fault edit old new (Some fault) edits a s is = cc (a.refused edits fault s is)
 
 kept_more : (edit : Edit) (old new : Table Row) (edits : List Edit) (table : Table (List ℕ)) (found : Option TotalsFault)
     → IsAnswered edit old (Ok tt) new → StandsFor edits old

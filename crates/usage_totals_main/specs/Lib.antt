@@ -3,4 +3,3 @@ pub mod Requests
 pub mod Texts
 pub mod Answering
 pub mod Run
-pub mod Running

@@ -3,6 +3,8 @@ use Rattle.std.specs.Prelude.{ℕ, ◌≡◌, ◌⊎◌, Bool, true, false, List
 use Rattle.outer_io.specs.Bytes.{AppendsFront}
 use Rattle.outer_io.specs.Shown.{Change, SourceShown, SinkShown, ReadFailed, WriteFailed, LosesNothing, IsReadOut}
 use Rattle.line_reader.specs.Lines.{is_over, whole_lines, all_lines}
+use Rattle.line_teller.specs.declared.ending.LinesEnd.{LinesEnd}
+use Rattle.line_teller.specs.declared.ending.LinesEnd.TheVariants as ends
 use Rattle.usage_totals_main.specs.declared.status.TotalsStatus.{TotalsStatus}
 use Rattle.usage_totals_main.specs.declared.status.TotalsStatus.TheVariants as statuses
 use Rattle.usage_totals_main.specs.Words.{totals_asked, is_addressed}
@@ -92,3 +94,13 @@ pub record IsRun (run : Run) : Type 0 where
   pub complete : IsTrue run.sources_tell → IsFaultless run → (run.status ≡ statuses.Done) ⊎ (run.status ≡ statuses.Memory)
   -- whatever happens, no byte of the file is lost
   pub no_loss : IsTrue run.sources_tell → LosesNothing run.edits
+
+-- ---- words of private contracts
+
+-- the status of a run whose lines ended so
+abbrev pub status_of : LinesEnd → TotalsStatus
+status_of ends.Done = statuses.Done
+status_of ends.Read = statuses.Read
+status_of ends.Cut = statuses.Cut
+status_of ends.Write = statuses.Write
+status_of ends.Memory = statuses.Memory

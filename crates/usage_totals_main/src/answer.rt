@@ -1,27 +1,18 @@
 //! The answer to one line.
-ghost use Rattle.std.specs.Prelude.{◌≡◌, ◌≤◌, ℕ, List, Some, Err, IsTrue, OnOk, codes};
-ghost use Rattle.outer_io.specs.Shown.{sink_change, WriteFailed};
-ghost use Rattle.meter_usage.specs.Table.{Table};
-ghost use Rattle.usage_totals_main.specs.Requests.{edits, edit_read, request_read, request_of};
-ghost use Rattle.usage_totals_main.specs.Texts.{edit_text, meter_of, usages_text, totals_text, answer_text, rows_by, rows_after_line};
-ghost use Rattle.usage_totals_main.specs.Answering.{Keeps, DoesEdit, Writes, Settles};
+ghost use Rattle.std.specs.Prelude.{◌≡◌, Bool, Some, OnOk, codes};
+ghost use Rattle.paper.specs.Puts.{Puts};
+ghost use Rattle.usage_totals_main.specs.Requests.{edits, usages, totals, edit_read, request_read};
+ghost use Rattle.usage_totals_main.specs.Texts.{meter_of};
+ghost use Rattle.usage_totals_main.specs.Answering.{DoesEdit, Settles, PutsAnswer};
 
 use crate::request::{EditRead, RequestRead, Unread, read_request};
-use crate::texts::{EditAnswer, TotalsAnswer, UsagesAnswer, named_if};
+use crate::texts::{named_if, put_edit_answer, put_totals_answer, put_usages_answer};
+use line_teller::{Sheet, Teller};
 use meter_address::Address;
 use meter_usage::{Totals, TotalsFault};
-use outer_io::{Memory, Sink, write_all};
-use paper::write;
+use outer_io::Memory;
+use paper::{Paper, put_text};
 use std::alloc::Global;
-
-/// Why no more lines are answered.
-#[derive(Clone, Copy, Debug, PartialEq, Eq)]
-pub(crate) enum Stop {
-    /// A write failed.
-    Write,
-    /// Memory ran out.
-    Memory,
-}
 
 // Why the rows refuse an edit, if they do.
 fn settled(answer: Result<(), TotalsFault>) -> Result<Option<TotalsFault>, Memory>
@@ -58,141 +49,107 @@ fn meter_of(edit: &EditRead) -> Address
     }
 }
 
-// Writes the answer to an edit, which names this meter.
-fn write_edit_answer<K: Sink>(
-    out: &mut K,
-    meter: Option<Address>,
-    fault: Option<TotalsFault>,
-) -> Result<(), Stop>
-    ensures writes { IsTrue K.tells → Writes (edit_text meter fault) (sink_change K.Sink out.old out.new) result }
-    ensures cause { result ≡ Err Stop.Write → WriteFailed (sink_change K.Sink out.old out.new) }
-    ensures later { K.faults out.old ≤ K.faults out.new }
-{
-    match write(out, &EditAnswer { meter, fault }) {
-        Ok(()) => Ok(()),
-        Err(_) => Err(Stop::Write),
-    }
-}
-
-// Writes the usages of a meter, in an answer that names this one.
-fn write_usages<K: Sink>(
-    totals: &Totals,
-    out: &mut K,
-    meter: Option<Address>,
-    address: Address,
-) -> Result<(), Stop>
-    ensures writes { IsTrue K.tells → (table : Table (List ℕ)) → Keeps table totals.now →
-        Writes (usages_text meter table address) (sink_change K.Sink out.old out.new) result }
-    ensures cause { result ≡ Err Stop.Write → WriteFailed (sink_change K.Sink out.old out.new) }
-    ensures later { K.faults out.old ≤ K.faults out.new }
-{
-    let Ok(keys) = totals.keys() else {
-        return Err(Stop::Memory);
-    };
-    let answer = UsagesAnswer {
-        meter,
-        totals,
-        address,
-        keys: keys.as_slice(),
-    };
-    match write(out, &answer) {
-        Ok(()) => Ok(()),
-        Err(_) => Err(Stop::Write),
-    }
-}
-
-// Writes the totals of all meters.
-fn write_totals<K: Sink>(totals: &Totals, out: &mut K) -> Result<(), Stop>
-    ensures writes { IsTrue K.tells → (table : Table (List ℕ)) → Keeps table totals.now →
-        Writes (totals_text table) (sink_change K.Sink out.old out.new) result }
-    ensures cause { result ≡ Err Stop.Write → WriteFailed (sink_change K.Sink out.old out.new) }
-    ensures later { K.faults out.old ≤ K.faults out.new }
-{
-    let Ok(keys) = totals.keys() else {
-        return Err(Stop::Memory);
-    };
-    let answer = TotalsAnswer {
-        totals,
-        keys: keys.as_slice(),
-    };
-    match write(out, &answer) {
-        Ok(()) => Ok(()),
-        Err(_) => Err(Stop::Write),
-    }
-}
-
-// Does an edit and writes its answer.
-fn answer_edit<K: Sink>(
+// Does an edit and puts its answer.
+fn answer_edit(
     totals: &mut Totals,
-    out: &mut K,
     addressed: bool,
     edit: &EditRead,
-) -> Result<(), Stop>
-    ensures rows { OnOk result ((table : Table (List ℕ)) → Keeps table totals.old →
-        Keeps (rows_by table (Some (edits (edit_read edit.now)))) totals.new) }
-    ensures writes { IsTrue K.tells → (table : Table (List ℕ)) → Keeps table totals.old →
-        Writes (answer_text addressed table (Some (edits (edit_read edit.now)))) (sink_change K.Sink out.old out.new) result }
-    ensures cause { result ≡ Err Stop.Write → WriteFailed (sink_change K.Sink out.old out.new) }
-    ensures later { K.faults out.old ≤ K.faults out.new }
+    text: &mut Sheet,
+) -> Result<(), Memory>
+    ensures { OnOk result (PutsAnswer addressed (Some (edits (edit_read edit.now))) totals.old totals.new text.old text.new) }
 {
-    match do_edit(totals, edit) {
-        Ok(fault) => write_edit_answer(out, named_if(addressed, meter_of(edit)), fault),
-        Err(_) => Err(Stop::Memory),
-    }
+    let fault = do_edit(totals, edit)?;
+    put_edit_answer(text, named_if(addressed, meter_of(edit)), fault);
+    Ok(())
 }
 
-// Does what a line asks for and writes the answer.
-fn answer_request<K: Sink>(
+// Puts the usages of a meter.
+fn answer_usages(
+    totals: &Totals,
+    addressed: bool,
+    address: Address,
+    text: &mut Sheet,
+) -> Result<(), Memory>
+    ensures { OnOk result (PutsAnswer addressed (Some (usages address)) totals.now totals.now text.old text.new) }
+{
+    let keys = totals.keys()?;
+    put_usages_answer(
+        text,
+        named_if(addressed, address),
+        totals,
+        address,
+        keys.as_slice(),
+    );
+    Ok(())
+}
+
+// Puts the totals of all meters, whose answer names none.
+fn answer_totals(rows: &Totals, text: &mut Sheet) -> Result<(), Memory>
+    ensures { OnOk result ((addressed : Bool) → PutsAnswer addressed (Some totals) rows.now rows.now text.old text.new) }
+{
+    let keys = rows.keys()?;
+    put_totals_answer(text, rows, keys.as_slice());
+    Ok(())
+}
+
+// Does what a line asks for and puts the answer.
+fn answer_request(
     totals: &mut Totals,
-    out: &mut K,
     addressed: bool,
     request: &RequestRead,
-) -> Result<(), Stop>
-    ensures rows { OnOk result ((table : Table (List ℕ)) → Keeps table totals.old →
-        Keeps (rows_by table (Some (request_read request.now))) totals.new) }
-    ensures writes { IsTrue K.tells → (table : Table (List ℕ)) → Keeps table totals.old →
-        Writes (answer_text addressed table (Some (request_read request.now))) (sink_change K.Sink out.old out.new) result }
-    ensures cause { result ≡ Err Stop.Write → WriteFailed (sink_change K.Sink out.old out.new) }
-    ensures later { K.faults out.old ≤ K.faults out.new }
+    text: &mut Sheet,
+) -> Result<(), Memory>
+    ensures { OnOk result (PutsAnswer addressed (Some (request_read request.now)) totals.old totals.new text.old text.new) }
 {
     match request {
-        RequestRead::Edits(edit) => answer_edit(totals, out, addressed, edit),
-        RequestRead::Usages(address) => {
-            write_usages(totals, out, named_if(addressed, *address), *address)
+        RequestRead::Edits(edit) => answer_edit(totals, addressed, edit, text),
+        RequestRead::Usages(address) => answer_usages(totals, addressed, *address, text),
+        RequestRead::Totals => answer_totals(totals, text),
+    }
+}
+
+// Puts that a line asks for nothing.
+fn put_bad<P: Paper>(paper: &mut P)
+    ensures { Puts P.takes paper.old (codes "bad\n") paper.new }
+{
+    put_text(paper, "bad\n");
+}
+
+/// Answers lines over the rows that those before them left.
+#[derive(Drop)]
+pub(crate) struct Answerer {
+    /// The rows.
+    pub(crate) totals: Totals,
+    /// Whether each answer has the address of its meter in it.
+    pub(crate) addressed: bool,
+}
+
+impl Teller for Answerer {
+    ghost use Rattle.usage_totals_main.specs.Answering.{AnswersLine};
+
+    ghost longest = { 7774 };
+
+    ghost tells = { AnswersLine };
+
+    fn tell(
+        &mut self,
+        alloc: Global,
+        _number: u32,
+        line: &[u8],
+        text: &mut Sheet,
+        _note: &mut Sheet,
+    ) -> Result<(), Memory> {
+        match read_request(alloc, line) {
+            Ok(request) => answer_request(&mut self.totals, self.addressed, &request, text),
+            Err(Unread::Bad) => {
+                put_bad(text);
+                Ok(())
+            }
+            Err(Unread::Memory) => Err(Memory),
         }
-        RequestRead::Totals => write_totals(totals, out),
     }
-}
 
-/// Writes that a line asks for nothing.
-pub(crate) fn write_bad<K: Sink>(out: &mut K) -> Result<(), Stop>
-    ensures writes { IsTrue K.tells → Writes (codes "bad\n") (sink_change K.Sink out.old out.new) result }
-    ensures cause { result ≡ Err Stop.Write → WriteFailed (sink_change K.Sink out.old out.new) }
-    ensures later { K.faults out.old ≤ K.faults out.new }
-{
-    match write_all(out, b"bad\n") {
-        Ok(()) => Ok(()),
-        Err(_) => Err(Stop::Write),
-    }
-}
-
-/// Does what a line asks for, which is given without its end, and writes the answer.
-pub(crate) fn answer_line<K: Sink>(
-    alloc: Global,
-    totals: &mut Totals,
-    out: &mut K,
-    addressed: bool,
-    line: &[u8],
-) -> Result<(), Stop>
-    ensures rows { OnOk result ((table : Table (List ℕ)) → Keeps table totals.old → Keeps (rows_after_line table line.now) totals.new) }
-    ensures writes { IsTrue K.tells → (table : Table (List ℕ)) → Keeps table totals.old →
-        Writes (answer_text addressed table (request_of line.now)) (sink_change K.Sink out.old out.new) result }
-    ensures cause { result ≡ Err Stop.Write → WriteFailed (sink_change K.Sink out.old out.new) }
-    ensures later { K.faults out.old ≤ K.faults out.new }
-{
-    match read_request(alloc, line) {
-        Ok(request) => answer_request(totals, out, addressed, &request),
-        Err(Unread::Bad) => write_bad(out),
-        Err(Unread::Memory) => Err(Stop::Memory),
+    fn tell_long(&mut self, _number: u32, text: &mut Sheet, _note: &mut Sheet) {
+        put_bad(text);
     }
 }

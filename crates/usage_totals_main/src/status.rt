@@ -1,5 +1,7 @@
 //! How a run ended.
 
+use line_teller::LinesEnd;
+
 /// How a run ended: `Words` before all others, and else as the lines ended.
 #[derive(Clone, Copy, Debug, PartialEq, Eq)]
 pub enum TotalsStatus {
@@ -19,7 +21,20 @@ pub enum TotalsStatus {
 
 impl TotalsStatus {
     ghost use Rattle.std.specs.Prelude.{◌≡◌};
-    ghost use Rattle.usage_totals_main.specs.Run.{code_of};
+    ghost use Rattle.usage_totals_main.specs.Run.{code_of, status_of};
+
+    // The status of a run whose lines ended so.
+    pub(crate) fn of_lines(end: LinesEnd) -> TotalsStatus
+        ensures { result ≡ status_of end }
+    {
+        match end {
+            LinesEnd::Done => TotalsStatus::Done,
+            LinesEnd::Read => TotalsStatus::Read,
+            LinesEnd::Cut => TotalsStatus::Cut,
+            LinesEnd::Write => TotalsStatus::Write,
+            LinesEnd::Memory => TotalsStatus::Memory,
+        }
+    }
 
     /// The exit status of the program.
     pub fn code(self) -> u8

@@ -6,11 +6,12 @@ ghost use Rattle.paper.specs.Pieces.{labelled, text_if};
 ghost use Rattle.meter_usage.specs.Usage.{usage_at};
 ghost use Rattle.meter_usage.specs.Sums.{total_at};
 ghost use Rattle.meter_usage.specs.Table.{rows_at};
-ghost use Rattle.usage_totals_main.specs.Texts.{named_if, address_text, done_text, refusal_text, key_text, usage_line, total_line};
+ghost use Rattle.usage_totals_main.specs.Texts.{named_if, address_text, done_text, refusal_text, edit_text, key_text};
+ghost use Rattle.usage_totals_main.specs.Texts.{usage_line, total_line, usages_kept, totals_kept};
 
 use meter_address::Address;
 use meter_usage::{Totals, TotalsFault, UsageKey};
-use paper::{Paper, Printed, put_hex, put_labelled, put_signed, put_text};
+use paper::{Paper, put_hex, put_labelled, put_signed, put_text};
 use unit_text::{put_register, put_unit};
 
 /// The meter that an answer names, if answers do.
@@ -140,66 +141,44 @@ fn put_totals<P: Paper>(paper: &mut P, totals: &Totals, keys: &[UsageKey])
     }
 }
 
-/// The usages of a meter, with the keys of all usages, and the meter that the answer names, if it does.
-#[derive(Drop)]
-pub(crate) struct UsagesAnswer<'a> {
-    pub meter: Option<Address>,
-    pub totals: &'a Totals,
-    pub address: Address,
-    pub keys: &'a [UsageKey],
+/// Puts the usages of a meter, with the keys of all usages, in an answer that names this meter, if it does.
+#[tactic(auto, unfolding(crate::specs::Texts::usages_kept), using(paper::proofs::Calls::two_make))]
+pub(crate) fn put_usages_answer<P: Paper>(
+    paper: &mut P,
+    meter: Option<Address>,
+    totals: &Totals,
+    address: Address,
+    keys: &[UsageKey],
+)
+    ensures { Puts P.takes paper.old (usages_kept meter totals.now address keys.now) paper.new }
+{
+    put_usages(paper, meter, totals, address, keys);
+    put_done(paper, meter, "end");
 }
 
-impl Printed for UsagesAnswer<'_> {
-    ghost use Rattle.usage_totals_main.specs.Texts.{usages_kept};
-
-    ghost text = { λ a. usages_kept a.meter a.totals.now a.address a.keys.now };
-
-    #[tactic(auto, unfolding(crate::specs::Texts::usages_kept), using(paper::proofs::Calls::two_make))]
-    fn print<P: Paper>(&self, paper: &mut P) {
-        put_usages(paper, self.meter, self.totals, self.address, self.keys);
-        put_done(paper, self.meter, "end");
-    }
+/// Puts the totals, with the keys of all usages.
+#[tactic(auto, unfolding(crate::specs::Texts::totals_kept), using(paper::proofs::Calls::two_make))]
+pub(crate) fn put_totals_answer<P: Paper>(paper: &mut P, totals: &Totals, keys: &[UsageKey])
+    ensures { Puts P.takes paper.old (totals_kept totals.now keys.now) paper.new }
+{
+    put_totals(paper, totals, keys);
+    put_text(paper, "end\n");
 }
 
-/// The totals, with the keys of all usages.
-#[derive(Drop)]
-pub(crate) struct TotalsAnswer<'a> {
-    pub totals: &'a Totals,
-    pub keys: &'a [UsageKey],
-}
-
-impl Printed for TotalsAnswer<'_> {
-    ghost use Rattle.usage_totals_main.specs.Texts.{totals_kept};
-
-    ghost text = { λ a. totals_kept a.totals.now a.keys.now };
-
-    #[tactic(auto, unfolding(crate::specs::Texts::totals_kept), using(paper::proofs::Calls::two_make))]
-    fn print<P: Paper>(&self, paper: &mut P) {
-        put_totals(paper, self.totals, self.keys);
-        put_text(paper, "end\n");
-    }
-}
-
-/// The answer to an edit: why the rows refuse it, if they do, and the meter that the answer names, if it does.
-#[derive(Drop)]
-pub(crate) struct EditAnswer {
-    pub meter: Option<Address>,
-    pub fault: Option<TotalsFault>,
-}
-
-impl Printed for EditAnswer {
-    ghost use Rattle.usage_totals_main.specs.Texts.{edit_text};
-
-    ghost text = { λ a. edit_text a.meter a.fault };
-
-    #[tactic(auto, using(paper::proofs::Calls::none))]
-    fn print<P: Paper>(&self, paper: &mut P) {
-        match self.fault {
-            None => put_done(paper, self.meter, "ok"),
-            Some(TotalsFault::Meters) => put_refusal(paper, self.meter, " meters"),
-            Some(TotalsFault::Rows) => put_refusal(paper, self.meter, " rows"),
-            Some(TotalsFault::NoSuch(place)) => put_no_such(paper, self.meter, place),
-            Some(TotalsFault::Memory) => {}
-        }
+/// Puts the answer to an edit: why the rows refuse it, if they do, and the meter that the answer names, if it does.
+#[tactic(auto, using(paper::proofs::Calls::none))]
+pub(crate) fn put_edit_answer<P: Paper>(
+    paper: &mut P,
+    meter: Option<Address>,
+    fault: Option<TotalsFault>,
+)
+    ensures { Puts P.takes paper.old (edit_text meter fault) paper.new }
+{
+    match fault {
+        None => put_done(paper, meter, "ok"),
+        Some(TotalsFault::Meters) => put_refusal(paper, meter, " meters"),
+        Some(TotalsFault::Rows) => put_refusal(paper, meter, " rows"),
+        Some(TotalsFault::NoSuch(place)) => put_no_such(paper, meter, place),
+        Some(TotalsFault::Memory) => {}
     }
 }
