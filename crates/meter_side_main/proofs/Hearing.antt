@@ -84,7 +84,3 @@ module _ (l : Listening) (es : List Executed) (v : Side) (same : side_of l es �
         (subst (λ (x : List ℕ). StandsFor (ds ++ x ∷ []) (side_of (record l { last = last_after l.last done }) (es ++ executed_in done)))
         heard_is
         (stands_more (side_of l es) done heard ds hk hb done_is (subst (StandsFor ds) (sym same) h)))
-
-pub refusal_of : (own : Address) (c : Commissioned) (last : ℕ) (bytes : List ℕ) (r : SideReason) → IsBlock c.key → IsBytes bytes
-    → did_after own c last bytes ≡ did.Refused r → IsRefusal own c last bytes r
-refusal_of own c last bytes r hk hb h = (refused_exactly own c last bytes r hk hb).0 h
