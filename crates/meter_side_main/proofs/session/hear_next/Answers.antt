@@ -1,6 +1,6 @@
 -- A line is heard as the reader lends it, and one that is too long delivers nothing.
 use Rattle.std.proofs.Common.{ℕ, ◌<◌, List, [], ◌∷◌, ◌++◌, length, Option, sym, ap, ◌∙◌, subst}
-use Rattle.line_reader.specs.Reader.{given, GivesLongLine}
+use Rattle.line_reader.specs.Reader.{given}
 use Rattle.meter_side_main.specs.Lines.{answer_of}
 use Rattle.meter_side_main.proofs.LinesHeard.{long_line}
 use Rattle.meter_side_main.proofs.session.hear_next.Goals as goal
