@@ -3,13 +3,9 @@ use Rattle.std.proofs.Common.{◌≡◌, ◌≢◌, ℕ, zero, suc, ◌+◌, ◌
 use Rattle.std.proofs.lemmas.Bool.{eqb-true, ne_eqb}
 use Rattle.meter_side_main.specs.Reading.{agreeing}
 
-agreeing-same : (x y : ℕ) (xs ys : List ℕ) → x ≡ y → agreeing (x ∷ xs) (y ∷ ys) ≡ 1 + agreeing xs ys
+pub agreeing-cases : (x y : ℕ) (xs ys : List ℕ) (b : Bool) → eqb x y ≡ b → agreeing (x ∷ xs) (y ∷ ys) ≡ cond b (1 + agreeing xs ys) 0
 unfolding agreeing
-agreeing-same x y xs ys e = rw (eq-eqb x y e) refl
-
-agreeing-other : (x y : ℕ) (xs ys : List ℕ) → x ≢ y → agreeing (x ∷ xs) (y ∷ ys) ≡ 0
-unfolding agreeing
-agreeing-other x y xs ys h = rw (ne_eqb x y h) refl
+agreeing-cases x y xs ys b e = rw e refl
 
 pub agreeing-nil : (ys : List ℕ) → agreeing [] ys ≡ 0
 unfolding agreeing
@@ -21,10 +17,10 @@ pub agreeing_until : (want have : List ℕ) (p : ℕ) → p < length want → le
     → get_or want p 0 ≢ get_or have p 0 → agreeing want have ≡ p
 agreeing_until [] have p h long same other = absurd (omega arith)
 agreeing_until (x ∷ xs) [] p h long same other = absurd (omega arith)
-agreeing_until (x ∷ xs) (y ∷ ys) zero h long same other = agreeing-other x y xs ys other
+agreeing_until (x ∷ xs) (y ∷ ys) zero h long same other = agreeing-cases x y xs ys false (ne_eqb x y other)
 agreeing_until (x ∷ xs) (y ∷ ys) (suc p) h long same other =
     let rest : agreeing xs ys ≡ p = agreeing_until xs ys p (omega arith) (omega arith) (λ k l. same (suc k) (omega arith)) other in
-    agreeing-same x y xs ys (same zero (omega arith)) ∙ omega (arith, rest)
+    agreeing-cases x y xs ys true (eq-eqb x y (same zero (omega arith))) ∙ omega (arith, rest)
 
 -- to the end of the first
 pub agreeing_all : (want have : List ℕ) → length want ≤ length have → ((k : ℕ) → k < length want → get_or want k 0 ≡ get_or have k 0)
@@ -33,11 +29,7 @@ agreeing_all [] have long same = agreeing-nil have
 agreeing_all (x ∷ xs) [] long same = absurd (omega arith)
 agreeing_all (x ∷ xs) (y ∷ ys) long same =
     let rest : agreeing xs ys ≡ length xs = agreeing_all xs ys (omega arith) (λ k l. same (suc k) (omega arith)) in
-    agreeing-same x y xs ys (same zero (omega arith)) ∙ omega (arith, rest)
-
-pub agreeing-cases : (x y : ℕ) (xs ys : List ℕ) (b : Bool) → eqb x y ≡ b → agreeing (x ∷ xs) (y ∷ ys) ≡ cond b (1 + agreeing xs ys) 0
-unfolding agreeing
-agreeing-cases x y xs ys b e = rw e refl
+    agreeing-cases x y xs ys true (eq-eqb x y (same zero (omega arith))) ∙ omega (arith, rest)
 
 agreeing-end : (x : ℕ) (xs : List ℕ) → agreeing (x ∷ xs) [] ≡ 0
 unfolding agreeing
@@ -60,4 +52,4 @@ agreed (x ∷ xs) (y ∷ ys) h = by_test (eqb x y) (λ g. agreed xs ys g) refl w
 pub agreeing-append : (want rest : List ℕ) → agreeing want (want ++ rest) ≡ length want
 agreeing-append [] rest = agreeing-nil rest
 agreeing-append (x ∷ xs) rest = let e : agreeing xs (xs ++ rest) ≡ length xs = agreeing-append xs rest in
-    agreeing-same x x xs (xs ++ rest) refl ∙ omega (arith, e)
+    agreeing-cases x x xs (xs ++ rest) true (eq-eqb x x refl) ∙ omega (arith, e)

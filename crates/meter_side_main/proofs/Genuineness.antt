@@ -1,5 +1,5 @@
 -- What passes all but the comparison of its counter is genuine, and no other is.
-use Rattle.std.proofs.Common.{◌≡◌, ℕ, zero, suc, ◌+◌, ◌-◌, ◌*◌, ◌%◌, ◌^◌, ◌<◌, ◌≤◌, ◌==◌, ◌&&◌, Bool, true, false, cond, leb, eqb, List, [], ◌∷◌, ◌++◌, length, take, drop, get_or, replicate, Ok, Err, refl, sym, ap, ap₂, ◌∙◌, subst, arith}
+use Rattle.std.proofs.Common.{◌≡◌, ℕ, zero, suc, ◌+◌, ◌-◌, ◌*◌, ◌%◌, ◌^◌, ◌<◌, ◌≤◌, ◌==◌, ◌&&◌, Bool, true, false, cond, leb, eqb, List, [], ◌∷◌, ◌++◌, length, take, drop, get_or, replicate, Result, Ok, Err, refl, sym, ap, ap₂, ◌∙◌, subst, arith}
 use Rattle.std.proofs.lemmas.Bool.{and_parts, eqb-true, leb-true}
 use Rattle.std.proofs.lemmas.List.{append_assoc, append-nil, take-append-drop, length-take, length-drop}
 use Rattle.std.proofs.lemmas.List.Elements.{All-head, All-tail, All-take, All-drop}
@@ -7,7 +7,7 @@ use Rattle.std.proofs.lemmas.Slice.Eq.{bytes_eq-Decides}
 use Rattle.std.specs.Str.{bytes_eq}
 use Rattle.std.specs.Int.{w32, to_le_bytes, from_le_bytes}
 use Rattle.aes_block.specs.Block.{IsBlock}
-use Rattle.aes_block.proofs.Lists.{AreBytes, at_four}
+use Rattle.aes_block.proofs.Lists.{AreBytes}
 use Rattle.cbc_cmac.specs.Cbc.{cbc_encrypted, cbc_decrypted}
 use Rattle.cbc_cmac.specs.Mac.{zeros, cmac}
 use Rattle.cbc_cmac.proofs.Blocks.{bytes_of_blocks_are_undone, length-cbc_decrypted, AreBytes-cbc_decrypted}
@@ -27,10 +27,12 @@ use Rattle.downlink_maker.proofs.Bytes.{Byte, bytes_all, IsBlock-zeros, IsBlock-
 use Rattle.downlink_maker.proofs.Parts.{length-layers_before, part-l, part-counter, part-mac, part-message, part-content}
 use Rattle.downlink_maker.proofs.ReadBack.{decrypted_again, is_laid_out}
 use Rattle.meter_side_main.specs.declared.delivery.Executed.{Executed}
+use Rattle.meter_side_main.specs.declared.reason.SideReason.{SideReason}
 use Rattle.meter_side_main.specs.declared.reason.SideReason.TheVariants.{Frame, Layout, BadMac, CheckBytes}
-use Rattle.meter_side_main.specs.Reading.{blocks_in, counter_in, mac_in, parts_in, layout_of, agreeing, mac_due, decrypted, framed, is_length, length_passed, layout_passed, mac_passed, check_bytes_passed, told}
+use Rattle.meter_side_main.specs.Reading.{blocks_in, counter_in, mac_in, parts_in, layout_of, agreeing, mac_due, decrypted, Passed, framed, is_length, told}
 use Rattle.meter_side_main.specs.Genuine.{IsGenuine, IsOfItsContent, GenuineAreTold, ContentsArePayloads}
 use Rattle.meter_side_main.proofs.Agreeing.{agreed, agreeing-append}
+use Rattle.steps.specs.Steps.{◌>>=◌}
 use Rattle.steps.proofs.StepLaws.{bind_ok, map_both_ok}
 
 -- ---- what is laid out as it should be, and has its MAC and its check bytes
@@ -93,10 +95,14 @@ module _ (own : Address) (c : Commissioned) (p : Parts) (payload t : List ℕ) (
 
 -- ---- what passes
 
--- a test that was passed
-pub if_passed : {E : Type 0} (b : Bool) (e : E) (x : Unit {0}) → cond b (Ok tt) (Err e) ≡ Ok x → b ≡ true
-if_passed true e x h = refl
-if_passed false e x h = absurd cc
+abbrev pub passed : Passed
+passed = Ok tt
+
+-- a check that was passed, and the steps behind it
+pub guard_ok : {A : Type 0} (b : Bool) (e : SideReason) (f : Unit {0} → Result A SideReason) (y : A)
+    → (cond b passed (Err e) >>= f) ≡ Ok y → (b ≡ true) × (f tt ≡ Ok y)
+guard_ok true e f y h = (refl, h)
+guard_ok false e f y h = absurd cc
 
 pub is_counted : (l : ℕ) → is_length l ≡ true → (56 ≤ l) × (l ≤ 136) × ((l - 40) % 16 ≡ 0)
 is_counted l h =
@@ -104,14 +110,13 @@ is_counted l h =
     let q = and_parts (leb 56 l) (leb l 136) p.0 in
     (leb-true _ _ q.0, leb-true _ _ q.1, eqb-true _ _ p.1)
 
-counter-fits : (xs : List ℕ) → length xs ≡ 4 → AreBytes xs → from_le_bytes w32 xs < 2 ^ 32
-counter-fits xs four = at_four (λ (ys : List ℕ). AreBytes ys → from_le_bytes w32 ys < 2 ^ 32) fits xs four where
-  fits : (a b c d : ℕ) → AreBytes (a ∷ b ∷ c ∷ d ∷ []) → from_le_bytes w32 (a ∷ b ∷ c ∷ d ∷ []) < 2 ^ 32
-  fits a b c d h =
-      let h1 = All-tail Byte a (b ∷ c ∷ d ∷ []) h in
-      let h2 = All-tail Byte b (c ∷ d ∷ []) h1 in
-      let h3 = All-tail Byte c (d ∷ []) h2 in
-      omega (arith, All-head Byte a (b ∷ c ∷ d ∷ []) h, All-head Byte b (c ∷ d ∷ []) h1, All-head Byte c (d ∷ []) h2, All-head Byte d [] h3)
+pub small : (xs : List ℕ) → AreBytes xs → (i : ℕ) → get_or xs i 0 < 256
+small [] h i = omega arith
+small (x ∷ xs) h zero = All-head Byte x xs h
+small (x ∷ xs) h (suc i) = small xs (All-tail Byte x xs h) i
+
+counter-fits : (xs : List ℕ) → AreBytes xs → from_le_bytes w32 xs < 2 ^ 32
+counter-fits xs h = omega (arith, small xs h 0, small xs h 1, small xs h 2, small xs h 3)
 
 parts_of : (own a : Address) (t : List ℕ) → IsBytes t → IsTelegram t → is_length (get_or t 0 0) ≡ true → agreeing (layout_of own a t) t ≡ 41
     → HasParts own a (parts_in t) t
@@ -125,20 +130,15 @@ parts_of own a t hb ht l agree =
       whole = sym (take-append-drop 41 t) ∙ ap (λ (x : List ℕ). x ++ drop 41 t) front;
       least = omega (arith, counted.0);
       most = omega (arith, counted.1);
-      counter = counter-fits (take 4 (drop 15 t)) (omega (arith, length-take 4 (drop 15 t), length-drop 15 t))
-          (All-take Byte 4 (drop 15 t) (All-drop Byte 15 t (bytes_all t hb)));
+      counter = counter-fits (take 4 (drop 15 t)) (All-take Byte 4 (drop 15 t) (All-drop Byte 15 t (bytes_all t hb)));
       eight = eight;
       content = omega (arith, length-drop 41 t, ht.counted, counted.0, counted.2);
     }
 
-begins_twice : (plain : List ℕ) → check_bytes_passed plain ≡ Ok tt → plain ≡ 0x2F ∷ 0x2F ∷ drop 2 plain
-begins_twice plain h =
-    let two : List ℕ = get_or plain 0 0 ∷ get_or plain 1 0 ∷ [] in
-    from_two plain ((bytes_eq-Decides two (0x2F ∷ 0x2F ∷ [])).0 (if_passed (bytes_eq two (0x2F ∷ 0x2F ∷ [])) (CheckBytes two) tt h)) where
-      from_two : (plain : List ℕ) → get_or plain 0 0 ∷ get_or plain 1 0 ∷ [] ≡ 0x2F ∷ 0x2F ∷ [] → plain ≡ 0x2F ∷ 0x2F ∷ drop 2 plain
-      from_two [] e = absurd cc
-      from_two (a ∷ []) e = absurd cc
-      from_two (a ∷ b ∷ rest) e = ap (λ (x : List ℕ). x ++ rest) e
+begins_twice : (plain : List ℕ) → get_or plain 0 0 ∷ get_or plain 1 0 ∷ [] ≡ 0x2F ∷ 0x2F ∷ [] → plain ≡ 0x2F ∷ 0x2F ∷ drop 2 plain
+begins_twice [] e = absurd cc
+begins_twice (a ∷ []) e = absurd cc
+begins_twice (a ∷ b ∷ rest) e = ap (λ (x : List ℕ). x ++ rest) e
 
 -- a delivery that tells this is its downlink, with nothing but the content in its blocks
 record IsItself (own : Address) (c : Commissioned) (bytes : List ℕ) (e : Executed) : Type 0 where
@@ -156,15 +156,15 @@ told_is_itself own c bytes e hk hb h =
     let decoded : decoded_a bytes ≡ Ok t = d.1 ∙ ap Ok d.2 in
     let frame : FrameA bytes t = found bytes t hb decoded in
     let each : IsBytes t = telegrams_are_bytes A bytes t hb frame in
-    let l = bind_ok (length_passed t) _ e a.2 in
-    let y = bind_ok (layout_passed own c.address t) _ e l.2 in
-    let m = bind_ok (mac_passed c t) _ e y.2 in
-    let k = bind_ok (check_bytes_passed (decrypted c t)) _ e m.2 in
-    let parts = parts_of own c.address t each frame.telegram (if_passed (is_length (get_or t 0 0)) (Layout 0) l.0 l.1)
-    (eqb-true _ _ (if_passed (agreeing (layout_of own c.address t) t == 41) (Layout (agreeing (layout_of own c.address t) t)) y.0 y.1)) in
+    let two : List ℕ = get_or (decrypted c t) 0 0 ∷ get_or (decrypted c t) 1 0 ∷ [] in
+    let l = guard_ok (is_length (get_or t 0 0)) (Layout 0) _ e a.2 in
+    let y = guard_ok (agreeing (layout_of own c.address t) t == 41) (Layout (agreeing (layout_of own c.address t) t)) _ e l.1 in
+    let m = guard_ok (bytes_eq (mac_due c t) (mac_in t)) BadMac _ e y.1 in
+    let k = guard_ok (bytes_eq two (0x2F ∷ 0x2F ∷ [])) (CheckBytes two) _ e m.1 in
+    let parts = parts_of own c.address t each frame.telegram l.0 (eqb-true _ _ y.0) in
     let payload : List ℕ = drop 2 (decrypted c t) in
-    let plain : decrypted c t ≡ 0x2F ∷ 0x2F ∷ payload = begins_twice (decrypted c t) k.1 in
-    let signed : mac_due c t ≡ mac_in t = (bytes_eq-Decides _ _).0 (if_passed (bytes_eq (mac_due c t) (mac_in t)) BadMac m.0 m.1) in
+    let plain : decrypted c t ≡ 0x2F ∷ 0x2F ∷ payload = begins_twice (decrypted c t) ((bytes_eq-Decides two (0x2F ∷ 0x2F ∷ [])).0 k.0) in
+    let signed : mac_due c t ≡ mac_in t = (bytes_eq-Decides _ _).0 m.0 in
     let message = part-message own c.address (parts_in t) t parts in
     let due = ap (λ (x : List ℕ). take 8 (cmac (mac_key c (counter_in t)) (0x25 ∷ to_le_bytes w32 (counter_in t) ++ x))) (sym message)
     ∙ signed in

@@ -1,11 +1,10 @@
 -- The places that a layout is judged by.
-use Rattle.std.proofs.Common.{◌≡◌, ◌≢◌, ℕ, zero, suc, ◌+◌, ◌-◌, ◌<◌, ◌≤◌, List, [], ◌∷◌, ◌++◌, length, take, drop, get_or, refl, sym, ap, ◌∙◌, arith, inl, inr}
+use Rattle.std.proofs.Common.{◌≡◌, ◌≢◌, ℕ, ◌+◌, ◌-◌, ◌<◌, ◌≤◌, List, ◌++◌, length, take, drop, get_or, refl, sym, ap, ◌∙◌, arith, inl, inr}
 use Rattle.std.proofs.lemmas.Bool.{cases_lt}
 use Rattle.std.proofs.lemmas.List.{get_or_append_left, get_or-take, get_or-drop, length-take, length-drop}
-use Rattle.std.proofs.lemmas.List.Elements.{All-head, All-tail, All-take, All-drop}
+use Rattle.std.proofs.lemmas.List.Elements.{All-take, All-drop}
 use Rattle.std.proofs.lemmas.Nat.{le_bytes_4}
-use Rattle.std.specs.Int.{w32, to_le_bytes, from_le_bytes}
-use Rattle.aes_block.proofs.Lists.{AreBytes, at_four}
+use Rattle.std.specs.Int.{w32, to_le_bytes}
 use Rattle.frame_formats.specs.Crc.{IsBytes}
 use Rattle.frame_formats.specs.Frames.{IsTelegram}
 use Rattle.meter_address.specs.declared.address.Address.{Address}
@@ -15,6 +14,7 @@ use Rattle.downlink_maker.specs.Parts.{layers_before}
 use Rattle.downlink_maker.proofs.Bytes.{Byte, bytes_all}
 use Rattle.meter_side_main.specs.Reading.{counter_in, mac_in, parts_with}
 use Rattle.meter_side_main.specs.Refusals.{HasBlocks, IsJudgedPlace, PlacesAreJudged}
+use Rattle.meter_side_main.proofs.Genuineness.{small}
 use Rattle.meter_side_main.proofs.Refusing.{eight, wide}
 
 there : (xs : List ℕ) (p k : ℕ) → p ≤ k → get_or xs k 0 ≡ get_or (drop p xs) (k - p) 0
@@ -23,25 +23,6 @@ there xs p k h = let e : k ≡ p + (k - p) = omega arith in ap (λ (j : ℕ). ge
 front_same : (xs ys zs : List ℕ) (n j : ℕ) → j < n → length xs ≡ n → xs ≡ take n zs → get_or (xs ++ ys) j 0 ≡ get_or zs j 0
 front_same xs ys zs n j h long e = get_or_append_left xs ys 0 j (omega (arith, long)) ∙ ap (λ (x : List ℕ). get_or x j 0) e
     ∙ get_or-take n zs j 0 h
-
-bound : (a b c d : ℕ) → a < 256 → b < 256 → c < 256 → d < 256 → (i : ℕ) → get_or (a ∷ b ∷ c ∷ d ∷ []) i 0 < 256
-bound a b c d ha hb hc hd zero = ha
-bound a b c d ha hb hc hd (suc zero) = hb
-bound a b c d ha hb hc hd (suc (suc zero)) = hc
-bound a b c d ha hb hc hd (suc (suc (suc zero))) = hd
-bound a b c d ha hb hc hd (suc (suc (suc (suc i)))) = omega arith
-
--- four bytes are those of the number that they write
-four_back : (xs : List ℕ) → length xs ≡ 4 → AreBytes xs → to_le_bytes w32 (from_le_bytes w32 xs) ≡ xs
-four_back xs four = at_four (λ (ys : List ℕ). AreBytes ys → to_le_bytes w32 (from_le_bytes w32 ys) ≡ ys) back xs four where
-  back : (a b c d : ℕ) → AreBytes (a ∷ b ∷ c ∷ d ∷ []) → to_le_bytes w32 (from_le_bytes w32 (a ∷ b ∷ c ∷ d ∷ [])) ≡ a ∷ b ∷ c ∷ d ∷ []
-  back a b c d h =
-      let h1 = All-tail Byte a (b ∷ c ∷ d ∷ []) h in
-      let h2 = All-tail Byte b (c ∷ d ∷ []) h1 in
-      let h3 = All-tail Byte c (d ∷ []) h2 in
-      le_bytes_4 (a ∷ b ∷ c ∷ d ∷ []) (from_le_bytes w32 (a ∷ b ∷ c ∷ d ∷ [])) refl
-      (bound a b c d (All-head Byte a (b ∷ c ∷ d ∷ []) h) (All-head Byte b (c ∷ d ∷ []) h1) (All-head Byte c (d ∷ []) h2)
-      (All-head Byte d [] h3)) refl
 
 module _ (own a : Address) (t : List ℕ) (n : ℕ) (ht : IsTelegram t) (hb : IsBytes t) (h : HasBlocks t n) where
   abbrev want : List ℕ
@@ -54,8 +35,8 @@ module _ (own a : Address) (t : List ℕ) (n : ℕ) (ht : IsTelegram t) (hb : Is
   unfolding bytes_of
   counter_there k low high =
       let four : to_le_bytes w32 (counter_in t) ≡ take 4 (drop 15 t) =
-      four_back (take 4 (drop 15 t)) (omega (arith, length-take 4 (drop 15 t), length-drop 15 t, long))
-      (All-take Byte 4 (drop 15 t) (All-drop Byte 15 t (bytes_all t hb))) in
+      le_bytes_4 (take 4 (drop 15 t)) (counter_in t) (omega (arith, length-take 4 (drop 15 t), length-drop 15 t, long))
+      (small (take 4 (drop 15 t)) (All-take Byte 4 (drop 15 t) (All-drop Byte 15 t (bytes_all t hb)))) refl in
       there want 15 k low ∙ front_same (to_le_bytes w32 (counter_in t)) (mac_in t ++ header_bytes a (counter_in t) n) (drop 15 t) 4
       (k - 15) (omega arith) refl four ∙ sym (there t 15 k low)
 

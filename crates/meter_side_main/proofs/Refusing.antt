@@ -1,5 +1,5 @@
 -- Each refusal comes exactly where its cause is the first.
-use Rattle.std.proofs.Common.{◌≡◌, ◌≢◌, ℕ, zero, suc, ◌+◌, ◌<◌, ◌≤◌, Bool, true, false, cond, eqb, ltb, List, [], ◌∷◌, ◌++◌, length, take, drop, get_or, Result, Ok, Err, refl, sym, ap, ap₂, ◌∙◌, subst, arith, inl, inr, eq-eqb}
+use Rattle.std.proofs.Common.{◌≡◌, ◌≢◌, ℕ, zero, suc, ◌+◌, ◌<◌, ◌≤◌, Bool, true, false, cond, eqb, ltb, List, [], ◌∷◌, ◌++◌, length, take, drop, get_or, Result, Ok, Err, refl, sym, ap, ap₂, ◌∙◌, subst, arith, ◌⊎◌, inl, inr, eq-eqb}
 use Rattle.std.specs.Str.{bytes_eq}
 use Rattle.std.proofs.lemmas.Bool.{eqb-true, eqb-false, ne_eqb, le-ltb, ltb-false, false_from_ne_true}
 use Rattle.std.proofs.lemmas.List.{take-append-drop, length-take, length-drop, get_or-take}
@@ -8,7 +8,6 @@ use Rattle.aes_block.specs.Block.{IsBlock}
 use Rattle.frame_formats.specs.Crc.{IsBytes}
 use Rattle.frame_formats.specs.Frames.{IsTelegram, FrameA}
 use Rattle.frame_formats.specs.Decoding.{decoded_a}
-use Rattle.frame_formats.specs.declared.fault.FrameFault.{FrameFault}
 use Rattle.frame_formats.proofs.RelationA.{found, only}
 use Rattle.frame_formats.proofs.FirstFault.{fault_found_a, fault_only_a}
 use Rattle.meter_address.specs.declared.address.Address.{Address}
@@ -17,20 +16,20 @@ use Rattle.meter_side_main.specs.declared.delivery.Executed.{Executed}
 use Rattle.meter_side_main.specs.declared.reason.SideReason.{SideReason}
 use Rattle.meter_side_main.specs.declared.reason.SideReason.TheVariants.{Frame, Layout, BadMac, CheckBytes, Stale}
 use Rattle.meter_side_main.specs.declared.reason.Did.TheVariants as did
-use Rattle.meter_side_main.specs.Reading.{blocks_in, mac_in, parts_with, layout_of, agreeing, mac_due, decrypted, Passed, framed, is_length, length_passed, layout_passed, mac_passed, check_bytes_passed, told, did_with, did_after}
+use Rattle.meter_side_main.specs.Reading.{blocks_in, mac_in, parts_with, layout_of, agreeing, mac_due, decrypted, framed, is_length, told, did_with, did_after}
 use Rattle.meter_side_main.specs.Refusals.{HasBlocks, IsFirstOther, IsLaidOut, IsRefusal, RefusedExactly}
 use Rattle.meter_side_main.proofs.Agreeing.{agreed, agreeing-append, agreeing_until, agreeing-cases, agreeing-nil}
 use Rattle.downlink_maker.specs.Parts.{layers_before}
 use Rattle.downlink_maker.proofs.Parts.{length-layers_before}
+use Rattle.steps.specs.Steps.{◌>>=◌}
 use Rattle.steps.proofs.StepLaws.{bind_err, map_both_ok, map_both_err}
-use Rattle.meter_side_main.proofs.Genuineness.{if_passed, is_counted, length_of_blocks, told_is_genuine, genuine_is_told}
+use Rattle.meter_side_main.proofs.Genuineness.{passed, is_counted, length_of_blocks, told_is_genuine, genuine_is_told}
 
-abbrev passed : Passed
-passed = Ok tt
-
-if_refused : (b : Bool) (e r : SideReason) → cond b passed (Err e) ≡ Err r → (b ≡ false) × (e ≡ r)
-if_refused true e r h = absurd cc
-if_refused false e r h = (refl, cc)
+-- a check that refuses, or one behind it
+guard_err : {A : Type 0} (b : Bool) (e : SideReason) (f : Unit {0} → Result A SideReason) (r : SideReason)
+    → (cond b passed (Err e) >>= f) ≡ Err r → ((b ≡ false) × (e ≡ r)) ⊎ ((b ≡ true) × (f tt ≡ Err r))
+guard_err true e f r h = inr (refl, h)
+guard_err false e f r h = inl (refl, cc)
 
 -- ---- the first other byte
 
@@ -102,6 +101,9 @@ agrees_laid own a t ht l agree =
 
 -- ---- what is refused has its cause
 
+differs : (xs ys : List ℕ) → bytes_eq xs ys ≡ false → xs ≢ ys
+differs xs ys other e = absurd (let same = (bytes_eq-Decides xs ys).1 e in cc)
+
 told_refusal : (own : Address) (c : Commissioned) (last : ℕ) (bytes : List ℕ) (r : SideReason) → IsBytes bytes → told own c bytes ≡ Err r
     → IsRefusal own c last bytes r
 unfolding told
@@ -113,52 +115,29 @@ told_refusal own c last bytes r hb h = elim (bind_err (framed bytes) _ r h) [
       let t : List ℕ = a.0 in
       let d = map_both_ok (λ (x : List ℕ). x) Frame (decoded_a bytes) t a.1 in
       let frame : FrameA bytes t = found bytes t hb (d.1 ∙ ap Ok d.2) in
-      elim (bind_err (length_passed t) _ r a.2) [
-        | inl f ↦
-            let q = if_refused (is_length (get_or t 0 0)) (Layout 0) r f in
-            subst (IsRefusal own c last bytes) q.1 (t, frame, inl (refl, (λ n b. absurd (let both = is_blocks t n b in cc))))
-        | inr l ↦
-            let counted : is_length (get_or t 0 0) ≡ true = if_passed (is_length (get_or t 0 0)) (Layout 0) l.0 l.1 in
+      let want : List ℕ = layout_of own c.address t in
+      let two : List ℕ = get_or (decrypted c t) 0 0 ∷ get_or (decrypted c t) 1 0 ∷ [] in
+      elim (guard_err (is_length (get_or t 0 0)) (Layout 0) _ r a.2) [
+        | inl (short, is) ↦
+            subst (IsRefusal own c last bytes) is (t, frame, inl (refl, (λ n b. absurd (let counted = is_blocks t n b in cc))))
+        | inr (counted, l) ↦
             let blocks = blocks_are t counted in
-            let want : List ℕ = layout_of own c.address t in
-            let w = wide own c.address t (blocks_in t) frame.telegram blocks in
-            elim (bind_err (layout_passed own c.address t) _ r l.2) [
-              | inl f ↦
-                  let q = if_refused (eqb (agreeing want t) 41) (Layout (agreeing want t)) r f in
+            elim (guard_err (eqb (agreeing want t) 41) (Layout (agreeing want t)) _ r l) [
+              | inl (other, is) ↦
                   let differs : agreeing want t ≢ length want =
-                  λ e. absurd (let same = eq-eqb (agreeing want t) 41 (e ∙ w) in let other = q.0 in cc) in
-                  subst (IsRefusal own c last bytes) q.1 (
-                    t,
-                    frame,
-                    inr (
-                      blocks_in t,
-                      blocks,
-                      first_other want t (long own c.address t (blocks_in t) frame.telegram blocks)
-                          differs,
-                    ),
-                  )
-              | inr y ↦
-                  let agree : agreeing want t ≡ 41 =
-                  eqb-true _ _ (if_passed (eqb (agreeing want t) 41) (Layout (agreeing want t)) y.0 y.1) in
-                  let laid = agrees_laid own c.address t frame.telegram counted agree in
-                  elim (bind_err (mac_passed c t) _ r y.2) [
-                    | inl f ↦
-                        let q = if_refused (bytes_eq (mac_due c t) (mac_in t)) BadMac r f in
-                        let differs : mac_due c t ≢ mac_in t = λ e. absurd (let same = (bytes_eq-Decides (mac_due c t) (mac_in t)).1 e in
-                        let other = q.0 in cc) in
-                        subst (IsRefusal own c last bytes) q.1 (t, frame, laid, differs)
-                    | inr m ↦
-                        let signed : mac_due c t ≡ mac_in t =
-                        (bytes_eq-Decides _ _).0 (if_passed (bytes_eq (mac_due c t) (mac_in t)) BadMac m.0 m.1) in
-                        let two : List ℕ = get_or (decrypted c t) 0 0 ∷ get_or (decrypted c t) 1 0 ∷ [] in
-                        elim (bind_err (check_bytes_passed (decrypted c t)) _ r m.2) [
-                          | inl f ↦
-                              let q = if_refused (bytes_eq two (0x2F ∷ 0x2F ∷ [])) (CheckBytes two) r f in
-                              let differs : two ≢ 0x2F ∷ 0x2F ∷ [] =
-                              λ e. absurd (let same = (bytes_eq-Decides two (0x2F ∷ 0x2F ∷ [])).1 e in let other = q.0 in cc) in
-                              subst (IsRefusal own c last bytes) q.1 (t, frame, laid, signed, refl, differs)
-                          | inr k ↦ absurd (let none = k.2 in cc)
-                        ]
+                  λ e. absurd (let same = eq-eqb (agreeing want t) 41 (e ∙ wide own c.address t (blocks_in t) frame.telegram blocks) in cc) in
+                  let first = first_other want t (long own c.address t (blocks_in t) frame.telegram blocks) differs in
+                  subst (IsRefusal own c last bytes) is (t, frame, inr (blocks_in t, blocks, first))
+              | inr (agree, y) ↦
+                  let laid = agrees_laid own c.address t frame.telegram counted (eqb-true _ _ agree) in
+                  elim (guard_err (bytes_eq (mac_due c t) (mac_in t)) BadMac _ r y) [
+                    | inl (other, is) ↦ subst (IsRefusal own c last bytes) is (t, frame, laid, differs _ _ other)
+                    | inr (signed, m) ↦ elim (guard_err (bytes_eq two (0x2F ∷ 0x2F ∷ [])) (CheckBytes two) _ r m) [
+                      | inl (other, is) ↦
+                          subst (IsRefusal own c last bytes) is
+                          (t, frame, laid, (bytes_eq-Decides _ _).0 signed, refl, differs two (0x2F ∷ 0x2F ∷ []) other)
+                      | inr (begins, none) ↦ absurd cc
+                    ]
                   ]
             ]
       ]
@@ -187,74 +166,36 @@ refusal_found own c last bytes r hk hb h = by_told (told own c bytes) refl where
 
 -- ---- each cause is answered
 
-module _ (own : Address) (c : Commissioned) (bytes t : List ℕ) (decoded : decoded_a bytes ≡ Ok t) where
-  told_length : is_length (get_or t 0 0) ≡ false → told own c bytes ≡ Err (Layout 0)
-  unfolding told
-  told_length l = rw (decoded, l) refl
-
-  told_layout : is_length (get_or t 0 0) ≡ true → eqb (agreeing (layout_of own c.address t) t) 41 ≡ false
-      → told own c bytes ≡ Err (Layout (agreeing (layout_of own c.address t) t))
-  unfolding told
-  told_layout l y = rw (decoded, l, y) refl
-
-  told_mac : is_length (get_or t 0 0) ≡ true → agreeing (layout_of own c.address t) t ≡ 41 → bytes_eq (mac_due c t) (mac_in t) ≡ false
-      → told own c bytes ≡ Err BadMac
-  unfolding told
-  told_mac l y m = rw (decoded, l, y, m) refl
-
-  told_check : is_length (get_or t 0 0) ≡ true → agreeing (layout_of own c.address t) t ≡ 41 → bytes_eq (mac_due c t) (mac_in t) ≡ true
-      → bytes_eq (get_or (decrypted c t) 0 0 ∷ get_or (decrypted c t) 1 0 ∷ []) (0x2F ∷ 0x2F ∷ []) ≡ false
-      → told own c bytes ≡ Err (CheckBytes (get_or (decrypted c t) 0 0 ∷ get_or (decrypted c t) 1 0 ∷ []))
-  unfolding told
-  told_check l y m k = rw (decoded, l, y, m, k) refl
-
-told_frame : (own : Address) (c : Commissioned) (bytes : List ℕ) (fault : FrameFault) → decoded_a bytes ≡ Err fault
-    → told own c bytes ≡ Err (Frame fault)
-unfolding told
-told_frame own c bytes fault e = rw e refl
-
 differ : (xs ys : List ℕ) → xs ≢ ys → bytes_eq xs ys ≡ false
 differ xs ys h = false_from_ne_true _ (λ same. h ((bytes_eq-Decides xs ys).0 same))
 
 refusal_only : (own : Address) (c : Commissioned) (last : ℕ) (bytes : List ℕ) (r : SideReason) → IsBlock c.key → IsBytes bytes
     → IsRefusal own c last bytes r → did_after own c last bytes ≡ did.Refused r
-refusal_only own c last bytes (Frame fault) hk hb h = ap (did_with last) (told_frame own c bytes fault (fault_only_a bytes fault hb h))
-refusal_only own c last bytes (Layout place) hk hb h =
-    let t : List ℕ = h.0 in
-    let decoded = only bytes t hb h.1 in
-    elim h.2 [
-      | inl p ↦
-          let l : is_length (get_or t 0 0) ≡ false = false_from_ne_true _ (λ same. p.1 (blocks_in t) (blocks_are t same)) in
-          ap (did_with last) (told_length own c bytes t decoded l) ∙ ap (λ (k : ℕ). did.Refused (Layout k)) (sym p.0)
-      | inr p ↦
-          let n : ℕ = p.0 in
-          let want : List ℕ = layers_before own c.address (parts_with t n) in
-          let same : layout_of own c.address t ≡ want =
-          ap (λ (k : ℕ). layers_before own c.address (parts_with t k)) (sym (same_blocks t n p.1)) in
-          let is : agreeing (layout_of own c.address t) t ≡ place =
-          ap (λ (x : List ℕ). agreeing x t) same ∙ first_other_is want t place (long own c.address t n h.1.telegram p.1) p.2 in
-          let short : place < 41 = omega (arith, p.2.within, wide own c.address t n h.1.telegram p.1) in
-          ap (did_with last) (told_layout own c bytes t decoded (is_blocks t n p.1) (ne_eqb _ _ (λ e. absurd (omega (arith, e, is)))))
-          ∙ ap (λ (k : ℕ). did.Refused (Layout k)) is
-    ]
-refusal_only own c last bytes BadMac hk hb h =
-    let t : List ℕ = h.0 in
-    let l = h.2 in
-    ap (did_with last) (told_mac own c bytes t (only bytes t hb h.1) (is_blocks t l.0 l.1)
-    (laid_agrees own c.address t l.0 h.1.telegram l.1 l.2) (differ _ _ h.3))
-refusal_only own c last bytes (CheckBytes two) hk hb h =
-    let t : List ℕ = h.0 in
-    let l = h.2 in
+unfolding told
+refusal_only own c last bytes (Frame fault) hk hb h = rw (fault_only_a bytes fault hb h) refl
+refusal_only own c last bytes (Layout place) hk hb (t, frame, inl p) =
+    let l : is_length (get_or t 0 0) ≡ false = false_from_ne_true _ (λ same. p.1 (blocks_in t) (blocks_are t same)) in
+    rw (only bytes t hb frame, l) (ap (λ (k : ℕ). did.Refused (Layout k)) (sym p.0))
+refusal_only own c last bytes (Layout place) hk hb (t, frame, inr (n, blocks, first)) =
+    let is : agreeing (layout_of own c.address t) t ≡ place =
+    ap (λ (k : ℕ). agreeing (layers_before own c.address (parts_with t k)) t) (sym (same_blocks t n blocks))
+    ∙ first_other_is (layers_before own c.address (parts_with t n)) t place (long own c.address t n frame.telegram blocks) first in
+    let short : place < 41 = omega (arith, first.within, wide own c.address t n frame.telegram blocks) in
+    let other : eqb (agreeing (layout_of own c.address t) t) 41 ≡ false = ne_eqb _ _ (λ e. absurd (omega (arith, e, is))) in
+    rw (only bytes t hb frame, is_blocks t n blocks, other) (ap (λ (k : ℕ). did.Refused (Layout k)) is)
+refusal_only own c last bytes BadMac hk hb (t, frame, (n, blocks, laid), unsigned) =
+    let agree = laid_agrees own c.address t n frame.telegram blocks laid in
+    rw (only bytes t hb frame, is_blocks t n blocks, agree, differ (mac_due c t) (mac_in t) unsigned) refl
+refusal_only own c last bytes (CheckBytes two) hk hb (t, frame, (n, blocks, laid), signed, is, others) =
+    let agree = laid_agrees own c.address t n frame.telegram blocks laid in
+    let mac : bytes_eq (mac_due c t) (mac_in t) ≡ true = (bytes_eq-Decides _ _).1 signed in
     let begins : List ℕ = get_or (decrypted c t) 0 0 ∷ get_or (decrypted c t) 1 0 ∷ [] in
-    ap (did_with last) (told_check own c bytes t (only bytes t hb h.1) (is_blocks t l.0 l.1)
-    (laid_agrees own c.address t l.0 h.1.telegram l.1 l.2)
-    ((bytes_eq-Decides _ _).1 h.3) (differ begins (0x2F ∷ 0x2F ∷ []) (λ e. h.5 (h.4 ∙ e))))
-    ∙ ap (λ (x : List ℕ). did.Refused (CheckBytes x)) (sym h.4)
-refusal_only own c last bytes (Stale got before) hk hb h =
-    let e : Executed = h.0 in
-    let old : ltb last e.down ≡ false = le-ltb _ _ (omega (arith, h.2, h.4)) in
+    rw (only bytes t hb frame, is_blocks t n blocks, agree, mac, differ begins (0x2F ∷ 0x2F ∷ []) (λ e. others (is ∙ e)))
+    (ap (λ (x : List ℕ). did.Refused (CheckBytes x)) (sym is))
+refusal_only own c last bytes (Stale got before) hk hb (e, genuine, down, same, low) =
+    let old : ltb last e.down ≡ false = le-ltb _ _ (omega (arith, down, low)) in
     let stays : did_with last (Ok e) ≡ did.Refused (Stale e.down last) = rw old refl in
-    ap (did_with last) (genuine_is_told own c bytes e hk h.1) ∙ stays ∙ ap₂ (λ (n k : ℕ). did.Refused (Stale n k)) h.2 (sym h.3)
+    ap (did_with last) (genuine_is_told own c bytes e hk genuine) ∙ stays ∙ ap₂ (λ (n k : ℕ). did.Refused (Stale n k)) down (sym same)
 
 pub refused_exactly : RefusedExactly
 refused_exactly own c last bytes r hk hb = (refusal_found own c last bytes r hk hb, refusal_only own c last bytes r hk hb)

@@ -6,21 +6,24 @@ use Rattle.meter_address.specs.declared.address.Address.{Address}
 use Rattle.meter_address.specs.Commission.{Commissioned}
 use Rattle.outer_io.specs.Bytes.{AppendsFront}
 use Rattle.outer_io.specs.Shown.{Change, SourceShown, SinkShown, ReadFailed, WriteFailed, LosesNothing, IsReadOut, IsSilent, HasText}
+use Rattle.paper.specs.Filing.{Filed}
+use Rattle.paper.proofs.Filings.{Finished}
 use Rattle.state_file.specs.Whole.{Known, state_of}
 use Rattle.state_file.specs.declared.fault.StateFault.{StateFault}
 use Rattle.state_file.specs.declared.fault.StateFault.TheVariants as faults
+use Rattle.meter_side_main.specs.declared.lines.Answer.{Answer}
 use Rattle.meter_side_main.specs.declared.session.Ended.{Ended}
 use Rattle.meter_side_main.specs.declared.session.Ended.TheVariants.{End, Cut, Fault}
 use Rattle.meter_side_main.specs.declared.status.SideStatus.{SideStatus}
 use Rattle.meter_side_main.specs.declared.status.SideStatus.TheVariants as statuses
 use Rattle.meter_side_main.specs.declared.top.Meter.{Meter}
-use Rattle.meter_side_main.specs.Answers.{answers_to}
-use Rattle.meter_side_main.specs.Session.{EndsSo, text_of}
+use Rattle.meter_side_main.specs.Genuine.{AreExecuted}
+use Rattle.meter_side_main.specs.Answers.{AreAnswers, answers_to, deliveries_in, executed_among, side_text}
+use Rattle.meter_side_main.specs.Session.{EndsSo}
 use Rattle.meter_side_main.specs.Statuses.{was_heard, status_at, status_of}
 use Rattle.meter_side_main.specs.Run.{Run, address_in, meter_with, Names, IsStatusOf, Hears, Headline, IsUncommissioned, IsTooLong, IsCut, IsCausedBy, IsFaultless, IsUnlessUnread, IsRun}
 use Rattle.meter_side_main.specs.Refused.{IsNamed, IsRefused, IsHeardFor}
 use Rattle.meter_side_main.proofs.Answering.{are_answers, answers_execute}
-use Rattle.meter_side_main.proofs.Executing.{first_last}
 
 -- ---- words
 
@@ -33,7 +36,7 @@ three_words (a ∷ b ∷ []) h = absurd cc
 three_words (a ∷ b ∷ c ∷ []) h = refl
 three_words (a ∷ b ∷ c ∷ d ∷ more) h = absurd cc
 
--- ---- statuses of an end
+-- ---- what hearing came to
 
 status_is : (ended : Ended) (failed : Bool) → IsStatusOf ended (status_at ended failed)
 status_is End false = inl refl
@@ -41,41 +44,43 @@ status_is End true = inr refl
 status_is Cut failed = refl
 status_is Fault failed = refl
 
-unwritten_is_not_done : (ended : Ended) → status_at ended true ≡ statuses.Done → ⊥
-unwritten_is_not_done End e = absurd cc
-unwritten_is_not_done Cut e = absurd cc
-unwritten_is_not_done Fault e = absurd cc
+done_is_written : (ended : Ended) (failed : Bool) → status_at ended failed ≡ statuses.Done → failed ≡ false
+done_is_written End false e = refl
+done_is_written End true e = absurd cc
+done_is_written Cut failed e = absurd cc
+done_is_written Fault failed e = absurd cc
 
--- ---- what hearing came to
+-- the sink of a paper
+abbrev sink_of : Filed → SinkShown
+sink_of p = record { written = p.written; faults = p.faults }
 
-module _ (own : Address) (c : Commissioned) (tx : Change SourceShown) (tells : Bool) (out : Change SinkShown) (ended : Ended)
-    (lines : List (List ℕ)) (key : IsBlock c.key)
-    (ends : EndsSo ended tx.now.taken tx.now.left lines) where
-  hears : (status : SideStatus) → IsStatusOf ended status → (IsTrue tells → HasText (text_of own c lines) out)
-      → (IsTrue tells → status ≡ statuses.Done → out.now.written ≡ text_of own c lines) → Hears own c tx tells out status
-  unfolding text_of
-  hears status is told whole = record {
+-- the paper over the output, which was empty, was finished, and a write failed or none did
+module _ (own : Address) (c : Commissioned) (tx : Change SourceShown) (tells : Bool) (a b : Filed) (ended : Ended)
+    (lines : List (List ℕ)) (answers : List Answer) (key : IsBlock c.key) (ends : EndsSo ended tx.now.taken tx.now.left lines)
+    (answered : answers ≡ answers_to own c c.down lines) (empty : IsTrue tells → a.written ≡ [])
+    (d : Finished tells a (side_text c answers) b) where
+  whole : b.failed ≡ false → IsTrue tells → b.written ≡ side_text c answers
+  whole fine t = d.ok fine t ∙ ap (λ (o : List ℕ). o ++ side_text c answers) (empty t)
+
+  text_is : (failed : Bool) → b.failed ≡ failed → IsTrue tells
+      → HasText (side_text c answers) (record { before = sink_of a; now = sink_of b })
+  text_is false is t = inl (whole is t)
+  text_is true is t = inr (d.cause is, subst (λ (o : List ℕ). AppendsFront (side_text c answers) o b.written) (empty t) (d.err is t))
+
+  pub hears_by : (failed : Bool) → b.failed ≡ failed
+      → Hears own c tx tells (record { before = sink_of a; now = sink_of b }) (status_at ended failed)
+  hears_by failed is = record {
     ended = ended;
     lines = lines;
-    answers = answers_to own c c.down lines;
-    status_is = is;
+    answers = answers;
+    status_is = status_is ended failed;
     ends = ends;
-    answered = are_answers own c key c.down lines;
-    executed = answers_execute own c key lines (answers_to own c c.down lines) c.down (c.down ∷ []) (first_last c.down)
-        (are_answers own c key c.down lines);
-    told = told;
-    whole = whole;
+    answered = subst (λ (xs : List Answer). AreAnswers own c c.down lines xs) (sym answered) (are_answers own c key c.down lines);
+    executed = subst (λ (xs : List Answer). AreExecuted own c (c.down ∷ []) (deliveries_in lines) (executed_among xs)) (sym answered)
+        (answers_execute own c key lines);
+    told = text_is failed is;
+    whole = λ t done. whole (is ∙ done_is_written ended failed done) t;
   }
-
-  -- the paper over the output was finished, and a write failed or none did
-  pub hears_by : (failed : Bool) → (failed ≡ false → IsTrue tells → out.now.written ≡ text_of own c lines)
-      → (failed ≡ true → WriteFailed out)
-      → (failed ≡ true → IsTrue tells → AppendsFront (text_of own c lines) [] out.now.written)
-      → Hears own c tx tells out (status_at ended failed)
-  hears_by false whole cause front = hears (status_at ended false) (status_is ended false) (λ t. inl (whole refl t)) (λ t is. whole refl t)
-  hears_by true whole cause front =
-      hears (status_at ended true) (status_is ended true) (λ t. inr (cause refl, front refl t))
-      (λ t is. absurd (unwritten_is_not_done ended is))
 
 -- the bytes that a fresh source had
 all_bytes : (tx : Change SourceShown) → tx.before.taken ≡ [] → LosesNothing tx → tx.now.taken ++ tx.now.left ≡ tx.before.left
@@ -93,25 +98,17 @@ module _ (tells : Bool) (tx : Change SourceShown) (out : Change SinkShown) (line
   pub heard_for : (ended : Ended) (failed : Bool) → (IsTrue tells → EndsSo ended tx.now.taken tx.now.left lines)
       → (ended ≡ Fault → ReadFailed tx) → (failed ≡ true → WriteFailed out)
       → IsHeardFor tells tx out (status_at ended failed)
-  heard_for End false ends broken unwritten = λ t. read_out tx (kept t) (ends t).nothing_left
-  heard_for End true ends broken unwritten = unwritten refl
-  heard_for Cut failed ends broken unwritten = λ t. over_before (ends t) t
-  heard_for Fault failed ends broken unwritten = broken refl
+  heard_for End false ends broken unwritten =
+      record { heard = refl; cause = λ words sink beginning t. read_out tx (kept t) (ends t).nothing_left }
+  heard_for End true ends broken unwritten = record { heard = refl; cause = λ words sink beginning. unwritten refl }
+  heard_for Cut failed ends broken unwritten = record { heard = refl; cause = λ words sink beginning t. over_before (ends t) t }
+  heard_for Fault failed ends broken unwritten = record { heard = refl; cause = λ words sink beginning. broken refl }
 
 -- a call failed or didn't
 pub failed_is : {E : Type 0} (r : Result (Unit {0}) E) (failed unwritten : Bool) → OnOk r (failed ≡ false) → OnErr r (failed ≡ true)
     → unwritten ≡ is_err r → failed ≡ unwritten
 failed_is (Ok done) failed unwritten ok err is = ok ∙ sym is
 failed_is (Err e) failed unwritten ok err is = err ∙ sym is
-
--- an output that was empty has this text
-pub whole_is : (text put old new : List ℕ) → new ≡ old ++ put → old ≡ [] → put ≡ text → new ≡ text
-whole_is text put old new written none is = written ∙ ap₂ (λ (o t : List ℕ). o ++ t) none is
-
--- an output that was empty has a front of this text
-pub front_is : (text same old new : List ℕ) → text ≡ same → old ≡ [] → AppendsFront text old new → AppendsFront same [] new
-front_is text same old new is none h =
-    subst (λ (o : List ℕ). AppendsFront same o new) none (subst (λ (t : List ℕ). AppendsFront t old new) is h)
 
 pub headline_is : (run : Run) (meter : Meter) → IsNamed run.words run.beginning meter
     → Hears meter.own meter.commission run.tx run.sinks_tell run.out run.status → Headline run
@@ -149,42 +146,22 @@ refusal_cause run statuses.Cut h = absurd h
 refusal_cause run statuses.Write h = absurd h
 refusal_cause run statuses.Memory h = (refl, tt)
 
-pub hearing_cause : (run : Run) (status : SideStatus) → IsHeardFor run.sources_tell run.tx run.out status → IsCausedBy run status
-hearing_cause run statuses.Done h = h
-hearing_cause run statuses.Words h = absurd h
-hearing_cause run statuses.ReadRoster h = absurd h
-hearing_cause run (statuses.Roster line cause) h = absurd h
-hearing_cause run (statuses.State line cause) h = absurd h
-hearing_cause run statuses.Uncommissioned h = absurd h
-hearing_cause run statuses.Read h = h
-hearing_cause run statuses.Cut h = h
-hearing_cause run statuses.Write h = h
-hearing_cause run statuses.Memory h = absurd h
-
--- what was heard has a status that says so
-pub was_unheard : (tells : Bool) (tx : Change SourceShown) (out : Change SinkShown) (status : SideStatus) → IsHeardFor tells tx out status
-    → was_heard status ≡ false → ⊥
-was_unheard tells tx out statuses.Done h unheard = absurd cc
-was_unheard tells tx out statuses.Words h unheard = absurd h
-was_unheard tells tx out statuses.ReadRoster h unheard = absurd h
-was_unheard tells tx out (statuses.Roster line cause) h unheard = absurd h
-was_unheard tells tx out (statuses.State line cause) h unheard = absurd h
-was_unheard tells tx out statuses.Uncommissioned h unheard = absurd h
-was_unheard tells tx out statuses.Read h unheard = absurd cc
-was_unheard tells tx out statuses.Cut h unheard = absurd cc
-was_unheard tells tx out statuses.Write h unheard = absurd cc
-was_unheard tells tx out statuses.Memory h unheard = absurd h
+-- what a status says of the words and of the state, where contracts know the bytes of the sources
+data Came (run : Run) (s : SideStatus) : Type 0 where
+  Wordless : address_in run.words ≡ None → Came run s
+  Faulty : (fault : StateFault) → state_of run.beginning.before.left ≡ Err fault → s ≡ status_of fault → Came run s
+  Missing : IsUncommissioned run → s ≡ statuses.Uncommissioned → Came run s
+  Unread : ReadFailed run.beginning → s ≡ statuses.ReadRoster → Came run s
+  NoMemory : s ≡ statuses.Memory → Came run s
+  Heard : Headline run → Came run s
 
 -- ---- all of it
 
-some_none : (o : Option Address) (a : Address) → o ≡ Some a → o ≡ None → ⊥
+some_none : {A : Type 0} (o : Option A) (a : A) → o ≡ Some a → o ≡ None → ⊥
 some_none o a s n = absurd cc
 
 ok_err : (r : Result Known StateFault) (x : Known) (e : StateFault) → r ≡ Ok x → r ≡ Err e → ⊥
 ok_err r x e o f = absurd cc
-
-found_missing : (o : Option Commissioned) (m : Commissioned) → o ≡ Some m → o ≡ None → ⊥
-found_missing o m s n = absurd cc
 
 abbrev no_state : StateFault → Result Known StateFault
 no_state fault = Err fault
@@ -192,155 +169,107 @@ no_state fault = Err fault
 abbrev a_state : Known → Result Known StateFault
 a_state known = Ok known
 
--- the words and the state name one meter
-same_meter : (run : Run) (a b : Address) (x y : Known) → Names run a x → Names run b y → meter_with b y.starts ≡ meter_with a x.starts
-same_meter run a b x y n m =
-    let both : Some a ≡ Some b = sym n.named ∙ m.named in
-    let address : a ≡ b = cc in
-    let states : a_state x ≡ a_state y = sym n.known_is ∙ m.known_is in
-    let known : x ≡ y = cc in
-    ap₂ (λ (k : Address) (e : Known). meter_with k e.starts) (sym address) (sym known)
-
 -- a text has one first fault
 one_fault : (r : Result Known StateFault) (e f : StateFault) → r ≡ Err e → r ≡ Err f → e ≡ f
 one_fault r e f is other = let both : no_state e ≡ no_state f = sym is ∙ other in cc
 
-module _ (run : Run) (headline : IsTrue (was_heard run.status) → IsTrue run.sources_tell → Headline run) (tells : IsTrue run.sources_tell)
-  where
-    heard : (s : SideStatus) → run.status ≡ s → IsTrue (was_heard s) → Headline run
-    heard s is h = headline (subst (λ (x : SideStatus). IsTrue (was_heard x)) (sym is) h) tells
+-- the words and the state name one meter, which is there or isn't
+one_meter : (run : Run) (a b : Address) (x y : Known) (m : Commissioned) → Names run a x → Names run b y → meter_with a x.starts ≡ Some m
+    → meter_with b y.starts ≡ None → ⊥
+one_meter run a b x y m n o found missing =
+    let both : Some a ≡ Some b = sym n.named ∙ o.named in
+    let address : a ≡ b = cc in
+    let states : a_state x ≡ a_state y = sym n.known_is ∙ o.known_is in
+    let known : x ≡ y = cc in
+    some_none (meter_with a x.starts) m found (ap₂ (λ (k : Address) (e : Known). meter_with k e.starts) address known ∙ missing)
 
-    faulty_heard : (fault : StateFault) → state_of run.beginning.before.left ≡ Err fault → Headline run → ⊥
-    faulty_heard fault bad h = ok_err (state_of run.beginning.before.left) h.known fault h.names.known_is bad
+module _ (run : Run) (headline : IsTrue (was_heard run.status) → IsTrue run.sources_tell → Headline run) (cause : IsCausedBy run run.status)
+    (tells : IsTrue run.sources_tell) where
+  came : (s : SideStatus) → run.status ≡ s → IsCausedBy run s → Came run s
+  came statuses.Done is c = Heard (headline (ap was_heard is) tells)
+  came statuses.Words is c = Wordless c
+  came statuses.ReadRoster is c = Unread c refl
+  came (statuses.Roster line k) is c = Faulty (faults.Roster line k) (c tells) refl
+  came (statuses.State line k) is c = Faulty (faults.Line line k) (c tells) refl
+  came statuses.Uncommissioned is c = Missing (c tells) refl
+  came statuses.Read is c = Heard (headline (ap was_heard is) tells)
+  came statuses.Cut is c = Heard (headline (ap was_heard is) tells)
+  came statuses.Write is c = Heard (headline (ap was_heard is) tells)
+  came statuses.Memory is c = NoMemory refl
 
-    beginning_by : (a : Address) (fault : StateFault) → address_in run.words ≡ Some a → state_of run.beginning.before.left ≡ Err fault
-        → (s : SideStatus) → run.status ≡ s → IsCausedBy run s → IsUnlessUnread (status_of fault) s
-    beginning_by a fault named bad statuses.Done is c = absurd (faulty_heard fault bad (heard statuses.Done is refl))
-    beginning_by a fault named bad statuses.Words is c = absurd (some_none (address_in run.words) a named c)
-    beginning_by a fault named bad statuses.ReadRoster is c = inr (inl refl)
-    beginning_by a fault named bad (statuses.Roster l k) is c =
-        inl (ap status_of (one_fault (state_of run.beginning.before.left) (faults.Roster l k) fault (c tells) bad))
-    beginning_by a fault named bad (statuses.State l k) is c =
-        inl (ap status_of (one_fault (state_of run.beginning.before.left) (faults.Line l k) fault (c tells) bad))
-    beginning_by a fault named bad statuses.Uncommissioned is c = let m = c tells in
-        absurd (ok_err (state_of run.beginning.before.left) m.known fault m.names.known_is bad)
-    beginning_by a fault named bad statuses.Read is c = absurd (faulty_heard fault bad (heard statuses.Read is refl))
-    beginning_by a fault named bad statuses.Cut is c = absurd (faulty_heard fault bad (heard statuses.Cut is refl))
-    beginning_by a fault named bad statuses.Write is c = absurd (faulty_heard fault bad (heard statuses.Write is refl))
-    beginning_by a fault named bad statuses.Memory is c = inr (inr refl)
+  beginning_by : (a : Address) (fault : StateFault) → address_in run.words ≡ Some a → state_of run.beginning.before.left ≡ Err fault
+      → Came run run.status → IsUnlessUnread (status_of fault) run.status
+  beginning_by a fault named bad (Wordless none) = absurd (some_none (address_in run.words) a named none)
+  beginning_by a fault named bad (Faulty other is same) =
+      inl (same ∙ ap status_of (one_fault (state_of run.beginning.before.left) other fault is bad))
+  beginning_by a fault named bad (Missing u is) = absurd (ok_err (state_of run.beginning.before.left) u.known fault u.names.known_is bad)
+  beginning_by a fault named bad (Unread read is) = inr (inl is)
+  beginning_by a fault named bad (NoMemory is) = inr (inr is)
+  beginning_by a fault named bad (Heard h) = absurd (ok_err (state_of run.beginning.before.left) h.known fault h.names.known_is bad)
 
-    meter_heard : IsUncommissioned run → Headline run → ⊥
-    meter_heard u h =
-        let same = same_meter run u.address h.address u.known h.known u.names h.names in
-        found_missing (meter_with h.address h.known.starts) h.meter h.commissioned (same ∙ u.missing)
+  meter_by : IsUncommissioned run → Came run run.status → IsUnlessUnread statuses.Uncommissioned run.status
+  meter_by u (Wordless none) = absurd (some_none (address_in run.words) u.address u.names.named none)
+  meter_by u (Faulty fault bad is) = absurd (ok_err (state_of run.beginning.before.left) u.known fault u.names.known_is bad)
+  meter_by u (Missing v is) = inl is
+  meter_by u (Unread read is) = inr (inl is)
+  meter_by u (NoMemory is) = inr (inr is)
+  meter_by u (Heard h) = absurd (one_meter run h.address u.address h.known u.known h.meter h.names u.names h.commissioned u.missing)
 
-    meter_by : IsUncommissioned run → (s : SideStatus) → run.status ≡ s → IsCausedBy run s → IsUnlessUnread statuses.Uncommissioned s
-    meter_by u statuses.Done is c = absurd (meter_heard u (heard statuses.Done is refl))
-    meter_by u statuses.Words is c = absurd (some_none (address_in run.words) u.address u.names.named c)
-    meter_by u statuses.ReadRoster is c = inr (inl refl)
-    meter_by u (statuses.Roster l k) is c =
-        absurd (ok_err (state_of run.beginning.before.left) u.known (faults.Roster l k) u.names.known_is (c tells))
-    meter_by u (statuses.State l k) is c =
-        absurd (ok_err (state_of run.beginning.before.left) u.known (faults.Line l k) u.names.known_is (c tells))
-    meter_by u statuses.Uncommissioned is c = inl refl
-    meter_by u statuses.Read is c = absurd (meter_heard u (heard statuses.Read is refl))
-    meter_by u statuses.Cut is c = absurd (meter_heard u (heard statuses.Cut is refl))
-    meter_by u statuses.Write is c = absurd (meter_heard u (heard statuses.Write is refl))
-    meter_by u statuses.Memory is c = inr (inr refl)
+  done_by : IsFaultless run → (ended : Ended) → IsStatusOf ended run.status → (run.status ≡ statuses.Done) ⊎ (run.status ≡ statuses.Memory)
+  done_by f End (inl done) = inl done
+  done_by f End (inr wrote) = absurd (f.out_steady (subst (λ (s : SideStatus). IsCausedBy run s) wrote cause))
+  done_by f Cut is =
+      let over : is_over run.tx.before.left ≡ true = subst (λ (s : SideStatus). IsCausedBy run s) is cause tells in
+      let within = f.within in
+      absurd cc
+  done_by f Fault is = absurd (f.tx_steady (subst (λ (s : SideStatus). IsCausedBy run s) is cause))
 
-    complete_by : IsFaultless run → (s : SideStatus) → IsCausedBy run s → (s ≡ statuses.Done) ⊎ (s ≡ statuses.Memory)
-    complete_by f statuses.Done c = inl refl
-    complete_by f statuses.Words c = absurd (some_none (address_in run.words) f.address f.names.named c)
-    complete_by f statuses.ReadRoster c = absurd (f.beginning_steady c)
-    complete_by f (statuses.Roster l k) c =
-        absurd (ok_err (state_of run.beginning.before.left) f.known (faults.Roster l k) f.names.known_is (c tells))
-    complete_by f (statuses.State l k) c =
-        absurd (ok_err (state_of run.beginning.before.left) f.known (faults.Line l k) f.names.known_is (c tells))
-    complete_by f statuses.Uncommissioned c =
-        let m = c tells in
-        let same = same_meter run m.address f.address m.known f.known m.names f.names in
-        absurd (found_missing (meter_with f.address f.known.starts) f.meter f.commissioned (same ∙ m.missing))
-    complete_by f statuses.Read c = absurd (f.tx_steady c)
-    complete_by f statuses.Cut c = let over = c tells in let within = f.within in absurd cc
-    complete_by f statuses.Write c = absurd (f.out_steady c)
-    complete_by f statuses.Memory c = inr refl
+  complete_by : IsFaultless run → Came run run.status → (run.status ≡ statuses.Done) ⊎ (run.status ≡ statuses.Memory)
+  complete_by f (Wordless none) = absurd (some_none (address_in run.words) f.address f.names.named none)
+  complete_by f (Faulty fault bad is) = absurd (ok_err (state_of run.beginning.before.left) f.known fault f.names.known_is bad)
+  complete_by f (Missing u is) =
+      absurd (one_meter run f.address u.address f.known u.known f.meter f.names u.names f.commissioned u.missing)
+  complete_by f (Unread read is) = absurd (f.beginning_steady read)
+  complete_by f (NoMemory is) = inr is
+  complete_by f (Heard h) = done_by f h.hears.ended h.hears.status_is
 
--- what was heard to its end is within the limits
-ends_within : (tx : Change SourceShown) (lines : List (List ℕ)) → tx.before.taken ≡ [] → LosesNothing tx
-    → EndsSo End tx.now.taken tx.now.left lines → is_over tx.before.left ≡ false
-ends_within tx lines fresh kept ends =
-    let all : tx.now.taken ≡ tx.before.left = sym (append-nil tx.now.taken)
-    ∙ ap (λ (x : List ℕ). tx.now.taken ++ x) (sym ends.nothing_left) ∙ all_bytes tx fresh kept in
-    ap is_over (sym all) ∙ ends.within
+  -- what was heard to its end is within the limits
+  cut_heard : run.tx.before.taken ≡ [] → LosesNothing run.tx → is_over run.tx.before.left ≡ true → (ended : Ended) (lines : List (List ℕ))
+      → EndsSo ended run.tx.now.taken run.tx.now.left lines → IsStatusOf ended run.status → IsCut run.status
+  cut_heard fresh kept over End lines ends is =
+      let read = read_out run.tx kept ends.nothing_left in
+      let within : is_over run.tx.before.left ≡ false =
+      ap is_over (sym (read.took_all ∙ ap (λ (x : List ℕ). x ++ run.tx.before.left) fresh)) ∙ ends.within in
+      absurd cc
+  cut_heard fresh kept over Cut lines ends is = inl is
+  cut_heard fresh kept over Fault lines ends is = inr (inl is)
 
-is_end : (ended : Ended) (status : SideStatus) → (status ≡ statuses.Cut → ⊥) → (status ≡ statuses.Read → ⊥) → IsStatusOf ended status
-    → ended ≡ End
-is_end End status cut read is = refl
-is_end Cut status cut read is = absurd (cut is)
-is_end Fault status cut read is = absurd (read is)
-
-heard_within : (run : Run) → run.tx.before.taken ≡ [] → LosesNothing run.tx → (run.status ≡ statuses.Cut → ⊥)
-    → (run.status ≡ statuses.Read → ⊥) → Headline run → is_over run.tx.before.left ≡ false
-heard_within run fresh kept cut read h =
-    let end : h.hears.ended ≡ End = is_end h.hears.ended run.status cut read h.hears.status_is in
-    ends_within run.tx h.hears.lines fresh kept
-    (subst (λ (x : Ended). EndsSo x run.tx.now.taken run.tx.now.left h.hears.lines) end h.hears.ends)
-
-over_within : (b : Bool) → b ≡ true → b ≡ false → ⊥
-over_within b over within = absurd cc
-
-done_cut : statuses.Done ≡ statuses.Cut → ⊥
-done_cut e = absurd cc
-
-done_read : statuses.Done ≡ statuses.Read → ⊥
-done_read e = absurd cc
-
-write_cut : statuses.Write ≡ statuses.Cut → ⊥
-write_cut e = absurd cc
-
-write_read : statuses.Write ≡ statuses.Read → ⊥
-write_read e = absurd cc
-
-module _ (run : Run) (headline : IsTrue (was_heard run.status) → IsTrue run.sources_tell → Headline run) (tells : IsTrue run.sources_tell)
-    (fresh : run.tx.before.taken ≡ []) (kept : LosesNothing run.tx) (long : IsTooLong run) where
-  not_ended : (s : SideStatus) → run.status ≡ s → IsTrue (was_heard s) → (s ≡ statuses.Cut → ⊥) → (s ≡ statuses.Read → ⊥) → ⊥
-  not_ended s is h cut read =
-      over_within (is_over run.tx.before.left) long.over
-      (heard_within run fresh kept (λ e. cut (sym is ∙ e)) (λ e. read (sym is ∙ e))
-      (headline (subst (λ (x : SideStatus). IsTrue (was_heard x)) (sym is) h) tells))
-
-  cut_by : (s : SideStatus) → run.status ≡ s → IsCausedBy run s → IsCut s
-  cut_by statuses.Done is c = absurd (not_ended statuses.Done is refl done_cut done_read)
-  cut_by statuses.Words is c = absurd (some_none (address_in run.words) long.address long.names.named c)
-  cut_by statuses.ReadRoster is c = inr (inr (inl refl))
-  cut_by (statuses.Roster l k) is c =
-      absurd (ok_err (state_of run.beginning.before.left) long.known (faults.Roster l k) long.names.known_is (c tells))
-  cut_by (statuses.State l k) is c =
-      absurd (ok_err (state_of run.beginning.before.left) long.known (faults.Line l k) long.names.known_is (c tells))
-  cut_by statuses.Uncommissioned is c =
-      let m = c tells in
-      let same = same_meter run m.address long.address m.known long.known m.names long.names in
-      absurd (found_missing (meter_with long.address long.known.starts) long.meter long.commissioned (same ∙ m.missing))
-  cut_by statuses.Read is c = inr (inl refl)
-  cut_by statuses.Cut is c = inl refl
-  cut_by statuses.Write is c = absurd (not_ended statuses.Write is refl write_cut write_read)
-  cut_by statuses.Memory is c = inr (inr (inr refl))
+  cut_by : run.tx.before.taken ≡ [] → LosesNothing run.tx → IsTooLong run → Came run run.status → IsCut run.status
+  cut_by fresh kept l (Wordless none) = absurd (some_none (address_in run.words) l.address l.names.named none)
+  cut_by fresh kept l (Faulty fault bad is) = absurd (ok_err (state_of run.beginning.before.left) l.known fault l.names.known_is bad)
+  cut_by fresh kept l (Missing u is) =
+      absurd (one_meter run l.address u.address l.known u.known l.meter l.names u.names l.commissioned u.missing)
+  cut_by fresh kept l (Unread read is) = inr (inr (inl is))
+  cut_by fresh kept l (NoMemory is) = inr (inr (inr is))
+  cut_by fresh kept l (Heard h) = cut_heard fresh kept l.over h.hears.ended h.hears.lines h.hears.ends h.hears.status_is
 
 pub run_is : (run : Run) → (IsTrue (was_heard run.status) → IsTrue run.sources_tell → Headline run) → IsCausedBy run run.status
     → (address_in run.words ≡ None → run.status ≡ statuses.Words)
     → (IsTrue run.sources_tell → run.tx.before.taken ≡ []) → (IsTrue run.sources_tell → LosesNothing run.beginning)
     → (IsTrue run.sources_tell → LosesNothing run.tx) → (was_heard run.status ≡ false → run.tx.now ≡ run.tx.before)
     → (was_heard run.status ≡ false → IsSilent run.out) → IsRun run
-run_is run headline caused words fresh beginning tx unread silent = record {
-  headline = headline;
-  status_caused = caused;
-  words_refused = words;
-  beginning_refused = λ t a fault named bad. beginning_by run headline t a fault named bad run.status refl caused;
-  meter_refused = λ t u. meter_by run headline t u run.status refl caused;
-  too_long_cut = λ t long. cut_by run headline t (fresh t) (tx t) long run.status refl caused;
-  complete = λ t f. complete_by run headline t f run.status caused;
-  beginning_kept = beginning;
-  tx_kept = tx;
-  unread = unread;
-  silent = silent;
-}
+run_is run headline cause words fresh beginning tx unread silent =
+    let how : IsTrue run.sources_tell → Came run run.status = λ t. came run headline cause t run.status refl cause in
+    record {
+      headline = headline;
+      status_caused = cause;
+      words_refused = words;
+      beginning_refused = λ t a fault named bad. beginning_by run headline cause t a fault named bad (how t);
+      meter_refused = λ t u. meter_by run headline cause t u (how t);
+      too_long_cut = λ t long. cut_by run headline cause t (fresh t) (tx t) long (how t);
+      complete = λ t f. complete_by run headline cause t f (how t);
+      beginning_kept = beginning;
+      tx_kept = tx;
+      unread = unread;
+      silent = silent;
+    }

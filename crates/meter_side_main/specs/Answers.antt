@@ -12,7 +12,6 @@ use Rattle.meter_side_main.specs.Reading.{executed_in}
 use Rattle.meter_side_main.specs.Genuine.{IsGenuine}
 use Rattle.meter_side_main.specs.Refusals.{IsRefusal}
 use Rattle.meter_side_main.specs.Lines.{delivery_in, answer_of, last_by, answer_text, last_text}
-use Rattle.meter_side_main.specs.Listening.{Listening}
 
 -- what is answered to a line that delivers this, after this last counter: a genuine downlink above it is executed, and another delivery is
 -- refused by its first cause
@@ -56,10 +55,3 @@ answers_to own c last [] = []
 answers_to own c last (line ∷ lines) =
     let answer : Answer = answer_of own c last (delivery_in line) in
     answer ∷ answers_to own c (last_by last answer) lines
-
--- what a meter answers to lines, and how it is afterwards
-unfoldable pub told_by : Listening → List (List ℕ) → List ℕ
-told_by l lines = flat_map answer_text (answers_to l.own l.commission l.last lines)
-
-unfoldable pub listener_after : Listening → List (List ℕ) → Listening
-listener_after l lines = record l { last = last_after_all l.last (answers_to l.own l.commission l.last lines) }

@@ -130,8 +130,3 @@ unfoldable pub executed_after : Address → Commissioned → ℕ → List (List 
 executed_after own c last [] = []
 executed_after own c last (d ∷ ds) =
     executed_in (did_after own c last d) ++ executed_after own c (last_after last (did_after own c last d)) ds
-
--- the last counter after some deliveries
-unfoldable pub counter_after : Address → Commissioned → ℕ → List (List ℕ) → ℕ
-counter_after own c last [] = last
-counter_after own c last (d ∷ ds) = counter_after own c (last_after last (did_after own c last d)) ds

@@ -1,14 +1,14 @@
 -- What the words of a run, and the state that it begins from, come to before any delivery is heard.
 use Rattle.std.specs.Prelude.{ℕ, ◌≡◌, Bool, true, List, Some, None, Ok, Err, IsTrue}
-use Rattle.line_reader.specs.Lines.{is_over}
 use Rattle.meter_address.specs.declared.address.Address.{Address}
-use Rattle.outer_io.specs.Shown.{Change, SourceShown, SinkShown, ReadFailed, WriteFailed, IsReadOut}
+use Rattle.outer_io.specs.Shown.{Change, SourceShown, SinkShown, ReadFailed, IsReadOut}
 use Rattle.state_file.specs.Whole.{Known, state_of}
 use Rattle.state_file.specs.declared.fault.StateFault.TheVariants as faults
 use Rattle.meter_side_main.specs.declared.status.SideStatus.{SideStatus}
 use Rattle.meter_side_main.specs.declared.status.SideStatus.TheVariants as statuses
 use Rattle.meter_side_main.specs.declared.top.Meter.{Meter}
-use Rattle.meter_side_main.specs.Run.{address_in, meter_with}
+use Rattle.meter_side_main.specs.Statuses.{was_heard}
+use Rattle.meter_side_main.specs.Run.{address_in, meter_with, IsCausedBy}
 
 -- the words name this meter of the state, which was read to its end
 pub record IsNamed (words : List (List ℕ)) (beginning : Change SourceShown) (meter : Meter) : Type 0 where
@@ -40,10 +40,15 @@ IsRefused words tells beginning statuses.Uncommissioned = IsTrue tells → IsMis
 IsRefused words tells beginning statuses.Memory = Unit {0}
 IsRefused words tells beginning _ = ⊥
 
--- why hearing the deliveries came to a status
-abbrev pub IsHeardFor : Bool → Change SourceShown → Change SinkShown → SideStatus → Type 0
-IsHeardFor tells tx out statuses.Done = IsTrue tells → IsReadOut tx
-IsHeardFor tells tx out statuses.Read = ReadFailed tx
-IsHeardFor tells tx out statuses.Cut = IsTrue tells → is_over tx.before.left ≡ true
-IsHeardFor tells tx out statuses.Write = WriteFailed out
-IsHeardFor tells tx out _ = ⊥
+-- hearing the deliveries came to this status, which has its cause whatever the words and the state are
+pub record IsHeardFor (tells : Bool) (tx : Change SourceShown) (out : Change SinkShown) (status : SideStatus) : Type 0 where
+  pub heard : was_heard status ≡ true
+  pub cause : (words : List (List ℕ)) (sinks_tell : Bool) (beginning : Change SourceShown) → IsCausedBy (record {
+    words = words;
+    sources_tell = tells;
+    sinks_tell = sinks_tell;
+    beginning = beginning;
+    tx = tx;
+    out = out;
+    status = status;
+  }) status

@@ -5,7 +5,8 @@ ghost use Rattle.line_reader.specs.Reader.{given};
 ghost use Rattle.outer_io.specs.Faults.{Rose};
 ghost use Rattle.outer_io.specs.Shown.{ReadFailed, LosesNothing, source_change};
 ghost use Rattle.meter_side_main.specs.declared.session.Ended.{Ended};
-ghost use Rattle.meter_side_main.specs.Session.{text_of, EndsSo, HearsNext, HasHeard, HasTold};
+ghost use Rattle.meter_side_main.specs.Lines.{last_by};
+ghost use Rattle.meter_side_main.specs.Session.{EndsSo, HearsNext, HasAnswered};
 
 use crate::lines::{Answer, hear_line};
 use crate::listener::Listener;
@@ -34,7 +35,8 @@ fn hear_next<S: Source>(tx: &mut TextReader<S>, listener: &mut Listener) -> Resu
     ensures next { OnOk result ((tx.new.reader.done ≡ false) × (tx.new.reader.line ≡ tx.old.reader.line + 1)) }
     ensures few { tx.new.reader.line ≤ 131072 }
     ensures heard { IfOk result (λ answer. IsTrue S.tells →
-        HearsNext listener.old (given S.taken tx.old.reader) (given S.taken tx.new.reader) answer listener.new) }
+        HearsNext listener.old (given S.taken tx.old.reader) (given S.taken tx.new.reader) answer) }
+    ensures after { IfOk result (λ answer. listener.new ≡ record listener.old { last = last_by listener.old.last answer }) }
     ensures kept { OnErr result (listener.new ≡ listener.old) }
     ensures no_line { OnErr result (IsTrue S.tells → given S.taken tx.new.reader ≡ given S.taken tx.old.reader) }
     ensures ends { IfErr result (λ ended. IsTrue S.tells →
@@ -53,30 +55,6 @@ fn hear_next<S: Source>(tx: &mut TextReader<S>, listener: &mut Listener) -> Resu
     }
 }
 
-// Hears all lines, puts what is answered to each on a paper, and answers how the lines end.
-fn hear_lines<S: Source, P: Paper>(
-    tx: &mut TextReader<S>,
-    listener: &mut Listener,
-    paper: &mut P,
-) -> Ended
-    requires fresh { tx.old.reader.line ≡ 0 }
-    requires goes_on { tx.old.reader.done ≡ false }
-    requires longest { tx.old.longest ≡ 582 }
-    ensures heard { HasHeard P.takes S.tells listener.old paper.old (given S.taken tx.new.reader) listener.new paper.new }
-    ensures ends { IsTrue S.tells →
-        EndsSo result (S.taken tx.new.reader.source) (S.left tx.new.reader.source) (given S.taken tx.new.reader) }
-    ensures failed { result ≡ Ended.Fault → Rose (S.faults tx.old.reader.source) (S.faults tx.new.reader.source) }
-    ensures bytes { IsTrue S.tells → S.taken tx.new.reader.source ++ S.left tx.new.reader.source
-        ≡ S.taken tx.old.reader.source ++ S.left tx.old.reader.source }
-{
-    'lines: loop {
-        match hear_next(tx, listener) {
-            Ok(answer) => answer.print(paper),
-            Err(ended) => return ended,
-        }
-    }
-}
-
 // Hears the deliveries of a source for one meter, puts what is answered on a paper, and answers how the source ended.
 pub(crate) fn hear_source<S: Source, P: Paper>(
     own: Address,
@@ -87,7 +65,7 @@ pub(crate) fn hear_source<S: Source, P: Paper>(
     requires fresh { tx.old.reader.line ≡ 0 }
     requires goes_on { tx.old.reader.done ≡ false }
     requires longest { tx.old.longest ≡ 582 }
-    ensures told { HasTold P.takes S.tells paper.old (text_of own commission (given S.taken tx.new.reader)) paper.new }
+    ensures told { HasAnswered P.takes S.tells own commission paper.old (given S.taken tx.new.reader) paper.new }
     ensures ends { IsTrue S.tells →
         EndsSo result (S.taken tx.new.reader.source) (S.left tx.new.reader.source) (given S.taken tx.new.reader) }
     ensures failed { result ≡ Ended.Fault → ReadFailed (source_change S.Source tx.old.reader.source tx.new.reader.source) }
@@ -95,7 +73,13 @@ pub(crate) fn hear_source<S: Source, P: Paper>(
     ensures no_loss { IsTrue S.tells → LosesNothing (source_change S.Source tx.old.reader.source tx.new.reader.source) }
 {
     let mut listener = Listener::new(own, commission);
-    let ended = hear_lines(tx, &mut listener, paper);
-    Last(listener.last()).print(paper);
-    ended
+    'lines: loop {
+        match hear_next(tx, &mut listener) {
+            Ok(answer) => answer.print(paper),
+            Err(ended) => {
+                Last(listener.last()).print(paper);
+                return ended;
+            }
+        }
+    }
 }

@@ -1,17 +1,19 @@
 -- The answers are put on a fresh paper, and the paper is finished.
-use Rattle.std.proofs.Common.{◌≡◌, List, ℕ, sym, ◌∙◌, subst}
+use Rattle.std.proofs.Common.{◌≡◌, sym, ◌∙◌, subst}
 use Rattle.outer_io.specs.Shown.{Change, SourceShown, SinkShown, source_change, sink_change}
 use Rattle.line_reader.specs.Reader.{given}
 use Rattle.paper.specs.Filing.{filed}
 use Rattle.paper.proofs.Filings.{Finished, print_finished}
 use Rattle.meter_side_main.specs.declared.status.SideStatus.{SideStatus}
+use Rattle.meter_side_main.specs.Answers.{side_text}
 use Rattle.meter_side_main.specs.Run.{Hears}
 use Rattle.meter_side_main.specs.Refused.{IsHeardFor}
-use Rattle.meter_side_main.proofs.Runs.{hears_by, heard_for, failed_is, whole_is, front_is}
+use Rattle.meter_side_main.proofs.Runs.{hears_by, heard_for, failed_is}
 use Rattle.meter_side_main.proofs.top.hear_on.Goals as goal
 
 done : (g : _) (c : goal.After-status_at g) → (c.finish.new.self.sink.ghost_name ≡ c.args.paper.now.sink.ghost_name)
-    × Finished g.K.Sink.tells (filed g.K.Sink.written g.K.Sink.faults c.args.paper.now) c.hear_source-ended.ensures.told.put
+    × Finished g.K.Sink.tells (filed g.K.Sink.written g.K.Sink.faults c.args.paper.now)
+    (side_text c.args.meter.now.commission c.hear_source-ended.ensures.told.answers)
     (filed g.K.Sink.written g.K.Sink.faults c.finish.new.self)
 done g c = print_finished g.K.Sink.tells _ (λ p. p.sink.ghost_name) (filed g.K.Sink.written g.K.Sink.faults) (λ p text q took. took)
     c.args.paper.now c.hear_source-ended.new.paper c.finish.new.self _
@@ -28,17 +30,13 @@ pub returns-clause-heard : goal.returns-clause-heard
 returns-clause-heard g c = λ tells.
     let m = c.args.meter.now in
     let heard = c.hear_source-ended.ensures in
-    let lines : List (List ℕ) = given g.S.Source.taken c.hear_source-ended.new.tx.reader in
     let tx : Change SourceShown = source_change g.S.Source c.args.tx.now.reader.source c.hear_source-ended.new.tx.reader.source in
     let out : Change SinkShown = sink_change g.K.Sink c.args.paper.now.sink.now c.finish.new.self.sink.now in
-    let d = (done g c).1 in
-    let is = failed g c in
     subst (λ (s : SideStatus). Hears m.own m.commission tx g.K.Sink.tells out s) (sym c.status_at.ensures)
-    (hears_by m.own m.commission tx g.K.Sink.tells out c.hear_source-ended.result lines heard.key (heard.ends tells)
-    c.is_err-unwritten.result
-    (λ fine writes. whole_is _ _ _ _ (d.ok (is ∙ fine) writes) (c.requires.empty writes) (heard.told.is tells))
-    (λ yes. d.cause (is ∙ yes))
-    (λ yes writes. front_is _ _ _ _ (heard.told.is tells) (c.requires.empty writes) (d.err (is ∙ yes) writes)))
+    (hears_by m.own m.commission tx g.K.Sink.tells (filed g.K.Sink.written g.K.Sink.faults c.args.paper.now)
+    (filed g.K.Sink.written g.K.Sink.faults c.finish.new.self) c.hear_source-ended.result
+    (given g.S.Source.taken c.hear_source-ended.new.tx.reader) heard.told.answers heard.key (heard.ends tells)
+    (heard.told.answered tells) c.requires.empty (done g c).1 c.is_err-unwritten.result (failed g c))
 
 pub returns-clause-cause : goal.returns-clause-cause
 returns-clause-cause g c =

@@ -1,16 +1,15 @@
+-- What was heard, or why nothing was.
 use Rattle.std.proofs.Common.{◌≡◌, false, sym, ◌∙◌, refl, map}
 use Rattle.std.specs.String.{string_bytes}
 use Rattle.outer_io.specs.Shown.{source_change, sink_change}
 use Rattle.meter_side_main.specs.Statuses.{was_heard}
 use Rattle.meter_side_main.specs.Run.{Run}
-use Rattle.meter_side_main.proofs.Runs.{run_is, headline_is, hearing_cause, was_unheard, refusal_cause}
+use Rattle.meter_side_main.proofs.Runs.{run_is, headline_is, refusal_cause}
 use Rattle.meter_side_main.proofs.top.meter_run.Goals as goal
 use Rattle.meter_side_main.proofs.top.meter_run.Goals.{After-hear}
 
 heard : (g : _) (c : After-hear g) → was_heard c.hear.result ≡ false → ⊥
-heard g c unheard =
-    was_unheard g.S.Source.tells (source_change g.S.Source c.args.tx.now.reader.source c.hear.new.tx.reader.source)
-    (sink_change g.K.Sink c.args.out.now c.hear.new.out) c.hear.result c.hear.ensures.cause unheard
+heard g c unheard = let heard = c.hear.ensures.cause.heard in absurd cc
 
 pub returns-in-Ok-clause-run : goal.returns-in-Ok-clause-run
 returns-in-Ok-clause-run g c =
@@ -24,7 +23,7 @@ returns-in-Ok-clause-run g c =
       status = c.hear.result;
     } in
     run_is run (λ h tells. headline_is run c.in-Ok.meter (c.in-Ok.ensures.found tells) (c.hear.ensures.heard tells))
-    (hearing_cause run c.hear.result c.hear.ensures.cause)
+    (c.hear.ensures.cause.cause run.words run.sinks_tell run.beginning)
     (λ none. absurd (let refused = (c.find_meter.ensures.words none).0 in let found = c.in-Ok.is in cc))
     (λ tells. (c.requires.untaken tells).1) c.find_meter.ensures.no_loss c.hear.ensures.no_loss
     (λ unheard. absurd (heard g c unheard)) (λ unheard. absurd (heard g c unheard))

@@ -1,7 +1,7 @@
 use Rattle.std.proofs.Common.{◌≡◌, ◌≤◌, ◌-◌, ◌++◌, false, IsTrue}
 use Rattle.line_reader.specs.Reader.{given}
 use Rattle.meter_side_main.specs.Session.{HasHeard}
-use Rattle.meter_side_main.proofs.session.hear_lines.Given as goal
+use Rattle.meter_side_main.proofs.session.hear_source.Given as goal
 
 abbrev pub invariant-lines : goal.invariant-lines
 invariant-lines g l = record {
