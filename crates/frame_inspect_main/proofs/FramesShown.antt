@@ -11,11 +11,11 @@ use Rattle.message_check.specs.declared.refusal.LayerFault.{LayerFault}
 use Rattle.message_check.specs.Target.{link_address}
 use Rattle.message_check.proofs.LayerLaws.{layers_again}
 use Rattle.paper.specs.Pieces.{labelled}
-use Rattle.frame_inspect_main.specs.Layered.{format_word, link_text, layers_text, frame_text, telegram_text, said_text, layered_text}
+use Rattle.frame_inspect_main.specs.Layered.{format_word, link_text, layers_text, frame_text, telegram_text, said_text, said_line}
 use Rattle.frame_inspect_main.specs.Laws.{FramesAreShown}
 
 pub frames_are_shown : FramesAreShown
-unfolding layered_text telegram_text
+unfolding said_line telegram_text
 frames_are_shown number next format at bytes t l says are frame layers =
     ap (λ (r : Result Line BadLine). decimal number ++ said_text r ++ codes "\n") says
     ∙ ap (λ (r : Result (List ℕ) FrameFault). decimal number ++ frame_text format r ++ codes "\n")

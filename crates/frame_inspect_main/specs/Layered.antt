@@ -114,6 +114,10 @@ abbrev pub said_text : Result Line BadLine → List ℕ
 said_text (Ok line) = line_text line
 said_text (Err bad) = codes " bad"
 
--- the number of an item, what it says, and a newline
-unfoldable pub layered_text : ℕ → Item → List ℕ
-layered_text number next = decimal number ++ said_text (said_by next) ++ codes "\n"
+-- the number of a line, what is shown of what it says, and a newline
+unfoldable pub said_line : ℕ → Result Line BadLine → List ℕ
+said_line number said = decimal number ++ said_text said ++ codes "\n"
+
+-- the line of an item
+abbrev pub layered_text : ℕ → Item → List ℕ
+layered_text number next = said_line number (said_by next)

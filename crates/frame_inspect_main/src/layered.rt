@@ -6,8 +6,7 @@ ghost use Rattle.frame_formats.specs.Decoding.{decoded};
 ghost use Rattle.message_check.specs.Layers.{layers_of};
 ghost use Rattle.frame_inspect_main.specs.Layered.{access_word, extension_text, more_word, octet_text, fragmentation_text, long_text};
 ghost use Rattle.frame_inspect_main.specs.Layered.{transport_text, content_text, layers_text, format_word, link_text, telegram_text};
-ghost use Rattle.frame_inspect_main.specs.Layered.{frame_fault_text, frame_text, line_text, said_text, layered_text};
-ghost use Rattle.frame_inspect_main.specs.Items.{said_by};
+ghost use Rattle.frame_inspect_main.specs.Layered.{frame_fault_text, frame_text, line_text, said_text, said_line};
 
 use crate::item::Item;
 use crate::look::Look;
@@ -17,7 +16,7 @@ use afl_layer::Afl;
 use ell_layer::{Access, Ell};
 use frame_formats::{Format, FrameFault, Telegram, decode};
 use layer_text::{put_layer_fault, put_letters};
-use line_reader::Line;
+use line_reader::{BadLine, Line};
 use message_check::{LayerFault, Layers, layers, link_address};
 use meter_address::Address;
 use outer_io::Memory;
@@ -203,8 +202,8 @@ fn put_frame<P: Paper>(paper: &mut P, format: Format, bytes: &[u8])
     }
 }
 
-/// Puts what every layer of a line's frame says, behind a space.
-pub fn put_line<P: Paper>(paper: &mut P, line: &Line)
+// Puts what every layer of a line's frame says, behind a space.
+fn put_line<P: Paper>(paper: &mut P, line: &Line)
     ensures { Puts P.takes paper.old (line_text line.now) paper.new }
 {
     match line {
@@ -213,13 +212,23 @@ pub fn put_line<P: Paper>(paper: &mut P, line: &Line)
     }
 }
 
-fn put_item<P: Paper>(paper: &mut P, next: &Item)
-    ensures { Puts P.takes paper.old (said_text (said_by next.now)) paper.new }
+fn put_said<P: Paper>(paper: &mut P, said: &Result<Line, BadLine>)
+    ensures { Puts P.takes paper.old (said_text said.now) paper.new }
 {
-    match &next.said() {
+    match said {
         Ok(line) => put_line(paper, line),
         Err(_) => put_text(paper, " bad"),
     }
+}
+
+/// Puts the line that is shown of what a line says, with its number.
+#[tactic(auto, unfolding(crate::specs::Layered::said_line), using(paper::proofs::Calls::three_make))]
+pub fn put_said_line<P: Paper>(paper: &mut P, number: u32, said: &Result<Line, BadLine>)
+    ensures { Puts P.takes paper.old (said_line number said.now) paper.new }
+{
+    put_number(paper, u64::from(number));
+    put_said(paper, said);
+    put_text(paper, "\n");
 }
 
 // An item with its number.
@@ -234,11 +243,8 @@ impl Printed for Numbered<'_> {
 
     ghost text = { λ n. layered_text n.number n.item.now };
 
-    #[tactic(auto, unfolding(crate::specs::Layered::layered_text), using(paper::proofs::Calls::three_make))]
     fn print<P: Paper>(&self, paper: &mut P) {
-        put_number(paper, u64::from(self.number));
-        put_item(paper, self.item);
-        put_text(paper, "\n");
+        put_said_line(paper, self.number, &self.item.said());
     }
 }
 

@@ -14,7 +14,7 @@ mod status;
 pub use inspecting::{ITEMS_MAX, WORKERS_MAX, inspect};
 pub use item::{Item, LineText};
 pub use laws::{frames_are_shown, items_say_their_lines, runs_are_even, runs_are_whole};
-pub use layered::{Layered, put_line};
+pub use layered::{Layered, put_said_line};
 pub use look::Look;
 pub use room::Room;
 pub use running::{inspect_run, workers};

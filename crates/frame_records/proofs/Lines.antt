@@ -1,7 +1,6 @@
 -- What is told of lines is what is shown of them.
 use Rattle.std.proofs.Common.{ℕ, ◌≡◌, ◌+◌, ◌<◌, true, cond, List, [], ◌∷◌, ◌++◌, length, sym, ap, ◌∙◌, arith}
-use Rattle.std.specs.Prelude.{nat_lt, codes, Result, Err}
-use Rattle.std.specs.Fmt.{decimal}
+use Rattle.std.specs.Prelude.{nat_lt, Result, Err}
 use Rattle.std.proofs.lemmas.Bool.Decides.{nat_tests}
 use Rattle.std.proofs.lemmas.List.{append-nil}
 use Rattle.meter_address.specs.Commission.{Commissioned}
@@ -11,19 +10,12 @@ use Rattle.line_reader.specs.declared.line.Line.{Line}
 use Rattle.line_reader.specs.declared.line.BadLine.{BadLine}
 use Rattle.line_reader.specs.declared.line.BadLine.TheVariants as bads
 use Rattle.line_teller.specs.Telling.{AreTold}
-use Rattle.frame_inspect_main.specs.Items.{item_of}
-use Rattle.frame_inspect_main.specs.Layered.{layered_text, said_text}
-use Rattle.frame_inspect_main.proofs.ItemsSay.{items_say_their_lines}
+use Rattle.frame_inspect_main.specs.Layered.{said_line}
 use Rattle.frame_records.specs.declared.serving.Answer.{Answer}
 use Rattle.frame_records.specs.declared.telling.Opener.{Opener}
 use Rattle.frame_records.specs.Below.{below_text}
 use Rattle.frame_records.specs.Serving.{answer_text}
-use Rattle.frame_records.specs.Shown.{shown_text, shown_from, said_line, answered_text, ShowsLine}
-
-layered_is : (number : ℕ) (line : List ℕ) → said_line number (line_of line) ≡ layered_text number (item_of line)
-unfolding said_line layered_text
-layered_is number line =
-    ap (λ (said : Result Line BadLine). decimal number ++ said_text said ++ codes "\n") (sym (items_say_their_lines line))
+use Rattle.frame_records.specs.Shown.{shown_text, shown_from, answered_text, ShowsLine}
 
 -- what is put of a line that was read and answered is what is shown of it
 pub answered_is : (meters meters' : List Commissioned) (number : ℕ) (line : List ℕ) (said : Result Line BadLine) (answer : Answer)
@@ -33,7 +25,6 @@ unfolding answered_text
 answered_is meters meters' number line said answer is same below =
     ap (λ b. said_line number said ++ b) (below ∙ ap (λ ms. below_text ms said) same)
     ∙ ap (λ (it : Result Line BadLine). said_line number it ++ below_text meters it) is
-    ∙ ap (λ t. t ++ below_text meters (line_of line)) (layered_is number line)
 
 long_test : (line : List ℕ) → 1024 < length line → nat_lt 1024 (length line) ≡ true
 long_test line long = grind (arith, nat_tests)
@@ -48,7 +39,6 @@ pub long_is : (meters : List Commissioned) (number : ℕ) (line : List ℕ) → 
 long_is meters number line long =
     sym (append-nil (said_line number (Err bads.TooLong)))
     ∙ ap (λ (it : Result Line BadLine). said_line number it ++ below_text meters it) (sym (long_line line long))
-    ∙ ap (λ t. t ++ below_text meters (line_of line)) (layered_is number line)
 
 pub are_shown : (number : ℕ) (first last : Opener) (lines : List (List ℕ)) (text note : List ℕ)
     → AreTold ShowsLine number first lines text note last → text ≡ shown_from first.roster.meters number lines

@@ -1,12 +1,10 @@
 -- What is shown of lines: what their frames' layers say, and below it what their messages do.
-use Rattle.std.specs.Prelude.{ℕ, ◌≡◌, ◌+◌, List, [], ◌∷◌, ◌++◌, codes, Result}
-use Rattle.std.specs.Fmt.{decimal}
+use Rattle.std.specs.Prelude.{ℕ, ◌≡◌, ◌+◌, List, [], ◌∷◌, ◌++◌, Result}
 use Rattle.meter_address.specs.Commission.{Commissioned}
 use Rattle.line_reader.specs.Grammar.{line_of}
 use Rattle.line_reader.specs.declared.line.Line.{Line}
 use Rattle.line_reader.specs.declared.line.BadLine.{BadLine}
-use Rattle.frame_inspect_main.specs.Items.{item_of}
-use Rattle.frame_inspect_main.specs.Layered.{layered_text, said_text}
+use Rattle.frame_inspect_main.specs.Layered.{said_line}
 use Rattle.frame_records.specs.declared.serving.Answer.{Answer}
 use Rattle.frame_records.specs.declared.telling.Opener.{Opener}
 use Rattle.frame_records.specs.Below.{below_text}
@@ -14,7 +12,7 @@ use Rattle.frame_records.specs.Serving.{answer_text}
 
 -- what is shown of a line: its layers, as without keys, and below them what it says under the keys of these meters
 abbrev pub shown_text : List Commissioned → ℕ → List ℕ → List ℕ
-shown_text meters number line = layered_text number (item_of line) ++ below_text meters (line_of line)
+shown_text meters number line = said_line number (line_of line) ++ below_text meters (line_of line)
 
 -- what is shown of lines, one after another, numbered on from a first number
 abbrev pub shown_from : List Commissioned → ℕ → List (List ℕ) → List ℕ
@@ -22,10 +20,6 @@ shown_from meters number [] = []
 shown_from meters number (line ∷ lines) = shown_text meters number line ++ shown_from meters (number + 1) lines
 
 -- ---- words of private contracts
-
--- the line of what is said, without what stands below it
-unfoldable pub said_line : ℕ → Result Line BadLine → List ℕ
-said_line number said = decimal number ++ said_text said ++ codes "\n"
 
 -- a line that says this, and below it this answer
 unfoldable pub answered_text : ℕ → Result Line BadLine → Answer → List ℕ

@@ -1,39 +1,18 @@
 //! What is shown of a line.
-ghost use Rattle.std.specs.Prelude.{◌≡◌};
 ghost use Rattle.paper.specs.Puts.{Puts};
-ghost use Rattle.frame_inspect_main.specs.Layered.{said_text};
-ghost use Rattle.frame_records.specs.Shown.{said_line, answered_text};
+ghost use Rattle.frame_records.specs.Shown.{answered_text};
 
 use crate::serving::{Answer, answer_to, put_answer};
-use frame_inspect_main::put_line;
+use frame_inspect_main::put_said_line;
 use line_reader::{BadLine, Line, read_line};
 use line_teller::{Sheet, Teller};
 use outer_io::Memory;
-use paper::{Paper, put_number, put_text};
+use paper::Paper;
 use roster_file::Roster;
 use std::alloc::Global;
 
 /// The most bytes of a line, without its end, that is looked at: a longer one is outside the grammar.
 pub const LINE_MAX: usize = line_reader::LINE_MAX;
-
-fn put_said<P: Paper>(paper: &mut P, said: &Result<Line, BadLine>)
-    ensures { Puts P.takes paper.old (said_text said.now) paper.new }
-{
-    match said {
-        Ok(line) => put_line(paper, line),
-        Err(_) => put_text(paper, " bad"),
-    }
-}
-
-// Puts the line of what is said, with its number.
-#[tactic(auto, unfolding(crate::specs::Shown::said_line), using(paper::proofs::Calls::three_make))]
-fn put_said_line<P: Paper>(paper: &mut P, number: u32, said: &Result<Line, BadLine>)
-    ensures { Puts P.takes paper.old (said_line number said.now) paper.new }
-{
-    put_number(paper, u64::from(number));
-    put_said(paper, said);
-    put_text(paper, "\n");
-}
 
 // Puts the line of what is said, and what stands below it.
 #[tactic(auto, unfolding(crate::specs::Shown::answered_text), using(paper::proofs::Calls::two_make))]

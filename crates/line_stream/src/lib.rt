@@ -5,7 +5,6 @@ mod cutting;
 mod laws;
 mod line_file;
 mod opened;
-mod passing;
 mod streaming;
 mod teller;
 

@@ -1,42 +1,22 @@
 //! All lines of a stream, told on two sinks.
-ghost use Rattle.std.specs.Prelude.{ℕ, ◌≡◌, ◌≤◌, ◌<◌, ◌+◌, ◌-◌, ◌^◌, ◌++◌, [], ◌∷◌, ◌≢◌, List, length, take, drop, false, Ok, Err, IsTrue, OnOk, OnErr, IfErr, MatchOption};
-ghost use Rattle.outer_io.specs.Bytes.{AppendsFront};
+ghost use Rattle.std.specs.Prelude.{ℕ, ◌≡◌, ◌≤◌, ◌<◌, ◌+◌, ◌-◌, ◌^◌, ◌++◌, [], ◌∷◌, ◌≢◌, List, length, take, drop, false, Ok, Err, IsTrue, OnOk, IfErr, MatchOption};
 ghost use Rattle.outer_io.specs.Faults.{Rose};
 ghost use Rattle.outer_io.specs.Shown.{source_shown, sink_change, WriteFailed};
 ghost use Rattle.line_reader.specs.Newlines.{newlines};
-ghost use Rattle.line_teller.specs.Ending.{IsNoted};
 ghost use Rattle.line_teller.specs.Telling.{Tells};
 ghost use Rattle.line_stream.specs.Opened.{Open, Keeps, StandsAt, told_line};
 ghost use Rattle.line_stream.specs.Pieces.{IsPlace, Adds};
 ghost use Rattle.line_stream.specs.Streams.{StreamEnded, TellsMore, Goes, EndsRead, Stops, StopsAtLine};
 
 use crate::opened::{LONGEST_MAX, OpenLine};
-use crate::passing::{pass_note, pass_text};
 use crate::teller::StreamTeller;
-use line_teller::{LinesEnd, Sheet};
-use outer_io::{Memory, Sink, Source};
+use line_teller::{LinesEnd, Sheet, ended_by, pass_both};
+use outer_io::{Sink, Source};
 use plain_text::first_place;
 use std::alloc::Global;
 
 // How many bytes a read asks for.
 const READ_MOST: usize = 16_384;
-
-// How a line that was told ends the stream: for want of memory alone.
-fn ended_by(told: Result<(), Memory>, text: &Sheet, note: &Sheet) -> Result<(), LinesEnd>
-    ensures ok { OnOk result ((told ≡ Ok tt) × (text.now.failed ≡ false) × (note.now.failed ≡ false)) }
-    ensures err { IfErr result (λ end. end ≡ LinesEnd.Memory) }
-{
-    if told.is_err() {
-        return Err(LinesEnd::Memory);
-    }
-    if text.failed() {
-        return Err(LinesEnd::Memory);
-    }
-    if note.failed() {
-        return Err(LinesEnd::Memory);
-    }
-    Ok(())
-}
 
 // Tells a line on two sheets.
 fn hear<T: StreamTeller>(
@@ -63,29 +43,6 @@ fn hear<T: StreamTeller>(
             teller.tell_long(number, text, note);
             ended_by(Ok(()), text, note)
         }
-    }
-}
-
-// Passes on what was told of a line.
-fn pass_both<K: Sink, E: Sink>(
-    text: &mut Sheet,
-    note: &mut Sheet,
-    out: &mut K,
-    notes: &mut E,
-) -> Result<(), LinesEnd>
-    ensures ok { OnOk result (IsTrue K.tells → K.written out.new ≡ K.written out.old ++ text.old.text) }
-    ensures no_text { OnOk result (text.new.text ≡ []) }
-    ensures front { OnErr result (IsTrue K.tells → AppendsFront text.old.text (K.written out.old) (K.written out.new)) }
-    ensures write { IfErr result (λ end. (end ≡ LinesEnd.Write) × WriteFailed (sink_change K.Sink out.old out.new)) }
-    ensures no_note { note.new.text ≡ [] }
-    ensures noted { IsTrue E.tells → IsNoted note.old.text (sink_change E.Sink notes.old notes.new) }
-    ensures later_out { K.faults out.old ≤ K.faults out.new }
-    ensures later_notes { E.faults notes.old ≤ E.faults notes.new }
-{
-    pass_note(note, notes);
-    match pass_text(text, out) {
-        Ok(()) => Ok(()),
-        Err(_) => Err(LinesEnd::Write),
     }
 }
 
@@ -118,7 +75,7 @@ fn tell_line<K: Sink, E: Sink, T: StreamTeller>(
     ensures later_notes { E.faults notes.old ≤ E.faults notes.new }
 {
     match hear(alloc, number, begun, ended, teller, text, note) {
-        Ok(()) => pass_both(text, note, out, notes),
+        Ok(()) => pass_both(text, note, out, notes, 0),
         Err(end) => Err(end),
     }
 }

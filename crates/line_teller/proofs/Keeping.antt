@@ -1,4 +1,4 @@
--- What users of the crate need to show that a line is told, and that a note is noted.
+-- What users of the crate need to show that a line is told, that a note is noted, and that a text was written.
 use Rattle.std.proofs.Common.{◌≡◌, ℕ, false, refl, sym, ◌∙◌, ap, append_assoc}
 use Rattle.std.specs.Prelude.{List, [], ◌∷◌, ◌++◌, Result, Ok, Err, OnOk, OnErr}
 use Rattle.std.specs.List.{FoldsTo, concat}
@@ -8,6 +8,7 @@ use Rattle.outer_io.specs.Shown.{Change, SinkShown, WriteFailed}
 use Rattle.paper.specs.InMemory.{Kept, Keeps}
 use Rattle.paper.specs.Puts.{Puts}
 use Rattle.line_teller.specs.Ending.{IsNoted}
+use Rattle.line_teller.specs.Standing.{Pours}
 use Rattle.line_teller.specs.Telling.{Tells}
 
 calls_keep : (p q : Kept) (parts : List (List ℕ)) → FoldsTo Keeps p parts q → Keeps p (concat parts) q
@@ -40,3 +41,10 @@ pub noted_by : (result : Result (Unit {0}) Failed) (note : List ℕ) (sink : Cha
     → OnErr result (WriteFailed sink) → IsNoted note sink
 noted_by (Ok done) note sink ok err = λ off. ok
 noted_by (Err failed) note sink ok err = λ off. absurd (off err)
+
+-- where nothing waits any more all was written
+pub poured_whole : (written sheet written' sheet' : List ℕ) → Pours written sheet written' sheet' → sheet' ≡ []
+    → written' ≡ written ++ sheet
+poured_whole written sheet written' sheet' poured empty =
+    poured.written_is
+    ∙ ap (λ t. written ++ t) (sym (poured.sheet_is ∙ ap (λ t. poured.gone ++ t) empty ∙ append-nil poured.gone))

@@ -12,8 +12,8 @@ use line_reader::{NextText, TextReader};
 use outer_io::{Memory, Source};
 use std::alloc::Global;
 
-// How a line that was told ends the lines: for want of memory alone.
-fn ended_by(told: Result<(), Memory>, text: &Sheet, note: &Sheet) -> Result<(), LinesEnd>
+/// How a line that was told on these two sheets ends the lines: for want of memory alone.
+pub fn ended_by(told: Result<(), Memory>, text: &Sheet, note: &Sheet) -> Result<(), LinesEnd>
     ensures ok { OnOk result ((told ≡ Ok tt) × (text.now.failed ≡ false) × (note.now.failed ≡ false)) }
     ensures err { IfErr result (λ end. end ≡ LinesEnd.Memory) }
 {

@@ -9,6 +9,8 @@ mod teller;
 mod telling;
 
 pub use ending::LinesEnd;
+pub use hearing::ended_by;
+pub use passing::pass_on;
 pub use sheet::Sheet;
 pub use teller::Teller;
-pub use telling::{tell_lines, tell_one, tell_one_by_one};
+pub use telling::{pass_both, tell_lines, tell_one, tell_one_by_one};

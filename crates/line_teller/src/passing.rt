@@ -10,7 +10,7 @@ use crate::sheet::Sheet;
 use outer_io::{Failed, Sink, write_all};
 
 /// Writes what is on the sheet, where that has more than `room` bytes, and clears it.
-pub(crate) fn pass_on<K: Sink>(sheet: &mut Sheet, out: &mut K, room: usize) -> Result<(), Failed>
+pub fn pass_on<K: Sink>(sheet: &mut Sheet, out: &mut K, room: usize) -> Result<(), Failed>
     ensures same { sheet.new.failed ≡ sheet.old.failed }
     ensures ok { OnOk result (IsTrue K.tells → Pours (K.written out.old) sheet.old.text (K.written out.new) sheet.new.text) }
     ensures all { OnOk result (room ≡ 0 → sheet.new.text ≡ []) }

@@ -16,8 +16,8 @@ use line_reader::TextReader;
 use outer_io::{Sink, Source};
 use std::alloc::Global;
 
-// Passes on what was told of a line.
-fn pass_both<K: Sink, E: Sink>(
+/// Passes on what was told of a line: its note, and its text where more than `room` bytes wait with it.
+pub fn pass_both<K: Sink, E: Sink>(
     text: &mut Sheet,
     note: &mut Sheet,
     out: &mut K,

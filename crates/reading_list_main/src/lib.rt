@@ -6,7 +6,6 @@ mod lister;
 mod notes;
 mod page;
 mod pages;
-mod passing;
 mod record_lines;
 mod running;
 mod said;

@@ -12,8 +12,7 @@ ghost use Rattle.reading_list_main.specs.Pages.{Ended, StopsReading, TellsOne, L
 
 use crate::lister::Lister;
 use crate::page::{Page, ended_len};
-use crate::passing::{pass_note, pass_on};
-use line_teller::{LinesEnd, Sheet};
+use line_teller::{LinesEnd, Sheet, ended_by, pass_both, pass_on};
 use outer_io::{Sink, Source};
 use plain_text::TextLines;
 use std::alloc::Global;
@@ -37,16 +36,8 @@ fn tell_line(
     ensures told { OnOk result (TellsOne lister.old lister.new number line.now text.old.text text.new.text note.new.text) }
     ensures err { IfErr result (λ end. end ≡ LinesEnd.Memory) }
 {
-    if lister.tell(alloc, number, line, text, note).is_err() {
-        return Err(LinesEnd::Memory);
-    }
-    if text.failed() {
-        return Err(LinesEnd::Memory);
-    }
-    if note.failed() {
-        return Err(LinesEnd::Memory);
-    }
-    Ok(())
+    let told = lister.tell(alloc, number, line, text, note);
+    ended_by(told, text, note)
 }
 
 // Lists the line with this number.
@@ -72,11 +63,8 @@ fn list_line<K: Sink, E: Sink>(
     ensures later_notes { E.faults notes.old ≤ E.faults notes.new }
 {
     tell_line(alloc, lister, number, line, text, note)?;
-    pass_note(note, notes);
-    match pass_on(text, out, ROOM) {
-        Ok(()) => Ok(()),
-        Err(_) => Err(LinesEnd::Write),
-    }
+    pass_both(text, note, out, notes, ROOM)?;
+    Ok(())
 }
 
 // Lists lines behind as many others as are counted, and writes what was told of them.

@@ -14,6 +14,7 @@ pub use entries::{put_comma, put_digits, put_entries, put_fault};
 pub use laws::{json_lists_the_report, orders_are_told};
 pub use lent::{MeterLine, ReceiverEnd, Session};
 pub use listing::{Ending, ending_of};
+pub use outcomes::put_reason;
 pub use parts::{MeterPart, meter_parts, report_of_parts};
 pub use readings::{put_truth, readings_json};
 pub use writing::{

@@ -18,7 +18,8 @@ fn put_bad_layers<P: Paper>(paper: &mut P, fault: LayerFault)
     put_layer_fault(paper, fault);
 }
 
-fn put_reason<P: Paper>(paper: &mut P, reason: Reason)
+/// Puts why a message is refused.
+pub fn put_reason<P: Paper>(paper: &mut P, reason: Reason)
     ensures { Puts P.takes paper.old (reason_text reason) paper.new }
 {
     match reason {

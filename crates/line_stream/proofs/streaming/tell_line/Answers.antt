@@ -1,13 +1,16 @@
 -- A line is told and written, or told and not written, or there is no memory.
+use Rattle.std.proofs.Common.{refl}
+use Rattle.line_teller.proofs.Keeping.{poured_whole}
 use Rattle.line_teller.proofs.Steps.{by_write, ok_both}
 use Rattle.line_stream.proofs.StreamReads.{line_told, line_unwritten, line_without_memory, not_read}
 use Rattle.line_stream.proofs.streaming.tell_line.Goals as goal
 
 pub returns-in-Ok-clause-told : goal.returns-in-Ok-clause-told
 returns-in-Ok-clause-told g c =
-    ok_both c.pass_both.result _ _ _ c.pass_both.ensures.ok c.pass_both.ensures.ok (λ written same line keeps.
+    ok_both c.pass_both.result _ _ _ c.pass_both.ensures.text c.pass_both.ensures.all (λ poured all line keeps.
     line_told g.T.StreamTeller.tells _ _ _ _ _ _ _ _ _ _ _ _ c.requires.no_text c.requires.no_note c.in-Ok.ensures.sound.0
-    c.in-Ok.ensures.sound.1 (c.in-Ok.ensures.heard line keeps) written c.pass_both.ensures.noted)
+    c.in-Ok.ensures.sound.1 (c.in-Ok.ensures.heard line keeps)
+    (λ on. poured_whole _ _ _ _ (poured on) (all refl)) c.pass_both.ensures.noted)
 
 pub returns-in-Ok-clause-ended : goal.returns-in-Ok-clause-ended
 returns-in-Ok-clause-ended g c =
