@@ -13,7 +13,7 @@ use crate::form::Form;
 use crate::status::Status;
 use meter_slots::World;
 use outer_io::{Sink, Source};
-use receivers::{Ended, Receiver};
+use receivers::{Alone, Ended, Receiver};
 use report_text::{ReceiverEnd, Session, report};
 use std::alloc::Global;
 
@@ -111,14 +111,15 @@ pub fn hear_session<S: Source, K: Sink>(
         Err(status) => return status,
     };
     let own = state.own();
-    let Ok(mut world) = World::new(alloc, own, state.into_starts()) else {
+    let Ok(world) = World::new(alloc, own, state.into_starts()) else {
         return Status::Memory;
     };
-    match receiver.work_alone(1, &mut world) {
+    let mut alone = Alone { source: 1, world };
+    match receiver.work_alone(&mut alone) {
         Ended::Memory => Status::Memory,
         ended => {
             let counts = receiver.counts();
-            finish_one(report, ReceiverEnd { counts, ended }, &world)
+            finish_one(report, ReceiverEnd { counts, ended }, &alone.world)
         }
     }
 }

@@ -9,6 +9,7 @@ pub mod Lone
 pub mod Makings
 pub mod Numbers
 pub mod OneSession
+pub mod Onward
 pub mod OrderLaws
 pub mod Runs
 pub mod SessionCuts

@@ -1,22 +1,21 @@
 -- What one line did, and what lines did one after another.
-use Rattle.std.proofs.Common.{◌≡◌, ◌==◌, ℕ, List, [], ◌∷◌, ◌++◌, map, filter, slice_index_or, Option, Some, None, Result, Ok, Err, refl, sym, ap, ◌∙◌, subst, arith, append-nil, append_assoc}
+use Rattle.std.proofs.Common.{◌≡◌, ◌==◌, ◌≤◌, ℕ, Bool, List, [], ◌∷◌, ◌++◌, map, filter, slice_index_or, Option, Some, None, Result, Ok, Err, OnErr, refl, sym, ap, ◌∙◌, subst, arith, append-nil, append_assoc}
 use Rattle.std.specs.Prelude.{option_to_list}
 use Rattle.std.specs.List.{filter_map, cons_option}
 use Rattle.std.proofs.lemmas.List.Elements.{filter-append}
 use Rattle.std.proofs.lemmas.List.{map-append}
 use Rattle.outer_io.specs.declared.failures.Failed.{Failed}
+use Rattle.outer_io.specs.Shown.{Change, SinkShown, WriteFailed}
 use Rattle.meter_address.specs.declared.address.Address.{Address}
 use Rattle.meter_slots.specs.declared.entry.Event.{Event}
 use Rattle.meter_slots.specs.declared.entry.Outcome.{Outcome}
 use Rattle.slot_cells.specs.declared.act.Act.{Act}
 use Rattle.slot_cells.specs.Acts.{Shown}
-use Rattle.receivers.specs.declared.class.Class.{Class}
-use Rattle.receivers.specs.declared.class.Class.TheVariants as classes
 use Rattle.receivers.specs.declared.told.Told.{Told}
 use Rattle.receivers.specs.declared.told.Told.TheVariants as told
-use Rattle.receivers.specs.Classes.{OwnLine, StrangeLine, place_of, own_at, own_by, own_of, strange_at, strange_by, strange_of, own_lines, strange_lines, class_at, class_by}
+use Rattle.receivers.specs.Classes.{OwnLine, StrangeLine, place_of, own_at, own_by, own_of, strange_at, strange_by, strange_of, own_lines, strange_lines}
 use Rattle.receivers.specs.Passes.{Answered, act_by, acts_at, note_by, crew, HasMade, HaveAnswered, HasNoted}
-use Rattle.receivers.specs.Works.{sent_text, Works, HearsLine, Sends, SendsAll}
+use Rattle.receivers.specs.Works.{sent_text, Works, MakesShared, Sends, SendsAll}
 
 -- ---- passes
 
@@ -78,61 +77,46 @@ pub works_nothing : {O P : Type 0} (directory : List Address) (a b : List (Shown
 unfolding own_lines strange_lines
 works_nothing directory a b s s' answered noted = record { asked = refl; answered = answered; noted = noted }
 
--- a line that is no step
-pub hears_none : {O P : Type 0} (directory : List Address) (line : ℕ) (t : Told) (c : Class) (a : List (Shown O Event Outcome))
-    (s : Shown P Address Unit) (tells : _) (x : List ℕ)
-    → class_by directory t ≡ c → own_by directory line t ≡ None → strange_by directory line t ≡ None
-    → HearsLine directory line t c (Ok tt) (crew a s) (crew a s) tells x x
-hears_none directory line t c a s tells x class own strange = record {
-  class_is = sym class;
+-- the step of a stranger's line
+pub makes_strange : {O P : Type 0} (directory : List Address) (line : ℕ) (address : Address) (event : Event)
+    (a : List (Shown O Event Outcome)) (s s' : Shown P Address Unit) (tells : Bool) (x : SinkShown)
+    → place_of directory address ≡ None → HasNoted (record { line = line; address = address } ∷ []) s s'
+    → MakesShared directory line address event (Ok tt) (crew a s) (crew a s') tells (record { before = x; now = x })
+makes_strange directory line address event a s s' tells x found noted = let t = told.Event address event in record {
   did = [];
   works = record {
-    asked = sym (one_own directory line t None own);
-    answered = answered_nothing a;
-    noted = subst (λ (ls : List StrangeLine). HasNoted ls s s) (sym (one_strange directory line t None strange)) (made_nothing s);
-  };
-  sent_so = λ _. sym (append-nil x);
-}
-
--- a stranger's line
-pub hears_strange : {O P : Type 0} (directory : List Address) (line : ℕ) (t : Told) (address : Address) (event : Event)
-    (a : List (Shown O Event Outcome)) (s s' : Shown P Address Unit) (tells : _) (x : List ℕ)
-    → t ≡ told.Event address event → place_of directory address ≡ None → HasNoted (record { line = line; address = address } ∷ []) s s'
-    → HearsLine directory line t classes.Strange (Ok tt) (crew a s) (crew a s') tells x x
-hears_strange directory line t address event a s s' tells x is found noted = record {
-  class_is = sym (ap (class_by directory) is ∙ ap class_at found);
-  did = [];
-  works = record {
-    asked = sym (one_own directory line t None (ap (own_by directory line) is ∙ ap (own_at line event) found));
+    asked = sym (one_own directory line t None (ap (own_at line event) found));
     answered = answered_nothing a;
     noted = subst (λ (ls : List StrangeLine). HasNoted ls s s')
-        (sym (one_strange directory line t (Some (record { line = line; address = address })) (ap (strange_by directory line) is
-        ∙ ap (strange_at line address) found))) noted;
+        (sym (one_strange directory line t (Some (record { line = line; address = address })) (ap (strange_at line address) found))) noted;
   };
-  sent_so = λ _. sym (append-nil x);
+  sent_so = λ _. sym (append-nil x.written);
+  tx_fault = tt;
+  tx_later = omega arith;
 }
 
-sends_one : (tells : _) (sent : Result Unit Failed) (d : Answered) (x y : List ℕ) → Sends tells sent d.outcome x y
+sends_one : (tells : Bool) (sent : Result Unit Failed) (d : Answered) (x y : List ℕ) → Sends tells sent d.outcome x y
     → SendsAll tells sent (d ∷ []) x y
 sends_one tells (Ok _) d x y sends = λ h. sends h ∙ ap (λ (l : List ℕ). x ++ l) (sym (append-nil (sent_text d)))
 sends_one tells (Err e) d x y sends = (d, refl, sends.0, sends.1)
 
--- a meter's own line
-pub hears_own : {O P : Type 0} (directory : List Address) (line : ℕ) (t : Told) (address : Address) (event : Event) (place : ℕ)
-    (outcome : Outcome) (sent : Result Unit Failed) (a b : List (Shown O Event Outcome)) (s : Shown P Address Unit) (tells : _)
-    (x y : List ℕ)
-    → t ≡ told.Event address event → place_of directory address ≡ Some place
+-- the step of a meter's own line
+pub makes_own : {O P : Type 0} (directory : List Address) (line : ℕ) (address : Address) (event : Event) (place : ℕ)
+    (outcome : Outcome) (sent : Result Unit Failed) (a b : List (Shown O Event Outcome)) (s : Shown P Address Unit) (tells : Bool)
+    (tx : Change SinkShown) → place_of directory address ≡ Some place
     → HaveAnswered (record { own = record { place = place; line = line; event = event }; outcome = outcome } ∷ []) a b
-    → Sends tells sent outcome x y → HearsLine directory line t classes.Own sent (crew a s) (crew b s) tells x y
-hears_own directory line t address event place outcome sent a b s tells x y is found answered sends = record {
-  class_is = sym (ap (class_by directory) is ∙ ap class_at found);
-  did = record { own = record { place = place; line = line; event = event }; outcome = outcome } ∷ [];
-  works = record {
-    asked = sym (one_own directory line t (Some (record { place = place; line = line; event = event })) (ap (own_by directory line) is
-        ∙ ap (own_at line event) found));
-    answered = answered;
-    noted = subst (λ (ls : List StrangeLine). HasNoted ls s s)
-        (sym (one_strange directory line t None (ap (strange_by directory line) is ∙ ap (strange_at line address) found))) (made_nothing s);
-  };
-  sent_so = sends_one tells sent (record { own = record { place = place; line = line; event = event }; outcome = outcome }) x y sends;
-}
+    → Sends tells sent outcome tx.before.written tx.now.written → OnErr sent (WriteFailed tx) → tx.before.faults ≤ tx.now.faults
+    → MakesShared directory line address event sent (crew a s) (crew b s) tells tx
+makes_own directory line address event place outcome sent a b s tells tx found answered sends cause later =
+    let t = told.Event address event in let own : OwnLine = record { place = place; line = line; event = event } in record {
+      did = record { own = own; outcome = outcome } ∷ [];
+      works = record {
+        asked = sym (one_own directory line t (Some own) (ap (own_at line event) found));
+        answered = answered;
+        noted = subst (λ (ls : List StrangeLine). HasNoted ls s s)
+            (sym (one_strange directory line t None (ap (strange_at line address) found))) (made_nothing s);
+      };
+      sent_so = sends_one tells sent (record { own = own; outcome = outcome }) tx.before.written tx.now.written sends;
+      tx_fault = cause;
+      tx_later = later;
+    }

@@ -1,5 +1,5 @@
--- What a receiver did so far, and one line more.
-use Rattle.std.proofs.Common.{◌≡◌, ◌≢◌, ℕ, ◌+◌, ◌≤◌, List, [], ◌∷◌, ◌++◌, map, length, take, Bool, Option, Some, None, Result, Ok, Err, IsTrue, refl, sym, ap, ◌∙◌, subst, arith, append-nil, append_assoc, length-append}
+-- What a receiver did on cells, by what each of its lines did.
+use Rattle.std.proofs.Common.{◌≡◌, ◌≢◌, ℕ, ◌+◌, ◌≤◌, List, [], ◌∷◌, ◌++◌, map, length, Bool, Option, Some, None, Result, Err, IsTrue, refl, sym, ap, ◌∙◌, subst, arith, append-nil, append_assoc, length-append}
 use Rattle.std.specs.Prelude.{option_to_list}
 use Rattle.std.specs.List.{enumerate_from}
 use Rattle.std.proofs.lemmas.Grind.{flat_map-append}
@@ -7,22 +7,21 @@ use Rattle.std.proofs.lemmas.List.{map-append}
 use Rattle.std.proofs.lemmas.List.Elements.{filter_map-append}
 use Rattle.outer_io.specs.Bytes.{AppendsFront}
 use Rattle.outer_io.specs.declared.failures.Failed.{Failed}
+use Rattle.outer_io.specs.Shown.{Change, SourceShown, SinkShown, WriteFailed}
 use Rattle.meter_address.specs.declared.address.Address.{Address}
 use Rattle.meter_slots.specs.declared.counts.Counts.{Counts}
 use Rattle.meter_slots.specs.declared.counts.Ended.{Ended}
 use Rattle.meter_slots.specs.declared.counts.Ended.TheVariants as ends
-use Rattle.receivers.specs.declared.class.Class.{Class}
+use Rattle.meter_slots.specs.declared.entry.Event.{Event}
 use Rattle.receivers.specs.declared.told.Told.{Told}
 use Rattle.receivers.specs.declared.told.Told.TheVariants as told
-use Rattle.receivers.specs.Counting.{with_class}
 use Rattle.receivers.specs.Classes.{OwnLine, StrangeLine, place_of, own_at, own_by, own_of, strange_of, own_lines, strange_lines}
-use Rattle.receivers.specs.Ending.{TellsNext}
 use Rattle.receivers.specs.Passes.{Answered, Crew, HasNoted}
-use Rattle.receivers.specs.Receiver.{no_counts}
-use Rattle.receivers.specs.Run.{ReceiverRun, hearing_of, HasHeard}
-use Rattle.receivers.specs.Works.{sent_text, tx_text, Part, LacksItsEnd, HasSent, Works, HasWorked, HearsLine}
+use Rattle.receivers.specs.Run.{ReceiverRun}
+use Rattle.receivers.specs.Slots.{Hears, HearsAll, HearsTo, HasHeardFor}
+use Rattle.receivers.specs.Works.{sent_text, tx_text, Part, HasSent, Works, HasWorked, MakesShared}
 use Rattle.receivers.proofs.Makings.{made_nothing, answered_nothing, answered_more, noted_more, one_own}
-use Rattle.receivers.proofs.Numbers.{numbered, lines_counted, HeardSo, heard_first, heard_next}
+use Rattle.receivers.proofs.Numbers.{numbered, rose_since}
 
 -- ---- lines
 
@@ -66,93 +65,6 @@ its_line directory line (told.Event address event) x e = at (place_of directory 
 its_line directory line told.Unframed x e = absurd cc
 its_line directory line told.Bad x e = absurd cc
 
--- ---- a receiver, so far
-
--- lines that were given, what they tell, what was answered, and the downlinks, all of which were written
-pub record WorksSo {O P : Type 0} (directory : List Address) (tells : Bool) (lines : List (List ℕ)) (counts : Counts)
-    (before after : Crew O P) (tx_tells : Bool) (tx tx' : List ℕ) : Type 0 where
-  pub part : Part
-  pub so : HeardSo tells directory lines counts part.heard
-  pub works : Works directory (enumerate_from 1 part.heard) part.did before after
-  pub sent : IsTrue tx_tells → tx' ≡ tx ++ tx_text part.did
-
-pub so_first : {O P : Type 0} (directory : List Address) (tells tx_tells : Bool) (all : List (List ℕ)) (n : ℕ) (counts : Counts)
-    (a : Crew O P) (x : List ℕ) → n ≡ 0 → counts ≡ no_counts → WorksSo directory tells (take n all) counts a a tx_tells x x
-so_first directory tells tx_tells all n counts a x zero_is none = record {
-  part = record { heard = []; did = [] };
-  so = heard_first tells directory all n counts zero_is none;
-  works = works_none directory a;
-  sent = λ _. sym (append-nil x);
-}
-
-module _ {O P : Type 0} (directory : List Address) (tells tx_tells : Bool) (old new : List (List ℕ)) (counts counts' : Counts)
-    (a b c : Crew O P) (x y z : List ℕ) (line : ℕ) (told : Told) (class : Class)
-    (before : WorksSo directory tells old counts a b tx_tells x y) (at : line ≡ counts.lines + 1) (next : IsTrue tells
-    → TellsNext told old new) (more : counts' ≡ with_class counts class) where
-  abbrev longer : List Answered → Part
-  longer e = record { heard = before.part.heard ++ told ∷ []; did = before.part.did ++ e }
-
-  works_next : (e : List Answered) → Works directory ((line, told) ∷ []) e b c
-      → Works directory (enumerate_from 1 (longer e).heard) (longer e).did a c
-  works_next e w =
-      let n = lines_counted directory before.part.heard counts before.so.counts_are in
-      let number : line ≡ 1 + length before.part.heard = omega arith in
-      subst (λ (ls : List (ℕ × Told)). Works directory ls (before.part.did ++ e) a c) (sym (numbered 1 before.part.heard told))
-      (works_more directory (enumerate_from 1 before.part.heard)
-      ((1 + length before.part.heard, told) ∷ []) before.part.did e a b c before.works
-      (subst (λ (k : ℕ). Works directory ((k, told) ∷ []) e b c) number w))
-
-  hears_as : (sent sent' : Result Unit Failed) → sent ≡ sent' → HearsLine directory line told class sent b c tx_tells y z
-      → HearsLine directory line told class sent' b c tx_tells y z
-  hears_as sent sent' is hears = subst (λ (r : Result Unit Failed). HearsLine directory line told class r b c tx_tells y z) is hears
-
-  so_heard : (sent : Result Unit Failed) → HearsLine directory line told class sent b c tx_tells y z
-      → HeardSo tells directory new counts' (before.part.heard ++ told ∷ [])
-  so_heard sent hears = heard_next tells directory old new counts counts' before.part.heard told class before.so next hears.class_is more
-
-  pub so_next : (sent : Result Unit Failed) (v : Unit {0}) → sent ≡ Ok v → HearsLine directory line told class sent b c tx_tells y z
-      → WorksSo directory tells new counts' a c tx_tells x z
-  so_next sent v is hears_sent = let hears = hears_as sent (Ok v) is hears_sent in record {
-    part = longer hears.did;
-    so = so_heard (Ok v) hears;
-    works = works_next hears.did hears.works;
-    sent = λ h. hears.sent_so h ∙ (ap (λ (l : List ℕ). l ++ tx_text hears.did) (before.sent h) ∙ tx_more x before.part.did hears.did);
-  }
-
-  -- the downlink of the line couldn't be written
-  pub record IsUnsentSo (run : ReceiverRun) : Type 0 where
-    pub part : Part
-    pub so : HeardSo tells directory new counts' part.heard
-    pub works : Works directory (enumerate_from 1 part.heard) part.did a c
-    pub lacks : LacksItsEnd run part
-
-  pub so_fault : (run : ReceiverRun) → run.tx_tells ≡ tx_tells → run.tx.before.written ≡ x → run.tx.now.written ≡ z
-      → (sent : Result Unit Failed) (e : Failed) → sent ≡ Err e → HearsLine directory line told class sent b c tx_tells y z → IsUnsentSo run
-  so_fault run tells_is before_is now_is sent e is hears_sent =
-      let hears = hears_as sent (Err e) is hears_sent in
-      let last = hears.sent_so.0 in
-      let asked : last.own ∷ [] ≡ option_to_list (own_by directory line told) =
-      ap (map (λ (d : Answered). d.own)) (sym hears.sent_so.1) ∙ (hears.works.asked ∙ one_own directory line told _ refl) in
-      let n = lines_counted directory before.part.heard counts before.so.counts_are in
-      let number : last.own.line ≡ length (before.part.heard ++ told ∷ []) = (let l = its_line directory line told last.own asked in
-      let m = length-append before.part.heard (told ∷ []) in omega arith) in record {
-        part = longer hears.did;
-        so = so_heard (Err e) hears;
-        works = works_next hears.did hears.works;
-        lacks = record {
-          sent = before.part.did;
-          last = last;
-          did_is = ap (λ (d : List Answered). before.part.did ++ d) hears.sent_so.1;
-          last_line = number;
-          gives_one = hears.sent_so.2;
-          written = λ h. let t = subst IsTrue tells_is h in
-              subst (λ (l : List ℕ × List ℕ). AppendsFront (sent_text last) l.0 l.1)
-              (λ i. ((before.sent t ∙ ap (λ l. l ++ tx_text before.part.did) (sym before_is)) i, sym now_is i)) (hears.sent_so.3 t);
-        };
-      }
-
--- ---- the end of a run
-
 -- all downlinks were written
 sent_all : (how : Ended) (run : ReceiverRun) (p : Part) → how ≢ ends.TxFault
     → (IsTrue run.tx_tells → run.tx.now.written ≡ run.tx.before.written ++ tx_text p.did) → HasSent how run p
@@ -162,29 +74,149 @@ sent_all ends.ReadFault run p not sent = sent
 sent_all ends.TxFault run p not sent = absurd (not refl)
 sent_all ends.Memory run p not sent = sent
 
-pub worked_all : {O P : Type 0} (directory : List Address) (run : ReceiverRun) (how : Ended) (p : Part) (a b : Crew O P)
-    → how ≢ ends.TxFault → run.ended ≡ Some how → HasHeard directory (hearing_of run how) p.heard
-    → Works directory (enumerate_from 1 p.heard) p.did a b
-    → (IsTrue run.tx_tells → run.tx.now.written ≡ run.tx.before.written ++ tx_text p.did) → run.tx.before.faults ≤ run.tx.now.faults
-    → HasWorked directory run a b
-worked_all directory run how p a b not ended heard works sent later = record {
-  part = p;
-  ran = record {
-    how = how;
-    ended = ended;
-    has_heard = heard;
-    has_sent = sent_all how run p not sent;
-    tx_fault =
-        λ is. absurd (not is);
-    tx_later = later;
-  };
-  works = works;
-}
-
 -- no further step was made, and nothing written
-pub works_still : {O P : Type 0} (directory : List Address) (heard : List Told) (did : List Answered) (a b c : Crew O P)
+works_still : {O P : Type 0} (directory : List Address) (heard : List Told) (did : List Answered) (a b c : Crew O P)
     → Works directory (enumerate_from 1 heard) did a b → Works directory [] [] b c → Works directory (enumerate_from 1 heard) did a c
 works_still directory heard did a b c works nothing =
     subst (λ (ls : List (ℕ × Told)). Works directory ls did a c) (append-nil (enumerate_from 1 heard))
     (subst (λ (d : List Answered). Works directory (enumerate_from 1 heard ++ []) d a c) (append-nil did)
     (works_more directory (enumerate_from 1 heard) [] did [] a b c works nothing))
+
+-- ---- lines one after another, on cells
+
+module _ {A K O P : Type 0} (directory : List Address) (tells : Bool) (crew_in : A → Crew O P) (shown : K → SinkShown) where
+  abbrev tx_between : A × K → A × K → Change SinkShown
+  tx_between p q = record { before = shown p.1; now = shown q.1 }
+
+  abbrev pub Makes : ℕ → Address → Event → Result Unit Failed → A × K → A × K → Type 0
+  Makes line address event sent p q = MakesShared directory line address event sent (crew_in p.0) (crew_in q.0) tells (tx_between p q)
+
+  abbrev pub Waits : A × K → A × K → Type 0
+  Waits p q = Works directory [] [] (crew_in p.0) (crew_in q.0) × (q.1 ≡ p.1)
+
+  -- what lines did whose downlinks were all written
+  pub record HaveServed (lines : List (ℕ × Told)) (x z : A × K) : Type 0 where
+    pub did : List Answered
+    pub works : Works directory lines did (crew_in x.0) (crew_in z.0)
+    pub sent : IsTrue tells → (shown z.1).written ≡ (shown x.1).written ++ tx_text did
+    pub later : (shown x.1).faults ≤ (shown z.1).faults
+
+  all_served : (lines : List (ℕ × Told)) (x z : A × K) → HearsAll Makes lines x z → HaveServed lines x z
+  unfolding own_lines strange_lines
+  all_served [] x z e = subst (λ (q : A × K). HaveServed [] x q) (sym e) (record {
+    did = [];
+    works = works_none directory (crew_in x.0);
+    sent = λ _. sym (append-nil (shown x.1).written);
+    later = omega arith;
+  })
+  all_served ((line, told.Event address event) ∷ lines) x z h = let s = h.1 in let r = all_served lines h.0 z h.2 in record {
+    did = s.did ++ r.did;
+    works = works_more directory ((line, told.Event address event) ∷ []) lines s.did r.did (crew_in x.0) (crew_in h.0.0) (crew_in z.0)
+        s.works r.works;
+    sent = λ t. r.sent t ∙ (ap (λ (l : List ℕ). l ++ tx_text r.did) (s.sent_so t) ∙ tx_more (shown x.1).written s.did r.did);
+    later = omega (arith, s.tx_later, r.later);
+  }
+  all_served ((line, told.Unframed) ∷ lines) x z h = let r = all_served lines h.0 z h.2 in
+      subst (λ (p : A × K). HaveServed ((line, told.Unframed) ∷ lines) p z) h.1.1 (record {
+        did = r.did;
+        works = record { asked = r.works.asked; answered = r.works.answered; noted = r.works.noted };
+        sent = r.sent;
+        later = r.later;
+      })
+  all_served ((line, told.Bad) ∷ lines) x z h = let r = all_served lines h.0 z h.2 in
+      subst (λ (p : A × K). HaveServed ((line, told.Bad) ∷ lines) p z) h.1.1 (record {
+        did = r.did;
+        works = record { asked = r.works.asked; answered = r.works.answered; noted = r.works.noted };
+        sent = r.sent;
+        later = r.later;
+      })
+
+  still_served : (heard : List Told) (x y z : A × K) → HaveServed (enumerate_from 1 heard) x y → Waits y z
+      → HaveServed (enumerate_from 1 heard) x z
+  still_served heard x y z r w = record {
+    did = r.did;
+    works = works_still directory heard r.did (crew_in x.0) (crew_in y.0) (crew_in z.0) r.works w.0;
+    sent = λ t. ap (λ (k : K). (shown k).written) w.1 ∙ r.sent t;
+    later = (let same = ap (λ (k : K). (shown k).faults) w.1 in omega (arith, same, r.later));
+  }
+
+  -- ---- up to an end
+
+  module _ (source_tells : Bool) (source : Change SourceShown) (counts : Counts) (ended : Option Ended) where
+    abbrev pub run_over : A × K → A × K → ReceiverRun
+    run_over x z = record {
+      source_tells = source_tells;
+      source = source;
+      tx_tells = tells;
+      tx = tx_between x z;
+      counts = counts;
+      ended = ended;
+    }
+
+    record HaveServedTo (how : Ended) (heard : List Told) (x z : A × K) : Type 0 where
+      pub did : List Answered
+      pub works : Works directory (enumerate_from 1 heard) did (crew_in x.0) (crew_in z.0)
+      pub has_sent : HasSent how (run_over x z) (record { heard = heard; did = did })
+      pub tx_fault : how ≡ ends.TxFault → WriteFailed (tx_between x z)
+      pub tx_later : (shown x.1).faults ≤ (shown z.1).faults
+
+    all_sent : (how : Ended) (heard : List Told) (x z : A × K) → how ≢ ends.TxFault → HaveServed (enumerate_from 1 heard) x z
+        → HaveServedTo how heard x z
+    all_sent how heard x z never r = record {
+      did = r.did;
+      works = r.works;
+      has_sent = sent_all how (run_over x z) (record { heard = heard; did = r.did }) never r.sent;
+      tx_fault = λ is. absurd (never is);
+      tx_later = r.later;
+    }
+
+    last_unsent : (sent : List Told) (last : Told) (fault : Failed) (x y z : A × K) → HaveServed (enumerate_from 1 sent) x y
+        → Hears Makes (1 + length sent) last (Err fault) y z → HaveServedTo ends.TxFault (sent ++ last ∷ []) x z
+    last_unsent sent (told.Event address event) fault x y z r s =
+        let t : Told = told.Event address event in let line : ℕ = 1 + length sent in let last = s.sent_so.0 in
+        let asked : last.own ∷ [] ≡ option_to_list (own_by directory line t) =
+        ap (map (λ (d : Answered). d.own)) (sym s.sent_so.1) ∙ (s.works.asked ∙ one_own directory line t _ refl) in
+        let number : line ≡ length (sent ++ t ∷ []) = (let m = length-append sent (t ∷ []) in omega arith) in record {
+          did = r.did ++ s.did;
+          works = subst (λ (ls : List (ℕ × Told)). Works directory ls (r.did ++ s.did) (crew_in x.0) (crew_in z.0)) (sym (numbered 1 sent t))
+              (works_more directory (enumerate_from 1 sent) ((line, t) ∷ []) r.did s.did (crew_in x.0) (crew_in y.0) (crew_in z.0)
+              r.works s.works);
+          has_sent = record {
+            sent = r.did;
+            last = last;
+            did_is = ap (λ (d : List Answered). r.did ++ d) s.sent_so.1;
+            last_line = its_line directory line t last.own asked ∙ number;
+            gives_one = s.sent_so.2;
+            written = λ w. subst (λ (l : List ℕ). AppendsFront (sent_text last) l (shown z.1).written) (r.sent w) (s.sent_so.3 w);
+          };
+          tx_fault = λ _. rose_since (shown x.1).faults (shown y.1).faults (shown z.1).faults r.later s.tx_fault;
+          tx_later = omega (arith, r.later, s.tx_later);
+        }
+    last_unsent sent told.Unframed fault x y z r s = let e = s.0 in absurd cc
+    last_unsent sent told.Bad fault x y z r s = let e = s.0 in absurd cc
+
+    served_to : (how : Ended) (heard : List Told) (x z : A × K) → HearsTo Makes Waits how heard x z → HaveServedTo how heard x z
+    served_to ends.End heard x z h = all_sent ends.End heard x z (λ is. absurd cc) (all_served (enumerate_from 1 heard) x z h)
+    served_to ends.Cut heard x z h = all_sent ends.Cut heard x z (λ is. absurd cc) (all_served (enumerate_from 1 heard) x z h)
+    served_to ends.ReadFault heard x z h = all_sent ends.ReadFault heard x z (λ is. absurd cc) (all_served (enumerate_from 1 heard) x z h)
+    served_to ends.Memory heard x z h = all_sent ends.Memory heard x z (λ is. absurd cc)
+        (still_served heard x h.0 z (all_served (enumerate_from 1 heard) x h.0 h.1) h.2)
+    served_to ends.TxFault heard x z h = subst (λ (l : List Told). HaveServedTo ends.TxFault l x z) (sym h.heard_is)
+        (last_unsent h.sent h.last h.fault x h.between z (all_served (enumerate_from 1 h.sent) x h.between h.all_sent) h.unsent)
+
+    -- what a receiver did on cells, by what it heard for them
+    pub has_worked : (how : Ended) (x z : A × K) → ended ≡ Some how
+        → HasHeardFor Makes Waits directory (record { tells = source_tells; source = source; counts = counts; ended = how }) x z
+        → HasWorked directory (run_over x z) (crew_in x.0) (crew_in z.0)
+    has_worked how x z is h = let s = served_to how h.heard x z h.hears in record {
+      part = record { heard = h.heard; did = s.did };
+      ran = record {
+        how = how;
+        ended = is;
+        has_heard = h.has_heard;
+        has_sent = s.has_sent;
+        tx_fault = s.tx_fault;
+        tx_later = s.tx_later;
+      };
+      works = s.works;
+    }

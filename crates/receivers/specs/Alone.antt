@@ -1,13 +1,13 @@
 -- One receiver that is heard alone: its steps are made in a world.
-use Rattle.std.specs.Prelude.{ℕ, ◌≡◌, List, [], ◌∷◌, map, Option, Some, None}
+use Rattle.std.specs.Prelude.{ℕ, ◌≡◌, List, [], ◌∷◌, map, Option, Some, None, Result, Ok}
 use Rattle.std.specs.List.{filter_map, enumerate_from}
+use Rattle.outer_io.specs.declared.failures.Failed.{Failed}
 use Rattle.meter_address.specs.declared.address.Address.{Address}
+use Rattle.meter_slots.specs.declared.entry.Event.{Event}
 use Rattle.meter_slots.specs.declared.step.Step.{Step}
 use Rattle.meter_slots.specs.World.{WorldView, after_step, address_of_slot}
-use Rattle.receivers.specs.declared.class.Class.{Class}
 use Rattle.receivers.specs.declared.told.Told.{Told}
 use Rattle.receivers.specs.declared.told.Told.TheVariants as told
-use Rattle.receivers.specs.Classes.{class_by}
 use Rattle.receivers.specs.Run.{Hearing, HasHeard}
 
 -- ---- steps
@@ -44,7 +44,9 @@ pub record HasHeardAlone (source : ℕ) (h : Hearing) (world world' : WorldView)
 
 -- ---- words of private contracts
 
--- what one more line comes to: its class, and the world after its step, if it is one
-pub record HearsAlone (source line : ℕ) (told : Told) (class : Class) (world world' : WorldView) : Type 0 where
-  pub class_is : class ≡ class_by (addresses_in world) told
-  pub world_is : world' ≡ after_steps world (steps_among source ((line, told) ∷ []))
+-- what one step does: the world makes it, and nothing is written
+pub record MakesAlone {K : Type 0} (source line : ℕ) (address : Address) (event : Event) (sent : Result Unit Failed)
+    (world world' : WorldView) (tx tx' : K) : Type 0 where
+  pub none_sent : sent ≡ Ok tt
+  pub world_is : world' ≡ after_step world (record { source = source; line = line; address = address; event = event })
+  pub tx_is : tx' ≡ tx

@@ -4,6 +4,7 @@ pub mod Classes
 pub mod Counting
 pub mod Ending
 pub mod Run
+pub mod Slots
 pub mod Alone
 pub mod Session
 pub mod Orders

@@ -1,5 +1,5 @@
 -- What the lines of a receiver did.
-use Rattle.std.specs.Prelude.{◌≡◌, ◌≤◌, ℕ, Bool, true, List, [], ◌∷◌, ◌++◌, map, codes, Option, Some, None, is_some, Result, Ok, Err, IsTrue, length}
+use Rattle.std.specs.Prelude.{◌≡◌, ◌≤◌, ℕ, Bool, true, List, [], ◌∷◌, ◌++◌, map, codes, Option, Some, None, is_some, Result, Ok, Err, OnErr, IsTrue, length}
 use Rattle.std.specs.List.{flat_map, enumerate_from}
 use Rattle.outer_io.specs.Bytes.{AppendsFront}
 use Rattle.outer_io.specs.declared.failures.Failed.{Failed}
@@ -7,15 +7,16 @@ use Rattle.hex.specs.Hex.{encode_lower}
 use Rattle.meter_address.specs.declared.address.Address.{Address}
 use Rattle.meter_slots.specs.declared.counts.Ended.{Ended}
 use Rattle.meter_slots.specs.declared.counts.Ended.TheVariants as ends
+use Rattle.meter_slots.specs.declared.entry.Event.{Event}
 use Rattle.meter_slots.specs.declared.entry.Outcome.{Outcome}
 use Rattle.meter_slots.specs.declared.entry.Outcome.TheVariants.{Stored}
 use Rattle.downlink_maker.specs.Sent.{Sent}
 use Rattle.receivers.specs.declared.told.Told.{Told}
-use Rattle.receivers.specs.declared.class.Class.{Class}
-use Rattle.receivers.specs.Classes.{OwnLine, StrangeLine, own_lines, strange_lines, class_by}
+use Rattle.receivers.specs.declared.told.Told.TheVariants as told
+use Rattle.receivers.specs.Classes.{OwnLine, StrangeLine, own_lines, strange_lines}
 use Rattle.receivers.specs.Passes.{Answered, Crew, HaveAnswered, HasNoted}
 use Rattle.receivers.specs.Run.{ReceiverRun, hearing_of, HasHeard}
-use Rattle.outer_io.specs.Shown.{WriteFailed}
+use Rattle.outer_io.specs.Shown.{Change, SinkShown, WriteFailed}
 
 -- ---- downlinks
 
@@ -108,10 +109,11 @@ SendsAll tells (Err e) did old new =
     (last : Answered) × (did ≡ last ∷ []) × (is_some (sent_in last.outcome) ≡ true) × (IsTrue tells → AppendsFront (sent_text last) old new)
 
 module _ {O P : Type 0} (directory : List Address) where
-  -- what one more line did, and what became of its downlink
-  pub record HearsLine (line : ℕ) (told : Told) (class : Class) (sent : Result Unit Failed) (before after : Crew O P)
-      (tells : Bool) (tx tx' : List ℕ) : Type 0 where
-    pub class_is : class ≡ class_by directory told
+  -- what one step did, and what became of its downlink
+  pub record MakesShared (line : ℕ) (address : Address) (event : Event) (sent : Result Unit Failed) (before after : Crew O P)
+      (tells : Bool) (tx : Change SinkShown) : Type 0 where
     pub did : List Answered
-    pub works : Works directory ((line, told) ∷ []) did before after
-    pub sent_so : SendsAll tells sent did tx tx'
+    pub works : Works directory ((line, told.Event address event) ∷ []) did before after
+    pub sent_so : SendsAll tells sent did tx.before.written tx.now.written
+    pub tx_fault : OnErr sent (WriteFailed tx)
+    pub tx_later : tx.before.faults ≤ tx.now.faults

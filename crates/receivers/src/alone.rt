@@ -1,62 +1,54 @@
-//! A receiver that is heard alone: its steps are made in a world.
-ghost use Rattle.std.specs.Prelude.{◌≡◌, ◌≢◌, false, IfOk, OnErr};
-ghost use Rattle.receivers.specs.Receiver.{no_counts};
-ghost use Rattle.receivers.specs.Run.{hearing};
-ghost use Rattle.receivers.specs.Alone.{HearsAlone, HasHeardAlone};
-
-use crate::class::{Class, count};
+//! Slots that one receiver holds alone: its steps are made in a world, in one thread and with no lock.
+use crate::class::Class;
 use crate::receiver::Receiver;
-use crate::telling::next_told;
-use crate::told::Told;
-use line_reader::Lines;
-use meter_slots::{Counts, Ended, Landed, Step, World};
+use crate::slots::{Heard, Slots, silent};
+use meter_address::Address;
+use meter_slots::{Ended, Event, Landed, Step, World};
 use outer_io::{Memory, Sink, Source};
 
-// Makes the step of one more line. For want of memory there is none.
-fn hear_told(world: &mut World, source: u32, line: u32, told: Told) -> Result<Class, Memory>
-    ensures heard { IfOk result (λ class. HearsAlone source line told class world.old world.new) }
-    ensures memory { OnErr result (world.new ≡ world.old) }
-{
-    let (address, event) = match told {
-        Told::Event(address, event) => (address, event),
-        Told::Unframed => return Ok(Class::Unframed),
-        Told::Bad => return Ok(Class::Bad),
-    };
-    let step = Step {
-        source,
-        line,
-        address,
-        event,
-    };
-    match world.step(step) {
-        Ok(Landed::Slot(..)) => Ok(Class::Own),
-        Ok(Landed::Stranger) => Ok(Class::Strange),
-        Err(memory) => Err(memory),
-    }
+/// A world in which one receiver makes all steps.
+#[derive(Drop)]
+pub struct Alone {
+    /// The receiver's number.
+    pub source: u32,
+    /// The slots and the strangers.
+    pub world: World,
 }
 
-// Hears lines until the receiver ends.
-fn hear_lines<S: Source>(
-    source: u32,
-    lines: &mut Lines<S>,
-    world: &mut World,
-    counts: &mut Counts,
-) -> Ended
-    requires fresh { lines.old.line ≡ 0 }
-    requires goes_on { lines.old.done ≡ false }
-    requires counts { counts.old ≡ no_counts }
-    ensures heard { HasHeardAlone source (hearing S.Source lines.old.source lines.new.source counts.new result) world.old world.new }
-    ensures never { result ≢ Ended.TxFault }
-{
-    'lines: loop {
-        let told = match next_told(lines) {
-            Ok(told) => told,
-            Err(ended) => return ended,
+impl<K> Slots<K> for Alone {
+    ghost use Rattle.std.specs.Prelude.{ℕ, ◌≡◌, List};
+    ghost use Rattle.meter_address.specs.declared.address.Address.{Address};
+    ghost use Rattle.receivers.specs.Alone.{addresses_in, MakesAlone};
+
+    ghost Fixed = { ℕ × List Address };
+
+    ghost fixed = { λ a. (a.source, addresses_in a.world) };
+
+    ghost directory = { λ f. f.1 };
+
+    ghost ready = { λ a. Unit {0} };
+
+    ghost makes = { λ f line address event sent p q. MakesAlone f.0 line address event sent p.0.world q.0.world p.1 q.1 };
+
+    ghost waits = { λ f p q. (q.0.world ≡ p.0.world) × (q.1 ≡ p.1) };
+
+    fn step(
+        &mut self,
+        _tx: &mut K,
+        line: u32,
+        address: Address,
+        event: Event,
+    ) -> Result<Heard, Memory> {
+        let step = Step {
+            source: self.source,
+            line,
+            address,
+            event,
         };
-        let line = counts.lines + 1;
-        match hear_told(world, source, line, told) {
-            Ok(class) => *counts = count(*counts, class),
-            Err(_) => return Ended::Memory,
+        match self.world.step(step) {
+            Ok(Landed::Slot(..)) => Ok(silent(Class::Own)),
+            Ok(Landed::Stranger) => Ok(silent(Class::Strange)),
+            Err(memory) => Err(memory),
         }
     }
 }
@@ -66,19 +58,17 @@ impl<S: Source, K: Sink> Receiver<S, K> {
     ghost use Rattle.receivers.specs.Alone.{HasHeardAlone};
     ghost use Rattle.receivers.specs.Run.{hearing};
 
-    /// Hears its lines until it ends, and makes the step of each in a world, as the receiver with this number. Nothing is written to its
-    /// sink. A line for which there is no memory makes no step; those before it stand.
-    pub fn work_alone(&mut self, source: u32, world: &mut World) -> Ended
+    /// Hears its lines until it ends, and makes the step of each in a world. Nothing is written to its sink. A line for which there is no
+    /// memory makes no step; those before it stand.
+    pub fn work_alone(&mut self, alone: &mut Alone) -> Ended
         requires fresh { self.old.ended ≡ None }
-        ensures heard { HasHeardAlone source (hearing S.Source self.old.source self.new.source self.new.counts result) world.old world.new }
+        ensures heard { HasHeardAlone alone.old.source
+            (hearing S.Source self.old.source self.new.source self.new.counts result) alone.old.world alone.new.world }
         ensures untaken { IsTrue S.tells → S.taken self.old.source ≡ [] }
         ensures ended { self.new.ended ≡ Some result }
         ensures never { result ≢ Ended.TxFault }
         ensures tx { self.new.tx ≡ self.old.tx }
     {
-        self.ended = Some(Ended::Memory);
-        let ended = hear_lines(source, &mut self.lines, world, &mut self.counts);
-        self.ended = Some(ended);
-        ended
+        self.work(alone)
     }
 }

@@ -12,12 +12,13 @@ mod receiver;
 mod roots;
 mod running;
 mod session;
-mod stepping;
+mod shared;
+mod slots;
 mod telling;
 mod told;
-mod work;
 mod workers;
 
+pub use alone::Alone;
 pub use class::Class;
 pub use fresh::show_untaken;
 pub use meter_slots::{Counts, Ended};

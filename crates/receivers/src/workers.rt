@@ -5,6 +5,7 @@ ghost use Rattle.receivers.specs.Run.{receiver_run};
 ghost use Rattle.receivers.specs.Workers.{CanWork, IsDone};
 
 use crate::receiver::Receiver;
+use crate::shared::Shared;
 use meter_slots::{Directory, Event, Outcome};
 use outer_io::{Sink, Source};
 use slot_cells::{Book, BookCell, Pass, StrangerCell};
@@ -36,14 +37,15 @@ fn work_one<R: Wait, S: Source, K: Sink, B: Book<Call = Event, Answer = Outcome>
     ensures { IsDone cells.now strangers.now directory.now (receiver_run S.Source K.Sink worker.old.receiver worker.new.receiver)
         (crew worker.old.passes.items worker.old.stranger_pass) (crew worker.new.passes.items worker.new.stranger_pass) }
 {
-    worker.receiver.work(
+    let mut shared = Shared {
         rt,
         directory,
         cells,
-        worker.passes.as_mut_slice(),
+        passes: &mut worker.passes,
         strangers,
-        &mut worker.stranger_pass,
-    );
+        stranger_pass: &mut worker.stranger_pass,
+    };
+    worker.receiver.work(&mut shared);
 }
 
 /// Has each worker's receiver work, each in a thread of its own where one can be made. Each worker is left as `work` leaves it.

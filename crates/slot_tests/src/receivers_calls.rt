@@ -4,7 +4,7 @@ ghost use Rattle.std.specs.Prelude.{◌≡◌, None, IfOk};
 use meter_address::{Address, Commission, Mode};
 use meter_slots::{Ended, MeterStart, World};
 use outer_io::{Memory, MemorySink, MemorySource};
-use receivers::{Collected, Receiver, collect};
+use receivers::{Alone, Collected, Receiver, collect};
 use std::alloc::{AllocError, Global};
 use std::sync::Wait;
 use std::test::Fail;
@@ -136,12 +136,13 @@ fn two_receivers_of_one_meter(rt: HostRuntime) -> Result<(), Fail> {
 fn a_receiver_alone(rt: HostRuntime) -> Result<(), Fail> {
     let alloc = rt.alloc();
     let mut receiver = radio(alloc, COMMANDED, &[], &[])?;
-    let mut world = World::new(
+    let world = World::new(
         alloc,
         Address(OWN),
         vec![in alloc; MeterStart::new(water())]?,
     )?;
-    assert_eq!(rt; receiver.work_alone(1, &mut world), Ended::End);
+    let mut alone = Alone { source: 1, world };
+    assert_eq!(rt; receiver.work_alone(&mut alone), Ended::End);
     assert_eq!(rt; receiver.counts().own, 3);
     assert_eq!(rt; receiver.tx().bytes().len(), 0);
     Ok(())

@@ -22,7 +22,7 @@ returns-in-Memory-clause-run g c =
 pub returns-clause-run : goal.returns-clause-run
 returns-clause-run g c =
     heard_run _ _ _ _ _ _ _ c.in-Ok.state c.work_alone.result c.work_alone.result c.counts-counts.result c.work_alone.new.self.counts
-    c.in-Ok-new.world c.work_alone.new.world
+    c.in-Ok-new.world c.work_alone.new.alone.world
     refl c.counts-counts.ensures c.in-Ok.ensures.found c.in-Ok.ensures.read c.known.ensures.no_loss
     c.work_alone.ensures.ended refl
     (c.in-Ok-new.ensures ∙ ap (λ own. world_of own c.into_starts.result.items []) c.own-own.ensures

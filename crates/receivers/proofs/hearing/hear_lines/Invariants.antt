@@ -1,8 +1,9 @@
+-- Closes the loop of `hear_lines`.
 use Rattle.std.proofs.Common.{◌≡◌, ◌≤◌, ◌+◌, ◌-◌, ◌++◌, false, IsTrue}
 use Rattle.line_reader.specs.Reader.{given}
 use Rattle.line_reader.specs.declared.lines.TheConstants.{LINES_MAX}
-use Rattle.receivers.proofs.Lone.{AloneSo}
-use Rattle.receivers.proofs.alone.hear_lines.Given as goal
+use Rattle.receivers.proofs.Onward.{HeardSoFar}
+use Rattle.receivers.proofs.hearing.hear_lines.Given as goal
 
 abbrev pub invariant-lines : goal.invariant-lines
 invariant-lines g l = record {
@@ -13,7 +14,10 @@ invariant-lines g l = record {
   bytes : IsTrue g.S.Source.tells →
       g.S.Source.taken l.lines.source ++ g.S.Source.left l.lines.source ≡ g.S.Source.taken l.fn.lines.source ++ g.S.Source.left
       l.fn.lines.source;
-  so : AloneSo g.S.Source.tells l.source (given g.S.Source.taken l.lines) l.counts l.fn.world l.world;
+  ready : g.P.Slots.ready l.slots;
+  fixed : g.P.Slots.fixed l.slots ≡ g.P.Slots.fixed l.fn.slots;
+  so : HeardSoFar (g.P.Slots.makes (g.P.Slots.fixed l.fn.slots)) g.S.Source.tells (g.P.Slots.directory (g.P.Slots.fixed l.fn.slots))
+      (given g.S.Source.taken l.lines) l.counts (l.fn.slots, l.fn.tx) (l.slots, l.tx);
 }
 
 abbrev pub decreases-lines : goal.decreases-lines
