@@ -4,6 +4,8 @@
 #[cfg(test)]
 mod access_window_calls;
 #[cfg(test)]
+mod asserts;
+#[cfg(test)]
 mod command_queue_calls;
 #[cfg(test)]
 mod made_input_calls;
@@ -17,5 +19,3 @@ mod receivers_calls;
 mod report_text_calls;
 #[cfg(test)]
 mod stranger_ring_calls;
-#[cfg(test)]
-mod tables;

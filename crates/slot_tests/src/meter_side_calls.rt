@@ -1,15 +1,16 @@
 //! A downlink as another implementation made it, and runs over sources and sinks in memory.
-use hex::FromHex;
+use crate::asserts::{
+    NO_MEMORY, assert_bytes, assert_shown, bytes_of, call, meter, row_of, tried_and_wanted, word,
+};
 use line_reader::TextReader;
-use meter_address::{Address, Commission, Mode};
+use meter_address::{Address, Mode};
 use meter_side_main::{Delivery, Did, LINE_MAX, MeterSide, SideReason, SideStatus, meter_run};
 use outer_io::{MemorySink, MemorySource};
-use std::alloc::{AllocError, Global};
+use std::alloc::Global;
 use std::process::Abort;
-use std::test::Fail;
 
 // A meter, its key, and the frame of a downlink to it under the counter 65535, as another implementation made it.
-const METER: Address = Address(0x9315_eb90_2f40_0107);
+const METER: u64 = 0x9315_eb90_2f40_0107;
 
 const KEY: &str = "b721a3132a46bb267612a37197b7a721";
 
@@ -18,36 +19,41 @@ const PAYLOAD: &str = "3ab2de515082c74cdc2133712a96";
 const FRAME: &str =
     "38439315010000000131247b900f002c25ffff0000f85da5a4a4de65551b095beb902f4093150107ff00100710fca34c141c0a42aad33f0155e3c84e670e12cf38";
 
+// What a meter does with a frame.
+fn done(rt: &impl Abort, side: &mut MeterSide, frame: &[u8]) -> Did {
+    let delivery = Delivery::new(frame).expect(rt, "a long frame");
+    side.hear(delivery).expect(rt, NO_MEMORY)
+}
+
+fn assert_executed(rt: &impl Abort, did: &Did, down: u32, content: &[u8]) {
+    let Did::Executed(executed) = did else {
+        panic!(rt; "refused");
+    };
+    assert_eq!(rt; executed.down, down);
+    assert_bytes(rt, executed.content.bytes(), content, "content");
+}
+
+fn assert_refused(rt: &impl Abort, did: &Did, wanted: SideReason) {
+    let Did::Refused(reason) = did else {
+        panic!(rt; "executed");
+    };
+    assert_eq!(rt; *reason, wanted);
+}
+
 #[test]
-fn a_downlink_is_executed_once(rt: HostRuntime) -> Result<(), Fail> {
+fn a_downlink_is_executed_once(rt: HostRuntime) {
     let alloc = rt.alloc();
-    let commission = Commission {
-        address: METER,
-        mode: Mode::Seven,
-        key: <[u8; 16] as FromHex>::from_hex(KEY)?,
-        other: None,
-        last: None,
-        down: 0,
-        ids: 0,
-    };
+    let commission = meter(&rt, METER, Mode::Seven, KEY);
     let mut side = MeterSide::new(alloc, Address(0x9315_0100_0000_0131), commission);
-    let frame = hex::decode(alloc, FRAME)?;
-    let payload = hex::decode(alloc, PAYLOAD)?;
-    let Did::Executed(executed) = side.hear(Delivery::new(&frame).ok_or("long")?)? else {
-        return Err("refused".into());
-    };
-    assert_eq!(rt; executed.down, 65535);
-    assert_eq!(rt; executed.content.bytes(), payload.as_slice());
-    let again = side.hear(Delivery::new(&frame).ok_or("long")?)?;
-    let stale = SideReason::Stale {
-        got: 65535,
-        last: 65535,
-    };
-    assert!(rt; matches!(again, Did::Refused(reason) if reason == stale));
-    assert_eq!(rt; side.last(), 65535);
-    assert_eq!(rt; side.executed().len(), 1);
+    let frame = bytes_of(&rt, alloc, FRAME);
+    let payload = bytes_of(&rt, alloc, PAYLOAD);
+    let first = done(&rt, &mut side, &frame);
+    assert_executed(&rt, &first, 65535, &payload);
+    let again = done(&rt, &mut side, &frame);
+    let (got, last) = (65535, 65535);
+    assert_refused(&rt, &again, SideReason::Stale { got, last });
+    assert_eq!(rt; (side.last(), side.executed().len()), (65535, 1));
     assert!(rt; Delivery::new(&[0; 291]).is_none());
-    Ok(())
 }
 
 const ROSTER: &str =
@@ -70,49 +76,54 @@ D 38439315010000000131247b900f002c25010000007ddc9b50de7dca6ee4da5b01020304931501
 // downlinks and which write fails, none of which has the number 0, and the status; below it what is printed. The first two are the four
 // in their order, and in the order 1, 3, 2, 3, 4.
 const RUNS: &str = "\
-run whole 9315010203040107 0123 000 Done
+run whole 9315010203040107 0123 000 = Done
 executed 1 012f2f2f2f2f2f2f2f2f2f2f2f2f
 executed 2 012f2f2f2f2f2f2f2f2f2f2f2f2f
 executed 3 012f2f2f2f2f2f2f2f2f2f2f2f2f
 executed 4 022f2f2f2f2f2f2f2f2f2f2f2f2f
 last 4
-run whole 9315010203040107 02123 000 Done
+run whole 9315010203040107 02123 000 = Done
 executed 1 012f2f2f2f2f2f2f2f2f2f2f2f2f
 executed 3 012f2f2f2f2f2f2f2f2f2f2f2f2f
 refused stale 2 3
 refused stale 3 3
 executed 4 022f2f2f2f2f2f2f2f2f2f2f2f2f
 last 4
-run whole 9315010203040107 4 000 Done
+run whole 9315010203040107 4 000 = Done
 refused mac
 last 0
-run state 9315010203040107 0123 000 Done
+run state 9315010203040107 0123 000 = Done
 refused stale 1 2
 refused stale 2 2
 executed 3 012f2f2f2f2f2f2f2f2f2f2f2f2f
 executed 4 022f2f2f2f2f2f2f2f2f2f2f2f2f
 last 4
-run whole 931501020304010 0 000 Words
-run whole 9315010203040107 0 100 ReadRoster
-run faulty 9315010203040107 0 000 Roster(1, Head)
-run placeless 9315010203040107 0 000 State(3, Place)
-run whole 9315010203040108 0 000 Uncommissioned
-run whole 9315010203040107 01 030 Read
+run whole 931501020304010 0 000 = Words
+run whole 9315010203040107 0 100 = ReadRoster
+run faulty 9315010203040107 0 000 = Roster(1, Head)
+run placeless 9315010203040107 0 000 = State(3, Place)
+run whole 9315010203040108 0 000 = Uncommissioned
+run whole 9315010203040107 01 030 = Read
 executed 1 012f2f2f2f2f2f2f2f2f2f2f2f2f
 last 1
-run whole 9315010203040107 0 001 Write
+run whole 9315010203040107 0 001 = Write
 ";
 
 // The downlinks at these places, each a digit.
-fn sent(alloc: Global, places: &str) -> Result<Vec<u8>, AllocError> {
+fn sent(rt: &impl Abort, alloc: Global, places: &str) -> Vec<u8> {
     let mut lines = Vec::new(alloc);
     for place in places.bytes() {
-        if let Some(line) = SENT.lines().nth(digit(place)) {
-            lines.extend_from_slice(line.as_bytes())?;
-            lines.push(b'\n')?;
-        }
+        put_line(rt, &mut lines, digit(place));
     }
-    Ok(lines)
+    lines
+}
+
+fn put_line(rt: &impl Abort, lines: &mut Vec<u8>, place: usize) {
+    let line = SENT.lines().nth(place).expect(rt, "no downlink");
+    lines
+        .extend_from_slice(line.as_bytes())
+        .expect(rt, NO_MEMORY);
+    lines.push(b'\n').expect(rt, NO_MEMORY);
 }
 
 fn digit(byte: u8) -> usize {
@@ -120,33 +131,38 @@ fn digit(byte: u8) -> usize {
 }
 
 // The number of the call that fails, at a place of the digits.
-fn fails(alloc: Global, digits: &str, place: usize) -> Result<Vec<u64>, AllocError> {
-    let number = match digits.as_bytes().get(place) {
-        Some(byte) => digit(*byte) as u64,
-        None => 0,
-    };
-    Ok(vec![in alloc; number]?)
+fn fails(rt: &impl Abort, alloc: Global, digits: &str, place: usize) -> Vec<u64> {
+    let byte = digits.as_bytes().get(place).expect(rt, "no digit");
+    call(rt, alloc, digit(*byte) as u64)
+}
+
+// The words of a run for the meter with this address.
+fn words_of(rt: &impl Abort, alloc: Global, address: &str) -> Vec<String> {
+    let mut words = Vec::new(alloc);
+    for word in ["state", address, "tx"] {
+        let word = String::from_str(alloc, word).expect(rt, NO_MEMORY);
+        words.push(word).expect(rt, NO_MEMORY);
+    }
+    words
 }
 
 // Runs the meter's side over these downlinks, where the reads and the write with these numbers fail.
 fn run(
+    rt: &impl Abort,
     alloc: Global,
     beginning: &str,
     address: &str,
     order: &str,
     fail: &str,
-) -> Result<(SideStatus, MemorySink), AllocError> {
-    let mut words = Vec::new(alloc);
-    for word in ["state", address, "tx"] {
-        words.push(String::from_str(alloc, word)?)?;
-    }
-    let bytes = beginning.as_bytes().to_vec(alloc)?;
-    let mut beginning = MemorySource::new(bytes, fails(alloc, fail, 0)?);
-    let tx = MemorySource::pieces(sent(alloc, order)?, 100, fails(alloc, fail, 1)?);
+) -> (SideStatus, MemorySink) {
+    let words = words_of(rt, alloc, address);
+    let bytes = beginning.as_bytes().to_vec(alloc).expect(rt, NO_MEMORY);
+    let mut beginning = MemorySource::new(bytes, fails(rt, alloc, fail, 0));
+    let tx = MemorySource::pieces(sent(rt, alloc, order), 100, fails(rt, alloc, fail, 1));
     let mut tx = TextReader::new(tx, LINE_MAX);
-    let mut out = MemorySink::new(alloc, fails(alloc, fail, 2)?);
+    let mut out = MemorySink::new(alloc, fails(rt, alloc, fail, 2));
     let status = meter_run(alloc, &words, &mut beginning, &mut tx, &mut out);
-    Ok((status, out))
+    (status, out)
 }
 
 // What a run of this kind begins from.
@@ -160,27 +176,29 @@ fn beginning(kind: &str) -> &'static str {
 }
 
 // Asserts what a run comes to: its first row says what it is over, and its status.
-fn assert_run(rt: &impl Abort, alloc: Global, head: &str, printed: &str) -> Result<(), Fail> {
-    let words: Vec<&str> = head.split_whitespace().collect(alloc)?;
-    let [kind, address, order, fail, ..] = words.as_slice() else {
-        return Err("no run".into());
-    };
-    let (status, out) = run(alloc, beginning(kind), address, order, fail)?;
-    let status = format!(in alloc; " {status:?}")?;
-    assert!(rt; head.ends_with(status.as_str()), "{head}: {status}");
-    assert_eq!(rt; out.bytes(), printed.as_bytes(), "{head}");
-    Ok(())
+fn assert_run(rt: &impl Abort, alloc: Global, head: &str, printed: &str) {
+    let (given, wanted) = tried_and_wanted(rt, head);
+    let row = row_of(rt, alloc, given);
+    let (status, out) = run(
+        rt,
+        alloc,
+        beginning(word(&row, 0)),
+        word(&row, 1),
+        word(&row, 2),
+        word(&row, 3),
+    );
+    assert_shown(rt, alloc, &status, wanted, head);
+    assert_bytes(rt, out.bytes(), printed.as_bytes(), head);
 }
 
 #[test]
-fn runs_end_by_their_status(rt: HostRuntime) -> Result<(), Fail> {
+fn runs_end_by_their_status(rt: HostRuntime) {
     let mut runs = 0_u32;
     for text in RUNS.split("run ") {
         if let Some((head, printed)) = text.split_once('\n') {
-            assert_run(&rt, rt.alloc(), head, printed)?;
+            assert_run(&rt, rt.alloc(), head, printed);
             runs = runs.saturating_add(1);
         }
     }
     assert_eq!(rt; runs, 11);
-    Ok(())
 }

@@ -1,8 +1,9 @@
 //! Blocks and tables against the examples of FIPS 197, and against rows that another implementation made.
-use crate::rows::three;
+use crate::asserts::{assert_bytes, block, field, fields};
+use crate::rows::{Kind, assert_rows};
 use aes_block::{Keys, add_block, tables};
+use std::alloc::Global;
 use std::process::Abort;
-use std::test::Fail;
 
 mod rows;
 
@@ -17,55 +18,42 @@ const STANDARD: &str =
 2b7e151628aed2a6abf7158809cf4f3c f69f2445df4f9b17ad2b417be66c3710 7b0c785e27e8ad3f8223207104725dd4";
 
 // The block is encrypted as the row says, and decrypted again.
-fn expect_row(rt: &impl Abort, key: u128, plain: u128, secret: u128) {
-    let keys = Keys::new(&key.to_be_bytes());
-    let mut block = plain.to_be_bytes();
-    keys.encrypt(&mut block);
-    assert_eq!(rt; u128::from_be_bytes(block), secret, "under {key:032x}");
-    keys.decrypt(&mut block);
-    assert_eq!(rt; u128::from_be_bytes(block), plain, "under {key:032x}");
-}
-
-// So many blocks are encrypted and decrypted as the rows say.
-fn expect_rows(rt: &impl Abort, table: &str, wanted: u32) -> Result<(), Fail> {
-    let mut count: u32 = 0;
-    for row in table.lines() {
-        let (key, plain, secret) = three(row).ok_or("a row of other fields")?;
-        expect_row(
-            rt,
-            u128::from_str_radix(key, 16)?,
-            u128::from_str_radix(plain, 16)?,
-            u128::from_str_radix(secret, 16)?,
-        );
-        count = count.saturating_add(1);
-    }
-    assert_eq!(rt; count, wanted);
-    Ok(())
+pub(crate) fn assert_block(rt: &impl Abort, alloc: Global, row: &str) {
+    let fields = fields(rt, alloc, row, 3);
+    let keys = Keys::new(&block(rt, field(rt, &fields, 0)));
+    let plain = block(rt, field(rt, &fields, 1));
+    let secret = block(rt, field(rt, &fields, 2));
+    let mut found = plain;
+    keys.encrypt(&mut found);
+    assert_bytes(rt, &found, &secret, row);
+    keys.decrypt(&mut found);
+    assert_bytes(rt, &found, &plain, row);
 }
 
 #[test]
-fn blocks_are_encrypted_and_decrypted_as_the_standards_say(rt: HostRuntime) -> Result<(), Fail> {
-    expect_rows(&rt, STANDARD, 6)
+fn blocks_are_encrypted_and_decrypted_as_the_standards_say(rt: HostRuntime) {
+    assert_rows(&rt, rt.alloc(), Kind::Block, STANDARD, 6);
 }
 
 #[test]
-fn blocks_are_encrypted_and_decrypted_as_another_implementation_does(
-    rt: HostRuntime,
-) -> Result<(), Fail> {
-    expect_rows(&rt, rows::BLOCKS, 200)
+fn blocks_are_encrypted_and_decrypted_as_another_implementation_does(rt: HostRuntime) {
+    assert_rows(&rt, rt.alloc(), Kind::Block, rows::BLOCKS, 200);
 }
 
 #[test]
 fn blocks_are_added(rt: HostRuntime) {
     let mut block = [0x5a; 16];
     add_block(&mut block, &[0xff; 16]);
-    assert_eq!(rt; block, [0xa5; 16]);
+    assert_bytes(&rt, &block, &[0xa5; 16], "added");
 }
 
 #[test]
 fn tables_have_the_standard_entries(rt: HostRuntime) {
-    assert_eq!(rt; tables::substituted(0x53), 0xed);
-    assert_eq!(rt; tables::inverse_substituted(0xed), 0x53);
-    assert_eq!(rt; tables::mixed_substitution(0, 0x00), 0xc663_63a5);
-    assert_eq!(rt; tables::inverse_mixture(3, 0x01), 0x090d_0b0e);
+    let entries = [
+        u32::from(tables::substituted(0x53)),
+        u32::from(tables::inverse_substituted(0xed)),
+        tables::mixed_substitution(0, 0x00),
+        tables::inverse_mixture(3, 0x01),
+    ];
+    assert_eq!(rt; entries, [0xed, 0x53, 0xc663_63a5, 0x090d_0b0e]);
 }

@@ -1,9 +1,9 @@
 //! Headers that are written, read and refused, and the buffer of a message.
-use crate::rows::bytes;
+use crate::asserts::{assert_bytes, assert_shown, bytes};
+use crate::rows::{Kind, assert_rows};
 use afl_layer::{Auth, Scratch, read_afl, write_afl};
 use std::alloc::Global;
 use std::process::Abort;
-use std::test::Fail;
 
 const MAC: [u8; 8] = [1, 2, 3, 4, 5, 6, 7, 8];
 
@@ -29,64 +29,68 @@ const FAULTS: &str = "900200 Err(Truncated(3))
 900a00440102030405060708 Err(FieldPlace(17408))";
 
 // The bytes are read as the answer says.
-fn expect_answer(rt: &impl Abort, alloc: Global, header: &[u8], answer: &str) -> Result<(), Fail> {
+fn assert_read(rt: &impl Abort, alloc: Global, digits: &str, answer: &str) {
+    let header = bytes(rt, alloc, digits);
     assert!(rt; header.first() == Some(&0x90));
-    let said = format!(in alloc; "{:?}", read_afl(header))?;
-    assert_eq!(rt; said.as_str(), answer);
-    Ok(())
+    assert_shown(rt, alloc, &read_afl(&header), answer, digits);
+}
+
+// The bytes of a row are read as its answer says.
+pub(crate) fn assert_afl(rt: &impl Abort, alloc: Global, row: &str) {
+    let (digits, answer) = row.split_once(' ').expect(rt, "too few fields");
+    assert_read(rt, alloc, digits, answer);
 }
 
 #[test]
-fn bytes_are_read_or_refused(rt: HostRuntime) -> Result<(), Fail> {
-    for row in HEADERS.lines() {
-        let (digits, answer) = row.split_once(' ').ok_or("too few fields")?;
-        expect_answer(&rt, rt.alloc(), &bytes(rt.alloc(), digits)?, answer)?;
-    }
-    for row in FAULTS.lines() {
-        let (digits, answer) = row.split_once(' ').ok_or("too few fields")?;
-        expect_answer(&rt, rt.alloc(), &bytes(rt.alloc(), digits)?, answer)?;
-    }
-    Ok(())
+fn bytes_are_read_or_refused(rt: HostRuntime) {
+    assert_rows(&rt, rt.alloc(), Kind::Afl, HEADERS, 4);
+    assert_rows(&rt, rt.alloc(), Kind::Afl, FAULTS, 10);
 }
 
-// What is read of these bytes is written as they are.
-fn expect_written(rt: &impl Abort, wanted: &[u8]) -> Result<(), Fail> {
+// What is read of a row's bytes is written as they are.
+pub(crate) fn assert_written(rt: &impl Abort, alloc: Global, row: &str) {
+    let (digits, _) = row.split_once(' ').expect(rt, "too few fields");
+    let wanted = bytes(rt, alloc, digits);
     assert!(rt; wanted.first() == Some(&0x90));
-    let header = read_afl(wanted)?;
+    let header = read_afl(&wanted).expect(rt, "no header");
     let mut out = [0xAA; 21];
-    assert_eq!(rt; write_afl(&header, &mut out), wanted.len(), "{wanted:?}");
-    assert!(rt; out.starts_with(wanted), "{wanted:?}");
-    Ok(())
+    let len = write_afl(&header, &mut out);
+    let (written, _) = out.split_at_checked(len).expect(rt, "too long");
+    assert_bytes(rt, written, &wanted, row);
 }
 
 #[test]
-fn headers_are_written(rt: HostRuntime) -> Result<(), Fail> {
-    for row in HEADERS.lines() {
-        let (digits, _) = row.split_once(' ').ok_or("too few fields")?;
-        expect_written(&rt, &bytes(rt.alloc(), digits)?)?;
-    }
-    Ok(())
+fn headers_are_written(rt: HostRuntime) {
+    assert_rows(&rt, rt.alloc(), Kind::AflWritten, HEADERS, 4);
 }
 
 #[test]
-fn bits_15_and_8_say_nothing(rt: HostRuntime) -> Result<(), Fail> {
-    let header = bytes(rt.alloc(), "900aff8501020304050607087a")?;
-    let answer = HEADERS.lines().last().ok_or("no last row")?;
-    let (_, answer) = answer.split_once(' ').ok_or("too few fields")?;
-    expect_answer(&rt, rt.alloc(), &header, answer)
+fn bits_15_and_8_say_nothing(rt: HostRuntime) {
+    let row = HEADERS.lines().last().expect(&rt, "no last row");
+    let (_, answer) = row.split_once(' ').expect(&rt, "too few fields");
+    let header = "900aff8501020304050607087a";
+    assert_read(&rt, rt.alloc(), header, answer);
 }
 
 #[test]
 fn a_buffer_is_filled_changed_and_cleared(rt: HostRuntime) {
     let mut scratch = Scratch::new();
-    assert!(rt; scratch.is_empty());
+    let empty = (scratch.len(), scratch.is_empty());
     scratch.extend(&[1, 2]);
     scratch.extend(&[3, 4]);
-    assert_eq!(rt; scratch.len(), 4);
+    let filled = (scratch.len(), scratch.is_empty());
     scratch.bytes_mut()[1..3].fill(9);
-    assert_eq!(rt; scratch.bytes(), [1, 9, 9, 4].as_slice());
+    assert_bytes(&rt, scratch.bytes(), &[1, 9, 9, 4], "changed");
     scratch.clear();
-    assert_eq!(rt; scratch.len(), 0);
+    let cleared = (scratch.len(), scratch.is_empty());
+    let wanted = "((0, true), (4, false), (0, true))";
+    assert_shown(
+        &rt,
+        rt.alloc(),
+        &(empty, filled, cleared),
+        wanted,
+        "lengths",
+    );
 }
 
 #[test]

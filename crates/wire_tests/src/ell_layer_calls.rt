@@ -1,7 +1,9 @@
 //! Headers of the extended link layer that are read and refused, and what their bits say of access.
-use crate::rows::bytes;
+use crate::asserts::{assert_shown, bytes};
+use crate::rows::{Kind, assert_rows};
 use ell_layer::{Access, read_ell};
-use std::test::Fail;
+use std::alloc::Global;
+use std::process::Abort;
 
 // Bytes, and what they are read as, as `Debug` writes it, so its numbers are decimal: 42 is the byte 2A, 122 is 7A, 141 is 8D,
 // 143 is 8F.
@@ -16,26 +18,26 @@ const HEADERS: &str = "- Err(Truncated(0))
 8e042a93150102030401077a Ok(Ell { access: Soon, acc: 42, len: 11 })
 8e042a93150102030401 Err(Truncated(10))";
 
+// What the bytes of a row are read as.
+pub(crate) fn assert_ell(rt: &impl Abort, alloc: Global, row: &str) {
+    let (digits, answer) = row.split_once(' ').expect(rt, "too few fields");
+    let header = bytes(rt, alloc, digits);
+    assert_shown(rt, alloc, &read_ell(&header), answer, row);
+}
+
 #[test]
-fn headers_are_read_or_refused(rt: HostRuntime) -> Result<(), Fail> {
-    for row in HEADERS.lines() {
-        let (digits, answer) = row.split_once(' ').ok_or("too few fields")?;
-        let header = bytes(rt.alloc(), digits)?;
-        let said = format!(in rt.alloc(); "{:?}", read_ell(&header))?;
-        assert_eq!(rt; said.as_str(), answer, "{row}");
-    }
-    Ok(())
+fn headers_are_read_or_refused(rt: HostRuntime) {
+    assert_rows(&rt, rt.alloc(), Kind::Ell, HEADERS, 10);
 }
 
 #[test]
 fn two_bits_say_when_a_meter_listens(rt: HostRuntime) {
-    let cases = [
-        (false, false, Access::None),
-        (false, true, Access::Soon),
-        (true, false, Access::Limited),
-        (true, true, Access::Unlimited),
-    ];
-    for (bidirectional, accessible, access) in cases {
-        assert_eq!(rt; Access::from_bits(bidirectional, accessible), access);
-    }
+    let told = (
+        Access::from_bits(false, false),
+        Access::from_bits(false, true),
+        Access::from_bits(true, false),
+        Access::from_bits(true, true),
+    );
+    let wanted = "(None, Soon, Limited, Unlimited)";
+    assert_shown(&rt, rt.alloc(), &told, wanted, "access");
 }

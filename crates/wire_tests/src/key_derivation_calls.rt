@@ -1,7 +1,10 @@
 //! Derived keys against rows that another implementation made.
-use crate::rows::five;
+use crate::asserts::{assert_bytes, block, field, fields};
+use crate::rows::{Kind, assert_rows};
+use hex::FromHex;
 use key_derivation::{KeyUse, derive};
-use std::test::Fail;
+use std::alloc::Global;
+use std::process::Abort;
 
 mod rows;
 
@@ -16,25 +19,25 @@ fn use_of(constant: u8) -> Option<KeyUse> {
     }
 }
 
+// The use of a row, its counter and its identification.
+fn told(rt: &impl Abort, row: &[&str]) -> (KeyUse, u32, [u8; 4]) {
+    let constant = u8::from_str_radix(field(rt, row, 1), 16).expect(rt, "no constant");
+    let counter = u32::from_str_radix(field(rt, row, 2), 10).expect(rt, "no counter");
+    let id = <[u8; 4] as FromHex>::from_hex(field(rt, row, 3)).expect(rt, "no identification");
+    (use_of(constant).expect(rt, "no use"), counter, id)
+}
+
+// The key is derived as the row says.
+pub(crate) fn assert_derived(rt: &impl Abort, alloc: Global, row: &str) {
+    let fields = fields(rt, alloc, row, 5);
+    let key = block(rt, field(rt, &fields, 0));
+    let (purpose, counter, id) = told(rt, &fields);
+    let made = derive(&key, purpose, counter, id);
+    let wanted = block(rt, field(rt, &fields, 4));
+    assert_bytes(rt, &made, &wanted, row);
+}
+
 #[test]
-fn keys_are_derived_as_another_implementation_derives_them(rt: HostRuntime) -> Result<(), Fail> {
-    let mut count: u32 = 0;
-    for row in rows::DERIVED.lines() {
-        let (key, constant, counter, id, wanted) = five(row).ok_or("a row of other fields")?;
-        let key = u128::from_str_radix(key, 16)?;
-        let counter = u32::from_str_radix(counter, 10)?;
-        let id = u32::from_str_radix(id, 16)?;
-        let Some(purpose) = use_of(u8::from_str_radix(constant, 16)?) else {
-            panic!(rt; "no use has this constant: {row}");
-        };
-        let made = derive(&key.to_be_bytes(), purpose, counter, id.to_be_bytes());
-        assert_eq!(rt;
-            u128::from_be_bytes(made),
-            u128::from_str_radix(wanted, 16)?,
-            "of {row}"
-        );
-        count = count.saturating_add(1);
-    }
-    assert_eq!(rt; count, 40);
-    Ok(())
+fn keys_are_derived_as_another_implementation_derives_them(rt: HostRuntime) {
+    assert_rows(&rt, rt.alloc(), Kind::Derived, rows::DERIVED, 40);
 }

@@ -7,6 +7,8 @@ mod aes_block_calls;
 #[cfg(test)]
 mod afl_layer_calls;
 #[cfg(test)]
+mod asserts;
+#[cfg(test)]
 mod cbc_cmac_calls;
 #[cfg(test)]
 mod downlink_maker_calls;

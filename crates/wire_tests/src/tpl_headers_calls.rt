@@ -2,9 +2,11 @@
 ghost use Rattle.std.specs.Prelude.{◌≡◌};
 ghost use Rattle.tpl_headers.specs.Header.{HasItsAddress, HasItsExtension};
 
-use crate::rows::bytes;
+use crate::asserts::{assert_shown, bytes};
+use crate::rows::{Kind, assert_rows};
 use meter_address::Address;
-use std::test::Fail;
+use std::alloc::Global;
+use std::process::Abort;
 use tpl_headers::{Tpl, read_tpl, write_tpl};
 
 fn tpl(ci: u8, address: Option<Address>, cf: u16, cfe: Option<u8>, len: usize) -> Tpl
@@ -46,50 +48,60 @@ const HEADERS: &str = "- Err(Truncated(0))
 7278563412931533032a102007 Err(Truncated(13))
 7278563412931533032a10200710 Ok(Tpl { ci: 114, address: Some(Address(10598509609722458883)), acc: 42, status: 16, cf: 1824, cfe: Some(16), len: 14 })";
 
-#[test]
-fn headers_are_read_or_refused(rt: HostRuntime) -> Result<(), Fail> {
-    for row in HEADERS.lines() {
-        let (digits, answer) = row.split_once(' ').ok_or("too few fields")?;
-        let header = bytes(rt.alloc(), digits)?;
-        let said = format!(in rt.alloc(); "{:?}", read_tpl(&header))?;
-        assert_eq!(rt; said.as_str(), answer, "{row}");
-    }
-    Ok(())
+// What the bytes of a row are read as.
+pub(crate) fn assert_tpl(rt: &impl Abort, alloc: Global, row: &str) {
+    let (digits, answer) = row.split_once(' ').expect(rt, "too few fields");
+    let header = bytes(rt, alloc, digits);
+    assert_shown(rt, alloc, &read_tpl(&header), answer, row);
 }
 
-// Whether these are the bytes of the header, which are read as the header again.
-fn is_spelt(header: &Tpl, bytes: &[u8]) -> bool
+#[test]
+fn headers_are_read_or_refused(rt: HostRuntime) {
+    assert_rows(&rt, rt.alloc(), Kind::Tpl, HEADERS, 12);
+}
+
+// Asserts that these are the bytes of the header, which are read as the header again.
+fn assert_spelt(rt: &impl Abort, header: &Tpl, bytes: &[u8])
     requires address { HasItsAddress header.now.ci header.now.address }
     requires extension { HasItsExtension header.now.cf header.now.cfe }
 {
     let mut out = [0xFF; 14];
     let len = write_tpl(header, &mut out);
-    len == bytes.len() && out.starts_with(bytes) && read_tpl(bytes) == Ok(*header)
+    assert!(rt; len == bytes.len() && out.starts_with(bytes) && read_tpl(bytes) == Ok(*header));
 }
 
 #[test]
 fn written_headers_are_read_back(rt: HostRuntime) {
     let meter = Some(Address(0x9315_7856_3412_3303));
     let short = tpl(0x7A, None, 0x0520, None, 5);
-    assert!(rt; is_spelt(&short, &[0x7A, 0x2A, 0x10, 0x20, 0x05]));
+    assert_spelt(&rt, &short, &[0x7A, 0x2A, 0x10, 0x20, 0x05]);
     let long = tpl(0x72, meter, 0x0720, Some(0x10), 14);
-    assert!(rt; is_spelt(&long, &LONG));
+    assert_spelt(&rt, &long, &LONG);
     let other = tpl(0x8B, meter, 0x0500, None, 13);
-    assert!(rt; is_spelt(&other, &OTHER));
+    assert_spelt(&rt, &other, &OTHER);
+}
+
+// Asserts the mode, the blocks and the derivation of a header, its key's number, and whether it says that the meter is bidirectional and
+// accessible.
+fn assert_field(rt: &impl Abort, alloc: Global, header: &Tpl, wanted: &str) {
+    let field = (header.mode(), header.blocks(), header.derivation());
+    let access = (header.is_bidirectional(), header.is_accessible());
+    assert_shown(
+        rt,
+        alloc,
+        &(field, header.key_id(), access),
+        wanted,
+        "field",
+    );
 }
 
 #[test]
 fn the_configuration_field_says_mode_blocks_and_access(rt: HostRuntime) {
+    let a = rt.alloc();
     let gas = tpl(0x7A, None, 0x0520, None, 5);
-    assert_eq!(rt; (gas.mode(), gas.blocks(), gas.derivation()), (5, 2, None));
-    assert_eq!(rt; gas.key_id(), None);
-    assert!(rt; !gas.is_bidirectional() && !gas.is_accessible());
+    assert_field(&rt, a, &gas, "((5, 2, None), None, (false, false))");
     let open = tpl(0x7A, None, 0x8520, None, 5);
-    assert!(rt; open.is_bidirectional() && !open.is_accessible());
+    assert_field(&rt, a, &open, "((5, 2, None), None, (true, false))");
     let heat = tpl(0x7A, None, 0xE7F0, Some(0x2F), 6);
-    assert_eq!(rt;
-        (heat.mode(), heat.blocks(), heat.derivation()),
-        (7, 15, Some(2))
-    );
-    assert_eq!(rt; heat.key_id(), Some(15));
+    assert_field(&rt, a, &heat, "((7, 15, Some(2)), Some(15), (true, true))");
 }
