@@ -69,6 +69,6 @@ impl<S: Source, K: Sink> Receiver<S, K> {
         ensures never { result ≢ Ended.TxFault }
         ensures tx { self.new.tx ≡ self.old.tx }
     {
-        self.work(alone)
+        self.hear_all(alone)
     }
 }

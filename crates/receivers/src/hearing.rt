@@ -77,7 +77,7 @@ impl<S: Source, K: Sink> Receiver<S, K> {
 
     // Hears its lines until it ends: makes the step of each in these slots, and writes the downlink that the step gives before the next line
     // is taken. A line for which there is no memory makes no step; those before it stand.
-    pub(crate) fn work<P: Slots<K>>(&mut self, slots: &mut P) -> Ended
+    pub(crate) fn hear_all<P: Slots<K>>(&mut self, slots: &mut P) -> Ended
         requires fresh { self.old.ended ≡ None }
         requires ready { P.ready slots.old }
         ensures ready { P.ready slots.new }

@@ -16,6 +16,7 @@ mod shared;
 mod slots;
 mod telling;
 mod told;
+mod work;
 mod workers;
 
 pub use alone::Alone;

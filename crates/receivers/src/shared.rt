@@ -20,7 +20,7 @@ pub(crate) struct Shared<'w, R: Wait, B: Book> {
     pub(crate) rt: &'w R,
     pub(crate) directory: &'w Directory,
     pub(crate) cells: &'w [BookCell<B>],
-    pub(crate) passes: &'w mut Vec<Pass<B>>,
+    pub(crate) passes: &'w mut [Pass<B>],
     pub(crate) strangers: &'w StrangerCell,
     pub(crate) stranger_pass: &'w mut Pass<Strangers>,
 }
@@ -74,14 +74,14 @@ impl<R: Wait, B: Book<Call = Event, Answer = Outcome>, K: Sink> Slots<K> for Sha
     ghost directory = { λ f. f.0 };
 
     ghost ready = { λ s. (length s.directory.now ≡ length s.cells.now)
-        × ArePassesOf s.cells.now s.passes.now.items × IsPassOf s.strangers.now s.stranger_pass.now };
+        × ArePassesOf s.cells.now s.passes.now × IsPassOf s.strangers.now s.stranger_pass.now };
 
     ghost makes = { λ f line address event sent p q. MakesShared f.0 line address event sent
-        (crew p.0.passes.now.items p.0.stranger_pass.now) (crew q.0.passes.now.items q.0.stranger_pass.now)
+        (crew p.0.passes.now p.0.stranger_pass.now) (crew q.0.passes.now q.0.stranger_pass.now)
         K.tells (sink_change K.Sink p.1 q.1) };
 
     ghost waits = { λ f p q. Works f.0 [] []
-        (crew p.0.passes.now.items p.0.stranger_pass.now) (crew q.0.passes.now.items q.0.stranger_pass.now) × (q.1 ≡ p.1) };
+        (crew p.0.passes.now p.0.stranger_pass.now) (crew q.0.passes.now q.0.stranger_pass.now) × (q.1 ≡ p.1) };
 
     fn step(
         &mut self,
@@ -96,7 +96,7 @@ impl<R: Wait, B: Book<Call = Event, Answer = Outcome>, K: Sink> Slots<K> for Sha
                 Err(memory) => Err(memory),
             };
         };
-        let passes = self.passes.as_mut_slice();
+        let passes = &mut *self.passes;
         match step_at(self.rt, self.cells, passes, place as usize, line, event) {
             Ok(outcome) => {
                 let sent = send(tx, &outcome);

@@ -5,7 +5,6 @@ ghost use Rattle.receivers.specs.Run.{receiver_run};
 ghost use Rattle.receivers.specs.Workers.{CanWork, IsDone};
 
 use crate::receiver::Receiver;
-use crate::shared::Shared;
 use meter_slots::{Directory, Event, Outcome};
 use outer_io::{Sink, Source};
 use slot_cells::{Book, BookCell, Pass, StrangerCell};
@@ -37,15 +36,14 @@ fn work_one<R: Wait, S: Source, K: Sink, B: Book<Call = Event, Answer = Outcome>
     ensures { IsDone cells.now strangers.now directory.now (receiver_run S.Source K.Sink worker.old.receiver worker.new.receiver)
         (crew worker.old.passes.items worker.old.stranger_pass) (crew worker.new.passes.items worker.new.stranger_pass) }
 {
-    let mut shared = Shared {
+    worker.receiver.work(
         rt,
         directory,
         cells,
-        passes: &mut worker.passes,
+        worker.passes.as_mut_slice(),
         strangers,
-        stranger_pass: &mut worker.stranger_pass,
-    };
-    worker.receiver.work(&mut shared);
+        &mut worker.stranger_pass,
+    );
 }
 
 /// Has each worker's receiver work, each in a thread of its own where one can be made. Each worker is left as `work` leaves it.

@@ -1,11 +1,8 @@
 -- Closes what a step on cells comes to.
-use Rattle.std.proofs.Common.{rules, [], sym, ap, refl, ◌∙◌}
+use Rattle.std.proofs.Common.{sym, ap, refl, ◌∙◌}
 use Rattle.outer_io.specs.Shown.{sink_change}
 use Rattle.receivers.specs.declared.slots.Heard.{Heard}
 use Rattle.receivers.specs.Classes.{class_at}
-use Rattle.receivers.specs.Passes.{crew}
-use Rattle.receivers.specs.Works.{Works, MakesShared}
-use Rattle.receivers.proofs.Collecting.{lent_whole}
 use Rattle.receivers.proofs.Makings.{answered_nothing, made_nothing, works_nothing, makes_strange, makes_own}
 use Rattle.receivers.proofs.shared.SharedSlots.step.Goals as goal
 
@@ -24,22 +21,14 @@ returns-in-Ok-step_at-clause-class g c = ap class_at (sym c.in-Some.is ∙ c.fin
 
 pub returns-in-Ok-step_at-clause-makes : goal.returns-in-Ok-step_at-clause-makes
 returns-in-Ok-step_at-clause-makes g c =
-    let directory = c.args.self.now.directory.now in let passes = c.args.self.now.passes.now in
-    let stranger_pass = c.args.self.now.stranger_pass.now in let tx = sink_change g.K.Sink c.args.tx.now c.send-sent.new.tx in
-    lent_whole (λ before after. MakesShared directory c.args.line c.args.address c.args.event c.send-sent.result (crew before stranger_pass)
-    (crew after stranger_pass) g.K.Sink.tells tx) passes.len passes.items c.as_mut_slice-passes.result.now c.step_at.new.passes
-    c.as_mut_slice-passes.ensures.value (search rules) (search rules)
-    (makes_own directory c.args.line c.args.address c.args.event c.in-Some.place c.in-Ok-step_at.outcome c.send-sent.result
-    c.as_mut_slice-passes.result.now c.step_at.new.passes stranger_pass g.K.Sink.tells tx (sym c.find.ensures ∙ c.in-Some.is)
-    c.in-Ok-step_at.ensures.answered c.send-sent.ensures.sent c.send-sent.ensures.cause c.send-sent.ensures.later)
+    makes_own c.args.self.now.directory.now c.args.line c.args.address c.args.event c.in-Some.place c.in-Ok-step_at.outcome
+    c.send-sent.result c.args.self.now.passes.now c.step_at.new.passes c.args.self.now.stranger_pass.now g.K.Sink.tells
+    (sink_change g.K.Sink c.args.tx.now c.send-sent.new.tx) (sym c.find.ensures ∙ c.in-Some.is) c.in-Ok-step_at.ensures.answered
+    c.send-sent.ensures.sent c.send-sent.ensures.cause c.send-sent.ensures.later
 
 pub returns-in-Err-step_at-clause-memory : goal.returns-in-Err-step_at-clause-memory
-returns-in-Err-step_at-clause-memory g c =
-    let directory = c.args.self.now.directory.now in let passes = c.args.self.now.passes.now in
-    let stranger_pass = c.args.self.now.stranger_pass.now in (
-      lent_whole (λ before after. Works directory [] [] (crew before stranger_pass) (crew after stranger_pass)) passes.len passes.items
-          c.as_mut_slice-passes.result.now c.step_at.new.passes c.as_mut_slice-passes.ensures.value (search rules) (search rules)
-          (works_nothing directory c.as_mut_slice-passes.result.now c.step_at.new.passes stranger_pass stranger_pass
-          c.in-Err-step_at.ensures.answered (made_nothing stranger_pass)),
-      refl,
-    )
+returns-in-Err-step_at-clause-memory g c = (
+  works_nothing c.args.self.now.directory.now c.args.self.now.passes.now c.step_at.new.passes c.args.self.now.stranger_pass.now
+      c.args.self.now.stranger_pass.now c.in-Err-step_at.ensures.answered (made_nothing c.args.self.now.stranger_pass.now),
+  refl,
+)
