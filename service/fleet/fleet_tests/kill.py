@@ -8,6 +8,7 @@ import sqlite3
 import tempfile
 import time
 from collections import Counter
+from collections.abc import Sequence
 from contextlib import closing, suppress
 from dataclasses import dataclass, replace
 from pathlib import Path
@@ -400,15 +401,24 @@ class Trial:
         return found + self.secrets_told()
 
     def secrets_told(self) -> list[str]:
-        """No key, no payload and no frame stands in a log, of the fleet's processes and of the servers."""
+        """No key and no payload stands in a log, of the fleet's processes and of the servers; and no frame, but for RabbitMQ's own log,
+        which tells what a process of its own had in hand when it crashed (docs/FLEET.md, "From nothing to readings")."""
         with store.connect(self.config.database) as database:
-            texts = [text for (text,) in database.execute("select payload from command union select payload from reading union"
-                                                          " select frame from outbox").fetchall() if len(text) >= SHORTEST]
-        secrets = {"a key": [key.hex() for meter in self.meters for key in (meter.key, meter.other) if key], "a payload": texts,
-                   "a line": [line.split(" ")[2] for station in self.stations for line in station.lines]}
-        logs = [*self.folder.glob("*.log"), *self.both.folder.glob("*.log"), *self.both.folder.rglob("log/*.log")]
-        told = "\n".join(path.read_text(errors="replace").lower() for path in logs)
-        return [f"{name} stands in a log" for name, them in secrets.items() if any(it in told for it in them)]
+            payloads, frames = ([text for (text,) in database.execute(query).fetchall() if len(text) >= SHORTEST] for query in (
+                "select payload from command union select payload from reading", "select frame from outbox"))
+        secrets = {"a key": [key.hex() for meter in self.meters for key in (meter.key, meter.other) if key], "a payload": payloads,
+                   "a frame": frames + [line.split(" ")[2] for station in self.stations for line in station.lines]}
+        own = [*self.both.folder.rglob("log/*.log"), *self.both.folder.glob("rabbit*.log"), *self.both.folder.glob("node*.log")]
+        logs = [*self.folder.glob("*.log"), *self.both.folder.glob("*.log"), *own]
+        told = {path: path.read_text(errors="replace").lower() for path in logs}
+        return [f"{name} stands in {path.name}, in {self._around(text, them)}" for path, text in told.items()
+                for name, them in secrets.items() if (name != "a frame" or path not in own) and any(it in text for it in them)]
+
+    @staticmethod
+    def _around(text: str, secrets: Sequence[str]) -> str:
+        """Where in a log a secret stands, with its beginning alone."""
+        at = min(text.index(it) for it in secrets if it in text)
+        return repr(text[max(0, at - 1500):at + 8])
 
     def places(self) -> Counter[str]:
         """Where processes died of themselves, and how often."""

@@ -16,6 +16,7 @@ import subprocess
 import threading
 import time
 import urllib.request
+from contextlib import suppress
 from pathlib import Path
 from typing import Any
 
@@ -205,8 +206,15 @@ class Nodes:
 
     def leader(self) -> Node:
         """A node that leads an area's queue."""
-        led = {it["leader"] for it in self.nodes[0].asked("queues?columns=name,leader") if it["name"].startswith("area.")}
-        return random.choice([node for node in self.nodes if f"rabbit@{node.name}" in led])
+        limit = time.monotonic() + PATIENCE
+        while True:
+            with suppress(*NO_ANSWER):
+                queues = random.choice(self.nodes).asked("queues?columns=name,leader")
+                led = {it.get("leader") for it in queues if it["name"].startswith("area.")}
+                if found := [node for node in self.nodes if f"rabbit@{node.name}" in led]:
+                    return random.choice(found)
+            assert time.monotonic() < limit, "no node says which one leads"
+            time.sleep(0.5)
 
     def kill_leader(self) -> str:
         """Kills the leader's node, which is begun again; its name, once all are there again."""

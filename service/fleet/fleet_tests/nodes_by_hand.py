@@ -81,7 +81,7 @@ class NodesTrial(Trial):
                 "select made from line where gateway = %s order by epoch, message, place", (station.told.name,)))]
         found = []
         for name, kind, begun, ended, logged in self.told:
-            seconds = sorted(wait for fed, wait in took if begun - 1 < fed < ended)
+            seconds = sorted(wait for fed, wait in took if begun - 1 < fed < ended) or [0.0]
             found.append(f"{name} {kind}: all there again behind {ended - begun:.0f} s; of {len(seconds)} lines heard meanwhile one took"
                          f" {seconds[-1]:.1f} s to its commit at most, half of them {seconds[len(seconds) // 2]:.1f} s")
             found += [f"  {count} times {line}" for line, count in sorted(logged.items())]
