@@ -160,12 +160,6 @@ whole n xs ys e f = ap (λ (m : ℕ). take m (xs ++ drop (length xs) ys)) (sym e
     front [] zs = refl
     front (x ∷ xs) zs = ap (λ l. x ∷ l) (front xs zs)
 
--- what a call did to the items of a list that were lent to it, it did to the list
-pub lent_whole : {X : Type 0} (P : List X → List X → Type 0) (n : ℕ) (items lent left : List X) → lent ≡ items → length left ≡ n
-    → length items ≡ n → P lent left → P items (take n (left ++ drop (length left) items))
-lent_whole {X} P n items lent left is many long p =
-    subst (λ (l : List X). P items l) (sym (whole n left items many long)) (subst (λ (l : List X). P l left) is p)
-
 -- all receivers worked on the cells that were lent, which are these
 pub record HaveRunOn {P : Type 0} (directory : List Address) (cells : List (CellShown SlotView)) (strangers : CellShown P)
     (runs : List ReceiverRun) (roots : List (Shown SlotView Event Outcome)) (s : Shown P Address Unit) : Type 0 where
