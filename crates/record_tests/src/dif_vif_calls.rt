@@ -1,13 +1,32 @@
 //! Where records stand, and the first fault of a payload.
-use crate::rows::payload_and_wanted;
+ghost use Rattle.std.specs.Prelude.{◌≤◌, length};
+
+use crate::asserts::assert_shown;
+use crate::rows::{Kind, assert_rows};
 use dif_vif::{RecordSpan, next_record};
-use std::test::Fail;
+use std::alloc::Global;
+use std::process::Abort;
 
 /// The payload of a water meter: a volume, a moment and error flags.
 const WATER: [u8; 17] = [
     0x0c, 0x14, 0x27, 0x04, 0x85, 0x02, 0x04, 0x6d, 0x32, 0x37, 0x1f, 0x15, 0x02, 0xfd, 0x17, 0x00,
     0x00,
 ];
+
+// A payload's first record.
+fn first(rt: &impl Abort, payload: &[u8]) -> RecordSpan {
+    match next_record(payload, 0) {
+        Ok(Some(span)) => span,
+        _ => panic!(rt; "no record"),
+    }
+}
+
+// Asserts which record is the next one from a place of a payload.
+fn assert_next(rt: &impl Abort, payload: &[u8], from: usize, wanted: Option<RecordSpan>)
+    requires { from ≤ length payload.now }
+{
+    assert_eq!(rt; next_record(payload, from), Ok(wanted), "from {from}");
+}
 
 #[test]
 fn a_record_with_every_part(rt: HostRuntime) {
@@ -34,131 +53,119 @@ fn a_record_with_every_part(rt: HostRuntime) {
         data_at: 11,
         data_len: 4,
     };
-    assert_eq!(rt; next_record(&payload, 0), Ok(Some(span)));
-    assert_eq!(rt; next_record(&payload, 2), Ok(Some(span)));
-    assert_eq!(rt; next_record(&payload, 15), Ok(None));
-    assert_eq!(rt; next_record(&payload, 16), Ok(None));
+    assert_next(&rt, &payload, 0, Some(span));
+    assert_next(&rt, &payload, 2, Some(span));
+    assert_next(&rt, &payload, 15, None);
+    assert_next(&rt, &payload, 16, None);
+}
+
+// Asserts where the next record from a place of the water meter's payload stands: it, its data and its end; its VIF in decimal, and how many
+// VIFEs it has.
+fn assert_follows(rt: &impl Abort, alloc: Global, from: usize, wanted: &str)
+    requires { from ≤ 17 }
+{
+    let Ok(Some(span)) = next_record(&WATER, from) else {
+        panic!(rt; "no record from {from}");
+    };
+    let found = (span.start, span.data_at, span.end, span.vif, span.vifes);
+    assert_shown(rt, alloc, &found, wanted, "record");
 }
 
 #[test]
 fn records_follow_one_another(rt: HostRuntime) {
-    for (from, start, vif, vifes, data_at, end) in [
-        (0, 0, 0x14, 0, 2, 6),
-        (6, 6, 0x6d, 0, 8, 12),
-        (12, 12, 0xfd, 1, 15, 17),
-    ] {
-        match next_record(&WATER, from) {
-            Ok(Some(span)) => {
-                assert_eq!(rt; (span.start, span.vif, span.vifes), (start, vif, vifes));
-                assert_eq!(rt; (span.data_at, span.end), (data_at, end));
-            }
-            _ => panic!(rt; "no record from {from}"),
-        }
-    }
-    assert_eq!(rt; next_record(&WATER, 17), Ok(None));
+    assert_follows(&rt, rt.alloc(), 0, "(0, 2, 6, 20, 0)");
+    assert_follows(&rt, rt.alloc(), 6, "(6, 8, 12, 109, 0)");
+    assert_follows(&rt, rt.alloc(), 12, "(12, 15, 17, 253, 1)");
+    assert_next(&rt, &WATER, 17, None);
+}
+
+// Asserts that a payload is manufacturer data.
+fn assert_maker(rt: &impl Abort, payload: &[u8], dif: u8, data_at: usize, data_len: usize)
+    requires { 1 ≤ data_at }
+{
+    let span = RecordSpan {
+        start: data_at - 1,
+        end: payload.len(),
+        maker: true,
+        dif,
+        function: 0,
+        storage: 0,
+        tariff: 0,
+        subunit: 0,
+        vif: 0,
+        text_at: 0,
+        text_len: 0,
+        vifes_at: 0,
+        vifes: 0,
+        lvar: None,
+        data_at,
+        data_len,
+    };
+    assert_next(rt, payload, 0, Some(span));
 }
 
 #[test]
 fn manufacturer_data_go_to_the_end(rt: HostRuntime) {
-    for (payload, dif, data_at, data_len) in [
-        ([0x0f, 0x2f, 0x04].as_slice(), 0x0f, 1, 2),
-        ([0x2f, 0x1f].as_slice(), 0x1f, 2, 0),
-    ] {
-        let span = RecordSpan {
-            start: data_at - 1,
-            end: payload.len(),
-            maker: true,
-            dif,
-            function: 0,
-            storage: 0,
-            tariff: 0,
-            subunit: 0,
-            vif: 0,
-            text_at: 0,
-            text_len: 0,
-            vifes_at: 0,
-            vifes: 0,
-            lvar: None,
-            data_at,
-            data_len,
-        };
-        assert_eq!(rt; next_record(payload, 0), Ok(Some(span)));
-    }
+    assert_maker(&rt, &[0x0f, 0x2f, 0x04], 0x0f, 1, 2);
+    assert_maker(&rt, &[0x2f, 0x1f], 0x1f, 2, 0);
+}
+
+// Records, and of each its LVAR in decimal, the place of its data and how many bytes of them there are.
+const LENGTHS: &str = "\
+00130102030405060708 (None, 2, 0)
+01130102030405060708 (None, 2, 1)
+02130102030405060708 (None, 2, 2)
+03130102030405060708 (None, 2, 3)
+04130102030405060708 (None, 2, 4)
+05130102030405060708 (None, 2, 4)
+06130102030405060708 (None, 2, 6)
+07130102030405060708 (None, 2, 8)
+09130102030405060708 (None, 2, 1)
+0a130102030405060708 (None, 2, 2)
+0b130102030405060708 (None, 2, 3)
+0c130102030405060708 (None, 2, 4)
+0e130102030405060708 (None, 2, 6)
+0d13000102030405060708090a0b0c0d0e0f (Some(0), 3, 0)
+0d13050102030405060708090a0b0c0d0e0f (Some(5), 3, 5)
+0d13c00102030405060708090a0b0c0d0e0f (Some(192), 3, 0)
+0d13c90102030405060708090a0b0c0d0e0f (Some(201), 3, 9)
+0d13d90102030405060708090a0b0c0d0e0f (Some(217), 3, 9)
+0d13e00102030405060708090a0b0c0d0e0f (Some(224), 3, 0)
+0d13ef0102030405060708090a0b0c0d0e0f (Some(239), 3, 15)
+";
+
+pub(crate) fn assert_length(rt: &impl Abort, alloc: Global, payload: &[u8], wanted: &str) {
+    let span = first(rt, payload);
+    let found = (span.lvar, span.data_at, span.data_len);
+    assert_shown(rt, alloc, &found, wanted, wanted);
 }
 
 #[test]
 fn each_data_field_has_its_bytes(rt: HostRuntime) {
-    let lengths = [
-        (0x00, 0),
-        (0x01, 1),
-        (0x02, 2),
-        (0x03, 3),
-        (0x04, 4),
-        (0x05, 4),
-        (0x06, 6),
-        (0x07, 8),
-        (0x09, 1),
-        (0x0a, 2),
-        (0x0b, 3),
-        (0x0c, 4),
-        (0x0e, 6),
-    ];
-    for (dif, len) in lengths {
-        match next_record(&[dif, 0x13, 1, 2, 3, 4, 5, 6, 7, 8], 0) {
-            Ok(Some(span)) => assert_eq!(rt; (span.data_at, span.data_len), (2, len), "DIF {dif}"),
-            _ => panic!(rt; "no record of DIF {dif}"),
-        }
-    }
-    for (lvar, len) in [
-        (0x00, 0),
-        (0x05, 5),
-        (0xc0, 0),
-        (0xc9, 9),
-        (0xd9, 9),
-        (0xe0, 0),
-        (0xef, 15),
-    ] {
-        let payload = [
-            0x0d, 0x13, lvar, 1, 2, 3, 4, 5, 6, 7, 8, 9, 10, 11, 12, 13, 14, 15,
-        ];
-        match next_record(&payload, 0) {
-            Ok(Some(span)) => {
-                assert_eq!(rt; span.lvar, Some(lvar));
-                assert_eq!(rt; (span.data_at, span.data_len), (3, len), "LVAR {lvar}");
-            }
-            _ => panic!(rt; "no record of LVAR {lvar}"),
-        }
-    }
+    assert_rows(&rt, rt.alloc(), Kind::Length, LENGTHS, 20);
 }
 
 // Payloads and the first fault of each, its number in decimal. Those of bytes 84 have ten extensions, the last of which says that one more
 // follows, which then stands there or doesn't.
-const FAULTS: &str = "0c142704 RecordFault::Truncated(0)
-0d13ca RecordFault::Lvar(202)
-0d13f0 RecordFault::Lvar(240)
-0813 RecordFault::Selection(0)
-88 RecordFault::Selection(0)
-2f3f RecordFault::Special(63)
-8f RecordFault::Special(143)
-2f0d13 RecordFault::Truncated(1)
-047c0257 RecordFault::Truncated(0)
-04fd RecordFault::Truncated(0)
-8484848484848484848484 RecordFault::Truncated(0)
-848484848484848484848484 RecordFault::TooManyExtensions(0)
-2f04fd8080808080808080808000 RecordFault::TooManyExtensions(1)";
+const FAULTS: &str = "0c142704 Err(Truncated(0))
+0d13ca Err(Lvar(202))
+0d13f0 Err(Lvar(240))
+0813 Err(Selection(0))
+88 Err(Selection(0))
+2f3f Err(Special(63))
+8f Err(Special(143))
+2f0d13 Err(Truncated(1))
+047c0257 Err(Truncated(0))
+04fd Err(Truncated(0))
+8484848484848484848484 Err(Truncated(0))
+848484848484848484848484 Err(TooManyExtensions(0))
+2f04fd8080808080808080808000 Err(TooManyExtensions(1))";
+
+pub(crate) fn assert_fault(rt: &impl Abort, alloc: Global, payload: &[u8], wanted: &str) {
+    assert_shown(rt, alloc, &next_record(payload, 0), wanted, wanted);
+}
 
 #[test]
-fn the_first_fault_is_told(rt: HostRuntime) -> Result<(), Fail> {
-    let mut count: u32 = 0;
-    for row in FAULTS.lines() {
-        let (payload, wanted) = payload_and_wanted(rt.alloc(), row)?;
-        let Err(fault) = next_record(&payload, 0) else {
-            panic!(rt; "no fault in {row}");
-        };
-        let found = format!(in rt.alloc(); "RecordFault::{fault:?}")?;
-        assert_eq!(rt; found.as_str(), wanted, "in {row}");
-        count = count.saturating_add(1);
-    }
-    assert_eq!(rt; count, 13);
-    Ok(())
+fn the_first_fault_is_told(rt: HostRuntime) {
+    assert_rows(&rt, rt.alloc(), Kind::Fault, FAULTS, 13);
 }

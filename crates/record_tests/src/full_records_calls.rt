@@ -1,60 +1,55 @@
 //! Data records as the whole standard reads them.
-use crate::rows::payload_and_wanted;
+use crate::asserts::{NO_MEMORY, assert_text};
+use crate::rows::{Kind, assert_rows};
 use dif_vif::next_record;
 use full_records::{FullRecord, Qualifier, full_record_of};
 use std::alloc::Global;
-use std::test::Fail;
+use std::fmt::Write;
+use std::process::Abort;
 
-fn first(payload: &[u8]) -> Option<FullRecord> {
+// A payload's first record.
+fn first(rt: &impl Abort, payload: &[u8]) -> FullRecord {
     match next_record(payload, 0) {
-        Ok(Some(span)) => Some(full_record_of(payload, &span)),
-        _ => None,
+        Ok(Some(span)) => full_record_of(payload, &span),
+        _ => panic!(rt; "no record"),
     }
+}
+
+fn put_name(rt: &impl Abort, names: &mut String, qualifier: &Qualifier) {
+    let between = if names.is_empty() { "" } else { "," };
+    write!(names, "{between}{:?}", qualifier.name).expect(rt, NO_MEMORY);
 }
 
 // The names of qualifiers with a comma between two, or a dash for none.
-fn names(alloc: Global, qualifiers: &[Qualifier]) -> Result<String, Fail> {
+fn names(rt: &impl Abort, alloc: Global, qualifiers: &[Qualifier]) -> String {
     let mut names = String::new(alloc);
     for qualifier in qualifiers {
-        if !names.is_empty() {
-            names.push(',')?;
-        }
-        let name = format!(in alloc; "{:?}", qualifier.name)?;
-        names.push_str(name.as_str())?;
+        put_name(rt, &mut names, qualifier);
     }
-    if names.is_empty() {
-        names.push('-')?;
+    if qualifiers.is_empty() {
+        names.push('-').expect(rt, NO_MEMORY);
     }
-    Ok(names)
+    names
 }
 
 // A record's quantity, qualifiers, unit and type, whether it is set, and its value.
-fn said(alloc: Global, record: FullRecord) -> Result<String, Fail> {
-    let names = names(alloc, record.qualifiers.as_slice())?;
+fn said(rt: &impl Abort, alloc: Global, record: FullRecord) -> String {
+    let names = names(rt, alloc, record.qualifiers.as_slice());
     let set = if record.unset { "unset" } else { "set" };
-    Ok(format!(in alloc;
+    format!(in alloc;
         "{:?} {} {:?} {:?} {set} {:?}",
         record.quantity,
         names.as_str(),
         record.unit,
         record.data_type,
         record.value
-    )?)
+    )
+    .expect(rt, NO_MEMORY)
 }
 
-// How many rows there are, and the first one of which the record says something else, with what it says.
-fn first_wrong(alloc: Global, rows: &str) -> Result<(u32, String), Fail> {
-    let mut count: u32 = 0;
-    for row in rows.lines() {
-        let (payload, wanted) = payload_and_wanted(alloc, row)?;
-        let record = first(&payload).ok_or("a record")?;
-        let found = said(alloc, record)?;
-        if found.as_str() != wanted {
-            return Ok((count, format!(in alloc; "{row}: {}", found.as_str())?));
-        }
-        count = count.saturating_add(1);
-    }
-    Ok((count, String::new(alloc)))
+pub(crate) fn assert_full(rt: &impl Abort, alloc: Global, payload: &[u8], wanted: &str) {
+    let found = said(rt, alloc, first(rt, payload));
+    assert_text(rt, found.as_str(), wanted, "record");
 }
 
 // Each row of the tables at its first and its last code, the types of data, and qualifiers in their order: worked out by
@@ -393,11 +388,8 @@ const BY_HAND: &str =
 0d93fdfdfd78e3ffff7f Profile(Volume) Factor,Factor,Factor,Constant Profile(CubicMetre) Integer set Number { whole: 8388607000000001, exponent: -3 }";
 
 #[test]
-fn each_row_at_its_first_and_last_code(rt: HostRuntime) -> Result<(), Fail> {
-    let (count, wrong) = first_wrong(rt.alloc(), BY_HAND)?;
-    assert_eq!(rt; wrong.as_str(), "");
-    assert_eq!(rt; count, 331);
-    Ok(())
+fn each_row_at_its_first_and_last_code(rt: HostRuntime) {
+    assert_rows(&rt, rt.alloc(), Kind::Full, BY_HAND, 331);
 }
 
 // The records of published payloads of twelve meters (tests/full_records/published.tsv).
@@ -458,9 +450,6 @@ a1016713 Profile(ExternalTemperature) - Profile(Celsius) Integer set Number { wh
 0f150e00000000c10000d10000e60000fd00000c01002f0000410000540000680000890000a00000b30000002f2f2f2f2f2f Profile(Manufacturer) - Profile(NoUnit) Untyped set Raw";
 
 #[test]
-fn published_records(rt: HostRuntime) -> Result<(), Fail> {
-    let (count, wrong) = first_wrong(rt.alloc(), PUBLISHED)?;
-    assert_eq!(rt; wrong.as_str(), "");
-    assert_eq!(rt; count, 54);
-    Ok(())
+fn published_records(rt: HostRuntime) {
+    assert_rows(&rt, rt.alloc(), Kind::Full, PUBLISHED, 54);
 }

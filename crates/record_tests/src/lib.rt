@@ -2,6 +2,8 @@
 #![tactic(auto)]
 
 #[cfg(test)]
+mod asserts;
+#[cfg(test)]
 mod dif_vif_calls;
 #[cfg(test)]
 mod full_records_calls;

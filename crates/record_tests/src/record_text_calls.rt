@@ -1,13 +1,13 @@
 //! Records and their lines. The lines of `EACH_WORD` were made by two other readers of records, which agree on each.
 ghost use Rattle.record_text.specs.RecordText.{records_text};
 
-use crate::rows::payload_and_wanted;
+use crate::asserts::{NO_MEMORY, assert_bytes};
+use crate::rows::{Kind, assert_rows};
 use outer_io::MemorySink;
 use paper::{Paper, Printed, write};
 use record_text::put_records;
 use std::alloc::Global;
 use std::process::Abort;
-use std::test::Fail;
 
 // The records of a payload.
 #[derive(Drop)]
@@ -37,26 +37,23 @@ record instantaneous 0 0 0 datetime - 0 - 2008-05-31T23:50 32371f15
 record instantaneous 0 0 0 errorflags - 0 - 0 0000
 ";
 
-#[test]
-fn a_gas_meter_is_listed(rt: HostRuntime) -> Result<(), Fail> {
-    let payload = hex::decode(rt.alloc(), GAS)?;
-    let text = listing(rt.alloc(), &payload);
-    assert_eq!(rt; text.bytes(), GAS_LISTED.as_bytes());
-    assert_eq!(rt; listing(rt.alloc(), &[]).bytes().len(), 0);
-    Ok(())
+// Asserts what is listed of a payload.
+fn assert_listed(rt: &impl Abort, alloc: Global, payload: &[u8], wanted: &str, name: &str) {
+    let text = listing(alloc, payload);
+    assert_bytes(rt, text.bytes(), wanted, name);
 }
 
-// The payload of each row has the line that stands behind it; answers how many rows there are.
-fn expect_lines(rt: &impl Abort, alloc: Global, table: &str) -> Result<u32, Fail> {
-    let mut count: u32 = 0;
-    for row in table.lines() {
-        let (payload, wanted) = payload_and_wanted(alloc, row)?;
-        let text = listing(alloc, &payload);
-        let line = format!(in alloc; "{wanted}\n")?;
-        assert_eq!(rt; text.bytes(), line.as_bytes(), "in {row}");
-        count = count.saturating_add(1);
-    }
-    Ok(count)
+#[test]
+fn a_gas_meter_is_listed(rt: HostRuntime) {
+    let payload = hex::decode(rt.alloc(), GAS).expect(&rt, "no payload");
+    assert_listed(&rt, rt.alloc(), &payload, GAS_LISTED, "gas");
+    assert_listed(&rt, rt.alloc(), &[], "", "nothing");
+}
+
+// A payload has one record, whose line this is.
+pub(crate) fn assert_line(rt: &impl Abort, alloc: Global, payload: &[u8], wanted: &str) {
+    let line = format!(in alloc; "{wanted}\n").expect(rt, NO_MEMORY);
+    assert_listed(rt, alloc, payload, &line, wanted);
 }
 
 // A payload for each kind of line.
@@ -125,30 +122,25 @@ const EACH_WORD: &str = "040082b70eee record instantaneous 0 0 0 energy Wh -3 - 
 047c008fe63e28 record instantaneous 0 0 0 plain - 0 - 675210895 8fe63e28";
 
 #[test]
-fn each_kind_of_line_and_each_word_is_written(rt: HostRuntime) -> Result<(), Fail> {
-    assert_eq!(rt; expect_lines(&rt, rt.alloc(), EACH_KIND)?, 14);
-    assert_eq!(rt; expect_lines(&rt, rt.alloc(), EACH_WORD)?, 47);
-    Ok(())
+fn each_kind_of_line_and_each_word_is_written(rt: HostRuntime) {
+    assert_rows(&rt, rt.alloc(), Kind::Line, EACH_KIND, 14);
+    assert_rows(&rt, rt.alloc(), Kind::Line, EACH_WORD, 47);
+}
+
+// Asserts how many lines are listed of so many bytes, all of them 01, and what stands at the end.
+fn assert_cut(rt: &impl Abort, alloc: Global, count: usize, lines: usize, end: &str) {
+    let line = "record instantaneous 0 0 0 energy Wh -2 - 1 01\n";
+    let payload = vec![in alloc; 0x01; count].expect(rt, NO_MEMORY);
+    let text = listing(alloc, &payload);
+    let len = lines.saturating_mul(line.len()).saturating_add(end.len());
+    assert_eq!(rt; text.bytes().len(), len, "of {count} bytes");
+    assert!(rt; text.bytes().ends_with(end.as_bytes()), "of {count} bytes");
 }
 
 #[test]
-fn at_most_256_lines_are_written(rt: HostRuntime) -> Result<(), Fail> {
-    let line = "record instantaneous 0 0 0 energy Wh -2 - 1 01\n";
-    let bytes = [0x01; 771];
-    for (count, lines, end) in [
-        (766, 255, "fault truncated 765\n"),
-        (768, 256, ""),
-        (769, 256, "more\n"),
-        (771, 256, "more\n"),
-    ] {
-        let (payload, _) = bytes.split_at(count);
-        let text = listing(rt.alloc(), payload);
-        assert_eq!(rt;
-            text.bytes().len(),
-            lines * line.len() + end.len(),
-            "of {count} bytes"
-        );
-        assert!(rt; text.bytes().ends_with(end.as_bytes()), "of {count} bytes");
-    }
-    Ok(())
+fn at_most_256_lines_are_written(rt: HostRuntime) {
+    assert_cut(&rt, rt.alloc(), 766, 255, "fault truncated 765\n");
+    assert_cut(&rt, rt.alloc(), 768, 256, "");
+    assert_cut(&rt, rt.alloc(), 769, 256, "more\n");
+    assert_cut(&rt, rt.alloc(), 771, 256, "more\n");
 }

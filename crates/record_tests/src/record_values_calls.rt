@@ -1,13 +1,16 @@
 //! Units and values of records.
-use crate::rows::payload_and_wanted;
+use crate::asserts::{NO_MEMORY, assert_shown, assert_text};
+use crate::rows::{Kind, assert_rows};
 use dif_vif::next_record;
 use record_values::{Unit, Value, unit_of, value_of};
-use std::test::Fail;
+use std::alloc::Global;
+use std::process::Abort;
 
-fn first(payload: &[u8]) -> Option<(Unit, Value)> {
+// The unit and the value of a payload's first record.
+fn first(rt: &impl Abort, payload: &[u8]) -> (Unit, Value) {
     match next_record(payload, 0) {
-        Ok(Some(span)) => Some((unit_of(payload, &span), value_of(payload, &span))),
-        _ => None,
+        Ok(Some(span)) => (unit_of(payload, &span), value_of(payload, &span)),
+        _ => panic!(rt; "no record"),
     }
 }
 
@@ -49,41 +52,36 @@ const UNITS: &str = "040082b70eee Energy WattHour -3 0
 02fb0879fb Energy Gigajoule -1 0
 02fb0a1b7c Unknown NoUnit 0 0";
 
+pub(crate) fn assert_unit(rt: &impl Abort, alloc: Global, payload: &[u8], wanted: &str) {
+    let (unit, _) = first(rt, payload);
+    let found = format!(in alloc;
+        "{:?} {:?} {} {}",
+        unit.quantity, unit.name, unit.exponent, unit.modifiers
+    )
+    .expect(rt, NO_MEMORY);
+    assert_text(rt, found.as_str(), wanted, "unit");
+}
+
 #[test]
-fn each_table_has_its_units(rt: HostRuntime) -> Result<(), Fail> {
-    let mut count: u32 = 0;
-    for row in UNITS.lines() {
-        let (payload, wanted) = payload_and_wanted(rt.alloc(), row)?;
-        let (unit, _) = first(&payload).ok_or("a record")?;
-        let found = format!(in rt.alloc();
-            "{:?} {:?} {} {}",
-            unit.quantity, unit.name, unit.exponent, unit.modifiers
-        )?;
-        assert_eq!(rt; found.as_str(), wanted, "in {row}");
-        count = count.saturating_add(1);
-    }
-    assert_eq!(rt; count, 36);
-    Ok(())
+fn each_table_has_its_units(rt: HostRuntime) {
+    assert_rows(&rt, rt.alloc(), Kind::Unit, UNITS, 36);
 }
 
 // Records whose codes are followed by modifiers or not: the place behind the code, how many modifiers there are, and the value.
-const MODIFIERS: &str = "01933b05 2 1 Whole(5)
-01fd97bb3c05 3 2 Whole(5)
-01fb0105 3 0 Whole(5)
-01fc01573b05 4 1 Whole(5)";
+const MODIFIERS: &str = "01933b05 (2, 1, Whole(5))
+01fd97bb3c05 (3, 2, Whole(5))
+01fb0105 (3, 0, Whole(5))
+01fc01573b05 (4, 1, Whole(5))";
+
+pub(crate) fn assert_modifiers(rt: &impl Abort, alloc: Global, payload: &[u8], wanted: &str) {
+    let (unit, value) = first(rt, payload);
+    let found = (unit.modifiers_at, unit.modifiers, value);
+    assert_shown(rt, alloc, &found, wanted, "modifiers");
+}
 
 #[test]
-fn modifiers_begin_after_the_code(rt: HostRuntime) -> Result<(), Fail> {
-    let mut count: u32 = 0;
-    for row in MODIFIERS.lines() {
-        let (payload, wanted) = payload_and_wanted(rt.alloc(), row)?;
-        let (unit, value) = first(&payload).ok_or("a record")?;
-        let found = format!(in rt.alloc(); "{} {} {value:?}", unit.modifiers_at, unit.modifiers)?;
-        assert_eq!(rt; found.as_str(), wanted, "in {row}");
-        count = count.saturating_add(1);
-    }
-    assert_eq!(rt; count, 4);
-    Ok(())
+fn modifiers_begin_after_the_code(rt: HostRuntime) {
+    assert_rows(&rt, rt.alloc(), Kind::Modifiers, MODIFIERS, 4);
 }
 
 // Records and their values.
@@ -137,16 +135,12 @@ const VALUES: &str = "0013 None
 29138b Raw
 2c13c5d5758c Raw";
 
+pub(crate) fn assert_value(rt: &impl Abort, alloc: Global, payload: &[u8], wanted: &str) {
+    let (_, value) = first(rt, payload);
+    assert_shown(rt, alloc, &value, wanted, "value");
+}
+
 #[test]
-fn data_have_their_values(rt: HostRuntime) -> Result<(), Fail> {
-    let mut count: u32 = 0;
-    for row in VALUES.lines() {
-        let (payload, wanted) = payload_and_wanted(rt.alloc(), row)?;
-        let (_, value) = first(&payload).ok_or("a record")?;
-        let found = format!(in rt.alloc(); "{value:?}")?;
-        assert_eq!(rt; found.as_str(), wanted, "in {row}");
-        count = count.saturating_add(1);
-    }
-    assert_eq!(rt; count, 49);
-    Ok(())
+fn data_have_their_values(rt: HostRuntime) {
+    assert_rows(&rt, rt.alloc(), Kind::Value, VALUES, 49);
 }
