@@ -1,6 +1,6 @@
 """How much the fleet carries, by hand: the load of many meters, published as gateways publish it, and what it costs.
 
-load.py run      lines come at a rate, with a peak; prints lag, processors by part, sizes of tables, bytes a reading
+load.py run      lines come at a rate, with peaks; prints lag, processors and memory by part, sizes of tables, bytes a reading
 load.py drain    the inbox is filled, and one and two session workers after each other empty it; lines a second of each
 
 Everything runs on this machine, with servers of its own in a folder that is taken away at the end, and shares it with what else runs."""
@@ -16,6 +16,7 @@ import tempfile
 import time
 from collections import Counter
 from collections.abc import Callable, Sequence
+from dataclasses import dataclass
 from pathlib import Path
 
 TOP = Path(__file__).resolve().parents[3]
@@ -29,7 +30,8 @@ from wmbus_fleet import broker, commands, store  # noqa: E402
 from wmbus_fleet.config import Config, Programs  # noqa: E402
 
 AREA, PUBLISHERS, DRAIN_LIMIT = "north", 2, 600
-LOOK = 0.25
+# a peak is over where no line waits for so many seconds any more
+LOOK, SETTLED = 0.25, 3.0
 TABLES = ("meter", "line", "reading", "refusal", "inbox", "gateway", "total")
 TUNED = """shared_buffers = 1GB
 max_wal_size = 4GB
@@ -48,17 +50,26 @@ def ticks_of(pid: int) -> tuple[float, float]:
     return own / os.sysconf("SC_CLK_TCK"), ended / os.sysconf("SC_CLK_TCK")
 
 
-def ticks_of_server(leader: int) -> float:
-    """Seconds of a processor of a server with all that it started, of which PostgreSQL's have sessions of their own."""
-    used = 0.0
+def processes_of(leader: int) -> list[int]:
+    """A server with all that it started, of which PostgreSQL's have sessions of their own."""
+    found = []
     for path in Path("/proc").glob("[0-9]*"):
         try:
             parent = int((path / "stat").read_text().rpartition(")")[2].split()[1])
             if leader in (parent, os.getsid(int(path.name))):
-                used += sum(ticks_of(int(path.name)))
+                found.append(int(path.name))
         except OSError:
             continue
-    return used
+    return found
+
+
+def memory_of(pid: int) -> int:
+    """Bytes of memory of a process, of what several have its share."""
+    try:
+        told = Path(f"/proc/{pid}/smaps_rollup").read_text()
+    except OSError:
+        return 0
+    return sum(int(line.split()[1]) << 10 for line in told.splitlines() if line.startswith("Pss:"))
 
 
 class Fleet:
@@ -130,10 +141,23 @@ class Fleet:
         for part, process in self.workers:
             own, programs = ticks_of(process.pid)
             found.update({f"{part}: Python": int(own * 1e6), f"{part}: programs": int(programs * 1e6)})
-        for name, server in (("PostgreSQL", self.postgres), ("RabbitMQ", self.rabbit)):
-            if server and server.process:
-                found[name] += int(ticks_of_server(server.process.pid) * 1e6)
+        for name, leader in self._servers():
+            found[name] += int(sum(sum(ticks_of(it)) for it in processes_of(leader)) * 1e6)
         return found
+
+    def memory(self) -> Counter[str]:
+        """Bytes of memory by part."""
+        found: Counter[str] = Counter()
+        for part, process in self.workers:
+            found[part] += memory_of(process.pid)
+        for name, leader in self._servers():
+            found[name] += sum(memory_of(it) for it in processes_of(leader))
+        return found
+
+    def _servers(self) -> list[tuple[str, int]]:
+        """The servers that run, with their first processes."""
+        return [(name, server.process.pid) for name, server in (("PostgreSQL", self.postgres), ("RabbitMQ", self.rabbit))
+                if server and server.process]
 
     def end(self) -> None:
         """Ends all."""
@@ -145,14 +169,14 @@ class Fleet:
         self.postgres.kill(signal.SIGINT)
 
 
-def sizes(database: store.Database) -> str:
-    """How large the tables are."""
+def sizes(database: store.Database, counts: bool = True) -> str:
+    """How large the tables are, and how many rows they have."""
     told = []
     for table in TABLES:
         names = "(select inhrelid::regclass from pg_inherits where inhparent = %s::regclass union select %s::regclass)"
         size = store.one(database, f"select sum(pg_total_relation_size(oid)) from {names} as n (oid)", (table, table))
-        count = store.one(database, f"select count(*) from {table}")
-        told.append(f"{table} {int(size) / 1e6:.0f} MB, {count} rows" + (f", {int(size) / count:.0f} bytes each" if count else ""))
+        count = store.one(database, f"select count(*) from {table}") if counts else 0
+        told.append(f"{table} {int(size) / 1e6:.0f} MB" + (f", {count} rows, {int(size) / count:.0f} bytes each" if count else ""))
     return "; ".join(told)
 
 
@@ -171,28 +195,36 @@ class Watch:
             reached = next((when for when, count in reversed(self.published) if count <= done), 0.0)
             lags.append((moment, moment - reached))
 
-    def told(self, first: float, last: float) -> str:
-        """The lag between two moments: the mean, the 95th of a hundred, the worst."""
+    def told(self, first: float, last: float, but: Sequence[tuple[float, float]] = ()) -> str:
+        """The lag between two moments, without what lies between others: the mean, the 95th of a hundred, the worst."""
         found = []
         for name, words in (("lines", "in the inbox"), ("heard", "heard and committed")):
-            lags = sorted(lag for moment, lag in self.lags[name] if first <= moment < last)
+            lags = sorted(lag for moment, lag in self.lags[name]
+                          if first <= moment < last and not any(begin <= moment < end for begin, end in but))
             if lags:
                 found.append(f"{words}: mean {sum(lags) / len(lags):.2f} s, 95% within {lags[len(lags) * 95 // 100]:.2f} s,"
                              f" worst {lags[-1]:.2f} s")
         return "; ".join(found)
 
+    def settled(self, begin: float) -> float:
+        """From when on, behind a moment, no line waited for long any more."""
+        moments = [moment for moment, lag in self.lags["heard"] if moment >= begin]
+        late = [moment for moment, lag in self.lags["heard"] if moment >= begin and lag > SETTLED]
+        return next((moment for moment in moments if not late or moment > late[-1]), float("inf"))
+
 
 def run(asked: argparse.Namespace, folder: Path) -> None:
-    """Lines come at a rate, with a peak in the middle; a session worker is killed and another one is added."""
-    middle = asked.seconds * 2 // 3
-    load = Load(asked.meters, asked.gateways, asked.rate, asked.seconds, asked.peak, middle, middle + asked.peak_seconds)
+    """Lines come at a rate, with peaks at equal distances; a session worker is killed and another one is added."""
+    begins = [asked.seconds * place // (asked.peaks + 1) for place in range(1, asked.peaks + 1)]
+    peaks = tuple((begin, begin + asked.peak_seconds) for begin in begins)
+    load = Load(asked.meters, asked.gateways, asked.rate, asked.seconds, asked.peak, peaks)
     fleet = Fleet(folder, load, True)
     publishers: list[Publisher] = []
     try:
         begun, moment = time.monotonic(), int(time.time())
-        publishers += [Publisher(fleet.config.broker, load, AREA, part, PUBLISHERS, moment) for part in range(PUBLISHERS)]
+        publishers += [Publisher(fleet.config.broker, load, AREA, part, PUBLISHERS, moment, folder) for part in range(PUBLISHERS)]
         while not all(it.ready.value for it in publishers):
-            assert time.monotonic() - begun < DRAIN_LIMIT, "the load wasn't made in time"
+            assert all(it.process.is_alive() for it in publishers), "the load wasn't made"
             time.sleep(0.2)
         count = sum(it.ready.value for it in publishers)
         print(f"{count} lines made in {time.monotonic() - begun:.0f} s", flush=True)
@@ -201,7 +233,7 @@ def run(asked: argparse.Namespace, folder: Path) -> None:
         changes: list[tuple[float, Callable[[], None]]] = [
             (asked.seconds / 4, lambda: fleet.stop("sessions", signal.SIGKILL)), (asked.seconds / 4 + 5, lambda: fleet.start("sessions")),
             (asked.seconds / 2, lambda: fleet.start("sessions"))] if asked.change else []
-        _watched(fleet, load, publishers, count, changes)
+        _watched(fleet, load, publishers, count, changes, asked.tell)
     finally:
         for it in publishers:
             it.process.kill()
@@ -209,46 +241,74 @@ def run(asked: argparse.Namespace, folder: Path) -> None:
         fleet.end()
 
 
-def _watched(fleet: Fleet, load: Load, publishers: Sequence[Publisher], count: int, changes: list[tuple[float, Callable[[], None]]]) -> None:
-    """Has the load come, and prints what became of it."""
-    watch, before, lsn = Watch(), fleet.used(), "0/0"
+@dataclass(frozen=True)
+class Moment:
+    """How far the load was at a moment: seconds since it began, microseconds of a processor by part, lines that were heard."""
+
+    second: float
+    used: Counter[str]
+    heard: int
+
+    def since(self, before: Moment) -> str:
+        """What each part took from another moment on."""
+        seconds, heard = self.second - before.second, max(1, self.heard - before.heard)
+        return "; ".join(f"{name} {micros / seconds / 1e6:.2f} processors, {micros / heard:.1f} us a line"
+                         for name, micros in sorted((self.used - before.used).items()))
+
+
+def _watched(fleet: Fleet, load: Load, publishers: Sequence[Publisher], count: int, changes: list[tuple[float, Callable[[], None]]],
+             tell: int) -> None:
+    """Has the load come, and prints what becomes of it, every so many seconds and at its end."""
+    watch, begun = Watch(), Moment(0.0, fleet.used(), 0)
     with store.connect(fleet.config.database) as database:
         lsn = store.one(database, "select pg_current_wal_lsn()::text")
         start = time.time() + 0.5
         for it in publishers:
             it.begin.value = start
-        limit, heard, used_at = start + load.seconds + DRAIN_LIMIT, 0, None
-        while heard < count and time.time() < limit:
+        limit, last, before = start + load.seconds + DRAIN_LIMIT, begun, begun
+        while last.heard < count and time.time() < limit:
             time.sleep(LOOK)
             now = time.time() - start
             totals = {name: int(value) for name, value in database.execute(
                 "select name, sum(value)::bigint from total where name in ('lines', 'heard') group by name").fetchall()}
-            heard = totals.get("heard", 0)
             watch.see(now, sum(it.published.value for it in publishers), totals)
             while changes and changes[0][0] <= now:
                 changes.pop(0)[1]()
-            if used_at is None and now >= load.peak_from:
-                used_at = (now, fleet.used(), heard)
-        took = time.time() - start
-        _print(watch, load, took, used_at or (took, fleet.used(), heard), before)
+            last = Moment(now, begun.used, totals.get("heard", 0))
+            if now >= before.second + tell:
+                last = Moment(now, fleet.used(), last.heard)
+                _tell(fleet, database, watch, before, last)
+                before = last
+        last = Moment(time.time() - start, fleet.used(), last.heard)
+        _print(watch, load, begun, last)
         _judge(database, count, lsn)
 
 
-def _print(watch: Watch, load: Load, took: float, used_at: tuple[float, Counter[str], int], before: Counter[str]) -> None:
-    """Lag and processors."""
-    seconds, used, heard = used_at
+def _tell(fleet: Fleet, database: store.Database, watch: Watch, before: Moment, now: Moment) -> None:
+    """A part of a long load."""
+    print(f"{before.second:.0f} to {now.second:.0f} s: {now.heard - before.heard} lines heard; {watch.told(before.second, now.second)};"
+          f" load {os.getloadavg()[0]:.1f}\n  {now.since(before)}\n  memory: "
+          + "; ".join(f"{name} {size / 1e6:.0f} MB" for name, size in sorted(fleet.memory().items()))
+          + f"\n  {sizes(database, False)}", flush=True)
+
+
+def _print(watch: Watch, load: Load, begun: Moment, last: Moment) -> None:
+    """Lag and processors of all of it."""
     print(f"load of this machine {os.getloadavg()[0]:.1f} on {os.cpu_count()} processors")
-    print(f"steady, {load.rate} lines/s for {load.peak_from} s: {watch.told(5, load.peak_from)}")
-    print(f"peak, {load.rate_at(load.peak_from):.0f} lines/s for {load.peak_until - load.peak_from} s: "
-          f"{watch.told(load.peak_from, load.peak_until)}")
-    print(f"behind it: {watch.told(load.peak_until + 2, load.seconds)}; all was heard {took - load.seconds:.1f} s after the last was due")
-    for name, micros in sorted((used - before).items()):
-        print(f"  {name}: {micros / seconds / 1e6:.2f} processors, {micros / max(1, heard):.1f} us a line (steady)")
+    busy = [(begin, watch.settled(until)) for begin, until in load.peaks]
+    print(f"steady, {load.rate} lines/s: {watch.told(5, load.seconds, busy)}")
+    for (begin, until), (_, settled) in zip(load.peaks, busy, strict=True):
+        print(f"peak, {load.rate * load.peak:.0f} lines/s for {until - begin} s from second {begin} on: {watch.told(begin, settled)};"
+              f" no line waited {SETTLED:.0f} s any more {settled - until:.0f} s behind it")
+    print(f"all was heard {last.second - load.seconds:.1f} s after the last was due")
+    print(f"  {last.since(begun)}")
 
 
 def _judge(database: store.Database, count: int, lsn: str) -> None:
     """What stands in the tables, and how large they are."""
-    lines, apart = database.execute("select count(*), count(distinct (gateway, epoch, message, place)) from line").fetchone() or (0, 0)
+    database.execute("set work_mem = '1GB'")
+    lines = store.one(database, "select count(*) from line")
+    apart = store.one(database, "select count(*) from (select distinct gateway, epoch, message, place from line) as them")
     readings = store.one(database, "select count(*) from reading")
     asked = store.one(database, "select coalesce(sum(value), 0)::bigint from total where name = 'asked'")
     print(f"published {count}, committed {lines}: {count - apart} lost, {lines - apart} doubled; {readings} readings of {count // COPIES}"
@@ -307,8 +367,8 @@ def main() -> int:
     kinds = parser.add_subparsers(required=True)
     made = kinds.add_parser("run")
     made.set_defaults(work=run)
-    for name, value in (("meters", 100_000), ("gateways", 2000), ("rate", 6700), ("seconds", 60), ("peak_seconds", 10), ("intakes", 1),
-                        ("sessions", 1)):
+    for name, value in (("meters", 100_000), ("gateways", 2000), ("rate", 6700), ("seconds", 60), ("peaks", 1), ("peak_seconds", 10), ("intakes", 1),
+                        ("sessions", 1), ("tell", 600)):
         made.add_argument(f"--{name.replace('_', '-')}", type=int, default=value)
     made.add_argument("--peak", type=float, default=5.0)
     made.add_argument("--change", action="store_true", help="a session worker is killed, one comes in its place, and one more")

@@ -3,14 +3,17 @@ from __future__ import annotations
 
 import hashlib
 import multiprocessing
+import pickle
 import random
+import tempfile
 import time
 from collections import defaultdict
-from collections.abc import Iterator, Sequence
+from collections.abc import Iterator
 from ctypes import c_double, c_longlong
 from dataclasses import dataclass
 from multiprocessing.sharedctypes import RawValue
-from typing import Any
+from pathlib import Path
+from typing import IO, Any
 
 import messages
 import pika
@@ -27,23 +30,18 @@ EPOCH, COPIES, LONGEST = 1, 2, 100
 
 @dataclass(frozen=True)
 class Load:
-    """How much comes: so many lines a second, and in these seconds so many times as many."""
+    """How much comes: so many lines a second, and between some seconds and others so many times as many."""
 
     meters: int
     gateways: int
     rate: int
     seconds: int
     peak: float = 5.0
-    peak_from: int = 0
-    peak_until: int = 0
-
-    def rate_at(self, second: float) -> float:
-        """Lines a second at a moment of the load."""
-        return self.rate * (self.peak if self.peak_from <= second < self.peak_until else 1.0)
+    peaks: tuple[tuple[int, int], ...] = ()
 
     def messages_until(self, second: float) -> int:
         """How many messages of meters there are until a moment."""
-        peak = max(0.0, min(second, self.peak_until) - self.peak_from) if self.peak_until else 0.0
+        peak = sum(max(0.0, min(second, until) - begin) for begin, until in self.peaks)
         return int((second + peak * (self.peak - 1)) * self.rate / COPIES)
 
 
@@ -79,13 +77,16 @@ def frame_of(number: int, counter: int) -> str:
     return str(format_a(made).hex())
 
 
-def bodies(load: Load, part: int, parts: int, moment: int) -> list[tuple[float, str, bytes, int]]:
-    """What the gateways of one part publish, in the order of time: when, by whom, what, how many lines.
+# what a gateway publishes: when, by whom, what, how many lines
+Published = tuple[float, str, bytes, int]
+
+
+def bodies(load: Load, part: int, parts: int, moment: int) -> Iterator[Published]:
+    """What the gateways of one part publish, in the order of time.
 
     The meters send one after the other, from the first on again; message i is heard by the gateways i % n and i % n + 1 of its part."""
     own = range(part, load.gateways, parts)
     numbers: dict[int, int] = defaultdict(int)
-    found = []
     for step in range(int(load.seconds / GATHERED)):
         first, last = load.messages_until(step * GATHERED), load.messages_until((step + 1) * GATHERED)
         heard: dict[int, list[str]] = {gateway: [] for gateway in own}
@@ -101,30 +102,34 @@ def bodies(load: Load, part: int, parts: int, moment: int) -> list[tuple[float, 
                 numbers[gateway] += 1
                 piece = lines[start:start + LONGEST]
                 body = lines_body(EPOCH, numbers[gateway], moment + int((step + 1) * GATHERED), "".join(piece).encode("ascii"))
-                found.append((due, f"g{gateway}", body, len(piece)))
-    return sorted(found, key=lambda it: it[0])
+                yield due, f"g{gateway}", body, len(piece)
 
 
 class Publisher:
-    """A process that publishes a part of the load over one connection, acknowledged as it comes."""
+    """A process that makes a part of the load, in a file, and publishes it over one connection, acknowledged as it comes."""
 
-    def __init__(self, told: Broker, load: Load, area: str, part: int, parts: int, moment: int) -> None:
+    def __init__(self, told: Broker, load: Load, area: str, part: int, parts: int, moment: int, folder: Path) -> None:
         self.begin, self.ready, self.published = RawValue(c_double, 0.0), RawValue(c_longlong, 0), RawValue(c_longlong, 0)
-        self.process = multiprocessing.Process(target=self._work, args=(told, load, area, part, parts, moment), daemon=True)
+        self.process = multiprocessing.Process(target=self._work, args=(told, load, area, part, parts, moment, folder), daemon=True)
         self.process.start()
 
-    def _work(self, told: Broker, load: Load, area: str, part: int, parts: int, moment: int) -> None:
-        made = bodies(load, part, parts, moment)
-        self.ready.value = sum(count for _, _, _, count in made)
-        while not self.begin.value:
-            time.sleep(0.01)
-        with broker.connected(told) as connection:
-            channel = connection.channel()
-            # (each publishing waiting for its acknowledgement would hold this process up; what is lost shows at the end)
-            channel._impl.confirm_delivery(lambda _frame: None)
-            self._publish(connection, channel, area, made)
+    def _work(self, told: Broker, load: Load, area: str, part: int, parts: int, moment: int, folder: Path) -> None:
+        with tempfile.TemporaryFile(dir=folder) as file:
+            count = 0
+            for it in bodies(load, part, parts, moment):
+                pickle.dump(it, file)
+                count += it[3]
+            file.seek(0)
+            self.ready.value = count
+            while not self.begin.value:
+                time.sleep(0.01)
+            with broker.connected(told) as connection:
+                channel = connection.channel()
+                # (each publishing waiting for its acknowledgement would hold this process up; what is lost shows at the end)
+                channel._impl.confirm_delivery(lambda _frame: None)
+                self._publish(connection, channel, area, read_back(file))
 
-    def _publish(self, connection: Any, channel: Any, area: str, made: Sequence[tuple[float, str, bytes, int]]) -> None:
+    def _publish(self, connection: Any, channel: Any, area: str, made: Iterator[Published]) -> None:
         properties = pika.BasicProperties(delivery_mode=broker.PERSISTENT)
         for place, (due, gateway, body, count) in enumerate(made):
             while (wait := self.begin.value + due - time.time()) > 0:
@@ -134,6 +139,15 @@ class Publisher:
             channel.basic_publish(broker.EXCHANGE, broker.up_key(area, gateway), body, properties, mandatory=True)
             self.published.value += count
         connection.process_data_events(1.0)
+
+
+def read_back(file: IO[bytes]) -> Iterator[Published]:
+    """What stands in a file of what was made, one behind the other."""
+    while True:
+        try:
+            yield pickle.load(file)
+        except EOFError:
+            return
 
 
 def shuffled_messages(load: Load, count: int, start: int) -> Iterator[tuple[str, str]]:

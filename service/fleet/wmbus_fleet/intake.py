@@ -20,8 +20,8 @@ from .store import Database
 
 log = logging.getLogger("wmbus")
 
-# so many messages in hand, so many lines a transaction
-PREFETCH, MOST = 200, 4000
+# so many messages in hand (2,000 gateways send a thousand a second), so many lines a transaction
+PREFETCH, MOST = 800, 4000
 LOOK, PAUSE = 0.05, 0.5
 # a gateway is asked again where nothing came of it
 ASKED_SECONDS = 2
@@ -154,7 +154,8 @@ class Consuming:
     def turn(self) -> None:
         """A batch, once it is due."""
         lines = sum(len(message.lines) for _, _, message in self.held if message)
-        is_due = time.monotonic() - self.since >= self.intake.config.interval or lines >= MOST
+        # (the broker gives no more before some are acknowledged)
+        is_due = time.monotonic() - self.since >= self.intake.config.interval or lines >= MOST or len(self.held) >= PREFETCH
         self.connection.process_data_events(0 if self.held and is_due else LOOK)
         if not self.held or not is_due:
             return
