@@ -222,22 +222,20 @@ def run(asked: argparse.Namespace, folder: Path) -> None:
     publishers: list[Publisher] = []
     try:
         begun, moment = time.monotonic(), int(time.time())
-        publishers += [Publisher(fleet.config.broker, load, AREA, part, PUBLISHERS, moment, folder) for part in range(PUBLISHERS)]
-        while not all(it.ready.value for it in publishers):
-            assert all(it.process.is_alive() for it in publishers), "the load wasn't made"
+        publishers += [Publisher(fleet.config.broker, load, AREA, part, PUBLISHERS, moment, folder / f"load.{part}")
+                       for part in range(PUBLISHERS)]
+        while not all(it.is_ready() for it in publishers):
             time.sleep(0.2)
-        count = sum(it.ready.value for it in publishers)
-        print(f"{count} lines made in {time.monotonic() - begun:.0f} s", flush=True)
+        print(f"{load.lines} lines, the first of them made in {time.monotonic() - begun:.0f} s", flush=True)
         for part in ["intake"] * asked.intakes + ["sessions"] * asked.sessions:
             fleet.start(part)
         changes: list[tuple[float, Callable[[], None]]] = [
             (asked.seconds / 4, lambda: fleet.stop("sessions", signal.SIGKILL)), (asked.seconds / 4 + 5, lambda: fleet.start("sessions")),
             (asked.seconds / 2, lambda: fleet.start("sessions"))] if asked.change else []
-        _watched(fleet, load, publishers, count, changes, asked.tell)
+        _watched(fleet, load, publishers, changes, asked.tell)
     finally:
         for it in publishers:
-            it.process.kill()
-            it.process.join()
+            it.end()
         fleet.end()
 
 
@@ -256,8 +254,7 @@ class Moment:
                          for name, micros in sorted((self.used - before.used).items()))
 
 
-def _watched(fleet: Fleet, load: Load, publishers: Sequence[Publisher], count: int, changes: list[tuple[float, Callable[[], None]]],
-             tell: int) -> None:
+def _watched(fleet: Fleet, load: Load, publishers: Sequence[Publisher], changes: list[tuple[float, Callable[[], None]]], tell: int) -> None:
     """Has the load come, and prints what becomes of it, every so many seconds and at its end."""
     watch, begun = Watch(), Moment(0.0, fleet.used(), 0)
     with store.connect(fleet.config.database) as database:
@@ -266,7 +263,7 @@ def _watched(fleet: Fleet, load: Load, publishers: Sequence[Publisher], count: i
         for it in publishers:
             it.begin.value = start
         limit, last, before = start + load.seconds + DRAIN_LIMIT, begun, begun
-        while last.heard < count and time.time() < limit:
+        while last.heard < load.lines and time.time() < limit:
             time.sleep(LOOK)
             now = time.time() - start
             totals = {name: int(value) for name, value in database.execute(
@@ -281,7 +278,7 @@ def _watched(fleet: Fleet, load: Load, publishers: Sequence[Publisher], count: i
                 before = last
         last = Moment(time.time() - start, fleet.used(), last.heard)
         _print(watch, load, begun, last)
-        _judge(database, count, lsn)
+        _judge(database, load.lines, lsn)
 
 
 def _tell(fleet: Fleet, database: store.Database, watch: Watch, before: Moment, now: Moment) -> None:

@@ -3,13 +3,13 @@ from __future__ import annotations
 
 import hashlib
 import multiprocessing
+import os
 import pickle
 import random
-import tempfile
 import time
 from collections import defaultdict
 from collections.abc import Iterator
-from ctypes import c_double, c_longlong
+from ctypes import c_bool, c_double, c_longlong
 from dataclasses import dataclass
 from multiprocessing.sharedctypes import RawValue
 from pathlib import Path
@@ -26,6 +26,8 @@ from wmbus_fleet.messages import lines_body
 # seconds of which a gateway puts the lines into one message; every so many meters' messages open an access window
 GATHERED, LISTENING = 2.0, 10
 EPOCH, COPIES, LONGEST = 1, 2, 100
+# so many seconds are made before the first is published; so many messages of gateways are written to the file at once
+AHEAD, FLUSHED = 60.0, 500
 
 
 @dataclass(frozen=True)
@@ -43,6 +45,11 @@ class Load:
         """How many messages of meters there are until a moment."""
         peak = sum(max(0.0, min(second, until) - begin) for begin, until in self.peaks)
         return int((second + peak * (self.peak - 1)) * self.rate / COPIES)
+
+    @property
+    def lines(self) -> int:
+        """How many lines there are in all."""
+        return COPIES * self.messages_until(int(self.seconds / GATHERED) * GATHERED)
 
 
 def address_of(number: int) -> bytes:
@@ -106,28 +113,59 @@ def bodies(load: Load, part: int, parts: int, moment: int) -> Iterator[Published
 
 
 class Publisher:
-    """A process that makes a part of the load, in a file, and publishes it over one connection, acknowledged as it comes."""
+    """A process that makes a part of the load, in a file, and one that publishes it over one connection, acknowledged as it comes."""
 
-    def __init__(self, told: Broker, load: Load, area: str, part: int, parts: int, moment: int, folder: Path) -> None:
-        self.begin, self.ready, self.published = RawValue(c_double, 0.0), RawValue(c_longlong, 0), RawValue(c_longlong, 0)
-        self.process = multiprocessing.Process(target=self._work, args=(told, load, area, part, parts, moment, folder), daemon=True)
-        self.process.start()
+    def __init__(self, told: Broker, load: Load, area: str, part: int, parts: int, moment: int, path: Path) -> None:
+        self.begin, self.published = RawValue(c_double, 0.0), RawValue(c_longlong, 0)
+        # how many messages are made, until which second, and whether these are all
+        self.made, self.until, self.is_made = RawValue(c_longlong, 0), RawValue(c_double, 0.0), RawValue(c_bool, False)
+        path.touch()
+        self.processes = [multiprocessing.Process(target=self._make, args=(load, part, parts, moment, path), daemon=True),
+                          multiprocessing.Process(target=self._work, args=(told, area, path), daemon=True)]
+        for process in self.processes:
+            process.start()
 
-    def _work(self, told: Broker, load: Load, area: str, part: int, parts: int, moment: int, folder: Path) -> None:
-        with tempfile.TemporaryFile(dir=folder) as file:
-            count = 0
-            for it in bodies(load, part, parts, moment):
+    def is_ready(self) -> bool:
+        """Whether enough is made; it is made faster than it is published."""
+        assert self.is_made.value or self.processes[0].is_alive(), "the load wasn't made"
+        return bool(self.is_made.value) or self.until.value >= AHEAD
+
+    def end(self) -> None:
+        """Ends both."""
+        for process in self.processes:
+            process.kill()
+            process.join()
+
+    def _make(self, load: Load, part: int, parts: int, moment: int, path: Path) -> None:
+        os.nice(10)
+        with open(path, "wb") as file:
+            for count, it in enumerate(bodies(load, part, parts, moment), 1):
                 pickle.dump(it, file)
-                count += it[3]
-            file.seek(0)
-            self.ready.value = count
-            while not self.begin.value:
+                if count % FLUSHED == 0:
+                    file.flush()
+                    self.made.value, self.until.value = count, it[0]
+            file.flush()
+            self.made.value = count
+            self.is_made.value = True
+
+    def _work(self, told: Broker, area: str, path: Path) -> None:
+        while not self.begin.value:
+            time.sleep(0.01)
+        with open(path, "rb") as file, broker.connected(told) as connection:
+            channel = connection.channel()
+            # (each publishing waiting for its acknowledgement would hold this process up; what is lost shows at the end)
+            channel._impl.confirm_delivery(lambda _frame: None)
+            self._publish(connection, channel, area, self._read_back(file))
+
+    def _read_back(self, file: IO[bytes]) -> Iterator[Published]:
+        """What was made, one behind the other."""
+        read = 0
+        while not (self.is_made.value and read == self.made.value):
+            if read == self.made.value:
                 time.sleep(0.01)
-            with broker.connected(told) as connection:
-                channel = connection.channel()
-                # (each publishing waiting for its acknowledgement would hold this process up; what is lost shows at the end)
-                channel._impl.confirm_delivery(lambda _frame: None)
-                self._publish(connection, channel, area, read_back(file))
+            else:
+                yield pickle.load(file)
+                read += 1
 
     def _publish(self, connection: Any, channel: Any, area: str, made: Iterator[Published]) -> None:
         properties = pika.BasicProperties(delivery_mode=broker.PERSISTENT)
@@ -139,15 +177,6 @@ class Publisher:
             channel.basic_publish(broker.EXCHANGE, broker.up_key(area, gateway), body, properties, mandatory=True)
             self.published.value += count
         connection.process_data_events(1.0)
-
-
-def read_back(file: IO[bytes]) -> Iterator[Published]:
-    """What stands in a file of what was made, one behind the other."""
-    while True:
-        try:
-            yield pickle.load(file)
-        except EOFError:
-            return
 
 
 def shuffled_messages(load: Load, count: int, start: int) -> Iterator[tuple[str, str]]:
