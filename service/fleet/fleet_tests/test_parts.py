@@ -7,6 +7,7 @@ import subprocess
 import time
 from collections.abc import Iterator
 from contextlib import closing
+from dataclasses import replace
 from functools import partial
 from pathlib import Path
 from typing import Any
@@ -21,7 +22,7 @@ from tests.stand_in import stand_in
 from wmbus_fleet import backup, broker, commandline, commands, downlinks, sessions, store
 from wmbus_fleet.config import Config, Gateway, Programs, Ticks
 from wmbus_fleet.gateway import Agent, arm, open_gateway
-from wmbus_fleet.intake import Intake
+from wmbus_fleet.intake import Consuming, Intake
 from wmbus_fleet.messages import Again, Down, Message, again_body, down_body, frames_in, gateway_in, lines_body, read_lines, read_order
 from wmbus_service.config import Config as ServiceConfig
 from wmbus_service.config import Receiver
@@ -223,6 +224,24 @@ def test_the_very_next_is_taken(fleet: Fleet) -> None:
     rows = fleet.database.execute("select gateway, epoch, message, place, text, address from inbox order by id").fetchall()
     assert rows == [(name, 5, 1, 1, line, "-"), (name, 6, 1, 1, line, "-")]
     assert fleet.database.execute("select gateway, epoch, number from missing").fetchall() == [(name, 5, 1)]
+
+
+def test_all_that_the_broker_gives_is_taken_at_once(fleet: Fleet, monkeypatch: pytest.MonkeyPatch) -> None:
+    """It gives no more before some are acknowledged: an intake that gathers on would hold up all gateways."""
+    monkeypatch.setattr("wmbus_fleet.intake.PREFETCH", 3)
+    with broker.connected(fleet.config.broker) as connection:
+        consuming = Consuming(Intake(replace(fleet.config, interval=3600.0), fleet.database, "test"), connection, [fleet.area])
+        # (as behind a batch)
+        consuming.since = time.monotonic()
+        channel = broker.opened(connection)
+        for number in range(1, 6):
+            broker.publish(channel, broker.EXCHANGE, broker.up_key(fleet.area, fleet.gateway), lines_body(5, number, 9, b""))
+
+        def is_taken() -> bool:
+            consuming.turn()
+            return fleet.fence() == (5, 3)
+
+        until(is_taken)
 
 
 def test_a_gateway_whose_epoch_is_behind_is_told(fleet: Fleet) -> None:
