@@ -30,8 +30,8 @@ from wmbus_fleet import broker, commands, store  # noqa: E402
 from wmbus_fleet.config import Config, Programs  # noqa: E402
 
 AREA, PUBLISHERS, DRAIN_LIMIT = "north", 2, 600
-# a peak is over where no line waits for so many seconds any more
-LOOK, SETTLED = 0.25, 3.0
+# a peak is over where for so long (the second) no line waits for so many seconds (the first)
+LOOK, SETTLED, CALM = 0.25, 3.0, 30.0
 TABLES = ("meter", "line", "reading", "refusal", "inbox", "gateway", "total")
 TUNED = """shared_buffers = 1GB
 max_wal_size = 4GB
@@ -207,10 +207,12 @@ class Watch:
         return "; ".join(found)
 
     def settled(self, begin: float) -> float:
-        """From when on, behind a moment, no line waited for long any more."""
-        moments = [moment for moment, lag in self.lags["heard"] if moment >= begin]
-        late = [moment for moment, lag in self.lags["heard"] if moment >= begin and lag > SETTLED]
-        return next((moment for moment in moments if not late or moment > late[-1]), float("inf"))
+        """When, behind a moment, a line had waited for long for the last time in half a minute."""
+        late = begin
+        for moment, lag in self.lags["heard"]:
+            if lag > SETTLED and begin <= moment < late + CALM:
+                late = moment
+        return late
 
 
 def run(asked: argparse.Namespace, folder: Path) -> None:
