@@ -366,8 +366,8 @@ def main() -> int:
     kinds = parser.add_subparsers(required=True)
     made = kinds.add_parser("run")
     made.set_defaults(work=run)
-    for name, value in (("meters", 100_000), ("gateways", 2000), ("rate", 6700), ("seconds", 60), ("peaks", 1), ("peak_seconds", 10), ("intakes", 1),
-                        ("sessions", 1), ("tell", 600)):
+    for name, value in (("meters", 100_000), ("gateways", 2000), ("rate", 6700), ("seconds", 60), ("peaks", 1), ("peak_seconds", 10),
+                        ("intakes", 1), ("sessions", 1), ("tell", 600)):
         made.add_argument(f"--{name.replace('_', '-')}", type=int, default=value)
     made.add_argument("--peak", type=float, default=5.0)
     made.add_argument("--change", action="store_true", help="a session worker is killed, one comes in its place, and one more")
