@@ -6,7 +6,7 @@ ghost use Rattle.afl_layer.specs.Header.{afl_bytes, Fits, IsPlaced, afl_at};
 
 use crate::fields::{KI, MAC, MCL, MCR, ML, MORE};
 use crate::header::{AFL_CI, Afl};
-use steps::put;
+use lists::put;
 
 // A bit of FCL, where it is set.
 fn bit_where(set: bool, bit: u16) -> u16
@@ -99,7 +99,7 @@ fn put_fields(afl: &Afl, out: &mut [u8]) -> usize
 }
 
 // Writes the header.
-#[tactic(auto, using(steps::proofs::Puts::behind_both))]
+#[tactic(auto, using(lists::proofs::Puts::behind_both))]
 fn put_header(afl: &Afl, out: &mut [u8]) -> usize
     requires { length out.old ≡ 21 }
     ensures len { result ≡ length (afl_bytes (fcl_of afl.now) afl.now) }

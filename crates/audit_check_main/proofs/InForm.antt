@@ -12,7 +12,7 @@ use Rattle.stranger_ring.specs.declared.strangers.Heard.{Heard}
 use Rattle.meter_slots.specs.declared.entry.Entry.{Entry}
 use Rattle.meter_slots.specs.declared.reading.Reading.{Reading}
 use Rattle.meter_slots.specs.Journal.{SlotView, last_counter, readings}
-use Rattle.outer_io.specs.Each.{Each}
+use Rattle.lists.specs.Each.{Each}
 use Rattle.paper.specs.Pieces.{labelled, labelled_two, labelled_bytes}
 use Rattle.plain_text.specs.Numbers.{number_of}
 use Rattle.plain_text.specs.Parts.{fields_of}
@@ -26,8 +26,8 @@ use Rattle.report_text.proofs.LineOutcomes.{outcome_is}
 use Rattle.report_text.proofs.LineSteps.{behind_word, behind_two, fields_of_two, fields_of_more}
 use Rattle.report_text.proofs.LineReport.{commission_is, numbers_front, numbers_is, behind_steps, rings_others, head_others, end_others}
 use Rattle.roster_file.proofs.ReadBack.{number_back}
-use Rattle.audit_check_main.specs.declared.lists.Open.{Open}
-use Rattle.audit_check_main.specs.declared.lists.Open.TheVariants as opens
+use Rattle.audit_check_main.specs.declared.line_lists.Open.{Open}
+use Rattle.audit_check_main.specs.declared.line_lists.Open.TheVariants as opens
 use Rattle.audit_check_main.specs.Lists.{is_meter, is_strangers, is_step, is_stranger, both, numbers_in, pair_of, open_in, is_meters, is_of_strangers, is_faulty, AreInForm}
 
 -- ---- lines on top of others

@@ -5,7 +5,7 @@ use Rattle.std.specs.List.{enumerate_from}
 use Rattle.std.proofs.lemmas.List.{take_more, take-append-drop}
 use Rattle.std.proofs.Math.Seq.{take-length}
 use Rattle.outer_io.specs.declared.sources.Source as sources
-use Rattle.outer_io.specs.Each.{Each, EachWith, PassUntil, IsFirst}
+use Rattle.lists.specs.Each.{Each, EachWith, PassUntil, IsFirst}
 use Rattle.outer_io.specs.Shown.{Change, SourceShown, source_change, ReadFailed, LosesNothing}
 use Rattle.audit_check_main.specs.Run.{IsReadPast, WasRead, next_change, source_changes}
 

@@ -6,7 +6,7 @@ use Rattle.std.proofs.lemmas.Bool.{cases_lt}
 use Rattle.std.proofs.lemmas.List.{length-map, map-append}
 use Rattle.std.proofs.lemmas.List.Elements.{filter-append}
 use Rattle.std.proofs.Math.Seq.{take-length}
-use Rattle.outer_io.specs.Each.{Each, EachWith, PassUntil, IsFirst}
+use Rattle.lists.specs.Each.{Each, EachWith, PassUntil, IsFirst}
 use Rattle.line_reader.specs.Lines.{is_over}
 use Rattle.meter_address.specs.declared.address.Address.{Address}
 use Rattle.meter_slots.specs.Journal.{Start, SlotView}

@@ -1,7 +1,7 @@
 -- The first input that goes past the limits.
 use Rattle.std.proofs.Common.{◌≡◌, ℕ, zero, suc, ◌+◌, ◌<◌, List, [], ◌∷◌, length, take, get_or, inl, inr, subst, arith}
 use Rattle.std.specs.List.{enumerate_from}
-use Rattle.outer_io.specs.Each.{Each, PassUntil, IsFirst}
+use Rattle.lists.specs.Each.{Each, PassUntil, IsFirst}
 
 stop_at : {A : Type 0} (P Q : A → Type 0) (n m i : ℕ) (xs : List A) (x : A) → i < length xs → x ≡ get_or xs i x → Each P (take i xs) → Q x
     → m ≡ n + i

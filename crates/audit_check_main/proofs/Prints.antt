@@ -4,7 +4,7 @@ use Rattle.std.specs.Prelude.{◌≤◌, ◌^◌, Option, Some, None, IfSome}
 use Rattle.std.specs.List.{flat_map, All}
 use Rattle.std.proofs.lemmas.List.Elements.{All-nil, All-cons}
 use Rattle.std.proofs.lemmas.List.{length-map}
-use Rattle.outer_io.specs.Each.{Each, EachWith}
+use Rattle.lists.specs.Each.{Each, EachWith}
 use Rattle.paper.specs.Puts.{Puts}
 use Rattle.paper.proofs.Calls.{none, then, three_make, four_make}
 use Rattle.paper.proofs.Items.{is_put}

@@ -12,8 +12,8 @@ use Rattle.meter_slots.proofs.JournalLaws.{front_back}
 use Rattle.plain_text.specs.Numbers.{is_plain, number_of}
 use Rattle.plain_text.specs.Parts.{fields_of}
 use Rattle.report_text.specs.Orders.{Told, lines_in, pair_in, meter_heading, strangers_heading, with_steps, with_line, told, orders}
-use Rattle.audit_check_main.specs.declared.lists.Open.{Open}
-use Rattle.audit_check_main.specs.declared.lists.Open.TheVariants as opens
+use Rattle.audit_check_main.specs.declared.line_lists.Open.{Open}
+use Rattle.audit_check_main.specs.declared.line_lists.Open.TheVariants as opens
 use Rattle.audit_check_main.specs.Lists.{is_meter, is_strangers, is_step, is_stranger, small_number, both, numbers_in, pair_of, open_in, is_meters, is_of_strangers, is_faulty, AreInForm, IsFirstFaulty, as_many, lists_printed}
 use Rattle.audit_check_main.specs.Reading.{ListsRead, onto_last, joined_to, told_above, StandsFor, TakesStep, TakesStranger}
 

@@ -6,7 +6,7 @@ use Rattle.std.proofs.lemmas.List.Sums.{count_by-le-length}
 use Rattle.std.proofs.lemmas.List.Splits.{length-slice_split}
 use Rattle.report_text.specs.Orders.{lines_in}
 use Rattle.outer_io.specs.Bytes.{AppendsFront}
-use Rattle.outer_io.specs.Each.{Each, PassUntil, IsFirst}
+use Rattle.lists.specs.Each.{Each, PassUntil, IsFirst}
 use Rattle.outer_io.specs.Shown.{Change, SourceShown, SinkShown, ReadFailed, WriteFailed, LosesNothing, IsSilent}
 use Rattle.audit_check_main.specs.declared.status.AuditStatus.{AuditStatus}
 use Rattle.audit_check_main.specs.declared.status.AuditStatus.TheVariants as statuses

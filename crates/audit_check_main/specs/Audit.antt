@@ -1,6 +1,6 @@
 -- What the audit of a printed session answers.
 use Rattle.std.specs.Prelude.{ℕ, ◌≡◌, false, true, List, length, map, reverse, Option, Some, IfSome, Ok, Err}
-use Rattle.outer_io.specs.Each.{Each, IsFirst}
+use Rattle.lists.specs.Each.{Each, IsFirst}
 use Rattle.line_reader.specs.Lines.{is_over, all_lines}
 use Rattle.meter_address.specs.declared.address.Address.{Address}
 use Rattle.meter_slots.specs.declared.counts.Ended.TheVariants as ends

@@ -1,6 +1,6 @@
 -- Words of private contracts: a report that is compared with the text of a session.
 use Rattle.std.specs.Prelude.{ℕ, ◌≡◌, ◌<◌, ◌≤◌, ◌^◌, false, List, [], map, length, reverse, slice_index_or, Option, Some, None, IfSome, Ok}
-use Rattle.outer_io.specs.Each.{Each}
+use Rattle.lists.specs.Each.{Each}
 use Rattle.line_reader.specs.Lines.{is_over}
 use Rattle.meter_address.specs.Address.{AreApart}
 use Rattle.meter_address.specs.declared.address.Address.{Address}

@@ -12,7 +12,7 @@ use Rattle.receivers.specs.declared.class.Class.TheVariants as classes
 use Rattle.receivers.specs.Classes.{counts_of, is_own, is_strange, is_unframed, is_bad}
 use Rattle.receivers.specs.Receiver.{no_counts}
 use Rattle.receivers.specs.Told.{told_of}
-use Rattle.outer_io.specs.Each.{Each}
+use Rattle.lists.specs.Each.{Each}
 use Rattle.audit_check_main.specs.declared.hearing.Sort.{Sort}
 use Rattle.audit_check_main.specs.declared.hearing.Sort.TheVariants as sorts
 use Rattle.audit_check_main.specs.declared.whose.Whose.{Whose}

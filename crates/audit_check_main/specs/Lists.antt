@@ -4,8 +4,8 @@ use Rattle.std.specs.Prelude.{Option, Some, None, is_some}
 use Rattle.plain_text.specs.Numbers.{number_of}
 use Rattle.plain_text.specs.Parts.{fields_of}
 use Rattle.report_text.specs.Orders.{Orders, begins}
-use Rattle.audit_check_main.specs.declared.lists.Open.{Open}
-use Rattle.audit_check_main.specs.declared.lists.Open.TheVariants as opens
+use Rattle.audit_check_main.specs.declared.line_lists.Open.{Open}
+use Rattle.audit_check_main.specs.declared.line_lists.Open.TheVariants as opens
 
 -- ---- lines
 

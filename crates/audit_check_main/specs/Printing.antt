@@ -5,7 +5,7 @@ use Rattle.meter_address.specs.declared.address.Address.{Address}
 use Rattle.paper.specs.Puts.{Puts}
 use Rattle.meter_slots.specs.Journal.{Start, SlotView}
 use Rattle.meter_slots.specs.declared.counts.Ended.TheVariants as ends
-use Rattle.outer_io.specs.Each.{Each}
+use Rattle.lists.specs.Each.{Each}
 use Rattle.stranger_ring.specs.declared.strangers.Heard.{Heard}
 use Rattle.receivers.specs.declared.told.Told.{Told}
 use Rattle.receivers.specs.Orders.{IsOrderedSlot, AreOrderedStrangers}

@@ -2,8 +2,8 @@
 use Rattle.std.specs.Prelude.{ℕ, ◌≡◌, List, [], ◌∷◌, ◌++◌, length, filter, Option, Some, None}
 use Rattle.std.specs.Borrow.{Bor}
 use Rattle.report_text.specs.Orders.{Told, lines_in, with_line}
-use Rattle.audit_check_main.specs.declared.lists.Open.{Open}
-use Rattle.audit_check_main.specs.declared.lists.Open.TheVariants as opens
+use Rattle.audit_check_main.specs.declared.line_lists.Open.{Open}
+use Rattle.audit_check_main.specs.declared.line_lists.Open.TheVariants as opens
 use Rattle.audit_check_main.specs.Lists.{is_meter, open_in, pair_of}
 
 -- the lines of what is left of a text, if anything is

@@ -2,7 +2,7 @@
 use Rattle.std.specs.Prelude.{ℕ, ◌≡◌, ◌&&◌, ◌<◌, ◌≤◌, nat_eq, nat_le, Bool, true, false, List, [], ◌∷◌, codes, length, Option, Some, None, IfSome, IsTrue, if◌then◌else◌}
 use Rattle.std.specs.Cmp.Lexicographic.{pointwise}
 use Rattle.outer_io.specs.Bytes.{Moves, AppendsFront}
-use Rattle.outer_io.specs.Each.{Each, EachWith, IsFirst}
+use Rattle.lists.specs.Each.{Each, EachWith, IsFirst}
 use Rattle.outer_io.specs.Shown.{Change, SourceShown, SinkShown, source_change, ReadFailed, WriteFailed, LosesNothing, IsSilent}
 use Rattle.outer_io.specs.declared.sources.Source as sources
 use Rattle.audit_check_main.specs.declared.status.AuditStatus.{AuditStatus}

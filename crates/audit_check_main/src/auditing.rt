@@ -1,6 +1,6 @@
 //! The audit.
 ghost use Rattle.std.specs.Prelude.{◌≡◌, ◌<◌, ◌≤◌, ◌+◌, ◌^◌, List, ℕ, false, true, length, map, Ok, Err, IfOk, MatchOption, option_copied};
-ghost use Rattle.outer_io.specs.Each.{Each, IsFirst};
+ghost use Rattle.lists.specs.Each.{Each, IsFirst};
 ghost use Rattle.line_reader.specs.Lines.{is_over};
 ghost use Rattle.report_text.specs.Orders.{lines_in};
 ghost use Rattle.audit_check_main.specs.Audit.{IsVerdict};
@@ -14,7 +14,7 @@ use crate::comparing::Comparing;
 use crate::hearing::{Hearing, hear_all};
 use crate::input::Input;
 use crate::leaving::{next_paper, next_verdict};
-use crate::lists::{ListsFault, read_lists};
+use crate::line_lists::{ListsFault, read_lists};
 use crate::orders::first_wrong;
 use crate::printed::Order;
 use crate::printing::put_session;

@@ -4,7 +4,7 @@ ghost use Rattle.std.specs.Prelude.{length, map, vec_len, slice_set, slice_index
 ghost use Rattle.std.specs.List.{position_or_len};
 ghost use Rattle.line_reader.specs.Lines.{is_over};
 ghost use Rattle.meter_address.specs.Address.{AreApart};
-ghost use Rattle.outer_io.specs.Each.{Each};
+ghost use Rattle.lists.specs.Each.{Each};
 ghost use Rattle.receivers.specs.Classes.{is_own, is_strange, is_unframed, is_bad};
 ghost use Rattle.audit_check_main.specs.Hearing.{class_in, counts_in, heard_input, list_in, noted, sort_by};
 

@@ -57,7 +57,7 @@ pub(crate) struct ToldLines {
 // A contract sees what each line told.
 impl Model for ToldLines {
     ghost use Rattle.std.specs.Prelude.{List, map};
-    ghost use Rattle.outer_io.specs.Each.{Each};
+    ghost use Rattle.lists.specs.Each.{Each};
     ghost use Rattle.receivers.specs.declared.told.Told.{Told};
 
     ghost Value = { List Told };

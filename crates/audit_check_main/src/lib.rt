@@ -9,7 +9,7 @@ mod input;
 mod kept;
 mod laws;
 mod leaving;
-mod lists;
+mod line_lists;
 mod meter_steps;
 mod orders;
 mod printed;

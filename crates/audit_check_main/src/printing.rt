@@ -1,7 +1,7 @@
 //! The report of the session of some orders, and the state that it leaves, which are compared with texts while the slots make their steps:
 //! one slot at a time is held, and no journal.
 ghost use Rattle.std.specs.Prelude.{◌≡◌, ◌<◌, ◌≤◌, ◌+◌, List, ℕ, Err, length, map, IfOk, OnOk};
-ghost use Rattle.outer_io.specs.Each.{Each};
+ghost use Rattle.lists.specs.Each.{Each};
 ghost use Rattle.meter_address.specs.Address.{AreApart};
 ghost use Rattle.meter_slots.specs.Journal.{Start};
 ghost use Rattle.receivers.specs.Orders.{IsOrderOf};

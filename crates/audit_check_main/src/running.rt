@@ -5,7 +5,7 @@ ghost use Rattle.std.specs.Prelude.{vec_len, is_some, option_copied, option_map,
 ghost use Rattle.std.specs.Cmp.Lexicographic.{pointwise};
 ghost use Rattle.std.specs.String.{string_bytes};
 ghost use Rattle.outer_io.specs.Bytes.{AppendsFront};
-ghost use Rattle.outer_io.specs.Each.{Each, EachWith, IsFirst};
+ghost use Rattle.lists.specs.Each.{Each, EachWith, IsFirst};
 ghost use Rattle.outer_io.specs.Shown.{source_change, sink_change, ReadFailed, LosesNothing, WriteFailed};
 ghost use Rattle.audit_check_main.specs.Run.{IsRun, IsReadPast, IsNextRead, NextFailed, WasRead, source_changes, next_change};
 ghost use Rattle.audit_check_main.specs.Run.{are_files, file_words, judges_next, writes};

@@ -1,6 +1,6 @@
 //! The session of the printed orders: each slot makes its steps in the order that is printed, and keeps no journal.
 ghost use Rattle.std.specs.Prelude.{◌≡◌, ◌<◌, ◌+◌, List, ℕ, Err, length, map, IfOk, slice_index_or};
-ghost use Rattle.outer_io.specs.Each.{Each};
+ghost use Rattle.lists.specs.Each.{Each};
 ghost use Rattle.receivers.specs.Orders.{IsOrderOf, IsOrderedSlot, IsOrderOfStrangers, AreOrderedStrangers};
 ghost use Rattle.meter_slots.specs.Journal.{Start, SlotView};
 ghost use Rattle.audit_check_main.specs.Hearing.{sort_of, tells, told_at};

@@ -5,7 +5,7 @@ use Rattle.std.specs.List.{Contains}
 use Rattle.std.specs.Str.Lines.{lines}
 use Rattle.std.proofs.lemmas.Bool.Decides.{nat_tests}
 use Rattle.std.proofs.lemmas.List.{length-map}
-use Rattle.outer_io.specs.Each.{Each, EachWith}
+use Rattle.lists.specs.Each.{Each, EachWith}
 use Rattle.outer_io.specs.Shown.{Change, SourceShown}
 use Rattle.line_reader.specs.Lines.{is_over, whole_lines, all_lines}
 use Rattle.meter_address.specs.declared.address.Address.{Address}

@@ -2,7 +2,7 @@
 use Rattle.std.proofs.Common.{◌≡◌, ℕ, List, [], ◌∷◌, map, Result, Ok, Err, refl, subst}
 use Rattle.std.specs.List.{All}
 use Rattle.std.proofs.lemmas.List.Elements.{All-nil, All-cons}
-use Rattle.outer_io.specs.Each.{Each, EachWith}
+use Rattle.lists.specs.Each.{Each, EachWith}
 use Rattle.meter_address.specs.declared.address.Address.{Address}
 use Rattle.frame_formats.specs.Crc.{IsBytes}
 use Rattle.frame_formats.proofs.Checked.{bytes-append}

@@ -1,7 +1,7 @@
 -- A made session is heard whole, and its run.
 use Rattle.std.proofs.Common.{◌≡◌, ◌≢◌, ◌++◌, ◌≤◌, ℕ, List, [], ◌∷◌, false, Some, Result, Ok, Err, IfOk, ⊎_elim, refl, sym, ap, subst, ◌∙◌, IsTrue, map, length, arith}
 use Rattle.std.proofs.lemmas.List.{append-nil, length-map}
-use Rattle.outer_io.specs.Each.{Each, EachWith}
+use Rattle.lists.specs.Each.{Each, EachWith}
 use Rattle.outer_io.specs.Faults.{Rose}
 use Rattle.outer_io.specs.declared.sources.Source as sources
 use Rattle.outer_io.specs.declared.sinks.Sink as sinks

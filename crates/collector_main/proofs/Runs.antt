@@ -24,7 +24,7 @@ use Rattle.collector_main.specs.declared.status.Status.TheVariants as statuses
 use Rattle.collector_main.specs.declared.form.Form.{Form}
 use Rattle.collector_main.specs.Begin.{IsRefusal, known_of, status_of}
 use Rattle.collector_main.specs.Heard.{Heard, report_of}
-use Rattle.outer_io.specs.Each.{Each}
+use Rattle.lists.specs.Each.{Each}
 use Rattle.collector_main.specs.Run.{Run, Output, IsRun, EndIsCaused, IsCausedBy, IsFaultless, AreTold}
 use Rattle.collector_main.specs.Showing.{report_output}
 use Rattle.collector_main.specs.Statuses.{IsDone, IsRefused, IsFinished, was_heard}

@@ -1,5 +1,5 @@
 -- The law of mode 7 over a run.
-use Rattle.outer_io.specs.Each.{EachWith}
+use Rattle.lists.specs.Each.{EachWith}
 use Rattle.receivers.specs.MacLaw.{StoresByMacs}
 use Rattle.collector_main.specs.Run.{Run, Headline}
 

@@ -1,6 +1,6 @@
 -- A run of a made session: four receivers hear the lines of telegrams that were made, and what is promised of it.
 use Rattle.std.specs.Prelude.{ℕ, ◌≡◌, Bool, false, List, [], ◌∷◌, Ok, IsTrue, map}
-use Rattle.outer_io.specs.Each.{Each, PassUntil}
+use Rattle.lists.specs.Each.{Each, PassUntil}
 use Rattle.outer_io.specs.Shown.{Change, SinkShown, WriteFailed, IsSilent, HasText}
 use Rattle.line_reader.specs.Lines.{all_lines}
 use Rattle.made_input.specs.Made.{Session}

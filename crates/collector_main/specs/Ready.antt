@@ -1,6 +1,6 @@
 -- Words of private contracts: what a session of several receivers came to, before it is written.
 use Rattle.std.specs.Prelude.{ℕ, ◌≡◌, ◌≢◌, ◌<◌, ◌^◌, List, [], Some, None, Ok, IsTrue, length}
-use Rattle.outer_io.specs.Each.{Each, EachWith}
+use Rattle.lists.specs.Each.{Each, EachWith}
 use Rattle.outer_io.specs.declared.sources.Source as sources
 use Rattle.outer_io.specs.declared.sinks.Sink as sinks
 use Rattle.made_input.specs.Made.{Session}

@@ -1,6 +1,6 @@
 -- A run of the collector: what its sources and sinks showed before and after it, its status, and what is promised of it.
 use Rattle.std.specs.Prelude.{ℕ, ◌≡◌, ◌≢◌, ◌++◌, Bool, true, false, List, [], Option, Some, None, Ok, Err, IsTrue, map}
-use Rattle.outer_io.specs.Each.{Each, EachWith, PassUntil, IsFirst}
+use Rattle.lists.specs.Each.{Each, EachWith, PassUntil, IsFirst}
 use Rattle.outer_io.specs.Shown.{Change, SourceShown, SinkShown, ReadFailed, WriteFailed, LosesNothing, IsReadOut, IsSilent, HasText}
 use Rattle.line_reader.specs.Lines.{is_over}
 use Rattle.meter_address.specs.declared.address.Address.{Address}

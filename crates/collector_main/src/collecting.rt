@@ -1,6 +1,6 @@
 //! A session of several receivers, which hear at once.
 ghost use Rattle.std.specs.Prelude.{◌≡◌, ◌≢◌, ◌<◌, ◌^◌, [], IsTrue, IfSome, true, map, vec_len};
-ghost use Rattle.outer_io.specs.Each.{Each};
+ghost use Rattle.lists.specs.Each.{Each};
 ghost use Rattle.outer_io.specs.Shown.{source_change, sink_change};
 ghost use Rattle.receivers.specs.Run.{receiver_runs};
 ghost use Rattle.report_text.specs.Readings.{readings_text};

@@ -1,6 +1,6 @@
 //! Made sessions: telegrams that are made, and heard by four receivers at once.
 ghost use Rattle.std.specs.Prelude.{◌≡◌, ◌≤◌, [], ◌∷◌, Ok, IsTrue, IfOk};
-ghost use Rattle.outer_io.specs.Each.{EachWith};
+ghost use Rattle.lists.specs.Each.{EachWith};
 ghost use Rattle.outer_io.specs.Shown.{sink_change};
 ghost use Rattle.made_input.specs.Made.{made};
 ghost use Rattle.made_input.specs.Summary.{summary_text};

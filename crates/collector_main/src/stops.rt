@@ -1,6 +1,6 @@
 //! How the receivers of a session ended, and what status that makes.
 ghost use Rattle.std.specs.Prelude.{◌≡◌, ◌≢◌, ◌+◌, ◌<◌, ◌^◌, length, IfOk};
-ghost use Rattle.outer_io.specs.Each.{EachWith};
+ghost use Rattle.lists.specs.Each.{EachWith};
 ghost use Rattle.collector_main.specs.Ready.{IsEndOf};
 ghost use Rattle.collector_main.specs.Statuses.{status_at, stop_from, status_after, unwritten};
 

@@ -1,6 +1,6 @@
 //! What several receivers hear at once.
 ghost use Rattle.std.specs.Prelude.{◌<◌, ◌^◌, IfOk, vec_len};
-ghost use Rattle.outer_io.specs.Each.{Each};
+ghost use Rattle.lists.specs.Each.{Each};
 ghost use Rattle.state_file.specs.Rooms.{HasRoom};
 ghost use Rattle.collector_main.specs.Ready.{HaveHeard};
 ghost use Rattle.collector_main.specs.Showing.{IsFresh};

@@ -9,7 +9,7 @@ use Rattle.dif_vif.specs.Spans.{span_of, AreFillers}
 use Rattle.dif_vif.specs.Reading.{record_at, begins_maker, span_at, next_of}
 use Rattle.dif_vif.specs.Stops.{EndsBy}
 use Rattle.dif_vif.proofs.Spans.{rest_at, next_of-filler, next_of-span, span_at-maker, span_at-record, next_refused}
-use Rattle.steps.proofs.StepLaws.{bind_err}
+use Rattle.lists.proofs.StepLaws.{bind_err}
 use Rattle.dif_vif.proofs.Stopping.{record_stops}
 use Rattle.dif_vif.proofs.Stopped.{stops_record}
 

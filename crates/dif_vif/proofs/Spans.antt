@@ -9,9 +9,9 @@ use Rattle.dif_vif.specs.declared.fault.RecordFault.{RecordFault}
 use Rattle.dif_vif.specs.declared.span.RecordSpan.{RecordSpan}
 use Rattle.dif_vif.specs.Spelling.{DataRecord, IsChain, IsRecord, data_width, vib_spelling, contents_spelling, spelling}
 use Rattle.dif_vif.specs.Spans.{span_of, maker_span, IsSpanOf, LiesWithin, AreFillers, IsNext, NoneBegins}
-use Rattle.steps.specs.Steps.{◌>>=◌}
+use Rattle.lists.specs.Steps.{◌>>=◌}
 use Rattle.dif_vif.specs.Reading.{record_at, begins_maker, span_at, next_at, next_of}
-use Rattle.steps.proofs.StepLaws.{bind_ok}
+use Rattle.lists.proofs.StepLaws.{bind_ok}
 use Rattle.dif_vif.proofs.Steps.{ok_is}
 use Rattle.dif_vif.proofs.Takes.{record_takes}
 use Rattle.dif_vif.proofs.Again.{record_again, not_special}

@@ -5,12 +5,12 @@ use Rattle.std.proofs.lemmas.Bool.{cases_lt, ltb-true, eqb-true}
 use Rattle.dif_vif.specs.declared.fault.RecordFault.{RecordFault}
 use Rattle.dif_vif.specs.declared.fault.RecordFault.TheVariants.{Truncated, TooManyExtensions, Lvar, Selection, Special}
 use Rattle.dif_vif.specs.Spelling.{Dib, Vib, IsPlainText, lvar_width, data_width, dib_spelling, vib_spelling}
-use Rattle.steps.specs.Steps.{◌>>=◌}
+use Rattle.lists.specs.Steps.{◌>>=◌}
 use Rattle.dif_vif.specs.Reading.{byte_at, bytes_at, chain_len, chain_at, dif_at, dib_at, text_at, vib_at, lvar_at, contents_at, record_at}
 use Rattle.dif_vif.specs.Stops.{IsDib, IsVib, IsOpen, IsCut, no_dif, no_dife, no_vif, no_text, short_text, no_vife, no_lvar, short_data, HasEleventh, dife, vife, Stops}
 use Rattle.dif_vif.proofs.Chains.{chain_done, chain_missing, chain_full, chain_more}
 use Rattle.std.proofs.lemmas.List.{append-nil}
-use Rattle.steps.proofs.StepLaws.{bind_err}
+use Rattle.lists.proofs.StepLaws.{bind_err}
 use Rattle.dif_vif.proofs.Steps.{chosen, some_is}
 use Rattle.dif_vif.proofs.Takes.{IsPlainDif, byte_takes, dif_takes, dib_takes, text_takes, vib_takes, lvar_takes}
 

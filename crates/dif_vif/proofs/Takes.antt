@@ -7,10 +7,10 @@ use Rattle.std.proofs.lemmas.List.{take-append-drop, length-take, length-append}
 use Rattle.dif_vif.specs.declared.fault.RecordFault.{RecordFault}
 use Rattle.dif_vif.specs.declared.fault.RecordFault.TheVariants.{Truncated, Lvar, Selection, Special}
 use Rattle.dif_vif.specs.Spelling.{Dib, Vib, Contents, DataRecord, IsChain, IsPlainText, IsRecord, lvar_width, data_width, dib_spelling, vib_spelling, contents_spelling, spelling}
-use Rattle.steps.specs.Steps.{◌>>=◌}
+use Rattle.lists.specs.Steps.{◌>>=◌}
 use Rattle.dif_vif.specs.Reading.{byte_at, bytes_at, chain_len, chain_at, dif_at, dib_at, text_at, vib_at, lvar_at, contents_at, record_at}
 use Rattle.dif_vif.proofs.Chains.{chain_done, chain_missing, chain_full, chain_more}
-use Rattle.steps.proofs.StepLaws.{bind_ok}
+use Rattle.lists.proofs.StepLaws.{bind_ok}
 use Rattle.dif_vif.proofs.Steps.{guard_ok, guard_ok_if, chosen, ok_is, some_is, field_some}
 
 pub byte_takes : (start : ℕ) (bytes : List ℕ) (x : ℕ × List ℕ) → byte_at start bytes ≡ Ok x → bytes ≡ x.0 ∷ x.1

@@ -6,7 +6,7 @@ use Rattle.std.proofs.lemmas.Bool.Decides.{nat_tests}
 use Rattle.ell_layer.specs.declared.extension.Ell.{Ell}
 use Rattle.ell_layer.specs.declared.extension.EllFault.{EllFault}
 use Rattle.ell_layer.specs.declared.extension.EllFault.TheVariants.{Truncated, Kind}
-use Rattle.steps.specs.Steps.{◌>>=◌}
+use Rattle.lists.specs.Steps.{◌>>=◌}
 use Rattle.ell_layer.specs.Extension.{IsEllFault, header_len, ell_at}
 use Rattle.ell_layer.proofs.Headers.{made, chosen, ci_of}
 

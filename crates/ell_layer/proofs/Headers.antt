@@ -7,7 +7,7 @@ use Rattle.ell_layer.specs.declared.extension.Ell.{Ell}
 use Rattle.ell_layer.specs.declared.extension.EllFault.{EllFault}
 use Rattle.ell_layer.specs.declared.extension.EllFault.TheVariants.{Truncated}
 use Rattle.ell_layer.specs.Access.{access_in}
-use Rattle.steps.specs.Steps.{◌>>=◌}
+use Rattle.lists.specs.Steps.{◌>>=◌}
 use Rattle.ell_layer.specs.Extension.{BeginsWithEll, header_len, ell_at}
 
 -- the header with this control and access number

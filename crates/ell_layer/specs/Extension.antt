@@ -3,7 +3,7 @@ use Rattle.std.specs.Prelude.{ℕ, ◌≡◌, ◌≢◌, ◌<◌, ◌⊎◌, Lis
 use Rattle.ell_layer.specs.declared.extension.Ell.{Ell}
 use Rattle.ell_layer.specs.declared.extension.EllFault.{EllFault}
 use Rattle.ell_layer.specs.declared.extension.EllFault.TheVariants.{Truncated, Kind}
-use Rattle.steps.specs.Steps.{◌>>=◌}
+use Rattle.lists.specs.Steps.{◌>>=◌}
 use Rattle.ell_layer.specs.Access.{access_in}
 
 -- the short header: CI 8C, the communication control, the access number

@@ -6,7 +6,7 @@ use Rattle.std.specs.List.{flat_map, concat}
 use Rattle.frame_formats.specs.declared.fault.FrameFault.{FrameFault}
 use Rattle.frame_formats.specs.Crc.{crc_of, IsBytes}
 use Rattle.frame_formats.specs.Frames.{AreChecked}
-use Rattle.steps.specs.Steps.{◌>>=◌}
+use Rattle.lists.specs.Steps.{◌>>=◌}
 use Rattle.frame_formats.specs.Decoding.{with_crc, block_of}
 use Rattle.frame_formats.proofs.Division.{is_crc, same_crc}
 

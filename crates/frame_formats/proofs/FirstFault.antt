@@ -6,7 +6,7 @@ use Rattle.frame_formats.specs.declared.fault.FrameFault.{FrameFault}
 use Rattle.frame_formats.specs.declared.fault.FrameFault.TheVariants as faults
 use Rattle.frame_formats.specs.Crc.{IsBytes}
 use Rattle.frame_formats.specs.Faults.{BeginsWith, IsLengthB, IsFirstWrong, FaultA, FaultB}
-use Rattle.steps.specs.Steps.{◌>>=◌}
+use Rattle.lists.specs.Steps.{◌>>=◌}
 use Rattle.frame_formats.specs.Decoding.{frame_len, pieces_a, pieces_b, content_of, counted, decoded, decoded_a, telegram_b, decoded_b}
 use Rattle.frame_formats.proofs.Chain.{chain_err, chain_first, chain_second, chain_third, chain_last, chain_passed}
 use Rattle.frame_formats.proofs.Checked.{bytes-take, bytes-drop}

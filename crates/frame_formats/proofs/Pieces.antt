@@ -2,7 +2,7 @@
 use Rattle.std.proofs.Common.{◌≡◌, ℕ, zero, suc, ◌+◌, List, [], ◌∷◌, ◌++◌, length, take, drop, min, Result, Ok, Err, refl, ◌∙◌, ap, append_assoc}
 use Rattle.std.proofs.lemmas.List.{take_min, drop_min}
 use Rattle.frame_formats.specs.declared.fault.FrameFault.{FrameFault}
-use Rattle.steps.specs.Steps.{◌>>=◌}
+use Rattle.lists.specs.Steps.{◌>>=◌}
 use Rattle.frame_formats.specs.Decoding.{block_of, content_of, cut}
 
 -- bytes in front of those that are read

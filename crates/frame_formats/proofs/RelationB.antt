@@ -7,7 +7,7 @@ use Rattle.frame_formats.specs.declared.fault.FrameFault.{FrameFault}
 use Rattle.frame_formats.specs.declared.fault.FrameFault.TheVariants as faults
 use Rattle.frame_formats.specs.Crc.{IsBytes}
 use Rattle.frame_formats.specs.Frames.{AreChecked, IsTelegram, OneBlock, TwoBlocks, FrameB}
-use Rattle.steps.specs.Steps.{◌>>=◌}
+use Rattle.lists.specs.Steps.{◌>>=◌}
 use Rattle.frame_formats.specs.Decoding.{with_crc, pieces_b, content_of, block_of, counted, telegram_b, decoded, decoded_b}
 use Rattle.frame_formats.proofs.Chain.{chain_ok, chain_passed}
 use Rattle.frame_formats.proofs.Pieces.{with_front, first_read, first_fault, nothing_read}

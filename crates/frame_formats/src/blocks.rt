@@ -4,7 +4,7 @@ ghost use Rattle.frame_formats.specs.Decoding.{block_of, with_crc};
 
 use crate::FrameFault;
 use crate::crc16::crc;
-use steps::put;
+use lists::put;
 
 /// The block of the piece with this number: what stands before its last two bytes, where these are its CRC.
 #[tactic(auto, unfolding(crate::specs::Decoding::block_of))]
@@ -24,7 +24,7 @@ pub(crate) fn checked_block(piece: &[u8], number: usize) -> Result<&[u8], FrameF
 }
 
 /// Writes a block and its CRC at this place, and answers the place behind them.
-#[tactic(auto, using(steps::proofs::Puts::behind_both))]
+#[tactic(auto, using(lists::proofs::Puts::behind_both))]
 pub(crate) fn put_with_crc(out: &mut [u8], at: usize, block: &[u8]) -> usize
     requires { at + length block.now + 2 ≤ length out.old }
     ensures end { result ≡ at + length block.now + 2 }

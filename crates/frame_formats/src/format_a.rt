@@ -9,7 +9,7 @@ ghost use Rattle.frame_formats.specs.Decoding.{cut, content_of, frame_len, piece
 use crate::blocks::{checked_block, put_with_crc};
 use crate::format::{Format, decode};
 use crate::{FrameFault, Telegram};
-use steps::put;
+use lists::put;
 
 // Fills `into` from the blocks behind the first, each with its CRC.
 fn read_others(bytes: &[u8], into: &mut [u8]) -> Result<(), FrameFault>

@@ -6,7 +6,7 @@ ghost use Rattle.frame_formats.specs.Decoding.{content_of, pieces_b, telegram_b,
 use crate::blocks::checked_block;
 use crate::format::{Format, decode};
 use crate::{FrameFault, Telegram};
-use steps::put;
+use lists::put;
 
 // Fills `into` from one block with its CRC.
 fn read_one(bytes: &[u8], into: &mut [u8]) -> Result<(), FrameFault>

@@ -4,7 +4,7 @@
 ghost use Rattle.std.specs.Prelude.{◌≡◌, [], true, false, length, map, Bool, Result, IsTrue, IfOk, IfErr};
 ghost use Rattle.std.specs.String.{string_bytes};
 ghost use Rattle.std.specs.Process.{exit_status};
-ghost use Rattle.outer_io.specs.Each.{Each};
+ghost use Rattle.lists.specs.Each.{Each};
 ghost use Rattle.input_check_main.specs.declared.states.Stop.{Stop};
 ghost use Rattle.input_check_main.specs.Receivers.{IsFresh};
 ghost use Rattle.input_check_main.specs.Run.{run_of, IsRun};

@@ -2,7 +2,7 @@
 -- promised of it.
 use Rattle.std.specs.Prelude.{ℕ, ◌≡◌, ◌⊎◌, ◌&&◌, ◌||◌, not, nat_lt, Bool, false, List, ◌++◌, length, take, Result, Ok, Err, IsTrue, IfOk, IfErr, OnOk, OnErr}
 use Rattle.outer_io.specs.Bytes.{AppendsFront}
-use Rattle.outer_io.specs.Each.{Each}
+use Rattle.lists.specs.Each.{Each}
 use Rattle.outer_io.specs.Shown.{Change, SourceShown, SinkShown, source_change, sink_change, ReadFailed, WriteFailed, LosesNothing, IsSilent}
 use Rattle.outer_io.specs.declared.sources.Source as sources
 use Rattle.outer_io.specs.declared.sinks.Sink as sinks

@@ -1,6 +1,6 @@
 -- Why a check stops, and what it leaves.
 use Rattle.std.specs.Prelude.{ℕ, ◌≡◌, zero, suc, Bool, true, false, List, [], ◌∷◌, ◌++◌, take, IsTrue}
-use Rattle.outer_io.specs.Each.{Each}
+use Rattle.lists.specs.Each.{Each}
 use Rattle.outer_io.specs.Shown.{Change, SourceShown, SinkShown, ReadFailed, WriteFailed, IsReadOut, IsSilent}
 use Rattle.line_reader.specs.Lines.{is_over}
 use Rattle.input_check_main.specs.declared.states.Stop.{Stop}

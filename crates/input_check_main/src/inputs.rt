@@ -1,7 +1,7 @@
 //! A check of a state, which may be a roster, and of receivers, one after another.
 ghost use Rattle.std.specs.Prelude.{◌≡◌, ◌++◌, ◌+◌, ◌≤◌, ◌&&◌, ◌||◌, not, nat_lt, [], length, IsTrue, IfOk, IfErr, OnOk, OnErr};
 ghost use Rattle.outer_io.specs.Bytes.{AppendsFront};
-ghost use Rattle.outer_io.specs.Each.{Each};
+ghost use Rattle.lists.specs.Each.{Each};
 ghost use Rattle.outer_io.specs.Shown.{ReadFailed, WriteFailed, LosesNothing, source_change, sink_change};
 ghost use Rattle.state_file.specs.Whole.{state_of};
 ghost use Rattle.input_check_main.specs.Receivers.{IsFresh, reader_changes, bytes_of_each, any_faulty, heard_by_all, receivers_text};

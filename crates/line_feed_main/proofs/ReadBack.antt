@@ -10,8 +10,8 @@ use Rattle.hex.specs.declared.error.FromHexError.{FromHexError}
 use Rattle.hex.proofs.HexLemmas.{decode_of-ok}
 use Rattle.serde_json.specs.Data.{Data}
 use Rattle.serde_json.specs.Read.{read}
-use Rattle.steps.specs.Steps.{◌>>=◌}
-use Rattle.steps.proofs.StepLaws.{bind_ok}
+use Rattle.lists.specs.Steps.{◌>>=◌}
+use Rattle.lists.proofs.StepLaws.{bind_ok}
 use Rattle.plain_text.specs.Parts.{is_word}
 use Rattle.line_reader.specs.Grammar.{bytes_of}
 use Rattle.frame_formats.specs.Crc.{IsBytes}

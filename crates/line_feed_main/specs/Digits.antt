@@ -1,7 +1,7 @@
 -- Telegrams from hexadecimal digits.
 use Rattle.std.specs.Prelude.{ℕ, ◌+◌, ◌&&◌, nat_le, nat_lt, nat_eq, Bool, List, length, slice_index, Result, Ok, Err, if◌then◌else◌}
 use Rattle.std.specs.Option.{ok_or}
-use Rattle.steps.specs.Steps.{◌>>=◌}
+use Rattle.lists.specs.Steps.{◌>>=◌}
 use Rattle.line_reader.specs.Grammar.{bytes_of}
 use Rattle.line_feed_main.specs.declared.reasons.NotTaken.{NotTaken}
 use Rattle.line_feed_main.specs.declared.reasons.NotTaken.TheVariants as reasons

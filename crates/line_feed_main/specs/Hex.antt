@@ -1,7 +1,7 @@
 -- Lines that are telegrams in hexadecimal.
 use Rattle.std.specs.Prelude.{ℕ, ◌==◌, ◌||◌, not, Bool, List, Result, Ok}
 use Rattle.std.specs.List.{filter}
-use Rattle.steps.specs.Steps.{◌>>=◌}
+use Rattle.lists.specs.Steps.{◌>>=◌}
 use Rattle.line_feed_main.specs.declared.heard.Heard.{Heard}
 use Rattle.line_feed_main.specs.declared.reasons.NotTaken.{NotTaken}
 use Rattle.line_feed_main.specs.Digits.{telegram_in}

@@ -5,7 +5,7 @@ use Rattle.std.specs.Float.{float_to_signed}
 use Rattle.std.specs.Int.{w64}
 use Rattle.std.specs.Option.{ok_or}
 use Rattle.std.specs.Str.{is_utf8}
-use Rattle.steps.specs.Steps.{◌>>=◌}
+use Rattle.lists.specs.Steps.{◌>>=◌}
 use Rattle.plain_text.specs.Parts.{is_word}
 use Rattle.frame_formats.specs.Decoding.{frame_a}
 use Rattle.serde_json.specs.Data.{Data, Num}

@@ -1,6 +1,6 @@
 -- Lines of rtl_wmbus.
 use Rattle.std.specs.Prelude.{ℕ, ◌==◌, ◌&&◌, List, [], ◌∷◌, codes, Result, Ok, Err, if◌then◌else◌}
-use Rattle.steps.specs.Steps.{◌>>=◌}
+use Rattle.lists.specs.Steps.{◌>>=◌}
 use Rattle.plain_text.specs.Parts.{is_word}
 use Rattle.line_feed_main.specs.declared.heard.Heard.{Heard}
 use Rattle.line_feed_main.specs.declared.reasons.NotTaken.{NotTaken}

@@ -17,7 +17,7 @@ use frame_formats::{Telegram, encode_a};
 use serde_json::Value;
 use std::alloc::Global;
 use std::num::saturating_f64_to_i64;
-use steps::put;
+use lists::put;
 
 // The text of the member with this name, if it is one.
 fn member_text<'v>(value: &'v Value, name: &str) -> Option<&'v str>

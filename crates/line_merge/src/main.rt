@@ -4,7 +4,7 @@
 ghost use Rattle.std.specs.Prelude.{◌≡◌, ◌≤◌, true, false, length, map, None, IsSome, IfSome, IfOk, IfErr};
 ghost use Rattle.std.specs.String.{string_bytes};
 ghost use Rattle.std.specs.Process.{exit_status};
-ghost use Rattle.outer_io.specs.Each.{Each};
+ghost use Rattle.lists.specs.Each.{Each};
 ghost use Rattle.outer_io.specs.Shown.{sink_change};
 ghost use Rattle.line_merge_main.specs.declared.status.MergeStatus.{MergeStatus};
 ghost use Rattle.line_merge_main.specs.Run.{IsRun, IsFresh, inputs_shown};

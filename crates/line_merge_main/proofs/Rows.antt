@@ -2,7 +2,7 @@
 use Rattle.std.proofs.Common.{ℕ, zero, suc, ◌≡◌, ◌+◌, ◌-◌, ◌<◌, ◌≤◌, false, List, [], ◌∷◌, length, take, drop, get_or, map, slice_set, Option, Some, None, inl, inr, arith, refl, sym, ap, subst, ◌∙◌}
 use Rattle.std.specs.Prelude.{IsTrue, IsSome}
 use Rattle.outer_io.specs.declared.sources.Source as sources
-use Rattle.outer_io.specs.Each.{Each, EachWith}
+use Rattle.lists.specs.Each.{Each, EachWith}
 use Rattle.outer_io.specs.Faults.{Rose}
 use Rattle.outer_io.specs.Shown.{LosesNothing}
 use Rattle.line_reader.specs.Lines.{is_over, all_lines}

@@ -6,7 +6,7 @@ use Rattle.std.proofs.Math.Seq.{take-append-add}
 use Rattle.outer_io.specs.declared.failures.Failed.{Failed}
 use Rattle.outer_io.specs.declared.sources.Source as sources
 use Rattle.outer_io.specs.Bytes.{AppendsFront}
-use Rattle.outer_io.specs.Each.{Each, EachWith}
+use Rattle.lists.specs.Each.{Each, EachWith}
 use Rattle.outer_io.specs.Shown.{Change, SinkShown, LosesNothing}
 use Rattle.line_reader.specs.Reader.{TextReading}
 use Rattle.line_merge_main.specs.declared.status.FaultyInput.{FaultyInput}

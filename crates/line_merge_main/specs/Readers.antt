@@ -1,7 +1,7 @@
 -- Words of private contracts: inputs that are read, each with the moment at which the line stands that it lends.
 use Rattle.std.specs.Prelude.{ℕ, ◌≡◌, ◌+◌, ◌-◌, ◌<◌, ◌≤◌, false, List, [], ◌∷◌, length, drop, zero, suc, slice_set, Option, Some, None, IsTrue, IsSome}
 use Rattle.outer_io.specs.declared.sources.Source as sources
-use Rattle.outer_io.specs.Each.{EachWith}
+use Rattle.lists.specs.Each.{EachWith}
 use Rattle.line_reader.specs.Lines.{is_over, all_lines}
 use Rattle.line_reader.specs.Reader.{TextReading, given}
 use Rattle.line_merge_main.specs.Merging.{Timed}

@@ -2,7 +2,7 @@
 use Rattle.std.specs.Prelude.{ℕ, ◌≡◌, ◌<◌, Bool, true, false, List, [], ◌∷◌, ◌++◌, length, map, IsTrue}
 use Rattle.std.specs.List.{enumerate_from}
 use Rattle.outer_io.specs.Bytes.{AppendsFront}
-use Rattle.outer_io.specs.Each.{Each, PassUntil}
+use Rattle.lists.specs.Each.{Each, PassUntil}
 use Rattle.outer_io.specs.Shown.{Change, SourceShown, SinkShown, ReadFailed, WriteFailed, LosesNothing, source_change}
 use Rattle.outer_io.specs.declared.sources.Source as sources
 use Rattle.line_reader.specs.Lines.{is_over, all_lines}

@@ -1,7 +1,7 @@
 -- Words of private contracts: one line that is passed on.
 use Rattle.std.specs.Prelude.{ℕ, ◌≡◌, ◌++◌, Bool, false, List, Result, Ok, Err, IsTrue}
 use Rattle.outer_io.specs.Bytes.{AppendsFront}
-use Rattle.outer_io.specs.Each.{Each}
+use Rattle.lists.specs.Each.{Each}
 use Rattle.outer_io.specs.Shown.{Change, SinkShown, WriteFailed}
 use Rattle.line_reader.specs.Lines.{is_over}
 use Rattle.line_merge_main.specs.declared.status.MergeStatus.{MergeStatus}

@@ -1,6 +1,6 @@
 //! A merge, from the first line of each input to the last of all.
 ghost use Rattle.std.specs.Prelude.{◌≡◌, ◌≤◌, ◌<◌, ◌+◌, length, map, IsTrue, OnOk, IfErr};
-ghost use Rattle.outer_io.specs.Each.{Each, EachWith};
+ghost use Rattle.lists.specs.Each.{Each, EachWith};
 ghost use Rattle.outer_io.specs.Shown.{sink_change};
 ghost use Rattle.line_merge_main.specs.Inputs.{input_lines};
 ghost use Rattle.line_merge_main.specs.Least.{HasHead, IsLeast};

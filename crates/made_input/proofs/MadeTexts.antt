@@ -12,7 +12,7 @@ use Rattle.std.proofs.lemmas.List.FromFn.{length-map-range_with_len}
 use Rattle.std.proofs.lemmas.List.Sorted.{length_permutation}
 use Rattle.hex.specs.Hex.{encode_lower}
 use Rattle.paper.specs.Pieces.{labelled, labelled_bytes}
-use Rattle.outer_io.specs.Each.{Each}
+use Rattle.lists.specs.Each.{Each}
 use Rattle.frame_formats.specs.Crc.{IsBytes}
 use Rattle.frame_formats.specs.Decoding.{frame_a}
 use Rattle.frame_formats.proofs.Checked.{byte_at}

@@ -11,7 +11,7 @@ use Rattle.message_check.specs.declared.refusal.Reason.{Reason}
 use Rattle.message_check.specs.Opening.{Found, Checked5, Genuine7, access_number_passed, counter_passed, opened5, compared5, opened5_after, opened7, compared7, opened7_after}
 use Rattle.message_check.specs.Opened.{found_in, Says, Opens}
 use Rattle.message_check.specs.Refusals.{Refusal5, Refusal7}
-use Rattle.steps.proofs.StepLaws.{bind_ok}
+use Rattle.lists.proofs.StepLaws.{bind_ok}
 use Rattle.message_check.proofs.OpeningLaws.{checked_are_opened, genuine_are_opened}
 use Rattle.message_check.proofs.RefusalLaws.{refused_exactly5}
 use Rattle.message_check.proofs.RefusalLaws7.{refused_exactly7}

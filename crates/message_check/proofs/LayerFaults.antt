@@ -24,7 +24,7 @@ use Rattle.message_check.specs.declared.headers.Layers.{Layers}
 use Rattle.message_check.specs.declared.refusal.LayerFault.{LayerFault}
 use Rattle.message_check.specs.declared.refusal.LayerFault.TheVariants as faults
 use Rattle.message_check.specs.Layers.{has_piece, ExtensionThen, FragmentationThen, HasExtensionCi, HasFragmentationCi, IsBefore, IsLayerFault, extension_len, fragmentation_len, extension_in, fragmentation_in, header_in, layers_of}
-use Rattle.steps.proofs.StepLaws.{bind_err, map_both_ok, map_both_err}
+use Rattle.lists.proofs.StepLaws.{bind_err, map_both_ok, map_both_err}
 use Rattle.message_check.proofs.LayerLaws.{extension_then_rest, fragmentation_then_rest, extension_found, fragmentation_found, extension_some, fragmentation_some, extension_again}
 
 -- ---- the extension of the link layer

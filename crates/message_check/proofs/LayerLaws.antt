@@ -22,7 +22,7 @@ use Rattle.tpl_headers.proofs.Parts.{chosen}
 use Rattle.message_check.specs.declared.headers.Layers.{Layers}
 use Rattle.message_check.specs.declared.refusal.LayerFault.{LayerFault}
 use Rattle.message_check.specs.declared.refusal.LayerFault.TheVariants as faults
-use Rattle.steps.proofs.StepLaws.{bind_ok, map_both_ok}
+use Rattle.lists.proofs.StepLaws.{bind_ok, map_both_ok}
 use Rattle.message_check.specs.Layers.{has_piece, ExtensionThen, FragmentationThen, IsContent, IsLayers, OneReading, ContentAtBody, extension_len, fragmentation_len, extension_in, fragmentation_in, header_in, layers_of}
 
 abbrev read : Layers → Result Layers LayerFault

@@ -22,8 +22,8 @@ use Rattle.message_check.specs.declared.refusal.Reason.{Reason}
 use Rattle.message_check.specs.declared.refusal.Reason.TheVariants.{OtherAddress, BadMac, CheckBytes, BadMessage}
 use Rattle.message_check.specs.Keys.{key_id_in, OneKeyAlone}
 use Rattle.message_check.specs.Opening.{Found, encrypted_of, rest_of, access_in_configuration, decrypted5, decrypted7, mac_key, cipher_key, mac_of, IsFor, IsSecured, Checked5, Genuine7, Passed, header_in, address_passed, mode_passed, header_for, blocks_passed, some_passed, check_bytes_passed, opened5, part_there, control_passed, signature_of, derivation_in, derivation_passed, mac_passed, opened7, CheckedAreOpened, GenuineAreOpened}
-use Rattle.steps.specs.Steps.{◌>>=◌}
-use Rattle.steps.proofs.StepLaws.{bind_ok, map_both_ok}
+use Rattle.lists.specs.Steps.{◌>>=◌}
+use Rattle.lists.proofs.StepLaws.{bind_ok, map_both_ok}
 
 abbrev pub passed : Passed
 passed = Ok tt

@@ -17,10 +17,10 @@ use Rattle.tpl_headers.proofs.Headers.{is_found, is_only}
 use Rattle.tpl_headers.proofs.Faults.{faults}
 use Rattle.message_check.specs.declared.refusal.Reason.{Reason}
 use Rattle.message_check.specs.declared.refusal.Reason.TheVariants.{BadMessage, OtherAddress, Mode, ShortBlocks, Unchecked, CheckBytes, SameAccess}
-use Rattle.steps.specs.Steps.{◌>>=◌}
+use Rattle.lists.specs.Steps.{◌>>=◌}
 use Rattle.message_check.specs.Opening.{Found, encrypted_of, rest_of, access_in_configuration, decrypted5, Passed, header_in, address_passed, mode_passed, header_for, blocks_passed, some_passed, check_bytes_passed, access_number_passed, opened5, compared5, opened5_after}
 use Rattle.message_check.specs.Refusals.{HeaderRefusal, IsShort, Refusal5, RefusedExactly5}
-use Rattle.steps.proofs.StepLaws.{bind_err, map_both_ok, map_both_err}
+use Rattle.lists.proofs.StepLaws.{bind_err, map_both_ok, map_both_err}
 use Rattle.message_check.proofs.OpeningLaws.{passed, found, unless_passed, address_is, is_address, not_zero, checked_are_opened, is_for, for_is, secured, read_again}
 
 abbrev refused : Reason → Result Tpl Reason

@@ -14,7 +14,7 @@ use Rattle.message_check.specs.declared.refusal.Reason.{Reason}
 use Rattle.message_check.specs.declared.refusal.Reason.TheVariants.{NoAuth, Kdf, ShortBlocks, BadMac, Stale}
 use Rattle.message_check.specs.Opening.{Found, encrypted_of, rest_of, mac_key, mac_of, IsFor, header_for, blocks_passed, part_there, control_passed, signature_of, derivation_in, derivation_passed, mac_passed, counter_passed, opened7, compared7, opened7_after}
 use Rattle.message_check.specs.Refusals.{HeaderRefusal, HasAuth, Refusal7, RefusedExactly7}
-use Rattle.steps.proofs.StepLaws.{bind_err}
+use Rattle.lists.proofs.StepLaws.{bind_err}
 use Rattle.message_check.proofs.OpeningLaws.{passed, if_passed, part_is, derivation_is, genuine_are_opened, for_is, is_for, secured, read_again, Signed, signed, signature_again}
 use Rattle.message_check.proofs.RefusalLaws.{failed, if_refused, header_refused, header_refuses, differ, blocks_refused, blocks_refuse}
 

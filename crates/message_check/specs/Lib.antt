@@ -1,4 +1,4 @@
-pub use Rattle.steps.specs.Steps
+pub use Rattle.lists.specs.Steps
 pub mod Layers
 pub mod Target
 pub mod Keys

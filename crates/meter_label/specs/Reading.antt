@@ -2,7 +2,7 @@
 use Rattle.std.specs.Prelude.{ℕ, ◌&&◌, List, [], ◌∷◌, Option, Some, None, Result, Ok, Err, if◌then◌else◌}
 use Rattle.std.specs.Result.{result_ok}
 use Rattle.hex.specs.Hex.{decode_sized}
-use Rattle.steps.specs.Steps.{◌>>=◌}
+use Rattle.lists.specs.Steps.{◌>>=◌}
 use Rattle.meter_label.specs.declared.label.Label.{Label}
 use Rattle.meter_label.specs.declared.reading.LabelFault.{LabelFault}
 use Rattle.meter_label.specs.declared.reading.LabelFault.TheVariants as faults

@@ -32,8 +32,8 @@ use Rattle.meter_side_main.specs.declared.reason.SideReason.TheVariants.{Frame, 
 use Rattle.meter_side_main.specs.Reading.{blocks_in, counter_in, mac_in, parts_in, layout_of, agreeing, mac_due, decrypted, Passed, framed, is_length, told}
 use Rattle.meter_side_main.specs.Genuine.{IsGenuine, IsOfItsContent, GenuineAreTold, ContentsArePayloads}
 use Rattle.meter_side_main.proofs.Agreeing.{agreed, agreeing-append}
-use Rattle.steps.specs.Steps.{◌>>=◌}
-use Rattle.steps.proofs.StepLaws.{bind_ok, map_both_ok}
+use Rattle.lists.specs.Steps.{◌>>=◌}
+use Rattle.lists.proofs.StepLaws.{bind_ok, map_both_ok}
 
 -- ---- what is laid out as it should be, and has its MAC and its check bytes
 

@@ -21,8 +21,8 @@ use Rattle.meter_side_main.specs.Refusals.{HasBlocks, IsFirstOther, IsLaidOut, I
 use Rattle.meter_side_main.proofs.Agreeing.{agreed, agreeing-append, agreeing_until, agreeing-cases, agreeing-nil}
 use Rattle.downlink_maker.specs.Parts.{layers_before}
 use Rattle.downlink_maker.proofs.Parts.{length-layers_before}
-use Rattle.steps.specs.Steps.{◌>>=◌}
-use Rattle.steps.proofs.StepLaws.{bind_err, map_both_ok, map_both_err}
+use Rattle.lists.specs.Steps.{◌>>=◌}
+use Rattle.lists.proofs.StepLaws.{bind_err, map_both_ok, map_both_err}
 use Rattle.meter_side_main.proofs.Genuineness.{passed, is_counted, length_of_blocks, told_is_genuine, genuine_is_told}
 
 -- a check that refuses, or one behind it

@@ -11,7 +11,7 @@ use Rattle.cbc_cmac.specs.Cbc.{cbc_decrypted}
 use Rattle.cbc_cmac.specs.Mac.{zeros, cmac}
 use Rattle.downlink_maker.specs.Downlink.{cipher_key, mac_key}
 use Rattle.downlink_maker.specs.Parts.{Parts, layers_before}
-use Rattle.steps.specs.Steps.{◌>>=◌}
+use Rattle.lists.specs.Steps.{◌>>=◌}
 use Rattle.meter_side_main.specs.declared.delivery.Executed.{Executed}
 use Rattle.meter_side_main.specs.declared.reason.SideReason.{SideReason}
 use Rattle.meter_side_main.specs.declared.reason.SideReason.TheVariants.{Frame, Layout, BadMac, CheckBytes, Stale}

@@ -10,7 +10,7 @@ ghost use Rattle.meter_usage.specs.declared.key.UsageKey.{UsageKey};
 ghost use Rattle.meter_address.specs.declared.address.Address.{Address};
 ghost use Rattle.meter_usage.specs.Keys.{key_cmp};
 ghost use Rattle.std.specs.List.Sorted.{IsStrictlySortedBy};
-ghost use Rattle.outer_io.specs.Each.{Each};
+ghost use Rattle.lists.specs.Each.{Each};
 ghost use Rattle.meter_usage.specs.Sums.{total, usages_in, sum_of, keys_in, is_among, is_used};
 ghost use Rattle.meter_usage.specs.Table.{rows_at};
 ghost use Rattle.meter_usage.specs.Edits.{Edit, addition, replacement, removal, rows_after};

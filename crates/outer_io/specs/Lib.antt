@@ -1,6 +1,5 @@
 pub mod Faults
 pub mod Bytes
-pub mod Each
 pub mod InMemory
 pub mod Shown
 pub mod Standard

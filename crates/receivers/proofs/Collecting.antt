@@ -18,7 +18,7 @@ use Rattle.receivers.specs.Passes.{Answered, Crew, ArePassesOf}
 use Rattle.receivers.specs.Roots.{CanClose, CanCloseAll, AreLeft}
 use Rattle.stranger_ring.specs.declared.strangers.Heard.{Heard}
 use Rattle.receivers.specs.Crews.{IsRoot, AreRoots}
-use Rattle.outer_io.specs.Each.{EachWith}
+use Rattle.lists.specs.Each.{EachWith}
 use Rattle.receivers.specs.Run.{ReceiverRun}
 use Rattle.receivers.specs.Running.{AreDone, HaveRun}
 use Rattle.receivers.specs.Session.{heard_by, entries_by, IsMetersSlot}

@@ -1,6 +1,6 @@
 -- From the runs of a session to the lines that were taken.
 use Rattle.std.proofs.Common.{◌≡◌, List, [], ◌∷◌, map, refl, subst}
-use Rattle.outer_io.specs.Each.{Each, EachWith}
+use Rattle.lists.specs.Each.{Each, EachWith}
 use Rattle.meter_slots.specs.Journal.{Start}
 use Rattle.meter_address.specs.declared.address.Address.{Address}
 use Rattle.meter_slots.specs.World.{WorldView}

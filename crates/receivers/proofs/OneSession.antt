@@ -17,7 +17,7 @@ use Rattle.receivers.specs.declared.told.Told.{Told}
 use Rattle.receivers.specs.declared.told.Told.TheVariants as told
 use Rattle.receivers.specs.Alone.{steps_among, steps_of, after_steps, addresses_in, HasHeardAlone}
 use Rattle.receivers.specs.Run.{Hearing, HasHeard}
-use Rattle.outer_io.specs.Each.{EachWith}
+use Rattle.lists.specs.Each.{EachWith}
 use Rattle.receivers.specs.Session.{heard_by, event_at, lines_for, stranger_at, lines_of_strangers, steps_by, notes_by, IsMetersSlot, IsSession}
 
 -- ---- a world after some steps

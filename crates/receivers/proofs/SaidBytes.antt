@@ -6,7 +6,7 @@ use Rattle.std.specs.Result.{result_ok}
 use Rattle.hex.specs.Hex.{decode_of}
 use Rattle.hex.specs.declared.error.FromHexError.{FromHexError}
 use Rattle.hex.proofs.HexLemmas.{decode_of-ok}
-use Rattle.steps.specs.Steps.{◌>>=◌}
+use Rattle.lists.specs.Steps.{◌>>=◌}
 use Rattle.plain_text.specs.Numbers.{number_of}
 use Rattle.plain_text.specs.Parts.{fields_of, is_word}
 use Rattle.meter_address.specs.declared.address.Address.{Address}

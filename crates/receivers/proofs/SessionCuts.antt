@@ -5,7 +5,7 @@ use Rattle.std.specs.List.{filter_map, enumerate_from, cons_option}
 use Rattle.std.proofs.lemmas.Bool.Decides.{nat_tests}
 use Rattle.std.proofs.lemmas.List.{map-append}
 use Rattle.std.proofs.lemmas.List.Elements.{filter-append, filter_map-append}
-use Rattle.outer_io.specs.Each.{EachWith}
+use Rattle.lists.specs.Each.{EachWith}
 use Rattle.meter_address.specs.declared.address.Address.{Address}
 use Rattle.meter_slots.specs.declared.entry.Entry.{Entry}
 use Rattle.meter_slots.specs.declared.entry.Event.{Event}

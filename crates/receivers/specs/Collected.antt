@@ -11,7 +11,7 @@ use Rattle.slot_cells.specs.Acts.{Shown, CellShown, IsFirstPass}
 use Rattle.slot_cells.specs.Books.{Opening, opening_of}
 use Rattle.receivers.specs.Classes.{own_lines}
 use Rattle.receivers.specs.declared.told.Told.{Told}
-use Rattle.outer_io.specs.Each.{EachWith}
+use Rattle.lists.specs.Each.{EachWith}
 use Rattle.receivers.specs.Passes.{Answered, ArePassesOf}
 use Rattle.receivers.specs.Run.{ReceiverRun}
 use Rattle.receivers.specs.Session.{entries_by, heard_by, IsSession}

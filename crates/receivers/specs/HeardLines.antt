@@ -1,6 +1,6 @@
 -- A session of several receivers by the lines that were taken from each, where contracts know the bytes of all sources.
 use Rattle.std.specs.Prelude.{ℕ, ◌≡◌, List, map, Some, IsTrue}
-use Rattle.outer_io.specs.Each.{EachWith}
+use Rattle.lists.specs.Each.{EachWith}
 use Rattle.outer_io.specs.Shown.{ReadFailed, WriteFailed, LosesNothing}
 use Rattle.meter_address.specs.declared.address.Address.{Address}
 use Rattle.meter_slots.specs.Journal.{Start}

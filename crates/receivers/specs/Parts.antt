@@ -1,6 +1,6 @@
 -- A part of a session: some of the meters, and of what the receivers heard only the lines for them.
 use Rattle.std.specs.Prelude.{ℕ, ◌≡◌, ◌==◌, ◌+◌, Bool, true, false, not, if◌then◌else◌, List, [], ◌∷◌, map, filter}
-use Rattle.outer_io.specs.Each.{EachWith}
+use Rattle.lists.specs.Each.{EachWith}
 use Rattle.meter_address.specs.declared.address.Address.{Address}
 use Rattle.meter_slots.specs.declared.entry.Entry.{Entry}
 use Rattle.meter_slots.specs.Journal.{Start, SlotView}

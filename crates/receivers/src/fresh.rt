@@ -1,6 +1,6 @@
 //! What fresh receivers show of their sources.
 ghost use Rattle.std.specs.Prelude.{◌≡◌, [], None, IsTrue};
-ghost use Rattle.outer_io.specs.Each.{Each};
+ghost use Rattle.lists.specs.Each.{Each};
 
 use crate::receiver::Receiver;
 use outer_io::{Sink, Source};

@@ -6,7 +6,7 @@ ghost use Rattle.meter_slots.specs.declared.entry.Entry.{Entry};
 ghost use Rattle.meter_slots.specs.Journal.{Start, SlotView, genuine, stored_counter};
 ghost use Rattle.meter_slots.specs.Laws.{IsAbove, IsRising, last_stored, stored_counters, sent_counters};
 ghost use Rattle.meter_slots.specs.World.{WorldView, world_of};
-ghost use Rattle.outer_io.specs.Each.{Each};
+ghost use Rattle.lists.specs.Each.{Each};
 ghost use Rattle.receivers.specs.declared.told.Told.{Told};
 ghost use Rattle.receivers.specs.Alone.{steps_of};
 ghost use Rattle.receivers.specs.Collected.{IsCollected};

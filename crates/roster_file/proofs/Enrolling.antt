@@ -6,7 +6,7 @@ use Rattle.std.specs.List.{list_any}
 use Rattle.std.specs.Str.Lines.{lines}
 use Rattle.std.specs.Str.Parse.{digits_value}
 use Rattle.std.proofs.lemmas.Bool.Decides.{nat_tests}
-use Rattle.outer_io.specs.Each.{Each}
+use Rattle.lists.specs.Each.{Each}
 use Rattle.plain_text.specs.Numbers.{is_plain, number_of}
 use Rattle.plain_text.specs.Parts.{fields_of, is_word}
 use Rattle.meter_address.specs.declared.address.Address.{Address}
@@ -22,7 +22,7 @@ use Rattle.roster_file.specs.declared.roster.LineCause.TheVariants as causes
 use Rattle.roster_file.specs.declared.roster.RosterFault.{RosterFault}
 use Rattle.roster_file.specs.declared.roster.RosterFault.TheVariants.{Line}
 use Rattle.roster_file.specs.Roster.{Columns, Enrolled, at_line, columns_of, counter_of, enlisted, enlisted_from, entries_from, head_of, headed, last_of, meter_of, meter_of_columns, meter_of_kind, meters_of, mode_of, other_of, own_of, own_of_fields, owned, roster_of, second_key_of, with_own}
-use Rattle.steps.specs.Steps.{◌>>=◌}
+use Rattle.lists.specs.Steps.{◌>>=◌}
 use Rattle.roster_file.specs.Enrolled.{IsEnrolled}
 
 -- ---- steps

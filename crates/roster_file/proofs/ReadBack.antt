@@ -12,7 +12,7 @@ use Rattle.std.proofs.lemmas.List.{append-nil}
 use Rattle.std.proofs.lemmas.Fmt.{decimal_injective, length-decimal-le}
 use Rattle.hex.specs.Hex.{encode_lower, encode_with, lower_digits}
 use Rattle.hex.proofs.HexLemmas.{length-encode_with}
-use Rattle.outer_io.specs.Each.{Each}
+use Rattle.lists.specs.Each.{Each}
 use Rattle.plain_text.specs.Numbers.{is_plain, number_of}
 use Rattle.plain_text.specs.Parts.{fields_of, is_word}
 use Rattle.plain_text.proofs.Plain.{written}
@@ -30,7 +30,7 @@ use Rattle.roster_file.specs.declared.roster.LineCause.TheVariants as causes
 use Rattle.roster_file.specs.declared.roster.RosterFault.{RosterFault}
 use Rattle.roster_file.specs.declared.roster.RosterFault.TheVariants.{Line}
 use Rattle.roster_file.specs.Roster.{Columns, Enrolled, at_line, columns_of, counter_of, enlisted, enlisted_from, entries_from, headed, last_of, meter_of, meter_of_columns, meter_of_kind, meters_of, mode_of, other_of, own_of, own_of_fields, owned, roster_of, second_key_of, with_own}
-use Rattle.steps.specs.Steps.{◌>>=◌}
+use Rattle.lists.specs.Steps.{◌>>=◌}
 use Rattle.roster_file.specs.Text.{mode_text, other_text, last_text, meter_fields, meter_text, own_text, roster_text}
 use Rattle.roster_file.specs.Enrolled.{IsEnrolled}
 use Rattle.roster_file.proofs.RosterLines.{counted, meters_next, meters_end, none_left}

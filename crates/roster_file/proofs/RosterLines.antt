@@ -6,7 +6,7 @@ use Rattle.meter_address.specs.Commission.{Commissioned}
 use Rattle.roster_file.specs.declared.fields.Version.{Version}
 use Rattle.roster_file.specs.declared.roster.RosterFault.{RosterFault}
 use Rattle.roster_file.specs.Roster.{entries_from, is_passed_over, enlisted_from, meters_of}
-use Rattle.steps.specs.Steps.{◌>>=◌}
+use Rattle.lists.specs.Steps.{◌>>=◌}
 
 pub passed : (n : ℕ) (text : List ℕ) (texts : List (List ℕ)) → is_passed_over text ≡ true
     → entries_from n (text ∷ texts) ≡ entries_from (n + 1) texts

@@ -8,7 +8,7 @@ use Rattle.std.proofs.lemmas.Bool.Decides.{nat_tests}
 use Rattle.std.proofs.lemmas.List.Folds.{list_all-append}
 use Rattle.std.proofs.lemmas.List.Splits.{slice_split-cons_yes, slice_split-cons_no}
 use Rattle.hex.specs.Hex.{encode_with, encode_lower, lower_digits, IsBytes}
-use Rattle.outer_io.specs.Each.{Each}
+use Rattle.lists.specs.Each.{Each}
 use Rattle.plain_text.specs.Parts.{fields_of}
 use Rattle.plain_text.proofs.Cuts.{lines_cut}
 

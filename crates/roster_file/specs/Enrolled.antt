@@ -1,6 +1,6 @@
 -- What holds of each roster that is read.
 use Rattle.std.specs.Prelude.{ℕ, ◌≡◌, ◌<◌, ◌≤◌, ◌^◌, List, length, map, Ok}
-use Rattle.outer_io.specs.Each.{Each}
+use Rattle.lists.specs.Each.{Each}
 use Rattle.meter_address.specs.Address.{AreApart}
 use Rattle.meter_address.specs.Commission.{IsCommission}
 use Rattle.roster_file.specs.Roster.{Enrolled, roster_of}

@@ -1,6 +1,6 @@
 //! Receivers that read, and that write, at the same time: each is held up at a gate until the others have come.
 ghost use Rattle.std.specs.Prelude.{◌≡◌, IfOk, None};
-ghost use Rattle.outer_io.specs.Each.{Each};
+ghost use Rattle.lists.specs.Each.{Each};
 ghost use Rattle.collector_main.specs.Showing.{IsFresh};
 
 use crate::harness::{HEAT, assert_bytes, assert_shown, collect_line, run_line};

@@ -1,7 +1,7 @@
 //! Sessions of `collect` in memory: receivers and outputs that move their bytes in pieces and fail at chosen calls, and sessions as texts.
 //! What can only fail for want of memory aborts the test: a function that hands an error on takes much longer to prove.
 ghost use Rattle.std.specs.Prelude.{◌≡◌, [], IsTrue};
-ghost use Rattle.outer_io.specs.Each.{Each};
+ghost use Rattle.lists.specs.Each.{Each};
 ghost use Rattle.collector_main.specs.Showing.{IsFresh, receiver_count};
 
 use collector_main::{Plan, Receiver, Status, run, words};

@@ -6,8 +6,8 @@ use Rattle.std.specs.Fmt.{decimal}
 use Rattle.std.proofs.lemmas.Bool.Decides.{nat_tests}
 use Rattle.hex.specs.Hex.{encode_lower, encode_with, decode_of, lower_digits, IsBytes}
 use Rattle.hex.proofs.HexLemmas.{decode_of-encode_lower}
-use Rattle.outer_io.specs.Each.{Each}
-use Rattle.steps.specs.Steps.{◌>>=◌}
+use Rattle.lists.specs.Each.{Each}
+use Rattle.lists.specs.Steps.{◌>>=◌}
 use Rattle.plain_text.specs.Parts.{is_word}
 use Rattle.afl_layer.specs.declared.header.Afl.{Afl}
 use Rattle.afl_layer.specs.Fields.{is_fragment, fcl_of, fields_bytes}

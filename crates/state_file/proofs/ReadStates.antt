@@ -2,8 +2,8 @@
 use Rattle.std.proofs.Common.{ℕ, ◌<◌, ◌==◌, ◌^◌, nat_le, List, [], ◌∷◌, ◌++◌, length, map, codes, Option, Some, None, Result, Ok, Err, refl, ap, arith}
 use Rattle.std.specs.List.{list_any}
 use Rattle.std.specs.Str.Lines.{lines}
-use Rattle.outer_io.specs.Each.{Each}
-use Rattle.steps.specs.Steps.{◌>>=◌}
+use Rattle.lists.specs.Each.{Each}
+use Rattle.lists.specs.Steps.{◌>>=◌}
 use Rattle.plain_text.specs.Parts.{fields_of, is_word}
 use Rattle.afl_fragments.specs.Short.{told_of}
 use Rattle.afl_fragments.proofs.Holding.{held-nothing}

@@ -7,7 +7,7 @@ use Rattle.std.proofs.lemmas.Fmt.{length-decimal-le}
 use Rattle.std.proofs.lemmas.List.{length-reverse}
 use Rattle.hex.specs.Hex.{encode_lower, lower_digits}
 use Rattle.hex.proofs.HexLemmas.{length-encode_with}
-use Rattle.outer_io.specs.Each.{Each}
+use Rattle.lists.specs.Each.{Each}
 use Rattle.std.specs.Int.{w16, w32, to_le_bytes}
 use Rattle.meter_address.specs.Address.{text_of, bytes_of}
 use Rattle.meter_address.proofs.Texts.{length-bytes_of}

@@ -3,7 +3,7 @@ use Rattle.std.specs.Prelude.{ℕ, ◌==◌, ◌-◌, ◌^◌, ◌&&◌, nat_le,
 use Rattle.std.specs.Option.{ok_or}
 use Rattle.std.specs.Result.{result_ok}
 use Rattle.hex.specs.Hex.{decode_of}
-use Rattle.steps.specs.Steps.{◌>>=◌}
+use Rattle.lists.specs.Steps.{◌>>=◌}
 use Rattle.plain_text.specs.Numbers.{number_of}
 use Rattle.plain_text.specs.Parts.{fields_of, is_word}
 use Rattle.afl_layer.specs.declared.header.Afl.{Afl}

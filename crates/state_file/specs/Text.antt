@@ -3,7 +3,7 @@ use Rattle.std.specs.Prelude.{ℕ, ◌≡◌, ◌≤◌, ◌<◌, ◌^◌, List,
 use Rattle.std.specs.List.{join_with_byte}
 use Rattle.std.specs.Fmt.{decimal}
 use Rattle.hex.specs.Hex.{encode_lower, IsBytes}
-use Rattle.outer_io.specs.Each.{Each}
+use Rattle.lists.specs.Each.{Each}
 use Rattle.afl_layer.specs.Fields.{fcl_of}
 use Rattle.afl_layer.specs.Header.{afl_bytes, Fits}
 use Rattle.afl_fragments.specs.Fragment.{Fragment, IsFragment}

@@ -1,7 +1,7 @@
 -- The text of a whole state, and what holds of each state that is written.
 use Rattle.std.specs.Prelude.{ℕ, ◌≡◌, ◌<◌, ◌≤◌, ◌^◌, List, ◌++◌, length, map, codes, Ok}
 use Rattle.std.specs.List.{flat_map}
-use Rattle.outer_io.specs.Each.{Each}
+use Rattle.lists.specs.Each.{Each}
 use Rattle.meter_address.specs.Address.{AreApart}
 use Rattle.meter_address.specs.Commission.{IsCommission}
 use Rattle.roster_file.specs.Roster.{Enrolled, roster_of}

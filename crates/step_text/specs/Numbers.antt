@@ -1,6 +1,6 @@
 -- Words of private contracts: the numbers of a line fit 64 bits, so that they are read back as they are.
 use Rattle.std.specs.Prelude.{ℕ, ◌<◌, ◌^◌, ⊤, List, [], ◌∷◌, Option, IfSome}
-use Rattle.outer_io.specs.Each.{Each}
+use Rattle.lists.specs.Each.{Each}
 use Rattle.meter_address.specs.Address.{bytes_of}
 use Rattle.downlink_maker.specs.Sent.{Sent}
 use Rattle.meter_slots.specs.declared.entry.Outcome.{Outcome}

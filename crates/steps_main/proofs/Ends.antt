@@ -11,7 +11,7 @@ use Rattle.meter_slots.specs.Journal.{Start, SlotView}
 use Rattle.meter_slots.specs.PassingWorld.{ArePassing, IsPassing, has_steps, known_by, PassingIsKnown}
 use Rattle.meter_slots.specs.Resuming.{known_now}
 use Rattle.meter_slots.specs.World.{slot_of, world_of}
-use Rattle.outer_io.specs.Each.{Each}
+use Rattle.lists.specs.Each.{Each}
 use Rattle.receivers.specs.Alone.{steps_of}
 use Rattle.state_file.specs.Rooms.{HasRoom}
 use Rattle.state_file.specs.Whole.{state_of}

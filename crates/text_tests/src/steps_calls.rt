@@ -1,5 +1,5 @@
 //! Bytes that are written among others.
-use steps::put;
+use lists::put;
 
 #[test]
 fn bytes_are_put_among_others(rt: HostRuntime) {

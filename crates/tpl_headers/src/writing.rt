@@ -4,7 +4,7 @@ ghost use Rattle.tpl_headers.specs.Header.{HasItsAddress, HasItsExtension, addre
 
 use crate::header::Tpl;
 use meter_address::Address;
-use steps::put;
+use lists::put;
 
 // Writes the address, where there is one, identification first.
 fn put_address(out: &mut [u8], at: usize, address: Option<Address>) -> usize
@@ -39,7 +39,7 @@ fn put_extension(out: &mut [u8], at: usize, cfe: Option<u8>) -> usize
 }
 
 // Writes the header, whose numbers are those of their widths.
-#[tactic(auto, using(steps::proofs::Puts::behind_both))]
+#[tactic(auto, using(lists::proofs::Puts::behind_both))]
 fn put_header(tpl: &Tpl, out: &mut [u8]) -> usize
     requires { length out.old ≡ 14 }
     ensures number { IfSome tpl.now.address (λ a. a.0 < 2 ^ 64) }

@@ -9,7 +9,7 @@ use Rattle.collector_main.specs.declared.command_words.StepsPlan.{StepsPlan}
 use Rattle.collector_main.specs.declared.command_words.WordsFault.{WordsFault}
 use Rattle.collector_main.specs.declared.command_words.WordsFault.TheVariants as faults
 use Rattle.plain_text.specs.Parts.{is_word}
-use Rattle.steps.specs.Steps.{◌>>=◌}
+use Rattle.lists.specs.Steps.{◌>>=◌}
 use Rattle.collector_main.specs.Words.{is_count, unless_clash, first_clash, number_at, hear_plan, receivers_in, made_plan, plan_of}
 use Rattle.collector_main.specs.Words.{asked_of, steps_plan}
 

@@ -2,7 +2,7 @@
 ghost use Rattle.std.specs.Prelude.{◌≡◌, ◌+◌, ◌-◌, ◌/◌, ◌≤◌, Ok, length, map, vec_len, IfOk, IfErr, OnOk};
 ghost use Rattle.std.specs.String.{string_bytes};
 ghost use Rattle.std.specs.Process.{exit_status};
-ghost use Rattle.outer_io.specs.Each.{Each};
+ghost use Rattle.lists.specs.Each.{Each};
 ghost use Rattle.collector_main.specs.Showing.{IsFresh, receiver_count};
 ghost use Rattle.collector_main.specs.Words.{plan_of};
 ghost use Rattle.wmbus.specs.Exit.{IsUnopened};

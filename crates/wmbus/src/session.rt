@@ -2,7 +2,7 @@
 ghost use Rattle.std.specs.Prelude.{◌≡◌, [], false, IfOk, IsOk, IsTrue, map, vec_len};
 ghost use Rattle.std.specs.String.{string_bytes};
 ghost use Rattle.std.specs.Process.{exit_status};
-ghost use Rattle.outer_io.specs.Each.{Each};
+ghost use Rattle.lists.specs.Each.{Each};
 ghost use Rattle.outer_io.specs.Shown.{source_change, sink_change};
 ghost use Rattle.made_input.specs.Made.{made};
 ghost use Rattle.receivers.specs.Run.{receiver_runs};

@@ -1,5 +1,5 @@
 use Rattle.std.proofs.Common.{◌≡◌, length}
-use Rattle.outer_io.specs.Each.{Each}
+use Rattle.lists.specs.Each.{Each}
 use Rattle.input_check_main.specs.Receivers.{IsFresh}
 use Rattle.input_check.proofs.open_receivers.Given as goal
 

@@ -1,5 +1,5 @@
 use Rattle.std.proofs.Common.{◌≡◌, length}
-use Rattle.outer_io.specs.Each.{Each}
+use Rattle.lists.specs.Each.{Each}
 use Rattle.line_merge_main.specs.Run.{IsFresh}
 use Rattle.line_merge.proofs.open_inputs.Given as goal
 

@@ -1,6 +1,6 @@
 use Rattle.std.proofs.Common.{◌≡◌, false, take}
 use Rattle.line_reader.specs.Lines.{is_over}
-use Rattle.outer_io.specs.Each.{Each}
+use Rattle.lists.specs.Each.{Each}
 use Rattle.audit_check_main.proofs.auditing.first_over.Given as goal
 
 abbrev pub invariant-loop-place : goal.invariant-loop-place

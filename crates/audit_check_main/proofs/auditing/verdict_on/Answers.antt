@@ -1,5 +1,5 @@
 use Rattle.std.proofs.Common.{◌≡◌, ◌≤◌, ◌∙◌, false, true, List, map, length, option_copied, ap, sym, subst, arith, rules}
-use Rattle.outer_io.specs.Each.{IsFirst}
+use Rattle.lists.specs.Each.{IsFirst}
 use Rattle.line_reader.specs.Lines.{is_over}
 use Rattle.meter_address.specs.Address.{AreApart}
 use Rattle.meter_slots.specs.Journal.{Start}

@@ -3,7 +3,7 @@ use Rattle.std.proofs.lemmas.Result.{err_from_is_err_and}
 use Rattle.meter_address.specs.Address.{AreApart}
 use Rattle.meter_slots.specs.Journal.{Start}
 use Rattle.receivers.specs.Orders.{IsOrderOfStrangers, AreOrderedStrangers}
-use Rattle.outer_io.specs.Each.{Each}
+use Rattle.lists.specs.Each.{Each}
 use Rattle.audit_check_main.specs.declared.hearing.Sort.TheVariants as sorts
 use Rattle.audit_check_main.specs.Hearing.{tells, told_at, sort_of}
 use Rattle.audit_check_main.proofs.Claimed.{listed_all, stray_from}

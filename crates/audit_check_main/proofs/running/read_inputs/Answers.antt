@@ -1,5 +1,5 @@
 use Rattle.std.proofs.Common.{◌≡◌, ◌+◌, slice_set, IsTrue, Err, refl, ap, subst, arith}
-use Rattle.outer_io.specs.Each.{IsFirst}
+use Rattle.lists.specs.Each.{IsFirst}
 use Rattle.outer_io.specs.Shown.{ReadFailed}
 use Rattle.audit_check_main.specs.Run.{WasRead, source_changes}
 use Rattle.audit_check_main.proofs.InputReads.{inputs_first, inputs_next, inputs_lost, inputs_failed, pushed}

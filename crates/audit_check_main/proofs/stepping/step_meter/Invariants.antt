@@ -1,5 +1,5 @@
 use Rattle.std.proofs.Common.{◌≡◌, ◌≤◌, map, take}
-use Rattle.outer_io.specs.Each.{Each}
+use Rattle.lists.specs.Each.{Each}
 use Rattle.meter_slots.specs.Journal.{SlotView}
 use Rattle.receivers.specs.Orders.{IsOrderedSlot}
 use Rattle.audit_check_main.specs.Hearing.{tells, told_at}

@@ -1,6 +1,6 @@
 use Rattle.std.proofs.Common.{rules, ◌≡◌, ◌<◌, ℕ, [], ◌∷◌, ◌++◌, take, length, get_or, subst, sym}
 use Rattle.std.proofs.lemmas.List.{take_more}
-use Rattle.outer_io.specs.Each.{EachWith}
+use Rattle.lists.specs.Each.{EachWith}
 use Rattle.collector_main.specs.Ready.{IsEndOf}
 use Rattle.collector_main.proofs.ManyReceivers.{each_more}
 use Rattle.collector_main.proofs.stops.ends_of.Goals as goal

@@ -1,5 +1,5 @@
 use Rattle.std.proofs.Common.{take}
-use Rattle.outer_io.specs.Each.{EachWith}
+use Rattle.lists.specs.Each.{EachWith}
 use Rattle.collector_main.specs.Ready.{IsEndOf}
 use Rattle.collector_main.proofs.stops.ends_of.Given as goal
 

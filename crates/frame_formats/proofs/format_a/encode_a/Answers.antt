@@ -1,5 +1,5 @@
 use Rattle.std.proofs.Common.{◌≡◌, ◌∙◌, ap, sym, subst, List, ℕ, ◌++◌, take, drop, arith}
-use Rattle.steps.proofs.Puts.{behind_both}
+use Rattle.lists.proofs.Puts.{behind_both}
 use Rattle.frame_formats.specs.Crc.{IsBytes}
 use Rattle.frame_formats.specs.Frames.{FrameA}
 use Rattle.frame_formats.proofs.Writing.{frame_is, is_frame, others_with_crc}

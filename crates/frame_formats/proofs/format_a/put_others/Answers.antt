@@ -1,6 +1,6 @@
 use Rattle.std.proofs.Common.{arith, ◌∙◌, sym, ◌<◌, length}
 use Rattle.std.proofs.lemmas.Bool.{eqb-true}
-use Rattle.steps.proofs.Puts.{behind_both}
+use Rattle.lists.proofs.Puts.{behind_both}
 use Rattle.frame_formats.proofs.Writing.{one_more, all_written, some_left}
 use Rattle.frame_formats.proofs.format_a.put_others.Goals as goal
 

@@ -1,6 +1,6 @@
 use Rattle.std.proofs.Common.{◌≤◌, length}
 use Rattle.std.specs.Prelude.{IsTrue}
-use Rattle.outer_io.specs.Each.{EachWith}
+use Rattle.lists.specs.Each.{EachWith}
 use Rattle.line_merge_main.specs.Readers.{IsAtHead, GoesOn, rests_of, all_to_come}
 use Rattle.line_merge_main.specs.Steps.{StandsAfter}
 use Rattle.line_merge_main.proofs.running.merge_on.Given as goal

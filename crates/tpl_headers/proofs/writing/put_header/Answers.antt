@@ -1,5 +1,5 @@
 use Rattle.std.proofs.Common.{◌≡◌, drop, arith}
-use Rattle.steps.proofs.Puts.{behind_both}
+use Rattle.lists.proofs.Puts.{behind_both}
 use Rattle.tpl_headers.proofs.writing.put_header.Goals as goal
 
 pub returns-clause-behind : goal.returns-clause-behind

@@ -1,5 +1,5 @@
 use Rattle.std.proofs.Common.{◌≡◌, ◌++◌, ◌∷◌, ◌∙◌, ◌+◌, [], map, length, refl, sym, ap, subst, arith}
-use Rattle.outer_io.specs.Each.{Each}
+use Rattle.lists.specs.Each.{Each}
 use Rattle.audit_check_main.specs.declared.kept.KeptLine.{KeptLine}
 use Rattle.audit_check_main.specs.Kept.{told_again, told_kept, IsKept}
 use Rattle.audit_check_main.proofs.KeptLines.{number-put, each-next, told-next}

@@ -1,6 +1,6 @@
 use Rattle.std.proofs.Common.{◌∙◌, sym}
 use Rattle.audit_check_main.proofs.ReadLists.{lists_fit, orders_read}
-use Rattle.audit_check_main.proofs.lists.read_lists.Goals as goal
+use Rattle.audit_check_main.proofs.line_lists.read_lists.Goals as goal
 
 pub into_all-requires : goal.into_all-requires
 into_all-requires c = lists_fit _ _ _ _ _ c.lines.invariant

@@ -1,5 +1,5 @@
-//! Small steps that readers and writers of bytes share: one part is written behind another; and in the definitions, one
-//! part is read after another, with the first fault.
+//! What the definitions and proofs of many crates say of lists: each member, one part read after another with the first fault, and what follows of choices
+//! and places. Of code it has one step, by which one part is written behind another.
 #![tactic(auto)]
 
 ghost use Rattle.std.specs.Prelude.{◌≡◌, ◌+◌, ◌≤◌, ◌++◌, length, take, drop};

@@ -1,6 +1,6 @@
 use Rattle.std.proofs.Common.{◌++◌, ◌∷◌, [], ◌∙◌, ap, set, arith}
 use Rattle.audit_check_main.proofs.ReadLists.{on_ok, set-last}
-use Rattle.audit_check_main.proofs.lists.add_to_last.Goals as goal
+use Rattle.audit_check_main.proofs.line_lists.add_to_last.Goals as goal
 
 pub returns : goal.returns
 returns c =

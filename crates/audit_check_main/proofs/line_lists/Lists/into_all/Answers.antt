@@ -3,7 +3,7 @@ use Rattle.std.proofs.lemmas.List.{length_push}
 use Rattle.audit_check_main.specs.Lists.{as_many}
 use Rattle.audit_check_main.specs.Reading.{ListsRead}
 use Rattle.audit_check_main.proofs.ReadLists.{as_many-push, as_many-all}
-use Rattle.audit_check_main.proofs.lists.Lists.into_all.Goals as goal
+use Rattle.audit_check_main.proofs.line_lists.Lists.into_all.Goals as goal
 
 pub lists-preserved : goal.lists-preserved
 lists-preserved c =

@@ -2,7 +2,7 @@ use Rattle.std.proofs.Common.{◌≡◌, ◌≤◌, ◌<◌, ◌∙◌, ◌∷�
 use Rattle.std.proofs.lemmas.Bool.Decides.{nat_tests}
 use Rattle.audit_check_main.specs.Reading.{StandsFor}
 use Rattle.audit_check_main.proofs.ReadLists.{on_ok, after_meter, after_strangers, after_step, after_stranger, after_other, faulty_meter, faulty_strangers, faulty_step, faulty_stranger, faulty_other, step_placed, stranger_placed}
-use Rattle.audit_check_main.proofs.lists.Lists.take_line.Goals as goal
+use Rattle.audit_check_main.proofs.line_lists.Lists.take_line.Goals as goal
 
 has_room : (n m : ℕ) → n < m → nat_le m n ≡ false
 has_room n m h = grind (arith, nat_tests)
