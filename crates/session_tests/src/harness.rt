@@ -7,7 +7,7 @@ ghost use Rattle.collector_main.specs.Showing.{IsFresh, receiver_count};
 use collector_main::{Plan, Receiver, Status, run, words};
 use outer_io::{MemorySink, MemorySource, Sink, Source};
 use std::alloc::{AllocError, Global};
-use std::fmt::{Debug, Write};
+use std::fmt::Debug;
 use std::process::Abort;
 use std::sync::Wait;
 use std::thread::Threads;
@@ -33,10 +33,6 @@ wmbus-roster 1
 own 9315010000000131
 meter 9315010203040107 7 000102030405060708090a0b0c0d0e0f - 0 0
 ";
-
-// The heat meter in a roster, up to its first key.
-const HEAT_LINE: &str =
-    "own 9315010000000131\nmeter 9315010203040107 7 000102030405060708090a0b0c0d0e0f";
 
 /// The words of a line, with single spaces between them; an empty line has none.
 pub(crate) fn words_of(alloc: Global, line: &str) -> Result<Vec<String>, AllocError> {
@@ -303,116 +299,4 @@ pub(crate) fn text_named(rt: &impl Abort, texts: &'static str, name: &str) -> &'
         }
     }
     panic!(rt; "no text of the name {name}")
-}
-
-fn put_row(text: &mut String, row: &str) -> Result<(), AllocError> {
-    text.push_str(row)?;
-    text.push('\n')
-}
-
-// What stands in a row behind a word, where it begins with the word.
-fn behind<'t>(row: &'t str, word: &str) -> Option<&'t str> {
-    let (first, rest) = row.split_once(' ')?;
-    if first == word { Some(rest) } else { None }
-}
-
-// What stands in a text behind a word, at the first row that begins with it.
-fn said<'t>(rt: &impl Abort, text: &'t str, word: &str) -> &'t str {
-    for row in text.lines() {
-        if let Some(rest) = behind(row, word) {
-            return rest;
-        }
-    }
-    panic!(rt; "no row of the word {word}")
-}
-
-// What stands there behind a word, at each row that begins with it.
-fn all_said(rt: &impl Abort, alloc: Global, text: &str, word: &str) -> String {
-    let mut all = String::new(alloc);
-    for row in text.lines() {
-        if let Some(rest) = behind(row, word) {
-            put_row(&mut all, rest).expect(rt, NO_MEMORY);
-        }
-    }
-    all
-}
-
-// The lines that are heard: their rows begin with a capital.
-fn heard(rt: &impl Abort, alloc: Global, text: &str) -> String {
-    let mut lines = String::new(alloc);
-    for row in text.lines() {
-        if let [b'A'..=b'Z', ..] = row.as_bytes() {
-            put_row(&mut lines, row).expect(rt, NO_MEMORY);
-        }
-    }
-    lines
-}
-
-// The steps of the report that they make, each of which stands below its line.
-fn steps(rt: &impl Abort, alloc: Global, text: &str) -> String {
-    let mut steps = String::new(alloc);
-    let mut line = 0_u32;
-    for row in text.lines() {
-        if let Some(step) = row.strip_prefix("= ") {
-            line = line.saturating_add(1);
-            write!(steps, "step 1 {line} {step}\n").expect(rt, NO_MEMORY);
-        }
-    }
-    steps
-}
-
-// The report of a session of one receiver, whose lines are all the heat meter's own.
-fn report_of(rt: &impl Abort, alloc: Global, text: &str) -> String {
-    let (count, meter) = (said(rt, text, "count"), said(rt, text, "meter"));
-    let steps = steps(rt, alloc, text);
-    let behind = all_said(rt, alloc, text, "behind");
-    format!(in alloc;
-        "wmbus-report 1\nreceiver 1 lines {count} own {count} strangers 0 unframed 0 bad 0 end\n\
-        meter 9315010203040107 ELS mode 7 {meter}\n{steps}{behind}strangers 0\nend\n"
-    )
-    .expect(rt, NO_MEMORY)
-}
-
-// A roster of the heat meter, of which its head and what it knows of the meter are given.
-fn roster_of(rt: &impl Abort, alloc: Global, head: &str, known: &str) -> String {
-    format!(in alloc; "{head}\n{HEAT_LINE} {known}\n").expect(rt, NO_MEMORY)
-}
-
-// Asserts that a session of one receiver, whose lines are all the heat meter's own, is as its text says. It has rows of what the roster
-// knows of the meter, its last counter, downlink counter and command id; how many lines there are; each line, with its step below it; what
-// the report says of the meter, and behind its steps; what the next roster knows of it; and each downlink that is sent.
-fn assert_own_lines<R: Threads + Wait + Abort + Sync>(rt: &R, alloc: Global, text: &str) {
-    let roster = roster_of(rt, alloc, "wmbus-roster 1", said(rt, text, "known"));
-    let lines = heard(rt, alloc, text);
-    let session = Session::of(rt, alloc, &collected(&roster, &[hears(&lines)]));
-    let next = roster_of(rt, alloc, "wmbus-roster 2", said(rt, text, "next"));
-    assert_shown(rt, alloc, &session.status, "Done", text);
-    assert_bytes(
-        rt,
-        session.report.bytes(),
-        &report_of(rt, alloc, text),
-        text,
-    );
-    assert_bytes(rt, session.next.bytes(), &next, text);
-    assert_bytes(
-        rt,
-        session.sent(0),
-        &all_said(rt, alloc, text, "sent"),
-        text,
-    );
-}
-
-/// Asserts that so many sessions, with empty rows between them, are as their texts say.
-pub(crate) fn assert_sessions<R: Threads + Wait + Abort + Sync>(
-    rt: &R,
-    alloc: Global,
-    texts: &str,
-    wanted: u32,
-) {
-    let mut count = 0_u32;
-    for text in texts.split("\n\n") {
-        assert_own_lines(rt, alloc, text);
-        count = count.saturating_add(1);
-    }
-    assert_eq!(rt; count, wanted);
 }

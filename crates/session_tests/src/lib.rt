@@ -8,14 +8,8 @@ mod command_line;
 #[cfg(test)]
 mod faults;
 #[cfg(test)]
-mod gates;
-#[cfg(test)]
 mod harness;
-#[cfg(test)]
-mod hostile;
 #[cfg(test)]
 mod made;
 #[cfg(test)]
 mod one_receiver;
-#[cfg(test)]
-mod sessions;

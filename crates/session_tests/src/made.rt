@@ -6,20 +6,11 @@ use made_input::{MadeText, make};
 use plain_text::read_number;
 use std::alloc::Global;
 use std::process::Abort;
-use std::sync::Wait;
-use std::thread::Threads;
 
 const SUMMARY: &str = "\
 wmbus-made 1
 meters 50 receivers 4 lines 20000 steps 19608 strangers 392
 highest 4902
-end
-";
-
-const LEAST_SUMMARY: &str = "\
-wmbus-made 1
-meters 1 receivers 4 lines 4 steps 4 strangers 0
-highest 1
 end
 ";
 
@@ -70,28 +61,12 @@ fn assert_numbers(rt: &impl Abort, report: &[u8]) {
     assert_sum(rt, report, "strangers ", "strangers ", 392);
 }
 
-// Makes the session of a command, whose report stands among its readings, and asserts its summary.
-fn summed_up<R: Threads + Wait + Abort + Sync>(
-    rt: &R,
-    alloc: Global,
-    command: &str,
-    summary: &str,
-) -> Session {
-    let session = Session::of(rt, alloc, &steady(command, "", &[]));
-    assert_shown(rt, alloc, &session.status, "Done", command);
-    assert_bytes(rt, session.report.bytes(), summary, command);
-    session
-}
-
 #[test]
 fn a_made_session_is_summed_up(rt: HostRuntime) {
-    let session = summed_up(&rt, rt.alloc(), "made 50 5000 7", SUMMARY);
+    let session = Session::of(&rt, rt.alloc(), &steady("made 50 5000 7", "", &[]));
+    assert_shown(&rt, rt.alloc(), &session.status, "Done", "status");
+    assert_bytes(&rt, session.report.bytes(), SUMMARY, "summary");
     assert_numbers(&rt, session.readings.bytes());
-}
-
-#[test]
-fn the_least_made_session(rt: HostRuntime) {
-    summed_up(&rt, rt.alloc(), "made 1 1 0", LEAST_SUMMARY);
 }
 
 fn joined(rt: &impl Abort, alloc: Global, text: &MadeText) -> Vec<u8> {

@@ -1,7 +1,7 @@
 //! Sessions of `hear`.
 use crate::harness::{
-    GAS, GAS_LINE, Given, Listener, NO_MEMORY, Pieces, STEADY, Session, assert_bytes, assert_shown,
-    hears, row_of, steady, text_of, word,
+    GAS, GAS_LINE, Given, Listener, Pieces, STEADY, Session, assert_bytes, assert_shown, row_of,
+    word,
 };
 use std::alloc::Global;
 use std::process::Abort;
@@ -51,23 +51,6 @@ end
 const UNREAD_REPORT: &str = "\
 wmbus-report 1
 receiver 1 lines 0 own 0 strangers 0 unframed 0 bad 0 readfault
-meter 9315785634123303 ELS mode 5 last - down 0 steps 0 readings 0
-strangers 0
-end
-";
-
-// The lines are empty, and an empty line has no word.
-const FULL_REPORT: &str = "\
-wmbus-report 1
-receiver 1 lines 131072 own 0 strangers 0 unframed 0 bad 131072 end
-meter 9315785634123303 ELS mode 5 last - down 0 steps 0 readings 0
-strangers 0
-end
-";
-
-const CUT_REPORT: &str = "\
-wmbus-report 1
-receiver 1 lines 131072 own 0 strangers 0 unframed 0 bad 131072 cut
 meter 9315785634123303 ELS mode 5 last - down 0 steps 0 readings 0
 strangers 0
 end
@@ -182,23 +165,4 @@ fn assert_cut_off<R: Threads + Wait + Abort + Sync>(
 fn a_line_counts_once_its_end_was_read(rt: HostRuntime) {
     assert_cut_off(&rt, rt.alloc(), 117, UNREAD_REPORT);
     assert_cut_off(&rt, rt.alloc(), 118, GAS_REPORT);
-}
-
-// Asserts what a session of so many empty lines comes to.
-fn assert_newlines<R: Threads + Wait + Abort + Sync>(
-    rt: &R,
-    alloc: Global,
-    count: usize,
-    status: &str,
-    report: &str,
-) {
-    let newlines = vec![in alloc; b'\n'; count].expect(rt, NO_MEMORY);
-    let receivers = [hears(text_of(rt, &newlines))];
-    assert_heard(rt, alloc, &steady(COMMAND, GAS, &receivers), status, report);
-}
-
-#[test]
-fn a_receiver_is_cut_at_a_byte_behind_its_last_line(rt: HostRuntime) {
-    assert_newlines(&rt, rt.alloc(), 131_072, "Done", FULL_REPORT);
-    assert_newlines(&rt, rt.alloc(), 131_073, "Cut(1)", CUT_REPORT);
 }
