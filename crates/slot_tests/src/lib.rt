@@ -1,4 +1,4 @@
-//! Tests of the slots and of what stands round them: queues, windows, strangers, receivers, reports, made sessions and the meter's side.
+//! Tests of the slots and of what stands round them: queues, windows, strangers, receivers, reports, made sessions, states and the meter's side.
 #![tactic(auto)]
 
 #[cfg(test)]
@@ -17,5 +17,7 @@ mod meter_slots_calls;
 mod receivers_calls;
 #[cfg(test)]
 mod report_text_calls;
+#[cfg(test)]
+mod state_file_calls;
 #[cfg(test)]
 mod stranger_ring_calls;

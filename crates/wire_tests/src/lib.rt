@@ -1,9 +1,11 @@
-//! The ciphers and the layers of a telegram, tried by their public calls: against the examples of the standards, and against
+//! The ciphers, the layers of a telegram, its fragments and what its message says once it is checked and decrypted, tried by their public calls: against the examples of the standards, and against
 //! answers that other implementations gave.
 #![tactic(auto)]
 
 #[cfg(test)]
 mod aes_block_calls;
+#[cfg(test)]
+mod afl_fragments_calls;
 #[cfg(test)]
 mod afl_layer_calls;
 #[cfg(test)]
@@ -18,6 +20,8 @@ mod ell_layer_calls;
 mod frame_formats_calls;
 #[cfg(test)]
 mod key_derivation_calls;
+#[cfg(test)]
+mod message_check_calls;
 #[cfg(test)]
 mod rows;
 #[cfg(test)]

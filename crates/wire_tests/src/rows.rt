@@ -6,6 +6,7 @@ use crate::cbc_cmac_calls::{assert_chain, assert_mac};
 use crate::downlink_maker_calls::assert_downlink;
 use crate::ell_layer_calls::assert_ell;
 use crate::key_derivation_calls::assert_derived;
+use crate::message_check_calls::{assert_five, assert_layers, assert_seven};
 use crate::tpl_headers_calls::assert_tpl;
 use std::alloc::Global;
 use std::process::Abort;
@@ -20,7 +21,10 @@ pub(crate) enum Kind {
     Derived,
     Downlink,
     Ell,
+    Five,
+    Layers,
     Mac,
+    Seven,
     Tpl,
 }
 
@@ -33,7 +37,10 @@ fn assert_row(rt: &impl Abort, alloc: Global, kind: Kind, row: &str) {
         Kind::Derived => assert_derived(rt, alloc, row),
         Kind::Downlink => assert_downlink(rt, alloc, row),
         Kind::Ell => assert_ell(rt, alloc, row),
+        Kind::Five => assert_five(rt, alloc, row),
+        Kind::Layers => assert_layers(rt, alloc, row),
         Kind::Mac => assert_mac(rt, alloc, row),
+        Kind::Seven => assert_seven(rt, alloc, row),
         Kind::Tpl => assert_tpl(rt, alloc, row),
     }
 }

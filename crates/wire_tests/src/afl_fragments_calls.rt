@@ -1,6 +1,8 @@
 //! Fragments that are held, and the messages that they make.
+use crate::asserts::assert_bytes;
 use afl_fragments::{Held, Part, Parts, held_is_latest, message_is_joined};
 use afl_layer::{Afl, Auth, Scratch};
+use std::process::Abort;
 
 const MAC: [u8; 8] = [1, 2, 3, 4, 5, 6, 7, 8];
 
@@ -57,6 +59,27 @@ fn third() -> Part {
     Part::new(THIRD, &[30])
 }
 
+// Asserts that fragments are held, one after another.
+fn assert_held(rt: &impl Abort, parts: &mut Parts, part: Part, wanted: Held) {
+    assert_eq!(rt; parts.hold(part), wanted);
+}
+
+// Asserts what the fragments that are held make behind what lies in a buffer.
+fn assert_whole(
+    rt: &impl Abort,
+    parts: &Parts,
+    out: &mut Scratch,
+    auth: Option<Auth>,
+    wanted: &[u8],
+) {
+    assert_eq!(rt; parts.whole(out), auth);
+    assert_bytes(rt, out.bytes(), wanted, "message");
+}
+
+fn assert_bytes_held(rt: &impl Abort, parts: &Parts, wanted: usize) {
+    assert_eq!(rt; parts.held_bytes(), wanted);
+}
+
 // Heard in any order, and again: each is held once, and the message is put together when none is missing. Once it was
 // stored, nothing is held.
 #[test]
@@ -65,18 +88,17 @@ fn in_any_order(rt: HostRuntime) {
     let mut out = Scratch::new();
     out.extend(&[9]);
     for part in [third(), third(), first(), first()] {
-        assert_eq!(rt; parts.hold(part), Held::Kept);
-        assert_eq!(rt; parts.whole(&mut out), None);
+        assert_held(&rt, &mut parts, part, Held::Kept);
+        assert_whole(&rt, &parts, &mut out, None, &[9]);
     }
-    assert_eq!(rt; out.bytes(), [9].as_slice());
-    assert_eq!(rt; parts.held_bytes(), 3);
-    assert_eq!(rt; parts.hold(second()), Held::Kept);
-    assert_eq!(rt; parts.whole(&mut out), Some(AUTH));
-    assert_eq!(rt; out.bytes(), [10, 11, 20, 21, 22, 30].as_slice());
+    assert_bytes_held(&rt, &parts, 3);
+    assert_held(&rt, &mut parts, second(), Held::Kept);
+    let message = [10, 11, 20, 21, 22, 30];
+    assert_whole(&rt, &parts, &mut out, Some(AUTH), &message);
     parts.clear();
-    assert_eq!(rt; parts.hold(second()), Held::Kept);
-    assert_eq!(rt; parts.whole(&mut out), None);
-    assert_eq!(rt; parts.held_bytes(), 3);
+    assert_held(&rt, &mut parts, second(), Held::Kept);
+    assert_whole(&rt, &parts, &mut out, None, &message);
+    assert_bytes_held(&rt, &parts, 3);
 }
 
 // A fragment takes the place of an earlier one with its number.
@@ -85,13 +107,13 @@ fn the_latest_counts(rt: HostRuntime) {
     let mut parts = Parts::new();
     let mut out = Scratch::new();
     for part in [first(), Part::new(SECOND, &[20, 21, 23]), third()] {
-        assert_eq!(rt; parts.hold(part), Held::Kept);
+        assert_held(&rt, &mut parts, part, Held::Kept);
     }
-    assert_eq!(rt; parts.whole(&mut out), Some(AUTH));
-    assert_eq!(rt; out.bytes(), [10, 11, 20, 21, 23, 30].as_slice());
-    assert_eq!(rt; parts.hold(second()), Held::Kept);
-    assert_eq!(rt; parts.whole(&mut out), Some(AUTH));
-    assert_eq!(rt; out.bytes(), [10, 11, 20, 21, 22, 30].as_slice());
+    let message = [10, 11, 20, 21, 23, 30];
+    assert_whole(&rt, &parts, &mut out, Some(AUTH), &message);
+    assert_held(&rt, &mut parts, second(), Held::Kept);
+    let message = [10, 11, 20, 21, 22, 30];
+    assert_whole(&rt, &parts, &mut out, Some(AUTH), &message);
 }
 
 // A fragment is there after one tick, and gone after two.
@@ -100,15 +122,15 @@ fn ticks(rt: HostRuntime) {
     let mut parts = Parts::new();
     let mut out = Scratch::new();
     for part in [first(), second()] {
-        assert_eq!(rt; parts.hold(part), Held::Kept);
+        assert_held(&rt, &mut parts, part, Held::Kept);
     }
     parts.tick();
-    assert_eq!(rt; parts.hold(third()), Held::Kept);
-    assert_eq!(rt; parts.whole(&mut out), Some(AUTH));
+    assert_held(&rt, &mut parts, third(), Held::Kept);
+    let message = [10, 11, 20, 21, 22, 30];
+    assert_whole(&rt, &parts, &mut out, Some(AUTH), &message);
     parts.tick();
-    assert_eq!(rt; parts.held_bytes(), 1);
-    assert_eq!(rt; parts.whole(&mut out), None);
-    assert_eq!(rt; out.len(), 6);
+    assert_bytes_held(&rt, &parts, 1);
+    assert_whole(&rt, &parts, &mut out, None, &message);
 }
 
 // Sixteen fragments make a message, and a seventeenth isn't held.
@@ -116,7 +138,7 @@ fn ticks(rt: HostRuntime) {
 fn sixteen_fragments(rt: HostRuntime) {
     let mut parts = Parts::new();
     let mut out = Scratch::new();
-    assert_eq!(rt; parts.hold(first()), Held::Kept);
+    assert_held(&rt, &mut parts, first(), Held::Kept);
     for fid in 2..18u8 {
         let more = fid != 16;
         let part = Part::new(
@@ -132,16 +154,12 @@ fn sixteen_fragments(rt: HostRuntime) {
         } else {
             Held::Kept
         };
-        assert_eq!(rt; parts.hold(part), wanted);
+        assert_held(&rt, &mut parts, part, wanted);
     }
-    let auth = parts.whole(&mut out);
-    assert_eq!(rt; auth, Some(Auth { mac: None, ..AUTH }));
-    assert_eq!(rt; out.len(), 17);
-    assert_eq!(rt; parts.held_bytes(), 17);
-    assert_eq!(rt;
-        out.bytes(),
-        [10, 11, 2, 3, 4, 5, 6, 7, 8, 9, 10, 11, 12, 13, 14, 15, 16].as_slice()
-    );
+    let message = [10, 11, 2, 3, 4, 5, 6, 7, 8, 9, 10, 11, 12, 13, 14, 15, 16];
+    let auth = Some(Auth { mac: None, ..AUTH });
+    assert_whole(&rt, &parts, &mut out, auth, &message);
+    assert_bytes_held(&rt, &parts, 17);
 }
 
 // A fragment gives back what it was made of.
@@ -149,7 +167,7 @@ fn sixteen_fragments(rt: HostRuntime) {
 fn fragments(rt: HostRuntime) {
     let part = second();
     assert_eq!(rt; part.afl(), SECOND);
-    assert_eq!(rt; part.bytes(), [20, 21, 22].as_slice());
+    assert_bytes(&rt, part.bytes(), &[20, 21, 22], "fragment");
     held_is_latest();
     message_is_joined();
 }

@@ -1,5 +1,0 @@
-//! Tests of states as texts.
-#![tactic(auto)]
-
-#[cfg(test)]
-mod states;
