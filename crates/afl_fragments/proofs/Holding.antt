@@ -1,11 +1,11 @@
 -- What is held after one more fragment, a tick and a clearing.
-use Rattle.std.proofs.Common.{◌≡◌, ℕ, zero, suc, ◌+◌, ◌<◌, ◌≤◌, Bool, true, false, not, cond, List, [], ◌∷◌, ◌++◌, length, get_or, set, take, drop, map, filter, refl, ap, sym, ◌∙◌, arith, add-one}
-use Rattle.std.specs.Prelude.{find, ◌==◌, Some}
+use Rattle.std.proofs.Common.{◌≡◌, ℕ, zero, suc, ◌+◌, ◌<◌, ◌≤◌, Bool, false, not, cond, List, [], ◌∷◌, ◌++◌, length, get_or, set, take, drop, map, filter, refl, ap, sym, ◌∙◌, arith, add-one}
+use Rattle.std.specs.Prelude.{find, ◌==◌}
 use Rattle.std.proofs.lemmas.Bool.{le-leb, lt-leb}
 use Rattle.std.proofs.lemmas.Bool.Decides.{nat_tests}
 use Rattle.afl_fragments.specs.Fragment.{Fragment}
 use Rattle.afl_fragments.specs.declared.places.HeldPart.{HeldPart}
-use Rattle.afl_fragments.specs.Held.{Told, Piece, Tick, Clear, since, is_counted, is_fid, others, latest_each, held}
+use Rattle.afl_fragments.specs.Held.{Told, Piece, Tick, Clear, since, is_fid, others, latest_each, held}
 use Rattle.afl_fragments.specs.Places.{held_with, older, is_fresh, aged}
 
 -- the first i of a list, aged, and the rest

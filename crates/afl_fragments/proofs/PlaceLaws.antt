@@ -1,14 +1,13 @@
 -- Laws of sixteen fixed places.
-use Rattle.std.proofs.Common.{◌≡◌, ◌≢◌, ℕ, zero, suc, ◌+◌, ◌<◌, ◌≤◌, eqb, Bool, true, false, not, ◌||◌, cond, List, [], ◌∷◌, length, set, map, filter, refl, ap, sym, ◌∙◌, arith, get_or-set_same, get_or-set_other}
+use Rattle.std.proofs.Common.{◌≡◌, ◌≢◌, ℕ, zero, suc, ◌+◌, ◌<◌, ◌≤◌, eqb, Bool, true, false, not, cond, List, [], ◌∷◌, length, set, map, filter, refl, ap, sym, ◌∙◌, arith, get_or-set_same, get_or-set_other}
 use Rattle.std.specs.List.{list_any, IsDistinct, AllByRecursion}
-use Rattle.std.specs.Prelude.{find, Option, Some, None, IfSome, option_map}
-use Rattle.std.proofs.lemmas.Bool.{eqb-true}
+use Rattle.std.specs.Prelude.{find, Some, None, IfSome, option_map}
 use Rattle.std.proofs.lemmas.Bool.Decides.{nat_tests}
 use Rattle.std.proofs.lemmas.List.{length-set, length-map}
 use Rattle.std.proofs.lemmas.Map.Steps.{length-le_from_distinct_below}
 use Rattle.afl_fragments.specs.Fragment.{Fragment}
 use Rattle.afl_fragments.specs.declared.places.HeldPart.{HeldPart}
-use Rattle.afl_fragments.specs.Held.{is_fid, others, piece_at, is_end, last_end}
+use Rattle.afl_fragments.specs.Held.{others, piece_at, is_end, last_end}
 use Rattle.afl_fragments.specs.Places.{no_held, at_place, held_in, is_in, held_with, older, is_fresh, aged, IsPlace, AreOrdered}
 
 not_place : (i place : ℕ) → eqb place i ≡ false → i ≢ place

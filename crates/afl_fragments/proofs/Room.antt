@@ -1,8 +1,7 @@
 -- A message is no longer than all that is held, and a fragment adds no more than its bytes.
-use Rattle.std.proofs.Common.{◌≡◌, ℕ, zero, suc, ◌+◌, ◌≤◌, ◌<◌, ◌==◌, Bool, true, false, not, cond, List, [], ◌∷◌, ◌++◌, length, Option, Some, None, refl, ap, sym, ◌∙◌, arith, ◌-◌, length-append}
-use Rattle.std.specs.Prelude.{find, option_map, OnSome}
+use Rattle.std.proofs.Common.{◌≡◌, ℕ, zero, suc, ◌+◌, ◌≤◌, ◌<◌, ◌==◌, Bool, false, List, [], ◌∷◌, ◌++◌, length, Option, Some, None, refl, ap, sym, ◌∙◌, arith, ◌-◌, length-append}
+use Rattle.std.specs.Prelude.{find, OnSome}
 use Rattle.std.specs.List.{flat_map}
-use Rattle.std.proofs.lemmas.Bool.{eq-eqb}
 use Rattle.std.proofs.lemmas.Bool.Decides.{nat_tests}
 use Rattle.std.proofs.lemmas.List.{flat_map_more}
 use Rattle.std.proofs.lemmas.List.Sums.{sum_by-cons}
@@ -10,9 +9,10 @@ use Rattle.lists.proofs.Choices.{some_if}
 use Rattle.afl_layer.specs.declared.header.Auth.{Auth}
 use Rattle.afl_fragments.specs.Fragment.{Fragment}
 use Rattle.afl_fragments.specs.declared.places.HeldPart.{HeldPart}
-use Rattle.afl_fragments.specs.Held.{is_fid, others, is_end, piece_at, last_end, with_more, front, Message, joined, message_with, ended_by, assembled, held_bytes}
+use Rattle.afl_fragments.specs.Held.{is_fid, others, is_end, piece_at, with_more, front, Message, message_with, assembled, held_bytes}
 use Rattle.afl_fragments.specs.Places.{held_with}
 use Rattle.afl_fragments.proofs.Holding.{find-others}
+use Rattle.afl_fragments.proofs.MessageLaws.{parts_of}
 
 -- how many bytes a fragment adds
 abbrev weight : HeldPart → ℕ
@@ -85,26 +85,16 @@ front_less (suc f) hs = front_others (suc f - 1) (suc f) hs (omega arith)
 
 -- a message is no longer than all that is held
 pub assembled_room : (hs : List HeldPart) (m : Message) → assembled hs ≡ Some m → length m.bytes ≤ held_bytes hs
-unfolding assembled
-assembled_room hs m e = from_end (last_end hs) refl e
-  where
-    whole : (h : HeldPart) (o : Option (List Fragment)) → front (h.part.afl.fid - 1) hs ≡ o → find is_end hs ≡ Some h
-        → option_map (λ parts. joined parts h.part) o ≡ Some m → length m.bytes ≤ held_bytes hs
-    whole h None f l k = absurd cc
-    whole h (Some parts) f l k =
-        let same : joined parts h.part ≡ m = cc in
-        let less = front_room (h.part.afl.fid - 1) (others h.part.afl.fid hs) parts (front_less h.part.afl.fid hs ∙ f) in
-        omega (
-          arith,
-          sym (ap (λ (n : Message). length n.bytes) same),
-          length-append (bytes_of parts) h.part.bytes,
-          less,
-          found_less is_end hs h l,
-        )
-
-    from_end : (o : Option HeldPart) → find is_end hs ≡ o → ended_by o hs ≡ Some m → length m.bytes ≤ held_bytes hs
-    from_end None l k = absurd cc
-    from_end (Some h) l k = whole h (front (h.part.afl.fid - 1) hs) refl l k
+assembled_room hs m e =
+    let of = parts_of hs m e in
+    let f : ℕ = of.end.part.afl.fid in
+    omega (
+      arith,
+      sym (ap (λ (n : Message). length n.bytes) of.whole),
+      length-append (bytes_of of.parts) of.end.part.bytes,
+      front_room (f - 1) (others f hs) of.parts (front_less f hs ∙ of.front_is),
+      found_less is_end hs of.end of.last,
+    )
 
 pub whole_room : (o : Option Auth) (bytes : List ℕ) (hs : List HeldPart) → message_with o bytes ≡ assembled hs
     → OnSome o (length bytes ≤ held_bytes hs)
