@@ -1,5 +1,5 @@
 -- The fragments 1 to n in their places.
-use Rattle.std.proofs.Common.{◌≡◌, ℕ, zero, suc, ◌+◌, ◌-◌, ◌<◌, Bool, true, false, ◌&&◌, cond, List, [], ◌∷◌, ◌++◌, length, take, Some, None, refl, ap, sym, ◌∙◌, arith, subst, add-one, zero-add, suc-add}
+use Rattle.std.proofs.Common.{◌≡◌, ℕ, zero, suc, ◌+◌, ◌-◌, ◌<◌, true, false, cond, List, [], ◌∷◌, ◌++◌, length, take, Some, None, refl, ap, sym, ◌∙◌, arith, subst, add-one, zero-add, suc-add}
 use Rattle.std.specs.Prelude.{option_map}
 use Rattle.std.specs.List.{flat_map}
 use Rattle.std.proofs.lemmas.List.{take_more, map-append, flat_map_more}
@@ -8,11 +8,6 @@ use Rattle.afl_fragments.specs.declared.places.HeldPart.{HeldPart}
 use Rattle.afl_fragments.specs.Held.{piece_at, last_end, front, with_more, auth_of, first_of, joined, ended_by, assembled}
 use Rattle.afl_fragments.specs.Places.{no_held, at_place, held_in, is_in, is_led, parts_in, IsPlace, AreOrdered}
 use Rattle.afl_fragments.proofs.PlaceLaws.{piece_at_place}
-
-led_cond : (b c : Bool) (parts : List Fragment) (h : HeldPart) → h.part.afl.more ≡ c
-    → with_more (Some parts) (cond b (Some h) None) ≡ cond (b && c) (Some (parts ++ h.part ∷ [])) None
-led_cond true c parts h e = ap (λ t. cond t (Some (parts ++ h.part ∷ [])) None) e
-led_cond false c parts h e = refl
 
 one_more : (places : List HeldPart) (n : ℕ) → n < length places
     → parts_in (take n places) ++ (at_place places n).part ∷ [] ≡ parts_in (take (n + 1) places)
@@ -26,11 +21,8 @@ front_more places order n a l e =
     let piece : piece_at (suc n) (held_in places order) ≡ cond (is_in n order) (Some (at_place places n)) None =
     ap (λ k. piece_at k (held_in places order)) (sym (add-one n)) ∙ piece_at_place places order n a.each in
     let within : n < length places = omega (arith, a.long) in
-    ap (λ k. front k (held_in places order)) (add-one n)
-    ∙ ap (λ o. with_more o (piece_at (suc n) (held_in places order))) e
-    ∙ ap (with_more (Some (parts_in (take n places)))) piece
-    ∙ led_cond (is_in n order) (at_place places n).part.afl.more (parts_in (take n places)) (at_place places n) refl
-    ∙ ap (λ parts. cond (is_led places order n) (Some parts) None) (one_more places n within)
+    let longer = one_more places n within in
+    ap (λ k. front k (held_in places order)) (add-one n) ∙ rw (e, piece) (grind arith)
 
 -- a front that isn't there has no longer one
 front_none : (n m : ℕ) (hs : List HeldPart) → front n hs ≡ None → front (m + n) hs ≡ None

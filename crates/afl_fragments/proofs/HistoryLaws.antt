@@ -1,7 +1,7 @@
 -- The message of a history, and the numbers that are held.
-use Rattle.std.proofs.Common.{◌≡◌, ℕ, ◌+◌, ◌≤◌, ◌↔◌, Bool, true, false, cond, List, [], ◌∷◌, count_by, Option, Some, refl, sym, ap, ◌∙◌, arith}
-use Rattle.std.specs.Prelude.{not}
-use Rattle.std.proofs.lemmas.Bool.{eqb-true}
+use Rattle.std.proofs.Common.{◌≡◌, ℕ, ◌+◌, ◌≤◌, ◌↔◌, Bool, true, false, cond, List, [], ◌∷◌, count_by, Option, Some, refl, sym, ap, ◌∙◌, arith, inl, inr}
+use Rattle.std.proofs.lemmas.Bool.{cases_eq, ne_eqb}
+use Rattle.std.proofs.lemmas.Bool.Decides.{nat_tests}
 use Rattle.std.proofs.lemmas.List.Sums.{sum_by-cons}
 use Rattle.afl_fragments.specs.declared.places.HeldPart.{HeldPart}
 use Rattle.afl_fragments.specs.Held.{Told, Message, StandsFor, is_fid, others, latest_each, since, held, assembled}
@@ -50,40 +50,30 @@ message_of hs told m o stands is =
 with_one : (f : ℕ) (x : HeldPart) (xs : List HeldPart) → count_by (is_fid f) (x ∷ xs) ≡ cond (is_fid f x) 1 0 + count_by (is_fid f) xs
 with_one f x xs = sum_by-cons (λ h. cond (is_fid f h) 1 0) x xs
 
-fewer_cond : (b : Bool) (f : ℕ) (x : HeldPart) (xs ys : List HeldPart) → count_by (is_fid f) ys ≤ count_by (is_fid f) xs
-    → count_by (is_fid f) (cond b (x ∷ ys) ys) ≤ count_by (is_fid f) (x ∷ xs)
-fewer_cond true f x xs ys l = omega (arith, l, with_one f x xs, with_one f x ys)
-fewer_cond false f x xs ys l = omega (arith, l, with_one f x xs)
-
 fewer : (f g : ℕ) (xs : List HeldPart) → count_by (is_fid f) (others g xs) ≤ count_by (is_fid f) xs
 fewer f g [] = omega arith
-fewer f g (x ∷ xs) = fewer_cond (not (is_fid g x)) f x xs (others g xs) (fewer f g xs)
-
-other : (f : ℕ) (x : HeldPart) (xs : List HeldPart) → is_fid f x ≡ false → count_by (is_fid f) (x ∷ xs) ≡ count_by (is_fid f) xs
-other f x xs e = with_one f x xs ∙ ap (λ (t : Bool). cond t 1 0 + count_by (is_fid f) xs) e ∙ omega arith
-
-none_cond : (b : Bool) (f : ℕ) (x : HeldPart) (ys : List HeldPart) → is_fid f x ≡ b → count_by (is_fid f) ys ≡ 0
-    → count_by (is_fid f) (cond (not b) (x ∷ ys) ys) ≡ 0
-none_cond true f x ys e h = h
-none_cond false f x ys e h = other f x ys e ∙ h
+fewer f g (x ∷ xs) = let rest = fewer f g xs in grind (arith, nat_tests, with_one f x xs, with_one f x (others g xs))
 
 none : (f : ℕ) (xs : List HeldPart) → count_by (is_fid f) (others f xs) ≡ 0
 none f [] = refl
-none f (x ∷ xs) = none_cond (is_fid f x) f x (others f xs) refl (none f xs)
-
-once_cond : (b : Bool) (f : ℕ) (x : HeldPart) (xs : List HeldPart) → is_fid f x ≡ b → count_by (is_fid f) xs ≤ 1
-    → count_by (is_fid f) (x ∷ others x.part.afl.fid xs) ≤ 1
-once_cond true f x xs e h =
-    let same : x.part.afl.fid ≡ f = eqb-true x.part.afl.fid f e in
-    let rest : count_by (is_fid f) (others x.part.afl.fid xs) ≡ 0 = ap (λ (g : ℕ). count_by (is_fid f) (others g xs)) same ∙ none f xs in
-    let weight : ℕ = cond (is_fid f x) 1 0 in
-    let here : weight ≡ 1 = ap (λ (t : Bool). let n : ℕ = cond t 1 0 in n) e in
-    omega (arith, with_one f x (others x.part.afl.fid xs), rest, here)
-once_cond false f x xs e h = omega (arith, other f x (others x.part.afl.fid xs) e, fewer f x.part.afl.fid xs, h)
+none f (x ∷ xs) = let rest = none f xs in grind (arith, nat_tests, with_one f x (others f xs))
 
 once : (f : ℕ) (xs : List HeldPart) → count_by (is_fid f) (latest_each xs) ≤ 1
 once f [] = omega arith
-once f (x ∷ xs) = once_cond (is_fid f x) f x (latest_each xs) refl (once f xs)
+once f (x ∷ xs) =
+    let g : ℕ = x.part.afl.fid in
+    let less = fewer f g (latest_each xs) in
+    let rest = once f xs in
+    let same = λ (e : g ≡ f). ap (λ (k : ℕ). count_by (is_fid f) (others k (latest_each xs))) e ∙ none f (latest_each xs) in
+    let one = with_one f x (others g (latest_each xs)) in
+    elim (cases_eq g f) [
+      | inl e ↦ omega (arith, same e, one, at_most (is_fid f x))
+      | inr e ↦ omega (arith, one, ap (λ (t : Bool). let n : ℕ = cond t 1 0 in n) (ne_eqb g f e))
+    ]
+  where
+    at_most : (b : Bool) → cond {A = ℕ} b 1 0 ≤ 1
+    at_most true = omega arith
+    at_most false = omega arith
 
 pub each_number_is_held_once : EachNumberIsHeldOnce
 unfolding held

@@ -1,11 +1,11 @@
 -- What is held after one more fragment, a tick and a clearing.
-use Rattle.std.proofs.Common.{◌≡◌, ℕ, zero, suc, ◌+◌, ◌<◌, ◌≤◌, Bool, true, false, not, cond, List, [], ◌∷◌, ◌++◌, length, get_or, set, take, drop, map, filter, refl, ap, sym, ◌∙◌, arith, add-one}
-use Rattle.std.specs.Prelude.{find, ◌==◌, Some}
+use Rattle.std.proofs.Common.{◌≡◌, ℕ, zero, suc, ◌+◌, ◌<◌, ◌≤◌, Bool, false, not, cond, List, [], ◌∷◌, ◌++◌, length, get_or, set, take, drop, map, filter, refl, ap, sym, ◌∙◌, arith, add-one}
+use Rattle.std.specs.Prelude.{find, ◌==◌}
 use Rattle.std.proofs.lemmas.Bool.{le-leb, lt-leb}
 use Rattle.std.proofs.lemmas.Bool.Decides.{nat_tests}
 use Rattle.afl_fragments.specs.Fragment.{Fragment}
 use Rattle.afl_fragments.specs.declared.places.HeldPart.{HeldPart}
-use Rattle.afl_fragments.specs.Held.{Told, Piece, Tick, Clear, since, is_counted, is_fid, others, latest_each, held}
+use Rattle.afl_fragments.specs.Held.{Told, Piece, Tick, Clear, since, is_fid, others, latest_each, held}
 use Rattle.afl_fragments.specs.Places.{held_with, older, is_fresh, aged}
 
 -- the first i of a list, aged, and the rest
@@ -25,77 +25,44 @@ aging xs ys i d e h = rw (e, add-one) (aging_half xs i d h)
 
 -- ---- filters
 
-pub filter-cond : {X : Type 0} (p : X → Bool) (b : Bool) (x : X) (xs : List X)
-    → filter p (cond b (x ∷ xs) xs) ≡ cond b (cond (p x) (x ∷ filter p xs) (filter p xs)) (filter p xs)
-filter-cond p true x xs = refl
-filter-cond p false x xs = refl
-
-cond_swap : {X : Type 0} (a b : Bool) (u v : X) → cond a (cond b u v) v ≡ cond b (cond a u v) v
-cond_swap true true u v = refl
-cond_swap true false u v = refl
-cond_swap false true u v = refl
-cond_swap false false u v = refl
-
 pub filter-filter : {X : Type 0} (p q : X → Bool) (xs : List X) → filter p (filter q xs) ≡ filter q (filter p xs)
 filter-filter p q [] = refl
-filter-filter p q (x ∷ xs) =
-    filter-cond p (q x) x (filter q xs) ∙ cond_swap (q x) (p x) (x ∷ filter p (filter q xs)) (filter p (filter q xs))
-    ∙ ap (λ ys. cond (p x) (cond (q x) (x ∷ ys) ys) ys) (filter-filter p q xs) ∙ sym (filter-cond q (p x) x (filter p xs))
-
-map-cond : (b : Bool) (h : HeldPart) (hs : List HeldPart) → cond b (older h ∷ map older hs) (map older hs) ≡ map older (cond b (h ∷ hs) hs)
-map-cond true h hs = refl
-map-cond false h hs = refl
+filter-filter p q (x ∷ xs) = let rest = filter-filter p q xs in grind arith
 
 pub others-older : (fid : ℕ) (hs : List HeldPart) → others fid (map older hs) ≡ map older (others fid hs)
 others-older fid [] = refl
-others-older fid (h ∷ hs) =
-    ap (λ gs. cond (not (is_fid fid h)) (older h ∷ gs) gs) (others-older fid hs) ∙ map-cond (not (is_fid fid h)) h (others fid hs)
+others-older fid (h ∷ hs) = let rest = others-older fid hs in grind arith
 
 -- ---- a look-up
-
-neither : (x g f : ℕ) → (x == g) ≡ true → (g == f) ≡ false → (x == f) ≡ false
-neither x g f a b = grind (arith, nat_tests)
-
-find_cond : (f : ℕ) (b : Bool) (x : HeldPart) (xs : List HeldPart) → (b ≡ true → is_fid f x ≡ false)
-    → find (is_fid f) (cond (not b) (x ∷ xs) xs) ≡ cond (is_fid f x) (Some x) (find (is_fid f) xs)
-find_cond f true x xs h = ap (λ t. cond t (Some x) (find (is_fid f) xs)) (sym (h refl))
-find_cond f false x xs h = refl
 
 -- without a number, each other one is found as before
 pub find-others : (f g : ℕ) (xs : List HeldPart) → (g == f) ≡ false → find (is_fid f) (others g xs) ≡ find (is_fid f) xs
 find-others f g [] e = refl
-find-others f g (x ∷ xs) e = find_cond f (is_fid g x) x (others g xs) (λ t. neither x.part.afl.fid g f t e)
-    ∙ ap (cond (is_fid f x) (Some x)) (find-others f g xs e)
+find-others f g (x ∷ xs) e = let rest = find-others f g xs e in grind (arith, nat_tests)
 
 -- ---- a tick
 
 abbrev heard : ℕ → Fragment → HeldPart
 heard n part = record { ticks = n; part = part }
 
-none_fresh_if : (b : Bool) (part : Fragment) (hs : List HeldPart) → filter is_fresh (latest_each hs) ≡ []
-    → filter is_fresh (latest_each (cond b (heard 1 part ∷ hs) hs)) ≡ []
-none_fresh_if true part hs h = filter-filter is_fresh (λ g. not (is_fid part.afl.fid g)) (latest_each hs) ∙ ap (others part.afl.fid) h
-none_fresh_if false part hs h = h
-
 -- what has seen a tick isn't fresh
 none_fresh : (told : List Told) → filter is_fresh (latest_each (since 1 told)) ≡ []
 none_fresh [] = refl
-none_fresh (Piece part ∷ told) = none_fresh_if (is_counted part) part (since 1 told) (none_fresh told)
+none_fresh (Piece part ∷ told) =
+    let rest = none_fresh told in
+    let other = filter-filter is_fresh (λ g. not (is_fid part.afl.fid g)) (latest_each (since 1 told)) ∙ ap (others part.afl.fid) rest in
+    grind arith
 none_fresh (Tick ∷ told) = refl
 none_fresh (Clear ∷ told) = refl
 
-aged_if : (b : Bool) (part : Fragment) (hs gs : List HeldPart) → latest_each gs ≡ aged (latest_each hs)
-    → latest_each (cond b (heard 1 part ∷ gs) gs) ≡ aged (latest_each (cond b (heard 0 part ∷ hs) hs))
-aged_if true part hs gs h =
-    let other = λ (g : HeldPart). not (is_fid part.afl.fid g) in
-    ap (λ ks. heard 1 part ∷ ks)
-    (ap (filter other) h ∙ others-older part.afl.fid (filter is_fresh (latest_each hs))
-    ∙ ap (map older) (filter-filter other is_fresh (latest_each hs)))
-aged_if false part hs gs h = h
-
 latest_each-tick : (told : List Told) → latest_each (since 1 told) ≡ aged (latest_each (since 0 told))
 latest_each-tick [] = refl
-latest_each-tick (Piece part ∷ told) = aged_if (is_counted part) part (since 0 told) (since 1 told) (latest_each-tick told)
+latest_each-tick (Piece part ∷ told) =
+    let rest = latest_each-tick told in
+    let other = λ (g : HeldPart). not (is_fid part.afl.fid g) in
+    let hs : List HeldPart = latest_each (since 0 told) in
+    let left = ap (filter other) rest ∙ others-older part.afl.fid (filter is_fresh hs) ∙ ap (map older) (filter-filter other is_fresh hs) in
+    grind arith
 latest_each-tick (Tick ∷ told) = ap (map older) (sym (none_fresh told))
 latest_each-tick (Clear ∷ told) = refl
 

@@ -1,6 +1,7 @@
 -- The fragments of a message are those with the numbers from 1 on.
-use Rattle.std.proofs.Common.{◌≡◌, ℕ, zero, suc, ◌+◌, ◌-◌, ◌<◌, ◌≤◌, Bool, true, false, cond, List, [], ◌∷◌, ◌++◌, length, take, Option, Some, None, refl, ap, sym, ◌∙◌, arith, subst, inl, inr, ⊎_elim, ◌⊎◌, add-one}
+use Rattle.std.proofs.Common.{◌≡◌, ℕ, zero, suc, ◌+◌, ◌-◌, ◌<◌, ◌≤◌, true, List, [], ◌∷◌, ◌++◌, length, take, Option, Some, None, refl, ap, sym, ◌∙◌, arith, subst, inl, inr, ⊎_elim, ◌⊎◌, add-one}
 use Rattle.std.proofs.lemmas.List.{length_push, take_all}
+use Rattle.lists.proofs.Choices.{some_if}
 use Rattle.std.specs.Prelude.{slice_get, option_map}
 use Rattle.afl_fragments.specs.Fragment.{Fragment}
 use Rattle.afl_fragments.specs.declared.places.HeldPart.{HeldPart}
@@ -49,11 +50,9 @@ front_with : (n : ℕ) (hs : List HeldPart) (o : Option (List Fragment)) (p : Op
     → with_more o p ≡ Some parts → IsFront (suc n) hs parts
 front_with n hs None p parts f e k = absurd cc
 front_with n hs (Some ps) None parts f e k = absurd cc
-front_with n hs (Some ps) (Some h) parts f e k = either h.part.afl.more refl k
-  where
-    either : (b : Bool) → h.part.afl.more ≡ b → cond b (Some (ps ++ h.part ∷ [])) None ≡ Some parts → IsFront (suc n) hs parts
-    either true t j = let same : ps ++ h.part ∷ [] ≡ parts = cc in subst (IsFront (suc n) hs) same (more_leading n hs ps h (f ps refl) e t)
-    either false t j = absurd cc
+front_with n hs (Some ps) (Some h) parts f e k =
+    let last = some_if h.part.afl.more (ps ++ h.part ∷ []) parts k in
+    subst (IsFront (suc n) hs) last.1 (more_leading n hs ps h (f ps refl) e last.0)
 
 front_is : (n : ℕ) (hs : List HeldPart) (parts : List Fragment) → front n hs ≡ Some parts → IsFront n hs parts
 front_is zero hs parts e =
@@ -75,9 +74,7 @@ got (x ∷ xs) (suc k) l = let g = got xs k (omega arith) in (g.0, g.1, ap (λ y
 with_part : (parts : List Fragment) (p : Option HeldPart) (part : Fragment) → option_map (λ h. h.part) p ≡ Some part → part.afl.more ≡ true
     → with_more (Some parts) p ≡ Some (parts ++ part ∷ [])
 with_part parts None part e t = absurd cc
-with_part parts (Some h) part e t =
-    let same : h.part ≡ part = cc in
-    ap (λ (x : Fragment). cond x.afl.more (Some (parts ++ x ∷ [])) None) same ∙ ap (λ b. cond b (Some (parts ++ part ∷ [])) None) t
+with_part parts (Some h) part e t = let same : h.part ≡ part = cc in grind arith
 
 is_front : (n : ℕ) (hs : List HeldPart) (parts : List Fragment) → AreLeading hs parts → n ≤ length parts → front n hs ≡ Some (take n parts)
 is_front zero hs parts a l = refl
@@ -89,30 +86,41 @@ is_front (suc n) hs parts a l =
 
 -- ---- the message
 
-pub assembled_is : (hs : List HeldPart) (m : Message) → assembled hs ≡ Some m → IsMessage hs m
+-- the end and the front of which a message is made
+pub record IsOf (hs : List HeldPart) (m : Message) : Type 0 where
+  pub end : HeldPart
+  pub parts : List Fragment
+  pub last : last_end hs ≡ Some end
+  pub front_is : front (end.part.afl.fid - 1) hs ≡ Some parts
+  pub whole : joined parts end.part ≡ m
+
+pub parts_of : (hs : List HeldPart) (m : Message) → assembled hs ≡ Some m → IsOf hs m
 unfolding assembled
-assembled_is hs m e = from_end (last_end hs) refl e
+parts_of hs m e = from_end (last_end hs) refl e
   where
     whole : (h : HeldPart) (o : Option (List Fragment)) → front (h.part.afl.fid - 1) hs ≡ o → last_end hs ≡ Some h
-        → option_map (λ parts. joined parts h.part) o ≡ Some m → IsMessage hs m
+        → option_map (λ parts. joined parts h.part) o ≡ Some m → IsOf hs m
     whole h None f l k = absurd cc
     whole h (Some parts) f l k =
-        let same : joined parts h.part ≡ m = cc in
-        let is = front_is (h.part.afl.fid - 1) hs parts f in
-        record {
-          parts = parts;
-          last = h.part;
-          ends = ap (option_map (λ (x : HeldPart). x.part)) l;
-          counted = is.counted;
-          held =
-              is.leading.held;
-          leads = is.leading.leads;
-          message = sym same;
-        }
+        let same : joined parts h.part ≡ m = cc in record { end = h; parts = parts; last = l; front_is = f; whole = same }
 
-    from_end : (o : Option HeldPart) → last_end hs ≡ o → ended_by o hs ≡ Some m → IsMessage hs m
+    from_end : (o : Option HeldPart) → last_end hs ≡ o → ended_by o hs ≡ Some m → IsOf hs m
     from_end None l k = absurd cc
     from_end (Some h) l k = whole h (front (h.part.afl.fid - 1) hs) refl l k
+
+pub assembled_is : (hs : List HeldPart) (m : Message) → assembled hs ≡ Some m → IsMessage hs m
+assembled_is hs m e =
+    let of = parts_of hs m e in
+    let is = front_is (of.end.part.afl.fid - 1) hs of.parts of.front_is in
+    record {
+      parts = of.parts;
+      last = of.end.part;
+      ends = ap (option_map (λ (x : HeldPart). x.part)) of.last;
+      counted = is.counted;
+      held = is.leading.held;
+      leads = is.leading.leads;
+      message = sym of.whole;
+    }
 
 pub is_assembled : (hs : List HeldPart) (m : Message) → IsMessage hs m → assembled hs ≡ Some m
 unfolding assembled

@@ -1,74 +1,48 @@
 -- Laws of sixteen fixed places.
-use Rattle.std.proofs.Common.{◌≡◌, ◌≢◌, ℕ, zero, suc, ◌+◌, ◌<◌, ◌≤◌, eqb, Bool, true, false, not, ◌||◌, cond, List, [], ◌∷◌, length, set, map, filter, refl, ap, sym, ◌∙◌, arith, get_or-set_same, get_or-set_other}
+use Rattle.std.proofs.Common.{◌≡◌, ◌≢◌, ℕ, zero, suc, ◌+◌, ◌<◌, ◌≤◌, eqb, Bool, true, false, not, cond, List, [], ◌∷◌, length, set, map, filter, refl, ap, sym, ◌∙◌, arith, get_or-set_same, get_or-set_other}
 use Rattle.std.specs.List.{list_any, IsDistinct, AllByRecursion}
-use Rattle.std.specs.Prelude.{find, Option, Some, None, IfSome, option_map}
-use Rattle.std.proofs.lemmas.Bool.{eqb-true}
+use Rattle.std.specs.Prelude.{find, Some, None, IfSome, option_map}
 use Rattle.std.proofs.lemmas.Bool.Decides.{nat_tests}
 use Rattle.std.proofs.lemmas.List.{length-set, length-map}
 use Rattle.std.proofs.lemmas.Map.Steps.{length-le_from_distinct_below}
 use Rattle.afl_fragments.specs.Fragment.{Fragment}
 use Rattle.afl_fragments.specs.declared.places.HeldPart.{HeldPart}
-use Rattle.afl_fragments.specs.Held.{is_fid, others, piece_at, is_end, last_end}
+use Rattle.afl_fragments.specs.Held.{others, piece_at, is_end, last_end}
 use Rattle.afl_fragments.specs.Places.{no_held, at_place, held_in, is_in, held_with, older, is_fresh, aged, IsPlace, AreOrdered}
 
 not_place : (i place : ℕ) → eqb place i ≡ false → i ≢ place
 not_place i place h e = grind (arith, nat_tests)
-
-flipped : (i place : ℕ) → eqb i place ≡ false → eqb place i ≡ false
-flipped i place h = grind (arith, nat_tests)
-
-same_tests : (i place f : ℕ) → f ≡ i + 1 → eqb f (place + 1) ≡ eqb i place
-same_tests i place f h = grind (arith, nat_tests)
 
 -- ---- lists of places
 
 abbrev other_places : ℕ → List ℕ → List ℕ
 other_places place order = filter (λ i. not (eqb i place)) order
 
-each_cond : (P : ℕ → Type 0) (b : Bool) (i : ℕ) (is : List ℕ) → P i → AllByRecursion P is → AllByRecursion P (cond b (i ∷ is) is)
-each_cond P true i is h k = (h, k)
-each_cond P false i is h k = k
-
 each_filter : (P : ℕ → Type 0) (f : ℕ → Bool) (is : List ℕ) → AllByRecursion P is → AllByRecursion P (filter f is)
 each_filter P f [] h = tt
-each_filter P f (i ∷ is) h = each_cond P (f i) i (filter f is) h.0 (each_filter P f is h.1)
-
-other_cond : (b : Bool) (i place : ℕ) (is : List ℕ) → eqb i place ≡ b → AllByRecursion (λ j. eqb place j ≡ false) is
-    → AllByRecursion (λ j. eqb place j ≡ false) (cond (not b) (i ∷ is) is)
-other_cond true i place is e h = h
-other_cond false i place is e h = (flipped i place e, h)
+each_filter P f (i ∷ is) h = let here = h.0 in let rest = each_filter P f is h.1 in grind arith
 
 -- none of the others is the place
 others_differ : (place : ℕ) (is : List ℕ) → AllByRecursion (λ j. eqb place j ≡ false) (other_places place is)
 others_differ place [] = tt
-others_differ place (i ∷ is) = other_cond (eqb i place) i place (other_places place is) refl (others_differ place is)
-
-distinct_cond : (b : Bool) (i : ℕ) (is : List ℕ) → AllByRecursion (λ j. eqb i j ≡ false) is → IsDistinct eqb is
-    → IsDistinct eqb (cond b (i ∷ is) is)
-unfolding IsDistinct
-distinct_cond true i is h k = (h, k)
-distinct_cond false i is h k = k
+others_differ place (i ∷ is) = let rest = others_differ place is in grind (arith, nat_tests)
 
 distinct_filter : (f : ℕ → Bool) (is : List ℕ) → IsDistinct eqb is → IsDistinct eqb (filter f is)
 unfolding IsDistinct
 distinct_filter f [] h = tt
-distinct_filter f (i ∷ is) h = distinct_cond (f i) i (filter f is) (each_filter (λ j. eqb i j ≡ false) f is h.0) (distinct_filter f is h.1)
+distinct_filter f (i ∷ is) h =
+    let here = each_filter (λ j. eqb i j ≡ false) f is h.0 in
+    let rest = distinct_filter f is h.1 in
+    grind arith
 
 -- the place first, and then the others
 distinct_first : (place : ℕ) (order : List ℕ) → IsDistinct eqb order → IsDistinct eqb (place ∷ other_places place order)
 unfolding IsDistinct
 distinct_first place order h = (others_differ place order, distinct_filter (λ i. not (eqb i place)) order h)
 
-same_below : (q i n : ℕ) → eqb q i ≡ true → i < n → q < n
-same_below q i n t below = grind (arith, nat_tests)
-
-either_below : (q i n : ℕ) (b c : Bool) → eqb q i ≡ b → i < n → (c ≡ true → q < n) → (b || c) ≡ true → q < n
-either_below q i n true c t below rest u = same_below q i n t below
-either_below q i n false c t below rest u = rest u
-
 any_below : (places : List HeldPart) (is : List ℕ) → AllByRecursion (IsPlace places) is → (q : ℕ) → list_any (eqb q) is ≡ true → q < 16
 any_below places [] h q e = absurd cc
-any_below places (i ∷ is) h q e = either_below q i 16 (eqb q i) (list_any (eqb q) is) refl h.0.0 (any_below places is h.1 q) e
+any_below places (i ∷ is) h q e = let here = h.0.0 in let rest = any_below places is h.1 q in grind (arith, nat_tests)
 
 -- no more than sixteen are in use
 pub few_places : (places : List HeldPart) (order : List ℕ) → AreOrdered places order → length order ≤ 16
@@ -90,20 +64,12 @@ held_in-set places place h (i ∷ order) a =
     ap (λ g. g ∷ held_in (set places place h) order) (at_set_other places place i h a.0)
     ∙ ap (λ gs. at_place places i ∷ gs) (held_in-set places place h order a.1)
 
-held_in-cond : (places : List HeldPart) (b : Bool) (i : ℕ) (order : List ℕ)
-    → held_in places (cond b (i ∷ order) order) ≡ cond b (at_place places i ∷ held_in places order) (held_in places order)
-held_in-cond places true i order = refl
-held_in-cond places false i order = refl
-
 -- leaving a place out is leaving its fragment out
 held_in-others : (places : List HeldPart) (place : ℕ) (order : List ℕ) → AllByRecursion (IsPlace places) order
     → held_in places (other_places place order) ≡ others (place + 1) (held_in places order)
 held_in-others places place [] a = refl
 held_in-others places place (i ∷ order) a =
-    held_in-cond places (not (eqb i place)) i (other_places place order)
-    ∙ ap (λ b. cond (not b) (at_place places i ∷ held_in places (other_places place order)) (held_in places (other_places place order)))
-    (sym (same_tests i place (at_place places i).part.afl.fid a.0.1))
-    ∙ ap (λ gs. cond (not (is_fid (place + 1) (at_place places i))) (at_place places i ∷ gs) gs) (held_in-others places place order a.1)
+    let here = a.0.1 in let rest = held_in-others places place order a.1 in grind (arith, nat_tests)
 
 abbrev heard : Fragment → HeldPart
 heard part = record { ticks = 0; part = part }
@@ -172,9 +138,7 @@ fresh_ones places order = filter (λ i. is_fresh (at_place places i)) order
 held_in-fresh : (places : List HeldPart) (order : List ℕ)
     → held_in places (fresh_ones places order) ≡ filter is_fresh (held_in places order)
 held_in-fresh places [] = refl
-held_in-fresh places (i ∷ order) =
-    held_in-cond places (is_fresh (at_place places i)) i (fresh_ones places order)
-    ∙ ap (λ gs. cond (is_fresh (at_place places i)) (at_place places i ∷ gs) gs) (held_in-fresh places order)
+held_in-fresh places (i ∷ order) = let rest = held_in-fresh places order in grind arith
 
 pub aged_places : (places : List HeldPart) (order : List ℕ) → AreOrdered places order
     → held_in (map older places) (fresh_ones places order) ≡ aged (held_in places order)
@@ -200,40 +164,20 @@ aged_ordered places order a = record {
 
 -- ---- a look at a place
 
-find_place_cond : (places : List HeldPart) (i place : ℕ) (b c : Bool) → eqb i place ≡ b
-    → cond b (Some (at_place places i)) (cond c (Some (at_place places place)) None) ≡ cond (b || c) (Some (at_place places place)) None
-find_place_cond places i place true c h = ap (λ j. Some (at_place places j)) (eqb-true i place h)
-find_place_cond places i place false c h = refl
-
 -- the fragment of a number stands in the number's place, if that is in use
 pub piece_at_place : (places : List HeldPart) (is : List ℕ) (place : ℕ) → AllByRecursion (IsPlace places) is
     → piece_at (place + 1) (held_in places is) ≡ cond (is_in place is) (Some (at_place places place)) None
 piece_at_place places [] place a = refl
 piece_at_place places (i ∷ is) place a =
-    ap (cond (is_fid (place + 1) (at_place places i)) (Some (at_place places i))) (piece_at_place places is place a.1)
-    ∙ ap (λ b. cond b (Some (at_place places i)) (cond (is_in place is) (Some (at_place places place)) None))
-    (same_tests i place (at_place places i).part.afl.fid a.0.1)
-    ∙ find_place_cond places i place (eqb i place) (is_in place is) refl
+    let here = a.0.1 in let rest = piece_at_place places is place a.1 in grind (arith, nat_tests)
 
 -- the end of a message in its place
-end_cond : (places : List HeldPart) (b : Bool) (i : ℕ) (o : Option ℕ)
-    → option_map (at_place places) (cond b (Some i) o) ≡ cond b (Some (at_place places i)) (option_map (at_place places) o)
-end_cond places true i o = refl
-end_cond places false i o = refl
-
 pub last_end_place : (places : List HeldPart) (order : List ℕ)
     → option_map (at_place places) (find (λ i. is_end (at_place places i)) order) ≡ last_end (held_in places order)
 last_end_place places [] = refl
-last_end_place places (i ∷ order) =
-    end_cond places (is_end (at_place places i)) i (find (λ j. is_end (at_place places j)) order)
-    ∙ ap (cond (is_end (at_place places i)) (Some (at_place places i))) (last_end_place places order)
-
-found_cond : (places : List HeldPart) (b : Bool) (i : ℕ) (o : Option ℕ) → IsPlace places i → IfSome o (IsPlace places)
-    → IfSome (cond b (Some i) o) (IsPlace places)
-found_cond places true i o h k = h
-found_cond places false i o h k = k
+last_end_place places (i ∷ order) = let rest = last_end_place places order in grind arith
 
 pub found_place : (places : List HeldPart) (p : ℕ → Bool) (order : List ℕ) → AllByRecursion (IsPlace places) order
     → IfSome (find p order) (IsPlace places)
 found_place places p [] a = tt
-found_place places p (i ∷ order) a = found_cond places (p i) i (find p order) a.0 (found_place places p order a.1)
+found_place places p (i ∷ order) a = let here = a.0 in let rest = found_place places p order a.1 in grind arith

@@ -1,48 +1,40 @@
 -- A message is no longer than all that is held, and a fragment adds no more than its bytes.
-use Rattle.std.proofs.Common.{◌≡◌, ℕ, zero, suc, ◌+◌, ◌≤◌, ◌<◌, ◌==◌, Bool, true, false, not, cond, List, [], ◌∷◌, ◌++◌, length, Option, Some, None, refl, ap, sym, ◌∙◌, arith, ◌-◌, length-append}
-use Rattle.std.specs.Prelude.{find, option_map, OnSome}
+use Rattle.std.proofs.Common.{◌≡◌, ℕ, zero, suc, ◌+◌, ◌≤◌, ◌<◌, ◌==◌, Bool, false, List, [], ◌∷◌, ◌++◌, length, Option, Some, None, refl, ap, sym, ◌∙◌, arith, ◌-◌, length-append}
+use Rattle.std.specs.Prelude.{find, OnSome}
 use Rattle.std.specs.List.{flat_map}
-use Rattle.std.proofs.lemmas.Bool.{eq-eqb}
 use Rattle.std.proofs.lemmas.Bool.Decides.{nat_tests}
 use Rattle.std.proofs.lemmas.List.{flat_map_more}
 use Rattle.std.proofs.lemmas.List.Sums.{sum_by-cons}
+use Rattle.lists.proofs.Choices.{some_if}
 use Rattle.afl_layer.specs.declared.header.Auth.{Auth}
 use Rattle.afl_fragments.specs.Fragment.{Fragment}
 use Rattle.afl_fragments.specs.declared.places.HeldPart.{HeldPart}
-use Rattle.afl_fragments.specs.Held.{is_fid, others, is_end, piece_at, last_end, with_more, front, Message, joined, message_with, ended_by, assembled, held_bytes}
+use Rattle.afl_fragments.specs.Held.{is_fid, others, is_end, piece_at, with_more, front, Message, message_with, assembled, held_bytes}
 use Rattle.afl_fragments.specs.Places.{held_with}
 use Rattle.afl_fragments.proofs.Holding.{find-others}
+use Rattle.afl_fragments.proofs.MessageLaws.{parts_of}
 
 -- how many bytes a fragment adds
 abbrev weight : HeldPart → ℕ
 weight h = length h.part.bytes
 
-fewer_cond : (b : Bool) (x : HeldPart) (xs ys : List HeldPart) → held_bytes ys ≤ held_bytes xs
-    → held_bytes (cond b (x ∷ ys) ys) ≤ held_bytes (x ∷ xs)
-fewer_cond true x xs ys l = omega (arith, l, sum_by-cons weight x xs, sum_by-cons weight x ys)
-fewer_cond false x xs ys l = omega (arith, l, sum_by-cons weight x xs)
-
 fewer : (f : ℕ) (xs : List HeldPart) → held_bytes (others f xs) ≤ held_bytes xs
 fewer f [] = omega arith
-fewer f (x ∷ xs) = fewer_cond (not (is_fid f x)) x xs (others f xs) (fewer f xs)
+fewer f (x ∷ xs) =
+    let rest = fewer f xs in grind (arith, nat_tests, sum_by-cons weight x xs, sum_by-cons weight x (others f xs))
 
 -- a fragment adds no more than its bytes
 pub held_with_room : (part : Fragment) (hs : List HeldPart) → held_bytes (held_with part hs) ≤ held_bytes hs + length part.bytes
 held_with_room part hs =
     omega (arith, fewer part.afl.fid hs, sum_by-cons weight (record { ticks = 0; part = part }) (others part.afl.fid hs))
 
-without_cond : (b : Bool) (f : ℕ) (x h : HeldPart) (xs : List HeldPart)
-    → (b ≡ false → find (is_fid f) xs ≡ Some h → weight h + held_bytes (others f xs) ≤ held_bytes xs)
-    → held_bytes (others f xs) ≤ held_bytes xs
-    → cond b (Some x) (find (is_fid f) xs) ≡ Some h
-    → weight h + held_bytes (cond (not b) (x ∷ others f xs) (others f xs)) ≤ held_bytes (x ∷ xs)
-without_cond true f x h xs k l e = let same : x ≡ h = cc in omega (arith, l, sum_by-cons weight x xs, ap weight same)
-without_cond false f x h xs k l e = omega (arith, k refl e, sum_by-cons weight x xs, sum_by-cons weight x (others f xs))
-
 -- without a number, a fragment of it less
 without : (f : ℕ) (xs : List HeldPart) (h : HeldPart) → find (is_fid f) xs ≡ Some h → weight h + held_bytes (others f xs) ≤ held_bytes xs
 without f [] h e = absurd cc
-without f (x ∷ xs) h e = without_cond (is_fid f x) f x h xs (λ _ k. without f xs h k) (fewer f xs) e
+without f (x ∷ xs) h e =
+    let less = fewer f xs in
+    let rest = without f xs h in
+    grind (arith, nat_tests, sum_by-cons weight x xs, sum_by-cons weight x (others f xs))
 
 apart : (f n : ℕ) → n < f → (f == n) ≡ false
 apart f n l = grind (arith, nat_tests)
@@ -67,12 +59,9 @@ with_more_room : (o : Option (List Fragment)) (p : Option HeldPart) (room rest :
     → with_more o p ≡ Some parts → length (bytes_of parts) ≤ room
 with_more_room None p room rest parts f g e = absurd cc
 with_more_room (Some ps) None room rest parts f g e = absurd cc
-with_more_room (Some ps) (Some h) room rest parts f g e = joined_room h.part.afl.more e
-  where
-    joined_room : (b : Bool) → cond b (Some (ps ++ h.part ∷ [])) None ≡ Some parts → length (bytes_of parts) ≤ room
-    joined_room true k = let same : ps ++ h.part ∷ [] ≡ parts =
-        cc in omega (arith, sym (ap (λ qs. length (bytes_of qs)) same), length_more ps h.part, f ps refl, g h refl)
-    joined_room false k = absurd cc
+with_more_room (Some ps) (Some h) room rest parts f g e =
+    let last = some_if h.part.afl.more (ps ++ h.part ∷ []) parts e in
+    omega (arith, sym (ap (λ qs. length (bytes_of qs)) last.1), length_more ps h.part, f ps refl, g h refl)
 
 front_room : (n : ℕ) (hs : List HeldPart) (parts : List Fragment) → front n hs ≡ Some parts → length (bytes_of parts) ≤ held_bytes hs
 front_room zero hs parts e = let none : parts ≡ [] = cc in omega (arith, ap (λ qs. length (bytes_of qs)) none)
@@ -81,26 +70,14 @@ front_room (suc n) hs parts e =
     (λ ps k. front_room n (others (suc n) hs) ps (front_others n (suc n) hs (omega arith) ∙ k)) (λ h k. without (suc n) hs h k) e
 
 -- without the number of one that is found, that one less
-member_cond : (b : Bool) (x h : HeldPart) (xs ys : List HeldPart) → weight h + held_bytes ys ≤ held_bytes xs
-    → weight h + held_bytes (cond b (x ∷ ys) ys) ≤ held_bytes (x ∷ xs)
-member_cond true x h xs ys l = omega (arith, l, sum_by-cons weight x xs, sum_by-cons weight x ys)
-member_cond false x h xs ys l = omega (arith, l, sum_by-cons weight x xs)
-
 found_less : (q : HeldPart → Bool) (xs : List HeldPart) (h : HeldPart) → find q xs ≡ Some h
     → weight h + held_bytes (others h.part.afl.fid xs) ≤ held_bytes xs
 found_less q [] h e = absurd cc
-found_less q (x ∷ xs) h e = either (q x) (λ k. found_less q xs h k) e
-  where
-    first : x ≡ h → weight h + held_bytes (others h.part.afl.fid (x ∷ xs)) ≤ held_bytes (x ∷ xs)
-    first s =
-        let same : (x.part.afl.fid == h.part.afl.fid) ≡ true =
-        ap (λ g. x.part.afl.fid == g.part.afl.fid) (sym s) ∙ eq-eqb x.part.afl.fid x.part.afl.fid refl in
-        rw same (omega (arith, fewer h.part.afl.fid xs, sum_by-cons weight x xs, ap weight s))
-
-    either : (b : Bool) → (find q xs ≡ Some h → weight h + held_bytes (others h.part.afl.fid xs) ≤ held_bytes xs)
-        → cond b (Some x) (find q xs) ≡ Some h → weight h + held_bytes (others h.part.afl.fid (x ∷ xs)) ≤ held_bytes (x ∷ xs)
-    either true rest k = first cc
-    either false rest k = member_cond (not (is_fid h.part.afl.fid x)) x h xs (others h.part.afl.fid xs) (rest k)
+found_less q (x ∷ xs) h e =
+    let f : ℕ = h.part.afl.fid in
+    let less = fewer f xs in
+    let rest = found_less q xs h in
+    grind (arith, nat_tests, sum_by-cons weight x xs, sum_by-cons weight x (others f xs))
 
 front_less : (f : ℕ) (hs : List HeldPart) → front (f - 1) (others f hs) ≡ front (f - 1) hs
 front_less zero hs = refl
@@ -108,26 +85,16 @@ front_less (suc f) hs = front_others (suc f - 1) (suc f) hs (omega arith)
 
 -- a message is no longer than all that is held
 pub assembled_room : (hs : List HeldPart) (m : Message) → assembled hs ≡ Some m → length m.bytes ≤ held_bytes hs
-unfolding assembled
-assembled_room hs m e = from_end (last_end hs) refl e
-  where
-    whole : (h : HeldPart) (o : Option (List Fragment)) → front (h.part.afl.fid - 1) hs ≡ o → find is_end hs ≡ Some h
-        → option_map (λ parts. joined parts h.part) o ≡ Some m → length m.bytes ≤ held_bytes hs
-    whole h None f l k = absurd cc
-    whole h (Some parts) f l k =
-        let same : joined parts h.part ≡ m = cc in
-        let less = front_room (h.part.afl.fid - 1) (others h.part.afl.fid hs) parts (front_less h.part.afl.fid hs ∙ f) in
-        omega (
-          arith,
-          sym (ap (λ (n : Message). length n.bytes) same),
-          length-append (bytes_of parts) h.part.bytes,
-          less,
-          found_less is_end hs h l,
-        )
-
-    from_end : (o : Option HeldPart) → find is_end hs ≡ o → ended_by o hs ≡ Some m → length m.bytes ≤ held_bytes hs
-    from_end None l k = absurd cc
-    from_end (Some h) l k = whole h (front (h.part.afl.fid - 1) hs) refl l k
+assembled_room hs m e =
+    let of = parts_of hs m e in
+    let f : ℕ = of.end.part.afl.fid in
+    omega (
+      arith,
+      sym (ap (λ (n : Message). length n.bytes) of.whole),
+      length-append (bytes_of of.parts) of.end.part.bytes,
+      front_room (f - 1) (others f hs) of.parts (front_less f hs ∙ of.front_is),
+      found_less is_end hs of.end of.last,
+    )
 
 pub whole_room : (o : Option Auth) (bytes : List ℕ) (hs : List HeldPart) → message_with o bytes ≡ assembled hs
     → OnSome o (length bytes ≤ held_bytes hs)

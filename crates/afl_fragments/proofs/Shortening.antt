@@ -1,7 +1,8 @@
 -- A history that is cut down to what is held holds the same, whatever comes after it.
-use Rattle.std.proofs.Common.{◌≡◌, ℕ, ◌<◌, ◌≤◌, Bool, true, false, not, cond, List, [], ◌∷◌, ◌++◌, map, filter, refl, ap, sym, ◌∙◌, arith, subst}
-use Rattle.std.specs.Prelude.{nat_le, ◌==◌}
+use Rattle.std.proofs.Common.{◌≡◌, ℕ, ◌≤◌, Bool, true, false, not, cond, List, [], ◌∷◌, ◌++◌, map, filter, refl, ap, sym, ◌∙◌, arith, subst}
+use Rattle.std.specs.Prelude.{nat_le}
 use Rattle.std.specs.List.{All}
+use Rattle.std.proofs.lemmas.Bool.{le-leb, leb-true, leb-false}
 use Rattle.std.proofs.lemmas.Bool.Decides.{nat_tests}
 use Rattle.std.proofs.lemmas.List.Elements.{filter-append, All-nil, All-cons, All-head, All-tail, All-filter}
 use Rattle.afl_fragments.specs.Fragment.{Fragment}
@@ -9,7 +10,7 @@ use Rattle.afl_fragments.specs.declared.places.HeldPart.{HeldPart}
 use Rattle.afl_fragments.specs.Held.{Told, Piece, Tick, Clear, is_fid, others, since, latest_each, held, StandsFor}
 use Rattle.afl_fragments.specs.Places.{held_with, older, is_fresh, aged}
 use Rattle.afl_fragments.specs.Short.{pieces, ticked, told_of, cut_down}
-use Rattle.afl_fragments.proofs.Holding.{filter-cond, filter-filter, others-older, held-tick, held-piece, held-too_many, held-clear, held-nothing}
+use Rattle.afl_fragments.proofs.Holding.{filter-filter, others-older, held-tick, held-piece, held-too_many, held-clear, held-nothing}
 
 -- ---- what is held: each number once, and those that came after the last tick before those that saw it
 
@@ -39,16 +40,13 @@ tidy_nothing = record { new = []; old = []; parted = refl; are_new = All-nil IsN
 
 -- ---- without some of them
 
-one_if : (b : Bool) (h : HeldPart) (hs : List HeldPart) → h.part.afl.fid ≤ 16 → others h.part.afl.fid hs ≡ hs → AreOne hs
-    → AreOne (cond b (h ∷ hs) hs)
-one_if true h hs few one rest = (few, one, rest)
-one_if false h hs few one rest = rest
-
 one_filter : (p : HeldPart → Bool) (hs : List HeldPart) → AreOne hs → AreOne (filter p hs)
 one_filter p [] one = tt
 one_filter p (h ∷ hs) one =
-    one_if (p h) h (filter p hs) one.0
-    (filter-filter (other_than h.part.afl.fid) p hs ∙ ap (filter p) one.1) (one_filter p hs one.2)
+    let few = one.0 in
+    let apart = filter-filter (other_than h.part.afl.fid) p hs ∙ ap (filter p) one.1 in
+    let rest = one_filter p hs one.2 in
+    grind arith
 
 tidy_filter : (p : HeldPart → Bool) (hs : List HeldPart) → IsTidy hs → IsTidy (filter p hs)
 tidy_filter p hs t = record {
@@ -60,18 +58,9 @@ tidy_filter p hs t = record {
   one = one_filter p hs t.one;
 }
 
-cond_same : {X : Type 0} (b : Bool) (u v : X) → cond b (cond b u v) v ≡ cond b u v
-cond_same true u v = refl
-cond_same false u v = refl
-
 filter_again : {X : Type 0} (p : X → Bool) (xs : List X) → filter p (filter p xs) ≡ filter p xs
 filter_again p [] = refl
-filter_again p (x ∷ xs) =
-    filter-cond p (p x) x (filter p xs)
-    ∙ cond_same (p x) (x ∷ filter p (filter p xs)) (filter p (filter p xs))
-    ∙ ap (λ ys. cond (p x) (x ∷ ys) ys) (filter_again p xs)
-
--- ---- after a fragment, and after a tick
+filter_again p (x ∷ xs) = let rest = filter_again p xs in grind arith
 
 tidy_with : (part : Fragment) (hs : List HeldPart) → part.afl.fid ≤ 16 → IsTidy hs → IsTidy (held_with part hs)
 tidy_with part hs few t =
@@ -104,16 +93,10 @@ tidy_aged hs t = record {
   one = older_one (filter is_fresh hs) (one_filter is_fresh hs t.one);
 }
 
-counted : (n : ℕ) → nat_le n 16 ≡ true → n ≤ 16
-counted n h = grind (arith, nat_tests)
-
-uncounted : (n : ℕ) → nat_le n 16 ≡ false → 16 < n
-uncounted n h = grind (arith, nat_tests)
-
 tidy_piece : (part : Fragment) (told : List Told) (b : Bool) → nat_le part.afl.fid 16 ≡ b → IsTidy (held told) → IsTidy (held (Piece part ∷ told))
 tidy_piece part told true h t =
-    subst IsTidy (sym (held-piece part told (counted part.afl.fid h))) (tidy_with part (held told) (counted part.afl.fid h) t)
-tidy_piece part told false h t = subst IsTidy (sym (held-too_many part told (uncounted part.afl.fid h))) t
+    subst IsTidy (sym (held-piece part told (leb-true _ _ h))) (tidy_with part (held told) (leb-true _ _ h) t)
+tidy_piece part told false h t = subst IsTidy (sym (held-too_many part told (leb-false _ _ h))) t
 
 tidy_held : (told : List Told) → IsTidy (held told)
 tidy_held [] = subst IsTidy (sym held-nothing) tidy_nothing
@@ -123,49 +106,36 @@ tidy_held (Clear ∷ told) = subst IsTidy (sym (held-clear told)) tidy_nothing
 
 -- ---- the shortest history
 
-fresh_if : (n : ℕ) → n ≡ 0 → (n == 0) ≡ true
-fresh_if n h = grind (arith, nat_tests)
-
-old_if : (n : ℕ) → n ≡ 1 → (n == 0) ≡ false
-old_if n h = grind (arith, nat_tests)
-
 -- the new ones, and the old ones, are found again
 no_new : (old : List HeldPart) → All IsOld old → filter is_fresh old ≡ []
 no_new [] all = refl
-no_new (h ∷ hs) all =
-    ap (λ b. cond b (h ∷ filter is_fresh hs) (filter is_fresh hs)) (old_if h.ticks (All-head IsOld h hs all))
-    ∙ no_new hs (All-tail IsOld h hs all)
+no_new (h ∷ hs) all = let old = All-head IsOld h hs all in let rest = no_new hs (All-tail IsOld h hs all) in grind (arith, nat_tests)
 
 all_old : (old : List HeldPart) → All IsOld old → filter (λ h. not (is_fresh h)) old ≡ old
 all_old [] all = refl
-all_old (h ∷ hs) all =
-    ap (λ b. cond (not b) (h ∷ filter (λ g. not (is_fresh g)) hs) (filter (λ g. not (is_fresh g)) hs))
-    (old_if h.ticks (All-head IsOld h hs all))
-    ∙ ap (λ (xs : List HeldPart). h ∷ xs) (all_old hs (All-tail IsOld h hs all))
+all_old (h ∷ hs) all = let old = All-head IsOld h hs all in let rest = all_old hs (All-tail IsOld h hs all) in grind (arith, nat_tests)
 
 new_again : (new old : List HeldPart) → All IsNew new → All IsOld old → filter is_fresh (new ++ old) ≡ new
 new_again [] old are_new are_old = no_new old are_old
 new_again (h ∷ hs) old are_new are_old =
-    ap (λ b. cond b (h ∷ filter is_fresh (hs ++ old)) (filter is_fresh (hs ++ old))) (fresh_if h.ticks (All-head IsNew h hs are_new))
-    ∙ ap (λ (xs : List HeldPart). h ∷ xs) (new_again hs old (All-tail IsNew h hs are_new) are_old)
+    let new = All-head IsNew h hs are_new in
+    let rest = new_again hs old (All-tail IsNew h hs are_new) are_old in
+    grind (arith, nat_tests)
 
 old_again : (new old : List HeldPart) → All IsNew new → All IsOld old → filter (λ h. not (is_fresh h)) (new ++ old) ≡ old
 old_again [] old are_new are_old = all_old old are_old
 old_again (h ∷ hs) old are_new are_old =
-    ap (λ b. cond (not b) (h ∷ filter (λ g. not (is_fresh g)) (hs ++ old)) (filter (λ g. not (is_fresh g)) (hs ++ old)))
-    (fresh_if h.ticks (All-head IsNew h hs are_new))
-    ∙ old_again hs old (All-tail IsNew h hs are_new) are_old
+    let new = All-head IsNew h hs are_new in
+    let rest = old_again hs old (All-tail IsNew h hs are_new) are_old in
+    grind (arith, nat_tests)
 
 -- what is held after the old ones and a tick
-counts : (n : ℕ) → n ≤ 16 → nat_le n 16 ≡ true
-counts n h = grind (arith, nat_tests)
-
 old_back : (old : List HeldPart) → All IsOld old → AreOne old → latest_each (since 1 (pieces old)) ≡ old
 old_back [] all one = refl
 old_back (h ∷ hs) all one =
     let now : HeldPart = record { ticks = 1; part = h.part } in
     let rest = since 1 (pieces hs) in
-    ap (λ b. latest_each (cond b (now ∷ rest) rest)) (counts h.part.afl.fid one.0)
+    ap (λ b. latest_each (cond b (now ∷ rest) rest)) (le-leb h.part.afl.fid 16 one.0)
     ∙ ap (λ (xs : List HeldPart). now ∷ others h.part.afl.fid xs) (old_back hs (All-tail IsOld h hs all) one.2)
     ∙ ap (λ (xs : List HeldPart). now ∷ xs) one.1
     ∙ ap (λ n. record { ticks = n; part = h.part } ∷ hs) (sym (All-head IsOld h hs all))
@@ -206,10 +176,10 @@ short_stands hs told stands = stands ∙ sym (cut_holds told) ∙ sym (ap (λ xs
 piece_goes_on : (part : Fragment) (b : Bool) → nat_le part.afl.fid 16 ≡ b → (xs ys : List Told) → held xs ≡ held ys
     → held (Piece part ∷ xs) ≡ held (Piece part ∷ ys)
 piece_goes_on part true h xs ys e =
-    let few = counted part.afl.fid h in
+    let few = leb-true _ _ h in
     held-piece part xs few ∙ ap (held_with part) e ∙ sym (held-piece part ys few)
 piece_goes_on part false h xs ys e =
-    let many = uncounted part.afl.fid h in
+    let many = leb-false _ _ h in
     held-too_many part xs many ∙ e ∙ sym (held-too_many part ys many)
 
 one_goes_on : (t : Told) (xs ys : List Told) → held xs ≡ held ys → held (t ∷ xs) ≡ held (t ∷ ys)

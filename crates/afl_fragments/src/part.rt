@@ -4,8 +4,8 @@ ghost use Rattle.afl_layer.specs.Header.{Fits};
 ghost use Rattle.afl_fragments.specs.Fragment.{IsFragment, IsSpelt, spelt};
 
 use afl_layer::{Afl, write_afl};
-use std::marker::Model;
 use lists::put;
+use std::marker::Model;
 
 /// The most bytes of a message that one fragment carries: a telegram has at most 256 bytes, of which ten are the link's
 /// and four at least the header's.

@@ -1,12 +1,11 @@
 -- Blocks that are followed by their CRCs, and pieces that hold them.
-use Rattle.std.proofs.Common.{◌≡◌, ℕ, zero, suc, ◌+◌, ◌-◌, ◌*◌, ◌/◌, ◌%◌, ◌<◌, ◌≤◌, List, [], ◌∷◌, ◌++◌, length, take, drop, get_or, Bool, true, false, cond, eqb, Result, Ok, Err, refl, sym, ◌∙◌, ap, subst, arith, append_assoc, length-append, length-drop, add-zero, eq-eqb}
-use Rattle.std.proofs.lemmas.List.{take_at, get_or_at, take-append-drop, length-take, get_or-drop}
-use Rattle.std.proofs.lemmas.Bool.{eqb-true}
+use Rattle.std.proofs.Common.{◌≡◌, ℕ, zero, suc, ◌+◌, ◌-◌, ◌*◌, ◌/◌, ◌%◌, ◌<◌, ◌≤◌, List, [], ◌∷◌, ◌++◌, length, take, drop, get_or, eqb, Ok, refl, sym, ◌∙◌, ap, subst, arith, append_assoc, length-append, length-drop, add-zero, eq-eqb}
+use Rattle.std.proofs.lemmas.List.{take_at, get_or_at, get_or_append_left, take-append-drop, length-take, get_or-drop}
+use Rattle.std.proofs.lemmas.Bool.{eqb-true, cond-true}
+use Rattle.lists.proofs.Choices.{guard_ok_if}
 use Rattle.std.specs.List.{flat_map, concat}
-use Rattle.frame_formats.specs.declared.fault.FrameFault.{FrameFault}
 use Rattle.frame_formats.specs.Crc.{crc_of, IsBytes}
 use Rattle.frame_formats.specs.Frames.{AreChecked}
-use Rattle.lists.specs.Steps.{◌>>=◌}
 use Rattle.frame_formats.specs.Decoding.{with_crc, block_of}
 use Rattle.frame_formats.proofs.Division.{is_crc, same_crc}
 
@@ -60,9 +59,6 @@ is_checked (b ∷ blocks) all =
       is_checked blocks parts.1,
     )
 
-pub checked_same : (blocks : List (List ℕ)) (k l : List ℕ) → k ≡ l → AreChecked blocks l → AreChecked blocks k
-checked_same blocks k l same is = let P : List ℕ → Type 0 = λ x. AreChecked blocks x in subst P (sym same) is
-
 -- the content of bytes is bytes
 pub content_bytes : (blocks : List (List ℕ)) → IsBytes (flat_map with_crc blocks) → IsBytes (concat blocks)
 content_bytes [] all = tt
@@ -71,20 +67,21 @@ content_bytes (b ∷ blocks) all =
     in let here = bytes-append b (crc_of b / 256 ∷ crc_of b % 256 ∷ []) parts.0
     in bytes_joined b (concat blocks) here.0 (content_bytes blocks parts.1)
 
--- a guard that was passed
-guard_ok : (b : Bool) (x y : List ℕ) (e : FrameFault) → cond b (Ok x) (Err e) ≡ Ok y → (b ≡ true) × (x ≡ y)
-guard_ok true x y e is = (refl, cc)
-guard_ok false x y e is = cc
-
-guard_again : (p : Bool) (x y : List ℕ) (e : FrameFault) → p ≡ true → x ≡ y → cond p (Ok x) (Err e) ≡ Ok y
-guard_again true x y e p is = ap Ok is
-guard_again false x y e p is = cc
-
 two : (l : List ℕ) → length l ≡ 2 → l ≡ get_or l 0 0 ∷ get_or l 1 0 ∷ []
 two [] is = cc
 two (a ∷ []) is = absurd (omega arith)
 two (a ∷ b ∷ []) is = refl
 two (a ∷ b ∷ c ∷ l) is = absurd (omega arith)
+
+-- bytes that are blocks with their CRCs
+pub checked_by : (blocks : List (List ℕ)) (bytes : List ℕ) → IsBytes bytes → bytes ≡ flat_map with_crc blocks → AreChecked blocks bytes
+checked_by blocks bytes all is =
+    let P : List ℕ → Type 0 = λ x. AreChecked blocks x
+    in subst P (sym is) (is_checked blocks (content_bytes blocks (bytes_same _ _ is all)))
+
+-- bytes begin as what stands in front of them
+pub same_head : (bytes first rest : List ℕ) → bytes ≡ first ++ rest → 0 < length first → get_or first 0 0 ≡ get_or bytes 0 0
+same_head bytes first rest is some = sym (get_or_append_left first rest 0 0 some) ∙ ap (λ x. get_or x 0 0) (sym is)
 
 -- a number of two bytes in its parts
 parted : (block : List ℕ) (c hi lo : ℕ) → c ≡ hi * 256 + lo → lo < 256 → block ++ hi ∷ lo ∷ [] ≡ block ++ c / 256 ∷ c % 256 ∷ []
@@ -99,26 +96,28 @@ pub block_found : (n : ℕ) (piece block : List ℕ) → IsBytes piece → 2 ≤
 unfolding block_of
 block_found n piece block all some is =
     let size : ℕ = length piece - 2
-    in let g : (eqb (crc_of (take size piece)) (get_or piece size 0 * 256 + get_or piece (size + 1) 0) ≡ true) × (take size piece ≡ block) =
-    guard_ok _ _ _ _ is
+    in let g = guard_ok_if (eqb (crc_of (take size piece)) (get_or piece size 0 * 256 + get_or piece (size + 1) 0)) _ _ _ is
+    in let read : Ok (take size piece) ≡ Ok block = g.1
+    in let same : take size piece ≡ block = cc
     in let last : drop size piece ≡ get_or piece size 0 ∷ get_or piece (size + 1) 0 ∷ [] =
     two (drop size piece) (omega (arith, length-drop size piece))
     ∙ ap (λ x. x ∷ get_or (drop size piece) 1 0 ∷ []) (get_or-drop size piece 0 0 ∙ ap (λ k. get_or piece k 0) (add-zero size))
     ∙ ap (λ x. get_or piece size 0 ∷ x ∷ []) (get_or-drop size piece 1 0)
     in (
       sym (take-append-drop size piece) ∙ ap (λ x. take size piece ++ x) last
-          ∙ parted (take size piece) (crc_of (take size piece)) _ _ (eqb-true _ _ g.0) (byte_at piece (size + 1) all) ∙ ap with_crc g.1,
-      omega (arith, ap length g.1, length-take size piece),
+          ∙ parted (take size piece) (crc_of (take size piece)) _ _ (eqb-true _ _ g.0) (byte_at piece (size + 1) all) ∙ ap with_crc same,
+      omega (arith, ap length same, length-take size piece),
     )
 
 pub length-with_crc : (b : List ℕ) → length (with_crc b) ≡ length b + 2
 length-with_crc b = length-append b (crc_of b / 256 ∷ crc_of b % 256 ∷ [])
 
 -- a block before its CRC is read
-read_again : (n c : ℕ) (b : List ℕ) → crc_of b ≡ c → block_of n (b ++ c / 256 ∷ c % 256 ∷ []) ≡ Ok b
+pub block_again : (n : ℕ) (b : List ℕ) → block_of n (with_crc b) ≡ Ok b
 unfolding block_of
-read_again n c b is =
-    let piece : List ℕ = b ++ c / 256 ∷ c % 256 ∷ []
+block_again n b =
+    let c : ℕ = crc_of b
+    in let piece : List ℕ = b ++ c / 256 ∷ c % 256 ∷ []
     in let size : length piece - 2 ≡ length b = omega (arith, length-append b (c / 256 ∷ c % 256 ∷ []))
     in let front : take (length piece - 2) piece ≡ b = ap (λ k. take k piece) size ∙ take_at b _ _ refl
     in let hi : get_or piece (length piece - 2) 0 ≡ c / 256 =
@@ -126,12 +125,4 @@ read_again n c b is =
     in let lo : get_or piece (length piece - 2 + 1) 0 ≡ c % 256 =
     ap (λ k. get_or piece (k + 1) 0) size ∙ ap (λ x. get_or x (length b + 1) 0) (sym (append_assoc b (c / 256 ∷ []) (c % 256 ∷ [])))
     ∙ get_or_at (b ++ c / 256 ∷ []) (c % 256) [] 0 (length b + 1) (length-append b (c / 256 ∷ []))
-    in guard_again _ _ _ _ (eq-eqb _ _ (ap crc_of front ∙ is ∙ omega (arith, hi, lo))) front
-
-pub block_again : (n : ℕ) (b : List ℕ) → block_of n (with_crc b) ≡ Ok b
-block_again n b = read_again n (crc_of b) b refl
-
-pub bind_ok : {A B : Type 0} (r : Result A FrameFault) (f : A → Result B FrameFault) (y : B) → (r >>= f) ≡ Ok y → (x : A) × (r ≡ Ok x)
-    × (f x ≡ Ok y)
-bind_ok (Ok x) f y is = (x, refl, is)
-bind_ok (Err e) f y is = cc
+    in cond-true _ _ _ (eq-eqb _ _ (ap crc_of front ∙ omega (arith, hi, lo))) ∙ ap Ok front

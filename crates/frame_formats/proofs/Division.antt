@@ -1,5 +1,5 @@
 -- Long division leaves a remainder, and there is one remainder.
-use Rattle.std.proofs.Common.{◌≡◌, ℕ, zero, suc, ◌+◌, ◌-◌, ◌*◌, ◌/◌, ◌%◌, ◌^◌, ◌<◌, ◌≤◌, List, [], ◌∷◌, ◌++◌, length, Bool, true, false, cond, refl, sym, ◌∙◌, ap, subst, arith, bit_xor, fold, get_or, take, pow_pos, pow-add, add-one, inl, inr, lt-ltb, le-ltb}
+use Rattle.std.proofs.Common.{◌≡◌, ℕ, zero, suc, ◌+◌, ◌-◌, ◌*◌, ◌/◌, ◌%◌, ◌^◌, ◌<◌, ◌≤◌, List, [], ◌∷◌, ◌++◌, length, Bool, true, false, refl, sym, ◌∙◌, ap, subst, arith, bit_xor, fold, get_or, take, pow_pos, pow-add, add-one, inl, inr, lt-ltb, le-ltb}
 use Rattle.std.proofs.Math.Nat.{mul_assoc, pow-suc}
 use Rattle.std.proofs.Math.Seq.{take-suc}
 use Rattle.std.proofs.lemmas.List.{take_all}
@@ -68,33 +68,25 @@ pub remainder_near : (k p : ℕ) → p < 2 ^ (16 + k) → Near p (remainder k p)
 unfolding remainder
 remainder_near zero p lt = (near_same p p refl, lt)
 remainder_near (suc k) p lt = elim (cases_lt p (2 ^ (16 + k))) [
-  | inl low ↦
-      let P : Bool → Type 0 =
-      λ b. Near p (remainder k (cond b p (bit_xor p (generator * 2 ^ k))))
-      × (remainder k (cond b p (bit_xor p (generator * 2 ^ k))) < 2 ^ 16)
-      in subst P (sym (lt-ltb p (2 ^ (16 + k)) low)) (remainder_near k p low)
+  | inl low ↦ rw (lt-ltb p (2 ^ (16 + k)) low) (remainder_near k p low)
   | inr high ↦
       let next : ℕ = bit_xor p (generator * 2 ^ k)
-      in let more : 16 + suc k ≡ 17 + k = omega arith
-      in let fits : p < 2 ^ (17 + k) = let Q : ℕ → Type 0 = λ n. p < 2 ^ n in subst Q more lt
-      in let rest = remainder_near k next (one_less k p high fits)
+      in let more : 2 ^ (16 + suc k) ≡ 2 ^ (17 + k) = let same : 16 + suc k ≡ 17 + k = omega arith in ap (λ n. 2 ^ n) same
+      in let rest = remainder_near k next (one_less k p high (omega arith))
       in let here : Near p next = record { multiple = as_multiple _ _ (less p (generator * 2 ^ k)) (multiple_scaled k generator itself) }
-      in let P : Bool → Type 0 = λ b. Near p (remainder k (cond b p next)) × (remainder k (cond b p next) < 2 ^ 16)
-      in subst P (sym (le-ltb p (2 ^ (16 + k)) high)) (near_trans p next _ here rest.0, rest.1)
+      in rw (le-ltb p (2 ^ (16 + k)) high) (near_trans p next _ here rest.0, rest.1)
 ]
+
+one_longer : (q : List Bool) → 2 ^ (16 + suc (length q)) ≡ 2 ^ 17 * 2 ^ length q
+one_longer q = let n : 16 + suc (length q) ≡ 17 + length q = omega arith in ap (λ n. 2 ^ n) n ∙ pow-add 2 17 (length q)
 
 product_lt : (q : List Bool) → product q generator < 2 ^ (16 + length q)
 unfolding product
 product_lt [] = omega arith
 product_lt (true ∷ q) =
-    let whole : 2 ^ (16 + suc (length q)) ≡ 2 ^ 17 * 2 ^ length q =
-    let n : 16 + suc (length q) ≡ 17 + length q = omega arith in ap (λ n. 2 ^ n) n ∙ pow-add 2 17 (length q)
-    in xor_lt (16 + suc (length q)) (generator * 2 ^ length q) (product q generator) (omega (arith, whole, pow_pos (length q)))
-    (omega (arith, whole, product_lt q, pow-add 2 16 (length q)))
-product_lt (false ∷ q) =
-    let whole : 2 ^ (16 + suc (length q)) ≡ 2 ^ 17 * 2 ^ length q =
-    let n : 16 + suc (length q) ≡ 17 + length q = omega arith in ap (λ n. 2 ^ n) n ∙ pow-add 2 17 (length q)
-    in omega (arith, whole, product_lt q, pow-add 2 16 (length q), xor_zero_l (product q generator))
+    xor_lt (16 + suc (length q)) (generator * 2 ^ length q) (product q generator) (omega (arith, one_longer q, pow_pos (length q)))
+    (omega (arith, one_longer q, product_lt q, pow-add 2 16 (length q)))
+product_lt (false ∷ q) = omega (arith, one_longer q, product_lt q, pow-add 2 16 (length q), xor_zero_l (product q generator))
 
 -- no multiple but 0 has a lower degree than the generator
 product_low : (q : List Bool) → product q generator < 2 ^ 16 → product q generator ≡ 0
@@ -129,10 +121,10 @@ fold_lt (b ∷ bytes) p n all lt =
     in subst P same (fold_lt bytes (p * 256 + b) (n + 8) all.1 (omega (arith, pow-add 2 n 8, all.0)))
 
 polynomial_lt : (bytes : List ℕ) → IsBytes bytes → polynomial bytes * 2 ^ 16 < 2 ^ (16 + 8 * length bytes)
-polynomial_lt bytes all = omega (arith, fold_lt bytes 0 0 all (omega arith), pow-add 2 16 (8 * length bytes), add-zero-l (8 * length bytes))
-  where
-    add-zero-l : (n : ℕ) → 2 ^ (0 + n) ≡ 2 ^ n
-    add-zero-l n = let same : 0 + n ≡ n = omega arith in ap (λ m. 2 ^ m) same
+polynomial_lt bytes all =
+    let n : ℕ = 8 * length bytes
+    in let from_zero : 2 ^ (0 + n) ≡ 2 ^ n = let same : 0 + n ≡ n = omega arith in ap (λ m. 2 ^ m) same
+    in omega (arith, fold_lt bytes 0 0 all (omega arith), pow-add 2 16 n, from_zero)
 
 -- long division gives the CRC
 pub is_crc : (bytes : List ℕ) → IsBytes bytes → IsCrc bytes (crc_of bytes)

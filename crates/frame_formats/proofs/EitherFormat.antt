@@ -1,44 +1,50 @@
 -- What is decoded of bytes in either format.
-use Rattle.std.proofs.Common.{◌≡◌, ℕ, ◌+◌, List, [], ◌∷◌, ◌++◌, take, drop, length, get_or, Result, Ok, Err, refl, sym, ◌∙◌, ap, subst, arith, append-nil, ◌⊎◌, inl, inr}
-use Rattle.std.specs.Prelude.{OnErr}
+use Rattle.std.proofs.Common.{◌≡◌, ℕ, List, [], ◌∷◌, ◌++◌, take, drop, Result, Ok, Err, refl, sym, ◌∙◌, ap, arith, append-nil, ◌⊎◌, inl, inr}
+use Rattle.std.specs.Prelude.{MatchResult, OnErr}
 use Rattle.std.specs.List.{concat}
 use Rattle.std.proofs.lemmas.List.{take-append-drop}
 use Rattle.frame_formats.specs.declared.fault.FrameFault.{FrameFault}
 use Rattle.frame_formats.specs.declared.format.Format.{Format}
 use Rattle.frame_formats.specs.declared.format.Format.TheVariants as formats
 use Rattle.frame_formats.specs.Crc.{IsBytes}
-use Rattle.frame_formats.specs.Frames.{IsTelegram, AreChecked, FrameA, FrameB, OneBlock, TwoBlocks, Frame}
-use Rattle.frame_formats.specs.Faults.{FaultA, FaultB}
-use Rattle.frame_formats.specs.Decoding.{decoded, decoded_a, decoded_b}
+use Rattle.frame_formats.specs.Frames.{IsTelegram, AreChecked, OneBlock, TwoBlocks, Frame}
+use Rattle.frame_formats.specs.Decoding.{decoded}
 use Rattle.frame_formats.specs.Decodes.{Decodes}
 use Rattle.frame_formats.specs.Laws.{FramesAreDecoded, TelegramsAreBytes}
-use Rattle.frame_formats.proofs.Answered.{Answers, found_by, only_by, fault_by, answered_by}
 use Rattle.frame_formats.proofs.Checked.{bytes_same, checked_is, content_bytes}
-use Rattle.frame_formats.proofs.FirstFault.{fault_found_a, fault_only_a, fault_found_b, fault_only_b}
+use Rattle.frame_formats.proofs.FirstFault.{fault_found, fault_only}
 use Rattle.frame_formats.proofs.RelationA.{found as found_a, only as only_a}
 use Rattle.frame_formats.proofs.RelationB.{found as found_b, only as only_b}
-
-pub decodes : (format : Format) (bytes old new : List ℕ) (r : Result (Unit {0}) FrameFault) → IsBytes bytes
-    → Answers r (decoded format bytes) new → OnErr r (new ≡ old)
-    → Decodes format bytes old new r
-decodes formats.A bytes old new r all is kept = record {
-  found = found_by (FrameA bytes) r (decoded_a bytes) new is (λ t. found_a bytes t all);
-  only = λ t frame. only_by r (decoded_a bytes) new t is (only_a bytes t all frame);
-  fault = fault_by (FaultA bytes) r (decoded_a bytes) new is (λ e. fault_found_a bytes e all);
-  each_fault = λ e fault. answered_by r (decoded_a bytes) new e is (fault_only_a bytes e all fault);
-  kept = kept;
-}
-decodes formats.B bytes old new r all is kept = record {
-  found = found_by (FrameB bytes) r (decoded_b bytes) new is (λ t. found_b bytes t all);
-  only = λ t frame. only_by r (decoded_b bytes) new t is (only_b bytes t all frame);
-  fault = fault_by (FaultB bytes) r (decoded_b bytes) new is (λ e. fault_found_b bytes e all);
-  each_fault = λ e fault. answered_by r (decoded_b bytes) new e is (fault_only_b bytes e all fault);
-  kept = kept;
-}
 
 pub frames_are_decoded : FramesAreDecoded
 frames_are_decoded formats.A bytes t all = (found_a bytes t all, only_a bytes t all)
 frames_are_decoded formats.B bytes t all = (found_b bytes t all, only_b bytes t all)
+
+-- the code's answer is what the definition decodes, whose telegram is then in its hands
+pub decodes : (format : Format) (bytes old new : List ℕ) (r : Result (Unit {0}) FrameFault) → IsBytes bytes
+    → MatchResult r (λ _. decoded format bytes ≡ Ok new) (λ e. decoded format bytes ≡ Err e) → OnErr r (new ≡ old)
+    → Decodes format bytes old new r
+decodes format bytes old new (Ok u) all is kept = record {
+  found = (frames_are_decoded format bytes new all).0 is;
+  only = λ t frame. let both : Ok new ≡ Ok t = sym is ∙ (frames_are_decoded format bytes t all).1 frame in (refl, cc);
+  fault = tt;
+  each_fault = λ e fault. let both : Ok new ≡ Err e = sym is ∙ fault_only format bytes e all fault in cc;
+  kept = kept;
+}
+decodes format bytes old new (Err f) all is kept = record {
+  found = tt;
+  only = λ t frame. let both : Err f ≡ Ok t = sym is ∙ (frames_are_decoded format bytes t all).1 frame in cc;
+  fault = fault_found format bytes f all is;
+  each_fault = λ e fault.
+      let both : Err f ≡ Err e = sym is ∙ fault_only format bytes e all fault in let same : f ≡ e = cc in ap Err same;
+  kept = kept;
+}
+
+-- bytes are a frame of one telegram
+pub one_telegram : (format : Format) (bytes t u : List ℕ) → IsBytes bytes → Frame format bytes t → Frame format bytes u → t ≡ u
+one_telegram format bytes t u all one two =
+    let both : Ok t ≡ Ok u = sym ((frames_are_decoded format bytes t all).1 one) ∙ (frames_are_decoded format bytes u all).1 two
+    in cc
 
 -- the blocks of bytes are bytes
 blocks_bytes : (blocks : List (List ℕ)) (bytes : List ℕ) → IsBytes bytes → AreChecked blocks bytes → IsBytes (concat blocks)

@@ -1,14 +1,14 @@
 -- The first piece that is no block with its CRC.
-use Rattle.std.proofs.Common.{◌≡◌, ℕ, zero, suc, ◌+◌, ◌-◌, ◌*◌, ◌/◌, ◌≤◌, List, [], ◌∷◌, ◌++◌, length, drop, Bool, true, false, cond, Result, Ok, Err, refl, sym, ◌∙◌, ap, subst, arith, length-drop, append-nil, add-zero}
+use Rattle.std.proofs.Common.{◌≡◌, ℕ, zero, suc, ◌+◌, ◌-◌, ◌*◌, ◌/◌, ◌≤◌, List, [], ◌∷◌, ◌++◌, length, drop, Bool, true, false, cond, Result, Ok, Err, refl, sym, ◌∙◌, ap, subst, arith, length-drop, append-nil, add-zero, inl, inr}
 use Rattle.std.proofs.lemmas.List.{length-take}
-use Rattle.std.specs.List.{flat_map}
+use Rattle.lists.proofs.StepLaws.{bind_err}
 use Rattle.frame_formats.specs.declared.fault.FrameFault.{FrameFault}
 use Rattle.frame_formats.specs.declared.fault.FrameFault.TheVariants as faults
 use Rattle.frame_formats.specs.Crc.{IsBytes}
 use Rattle.frame_formats.specs.Faults.{IsChecked, AllChecked, IsFirstWrong}
 use Rattle.frame_formats.specs.Decoding.{with_crc, block_of, content_of, cut, pieces_a}
 use Rattle.frame_formats.proofs.Pieces.{with_front, first_read, first_fault, nothing_read}
-use Rattle.frame_formats.proofs.Checked.{bytes-take, bytes-drop, bytes_same, checked_is, is_checked, checked_same, content_bytes, block_found, block_again}
+use Rattle.frame_formats.proofs.Checked.{bytes-take, bytes-drop, checked_is, checked_by, block_found, block_again}
 
 -- bytes with room for a CRC
 pub record IsPiece (piece : List ℕ) : Type 0 where
@@ -23,12 +23,7 @@ ArePieces (piece ∷ pieces) = IsPiece piece × ArePieces pieces
 checked_found : (n : ℕ) (piece block : List ℕ) → IsPiece piece → block_of n piece ≡ Ok block → IsChecked piece
 checked_found n piece block is read =
     let found = block_found n piece block is.bytes is.room read
-    in let whole : piece ≡ flat_map with_crc (block ∷ []) = found.0 ∙ sym (append-nil (with_crc block))
-    in record {
-      block = block;
-      checked = checked_same (block ∷ []) _ _ whole
-          (is_checked (block ∷ []) (content_bytes (block ∷ []) (bytes_same _ _ whole is.bytes)));
-    }
+    in record { block = block; checked = checked_by (block ∷ []) piece is.bytes (found.0 ∙ sym (append-nil (with_crc block))) }
 
 -- what is checked is read
 checked_again : (n : ℕ) (piece : List ℕ) → IsBytes piece → (is : IsChecked piece) → block_of n piece ≡ Ok is.block
@@ -43,10 +38,6 @@ guard_err false x e f is = cc
 block_err : (n : ℕ) (piece : List ℕ) (e : FrameFault) → block_of n piece ≡ Err e → faults.Crc n ≡ e
 unfolding block_of
 block_err n piece e is = guard_err _ _ _ _ is
-
-with_front_err : (front : List ℕ) (r : Result (List ℕ) FrameFault) (e : FrameFault) → with_front front r ≡ Err e → r ≡ Err e
-with_front_err front (Ok x) e is = cc
-with_front_err front (Err f) e is = is
 
 -- the fault of some pieces, of which the first is the n-th
 pub record IsAt (n : ℕ) (pieces : List (List ℕ)) (e : FrameFault) : Type 0 where
@@ -90,8 +81,10 @@ by_first : (n : ℕ) (piece : List ℕ) (pieces : List (List ℕ)) (e : FrameFau
     → block_of n piece ≡ r → content_of n (piece ∷ pieces) ≡ Err e
     → (content_of (n + 1) pieces ≡ Err e → IsAt (n + 1) pieces e) → IsAt n (piece ∷ pieces) e
 by_first n piece pieces e (Ok block) is read err rest =
-    further n piece pieces e (checked_found n piece block is read)
-    (rest (with_front_err block _ e (sym (first_read n piece block pieces read) ∙ err)))
+    elim (bind_err (content_of (n + 1) pieces) _ e (sym (first_read n piece block pieces read) ∙ err)) [
+      | inl behind ↦ further n piece pieces e (checked_found n piece block is read) (rest behind)
+      | inr ok ↦ let none : Ok (block ++ ok.0) ≡ Err e = ok.2 in cc
+    ]
 by_first n piece pieces e (Err f) is read err rest =
     let both : Err f ≡ Err e = sym (first_fault n piece pieces f read) ∙ err
     in let same : f ≡ e = cc

@@ -1,22 +1,15 @@
--- Bytes are a frame of one telegram, and a telegram has one frame of format A, which is read back.
-use Rattle.std.proofs.Common.{◌≡◌, ℕ, zero, suc, ◌+◌, ◌-◌, ◌/◌, ◌%◌, ◌≤◌, List, [], ◌∷◌, ◌++◌, length, take, drop, Ok, refl, sym, ◌∙◌, ap, arith, length-append, append-nil}
+-- A telegram has one frame of format A, which is read back.
+use Rattle.std.proofs.Common.{◌≡◌, ℕ, zero, suc, ◌+◌, ◌-◌, ◌/◌, ◌%◌, ◌≤◌, List, [], ◌∷◌, ◌++◌, length, take, drop, refl, sym, ◌∙◌, ap, arith, length-append, append-nil}
 use Rattle.std.proofs.lemmas.List.{take_all, take_at, drop_at}
 use Rattle.std.specs.List.{flat_map, concat}
 use Rattle.frame_formats.specs.Crc.{IsBytes, crc_of}
 use Rattle.frame_formats.specs.Frames.{AreSixteens, FrameA}
 use Rattle.frame_formats.specs.Decoding.{with_crc, cut, frame_a}
-use Rattle.frame_formats.specs.Laws.{OneTelegramA, OneTelegramB, OneFrameA}
+use Rattle.frame_formats.specs.Laws.{OneFrameA}
 use Rattle.frame_formats.proofs.Checked.{bytes-take, bytes-drop, bytes_joined, checked_is}
 use Rattle.frame_formats.proofs.Pieces.{cut_none}
 use Rattle.frame_formats.proofs.RelationA.{only as only_a, blocks_len}
-use Rattle.frame_formats.proofs.RelationB.{only as only_b}
 use Rattle.frame_formats.proofs.Writing.{is_frame}
-
-pub one_telegram_a : OneTelegramA
-one_telegram_a bytes t u all one two = let both : Ok t ≡ Ok u = sym (only_a bytes t all one) ∙ only_a bytes u all two in cc
-
-pub one_telegram_b : OneTelegramB
-one_telegram_b bytes t u all one two = let both : Ok t ≡ Ok u = sym (only_b bytes t all one) ∙ only_b bytes u all two in cc
 
 -- a block and its CRC are bytes
 with_crc_bytes : (block : List ℕ) → IsBytes block → IsBytes (with_crc block)

@@ -1,9 +1,8 @@
 pub mod Multiples
 pub mod Division
 pub mod Table
-pub mod Chain
+pub mod Tests
 pub mod Pieces
-pub mod Answered
 pub mod Reading
 pub mod Checked
 pub mod RelationA

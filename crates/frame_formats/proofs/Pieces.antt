@@ -7,29 +7,23 @@ use Rattle.frame_formats.specs.Decoding.{block_of, content_of, cut}
 
 -- bytes in front of those that are read
 abbrev pub with_front : List ℕ → Result (List ℕ) FrameFault → Result (List ℕ) FrameFault
-with_front front (Ok x) = Ok (front ++ x)
-with_front front (Err e) = Err e
+with_front front r = r >>= λ x. Ok (front ++ x)
 
 pub more_front : (a b : List ℕ) (r : Result (List ℕ) FrameFault) → with_front (a ++ b) r ≡ with_front a (with_front b r)
 more_front a b (Ok x) = ap Ok (append_assoc a b x)
 more_front a b (Err e) = refl
 
-pub with_front_is : (front : List ℕ) (r : Result (List ℕ) FrameFault) → (r >>= λ others. Ok (front ++ others)) ≡ with_front front r
-with_front_is front (Ok x) = refl
-with_front_is front (Err e) = refl
-
 -- the first piece is read
 pub first_read : (n : ℕ) (piece block : List ℕ) (pieces : List (List ℕ)) → block_of n piece ≡ Ok block
     → content_of n (piece ∷ pieces) ≡ with_front block (content_of (n + 1) pieces)
 unfolding content_of
-first_read n piece block pieces is =
-    ap (λ r. r >>= λ b. (content_of (n + 1) pieces) >>= λ others. Ok (b ++ others)) is ∙ with_front_is block (content_of (n + 1) pieces)
+first_read n piece block pieces is = ap (λ r. r >>= λ b. with_front b (content_of (n + 1) pieces)) is
 
 -- the first piece is at fault
 pub first_fault : (n : ℕ) (piece : List ℕ) (pieces : List (List ℕ)) (e : FrameFault) → block_of n piece ≡ Err e
     → content_of n (piece ∷ pieces) ≡ Err e
 unfolding content_of
-first_fault n piece pieces e is = ap (λ r. r >>= λ b. (content_of (n + 1) pieces) >>= λ others. Ok (b ++ others)) is
+first_fault n piece pieces e is = ap (λ r. r >>= λ b. with_front b (content_of (n + 1) pieces)) is
 
 pub nothing_read : (n : ℕ) → content_of n [] ≡ Ok []
 unfolding content_of

@@ -1,7 +1,6 @@
 -- Writing the blocks of a telegram.
-use Rattle.std.proofs.Common.{◌≡◌, ℕ, zero, suc, ◌+◌, ◌-◌, ◌*◌, ◌/◌, ◌<◌, ◌≤◌, List, [], ◌∷◌, ◌++◌, length, take, drop, false, eqb, sym, ◌∙◌, ap, arith, append_assoc, append-nil, length-drop, min, inl, inr}
+use Rattle.std.proofs.Common.{◌≡◌, ℕ, zero, suc, ◌+◌, ◌-◌, ◌*◌, ◌/◌, ◌<◌, ◌≤◌, List, [], ◌∷◌, ◌++◌, length, take, drop, sym, ◌∙◌, ap, arith, append_assoc, append-nil, length-drop, min}
 use Rattle.std.proofs.lemmas.List.{take_all, take-append-drop, length-take}
-use Rattle.std.proofs.lemmas.Bool.{cases_lt, eqb-false}
 use Rattle.std.specs.List.{flat_map, concat}
 use Rattle.frame_formats.specs.Crc.{IsBytes}
 use Rattle.frame_formats.specs.Frames.{AreSixteens, FrameA, IsTelegram}
@@ -79,9 +78,3 @@ frame_is t first rest front back =
     let count : (length rest + 15) / 16 ≡ (length t - 10 + 15) / 16 = omega (arith, ap length back, length-drop 10 t)
     in ap (λ x. with_crc x ++ others_with_crc rest) front ∙ ap (λ k. with_crc (take 10 t) ++ flat_map with_crc (cut k 16 rest)) count
     ∙ ap (λ x. with_crc (take 10 t) ++ flat_map with_crc (cut ((length t - 10 + 15) / 16) 16 x)) back
-
-pub some_left : (n : ℕ) → eqb n 0 ≡ false → 0 < n
-some_left n is = elim (cases_lt 0 n) [
-  | inl some ↦ some
-  | inr none ↦ let zero_is : n ≡ 0 = omega arith in absurd (eqb-false n 0 is zero_is)
-]

@@ -91,15 +91,6 @@ impl Telegram {
         address
     }
 
-    /// The bytes of the layers above the link, from CI on.
-    pub fn layers_bytes(&self) -> &[u8]
-        ensures bytes { result.now ≡ drop 10 self.now }
-        ensures some { 0 < length result.now }
-    {
-        let (_, layers) = self.bytes().split_at(10);
-        layers
-    }
-
     /// The same telegram again.
     pub fn copied(&self) -> Telegram
         ensures { result ≡ self.now }

@@ -76,7 +76,7 @@ fn told(rt: &impl Abort, alloc: Global) -> (u8, u64, usize) {
     let telegram = bytes(rt, alloc, TELEGRAM);
     let telegram = Telegram::from_bytes(&telegram).expect(rt, "no telegram");
     let address = u64::from_be_bytes(telegram.link_address_bytes());
-    (telegram.control(), address, telegram.layers_bytes().len())
+    (telegram.control(), address, telegram.bytes()[10..].len())
 }
 
 #[test]

@@ -1,12 +1,12 @@
 use Rattle.std.proofs.Common.{arith, ◌∙◌, sym, ◌<◌, length}
-use Rattle.std.proofs.lemmas.Bool.{eqb-true}
+use Rattle.std.proofs.lemmas.Bool.{eqb-true, eqb-false}
 use Rattle.lists.proofs.Puts.{behind_both}
-use Rattle.frame_formats.proofs.Writing.{one_more, all_written, some_left}
+use Rattle.frame_formats.proofs.Writing.{one_more, all_written}
 use Rattle.frame_formats.proofs.format_a.put_others.Goals as goal
 
 pub cutting-preserved : goal.cutting-preserved
 cutting-preserved c =
-    let some : 0 < length c.cutting.rest.now = some_left _ (sym c.cutting-test.ensures)
+    let some : 0 < length c.cutting.rest.now = omega (arith, eqb-false _ _ (sym c.cutting-test.ensures))
     in record {
       count = omega arith;
       front = one_more _ _ _ _ _ _ _ _ c.min.ensures some c.split_at.ensures.front c.split_at.ensures.back

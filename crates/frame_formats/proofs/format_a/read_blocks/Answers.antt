@@ -1,4 +1,4 @@
-use Rattle.std.proofs.Common.{arith, ℕ, length-drop, ◌≡◌, ◌+◌, ◌∙◌, ap, sym, length, ◌-◌, take, Ok}
+use Rattle.std.proofs.Common.{arith, ℕ, length-drop, ◌≡◌, ◌∙◌, ap, sym, length, ◌-◌, take, Ok}
 use Rattle.std.proofs.lemmas.List.{length-take}
 use Rattle.std.proofs.lemmas.Result.{err_from_is_err_and}
 use Rattle.frame_formats.proofs.Reading.{all_blocks, behind_first, front_fault}
