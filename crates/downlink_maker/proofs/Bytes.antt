@@ -1,8 +1,7 @@
 -- What a downlink consists of are bytes.
-use Rattle.std.proofs.Common.{◌≡◌, ℕ, ◌+◌, ◌*◌, ◌/◌, ◌%◌, ◌<◌, ◌≤◌, List, [], ◌∷◌, ◌++◌, length, take, drop, replicate, refl, arith}
+use Rattle.std.proofs.Common.{ℕ, ◌<◌, ◌≤◌, List, [], ◌∷◌, drop, refl, arith}
 use Rattle.std.proofs.lemmas.List.Elements.{All-nil, All-cons, All-head, All-tail, All-append, All-take, All-drop, All-replicate}
-use Rattle.std.specs.List.{All}
-use Rattle.std.specs.Int.{w16, w32, to_le_bytes}
+use Rattle.std.specs.Int.{w32, to_le_bytes}
 use Rattle.aes_block.specs.Block.{IsBlock}
 use Rattle.aes_block.proofs.Lists.{AreBytes}
 use Rattle.aes_block.proofs.Mixing.{AreBytes-4}
@@ -13,9 +12,9 @@ use Rattle.key_derivation.specs.Derivation.{derived}
 use Rattle.key_derivation.proofs.DerivedKeys.{IsBlock-derived}
 use Rattle.frame_formats.specs.Crc.{IsBytes}
 use Rattle.meter_address.specs.declared.address.Address.{Address}
-use Rattle.meter_address.specs.Address.{bytes_of, identification_of, header_order}
+use Rattle.meter_address.specs.Address.{bytes_of, identification_of}
 use Rattle.meter_address.specs.Commission.{Commissioned}
-use Rattle.downlink_maker.specs.Downlink.{link_bytes, header_bytes, authentication_bytes, configuration}
+use Rattle.downlink_maker.specs.Downlink.{link_bytes, header_bytes, authentication_bytes}
 
 abbrev pub Byte : ℕ → Type 0
 Byte b = b < 256
@@ -53,37 +52,18 @@ AreBytes-counter down = AreBytes-4 _ _ _ _ (omega arith) (omega arith) (omega ar
 -- ---- the layers
 
 pub AreBytes-link_bytes : (own : Address) (blocks : ℕ) → blocks ≤ 6 → AreBytes (link_bytes own blocks)
+unfolding bytes_of
 AreBytes-link_bytes own blocks h =
-    All-cons Byte (40 + 16 * blocks) (0x43 ∷ bytes_of own) (omega arith)
-    (All-cons Byte 0x43 (bytes_of own) (omega arith) (AreBytes-bytes_of own))
+    let all : IsBytes (link_bytes own blocks) = search arith depth 20 in
+    bytes_all (link_bytes own blocks) all
 
 pub AreBytes-authentication_bytes : (down : ℕ) (mac : List ℕ) → AreBytes mac → AreBytes (authentication_bytes down mac)
 AreBytes-authentication_bytes down mac h =
-    let four : AreBytes (0x90 ∷ 0x0F ∷ 0x00 ∷ 0x2C ∷ []) =
-    AreBytes-4 0x90 0x0F 0x00 0x2C (omega arith) (omega arith) (omega arith) (omega arith) in
-    let control : AreBytes (0x25 ∷ []) = AreBytes-1 0x25 (omega arith) in
-    let five : List ℕ = 0x90 ∷ 0x0F ∷ 0x00 ∷ 0x2C ∷ 0x25 ∷ [] in
-    All-append Byte (five ++ to_le_bytes w32 down) mac
-    (All-append Byte five (to_le_bytes w32 down) (All-append Byte (0x90 ∷ 0x0F ∷ 0x00 ∷ 0x2C ∷ []) (0x25 ∷ []) four control)
-    (AreBytes-counter down)) h
-
-two_bytes : (n : ℕ) → AreBytes (to_le_bytes w16 n)
-two_bytes n = All-cons Byte (n % 256) (n / 256 % 256 ∷ []) (omega arith) (AreBytes-1 (n / 256 % 256) (omega arith))
+    let front : IsBytes (authentication_bytes down []) = search arith in
+    All-append Byte (authentication_bytes down []) mac (bytes_all (authentication_bytes down []) front) h
 
 pub AreBytes-header_bytes : (meter : Address) (down blocks : ℕ) → AreBytes (header_bytes meter down blocks)
 unfolding bytes_of
 AreBytes-header_bytes meter down blocks =
-    let all : AreBytes (bytes_of meter) = AreBytes-bytes_of meter in
-    let id : AreBytes (identification_of meter) = AreBytes-identification_of meter in
-    let maker : AreBytes (take 2 (bytes_of meter)) = All-take Byte 2 (bytes_of meter) all in
-    let kind : AreBytes (drop 6 (bytes_of meter)) = All-drop Byte 6 (bytes_of meter) all in
-    let order = All-append Byte (identification_of meter) (take 2 (bytes_of meter) ++ drop 6 (bytes_of meter)) id
-    (All-append Byte (take 2 (bytes_of meter)) (drop 6 (bytes_of meter)) maker kind) in
-    let access : AreBytes (down % 256 ∷ 0x00 ∷ []) = All-cons Byte (down % 256) (0x00 ∷ []) (omega arith) (AreBytes-1 0x00 (omega arith)) in
-    let one : List ℕ = 0x5B ∷ header_order meter in
-    let two : List ℕ = one ++ (down % 256) ∷ 0x00 ∷ [] in
-    let three : List ℕ = two ++ to_le_bytes w16 (configuration blocks) in
-    let ones : AreBytes one = All-append Byte (0x5B ∷ []) (header_order meter) (AreBytes-1 0x5B (omega arith)) order in
-    let twos : AreBytes two = All-append Byte one (down % 256 ∷ 0x00 ∷ []) ones access in
-    All-append Byte three (0x10 ∷ []) (All-append Byte two (to_le_bytes w16 (configuration blocks)) twos
-    (two_bytes (configuration blocks))) (AreBytes-1 0x10 (omega arith))
+    let all : IsBytes (header_bytes meter down blocks) = search arith depth 20 in
+    bytes_all (header_bytes meter down blocks) all

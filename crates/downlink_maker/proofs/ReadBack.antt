@@ -1,5 +1,5 @@
 -- What is encrypted for a meter is decrypted by it, and a downlink's telegram is laid out as one.
-use Rattle.std.proofs.Common.{◌≡◌, ℕ, ◌-◌, ◌*◌, ◌%◌, ◌^◌, ◌<◌, List, [], ◌∷◌, ◌++◌, ◌∙◌, length, take, replicate, Ok, refl, sym, arith, append_assoc, length-append}
+use Rattle.std.proofs.Common.{◌≡◌, ℕ, ◌-◌, ◌*◌, ◌%◌, ◌^◌, ◌<◌, List, ◌∷◌, ◌++◌, ◌∙◌, length, replicate, sym, arith, append_assoc, length-append}
 use Rattle.std.proofs.lemmas.List.{length-replicate, length-take}
 use Rattle.std.proofs.lemmas.List.Elements.{All-cons, All-append, All-replicate, All-take}
 use Rattle.std.specs.Int.{w32, to_le_bytes}
@@ -12,14 +12,13 @@ use Rattle.cbc_cmac.proofs.Blocks.{bytes_of_blocks_are_undone, length-cbc_encryp
 use Rattle.key_derivation.specs.declared.KeyUse.TheVariants.{PartnerCipher, PartnerMac}
 use Rattle.frame_formats.specs.Crc.{IsBytes}
 use Rattle.frame_formats.specs.Frames.{IsTelegram}
-use Rattle.frame_formats.specs.Decoding.{decoded_a}
 use Rattle.frame_formats.proofs.FrameLaws.{one_frame_a}
 use Rattle.meter_address.specs.declared.address.Address.{Address}
 use Rattle.meter_address.specs.Commission.{Commissioned}
-use Rattle.downlink_maker.specs.Downlink.{blocks_for, link_bytes, authentication_bytes, header_bytes, plain_content, cipher_key, mac_key, encrypted_content, message_bytes, mac_of, telegram_to, downlink}
+use Rattle.downlink_maker.specs.Downlink.{blocks_for, link_bytes, authentication_bytes, header_bytes, plain_content, cipher_key, mac_key, encrypted_content, message_bytes, mac_of, telegram_to}
 use Rattle.downlink_maker.specs.Parts.{HasParts, parts_to, IsPayload}
-use Rattle.downlink_maker.specs.Laws.{ContentIsReadBack, IsLaidOut, DownlinksAreLaidOut}
-use Rattle.downlink_maker.proofs.Bytes.{Byte, all_bytes, IsBlock-zeros, IsBlock-key, AreBytes-1, AreBytes-counter, AreBytes-link_bytes, AreBytes-authentication_bytes, AreBytes-header_bytes}
+use Rattle.downlink_maker.specs.Laws.{IsLaidOut}
+use Rattle.downlink_maker.proofs.Bytes.{Byte, all_bytes, IsBlock-zeros, IsBlock-key, AreBytes-counter, AreBytes-link_bytes, AreBytes-authentication_bytes, AreBytes-header_bytes}
 use Rattle.downlink_maker.proofs.Parts.{part-telegram}
 
 -- how many fillers there are
@@ -69,8 +68,8 @@ module _ (c : Commissioned) (down : ℕ) (payload : List ℕ) (key : IsBlock c.k
   mac_block : IsBlock (cmac (mac_key c down) (0x25 ∷ to_le_bytes w32 down ++ message_bytes c down payload))
   mac_block =
       IsBlock-cmac (mac_key c down) (0x25 ∷ to_le_bytes w32 down ++ message_bytes c down payload) (IsBlock-key c PartnerMac down key)
-      (All-append Byte (0x25 ∷ to_le_bytes w32 down) (message_bytes c down payload)
-      (All-append Byte (0x25 ∷ []) (to_le_bytes w32 down) (AreBytes-1 0x25 (omega arith)) (AreBytes-counter down)) AreBytes-message_bytes)
+      (All-cons Byte 0x25 (to_le_bytes w32 down ++ message_bytes c down payload) (omega arith)
+      (All-append Byte (to_le_bytes w32 down) (message_bytes c down payload) (AreBytes-counter down) AreBytes-message_bytes))
 
   pub length-mac_of : length (mac_of c down payload) ≡ 8
   unfolding mac_of
@@ -80,9 +79,6 @@ module _ (c : Commissioned) (down : ℕ) (payload : List ℕ) (key : IsBlock c.k
   pub AreBytes-mac_of : AreBytes (mac_of c down payload)
   unfolding mac_of
   AreBytes-mac_of = All-take Byte 8 _ mac_block.bytes
-
-pub content_is_read_back : ContentIsReadBack
-content_is_read_back c down payload key bytes = decrypted_again c down payload key bytes
 
 module _ (own : Address) (c : Commissioned) (down : ℕ) (payload : List ℕ) (key : IsBlock c.key) (counter : down < 2 ^ 32)
     (is : IsPayload payload) where
@@ -120,6 +116,3 @@ module _ (own : Address) (c : Commissioned) (down : ℕ) (payload : List ℕ) (k
         decoded = (one_frame_a (telegram_to own c down payload) telegram bytes).1;
         parts = parts;
       }
-
-pub downlinks_are_laid_out : DownlinksAreLaidOut
-downlinks_are_laid_out own c down payload key counter is = is_laid_out own c down payload key counter is

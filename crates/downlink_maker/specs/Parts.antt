@@ -1,8 +1,6 @@
 -- The parts of a downlink's telegram, and of any that is laid out like one.
 use Rattle.std.specs.Prelude.{ℕ, ◌≡◌, ◌*◌, ◌^◌, ◌<◌, ◌≤◌, List, ◌++◌, length}
 use Rattle.std.specs.List.{All}
-use Rattle.frame_formats.specs.Crc.{IsBytes}
-use Rattle.frame_formats.specs.Frames.{IsTelegram}
 use Rattle.meter_address.specs.declared.address.Address.{Address}
 use Rattle.meter_address.specs.Commission.{Commissioned}
 use Rattle.downlink_maker.specs.Downlink.{blocks_for, link_bytes, header_bytes, authentication_bytes, encrypted_content, mac_of}

@@ -1,5 +1,6 @@
-use Rattle.downlink_maker.proofs.ReadBack.{content_is_read_back}
+-- What is encrypted is read back.
+use Rattle.downlink_maker.proofs.ReadBack.{decrypted_again}
 use Rattle.downlink_maker.proofs.laws.content_is_read_back.Goals as goal
 
 pub returns : goal.returns
-returns c = content_is_read_back
+returns c = decrypted_again

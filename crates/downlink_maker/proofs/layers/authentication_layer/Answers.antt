@@ -1,3 +1,4 @@
+-- The layer is written, and read back, as its row says.
 use Rattle.std.proofs.Common.{◌≡◌, ℕ, List, ◌++◌, Ok, refl, ap, ◌∙◌, arith, length-append}
 use Rattle.afl_layer.specs.Header.{IsPlaced, afl_at}
 use Rattle.downlink_maker.specs.Downlink.{authentication_of}

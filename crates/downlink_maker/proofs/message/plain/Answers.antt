@@ -1,3 +1,4 @@
+-- The content in plain has its fillers.
 use Rattle.std.proofs.Common.{◌*◌, length, take, List, ℕ, ap, ◌∙◌, arith}
 use Rattle.downlink_maker.specs.Downlink.{blocks_for}
 use Rattle.downlink_maker.proofs.Rows.{take-filled}

@@ -1,3 +1,4 @@
+-- The window agrees with the queue when the oldest command was sent.
 use Rattle.std.proofs.Common.{subst, sym}
 use Rattle.access_window.specs.declared.window.Window.TheVariants.{Waiting}
 use Rattle.access_window.specs.Orders.{Agrees}
@@ -7,5 +8,5 @@ use Rattle.access_window.proofs.window.Window.send.Goals as goal
 pub returns-clause-agrees : goal.returns-clause-agrees
 returns-clause-agrees c =
     subst (Agrees (Waiting c.in-Some.oldest.now.id)) (sym c.count_try.ensures)
-    (agrees_sent c.args.queue.now c.in-Some.oldest.now (subst (λ w. Agrees w c.args.queue.now) c.in-Idle.is c.requires)
+    (agrees_sent c.args.queue.now.ids c.args.queue.now.commands c.in-Some.oldest.now (subst (λ w. Agrees w c.args.queue.now) c.in-Idle.is c.requires)
     c.in-Some.ensures.command)

@@ -1,7 +1,6 @@
-use Rattle.std.proofs.Common.{◌≡◌, get_or, ap, sym, subst, ◌∙◌}
-use Rattle.std.specs.List.{remove}
-use Rattle.command_queue.specs.Pending.{Pending, IsSound}
-use Rattle.command_queue.proofs.Moves.{sound_without, none_answered, none_left_out, answered, left, is_without}
+-- What `take` answers and leaves.
+use Rattle.std.proofs.Common.{sym}
+use Rattle.command_queue.proofs.Moves.{none_answered, none_left_out, taken}
 use Rattle.command_queue.proofs.queue.Queue.take.Goals as goal
 
 pub returns-in_default-clause-answer : goal.returns-in_default-clause-answer
@@ -12,27 +11,15 @@ returns-in_default-clause-after c = none_left_out c.args.id c.args.self.now c.in
 
 pub invariant_of-self : goal.invariant_of-self
 invariant_of-self c =
-    let q = c.args.self.now in
-    let sound : IsSound q = subst IsSound c.self.view_is c.self.invariant in
-    let same : c.self.inside.commands.items ≡ q.commands = ap (λ (p : Pending). p.commands) c.self.view_is in
-    sound_without c.args.id q _ sound
-    (c.remove.ensures.items ∙ ap (λ cs. remove cs c.in-Some.place) same ∙ left c.args.id q c.in-Some.place c.remove.result sound
-    c.in-Some.ensures.within c.in-Some.ensures.found)
-    (ap (λ (p : Pending). p.ids) c.self.view_is)
+    (taken c.args.id _ c.args.self.now c.in-Some.place _ _ c.self.invariant c.remove.ensures.value c.remove.ensures.items c.self.view_is
+    c.in-Some.ensures.within c.in-Some.ensures.found).sound
 
 pub returns-clause-answer : goal.returns-clause-answer
 returns-clause-answer c =
-    let q = c.args.self.now in
-    let sound : IsSound q = subst IsSound c.self.view_is c.self.invariant in
-    let same : c.self.inside.commands.items ≡ q.commands = ap (λ (p : Pending). p.commands) c.self.view_is in
-    sym (answered c.args.id q c.in-Some.place c.remove.result sound c.in-Some.ensures.within c.in-Some.ensures.found
-    (c.remove.ensures.value ∙ ap (λ cs. get_or cs c.in-Some.place c.remove.result) same))
+    (taken c.args.id _ c.args.self.now c.in-Some.place _ _ c.self.invariant c.remove.ensures.value c.remove.ensures.items c.self.view_is
+    c.in-Some.ensures.within c.in-Some.ensures.found).answer
 
 pub returns-clause-after : goal.returns-clause-after
 returns-clause-after c =
-    let q = c.args.self.now in
-    let sound : IsSound q = subst IsSound c.self.view_is c.self.invariant in
-    let same : c.self.inside.commands.items ≡ q.commands = ap (λ (p : Pending). p.commands) c.self.view_is in
-    is_without c.args.id q _ (ap (λ (p : Pending). p.ids) c.self.view_is)
-    (c.remove.ensures.items ∙ ap (λ cs. remove cs c.in-Some.place) same ∙ left c.args.id q c.in-Some.place c.remove.result sound
-    c.in-Some.ensures.within c.in-Some.ensures.found)
+    (taken c.args.id _ c.args.self.now c.in-Some.place _ _ c.self.invariant c.remove.ensures.value c.remove.ensures.items c.self.view_is
+    c.in-Some.ensures.within c.in-Some.ensures.found).after
