@@ -5,10 +5,12 @@ use Rattle.std.specs.Char.{is_ascii_digit, digit_value}
 use Rattle.std.specs.Fmt.{decimal}
 use Rattle.std.specs.List.{list_all}
 use Rattle.std.specs.Str.Parse.{digits_value}
+use Rattle.std.proofs.lemmas.Bool.{and_parts, cond-false, leb-true, leb-false, lt-leb}
 use Rattle.std.proofs.lemmas.Bool.Decides.{nat_tests}
 use Rattle.std.proofs.lemmas.Int.Digits.{digits_value_more}
 use Rattle.std.proofs.lemmas.Str.Parse.{digits_value-take-le, IsNumeralModel, numerals_by_value, digit_at}
 use Rattle.std.proofs.lemmas.Fmt.{digits_decimal, digits_value-decimal, decimal-digits_value, decimal_digit, decimal_nonempty, first_decimal}
+use Rattle.lists.proofs.Choices.{none_if, some_if}
 use Rattle.plain_text.specs.Numbers.{is_plain, number_of}
 
 own : IsNumeralModel (λ ds. list_all is_ascii_digit ds ≡ true) (digits_value 10)
@@ -25,17 +27,11 @@ next_value ds i all within =
     let same : digit_value (get_or ds i 0) ≡ get_or ds i 0 - 48 = digit_is (get_or ds i 0) digit.0 digit.1 in
     digits_value_more 10 ds i within ∙ ap (λ d. digits_value 10 (take i ds) * 10 + d) same
 
-some_le : (n most v : ℕ) (b : Bool) → nat_le n most ≡ b → cond b (Some n) None ≡ Some v → (v ≡ n) × (v ≤ most)
-some_le n most v true h e = (cc, let same : n ≡ v = cc in grind (arith, nat_tests))
-some_le n most v false h e = absurd cc
+some_le : (n most v : ℕ) → cond (nat_le n most) (Some n) None ≡ Some v → (v ≡ n) × (v ≤ most)
+some_le n most v e = let parts = some_if (nat_le n most) n v e in (cc, let low = leb-true n most parts.0 in omega arith)
 
-none_le : (n most : ℕ) (b : Bool) → nat_le n most ≡ b → cond b (Some n) None ≡ None → most < n
-none_le n most true h e = absurd cc
-none_le n most false h e = grind (arith, nat_tests)
-
-past : (n most : ℕ) (b : Bool) → nat_le n most ≡ b → most < n → None ≡ cond b (Some n) None
-past n most true h large = absurd (grind (arith, nat_tests))
-past n most false h large = refl
+none_le : (n most : ℕ) → cond (nat_le n most) (Some n) None ≡ None → most < n
+none_le n most e = leb-false n most (none_if (nat_le n most) n e)
 
 -- a digit that is taken, and one that makes the value too large
 pub taken : (ds : List ℕ) (i v most w : ℕ) (r : Option ℕ) → list_all is_ascii_digit ds ≡ true → i < length ds
@@ -43,7 +39,7 @@ pub taken : (ds : List ℕ) (i v most w : ℕ) (r : Option ℕ) → list_all is_
     → r ≡ Some w
     → (w ≡ digits_value 10 (take (i + 1) ds)) × (w ≤ most)
 taken ds i v most w r all within is given some =
-    let parts = some_le (v * 10 + (get_or ds i 0 - 48)) most w _ refl (sym given ∙ some) in
+    let parts = some_le (v * 10 + (get_or ds i 0 - 48)) most w (sym given ∙ some) in
     (parts.0 ∙ ap (λ n. n * 10 + (get_or ds i 0 - 48)) is ∙ sym (next_value ds i all within), parts.1)
 
 pub too_large : (ds : List ℕ) (i v most : ℕ) (r : Option ℕ) → list_all is_ascii_digit ds ≡ true → i < length ds
@@ -51,11 +47,11 @@ pub too_large : (ds : List ℕ) (i v most : ℕ) (r : Option ℕ) → list_all i
     → r ≡ None
     → None ≡ cond (nat_le (digits_value 10 ds) most) (Some (digits_value 10 ds)) None
 too_large ds i v most r all within is given none =
-    let large = none_le (v * 10 + (get_or ds i 0 - 48)) most _ refl (sym given ∙ none) in
+    let large = none_le (v * 10 + (get_or ds i 0 - 48)) most (sym given ∙ none) in
     let next = next_value ds i all within in
     let front = digits_value-take-le 10 ds (i + 1) (omega arith) in
     let same = ap (λ n. n * 10 + (get_or ds i 0 - 48)) is in
-    past (digits_value 10 ds) most _ refl (omega arith)
+    sym (cond-false (nat_le (digits_value 10 ds) most) _ _ (lt-leb _ _ (omega arith)))
 
 -- the number of a plain text, and of any other
 pub plain_number : (most : ℕ) (text : List ℕ) → is_plain text ≡ true
@@ -84,10 +80,6 @@ led l f h = by_test (l == 1) (f == 48) refl refl h
     by_test false true p q h = absurd (grind (arith, nat_tests))
     by_test false false p q h = (grind (arith, nat_tests), λ zero. absurd (grind (arith, nat_tests)))
 
-both : (a b : Bool) → (a && b) ≡ true → (a ≡ true) × (b ≡ true)
-both true b h = (refl, h)
-both false b h = absurd cc
-
 plain_decimal : (n : ℕ) → n < 2 ^ 64 → is_plain (decimal n) ≡ true
 plain_decimal n small =
     let no_zero : get_or (decimal n) 0 0 ≡ 48 → length (decimal n) ≡ 1 = λ zero. one n small zero in
@@ -101,7 +93,7 @@ plain_decimal n small =
 
 decimal_of_plain : (text : List ℕ) → is_plain text ≡ true → digits_value 10 text < 2 ^ 64 → text ≡ decimal (digits_value 10 text)
 decimal_of_plain text plain small =
-    let parts = both _ _ plain in
+    let parts = and_parts _ _ plain in
     let front = led (length text) (get_or text 0 0) parts.1 in
     sym (decimal-digits_value own text parts.0 front.0 front.1 small)
 
@@ -112,9 +104,9 @@ written most text small false plain None is =
     λ n low same. absurd (let e = sym plain ∙ ap is_plain same ∙ plain_decimal n (omega arith) in cc)
 written most text small false plain (Some n) is = absurd cc
 written most text small true plain None is = λ n low same.
-    let large = none_le (digits_value 10 text) most _ refl (sym is) in
+    let large = none_le (digits_value 10 text) most (sym is) in
     let value = ap (digits_value 10) same ∙ digits_value-decimal own n (omega arith) in
     omega arith
 written most text small true plain (Some n) is =
-    let parts = some_le (digits_value 10 text) most n _ refl (sym is) in
+    let parts = some_le (digits_value 10 text) most n (sym is) in
     (parts.1, decimal_of_plain text plain (omega arith) ∙ ap decimal (sym parts.0))
