@@ -1,5 +1,5 @@
 -- A list that is cut at the first element which passes a test.
-use Rattle.std.proofs.Common.{◌≡◌, ℕ, suc, ◌<◌, ◌≤◌, ◌+◌, ◌==◌, List, [], ◌∷◌, length, take, drop, Bool, true, false, not, cond, Option, Some, None, refl, ap, sym, ◌∙◌, arith}
+use Rattle.std.proofs.Common.{◌≡◌, ℕ, zero, suc, ◌<◌, ◌≤◌, ◌+◌, ◌==◌, List, [], ◌∷◌, length, take, drop, Bool, true, false, not, cond, Option, Some, None, refl, ap, sym, ◌∙◌, arith}
 use Rattle.std.specs.Prelude.{position}
 use Rattle.std.specs.List.{slice_split, onto_first, position_or_len, AllByRecursion, count_by}
 use Rattle.std.specs.Str.Lines.{lines, lines_of_parts, strip_carriage_return}
@@ -81,23 +81,17 @@ length-lines text =
     )
 
 -- no part is longer than the list that is cut
-abbrev IsWithin : {X : Type 0} → ℕ → List X → Type 0
-IsWithin n part = length part ≤ n
+abbrev AreWithin : {X : Type 0} → ℕ → List (List X) → Type 0
+AreWithin n parts = AllByRecursion (λ part. length part ≤ n) parts
 
-wider : {X : Type 0} (n : ℕ) (parts : List (List X)) → AllByRecursion (IsWithin n) parts → AllByRecursion (IsWithin (suc n)) parts
-wider n [] all = tt
-wider n (part ∷ parts) all = (omega (arith, all.0), wider n parts all.1)
-
-onto-within : {X : Type 0} (x : X) (n : ℕ) (parts : List (List X)) → AllByRecursion (IsWithin n) parts
-    → AllByRecursion (IsWithin (suc n)) (onto_first x parts)
-onto-within x n [] all = (omega arith, tt)
-onto-within x n (part ∷ parts) all = (omega (arith, all.0), wider n parts all.1)
-
-pub split-within : {X : Type 0} (p : X → Bool) (xs : List X) → AllByRecursion (λ part. length part ≤ length xs) (slice_split p xs)
-split-within p [] = (omega arith, tt)
-split-within p (x ∷ xs) = by_test (p x) (split-within p xs)
+pub split-within : {X : Type 0} (p : X → Bool) (xs : List X) (n : ℕ) → length xs ≤ n → AreWithin n (slice_split p xs)
+split-within p [] n few = (omega arith, tt)
+split-within p (x ∷ xs) zero few = absurd (omega arith)
+split-within p (x ∷ xs) (suc n) few =
+    by_test (p x) (slice_split p xs) (split-within p xs n (omega arith)) (split-within p xs (suc n) (omega arith))
   where
-    by_test : (b : Bool) → AllByRecursion (λ part. length part ≤ length xs) (slice_split p xs)
-        → AllByRecursion (λ part. length part ≤ length (x ∷ xs)) (cond b ([] ∷ slice_split p xs) (onto_first x (slice_split p xs)))
-    by_test true all = (omega arith, wider (length xs) (slice_split p xs) all)
-    by_test false all = onto-within x (length xs) (slice_split p xs) all
+    by_test : (b : Bool) (parts : List (List _)) → AreWithin n parts → AreWithin (suc n) parts
+        → AreWithin (suc n) (cond b ([] ∷ parts) (onto_first x parts))
+    by_test true parts shorter all = (omega arith, all)
+    by_test false [] shorter all = (omega arith, tt)
+    by_test false (part ∷ parts) shorter all = (omega (arith, shorter.0), all.1)

@@ -1,11 +1,11 @@
 -- The value of plain digits.
-use Rattle.std.proofs.Common.{◌≡◌, ◌≢◌, ℕ, zero, suc, ◌<◌, ◌≤◌, ◌+◌, ◌-◌, ◌*◌, ◌^◌, ◌==◌, ◌&&◌, ◌||◌, List, length, take, get_or, Bool, true, false, not, cond, Option, Some, None, refl, ap, sym, ◌∙◌, arith, nat_lt, nat_le, rules}
+use Rattle.std.proofs.Common.{◌≡◌, ◌≢◌, inl, inr, ℕ, zero, suc, ◌<◌, ◌≤◌, ◌+◌, ◌-◌, ◌*◌, ◌^◌, ◌==◌, ◌&&◌, ◌||◌, List, length, take, get_or, Bool, true, false, not, cond, Option, Some, None, ap, sym, ◌∙◌, arith, nat_lt, nat_le, rules}
 use Rattle.std.specs.Prelude.{MatchOption}
 use Rattle.std.specs.Char.{is_ascii_digit, digit_value}
 use Rattle.std.specs.Fmt.{decimal}
 use Rattle.std.specs.List.{list_all}
 use Rattle.std.specs.Str.Parse.{digits_value}
-use Rattle.std.proofs.lemmas.Bool.{and_parts, cond-false, leb-true, leb-false, lt-leb}
+use Rattle.std.proofs.lemmas.Bool.{and_from, and_parts, cases_eq, cond-false, eq-eqb, lt-ltb, ne_eqb, not_from_false, or_left, or_right, leb-true, leb-false, lt-leb}
 use Rattle.std.proofs.lemmas.Bool.Decides.{nat_tests}
 use Rattle.std.proofs.lemmas.Int.Digits.{digits_value_more}
 use Rattle.std.proofs.lemmas.Str.Parse.{digits_value-take-le, IsNumeralModel, numerals_by_value, digit_at}
@@ -65,20 +65,14 @@ no_number most text h = ap (λ b. cond (b && nat_le (digits_value 10 text) most)
 
 -- plain texts are what is written for numbers
 lead : (l f : ℕ) → 0 < l → (f ≡ 48 → l ≡ 1) → (l == 1 || nat_lt 1 l && not (f == 48)) ≡ true
-lead l f some first = by_test (l == 1) (f == 48) refl refl
-  where
-    by_test : (a b : Bool) → (l == 1) ≡ a → (f == 48) ≡ b → (a || nat_lt 1 l && not b) ≡ true
-    by_test true b p q = refl
-    by_test false true p q = absurd (let zero : f ≡ 48 = grind (arith, nat_tests) in let one = first zero in grind (arith, nat_tests))
-    by_test false false p q = grind (arith, nat_tests)
+lead l f some first = elim (cases_eq l 1) [
+  | inl one ↦ or_left (l == 1) _ (eq-eqb l 1 one)
+  | inr more ↦ or_right (l == 1) _ (and_from (nat_lt 1 l) _ (lt-ltb 1 l (omega arith))
+      (not_from_false (f == 48) (ne_eqb f 48 (λ is. more (first is)))))
+]
 
 led : (l f : ℕ) → (l == 1 || nat_lt 1 l && not (f == 48)) ≡ true → (0 < l) × (f ≡ 48 → l ≡ 1)
-led l f h = by_test (l == 1) (f == 48) refl refl h
-  where
-    by_test : (a b : Bool) → (l == 1) ≡ a → (f == 48) ≡ b → (a || nat_lt 1 l && not b) ≡ true → (0 < l) × (f ≡ 48 → l ≡ 1)
-    by_test true b p q h = (grind (arith, nat_tests), λ _. grind (arith, nat_tests))
-    by_test false true p q h = absurd (grind (arith, nat_tests))
-    by_test false false p q h = (grind (arith, nat_tests), λ zero. absurd (grind (arith, nat_tests)))
+led l f h = (grind (arith, nat_tests), λ zero. grind (arith, nat_tests))
 
 plain_decimal : (n : ℕ) → n < 2 ^ 64 → is_plain (decimal n) ≡ true
 plain_decimal n small =
