@@ -61,61 +61,54 @@ pub room_after : (start line most : ℕ) → (line < LINES_MAX → most ≡ BYTE
 room_after start line most room no_room some =
     ⊎_elim (λ below. (below, room below)) (λ full. absurd (let none = no_room full in omega arith)) (cases_lt line LINES_MAX)
 
-pub search_from : (start line most : ℕ) {tells ended done : Bool} (taken left held added taken' left' : List ℕ)
-    → Keeps tells start line ended done taken left held → IsTrue tells → done ≡ false → ended ≡ false
-    → (line < LINES_MAX → most ≡ BYTES_MAX - start) → (LINES_MAX ≤ line → most ≡ 0) → Moves added taken left taken' left'
-    → IsSearch start line most taken held added taken'
-search_from start line most taken left held added taken' left' keeps told not_done not_ended room no_room moves = record {
-  reader = keeps.reader told not_done not_ended;
-  few_bytes = keeps.few_bytes;
-  few_lines = keeps.few_lines;
+-- a search behind a line that was lent and is given up
+pub search_of : {start line most lent longest : ℕ} {tells ended done : Bool} {taken left held held' added taken' left' : List ℕ}
+    → IsTextReader tells longest lent start line ended done taken left held → held' ≡ drop lent held
+    → IsTrue tells → done ≡ false → ended ≡ false → (line < LINES_MAX → most ≡ BYTES_MAX - start) → (LINES_MAX ≤ line → most ≡ 0)
+    → Moves added taken left taken' left' → IsSearch start line most taken held' added taken'
+search_of {start} {line} {taken} is given_up told not_done not_ended room no_room moves = record {
+  reader = subst (λ h. IsReader start line taken h) (sym given_up) (is.keeps.reader told not_done not_ended);
+  few_bytes = is.keeps.few_bytes;
+  few_lines = is.keeps.few_lines;
   room = room;
   no_room = no_room;
   back = moves.back;
 }
 
 -- what is lent is no longer than a line may be
-pub lent_short : (longest given_up count lent : ℕ) (held' held'' : List ℕ) → LendsLine longest given_up count held' held'' lent
+lent_short : {longest given_up count : ℕ} (lent : ℕ) {held' held'' : List ℕ} → LendsLine longest given_up count held' held'' lent
     → length (line_text (take lent held'')) ≤ longest
-lent_short longest given_up count zero held' held'' lends = omega arith
-lent_short longest given_up count (suc lent) held' held'' lends =
+lent_short zero lends = omega arith
+lent_short {longest} {count} (suc lent) {held''} lends =
     let parts = lends.line (omega arith) in
     subst (λ t. length t ≤ longest) (sym (ap (λ n. line_text (take n held'')) parts.1 ∙ ap (λ x. line_text (take count x)) parts.2)) parts.3
 
--- a search behind a line that was lent and is given up
-pub search_of : (start line most lent longest : ℕ) {tells ended done : Bool} (taken left held held' added taken' left' : List ℕ)
-    → IsTextReader tells longest lent start line ended done taken left held → held' ≡ drop lent held
-    → IsTrue tells → done ≡ false → ended ≡ false → (line < LINES_MAX → most ≡ BYTES_MAX - start) → (LINES_MAX ≤ line → most ≡ 0)
-    → Moves added taken left taken' left' → IsSearch start line most taken held' added taken'
-search_of start line most lent longest {tells} {ended}
-    {done} taken left held held' added taken' left' is given_up told not_done not_ended room no_room moves =
-    search_from start line most taken left held' added taken' left'
-    (subst (λ h. Keeps tells start line ended done taken left h) (sym given_up) is.keeps) told not_done not_ended room no_room moves
-
 -- the reader behind a new line
-pub reader_after : (start line most lent longest given_up count : ℕ) {tells done last : Bool} (held' held'' taken' left' : List ℕ)
-    → longest ≤ 15359 → start ≤ BYTES_MAX
+pub reader_after : {start line most lent lent' longest given_up count : ℕ} {tells ended done done' last : Bool}
+    {taken left held held' held'' taken' left' : List ℕ}
+    → IsTextReader tells longest lent start line ended done taken left held
     → (line < LINES_MAX → most ≡ BYTES_MAX - start) → (LINES_MAX ≤ line → most ≡ 0)
     → (0 < given_up + count) × (count ≤ length held') × (given_up + count ≤ most)
-    → LendsLine longest given_up count held' held'' lent
-    → (IsTrue tells → Keeps tells (start + (given_up + count)) (line + 1) last done taken' left' (drop count held'))
-    → IsTextReader tells longest lent (start + (given_up + count)) (line + 1) last done taken' left' held''
-reader_after start line most lent longest given_up count {tells} {done}
-    {last} held' held'' taken' left' fits_room few room no_room fits lends keeps =
+    → LendsLine longest given_up count held' held'' lent'
+    → (IsTrue tells → Keeps tells (start + (given_up + count)) (line + 1) last done' taken' left' (drop count held'))
+    → IsTextReader tells longest lent' (start + (given_up + count)) (line + 1) last done' taken' left' held''
+reader_after {start} {line} {most} {lent'} {given_up} {count} {tells} {done'} {last} {held'} {taken'} {left'}
+    is room no_room fits lends keeps =
+    let few = is.keeps.few_bytes in
     let some = fits.0 in
     let within = fits.2 in
     let left_over = room_after start line most room no_room (omega arith) in
-    let after : Keeps tells (start + (given_up + count)) (line + 1) last done taken' left' (drop count held') = record {
+    let after : Keeps tells (start + (given_up + count)) (line + 1) last done' taken' left' (drop count held') = record {
       few_lines = omega arith;
       few_bytes = omega arith;
       reader = λ told. (keeps told).reader told;
       last = λ told. (keeps told).last told;
     } in
     record {
-      room = fits_room;
+      room = is.room;
       within = lends.within;
-      short = lent_short longest given_up count lent held' held'' lends;
-      keeps = subst (λ h. Keeps tells (start + (given_up + count)) (line + 1) last done taken' left' h) (sym lends.behind) after;
+      short = lent_short lent' lends;
+      keeps = subst (λ h. Keeps tells (start + (given_up + count)) (line + 1) last done' taken' left' h) (sym lends.behind) after;
     }
 
 -- one more line was given: its bytes, unless some were given up, which made it too long
@@ -250,7 +243,7 @@ module _ {start line most : ℕ} {taken held added taken' : List ℕ} (s : IsSea
         }
 
   -- a line, with its newline or the last one
-  module _ (longest : ℕ) (held' left' : List ℕ) (given_up count : ℕ) (part : IsRestOfLine longest read held' given_up)
+  module _ {longest : ℕ} {held' : List ℕ} {given_up count : ℕ} (part : IsRestOfLine longest read held' given_up)
       (fits : (0 < given_up + count) × (count ≤ length held') × (given_up + count ≤ most)) where
     room_left : (line < LINES_MAX) × (most ≡ BYTES_MAX - start)
     room_left = let some = fits.0 in let few = fits.2 in room_after start line most s.room s.no_room (omega arith)
@@ -258,21 +251,21 @@ module _ {start line most : ℕ} {taken held added taken' : List ℕ} (s : IsSea
     few_bytes_after : start + (given_up + count) ≤ BYTES_MAX
     few_bytes_after = let few = fits.2 in let room = room_left in let before_it = s.few_bytes in omega arith
 
-    pub gives_line : (last : Bool) → EndsAt last read left' given_up count
+    pub gives_line : (left' : List ℕ) (last : Bool) → EndsAt last read left' given_up count
         → IsNewLine longest given_up count held' (take line (all_lines taken)) (take (line + 1) (all_lines taken'))
-    gives_line false found =
+    gives_line left' false found =
         new_line longest held' (drop count held') given_up count part found.1 refl fits.0 found.0 room_left.0 few_bytes_after
-    gives_line true found = new_last longest held' left' given_up count part found fits.2
+    gives_line left' true found = new_last longest held' left' given_up count part found fits.2
 
-    pub keeps_line : (tells done last : Bool) → EndsAt last read left' given_up count
+    pub keeps_line : (tells done : Bool) (left' : List ℕ) (last : Bool) → EndsAt last read left' given_up count
         → Keeps tells (start + (given_up + count)) (line + 1) last done taken' left' (drop count held')
-    keeps_line tells done false found = record {
+    keeps_line tells done left' false found = record {
       few_lines = let room = room_left in omega arith;
       few_bytes = few_bytes_after;
       reader = λ told not_done not_ended. next_reader longest held' (drop count held') given_up count part found.1 refl;
       last = λ told not_done ended. absurd cc;
     }
-    keeps_line tells done true found = record {
+    keeps_line tells done left' true found = record {
       few_lines = let room = room_left in omega arith;
       few_bytes = few_bytes_after;
       reader = λ told not_done not_ended. absurd cc;
@@ -280,13 +273,13 @@ module _ {start line most : ℕ} {taken held added taken' : List ℕ} (s : IsSea
     }
 
     -- the same of all bytes
-    pub line_of_all : (last : Bool) → EndsAt last read left' given_up count
+    pub line_of_all : (left' : List ℕ) (last : Bool) → EndsAt last read left' given_up count
         → take (line + 1) (all_lines taken') ≡ take (line + 1) (all_lines (taken' ++ left'))
-    line_of_all false found =
+    line_of_all left' false found =
         given_ahead (start + (given_up + count)) (line + 1) taken' (drop count held') left'
         (next_reader longest held' (drop count held') given_up count part found.1 refl) few_bytes_after (let room =
         room_left in omega arith)
-    line_of_all true found =
+    line_of_all left' true found =
         ap (λ x. take (line + 1) (all_lines x)) (sym (append-nil taken') ∙ ap (λ x. taken' ++ x) (sym found.nothing_left))
 
   -- no line is left
@@ -403,8 +396,8 @@ module _ {start line most : ℕ} {taken held added taken' : List ℕ} (s : IsSea
   }
 
 -- after the unfinished last line
-pub last_end : (line : ℕ) (taken left : List ℕ) → IsLast line taken left → IsAtEnd taken left (take line (all_lines taken))
-last_end line taken left last =
+pub last_end : {line : ℕ} {taken left : List ℕ} → IsLast line taken left → IsAtEnd taken left (take line (all_lines taken))
+last_end {line} {taken} last =
     let counted = last.counted in
     record {
       nothing_left = last.nothing_left;
@@ -413,30 +406,25 @@ last_end line taken left last =
     }
 
 -- what is lent of a new line is the line, and where nothing is lent it is too long
-pub lent_line : (longest given_up count lent : ℕ) (held' held'' : List ℕ) (old new : List (List ℕ))
+pub lent_line : {longest given_up count lent : ℕ} {held' held'' : List ℕ} {old new : List (List ℕ)}
     → IsNewLine longest given_up count held' old new → LendsLine longest given_up count held' held'' lent → 0 < lent
     → new ≡ old ++ line_text (take lent held'') ∷ []
-lent_line longest given_up count lent held' held'' old new line lends some =
+lent_line {count} {held''} {old} line lends some =
     let parts = lends.line some in
-    let text : line_text (take lent held'') ≡ line.text =
-    ap (λ n. line_text (take n held'')) parts.1 ∙ ap (λ x. line_text (take count x)) parts.2 ∙ line.is parts.0 in
-    line.more ∙ ap (λ x. old ++ x ∷ []) (sym text)
+    line.more ∙ ap (λ t. old ++ t ∷ []) (sym (ap (λ n. line_text (take n held'')) parts.1 ∙ ap (λ x. line_text (take count x)) parts.2
+    ∙ line.is parts.0))
 
-pub long_line : (longest given_up count lent : ℕ) (held' held'' : List ℕ) (old new : List (List ℕ))
+pub long_line : {longest given_up count lent : ℕ} {held' held'' : List ℕ} {old new : List (List ℕ)}
     → IsNewLine longest given_up count held' old new → LendsLine longest given_up count held' held'' lent → lent ≡ 0
     → GivesLongLine longest old new
-long_line longest given_up count lent held' held'' old new line lends none = record {
+long_line {longest} {given_up} line lends none = record {
   line = line.text;
   more = line.more;
-  long = by_given_up given_up line lends;
+  long = ⊎_elim line.long (λ no_more. let none_up : given_up ≡ 0 = omega arith in
+      subst (λ t. longest < length t) (line.is none_up) (lends.too_long none none_up)) (cases_lt 0 given_up);
 }
-  where
-    by_given_up : (n : ℕ) (line : IsNewLine longest n count held' old new) → LendsLine longest n count held' held'' lent
-        → longest < length line.text
-    by_given_up zero line lends = subst (λ t. longest < length t) (line.is refl) (lends.too_long none refl)
-    by_given_up (suc n) line lends = line.long (omega arith)
 
 -- no byte is lost
 pub all_bytes : {added taken left taken' left' : List ℕ} → Moves added taken left taken' left' → taken' ++ left' ≡ taken ++ left
-all_bytes {added} {taken} {left} {taken'} {left'} moves = ap (λ x. x ++ left') moves.back ∙ append_assoc taken added left'
-    ∙ ap (λ x. taken ++ x) (sym moves.front)
+all_bytes {added} {taken} {left'} moves =
+    ap (λ x. x ++ left') moves.back ∙ append_assoc taken added left' ∙ ap (λ x. taken ++ x) (sym moves.front)

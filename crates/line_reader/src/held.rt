@@ -14,13 +14,13 @@ pub(crate) const READ_LEAST: usize = 1_024;
 
 /// Bytes in the order in which they were read.
 #[derive(Drop)]
-pub(crate) struct Held {
+pub(crate) struct HeldBytes {
     bytes: [u8; HELD_MAX],
     start: usize,
     end: usize,
 }
 
-impl Model for Held {
+impl Model for HeldBytes {
     ghost use Rattle.std.specs.Prelude.{ℕ, ◌≤◌, List, slice_range};
     ghost use Rattle.line_reader.specs.declared.held.TheConstants.{HELD_MAX};
 
@@ -75,16 +75,16 @@ fn with_room(bytes: &mut [u8], start: usize, end: usize) -> (usize, usize)
     (0, end - start)
 }
 
-impl Held {
+impl HeldBytes {
     ghost use Rattle.std.specs.Prelude.{◌≡◌, ◌≤◌, ◌+◌, [], length, take, drop, IsTrue, IfOk, OnErr};
     ghost use Rattle.line_reader.specs.Reading.{Takes};
     ghost use Rattle.outer_io.specs.Faults.{Rose};
 
     /// No bytes.
-    pub(crate) fn new() -> Held
+    pub(crate) fn new() -> HeldBytes
         ensures { result ≡ [] }
     {
-        Held {
+        HeldBytes {
             bytes: [0; HELD_MAX],
             start: 0,
             end: 0,

@@ -5,7 +5,7 @@ ghost use Rattle.line_reader.specs.Newlines.{newlines};
 ghost use Rattle.line_reader.specs.Reading.{BeginsWithLine};
 ghost use Rattle.line_reader.specs.Search.{FitsIn, IsEndAt, Searches};
 
-use crate::held::Held;
+use crate::held::HeldBytes;
 use outer_io::Source;
 use plain_text::first_place;
 
@@ -43,7 +43,7 @@ fn line_len(bytes: &[u8], searched: usize, most: usize) -> Option<usize>
 }
 
 // Gives up the bytes of a line that has more than `longest`, whatever follows.
-fn give_up(held: &mut Held, longest: usize) -> usize
+fn give_up(held: &mut HeldBytes, longest: usize) -> usize
     requires { longest ≤ 15_359 }
     ensures rest { held.new ≡ drop result held.old }
     ensures within { result ≤ length held.old }
@@ -77,7 +77,7 @@ fn at_end(given_up: usize, count: usize, most: usize) -> Ending
 /// Of a line with more than `longest` bytes the first ones are given up.
 pub(crate) fn find_end<S: Source>(
     source: &mut S,
-    held: &mut Held,
+    held: &mut HeldBytes,
     longest: usize,
     most: usize,
 ) -> Ending

@@ -2,7 +2,7 @@
 ghost use Rattle.std.specs.Prelude.{◌≡◌, ◌≤◌, ◌<◌, ◌+◌, ◌-◌, length, take, drop};
 ghost use Rattle.line_reader.specs.Reading.{line_text, LendsLine};
 
-use crate::held::Held;
+use crate::held::HeldBytes;
 use crate::lines::{BYTES_MAX, LINES_MAX};
 use crate::next::{NextText, ReadFault};
 use crate::search::{Ending, find_end};
@@ -35,7 +35,7 @@ fn without_end(bytes: &[u8]) -> &[u8]
 
 // Lends a line that the first held bytes are, of which some may have been given up before: how many bytes these are, with its
 // end. A line that is too long is given up, and none is lent.
-fn lend(held: &mut Held, longest: usize, given_up: usize, count: usize) -> usize
+fn lend(held: &mut HeldBytes, longest: usize, given_up: usize, count: usize) -> usize
     requires within { count ≤ length held.old }
     requires some { 0 < given_up + count }
     ensures { LendsLine longest given_up count held.old held.new result }
@@ -55,7 +55,7 @@ fn lend(held: &mut Held, longest: usize, given_up: usize, count: usize) -> usize
 pub struct TextReader<S: Source> {
     source: S,
     // The line that is lent, with its end, and what was read behind it.
-    held: Held,
+    held: HeldBytes,
     // How many bytes the line that is lent has, with its end.
     lent: usize,
     // The most bytes of a line, without its end.
@@ -102,7 +102,7 @@ impl<S: Source> TextReader<S> {
     {
         TextReader {
             source,
-            held: Held::new(),
+            held: HeldBytes::new(),
             lent: 0,
             longest,
             start: 0,

@@ -1,5 +1,5 @@
 -- What several calls put on a paper.
-use Rattle.std.proofs.Common.{◌≡◌, refl, sym}
+use Rattle.std.proofs.Common.{◌≡◌, refl, sym, subst}
 use Rattle.std.specs.Prelude.{ℕ, List, [], ◌∷◌, ◌++◌}
 use Rattle.std.specs.List.{FoldsTo, concat}
 use Rattle.std.proofs.lemmas.List.{append-nil}
@@ -32,6 +32,17 @@ then {P} {takes} {p} {q} {r} {text} {more} first second = record {
     whole = joined first.calls.parts second.calls.parts text more first.calls.whole second.calls.whole;
   };
 }
+
+-- what holds of no call, and of a call in front of others, holds of any calls
+pub puts_have : {P : Type 0} (takes R : P → List ℕ → P → Type 0) → ((p : P) → R p [] p)
+    → ((p mid q : P) (text more : List ℕ) → takes p text mid → R mid more q → R p (text ++ more) q)
+    → (p q : P) (text : List ℕ) → Puts takes p text q → R p text q
+puts_have {P} takes R no_call one_more p q text puts =
+    subst (λ t. R p t q) puts.calls.whole (all p puts.calls.parts puts.calls.calls)
+  where
+    all : (p : P) (parts : List (List ℕ)) → FoldsTo takes p parts q → R p (concat parts) q
+    all p [] same = subst (λ r. R p [] r) same (no_call p)
+    all p (text ∷ parts) (mid, one, rest) = one_more p mid q text (concat parts) one (all mid parts rest)
 
 -- a text in two pieces, and in more
 pub two_make : {P : Type 0} {takes : P → List ℕ → P → Type 0} {p q r : P} {a b : List ℕ} (whole : List ℕ) → Puts takes p a q

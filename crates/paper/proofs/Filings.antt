@@ -1,27 +1,17 @@
 -- What a paper over a sink does, over several calls.
-use Rattle.std.proofs.Common.{◌≡◌, ◌≤◌, refl, sym, ◌∙◌, ap, arith, append_assoc, take, drop, length}
-use Rattle.std.specs.Prelude.{ℕ, Bool, true, false, List, [], ◌∷◌, ◌++◌, IsTrue, Result, Ok, Err, OnOk, OnErr}
-use Rattle.std.proofs.lemmas.List.{append-nil, take-append-drop, append_cancel_left, length-append}
-use Rattle.std.proofs.Math.Seq.{take-append_seam}
+use Rattle.std.proofs.Common.{◌≡◌, ◌≤◌, refl, sym, ◌∙◌, ap, subst, arith, append_assoc, take, drop}
+use Rattle.std.specs.Prelude.{ℕ, Bool, true, false, List, [], ◌++◌, IsTrue}
+use Rattle.std.proofs.lemmas.List.{append-nil, take-append-drop, append_cancel_left}
 use Rattle.outer_io.specs.Bytes.{AppendsFront}
 use Rattle.outer_io.specs.Faults.{Rose}
-use Rattle.std.specs.List.{FoldsTo, concat}
+use Rattle.outer_io.proofs.Fronts.{first_whole}
 use Rattle.paper.specs.Puts.{Puts}
 use Rattle.paper.specs.Filing.{Filed, IsFrontOf, Files}
+use Rattle.paper.proofs.Calls.{puts_have}
 
--- more behind
-pub front_more : (front whole more : List ℕ) → IsFrontOf front whole → IsFrontOf front (whole ++ more)
-front_more front whole more f = record { rest = f.rest ++ more; joined = ap (λ t. t ++ more) f.joined ∙ append_assoc front f.rest more }
-
-pub front_trans : (a b c : List ℕ) → IsFrontOf a b → IsFrontOf b c → IsFrontOf a c
+front_trans : (a b c : List ℕ) → IsFrontOf a b → IsFrontOf b c → IsFrontOf a c
 front_trans a b c f g =
     record { rest = f.rest ++ g.rest; joined = g.joined ∙ ap (λ t. t ++ g.rest) f.joined ∙ append_assoc a f.rest g.rest }
-
-front_same : (a b c : List ℕ) → a ≡ b → IsFrontOf c a → IsFrontOf c b
-front_same a b c e f = record { rest = f.rest; joined = sym e ∙ f.joined }
-
-front_is : (a b c : List ℕ) → a ≡ b → IsFrontOf a c → IsFrontOf b c
-front_is a b c e f = record { rest = f.rest; joined = f.joined ∙ ap (λ t. t ++ f.rest) e }
 
 -- what a write did
 pub appended_grows : (bytes old new : List ℕ) → AppendsFront bytes old new → IsFrontOf old new
@@ -37,32 +27,9 @@ appended_front bytes old new a = record {
 pub whole_front : (bytes old new : List ℕ) → new ≡ old ++ bytes → IsFrontOf new (old ++ bytes)
 whole_front bytes old new e = record { rest = []; joined = sym e ∙ sym (append-nil new) }
 
-rose_on : (f g h : ℕ) → f ≤ g → Rose f g → g ≤ h → Rose f h
-rose_on f g h le rose later = grind arith
-
-rose_late : (f g h : ℕ) → f ≤ g → Rose g h → Rose f h
-rose_late f g h le rose = grind arith
-
-le_trans : (f g h : ℕ) → f ≤ g → g ≤ h → f ≤ h
-le_trans f g h a b = omega arith
-
-is_off : (b : Bool) → (b ≡ true → b ≡ false) → b ≡ false
-is_off false e = refl
-is_off true e = e refl
-
-three : (w p x y : List ℕ) → (w ++ p ++ x) ++ y ≡ w ++ p ++ (x ++ y)
-three w p x y = append_assoc (w ++ p) x y
-
-then_whole : (w p w' p' w'' p'' x y : List ℕ) → w' ++ p' ≡ w ++ p ++ x → w'' ++ p'' ≡ w' ++ p' ++ y → w'' ++ p'' ≡ w ++ p ++ (x ++ y)
-then_whole w p w' p' w'' p'' x y one two = two ∙ ap (λ t. t ++ y) one ∙ three w p x y
-
-then_front : (w p w' p' w'' x y : List ℕ) → w' ++ p' ≡ w ++ p ++ x → IsFrontOf w'' (w' ++ p' ++ y) → IsFrontOf w'' (w ++ p ++ (x ++ y))
-then_front w p w' p' w'' x y one two = front_same (w' ++ p' ++ y) (w ++ p ++ (x ++ y)) w'' (ap (λ t. t ++ y) one ∙ three w p x y) two
-
-stays_front : (w p w' w'' x y : List ℕ) → IsFrontOf w' (w ++ p ++ x) → w'' ≡ w' → IsFrontOf w'' (w ++ p ++ (x ++ y))
-stays_front w p w' w'' x y one same =
-    front_is w' w'' (w ++ p ++ (x ++ y)) (sym same) (front_same (w ++ p ++ x ++ y) (w ++ p ++ (x ++ y)) w' (three w p x y)
-    (front_more w' (w ++ p ++ x) y one))
+-- two texts behind what is written and what waits
+behind_both : (w p s x y : List ℕ) → s ≡ w ++ p ++ x → s ++ y ≡ w ++ p ++ (x ++ y)
+behind_both w p s x y e = ap (λ t. t ++ y) e ∙ append_assoc (w ++ p) x y
 
 -- no text
 pub files_none : (tells : Bool) (a : Filed) → Files tells a [] a
@@ -81,25 +48,29 @@ files_none tells a = record {
 front_by : (tells : Bool) (a b c : Filed) (x y : List ℕ) (mid : Bool) → b.failed ≡ mid → Files tells a x b → Files tells b y c
     → a.failed ≡ false → c.failed ≡ true → IsTrue tells → IsFrontOf c.written (a.written ++ a.page ++ (x ++ y))
 front_by tells a b c x y false is one two off on t =
-    then_front a.written a.page b.written b.page c.written x y ((one.whole is).1 t) (two.front is on t)
+    subst (λ s. IsFrontOf c.written s) (behind_both a.written a.page _ x y ((one.whole is).1 t)) (two.front is on t)
 front_by tells a b c x y true is one two off on t =
-    stays_front a.written a.page b.written c.written x y (one.front off is t) ((two.stuck is).1 t)
+    let front = one.front off is t in
+    record {
+      rest = front.rest ++ y;
+      joined = sym (behind_both a.written a.page _ x y refl) ∙ ap (λ s. s ++ y) front.joined ∙ append_assoc b.written front.rest y
+          ∙ ap (λ w. w ++ (front.rest ++ y)) (sym ((two.stuck is).1 t));
+    }
 
 cause_by : (tells : Bool) (a b c : Filed) (x y : List ℕ) (mid : Bool) → b.failed ≡ mid → Files tells a x b → Files tells b y c
     → a.failed ≡ false → c.failed ≡ true → Rose a.faults c.faults
-cause_by tells a b c x y false is one two off on = rose_late a.faults b.faults c.faults one.later (two.cause is on)
-cause_by tells a b c x y true is one two off on = rose_on a.faults b.faults c.faults one.later (one.cause off is) two.later
+cause_by tells a b c x y false is one two off on = let later = one.later in let rose = two.cause is on in grind arith
+cause_by tells a b c x y true is one two off on = let later = two.later in let rose = one.cause off is in grind arith
 
 -- a text, and then more
 pub files_then : (tells : Bool) (a b c : Filed) (x y : List ℕ) → Files tells a x b → Files tells b y c → Files tells a (x ++ y) c
 files_then tells a b c x y one two = record {
-  later = le_trans a.faults b.faults c.faults one.later two.later;
+  later = omega (arith, one.later, two.later);
   grows = λ t. front_trans a.written b.written c.written (one.grows t) (two.grows t);
   whole = λ off. let mid =
       (two.whole off).0 in (
         (one.whole mid).0,
-        λ t. then_whole a.written a.page b.written b.page c.written c.page x y ((one.whole mid).1 t)
-            ((two.whole off).1 t),
+        λ t. (two.whole off).1 t ∙ behind_both a.written a.page _ x y ((one.whole mid).1 t),
       );
   front = front_by tells a b c x y b.failed refl one two;
   stuck = λ on. let mid = one.stuck on in let last = two.stuck mid.0 in (last.0, λ t. last.1 t ∙ mid.1 t);
@@ -117,44 +88,24 @@ files_turn tells w p b w' e failed failed' f f' same empty later grows whole fro
   later = later;
   grows = grows;
   whole = λ off. ((whole off).0, λ t. ap (λ t. w' ++ t) empty ∙ ap (λ t. t ++ []) ((whole off).1 t ∙ ap (λ t. w ++ t) same));
-  front = λ off on t. front_more w' (w ++ p) [] (front_same (w ++ b) (w ++ p) w' (ap (λ t. w ++ t) same) (front off t));
+  front = λ off on t. subst (λ s. IsFrontOf w' s) (ap (λ t. w ++ t) same ∙ sym (append-nil (w ++ p))) (front off t);
   stuck = stuck;
   cause = cause;
 }
-
-calls_file : {P N : Type 0} (tells : Bool) (takes : P → List ℕ → P → Type 0) (name : P → N) (filed : P → Filed)
-    → ((p : P) (text : List ℕ) (q : P) → takes p text q → (name q ≡ name p) × Files tells (filed p) text (filed q))
-    → (p q : P) (parts : List (List ℕ)) → FoldsTo takes p parts q → (name q ≡ name p) × Files tells (filed p) (concat parts) (filed q)
-calls_file tells takes name filed each p q [] same = rw (sym same) (refl, files_none tells (filed p))
-calls_file tells takes name filed each p q (text ∷ parts) (j, one, rest) =
-    let first = each p text j one in
-    let later = calls_file tells takes name filed each j q parts rest in
-    (later.0 ∙ first.0, files_then tells (filed p) (filed j) (filed q) text (concat parts) first.1 later.1)
 
 -- what is put on a paper over a sink goes to the sink, or a write failed
 pub puts_file : {P N : Type 0} (tells : Bool) (takes : P → List ℕ → P → Type 0) (name : P → N) (filed : P → Filed)
     → ((p : P) (text : List ℕ) (q : P) → takes p text q → (name q ≡ name p) × Files tells (filed p) text (filed q))
     → (p q : P) (text : List ℕ) → Puts takes p text q → (name q ≡ name p) × Files tells (filed p) text (filed q)
-puts_file tells takes name filed each p q text puts =
-    let done = calls_file tells takes name filed each p q puts.calls.parts puts.calls.calls in
-    (done.0, text_is tells (filed p) (filed q) (concat puts.calls.parts) text puts.calls.whole done.1)
-  where
-    text_is : (tells : Bool) (a b : Filed) (x y : List ℕ) → x ≡ y → Files tells a x b → Files tells a y b
-    text_is tells a b x y e f = rw (sym e) f
+puts_file tells takes name filed each =
+    puts_have takes (λ p text q. (name q ≡ name p) × Files tells (filed p) text (filed q)) (λ p. (refl, files_none tells (filed p)))
+    (λ p mid q text more one later. let first = each p text mid one in (later.0 ∙ first.0, files_then tells _ _ _ text more first.1 later.1))
 
 -- where two fronts of one text stand, the bytes between them are first bytes of the rest
 between : (a c text m r : List ℕ) → c ≡ a ++ m → a ++ text ≡ c ++ r → AppendsFront text a c
 between a c text m r grown joined =
     let rest : text ≡ m ++ r = append_cancel_left a text (m ++ r) (joined ∙ ap (λ t. t ++ r) grown ∙ append_assoc a m r) in
-    record {
-      count = length m;
-      within = fits text m r rest;
-      appended = grown
-          ∙ ap (λ t. a ++ t) (sym (ap (λ t. take (length m) t) rest ∙ take-append_seam m r));
-    }
-  where
-    fits : (text m r : List ℕ) → text ≡ m ++ r → length m ≤ length text
-    fits text m r e = rw e (rw (length-append m r) (omega arith))
+    subst (λ t. AppendsFront t a c) (sym rest) (first_whole m r a c grown)
 
 -- a text put on a fresh paper, and the rest given to the sink
 pub record Finished (tells : Bool) (a : Filed) (text : List ℕ) (c : Filed) : Type 0 where
@@ -163,19 +114,15 @@ pub record Finished (tells : Bool) (a : Filed) (text : List ℕ) (c : Filed) : T
   pub later : a.faults ≤ c.faults
   pub cause : c.failed ≡ true → Rose a.faults c.faults
 
-no_more : (w text : List ℕ) (p : List ℕ) → p ≡ [] → w ++ p ++ (text ++ []) ≡ w ++ text
-no_more w text p e =
-    ap (λ (t : List ℕ). w ++ t ++ (text ++ [])) e ∙ ap (λ (t : List ℕ). t ++ (text ++ [])) (append-nil w)
-    ∙ ap (λ (t : List ℕ). w ++ t) (append-nil text)
-
-at_end : (w c p q text : List ℕ) → q ≡ [] → p ≡ [] → c ++ q ≡ w ++ p ++ (text ++ []) → c ≡ w ++ text
-at_end w c p q text eq ep e = sym (append-nil c) ∙ ap (λ (t : List ℕ). c ++ t) (sym eq) ∙ e ∙ no_more w text p ep
+no_more : (w text p : List ℕ) → p ≡ [] → w ++ p ++ (text ++ []) ≡ w ++ text
+no_more w text p e = rw e (simp append-nil)
 
 pub finished : (tells : Bool) (a b c : Filed) (text : List ℕ) → a.failed ≡ false → a.page ≡ [] → Files tells a text b → Files tells b [] c
     → c.page ≡ [] → Finished tells a text c
 finished tells a b c text fresh empty one two emptied =
     let all : Files tells a (text ++ []) c = files_then tells a b c text [] one two in record {
-      ok = λ off t. at_end a.written c.written a.page c.page text emptied empty ((all.whole off).1 t);
+      ok = λ off t. sym (append-nil c.written) ∙ ap (λ (t : List ℕ). c.written ++ t) (sym emptied) ∙ (all.whole off).1 t
+          ∙ no_more a.written text a.page empty;
       err = λ on t. let front = all.front fresh on t in let grown = all.grows t in
           between a.written c.written text grown.rest front.rest grown.joined (sym (no_more a.written text a.page empty) ∙ front.joined);
       later = all.later;
@@ -190,11 +137,3 @@ pub print_finished : {P N : Type 0} (tells : Bool) (takes : P → List ℕ → P
 print_finished tells takes name filed each p q r text puts same two fresh empty emptied =
     let done = puts_file tells takes name filed each p q text puts in
     (same ∙ done.0, finished tells (filed p) (filed q) (filed r) text fresh empty done.1 two emptied)
-
-pub on_ok : {T E A B : Type 0} (r : Result T E) → (A → B) → OnOk r A → OnOk r B
-on_ok (Ok x) f a = f a
-on_ok (Err e) f a = a
-
-pub on_err : {T E A B : Type 0} (r : Result T E) → (A → B) → OnErr r A → OnErr r B
-on_err (Ok x) f a = a
-on_err (Err e) f a = f a

@@ -2,4 +2,4 @@ pub mod Calls
 pub mod Filings
 pub mod Hex
 pub mod Items
-mod Keeping
+pub mod Keeping

@@ -1,17 +1,15 @@
 -- A list that is cut at the first element which passes a test.
-use Rattle.std.proofs.Common.{◌≡◌, ℕ, suc, ◌<◌, ◌≤◌, ◌+◌, ◌==◌, List, [], ◌∷◌, length, take, drop, Bool, true, false, not, cond, Option, Some, None, refl, ap, sym, ◌∙◌, arith}
+use Rattle.std.proofs.Common.{◌≡◌, ℕ, zero, suc, ◌<◌, ◌≤◌, ◌+◌, ◌==◌, List, [], ◌∷◌, length, take, drop, Bool, true, false, not, cond, Option, Some, None, refl, ap, sym, ◌∙◌, arith}
 use Rattle.std.specs.Prelude.{position}
-use Rattle.std.specs.List.{slice_split, onto_first, position_or_len, AllByRecursion}
+use Rattle.std.specs.List.{slice_split, onto_first, position_or_len, AllByRecursion, count_by}
 use Rattle.std.specs.Str.Lines.{lines, lines_of_parts, strip_carriage_return}
+use Rattle.lists.proofs.Choices.{none_if, some_if}
 use Rattle.memchr.specs.Find.{IsFirstByte, is_byte}
+use Rattle.std.proofs.lemmas.Bool.{false_from_ne_true, not-true}
 use Rattle.std.proofs.lemmas.Bool.Decides.{nat_tests}
 use Rattle.std.proofs.lemmas.List.{drop-drop}
 use Rattle.std.proofs.lemmas.List.Sums.{prefix_len_passes, position_or_len_is, count_by-le-length}
 use Rattle.std.proofs.lemmas.List.Splits.{slice_split_none, slice_split_first, length-slice_split}
-
-is_false : (b : Bool) → ¬ (b ≡ true) → b ≡ false
-is_false true h = absurd (h refl)
-is_false false h = refl
 
 place_if : (p : ℕ → Bool) (xs : List ℕ) (i : ℕ) → position_or_len p xs ≡ i → i < length xs → Some i ≡ position p xs
 place_if p xs i is within = rw is (grind (arith, nat_tests))
@@ -21,31 +19,19 @@ pub place_of_first : (separator : ℕ) (xs : List ℕ) (r : Option ℕ) → IsFi
     → r ≡ position (λ b. b == separator) xs
 place_of_first separator xs None h =
     let past : position_or_len (λ b. b == separator) xs ≡ length xs =
-    position_or_len_is _ xs (length xs) 0 (omega arith) (λ k within. is_false _ (h k (omega arith) within))
+    position_or_len_is _ xs (length xs) 0 (omega arith) (λ k within. false_from_ne_true _ (h k (omega arith) within))
     (λ within. absurd (omega arith)) in
     rw past (grind (arith, nat_tests))
 place_of_first separator xs (Some i) h =
     let before = h.0 in
     let at : position_or_len (λ b. b == separator) xs ≡ i =
-    position_or_len_is _ xs i 0 (omega arith) (λ k below. is_false _ (before.before k (omega arith) below)) (λ _. h.1) in
+    position_or_len_is _ xs i 0 (omega arith) (λ k below. false_from_ne_true _ (before.before k (omega arith) below)) (λ _. h.1) in
     place_if _ xs i at before.high
-
-not_true : (b : Bool) → not b ≡ true → b ≡ false
-not_true true h = absurd cc
-not_true false h = refl
-
-none_if : (b : Bool) (n : ℕ) → cond b (Some n) None ≡ None → b ≡ false
-none_if true n h = absurd cc
-none_if false n h = refl
-
-some_if : (b : Bool) (n i : ℕ) → cond b (Some n) None ≡ Some i → (b ≡ true) × (n ≡ i)
-some_if true n i h = (refl, cc)
-some_if false n i h = absurd cc
 
 pub cut_none : {X : Type 0} (p : X → Bool) (xs : List X) → position p xs ≡ None → slice_split p xs ≡ xs ∷ []
 cut_none p xs h =
     let past : length xs ≤ position_or_len p xs = let test = none_if _ _ h in grind (arith, nat_tests) in
-    slice_split_none p xs (λ k d within. not_true _ (prefix_len_passes (λ x. not (p x)) xs k d (omega arith)))
+    slice_split_none p xs (λ k d within. not-true _ (prefix_len_passes (λ x. not (p x)) xs k d (omega arith)))
 
 pub cut_at : {X : Type 0} (p : X → Bool) (xs : List X) (i : ℕ) → position p xs ≡ Some i → (d : X)
     → slice_split p xs ≡ take i xs ∷ slice_split p (drop 1 (drop i xs))
@@ -57,30 +43,15 @@ cut_at p xs i h d =
 
 -- the lines of a text that is cut at its first newline, and of one without a newline
 
-onto_rest : (x y : List ℕ) (parts more : List (List ℕ)) → parts ≡ y ∷ more
-    → lines_of_parts (x ∷ parts) ≡ strip_carriage_return x ∷ lines_of_parts parts
-onto_rest x y parts more h = ap (λ ps. lines_of_parts (x ∷ ps)) h ∙ ap (λ ps. strip_carriage_return x ∷ lines_of_parts ps) (sym h)
-
-some_part : (p : ℕ → Bool) (xs : List ℕ) → (y : List ℕ) × ((more : List (List ℕ)) × (slice_split p xs ≡ y ∷ more))
-some_part p [] = ([], ([], refl))
-some_part p (x ∷ xs) = by_test (p x) (some_part p xs)
-  where
-    by_test : (b : Bool) → ((y : List ℕ) × ((more : List (List ℕ)) × (slice_split p xs ≡ y ∷ more)))
-        → (y : List ℕ) × ((more : List (List ℕ)) × (cond b ([] ∷ slice_split p xs) (onto_first x (slice_split p xs)) ≡ y ∷ more))
-    by_test true h = ([], (slice_split p xs, refl))
-    by_test false h = (x ∷ h.0, (h.1.0, ap (onto_first x) h.1.1))
-
 pub lines_cut : (text line rest : List ℕ) → slice_split (λ b. b == 10) text ≡ line ∷ slice_split (λ b. b == 10) rest
     → lines text ≡ strip_carriage_return line ∷ lines rest
 lines_cut text line rest h =
-    let part = some_part (λ b. b == 10) rest in
-    ap lines_of_parts h ∙ onto_rest line part.0 (slice_split (λ b. b == 10) rest) part.1.0 part.1.1
-
-pub lines_last : (text line : List ℕ) → slice_split (λ b. b == 10) text ≡ line ∷ [] → line ≡ text → (length text == 0) ≡ false
-    → lines text ≡ line ∷ []
-lines_last text line h whole some =
-    let there : (length line == 0) ≡ false = ap (λ t. length t == 0) whole ∙ some in
-    ap lines_of_parts h ∙ ap (λ b. cond b [] (line ∷ [])) there
+    ap lines_of_parts h ∙ behind (slice_split (λ b. b == 10) rest) (length-slice_split (λ b. b == 10) rest)
+  where
+    behind : (parts : List (List ℕ)) → length parts ≡ count_by (λ b. b == 10) rest + 1
+        → lines_of_parts (line ∷ parts) ≡ strip_carriage_return line ∷ lines_of_parts parts
+    behind [] some = absurd (omega arith)
+    behind (part ∷ parts) some = refl
 
 pub next_part : (separator : ℕ) (text part rest after : List ℕ) (place : ℕ) → position (λ b. b == separator) text ≡ Some place
     → part ≡ take place text → rest ≡ drop place text → after ≡ drop 1 rest
@@ -110,23 +81,17 @@ length-lines text =
     )
 
 -- no part is longer than the list that is cut
-abbrev IsWithin : {X : Type 0} → ℕ → List X → Type 0
-IsWithin n part = length part ≤ n
+abbrev AreWithin : {X : Type 0} → ℕ → List (List X) → Type 0
+AreWithin n parts = AllByRecursion (λ part. length part ≤ n) parts
 
-wider : {X : Type 0} (n : ℕ) (parts : List (List X)) → AllByRecursion (IsWithin n) parts → AllByRecursion (IsWithin (suc n)) parts
-wider n [] all = tt
-wider n (part ∷ parts) all = (omega (arith, all.0), wider n parts all.1)
-
-onto-within : {X : Type 0} (x : X) (n : ℕ) (parts : List (List X)) → AllByRecursion (IsWithin n) parts
-    → AllByRecursion (IsWithin (suc n)) (onto_first x parts)
-onto-within x n [] all = (omega arith, tt)
-onto-within x n (part ∷ parts) all = (omega (arith, all.0), wider n parts all.1)
-
-pub split-within : {X : Type 0} (p : X → Bool) (xs : List X) → AllByRecursion (λ part. length part ≤ length xs) (slice_split p xs)
-split-within p [] = (omega arith, tt)
-split-within p (x ∷ xs) = by_test (p x) (split-within p xs)
+pub split-within : {X : Type 0} (p : X → Bool) (xs : List X) (n : ℕ) → length xs ≤ n → AreWithin n (slice_split p xs)
+split-within p [] n few = (omega arith, tt)
+split-within p (x ∷ xs) zero few = absurd (omega arith)
+split-within p (x ∷ xs) (suc n) few =
+    by_test (p x) (slice_split p xs) (split-within p xs n (omega arith)) (split-within p xs (suc n) (omega arith))
   where
-    by_test : (b : Bool) → AllByRecursion (λ part. length part ≤ length xs) (slice_split p xs)
-        → AllByRecursion (λ part. length part ≤ length (x ∷ xs)) (cond b ([] ∷ slice_split p xs) (onto_first x (slice_split p xs)))
-    by_test true all = (omega arith, wider (length xs) (slice_split p xs) all)
-    by_test false all = onto-within x (length xs) (slice_split p xs) all
+    by_test : (b : Bool) (parts : List (List _)) → AreWithin n parts → AreWithin (suc n) parts
+        → AreWithin (suc n) (cond b ([] ∷ parts) (onto_first x parts))
+    by_test true parts shorter all = (omega arith, all)
+    by_test false [] shorter all = (omega arith, tt)
+    by_test false (part ∷ parts) shorter all = (omega (arith, shorter.0), all.1)

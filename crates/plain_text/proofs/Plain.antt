@@ -1,14 +1,16 @@
 -- The value of plain digits.
-use Rattle.std.proofs.Common.{◌≡◌, ◌≢◌, ℕ, zero, suc, ◌<◌, ◌≤◌, ◌+◌, ◌-◌, ◌*◌, ◌^◌, ◌==◌, ◌&&◌, ◌||◌, List, length, take, get_or, Bool, true, false, not, cond, Option, Some, None, refl, ap, sym, ◌∙◌, arith, nat_lt, nat_le, rules}
+use Rattle.std.proofs.Common.{◌≡◌, ◌≢◌, inl, inr, ℕ, zero, suc, ◌<◌, ◌≤◌, ◌+◌, ◌-◌, ◌*◌, ◌^◌, ◌==◌, ◌&&◌, ◌||◌, List, length, take, get_or, Bool, true, false, not, cond, Option, Some, None, ap, sym, ◌∙◌, arith, nat_lt, nat_le, rules}
 use Rattle.std.specs.Prelude.{MatchOption}
 use Rattle.std.specs.Char.{is_ascii_digit, digit_value}
 use Rattle.std.specs.Fmt.{decimal}
 use Rattle.std.specs.List.{list_all}
 use Rattle.std.specs.Str.Parse.{digits_value}
+use Rattle.std.proofs.lemmas.Bool.{and_from, and_parts, cases_eq, cond-false, eq-eqb, lt-ltb, ne_eqb, not_from_false, or_left, or_right, leb-true, leb-false, lt-leb}
 use Rattle.std.proofs.lemmas.Bool.Decides.{nat_tests}
 use Rattle.std.proofs.lemmas.Int.Digits.{digits_value_more}
 use Rattle.std.proofs.lemmas.Str.Parse.{digits_value-take-le, IsNumeralModel, numerals_by_value, digit_at}
 use Rattle.std.proofs.lemmas.Fmt.{digits_decimal, digits_value-decimal, decimal-digits_value, decimal_digit, decimal_nonempty, first_decimal}
+use Rattle.lists.proofs.Choices.{none_if, some_if}
 use Rattle.plain_text.specs.Numbers.{is_plain, number_of}
 
 own : IsNumeralModel (λ ds. list_all is_ascii_digit ds ≡ true) (digits_value 10)
@@ -25,17 +27,11 @@ next_value ds i all within =
     let same : digit_value (get_or ds i 0) ≡ get_or ds i 0 - 48 = digit_is (get_or ds i 0) digit.0 digit.1 in
     digits_value_more 10 ds i within ∙ ap (λ d. digits_value 10 (take i ds) * 10 + d) same
 
-some_le : (n most v : ℕ) (b : Bool) → nat_le n most ≡ b → cond b (Some n) None ≡ Some v → (v ≡ n) × (v ≤ most)
-some_le n most v true h e = (cc, let same : n ≡ v = cc in grind (arith, nat_tests))
-some_le n most v false h e = absurd cc
+some_le : (n most v : ℕ) → cond (nat_le n most) (Some n) None ≡ Some v → (v ≡ n) × (v ≤ most)
+some_le n most v e = let parts = some_if (nat_le n most) n v e in (cc, let low = leb-true n most parts.0 in omega arith)
 
-none_le : (n most : ℕ) (b : Bool) → nat_le n most ≡ b → cond b (Some n) None ≡ None → most < n
-none_le n most true h e = absurd cc
-none_le n most false h e = grind (arith, nat_tests)
-
-past : (n most : ℕ) (b : Bool) → nat_le n most ≡ b → most < n → None ≡ cond b (Some n) None
-past n most true h large = absurd (grind (arith, nat_tests))
-past n most false h large = refl
+none_le : (n most : ℕ) → cond (nat_le n most) (Some n) None ≡ None → most < n
+none_le n most e = leb-false n most (none_if (nat_le n most) n e)
 
 -- a digit that is taken, and one that makes the value too large
 pub taken : (ds : List ℕ) (i v most w : ℕ) (r : Option ℕ) → list_all is_ascii_digit ds ≡ true → i < length ds
@@ -43,7 +39,7 @@ pub taken : (ds : List ℕ) (i v most w : ℕ) (r : Option ℕ) → list_all is_
     → r ≡ Some w
     → (w ≡ digits_value 10 (take (i + 1) ds)) × (w ≤ most)
 taken ds i v most w r all within is given some =
-    let parts = some_le (v * 10 + (get_or ds i 0 - 48)) most w _ refl (sym given ∙ some) in
+    let parts = some_le (v * 10 + (get_or ds i 0 - 48)) most w (sym given ∙ some) in
     (parts.0 ∙ ap (λ n. n * 10 + (get_or ds i 0 - 48)) is ∙ sym (next_value ds i all within), parts.1)
 
 pub too_large : (ds : List ℕ) (i v most : ℕ) (r : Option ℕ) → list_all is_ascii_digit ds ≡ true → i < length ds
@@ -51,11 +47,11 @@ pub too_large : (ds : List ℕ) (i v most : ℕ) (r : Option ℕ) → list_all i
     → r ≡ None
     → None ≡ cond (nat_le (digits_value 10 ds) most) (Some (digits_value 10 ds)) None
 too_large ds i v most r all within is given none =
-    let large = none_le (v * 10 + (get_or ds i 0 - 48)) most _ refl (sym given ∙ none) in
+    let large = none_le (v * 10 + (get_or ds i 0 - 48)) most (sym given ∙ none) in
     let next = next_value ds i all within in
     let front = digits_value-take-le 10 ds (i + 1) (omega arith) in
     let same = ap (λ n. n * 10 + (get_or ds i 0 - 48)) is in
-    past (digits_value 10 ds) most _ refl (omega arith)
+    sym (cond-false (nat_le (digits_value 10 ds) most) _ _ (lt-leb _ _ (omega arith)))
 
 -- the number of a plain text, and of any other
 pub plain_number : (most : ℕ) (text : List ℕ) → is_plain text ≡ true
@@ -69,24 +65,14 @@ no_number most text h = ap (λ b. cond (b && nat_le (digits_value 10 text) most)
 
 -- plain texts are what is written for numbers
 lead : (l f : ℕ) → 0 < l → (f ≡ 48 → l ≡ 1) → (l == 1 || nat_lt 1 l && not (f == 48)) ≡ true
-lead l f some first = by_test (l == 1) (f == 48) refl refl
-  where
-    by_test : (a b : Bool) → (l == 1) ≡ a → (f == 48) ≡ b → (a || nat_lt 1 l && not b) ≡ true
-    by_test true b p q = refl
-    by_test false true p q = absurd (let zero : f ≡ 48 = grind (arith, nat_tests) in let one = first zero in grind (arith, nat_tests))
-    by_test false false p q = grind (arith, nat_tests)
+lead l f some first = elim (cases_eq l 1) [
+  | inl one ↦ or_left (l == 1) _ (eq-eqb l 1 one)
+  | inr more ↦ or_right (l == 1) _ (and_from (nat_lt 1 l) _ (lt-ltb 1 l (omega arith))
+      (not_from_false (f == 48) (ne_eqb f 48 (λ is. more (first is)))))
+]
 
 led : (l f : ℕ) → (l == 1 || nat_lt 1 l && not (f == 48)) ≡ true → (0 < l) × (f ≡ 48 → l ≡ 1)
-led l f h = by_test (l == 1) (f == 48) refl refl h
-  where
-    by_test : (a b : Bool) → (l == 1) ≡ a → (f == 48) ≡ b → (a || nat_lt 1 l && not b) ≡ true → (0 < l) × (f ≡ 48 → l ≡ 1)
-    by_test true b p q h = (grind (arith, nat_tests), λ _. grind (arith, nat_tests))
-    by_test false true p q h = absurd (grind (arith, nat_tests))
-    by_test false false p q h = (grind (arith, nat_tests), λ zero. absurd (grind (arith, nat_tests)))
-
-both : (a b : Bool) → (a && b) ≡ true → (a ≡ true) × (b ≡ true)
-both true b h = (refl, h)
-both false b h = absurd cc
+led l f h = (grind (arith, nat_tests), λ zero. grind (arith, nat_tests))
 
 plain_decimal : (n : ℕ) → n < 2 ^ 64 → is_plain (decimal n) ≡ true
 plain_decimal n small =
@@ -101,7 +87,7 @@ plain_decimal n small =
 
 decimal_of_plain : (text : List ℕ) → is_plain text ≡ true → digits_value 10 text < 2 ^ 64 → text ≡ decimal (digits_value 10 text)
 decimal_of_plain text plain small =
-    let parts = both _ _ plain in
+    let parts = and_parts _ _ plain in
     let front = led (length text) (get_or text 0 0) parts.1 in
     sym (decimal-digits_value own text parts.0 front.0 front.1 small)
 
@@ -112,9 +98,9 @@ written most text small false plain None is =
     λ n low same. absurd (let e = sym plain ∙ ap is_plain same ∙ plain_decimal n (omega arith) in cc)
 written most text small false plain (Some n) is = absurd cc
 written most text small true plain None is = λ n low same.
-    let large = none_le (digits_value 10 text) most _ refl (sym is) in
+    let large = none_le (digits_value 10 text) most (sym is) in
     let value = ap (digits_value 10) same ∙ digits_value-decimal own n (omega arith) in
     omega arith
 written most text small true plain (Some n) is =
-    let parts = some_le (digits_value 10 text) most n _ refl (sym is) in
+    let parts = some_le (digits_value 10 text) most n (sym is) in
     (parts.1, decimal_of_plain text plain (omega arith) ∙ ap decimal (sym parts.0))

@@ -1,4 +1,4 @@
-use Rattle.std.proofs.Common.{ap, ◌∙◌}
+use Rattle.std.proofs.Common.{ap}
 use Rattle.paper.proofs.Keeping.{kept}
 use Rattle.paper.specs.InMemory.{Kept}
 use Rattle.paper.proofs.in_memory.written.Goals as goal

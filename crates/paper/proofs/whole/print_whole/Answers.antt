@@ -1,6 +1,7 @@
 use Rattle.std.proofs.Common.{◌≡◌}
+use Rattle.std.proofs.lemmas.Result.{on_ok_weaker, on_err_weaker}
 use Rattle.paper.specs.Filing.{filed}
-use Rattle.paper.proofs.Filings.{Finished, print_finished, on_ok, on_err}
+use Rattle.paper.proofs.Filings.{Finished, print_finished}
 use Rattle.paper.proofs.whole.print_whole.Goals as goal
 
 done : (g : _) (c : goal.After-finish g) → (c.finish.new.self.sink.ghost_name ≡ c.args.paper.now.sink.ghost_name)
@@ -15,13 +16,13 @@ pub returns-clause-same : goal.returns-clause-same
 returns-clause-same g c = (done g c).0
 
 pub returns-clause-ok : goal.returns-clause-ok
-returns-clause-ok g c = on_ok _ (done g c).1.ok c.finish.ensures.ok
+returns-clause-ok g c = on_ok_weaker _ (done g c).1.ok c.finish.ensures.ok
 
 pub returns-clause-err : goal.returns-clause-err
-returns-clause-err g c = on_err _ (done g c).1.err c.finish.ensures.err
+returns-clause-err g c = on_err_weaker _ (done g c).1.err c.finish.ensures.err
 
 pub returns-clause-later : goal.returns-clause-later
 returns-clause-later g c = (done g c).1.later
 
 pub returns-clause-cause : goal.returns-clause-cause
-returns-clause-cause g c = on_err _ (done g c).1.cause c.finish.ensures.err
+returns-clause-cause g c = on_err_weaker _ (done g c).1.cause c.finish.ensures.err

@@ -1,6 +1,6 @@
 use Rattle.std.proofs.Common.{◌∙◌, arith}
 use Rattle.line_reader.proofs.HeldLemmas.{came}
-use Rattle.line_reader.proofs.held.Held.fill.Goals as goal
+use Rattle.line_reader.proofs.held.HeldBytes.fill.Goals as goal
 
 pub returns-clause-ok : goal.returns-clause-ok
 returns-clause-ok g c = λ told.
