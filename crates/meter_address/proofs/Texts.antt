@@ -1,10 +1,10 @@
 -- Addresses and their texts.
-use Rattle.std.proofs.Common.{◌≡◌, ℕ, zero, suc, ◌+◌, ◌*◌, ◌/◌, ◌%◌, ◌^◌, ◌<◌, ◌≤◌, ◌==◌, Bool, true, false, cond, ltb, ◌⊎◌, List, [], ◌∷◌, length, get_or, take, map, Option, Some, None, Result, Ok, Err, MatchResult, refl, sym, ap, subst, ◌∙◌, arith, inl, inr}
+use Rattle.std.proofs.Common.{◌≡◌, ℕ, zero, suc, ◌+◌, ◌*◌, ◌/◌, ◌%◌, ◌^◌, ◌<◌, ◌==◌, Bool, true, List, [], ◌∷◌, length, get_or, take, map, Option, Some, None, Result, Ok, Err, MatchResult, refl, sym, ap, subst, ◌∙◌, arith, inl, inr}
 use Rattle.std.specs.Char.{to_ascii_lowercase}
 use Rattle.std.specs.Str.{str_to_ascii_lowercase}
 use Rattle.std.proofs.lemmas.Bool.Decides.{nat_tests}
 use Rattle.std.specs.Int.{w64, from_be_bytes}
-use Rattle.std.proofs.lemmas.Bool.{cases_lt, false≢true, le-ltb, lt-ltb}
+use Rattle.std.proofs.lemmas.Bool.{agree_below_at, cond-true, eq-eqb, eqb-true, false≢true}
 use Rattle.std.proofs.lemmas.List.{get_or-take, length-take}
 use Rattle.std.proofs.lemmas.List.Elements.{All-get_or}
 use Rattle.std.proofs.lemmas.Nat.{be_bytes_8, from_be_bytes-to_be_bytes_8}
@@ -15,6 +15,7 @@ use Rattle.hex.proofs.HexLemmas.{decode_of-ok, decode_of-err, decode_of-same, de
 use Rattle.meter_address.specs.declared.address.Address.{Address}
 use Rattle.meter_address.specs.declared.address.AddressFault.{AddressFault}
 use Rattle.meter_address.specs.declared.address.AddressFault.TheVariants as faults
+use Rattle.meter_address.proofs.Keys.{where_some}
 use Rattle.meter_address.specs.Address.{bytes_of, text_of, address_of, from_decoded, Spells, IsFirstOther, IsFault}
 
 pub length-bytes_of : (a : Address) → length (bytes_of a) ≡ 8
@@ -75,14 +76,9 @@ one_fault text (faults.Length n) (faults.Length m) hf hg = ap faults.Length (hf.
 one_fault text (faults.Length n) (faults.Digit q) hf hg = absurd (hf.0 hg.0)
 one_fault text (faults.Digit p) (faults.Length m) hf hg = absurd (hg.0 hf.0)
 one_fault text (faults.Digit p) (faults.Digit q) hf hg =
-    elim (cases_lt p q) [
-      | inl lt ↦ absurd (before_other text p q hf.1 hg.1 lt)
-      | inr le ↦
-          elim (cases_lt q p) [
-            | inl gt ↦ absurd (before_other text q p hg.1 hf.1 gt)
-            | inr ge ↦ let same : p ≡ q = omega arith in ap faults.Digit same
-          ]
-    ]
+    let below = before_other text p q hf.1 hg.1 in
+    let above = before_other text q p hg.1 hf.1 in
+    let same : p ≡ q = omega arith in ap faults.Digit same
 
 -- a text that spells an address has no fault
 pub spelt_no_fault : (text : List ℕ) (a : Address) (f : AddressFault) → Spells text a → IsFault text f → ⊥
@@ -119,31 +115,24 @@ read_is text a b fits_a fits_b ha hb = ap reading (spelt_once text a b fits_a fi
 pub written_spells : (text : List ℕ) (a : Address) → text ≡ text_of a → Spells text a
 written_spells text a h = ap decode_of h ∙ decode_of-encode_lower (bytes_of a) (IsBytes-bytes_of a)
 
--- a text of sixteen bytes that was decoded
-pub decoded : (text out : List ℕ) (r : Result Unit FromHexError) → length text ≡ 16
-    → MatchResult (decode_sized text 8) (λ bytes. (r ≡ Ok tt) × (out ≡ bytes)) (λ e. r ≡ Err e) → r ≡ Ok tt
-    → decode_of text ≡ Ok out
-decoded text out r len given ok = sym (decode_sized-twice text 8 len) ∙ is_read (decode_sized text 8) given
-  where
-    is_read : (d : Result (List ℕ) FromHexError) → MatchResult d (λ bytes. (r ≡ Ok tt) × (out ≡ bytes)) (λ e. r ≡ Err e) → d ≡ Ok out
-    is_read (Ok bytes) h = ap Ok (sym h.1)
-    is_read (Err e) h = absurd cc
+-- what a text of sixteen bytes is decoded to, by the answer and what was written
+abbrev pub answered : Result Unit FromHexError → List ℕ → Result (List ℕ) FromHexError
+answered (Ok done) out = Ok out
+answered (Err e) out = Err e
 
-pub not_decoded : (text out : List ℕ) (r : Result Unit FromHexError) (e : FromHexError) → length text ≡ 16
-    → MatchResult (decode_sized text 8) (λ bytes. (r ≡ Ok tt) × (out ≡ bytes)) (λ e. r ≡ Err e) → r ≡ Err e
-    → decode_of text ≡ Err e
-not_decoded text out r e len given err = sym (decode_sized-twice text 8 len) ∙ is_read (decode_sized text 8) given
+pub decoded : (text out : List ℕ) (r : Result Unit FromHexError) → length text ≡ 16
+    → MatchResult (decode_sized text 8) (λ bytes. (r ≡ Ok tt) × (out ≡ bytes)) (λ e. r ≡ Err e) → decode_of text ≡ answered r out
+decoded text out r len given = sym (decode_sized-twice text 8 len) ∙ is_read (decode_sized text 8) given
   where
-    is_read : (d : Result (List ℕ) FromHexError) → MatchResult d (λ bytes. (r ≡ Ok tt) × (out ≡ bytes)) (λ e. r ≡ Err e) → d ≡ Err e
-    is_read (Ok bytes) h = absurd cc
-    is_read (Err d) h = let same : d ≡ e = cc in ap Err same
+    is_read : (d : Result (List ℕ) FromHexError) → MatchResult d (λ bytes. (r ≡ Ok tt) × (out ≡ bytes)) (λ e. r ≡ Err e) → d ≡ answered r out
+    is_read (Ok bytes) h = rw (h.0, h.1) refl
+    is_read (Err e) h = rw h refl
 
 -- a text of sixteen bytes that was refused
-pub refused : (text out : List ℕ) (r : Result Unit FromHexError) (e : FromHexError) → length text ≡ 16
-    → MatchResult (decode_sized text 8) (λ bytes. (r ≡ Ok tt) × (out ≡ bytes)) (λ e. r ≡ Err e) → r ≡ Err e
+pub refused : (text : List ℕ) (e : FromHexError) → length text ≡ 16 → decode_of text ≡ Err e
     → (place : ℕ) × (e ≡ InvalidHexCharacter (get_or text place 0) place) × IsFirstOther text place
-refused text out r e len given err =
-    elim (decode_of-err text e (not_decoded text out r e len given err)) [
+refused text e len is =
+    elim (decode_of-err text e is) [
       | inl odd ↦ absurd (omega (arith, odd.0))
       | inr other ↦ let same : 0 + other.0 ≡ other.0 =
           omega arith in (other.0, rw same at other.1, record { within = other.2; other = other.3; before = other.4 })
@@ -153,58 +142,20 @@ refused text out r e len given err =
 pub address_of_decoded : (text : List ℕ) (d : Result (List ℕ) FromHexError) → length text ≡ 16 → decode_of text ≡ d
     → address_of text ≡ from_decoded d
 unfolding address_of
-address_of_decoded text d len is = ap (λ b. cond b (from_decoded (decode_of text)) None) (sixteen (length text) len) ∙ ap from_decoded is
-  where
-    sixteen : (n : ℕ) → n ≡ 16 → (n == 16) ≡ true
-    sixteen n h = grind (arith, nat_tests)
+address_of_decoded text d len is = cond-true _ _ None (eq-eqb (length text) 16 len) ∙ ap from_decoded is
 
 -- ---- the case of the letters
 
--- the digit of a value
-digit_of : (v : ℕ) → v < 16 → get_or lower_digits v 0 ≡ cond (ltb v 10) (v + 48) (v + 87)
-digit_of zero h = refl
-digit_of (suc zero) h = refl
-digit_of (suc (suc zero)) h = refl
-digit_of (suc (suc (suc zero))) h = refl
-digit_of (suc (suc (suc (suc zero)))) h = refl
-digit_of (suc (suc (suc (suc (suc zero))))) h = refl
-digit_of (suc (suc (suc (suc (suc (suc zero)))))) h = refl
-digit_of (suc (suc (suc (suc (suc (suc (suc zero))))))) h = refl
-digit_of (suc (suc (suc (suc (suc (suc (suc (suc zero)))))))) h = refl
-digit_of (suc (suc (suc (suc (suc (suc (suc (suc (suc zero))))))))) h = refl
-digit_of (suc (suc (suc (suc (suc (suc (suc (suc (suc (suc zero)))))))))) h = refl
-digit_of (suc (suc (suc (suc (suc (suc (suc (suc (suc (suc (suc zero))))))))))) h = refl
-digit_of (suc (suc (suc (suc (suc (suc (suc (suc (suc (suc (suc (suc zero)))))))))))) h = refl
-digit_of (suc (suc (suc (suc (suc (suc (suc (suc (suc (suc (suc (suc (suc zero))))))))))))) h = refl
-digit_of (suc (suc (suc (suc (suc (suc (suc (suc (suc (suc (suc (suc (suc (suc zero)))))))))))))) h = refl
-digit_of (suc (suc (suc (suc (suc (suc (suc (suc (suc (suc (suc (suc (suc (suc (suc zero))))))))))))))) h = refl
-digit_of (suc (suc (suc (suc (suc (suc (suc (suc (suc (suc (suc (suc (suc (suc (suc (suc v)))))))))))))))) h = absurd (omega arith)
+-- whether a digit in lower case is the digit of its value
+abbrev is_lowered : ℕ → Option ℕ → Bool
+is_lowered c None = true
+is_lowered c (Some v) = to_ascii_lowercase c == get_or lower_digits v 0
 
--- the value of a digit, by the three ranges of digits
-value_of : (c v : ℕ) → hex_digit_value c ≡ Some v
-    → ((65 ≤ c) × (c ≤ 70) × (v + 55 ≡ c)) ⊎ (((97 ≤ c) × (c ≤ 102) × (v + 87 ≡ c)) ⊎ ((48 ≤ c) × (c ≤ 57) × (v + 48 ≡ c)))
-value_of c v h = grind (arith, nat_tests)
-
--- a digit in lower case is the digit of its value
 lowered : (c v : ℕ) → hex_digit_value c ≡ Some v → to_ascii_lowercase c ≡ get_or lower_digits v 0
 lowered c v h =
-    elim (value_of c v h) [
-      | inl upper ↦
-          let same : to_ascii_lowercase c ≡ c + 32 = rw (le-ltb c 65 upper.0, lt-ltb c 91 (omega arith)) refl in
-          same ∙ sym (rw (digit_of v (omega arith), le-ltb v 10 (omega arith)) (omega arith))
-      | inr others ↦
-          elim others [
-            | inl lower ↦
-                let same : to_ascii_lowercase c ≡ c = rw (le-ltb c 65 (omega arith), le-ltb c 91 (omega arith)) refl in
-                same ∙ sym (rw (digit_of v (omega arith), le-ltb v 10 (omega arith)) (omega arith))
-            | inr decimal ↦
-                let same : to_ascii_lowercase c ≡ c = rw (lt-ltb c 65 (omega arith)) refl in
-                same ∙ sym (rw (digit_of v (omega arith), lt-ltb v 10 (omega arith)) (omega arith))
-          ]
-    ]
-
-below_sixteen : (c v : ℕ) → hex_digit_value c ≡ Some v → v < 16
-below_sixteen c v h = grind (arith, nat_tests)
+    let small : c < 128 = grind (arith, nat_tests) in
+    let test = agree_below_at (λ d. is_lowered d (hex_digit_value d)) (λ d. true) 128 c refl small in
+    eqb-true (to_ascii_lowercase c) (get_or lower_digits v 0) (ap (is_lowered c) (sym h) ∙ test)
 
 -- the value of a step that did not fail
 bind_ok : {A B : Type 0} (r : Result A FromHexError) (f : A → Result B FromHexError) (y : B) → (r >>= f) ≡ Ok y → (x : A) × (r ≡ Ok x)
@@ -228,7 +179,7 @@ lowered_pairs i (a ∷ b ∷ rest) bytes h =
     let others = bind_ok (decode_pairs (i + 2) rest) _ bytes pair.2 in
     let high_is = digit_read a i (hex_digit_value a) high.0 high.1 in
     let low_is = digit_read b (i + 1) (hex_digit_value b) low.0 low.1 in
-    let small = below_sixteen b low.0 low_is in
+    let small : low.0 < 16 = grind (arith, nat_tests, low_is) in
     let byte : high.0 * 16 + low.0 ≡ pair.0 = cc low.2 in
     let top : pair.0 / 16 ≡ high.0 = omega arith in
     let bottom : pair.0 % 16 ≡ low.0 = omega arith in
@@ -254,17 +205,14 @@ made_fits bytes h =
 -- an address that is read has eight bytes
 pub read_fits : (text : List ℕ) (a : Address) → address_of text ≡ Some a → a.0 < 2 ^ 64
 unfolding address_of
-read_fits text a h = by_length (length text == 16) h
+read_fits text a h =
+    by_bytes (decode_of text) refl (where_some (length text == 16) (from_decoded (decode_of text)) a h).1
   where
     by_bytes : (d : Result (List ℕ) FromHexError) → decode_of text ≡ d → from_decoded d ≡ Some a → a.0 < 2 ^ 64
     by_bytes (Ok bytes) is made =
         let same : from_be_bytes w64 bytes ≡ a.0 = cc in
         subst (λ n. n < 2 ^ 64) same (made_fits bytes (decode_of-ok text bytes is).3)
     by_bytes (Err e) is made = absurd cc
-
-    by_length : (b : Bool) → cond b (from_decoded (decode_of text)) None ≡ Some a → a.0 < 2 ^ 64
-    by_length true made = by_bytes (decode_of text) refl made
-    by_length false made = absurd cc
 
 -- the text of an address is read back
 pub written_address : (a : Address) → a.0 < 2 ^ 64 → address_of (text_of a) ≡ Some a

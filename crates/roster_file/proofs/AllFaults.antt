@@ -1,5 +1,5 @@
 -- The first of all faulty lines.
-use Rattle.std.proofs.Common.{◌≡◌, ℕ, ◌+◌, Bool, true, false, cond, List, [], ◌∷◌, ◌++◌, length, Option, Some, None, Result, Ok, Err, refl, sym, ap, ◌∙◌, nat_lt}
+use Rattle.std.proofs.Common.{◌≡◌, ℕ, ◌+◌, Bool, true, false, cond, List, [], ◌∷◌, length, Option, Some, None, Result, Ok, Err, refl, sym, ap, ◌∙◌, nat_lt}
 use Rattle.std.specs.Option.{ok_or, unwrap_or}
 use Rattle.std.specs.Str.Lines.{lines}
 use Rattle.lists.specs.Steps.{◌>>=◌}
@@ -7,11 +7,10 @@ use Rattle.meter_address.specs.declared.address.Address.{Address}
 use Rattle.meter_address.specs.Commission.{Commissioned}
 use Rattle.roster_file.specs.declared.fields.Version.{Version}
 use Rattle.roster_file.specs.declared.fields.Version.TheVariants.{Two}
-use Rattle.roster_file.specs.declared.roster.LineCause.{LineCause}
 use Rattle.roster_file.specs.declared.roster.LineCause.TheVariants as causes
 use Rattle.roster_file.specs.declared.roster.RosterFault.{RosterFault}
 use Rattle.roster_file.specs.declared.roster.RosterFault.TheVariants.{Line}
-use Rattle.roster_file.specs.Roster.{Enrolled, at_line, enlisted_from, meters_of, with_own, owned, headed, own_of, head_of, entries_from, roster_of}
+use Rattle.roster_file.specs.Roster.{at_line, enlisted_from, meters_of, with_own, owned, headed, own_of, head_of, entries_from, roster_of}
 use Rattle.roster_file.specs.Faults.{refused, before, going_on, faults_in, faults_owned, faults_headed, faults_of, first_of}
 
 first_in : (version : Version) (meters : List Commissioned) (entries : List (ℕ × List ℕ))
@@ -64,17 +63,11 @@ first_fault_refuses bytes = by_length (nat_lt 1048576 (length bytes))
 
 -- ---- line by line
 
-pub faults_next : (version : Version) (meters more : List Commissioned) (e : ℕ × List ℕ) (entries : List (ℕ × List ℕ))
-    → enlisted_from version meters e ≡ Ok more
-    → faults_in version meters (e ∷ entries) ≡ faults_in version more entries
+pub faults_by : (version : Version) (meters : List Commissioned) (r : Result (List Commissioned) RosterFault) (e : ℕ × List ℕ)
+    (entries : List (ℕ × List ℕ)) → enlisted_from version meters e ≡ r
+    → faults_in version meters (e ∷ entries) ≡ going_on r meters (λ next. faults_in version next entries)
 unfolding faults_in
-faults_next version meters more e entries h = ap (λ r. going_on r meters (λ next. faults_in version next entries)) h
-
-pub faults_fault : (version : Version) (meters : List Commissioned) (fault : RosterFault) (e : ℕ × List ℕ) (entries : List (ℕ × List ℕ))
-    → enlisted_from version meters e ≡ Err fault
-    → faults_in version meters (e ∷ entries) ≡ fault ∷ faults_in version meters entries
-unfolding faults_in
-faults_fault version meters fault e entries h = ap (λ r. going_on r meters (λ next. faults_in version next entries)) h
+faults_by version meters r e entries h = ap (λ s. going_on s meters (λ next. faults_in version next entries)) h
 
 pub faults_end : (version : Version) (meters : List Commissioned) → faults_in version meters [] ≡ []
 unfolding faults_in

@@ -4,3 +4,5 @@ pub mod ReadBack
 pub mod RosterLines
 pub mod Words
 pub mod AllFaults
+pub mod Gives
+pub mod Apart

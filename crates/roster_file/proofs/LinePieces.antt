@@ -1,5 +1,5 @@
 -- The lines of a roster, piece by piece.
-use Rattle.std.proofs.Common.{◌≡◌, ℕ, List, [], ◌∷◌, ◌++◌, refl, ap, sym, ◌∙◌, append_assoc}
+use Rattle.std.proofs.Common.{◌≡◌, ℕ, List, [], ◌∷◌, ◌++◌, refl, append_assoc}
 use Rattle.std.specs.Prelude.{codes}
 use Rattle.std.specs.Fmt.{decimal}
 use Rattle.hex.specs.Hex.{encode_lower}
@@ -28,7 +28,7 @@ pub meter_line : {P : Type 0} {takes : P → List ℕ → P → Type 0} {p q r s
     → Puts takes q (keys_text c) r → Puts takes r (counts_text c) s → Puts takes p (meter_text c) s
 meter_line c one two three = three_make (meter_text c) one two three (meter_is c)
 
-own_brackets : (w a : List ℕ) → (w ++ 32 ∷ a) ++ (10 ∷ []) ≡ (w ++ (32 ∷ [])) ++ a ++ (10 ∷ [])
+pub own_brackets : (w a : List ℕ) → (w ++ 32 ∷ a) ++ (10 ∷ []) ≡ (w ++ (32 ∷ [])) ++ a ++ (10 ∷ [])
 own_brackets w a = simp append_assoc refl
 
 own_is : (own : Address) → own_text own ≡ codes "own " ++ text_of own ++ codes "\n"

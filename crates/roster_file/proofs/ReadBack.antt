@@ -1,12 +1,11 @@
 -- A roster's text is read back.
-use Rattle.std.proofs.Common.{◌≡◌, ℕ, zero, suc, ◌+◌, ◌-◌, ◌*◌, ◌/◌, ◌^◌, ◌<◌, ◌≤◌, ◌==◌, ◌&&◌, ◌||◌, nat_lt, nat_le, Bool, true, false, cond, List, [], ◌∷◌, ◌++◌, length, map, get_or, codes, Option, Some, None, Result, Ok, Err, refl, ap, sym, subst, ◌∙◌, arith, append_assoc, length-append}
-use Rattle.std.specs.Prelude.{MatchOption, option_map}
+use Rattle.std.proofs.Common.{◌≡◌, ℕ, ◌+◌, ◌-◌, ◌*◌, ◌/◌, ◌^◌, ◌<◌, ◌≤◌, ◌==◌, ◌&&◌, nat_lt, true, false, cond, List, [], ◌∷◌, ◌++◌, length, map, get_or, codes, Option, Some, None, Ok, refl, ap, sym, ◌∙◌, arith, append_assoc, length-append}
+use Rattle.std.specs.Prelude.{option_map}
 use Rattle.std.specs.Option.{ForSome, ok_or}
-use Rattle.std.specs.List.{flat_map, join_with_byte, list_any, list_all}
+use Rattle.std.specs.List.{flat_map, join_with_byte, list_all}
 use Rattle.std.specs.Fmt.{decimal}
 use Rattle.std.specs.Str.Lines.{lines}
-use Rattle.std.specs.Str.Parse.{digits_value}
-use Rattle.std.proofs.lemmas.Bool.{and_parts}
+use Rattle.std.proofs.lemmas.Bool.{and_parts, and_right, cond-false, le-ltb}
 use Rattle.std.proofs.lemmas.Bool.Decides.{nat_tests}
 use Rattle.std.proofs.lemmas.List.{append-nil}
 use Rattle.std.proofs.lemmas.Fmt.{decimal_injective, length-decimal-le}
@@ -14,26 +13,23 @@ use Rattle.hex.specs.Hex.{encode_lower, encode_with, lower_digits}
 use Rattle.hex.proofs.HexLemmas.{length-encode_with}
 use Rattle.lists.specs.Each.{Each}
 use Rattle.plain_text.specs.Numbers.{is_plain, number_of}
-use Rattle.plain_text.specs.Parts.{fields_of, is_word}
+use Rattle.plain_text.specs.Parts.{is_word}
 use Rattle.plain_text.proofs.Plain.{written}
 use Rattle.meter_address.specs.declared.address.Address.{Address}
 use Rattle.meter_address.specs.declared.commission.Mode.{Mode}
 use Rattle.meter_address.specs.declared.commission.Mode.TheVariants.{Five, Seven}
-use Rattle.meter_address.specs.Address.{AreApart, address_of, bytes_of, text_of}
+use Rattle.meter_address.specs.Address.{AreApart, bytes_of, text_of}
 use Rattle.meter_address.specs.Commission.{Commissioned, IsCommission, IsKey, most_last, key_of}
 use Rattle.meter_address.proofs.Texts.{IsBytes-bytes_of, length-bytes_of, written_address}
 use Rattle.meter_address.proofs.Keys.{written_key}
-use Rattle.roster_file.specs.declared.fields.Version.{Version}
-use Rattle.roster_file.specs.declared.fields.Version.TheVariants.{One, Two}
-use Rattle.roster_file.specs.declared.roster.LineCause.{LineCause}
+use Rattle.roster_file.specs.declared.fields.Version.TheVariants.{Two}
 use Rattle.roster_file.specs.declared.roster.LineCause.TheVariants as causes
-use Rattle.roster_file.specs.declared.roster.RosterFault.{RosterFault}
-use Rattle.roster_file.specs.declared.roster.RosterFault.TheVariants.{Line}
-use Rattle.roster_file.specs.Roster.{Columns, Enrolled, at_line, columns_of, counter_of, enlisted, enlisted_from, entries_from, headed, last_of, meter_of, meter_of_columns, meter_of_kind, meters_of, mode_of, other_of, own_of, own_of_fields, owned, roster_of, second_key_of, with_own}
+use Rattle.roster_file.specs.Roster.{Columns, Enrolled, columns_of, counter_of, enlisted, enlisted_from, entries_from, headed, last_of, meter_of, meter_of_columns, meter_of_kind, meters_of, mode_of, other_of, own_of, own_of_fields, owned, roster_of}
 use Rattle.lists.specs.Steps.{◌>>=◌}
 use Rattle.roster_file.specs.Text.{mode_text, other_text, last_text, meter_fields, meter_text, own_text, roster_text}
 use Rattle.roster_file.specs.Enrolled.{IsEnrolled}
-use Rattle.roster_file.proofs.RosterLines.{counted, meters_next, meters_end, none_left}
+use Rattle.roster_file.proofs.Apart.{new_behind, room_before}
+use Rattle.roster_file.proofs.RosterLines.{counted, meters_by, meters_end, none_left}
 use Rattle.roster_file.proofs.Words.{IsAbove, IsWord, IsPrinted, number_above, hex_word, fields_joined, joined_printed, ended_line}
 
 -- ---- a field
@@ -62,14 +58,10 @@ no_dash (b ∷ text) is =
     let other : (b == 45) ≡ false = grind (arith, nat_tests) in
     ap (λ t. t && is_word text []) other
 
-and_false : (b : Bool) → (b && false) ≡ false
-and_false true = refl
-and_false false = refl
-
 no_dash_key : (key : List ℕ) → length key ≡ 16 → is_word (encode_lower key) (codes "-") ≡ false
 unfolding encode_with
 no_dash_key [] long = absurd (omega arith)
-no_dash_key (b ∷ key) long = and_false (get_or lower_digits (b / 16) 0 == 45)
+no_dash_key (b ∷ key) long = and_right (get_or lower_digits (b / 16) 0 == 45) false refl
 
 other_back : (mode : Mode) (other : Option (List ℕ)) → (mode ≡ Five → other ≡ None) → ForSome other IsKey
     → other_of mode (other_text other) ≡ Some other
@@ -80,16 +72,16 @@ other_back Seven (Some key) one_key keys =
     ap (λ b. cond b (Some None) (option_map Some (key_of (encode_lower key)))) (no_dash_key key is.long)
     ∙ ap (option_map Some) (written_key key is)
 
-most_small : (mode : Mode) → most_last mode < 2 ^ 64
-most_small Five = omega arith
-most_small Seven = omega arith
+most_fits : (mode : Mode) → most_last mode < 2 ^ 32
+most_fits Five = omega arith
+most_fits Seven = omega arith
 
 last_back : (mode : Mode) (last : Option ℕ) → ForSome last (λ n. n ≤ most_last mode) → last_of mode (last_text last) ≡ Some last
 last_back mode None fits = refl
 last_back mode (Some n) fits =
     ap (λ b. cond b (Some None) (option_map Some (number_of (most_last mode) (decimal n))))
     (no_dash (decimal n) (number_above 45 n (omega arith)))
-    ∙ ap (option_map Some) (number_back (most_last mode) n (most_small mode) (fits n refl))
+    ∙ ap (option_map Some) (number_back (most_last mode) n (let most = most_fits mode in omega arith) (fits n refl))
 
 counter_back : (n : ℕ) → n < 2 ^ 32 → counter_of (decimal n) ≡ Some n
 counter_back n small = number_back (2 ^ 32 - 1) n (omega arith) (omega arith)
@@ -169,37 +161,15 @@ meter_back c is =
 
 -- ---- the meters
 
-or_false : (x y : Bool) → (x || y) ≡ false → (x ≡ false) × (y ≡ false)
-or_false true y h = absurd cc
-or_false false y h = (refl, h)
-
-pub eqb_swap : (a b : ℕ) → (a == b) ≡ (b == a)
-eqb_swap a b = grind (arith, nat_tests)
-
-any_at : (n : ℕ) (before : List Commissioned) (c : Commissioned) (after : List Commissioned)
-    → list_any (λ b. b.0 == n) (map (λ m. m.address) (before ++ c ∷ after)) ≡ false → (c.address.0 == n) ≡ false
-any_at n [] c after h = (or_false _ _ h).0
-any_at n (m ∷ before) c after h = any_at n before c after (or_false (m.address.0 == n) _ h).1
-
-new_behind : (before : List Commissioned) (c : Commissioned) (after : List Commissioned)
-    → AreApart (map (λ m. m.address) (before ++ c ∷ after)) → list_any (λ m. m.address.0 == c.address.0) before ≡ false
-new_behind [] c after apart = refl
-new_behind (m ∷ before) c after apart =
-    ap (λ b. b || list_any (λ m. m.address.0 == c.address.0) before) (eqb_swap m.address.0 c.address.0
-    ∙ any_at m.address.0 before c after apart.0)
-    ∙ new_behind before c after apart.1
-
 enlisted_behind : (before : List Commissioned) (c : Commissioned) (after : List Commissioned)
     → AreApart (map (λ m. m.address) (before ++ c ∷ after)) → length (before ++ c ∷ after) ≤ 4096
     → enlisted before c ≡ Ok (before ++ c ∷ [])
 enlisted_behind before c after apart few =
-    let room : nat_le 4096 (length before) ≡ false = (let all = length-append before (c ∷ after) in grind (arith, nat_tests)) in
-    ap (λ b. cond b (Err causes.Same) (cond (nat_le 4096 (length before)) (Err causes.TooMany) (Ok (before ++ c ∷ []))))
-    (new_behind before c after apart)
-    ∙ ap (λ b. cond b (Err causes.TooMany) (Ok (before ++ c ∷ []))) room
+    cond-false _ _ _ (new_behind (λ c. c.address) before c after apart)
+    ∙ cond-false _ _ _ (room_before (λ c. c.address) before c after few)
 
 -- a line of words is neither empty nor a comment
-meter_counts : (c : Commissioned) (n : ℕ) (texts : List (List ℕ))
+pub meter_counts : (c : Commissioned) (n : ℕ) (texts : List (List ℕ))
     → entries_from n (meter_line c ∷ texts) ≡ (n, meter_line c) ∷ entries_from (n + 1) texts
 meter_counts c n texts = counted n (meter_line c) texts (grind (arith, nat_tests))
 
@@ -212,7 +182,7 @@ meters_back n before (c ∷ after) apart few each =
     rw (meter_back c each.0, enlisted_behind before c after apart few) refl in
     let same : (before ++ c ∷ []) ++ after ≡ before ++ c ∷ after = append_assoc before (c ∷ []) after in
     ap (meters_of Two before) (meter_counts c n (map meter_line after))
-    ∙ meters_next Two before (before ++ c ∷ []) (n, meter_line c) (entries_from (n + 1) (map meter_line after)) step
+    ∙ meters_by Two before (Ok (before ++ c ∷ [])) (n, meter_line c) (entries_from (n + 1) (map meter_line after)) step
     ∙ meters_back (n + 1) (before ++ c ∷ []) after (rw same apart) (rw same few) each.1
     ∙ ap Ok same
 
@@ -268,38 +238,25 @@ other_len (Some key) keys = let long = (keys key refl).long in omega (arith, len
 pub number_len : (n : ℕ) → n < 2 ^ 32 → length (decimal n) ≤ 10
 number_len n small = length-decimal-le 10 n (omega arith) (omega arith) (omega arith)
 
-most_fits : (mode : Mode) → most_last mode < 2 ^ 32
-most_fits Five = omega arith
-most_fits Seven = omega arith
-
 last_len : (mode : Mode) (last : Option ℕ) → ForSome last (λ n. n ≤ most_last mode) → length (last_text last) ≤ 10
 last_len mode None fits = omega arith
 last_len mode (Some n) fits = let within = fits n refl in let most = most_fits mode in number_len n (omega arith)
 
-pub joined_len : (word next : List ℕ) (words : List (List ℕ))
-    → length (join_with_byte 32 (word ∷ next ∷ words)) ≡ length word + 1 + length (join_with_byte 32 (next ∷ words))
-joined_len word next words = omega (arith, length-append word (32 ∷ join_with_byte 32 (next ∷ words)))
+-- the bytes of words, with one more for each
+abbrev pub total : List (List ℕ) → ℕ
+total [] = 0
+total (word ∷ words) = length word + 1 + total words
 
--- eight fields
-eight_len : (w a m k o l d i : List ℕ) → length (join_with_byte 32 (w ∷ a ∷ m ∷ k ∷ o ∷ l ∷ d ∷ i ∷ []) ++ 10 ∷ [])
-    ≡ length w + length a + length m + length k + length o + length l + length d + length i + 8
-eight_len w a m k o l d i =
-    let one = joined_len w a (m ∷ k ∷ o ∷ l ∷ d ∷ i ∷ []) in
-    let two = joined_len a m (k ∷ o ∷ l ∷ d ∷ i ∷ []) in
-    let three = joined_len m k (o ∷ l ∷ d ∷ i ∷ []) in
-    let four = joined_len k o (l ∷ d ∷ i ∷ []) in
-    let five = joined_len o l (d ∷ i ∷ []) in
-    let six = joined_len l d (i ∷ []) in
-    let seven = joined_len d i [] in
-    let end = length-append (join_with_byte 32 (w ∷ a ∷ m ∷ k ∷ o ∷ l ∷ d ∷ i ∷ [])) (10 ∷ []) in
-    omega arith
+pub words_len : (word : List ℕ) (words : List (List ℕ)) → length (join_with_byte 32 (word ∷ words)) + 1 ≡ length word + 1 + total words
+words_len word [] = omega arith
+words_len word (next ∷ words) =
+    let others = words_len next words in omega (arith, length-append word (32 ∷ join_with_byte 32 (next ∷ words)))
 
 pub meter_len : (c : Commissioned) → IsCommission c → length (meter_text c) ≤ 200
 unfolding meter_text
 meter_len c is =
-    let all =
-    eight_len (codes "meter") (text_of c.address) (mode_text c.mode) (encode_lower c.key) (other_text c.other) (last_text c.last)
-    (decimal c.down) (decimal c.ids) in
+    let all = words_len (codes "meter") (behind_meter c) in
+    let whole = length-append (meter_line c) (10 ∷ []) in
     let address = length-encode_with lower_digits (bytes_of c.address) in
     let eight = length-bytes_of c.address in
     let mode = mode_len c.mode in
@@ -319,25 +276,31 @@ meters_len (c ∷ meters) each =
     let all = length-append (meter_text c) (flat_map meter_text meters) in
     omega arith
 
+-- the own line with its newline
+pub own_len : (own : Address) → length (own_text own) ≡ 21
+unfolding own_text
+own_len own =
+    omega (
+      arith,
+      words_len (codes "own") (text_of own ∷ []),
+      length-append (own_line own) (10 ∷ []),
+      length-encode_with lower_digits (bytes_of own),
+      length-bytes_of own,
+    )
+
 roster_len : (r : Enrolled) → IsEnrolled r → length (roster_text r) ≤ 1048576
-unfolding roster_text own_text
+unfolding roster_text
 roster_len r is =
-    let own = joined_len (codes "own") (text_of r.own) [] in
-    let address = length-encode_with lower_digits (bytes_of r.own) in
-    let eight = length-bytes_of r.own in
-    let own_end = length-append (own_line r.own) (10 ∷ []) in
-    let front = length-append (head_line ++ 10 ∷ []) (own_line r.own ++ 10 ∷ []) in
-    let all = length-append ((head_line ++ 10 ∷ []) ++ (own_line r.own ++ 10 ∷ [])) (flat_map meter_text r.meters) in
+    let front = length-append (head_line ++ 10 ∷ []) (own_text r.own) in
+    let all = length-append ((head_line ++ 10 ∷ []) ++ own_text r.own) (flat_map meter_text r.meters) in
+    let own = own_len r.own in
     let meters = meters_len r.meters is.each in
     let few = is.few in
     omega arith
 
 -- ---- the whole
 
-head_counts : (n : ℕ) (texts : List (List ℕ)) → entries_from n (head_line ∷ texts) ≡ (n, head_line) ∷ entries_from (n + 1) texts
-head_counts n texts = counted n head_line texts refl
-
-own_counts : (own : Address) (n : ℕ) (texts : List (List ℕ))
+pub own_counts : (own : Address) (n : ℕ) (texts : List (List ℕ))
     → entries_from n (own_line own ∷ texts) ≡ (n, own_line own) ∷ entries_from (n + 1) texts
 own_counts own n texts = counted n (own_line own) texts (grind (arith, nat_tests))
 
@@ -350,13 +313,11 @@ headed_back : (r : Enrolled) (end : ℕ) → IsEnrolled r
     → headed (entries_from 1 (head_line ∷ own_line r.own ∷ map meter_line r.meters)) end ≡ Ok r
 unfolding headed
 headed_back r end is =
-    rw (head_counts 1 (own_line r.own ∷ map meter_line r.meters), own_counts r.own 2 (map meter_line r.meters)) (owned_back r 2 end is)
+    rw (counted 1 head_line (own_line r.own ∷ map meter_line r.meters) refl, own_counts r.own 2 (map meter_line r.meters)) (owned_back r 2 end is)
 
 pub written_is_read : (r : Enrolled) → IsEnrolled r → roster_of (roster_text r) ≡ Ok r
 unfolding roster_of
 written_is_read r is =
-    let short : nat_lt 1048576 (length (roster_text r)) ≡ false = (let few = roster_len r is in grind (arith, nat_tests)) in
-    ap (λ b. cond b (Err (Line 0 causes.TooLong)) (headed (entries_from 1 (lines (roster_text r))) (length (lines (roster_text r)) + 1)))
-    short
+    cond-false _ _ _ (le-ltb 1048576 (length (roster_text r)) (roster_len r is))
     ∙ ap (λ ls. headed (entries_from 1 ls) (length (lines (roster_text r)) + 1)) (roster_lines r is)
     ∙ headed_back r (length (lines (roster_text r)) + 1) is

@@ -1,5 +1,5 @@
 -- The lines of a roster that count, line by line.
-use Rattle.std.proofs.Common.{◌≡◌, ℕ, ◌+◌, List, [], ◌∷◌, true, false, not, cond, length, Ok, Err, refl, ap, ◌∙◌, arith}
+use Rattle.std.proofs.Common.{◌≡◌, ℕ, ◌+◌, List, [], ◌∷◌, true, false, not, cond, length, Result, Ok, refl, ap, ◌∙◌, arith}
 use Rattle.std.specs.Prelude.{filter}
 use Rattle.std.specs.List.{enumerate_from}
 use Rattle.meter_address.specs.Commission.{Commissioned}
@@ -28,17 +28,11 @@ pub one_fewer : (text : List ℕ) (lines texts : List (List ℕ)) → lines ≡ 
 one_fewer text lines texts h = ap length h ∙ (omega arith)
 
 -- meters, line by line
-pub meters_next : (version : Version) (meters more : List Commissioned) (e : ℕ × List ℕ) (entries : List (ℕ × List ℕ))
-    → enlisted_from version meters e ≡ Ok more
-    → meters_of version meters (e ∷ entries) ≡ meters_of version more entries
+pub meters_by : (version : Version) (meters : List Commissioned) (r : Result (List Commissioned) RosterFault) (e : ℕ × List ℕ)
+    (entries : List (ℕ × List ℕ)) → enlisted_from version meters e ≡ r
+    → meters_of version meters (e ∷ entries) ≡ (r >>= λ next. meters_of version next entries)
 unfolding meters_of
-meters_next version meters more e entries h = ap (λ r. r >>= λ next. meters_of version next entries) h
-
-pub meters_fault : (version : Version) (meters : List Commissioned) (fault : RosterFault) (e : ℕ × List ℕ)
-    (entries : List (ℕ × List ℕ)) → enlisted_from version meters e ≡ Err fault
-    → meters_of version meters (e ∷ entries) ≡ Err fault
-unfolding meters_of
-meters_fault version meters fault e entries h = ap (λ r. r >>= λ next. meters_of version next entries) h
+meters_by version meters r e entries h = ap (λ s. s >>= λ next. meters_of version next entries) h
 
 pub meters_end : (version : Version) (meters : List Commissioned) → meters_of version meters [] ≡ Ok meters
 unfolding meters_of

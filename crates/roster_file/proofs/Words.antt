@@ -1,9 +1,9 @@
 -- Words without blanks, and the lines and fields that they make.
-use Rattle.std.proofs.Common.{◌≡◌, ℕ, zero, suc, ◌+◌, ◌-◌, ◌/◌, ◌%◌, ◌<◌, ◌≤◌, ◌==◌, ◌&&◌, nat_lt, nat_le, Bool, true, false, cond, List, [], ◌∷◌, ◌++◌, length, take, get_or, refl, ap, sym, ◌∙◌, arith, append_assoc}
+use Rattle.std.proofs.Common.{◌≡◌, ℕ, zero, suc, ◌+◌, ◌-◌, ◌/◌, ◌%◌, ◌<◌, ◌≤◌, ◌==◌, nat_lt, true, false, cond, List, [], ◌∷◌, ◌++◌, length, take, get_or, refl, ap, ◌∙◌, arith, append_assoc}
 use Rattle.std.specs.List.{list_all, slice_split, onto_first, join_with_byte}
 use Rattle.std.specs.Fmt.{decimal, digits, digits_onto, digit_glyph}
 use Rattle.std.specs.Str.Lines.{lines, strip_carriage_return}
-use Rattle.std.proofs.lemmas.Bool.{and_parts, and_from, cond_both}
+use Rattle.std.proofs.lemmas.Bool.{and_parts, and_from, cond_both, lt-ltb, ltb-true}
 use Rattle.std.proofs.lemmas.Bool.Decides.{nat_tests}
 use Rattle.std.proofs.lemmas.List.Folds.{list_all-append}
 use Rattle.std.proofs.lemmas.List.Splits.{slice_split-cons_yes, slice_split-cons_no}
@@ -23,12 +23,6 @@ IsWord text = IsAbove 32 text
 abbrev pub IsPrinted : List ℕ → Type 0
 IsPrinted text = IsAbove 31 text
 
-above : (low b : ℕ) → low < b → nat_lt low b ≡ true
-above low b h = grind (arith, nat_tests)
-
-is_above : (low b : ℕ) → nat_lt low b ≡ true → low < b
-is_above low b h = grind (arith, nat_tests)
-
 not_byte : (s b : ℕ) → s < b → (b == s) ≡ false
 not_byte s b h = grind (arith, nat_tests)
 
@@ -36,8 +30,8 @@ lower : (low low' : ℕ) (text : List ℕ) → low' ≤ low → IsAbove low text
 lower low low' [] h is = record { passed = refl }
 lower low low' (b ∷ text) h is =
     let parts = and_parts _ _ is.passed in
-    let first = is_above low b parts.0 in
-    record { passed = and_from _ _ (above low' b (omega arith)) (lower low low' text h (record { passed = parts.1 })).passed }
+    let first = ltb-true low b parts.0 in
+    record { passed = and_from _ _ (lt-ltb low' b (omega arith)) (lower low low' text h (record { passed = parts.1 })).passed }
 
 pub both_above : {low : ℕ} (a b : List ℕ) → IsAbove low a → IsAbove low b → IsAbove low (a ++ b)
 both_above {low} a b x y = record { passed = list_all-append (nat_lt low) a b ∙ and_from _ _ x.passed y.passed }
@@ -46,8 +40,8 @@ both_above {low} a b x y = record { passed = list_all-append (nat_lt low) a b �
 
 glyph_above : (low d : ℕ) → low < 48 → nat_lt low (digit_glyph false d) ≡ true
 glyph_above low d h =
-    cond_both (nat_lt d 10) (48 + d) (87 + d) (λ c. nat_lt low c ≡ true) (λ _. above low (48 + d) (omega arith))
-    (λ _. above low (87 + d) (omega arith))
+    cond_both (nat_lt d 10) (48 + d) (87 + d) (λ c. nat_lt low c ≡ true) (λ _. lt-ltb low (48 + d) (omega arith))
+    (λ _. lt-ltb low (87 + d) (omega arith))
 
 digits_above : (low : ℕ) → low < 48 → (k base n : ℕ) (behind : List ℕ) → list_all (nat_lt low) behind ≡ true
     → list_all (nat_lt low) (digits_onto k base false n behind) ≡ true
@@ -87,14 +81,14 @@ cut_first : (s : ℕ) (part rest : List ℕ) → IsAbove s part
 cut_first s [] rest is = slice_split-cons_yes (λ b. b == s) s rest (grind (arith, nat_tests))
 cut_first s (x ∷ part) rest is =
     let parts = and_parts _ _ is.passed in
-    slice_split-cons_no (λ b. b == s) x (part ++ s ∷ rest) (not_byte s x (is_above s x parts.0))
+    slice_split-cons_no (λ b. b == s) x (part ++ s ∷ rest) (not_byte s x (ltb-true s x parts.0))
     ∙ ap (onto_first x) (cut_first s part rest (record { passed = parts.1 }))
 
 cut_last : (s : ℕ) (part : List ℕ) → IsAbove s part → slice_split (λ b. b == s) part ≡ part ∷ []
 cut_last s [] is = refl
 cut_last s (x ∷ part) is =
     let parts = and_parts _ _ is.passed in
-    slice_split-cons_no (λ b. b == s) x part (not_byte s x (is_above s x parts.0))
+    slice_split-cons_no (λ b. b == s) x part (not_byte s x (ltb-true s x parts.0))
     ∙ ap (onto_first x) (cut_last s part (record { passed = parts.1 }))
 
 -- words with blanks between them are fields
@@ -109,13 +103,13 @@ pub joined_printed : (word : List ℕ) (words : List (List ℕ)) → IsWord word
 joined_printed word [] is each = lower 32 31 word (omega arith) is
 joined_printed word (next ∷ words) is each =
     both_above word (32 ∷ join_with_byte 32 (next ∷ words)) (lower 32 31 word (omega arith) is)
-    (record { passed = and_from _ _ (above 31 32 (omega arith)) (joined_printed next words each.0 each.1).passed })
+    (record { passed = and_from _ _ (lt-ltb 31 32 (omega arith)) (joined_printed next words each.0 each.1).passed })
 
 -- ---- lines
 
 no_return : (text : List ℕ) (i : ℕ) → IsPrinted text → (get_or text i 0 == 13) ≡ false
 no_return [] i is = refl
-no_return (b ∷ text) zero is = not_byte 13 b (let first = is_above 31 b (and_parts _ _ is.passed).0 in omega arith)
+no_return (b ∷ text) zero is = not_byte 13 b (let first = ltb-true 31 b (and_parts _ _ is.passed).0 in omega arith)
 no_return (b ∷ text) (suc i) is = no_return text i (record { passed = (and_parts _ _ is.passed).1 })
 
 kept_line : (text : List ℕ) → IsPrinted text → strip_carriage_return text ≡ text

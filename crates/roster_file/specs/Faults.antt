@@ -1,5 +1,5 @@
 -- Every faulty line of a roster.
-use Rattle.std.specs.Prelude.{ℕ, ◌≡◌, ◌+◌, nat_lt, List, [], ◌∷◌, ◌++◌, length, Option, Some, None, Result, Ok, Err, if◌then◌else◌}
+use Rattle.std.specs.Prelude.{ℕ, ◌≡◌, ◌+◌, nat_lt, List, [], ◌∷◌, length, Option, Some, None, Result, Ok, Err, if◌then◌else◌}
 use Rattle.std.specs.Option.{ok_or, unwrap_or}
 use Rattle.std.specs.Str.Lines.{lines}
 use Rattle.meter_address.specs.Commission.{Commissioned}
@@ -8,7 +8,7 @@ use Rattle.roster_file.specs.declared.fields.Version.TheVariants.{Two}
 use Rattle.roster_file.specs.declared.roster.LineCause.TheVariants as causes
 use Rattle.roster_file.specs.declared.roster.RosterFault.{RosterFault}
 use Rattle.roster_file.specs.declared.roster.RosterFault.TheVariants.{Line}
-use Rattle.roster_file.specs.Roster.{Enrolled, at_line, enlisted_from, own_of, head_of, entries_from, roster_of}
+use Rattle.roster_file.specs.Roster.{at_line, enlisted_from, own_of, head_of, entries_from, roster_of}
 
 -- what a step refuses, if it does
 abbrev pub refused : {A : Type 0} → Result A RosterFault → Option RosterFault

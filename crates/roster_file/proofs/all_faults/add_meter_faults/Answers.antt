@@ -1,7 +1,7 @@
-use Rattle.std.proofs.Common.{◌∷◌, ◌++◌, [], ap, sym, ◌∙◌, append_assoc}
+use Rattle.std.proofs.Common.{◌∷◌, ◌++◌, [], Ok, Err, ap, sym, ◌∙◌, append_assoc}
 use Rattle.std.proofs.lemmas.List.{append-nil}
 use Rattle.roster_file.specs.Faults.{faults_in}
-use Rattle.roster_file.proofs.AllFaults.{faults_next, faults_fault, faults_end}
+use Rattle.roster_file.proofs.AllFaults.{faults_by, faults_end}
 use Rattle.roster_file.proofs.all_faults.add_meter_faults.Goals as goal
 
 pub lines-preserved-in-Continue-1 : goal.lines-preserved-in-Continue-1
@@ -12,7 +12,7 @@ lines-preserved-in-Continue-1 c =
     let more = meters ++ c.in-Ok-next_meter.meter ∷ [] in
     let given = rw c.as_slice.ensures.value at c.in-Ok-next_meter.ensures in
     c.lines.invariant ∙ ap (λ es. faults ++ faults_in version meters es) c.in-Ok.ensures.entry
-    ∙ ap (λ fs. faults ++ fs) (faults_next version meters more (c.in-Ok.entry.line, c.in-Ok.entry.text.now) c.next.new.self.entries given)
+    ∙ ap (λ fs. faults ++ fs) (faults_by version meters (Ok more) (c.in-Ok.entry.line, c.in-Ok.entry.text.now) c.next.new.self.entries given)
     ∙ ap (λ ms. faults ++ faults_in version ms c.next.new.self.entries) (sym c.in_ok-push-in-Ok-next_meter.ensures.items)
 
 pub lines-preserved : goal.lines-preserved
@@ -23,7 +23,7 @@ lines-preserved c =
     let given = rw c.as_slice.ensures.value at c.in-Err.ensures in
     let others = faults_in version meters c.next.new.self.entries in
     c.lines.invariant ∙ ap (λ es. faults ++ faults_in version meters es) c.in-Ok.ensures.entry
-    ∙ ap (λ fs. faults ++ fs) (faults_fault version meters c.in-Err.fault (c.in-Ok.entry.line, c.in-Ok.entry.text.now)
+    ∙ ap (λ fs. faults ++ fs) (faults_by version meters (Err c.in-Err.fault) (c.in-Ok.entry.line, c.in-Ok.entry.text.now)
     c.next.new.self.entries given)
     ∙ sym (append_assoc faults (c.in-Err.fault ∷ []) others) ∙ ap (λ fs. fs ++ others) (sym c.in_ok-push-in-Err.ensures.items)
 

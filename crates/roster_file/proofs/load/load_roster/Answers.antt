@@ -1,10 +1,5 @@
-use Rattle.std.proofs.Common.{◌≡◌, ◌∙◌, ap, Ok, Err, Result, sym}
-use Rattle.roster_file.specs.declared.roster.LineCause.{LineCause}
-use Rattle.roster_file.specs.declared.roster.LineCause.TheVariants as causes
-use Rattle.roster_file.specs.declared.roster.RosterFault.{RosterFault}
-use Rattle.roster_file.specs.declared.roster.RosterFault.TheVariants.{Line}
-use Rattle.roster_file.specs.Roster.{Enrolled}
-use Rattle.roster_file.proofs.Enrolling.{read_is_enrolled, too_long, first_line}
+use Rattle.std.proofs.Common.{ap, Err}
+use Rattle.roster_file.proofs.Enrolling.{read_is_enrolled, first_line}
 use Rattle.roster_file.proofs.load.load_roster.Goals as goal
 
 pub returns-in-Err-TooMany-clause-line : goal.returns-in-Err-TooMany-clause-line
