@@ -8,7 +8,7 @@ use Rattle.dif_vif.specs.Spelling.{Dib, Vib, DataRecord, IsChain, IsPlainText, I
 use Rattle.dif_vif.specs.Stops.{IsDib, IsVib}
 use Rattle.dif_vif.specs.Reading.{byte_at, bytes_at, chain_len, chain_at, dif_at, dib_at, text_at, vib_at, lvar_at, contents_at, record_at}
 use Rattle.dif_vif.proofs.Chains.{chain_done, chain_more}
-use Rattle.dif_vif.proofs.Steps.{chosen}
+use Rattle.lists.proofs.Choices.{chosen}
 
 pub byte_again : (start byte : ℕ) (rest : List ℕ) → byte_at start (byte ∷ rest) ≡ Ok (byte, rest)
 unfolding byte_at

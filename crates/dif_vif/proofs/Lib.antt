@@ -1,12 +1,11 @@
 pub mod Chains
 pub mod Digits
 pub mod Steps
-pub mod Takes
+pub mod Readings
 pub mod Again
 pub mod Spans
+pub mod Stopped
+pub mod Endings
 pub mod Listings
 pub mod Listed
 pub mod Lowest
-pub mod Stopping
-pub mod Stopped
-pub mod Endings

@@ -5,13 +5,8 @@ use Rattle.dif_vif.specs.declared.span.RecordSpan.{RecordSpan}
 use Rattle.dif_vif.specs.Spans.{IsNext, LiesWithin}
 use Rattle.dif_vif.specs.Reading.{next_of}
 use Rattle.dif_vif.specs.Listing.{IsListing, next_spans, spans_from}
-use Rattle.dif_vif.proofs.Spans.{next_found, next_only, LiesWithin-from_span}
+use Rattle.dif_vif.proofs.Spans.{next_of-end, next_found, LiesWithin-from_span}
 use Rattle.dif_vif.proofs.Listings.{ending_is, next_is}
-
--- nothing comes after the end
-at_end : (bytes : List ℕ) (from : ℕ) → from ≤ length bytes → length bytes ≤ from → next_of bytes from ≡ Ok None
-at_end bytes from le ge =
-    next_only bytes from None le (record { ordered = le; within = omega arith; fillers = λ place low high. absurd (omega arith) })
 
 -- how a span that comes next lies
 record Places (bytes : List ℕ) (from : ℕ) (span : RecordSpan) : Type 0 where
@@ -51,8 +46,8 @@ spans_enough : (n m : ℕ) (bytes : List ℕ) (from : ℕ) → from ≤ length b
     → spans_from n bytes from ≡ spans_from m bytes from
 unfolding spans_from
 spans_enough zero zero bytes from le few many = refl
-spans_enough zero (suc m) bytes from le few many = sym (spans_done (suc m) bytes from (at_end bytes from le (omega arith)))
-spans_enough (suc n) zero bytes from le few many = spans_done (suc n) bytes from (at_end bytes from le (omega arith))
+spans_enough zero (suc m) bytes from le few many = sym (spans_done (suc m) bytes from (next_of-end bytes from (omega arith)))
+spans_enough (suc n) zero bytes from le few many = spans_done (suc n) bytes from (next_of-end bytes from (omega arith))
 spans_enough (suc n) (suc m) bytes from le few many =
     same_by n m bytes from (next_of bytes from) le refl (λ at within further. spans_enough n m bytes at within (omega arith) (omega arith))
 

@@ -1,18 +1,17 @@
 -- A payload has one listing, and no record begins another.
-use Rattle.std.proofs.Common.{◌≡◌, ℕ, zero, suc, ◌+◌, ◌-◌, ◌<◌, ◌≤◌, List, [], ◌∷◌, ◌++◌, length, drop, Option, Some, None, Result, Ok, Err, refl, sym, ap, subst, ◌∙◌, inl, inr, arith}
-use Rattle.std.specs.Prelude.{slice_get, IsErr}
-use Rattle.std.proofs.lemmas.Bool.{cases_lt}
-use Rattle.std.proofs.lemmas.Option.{get_or_from_slice_get, same_Some}
+use Rattle.std.proofs.Common.{◌≡◌, ℕ, zero, suc, ◌+◌, ◌-◌, ◌<◌, ◌≤◌, List, [], ◌∷◌, ◌++◌, length, drop, Option, Some, None, Result, Ok, Err, refl, sym, ap, subst, ◌∙◌, arith}
+use Rattle.std.proofs.lemmas.Option.{same_Some}
 use Rattle.dif_vif.specs.declared.fault.RecordFault.{RecordFault}
 use Rattle.dif_vif.specs.declared.span.RecordSpan.{RecordSpan}
 use Rattle.dif_vif.specs.Spelling.{DataRecord, IsRecord, spelling}
-use Rattle.dif_vif.specs.Spans.{IsSpanOf, AreFillers, IsNext, NoneBegins}
+use Rattle.dif_vif.specs.Spans.{IsSpanOf, IsNext}
+use Rattle.dif_vif.specs.Stops.{EndsBy}
 use Rattle.dif_vif.specs.Reading.{record_at, span_at, next_of}
 use Rattle.dif_vif.specs.Listing.{IsEnding, IsListing, Listing, answer_of_ending}
-use Rattle.dif_vif.proofs.Steps.{ok_is}
+use Rattle.dif_vif.proofs.Steps.{Reads, ok_is}
 use Rattle.dif_vif.proofs.Again.{record_again}
-use Rattle.dif_vif.proofs.Endings.{ends_found, ends_only}
-use Rattle.dif_vif.proofs.Spans.{span_not_filler, span_again, next_found, next_only, next_refused, LiesWithin-from_span}
+use Rattle.dif_vif.proofs.Endings.{ends_only, none_begins}
+use Rattle.dif_vif.proofs.Spans.{span_again, next_reads, next_only, LiesWithin-from_span}
 
 -- no record begins another one
 pub one_record : (a b : DataRecord) (x y : List ℕ) → IsRecord a → IsRecord b → spelling a ++ x ≡ spelling b ++ y → (a ≡ b) × (x ≡ y)
@@ -27,52 +26,22 @@ pub one_span : (bytes : List ℕ) (s t : RecordSpan) → IsSpanOf bytes s → Is
 one_span bytes s t is_s is_t e =
     ok_is s t (sym (span_again bytes s is_s) ∙ ap (λ (p : ℕ). span_at (length bytes) p (drop p bytes)) e ∙ span_again bytes t is_t)
 
--- ---- where none begins, a fault is answered
-
-fillers_miss : (bytes : List ℕ) (from to place : ℕ) → AreFillers bytes from to → from ≤ place → (slice_get bytes place ≡ Some 0x2f → ⊥)
-    → to ≤ place
-fillers_miss bytes from to place f low other =
-    elim (cases_lt place to) [
-      | inl lt ↦ absurd (other (f.fillers place low lt))
-      | inr le ↦ le
-    ]
-
-none_is_no_next : (bytes : List ℕ) (from : ℕ) (next : Option RecordSpan) → NoneBegins bytes from → IsNext bytes from next → ⊥
-none_is_no_next bytes from None n next =
-    omega (arith, fillers_miss bytes from (length bytes) n.place next n.fillers.ordered n.not_filler, n.within)
-none_is_no_next bytes from (Some span) n next =
-    let low = fillers_miss bytes from span.start n.place next.0 n.fillers.ordered n.not_filler in
-    let high =
-    fillers_miss bytes from n.place span.start n.fillers next.0.ordered
-    (λ filler. span_not_filler bytes span next.1 (get_or_from_slice_get bytes span.start 0x2f 0 filler)) in
-    n.no_span span (omega arith) next.1
-
-pub refused_iff : (bytes : List ℕ) (from : ℕ) (r : Result (Option RecordSpan) RecordFault) → from ≤ length bytes → r ≡ next_of bytes from
-    → (IsErr r → NoneBegins bytes from) × (NoneBegins bytes from → IsErr r)
-refused_iff bytes from (Ok next) le e =
-    (λ bad. absurd cc, λ n. absurd (none_is_no_next bytes from next n (next_found bytes from next le (sym e))))
-refused_iff bytes from (Err fault) le e = (λ _. next_refused bytes from fault le (sym e), λ _. refl)
-
 -- ---- each payload has a listing
 
-by_next : (bytes : List ℕ) (from : ℕ) (next : Option RecordSpan) → ((at : ℕ) → at ≤ length bytes → from < at → Listing bytes at)
-    → IsNext bytes from next → Listing bytes from
-by_next bytes from None further n = record { spans = []; ending = None; listed = n }
-by_next bytes from (Some span) further n =
-    let places = LiesWithin-from_span bytes span n.1 in
-    let others = further span.end places.within (omega (arith, places.begins, places.ends, n.0.ordered)) in
-    record { spans = span ∷ others.spans; ending = others.ending; listed = (n, others.listed) }
-
-by_answer : (bytes : List ℕ) (from : ℕ) (r : Result (Option RecordSpan) RecordFault) → from ≤ length bytes
-    → ((at : ℕ) → at ≤ length bytes → from < at → Listing bytes at) → next_of bytes from ≡ r → Listing bytes from
-by_answer bytes from (Ok next) le further e = by_next bytes from next further (next_found bytes from next le e)
-by_answer bytes from (Err fault) le further e =
-    record { spans = []; ending = Some fault; listed = (next_refused bytes from fault le e, ends_found bytes from fault le e) }
+by_answer : (bytes : List ℕ) (from : ℕ) (r : Result (Option RecordSpan) RecordFault) → Reads (IsNext bytes from) (EndsBy bytes from) r
+    → ((at : ℕ) → at ≤ length bytes → from < at → Listing bytes at) → Listing bytes from
+by_answer bytes from (Ok None) h further = record { spans = []; ending = None; listed = h.is }
+by_answer bytes from (Ok (Some span)) h further =
+    let places = LiesWithin-from_span bytes span h.is.1 in
+    let others = further span.end places.within (omega (arith, places.begins, places.ends, h.is.0.ordered)) in
+    record { spans = span ∷ others.spans; ending = others.ending; listed = (h.is, others.listed) }
+by_answer bytes from (Err fault) h further =
+    record { spans = []; ending = Some fault; listed = (none_begins bytes from fault h.is, h.is) }
 
 listing_in : (left : ℕ) (bytes : List ℕ) (from : ℕ) → from ≤ length bytes → length bytes - from < left → Listing bytes from
 listing_in zero bytes from le few = absurd (omega arith)
 listing_in (suc left) bytes from le few =
-    by_answer bytes from (next_of bytes from) le (λ at within further. listing_in left bytes at within (omega arith)) refl
+    by_answer bytes from (next_of bytes from) (next_reads bytes from le) (λ at within further. listing_in left bytes at within (omega arith))
 
 pub some_listing : (bytes : List ℕ) → Listing bytes 0
 some_listing bytes = listing_in (length bytes + 1) bytes 0 (omega arith) (omega arith)

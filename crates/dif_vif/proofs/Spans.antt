@@ -1,8 +1,8 @@
--- What is answered at a place stands there, and what stands there is answered.
+-- What is answered at a place stands there, what stands there is answered, and a fault shows its cause.
 use Rattle.std.proofs.Common.{◌≡◌, ℕ, zero, suc, ◌+◌, ◌-◌, ◌%◌, ◌<◌, ◌≤◌, true, false, eqb, List, [], ◌∷◌, ◌++◌, length, get_or, drop, Option, Some, None, Result, Ok, Err, ◌⊎◌, refl, sym, ap, subst, ◌∙◌, inl, inr, arith}
-use Rattle.std.specs.Prelude.{IfOk, IfSome}
+use Rattle.std.specs.Prelude.{IfOk, IfSome, IsErr, slice_get}
 use Rattle.std.specs.Option.{option_to_list}
-use Rattle.std.proofs.lemmas.Bool.{cases_Bool, cases_eq, cases_lt, eqb-true, eq-eqb, ne_eqb, or_cases, or_left, or_right, or_from}
+use Rattle.std.proofs.lemmas.Bool.{cases_Bool, cases_eq, cases_lt, eqb-true, eq-eqb, ne_eqb, or_cases, or_from, both_ways}
 use Rattle.std.proofs.lemmas.List.{drop_more, drop_all, length-drop, length-append}
 use Rattle.std.proofs.lemmas.Option.{slice_get-get_or, slice_get_within, get_or_from_slice_get}
 use Rattle.dif_vif.specs.declared.fault.RecordFault.{RecordFault}
@@ -11,9 +11,9 @@ use Rattle.dif_vif.specs.Spelling.{DataRecord, IsChain, IsRecord, data_width, vi
 use Rattle.dif_vif.specs.Spans.{span_of, maker_span, IsSpanOf, LiesWithin, AreFillers, IsNext, NoneBegins}
 use Rattle.lists.specs.Steps.{◌>>=◌}
 use Rattle.dif_vif.specs.Reading.{record_at, begins_maker, span_at, next_at, next_of}
-use Rattle.lists.proofs.StepLaws.{bind_ok}
-use Rattle.dif_vif.proofs.Steps.{ok_is}
-use Rattle.dif_vif.proofs.Takes.{record_takes}
+use Rattle.dif_vif.specs.Stops.{Stops, EndsBy}
+use Rattle.dif_vif.proofs.Steps.{Reads, bind_reads}
+use Rattle.dif_vif.proofs.Readings.{record_reads}
 use Rattle.dif_vif.proofs.Again.{record_again, not_special}
 
 -- the byte at a place inside, and what is left from there
@@ -40,10 +40,6 @@ pub span_within : (bytes : List ℕ) (span : RecordSpan) → IsSpanOf bytes span
 span_within bytes span (inl s) = within_from bytes span.start s.found.dib.dif _ s.spelled
 span_within bytes span (inr s) = slice_get_within bytes span.start span.dif s.stands
 
-maker_not_filler : (dif : ℕ) → ((dif ≡ 0x0f) ⊎ (dif ≡ 0x1f)) → dif ≡ 0x2f → ⊥
-maker_not_filler dif (inl a) b = omega arith
-maker_not_filler dif (inr a) b = omega arith
-
 -- and that byte is no filler
 pub span_not_filler : (bytes : List ℕ) (span : RecordSpan) → IsSpanOf bytes span → get_or bytes span.start 0 ≡ 0x2f → ⊥
 span_not_filler bytes span (inl s) filler =
@@ -51,7 +47,10 @@ span_not_filler bytes span (inl s) filler =
     first_of s.found s.is_record (omega (arith, first, filler))
 span_not_filler bytes span (inr s) filler =
     let first = get_or_from_slice_get bytes span.start span.dif 0 s.stands in
-    maker_not_filler span.dif s.dif (omega (arith, first, filler))
+    elim s.dif [
+      | inl a ↦ omega (arith, first, filler)
+      | inr a ↦ omega (arith, first, filler)
+    ]
 
 -- ---- the span at a place
 
@@ -62,15 +61,14 @@ is_maker dif e =
       | inr a ↦ inr (eqb-true _ _ a)
     ]
 
-pub maker_is : (dif : ℕ) → ((dif ≡ 0x0f) ⊎ (dif ≡ 0x1f)) → begins_maker dif ≡ true
-maker_is dif (inl a) = or_left _ (eqb dif 0x1f) (eq-eqb dif 0x0f a)
-maker_is dif (inr a) = or_right (eqb dif 0x0f) _ (eq-eqb dif 0x1f a)
+maker_is : (dif : ℕ) → ((dif ≡ 0x0f) ⊎ (dif ≡ 0x1f)) → begins_maker dif ≡ true
+maker_is dif (inl a) = rw a refl
+maker_is dif (inr a) = rw a refl
 
-no_maker : (dif : ℕ) → (dif % 16 ≡ 15 → ⊥) → begins_maker dif ≡ false
-no_maker dif not_15 =
-    or_from (eqb dif 0x0f) (eqb dif 0x1f) (ne_eqb dif 0x0f (λ e. not_15 (omega arith))) (ne_eqb dif 0x1f (λ e. not_15 (omega arith)))
+pub no_maker : (dif : ℕ) → (dif ≡ 0x0f → ⊥) → (dif ≡ 0x1f → ⊥) → begins_maker dif ≡ false
+no_maker dif not_0f not_1f = or_from (eqb dif 0x0f) (eqb dif 0x1f) (ne_eqb dif 0x0f not_0f) (ne_eqb dif 0x1f not_1f)
 
-pub span_at-maker : (len start dif : ℕ) (rest : List ℕ) → begins_maker dif ≡ true
+span_at-maker : (len start dif : ℕ) (rest : List ℕ) → begins_maker dif ≡ true
     → span_at len start (dif ∷ rest) ≡ Ok (maker_span start dif len)
 unfolding span_at
 span_at-maker len start dif rest e = rw e refl
@@ -80,35 +78,38 @@ pub span_at-record : (len start dif : ℕ) (rest : List ℕ) → begins_maker di
 unfolding span_at
 span_at-record len start dif rest e = rw e refl
 
--- what is answered at a place stands there
-pub span_found : (bytes : List ℕ) (start : ℕ) (span : RecordSpan) → start < length bytes
-    → span_at (length bytes) start (drop start bytes) ≡ Ok span → IsSpanOf bytes span × (span.start ≡ start)
-span_found bytes start span lt e =
+-- why no span begins at a place
+abbrev NoSpan : List ℕ → ℕ → RecordFault → Type 0
+NoSpan bytes start fault = (begins_maker (get_or bytes start 0) ≡ false) × Stops start (drop start bytes) fault
+
+-- what is answered at a place stands there, and a fault shows its cause
+span_reads : (bytes : List ℕ) (start : ℕ) → start < length bytes
+    → Reads (λ span. IsSpanOf bytes span × (span.start ≡ start)) (NoSpan bytes start) (span_at (length bytes) start (drop start bytes))
+span_reads bytes start lt =
     let dif = get_or bytes start 0 in
     let first = rest_at bytes start lt in
-    let at_first : span_at (length bytes) start (dif ∷ drop (start + 1) bytes) ≡ Ok span =
-    ap (span_at (length bytes) start) (sym first) ∙ e in
-    elim (cases_Bool (begins_maker dif)) [
-      | inl m ↦
-          let same : maker_span start dif (length bytes) ≡ span =
-          ok_is _ _ (sym (span_at-maker (length bytes) start dif (drop (start + 1) bytes) m) ∙ at_first) in
-          subst (λ (s : RecordSpan). IsSpanOf bytes s × (s.start ≡ start)) same
-          (inr (record { dif = is_maker dif m; stands = slice_get-get_or bytes start 0 lt; places = refl }), refl)
-      | inr m ↦
-          let a = bind_ok (record_at start (dif ∷ drop (start + 1) bytes)) (λ found. Ok (span_of start found.0)) span
-          (sym (span_at-record (length bytes) start dif (drop (start + 1) bytes) m) ∙ at_first) in
-          let t = record_takes start (dif ∷ drop (start + 1) bytes) a.0 a.1 in
-          subst (λ (s : RecordSpan). IsSpanOf bytes s × (s.start ≡ start)) (ok_is (span_of start a.0.0) span a.2)
-          (inl (record { found = a.0.0; is_record = t.1; rest = a.0.1; spelled = first ∙ t.0; places = refl }), refl)
-    ]
+    subst (λ (rest : List ℕ). Reads (λ span. IsSpanOf bytes span × (span.start ≡ start))
+    (λ fault. (begins_maker dif ≡ false) × Stops start rest fault) (span_at (length bytes) start rest)) (sym first)
+    (elim (cases_Bool (begins_maker dif)) [
+      | inl m ↦ rw (span_at-maker (length bytes) start dif (drop (start + 1) bytes) m) (record {
+        is = (inr (record { dif = is_maker dif m; stands = slice_get-get_or bytes start 0 lt; places = refl }), refl);
+      })
+      | inr m ↦ rw (span_at-record (length bytes) start dif (drop (start + 1) bytes) m)
+          (bind_reads _ _ (record_reads start (dif ∷ drop (start + 1) bytes)) (λ fault stops. (m, stops))
+          (λ x t. record {
+            is = (inl (record { found = x.0; is_record = t.1; rest = x.1; spelled = first ∙ t.0; places = refl }), refl);
+          }))
+    ])
 
 -- what stands at a place is answered
 pub span_again : (bytes : List ℕ) (span : RecordSpan) → IsSpanOf bytes span
     → span_at (length bytes) span.start (drop span.start bytes) ≡ Ok span
 span_again bytes span (inl s) =
     let r = s.found in
+    let other : begins_maker r.dib.dif ≡ false =
+    no_maker r.dib.dif (λ e. first_of r s.is_record (omega arith)) (λ e. first_of r s.is_record (omega arith)) in
     let at_record : span_at (length bytes) span.start (spelling r ++ s.rest) ≡ Ok (span_of span.start r) =
-    span_at-record (length bytes) span.start r.dib.dif _ (no_maker r.dib.dif (first_of r s.is_record))
+    span_at-record (length bytes) span.start r.dib.dif _ other
     ∙ ap (λ found. found >>= λ x. Ok (span_of span.start x.0)) (record_again span.start r s.rest s.is_record) in
     ap (span_at (length bytes) span.start) s.spelled ∙ at_record ∙ ap Ok (sym s.places)
 span_again bytes span (inr s) =
@@ -122,7 +123,7 @@ span_again bytes span (inr s) =
 
 -- ---- the next span
 
-next_of-end : (bytes : List ℕ) (from : ℕ) → length bytes ≤ from → next_of bytes from ≡ Ok None
+pub next_of-end : (bytes : List ℕ) (from : ℕ) → length bytes ≤ from → next_of bytes from ≡ Ok None
 unfolding next_at
 next_of-end bytes from le = rw (drop_all from bytes le) refl
 
@@ -138,160 +139,118 @@ next_of-span bytes from lt other = rw (rest_at bytes from lt, ne_eqb (get_or byt
 
 -- ---- fillers
 
+-- what comes next is the same on both sides of fillers
+skip_in : (count : ℕ) (bytes : List ℕ) (from to : ℕ) → from + count ≡ to → AreFillers bytes from to → next_of bytes from ≡ next_of bytes to
+skip_in zero bytes from to e f = let here : from ≡ to = omega arith in ap (next_of bytes) here
+skip_in (suc count) bytes from to e f =
+    let lt : from < length bytes = omega (arith, f.within) in
+    next_of-filler bytes from lt (get_or_from_slice_get bytes from 0x2f 0 (f.fillers from (omega arith) (omega arith)))
+    ∙ skip_in count bytes (from + 1) to (omega arith) (record {
+      ordered = omega arith;
+      within = f.within;
+      fillers = λ place low high. f.fillers place (omega arith) high;
+    })
+
+pub skip : (bytes : List ℕ) (from to : ℕ) → AreFillers bytes from to → next_of bytes from ≡ next_of bytes to
+skip bytes from to f = skip_in (to - from) bytes from to (omega (arith, f.ordered)) f
+
+-- the fillers from a place on, up to the end or to another byte
+record Run (bytes : List ℕ) (from : ℕ) : Type 0 where
+  to : ℕ
+  fillers : AreFillers bytes from to
+  ends : (to ≡ length bytes) ⊎ ((to < length bytes) × (get_or bytes to 0 ≡ 0x2f → ⊥))
+
 no_fillers : (bytes : List ℕ) (from : ℕ) → from ≤ length bytes → AreFillers bytes from from
 no_fillers bytes from le = record { ordered = omega arith; within = le; fillers = λ place low high. absurd (omega arith) }
 
-one_filler_more : (bytes : List ℕ) (from to : ℕ) → from < length bytes → get_or bytes from 0 ≡ 0x2f → AreFillers bytes (from + 1) to
-    → AreFillers bytes from to
-one_filler_more bytes from to lt filler f =
-    record {
-      ordered = omega (arith, f.ordered);
-      within = f.within;
-      fillers = λ place low high.
-          elim (cases_eq place from) [
-            | inl here ↦ rw here (slice_get-get_or bytes from 0 lt ∙ ap (λ (b : ℕ). Some b) filler)
-            | inr other ↦ f.fillers place (omega arith) high
-          ];
-    }
-
-one_filler_less : (bytes : List ℕ) (from to : ℕ) → from < to → AreFillers bytes from to → AreFillers bytes (from + 1) to
-one_filler_less bytes from to lt f =
-    record { ordered = omega arith; within = f.within; fillers = λ place low high. f.fillers place (omega arith) high }
-
-first_filler : (bytes : List ℕ) (from to : ℕ) → from < to → AreFillers bytes from to → get_or bytes from 0 ≡ 0x2f
-first_filler bytes from to lt f = get_or_from_slice_get bytes from 0x2f 0 (f.fillers from (omega arith) lt)
-
-none_before : (bytes : List ℕ) (from to : ℕ) → (get_or bytes from 0 ≡ 0x2f → ⊥) → AreFillers bytes from to → to ≡ from
-none_before bytes from to other f =
-    elim (cases_lt from to) [
-      | inl lt ↦ absurd (other (first_filler bytes from to lt f))
-      | inr le ↦ omega (arith, f.ordered)
+run_in : (left : ℕ) (bytes : List ℕ) (from : ℕ) → from + left ≡ length bytes → Run bytes from
+run_in zero bytes from all = record { to = from; fillers = no_fillers bytes from (omega arith); ends = inl (omega arith) }
+run_in (suc left) bytes from all =
+    let lt : from < length bytes = omega arith in
+    elim (cases_eq (get_or bytes from 0) 0x2f) [
+      | inl filler ↦
+          let r = run_in left bytes (from + 1) (omega arith) in
+          record {
+            to = r.to;
+            fillers = record {
+              ordered = omega (arith, r.fillers.ordered);
+              within = r.fillers.within;
+              fillers = λ place low high.
+                  elim (cases_eq place from) [
+                    | inl here ↦ rw here (slice_get-get_or bytes from 0 lt ∙ ap (λ (b : ℕ). Some b) filler)
+                    | inr later ↦ r.fillers.fillers place (omega arith) high
+                  ];
+            };
+            ends = r.ends;
+          }
+      | inr other ↦ record { to = from; fillers = no_fillers bytes from (omega arith); ends = inr (lt, other) }
     ]
 
 -- ---- what next_of answers
 
-next_found_in : (left : ℕ) (bytes : List ℕ) (from : ℕ) (next : Option RecordSpan) → from + left ≡ length bytes
-    → next_of bytes from ≡ Ok next → IsNext bytes from next
-next_found_in zero bytes from next all e =
-    let end : from ≡ length bytes = omega arith in
-    subst (λ (n : Option RecordSpan). IsNext bytes from n) (ok_is None next (sym (next_of-end bytes from (omega arith))
-    ∙ e)) (rw (← end) (no_fillers bytes from (omega arith)))
-next_found_in (suc left) bytes from next all e =
-    let lt : from < length bytes = omega arith in
-    elim (cases_eq (get_or bytes from 0) 0x2f) [
-      | inl filler ↦ more_fillers bytes from next lt filler (next_found_in left bytes (from + 1) next (omega arith)
-          (sym (next_of-filler bytes from lt filler) ∙ e))
-      | inr other ↦
-          let a = bind_ok (span_at (length bytes) from (drop from bytes)) (λ span. Ok (Some span)) next
-          (sym (next_of-span bytes from lt other) ∙ e) in
-          let found = span_found bytes from a.0 lt a.1 in
-          subst (λ (n : Option RecordSpan). IsNext bytes from n) (ok_is (Some a.0) next a.2)
-          (rw found.1 (no_fillers bytes from (omega arith)), found.0)
-    ]
+pub other_byte : (bytes : List ℕ) (place byte : ℕ) → place < length bytes → (slice_get bytes place ≡ Some byte → ⊥)
+    → get_or bytes place 0 ≡ byte → ⊥
+other_byte bytes place byte lt other e = other (slice_get-get_or bytes place 0 lt ∙ ap (λ (b : ℕ). Some b) e)
+
+no_maker_there : (bytes : List ℕ) (place dif : ℕ) → begins_maker (get_or bytes place 0) ≡ false → begins_maker dif ≡ true
+    → slice_get bytes place ≡ Some dif → ⊥
+no_maker_there bytes place dif not_here is_maker there =
+    both_ways (begins_maker dif) (ap begins_maker (sym (get_or_from_slice_get bytes place dif 0 there)) ∙ not_here) is_maker
+
+pub next_reads : (bytes : List ℕ) (from : ℕ) → from ≤ length bytes → Reads (IsNext bytes from) (EndsBy bytes from) (next_of bytes from)
+next_reads bytes from le =
+    let r = run_in (length bytes - from) bytes from (omega arith) in
+    subst (Reads (IsNext bytes from) (EndsBy bytes from)) (sym (skip bytes from r.to r.fillers)) (at_run r)
   where
-    more_fillers : (bytes : List ℕ) (from : ℕ) (next : Option RecordSpan) → from < length bytes → get_or bytes from 0 ≡ 0x2f
-        → IsNext bytes (from + 1) next → IsNext bytes from next
-    more_fillers bytes from None lt filler n = one_filler_more bytes from (length bytes) lt filler n
-    more_fillers bytes from (Some span) lt filler n = (one_filler_more bytes from span.start lt filler n.0, n.1)
+    at_run : (r : Run bytes from) → Reads (IsNext bytes from) (EndsBy bytes from) (next_of bytes r.to)
+    at_run r =
+        elim r.ends [
+          | inl end ↦ subst (Reads (IsNext bytes from) (EndsBy bytes from)) (sym (next_of-end bytes r.to (omega arith)))
+              (record { is = subst (AreFillers bytes from) end r.fillers })
+          | inr stop ↦ subst (Reads (IsNext bytes from) (EndsBy bytes from)) (sym (next_of-span bytes r.to stop.0 stop.1))
+              (bind_reads _ _ (span_reads bytes r.to stop.0)
+              (λ fault none. record {
+                place = r.to;
+                fillers = r.fillers;
+                within = stop.0;
+                not_filler = λ filler. stop.1 (get_or_from_slice_get bytes r.to 0x2f 0 filler);
+                not_maker = no_maker_there bytes r.to 0x0f none.0 refl;
+                nor_more = no_maker_there bytes r.to 0x1f none.0 refl;
+                stops = none.1;
+              })
+              (λ span found. record { is = (subst (AreFillers bytes from) (sym found.1) r.fillers, found.0) }))
+        ]
 
 pub next_found : (bytes : List ℕ) (from : ℕ) (next : Option RecordSpan) → from ≤ length bytes → next_of bytes from ≡ Ok next
     → IsNext bytes from next
-next_found bytes from next le e = next_found_in (length bytes - from) bytes from next (omega arith) e
-
-next_only_in : (left : ℕ) (bytes : List ℕ) (from : ℕ) (next : Option RecordSpan) → from + left ≡ length bytes → IsNext bytes from next
-    → next_of bytes from ≡ Ok next
-next_only_in zero bytes from None all n = next_of-end bytes from (omega arith)
-next_only_in zero bytes from (Some span) all n = absurd (omega (arith, span_within bytes span n.1, n.0.ordered))
-next_only_in (suc left) bytes from None all n =
-    let lt : from < length bytes = omega arith in
-    elim (cases_eq (get_or bytes from 0) 0x2f) [
-      | inl filler ↦ next_of-filler bytes from lt filler
-          ∙ next_only_in left bytes (from + 1) None (omega arith) (one_filler_less bytes from (length bytes) lt n)
-      | inr other ↦ absurd (omega (arith, none_before bytes from (length bytes) other n))
-    ]
-next_only_in (suc left) bytes from (Some span) all n =
-    let lt : from < length bytes = omega arith in
-    elim (cases_eq (get_or bytes from 0) 0x2f) [
-      | inl filler ↦
-          elim (cases_lt from span.start) [
-            | inl before ↦ next_of-filler bytes from lt filler
-                ∙ next_only_in left bytes (from + 1) (Some span) (omega arith) (one_filler_less bytes from span.start before n.0, n.1)
-            | inr le ↦
-                let here : span.start ≡ from = omega (arith, n.0.ordered) in
-                absurd (span_not_filler bytes span n.1 (ap (λ (p : ℕ). get_or bytes p 0) here ∙ filler))
-          ]
-      | inr other ↦
-          let here : from ≡ span.start = sym (none_before bytes from span.start other n.0) in
-          let answered : span_at (length bytes) from (drop from bytes) ≡ Ok span =
-          ap (λ (p : ℕ). span_at (length bytes) p (drop p bytes)) here ∙ span_again bytes span n.1 in
-          next_of-span bytes from lt other ∙ rw answered refl
-    ]
+next_found bytes from next le e = (subst (Reads _ _) e (next_reads bytes from le)).is
 
 pub next_only : (bytes : List ℕ) (from : ℕ) (next : Option RecordSpan) → from ≤ length bytes → IsNext bytes from next
     → next_of bytes from ≡ Ok next
-next_only bytes from next le n = next_only_in (length bytes - from) bytes from next (omega arith) n
+next_only bytes from None le n = skip bytes from (length bytes) n ∙ next_of-end bytes (length bytes) (omega arith)
+next_only bytes from (Some span) le n =
+    skip bytes from span.start n.0
+    ∙ next_of-span bytes span.start (span_within bytes span n.1) (span_not_filler bytes span n.1)
+    ∙ ap (λ found. found >>= λ s. Ok (Some s)) (span_again bytes span n.1)
 
-filler_then_none : (bytes : List ℕ) (from : ℕ) → from < length bytes → get_or bytes from 0 ≡ 0x2f → NoneBegins bytes (from + 1)
-    → NoneBegins bytes from
-filler_then_none bytes from lt filler n =
-    record {
-      place = n.place;
-      fillers = one_filler_more bytes from n.place lt filler n.fillers;
-      within = n.within;
-      not_filler = n.not_filler;
-      no_span = n.no_span;
-    }
+-- where none begins, a fault is answered
+pub none_refuses : (bytes : List ℕ) (from : ℕ) → NoneBegins bytes from → IsErr (next_of bytes from)
+none_refuses bytes from n =
+    subst IsErr (sym (skip bytes from n.place n.fillers
+    ∙ next_of-span bytes n.place n.within (other_byte bytes n.place 0x2f n.within n.not_filler)))
+    (refused (span_at (length bytes) n.place (drop n.place bytes)) (span_reads bytes n.place n.within))
+  where
+    refused : (r : Result RecordSpan RecordFault) → Reads (λ span. IsSpanOf bytes span × (span.start ≡ n.place)) (NoSpan bytes n.place) r
+        → IsErr (r >>= λ span. Ok (Some span))
+    refused (Ok span) h = absurd (n.no_span span h.is.1 h.is.0)
+    refused (Err fault) h = refl
 
-next_refused_in : (left : ℕ) (bytes : List ℕ) (from : ℕ) (fault : RecordFault) → from + left ≡ length bytes
-    → next_of bytes from ≡ Err fault → NoneBegins bytes from
-next_refused_in zero bytes from fault all e = absurd (let end = next_of-end bytes from (omega arith) in cc)
-next_refused_in (suc left) bytes from fault all e =
-    let lt : from < length bytes = omega arith in
-    elim (cases_eq (get_or bytes from 0) 0x2f) [
-      | inl filler ↦ filler_then_none bytes from lt filler (next_refused_in left bytes (from + 1) fault (omega arith)
-          (sym (next_of-filler bytes from lt filler) ∙ e))
-      | inr other ↦
-          record {
-            place = from;
-            fillers = no_fillers bytes from (omega arith);
-            within = lt;
-            not_filler = λ filler. other (get_or_from_slice_get bytes from 0x2f 0 filler);
-            no_span = λ span here is.
-                (let answered = next_only bytes from (Some span) (omega arith)
-                (subst (λ (p : ℕ). AreFillers bytes from p) (sym here) (no_fillers bytes from (omega arith)), is) in
-                cc);
-          }
-    ]
-
-pub next_refused : (bytes : List ℕ) (from : ℕ) (fault : RecordFault) → from ≤ length bytes → next_of bytes from ≡ Err fault
-    → NoneBegins bytes from
-next_refused bytes from fault le e = next_refused_in (length bytes - from) bytes from fault (omega arith) e
-
--- ---- a turn of the loop over the fillers
-
-pub answer_here : (bytes : List ℕ) (from : ℕ) (span : RecordSpan) (total : Result (Option RecordSpan) RecordFault) → from < length bytes
-    → (get_or bytes from 0 ≡ 0x2f → ⊥) → Ok span ≡ span_at (length bytes) from (drop from bytes) → next_of bytes from ≡ total
-    → Ok (Some span) ≡ total
-answer_here bytes from span total lt other e so_far =
-    let answered : span_at (length bytes) from (drop from bytes) ≡ Ok span = sym e in
-    let one : next_of bytes from ≡ Ok (Some span) = next_of-span bytes from lt other ∙ rw answered refl in
-    sym one ∙ so_far
-
-pub fault_here : (bytes : List ℕ) (from : ℕ) (fault : RecordFault) (total : Result (Option RecordSpan) RecordFault) → from < length bytes
-    → (get_or bytes from 0 ≡ 0x2f → ⊥) → Err fault ≡ span_at (length bytes) from (drop from bytes) → next_of bytes from ≡ total
-    → Err fault ≡ total
-fault_here bytes from fault total lt other e so_far =
-    let answered : span_at (length bytes) from (drop from bytes) ≡ Err fault = sym e in
-    let one : next_of bytes from ≡ Err fault = next_of-span bytes from lt other ∙ rw answered refl in
-    sym one ∙ so_far
-
-pub filler_here : (bytes : List ℕ) (from : ℕ) (total : Result (Option RecordSpan) RecordFault) → from < length bytes
-    → get_or bytes from 0 ≡ 0x2f → next_of bytes from ≡ total → next_of bytes (from + 1) ≡ total
-filler_here bytes from total lt filler so_far = sym (next_of-filler bytes from lt filler) ∙ so_far
-
-pub none_here : (bytes : List ℕ) (from : ℕ) (total : Result (Option RecordSpan) RecordFault) → length bytes ≤ from
-    → next_of bytes from ≡ total → Ok None ≡ total
-none_here bytes from total le so_far = sym (next_of-end bytes from le) ∙ so_far
+-- a turn of the loop over the fillers that ends it
+pub ends_here : (bytes : List ℕ) (from : ℕ) (r : Result RecordSpan RecordFault) (total : Result (Option RecordSpan) RecordFault)
+    → from < length bytes → (get_or bytes from 0 ≡ 0x2f → ⊥) → r ≡ span_at (length bytes) from (drop from bytes)
+    → next_of bytes from ≡ total → (r >>= λ span. Ok (Some span)) ≡ total
+ends_here bytes from r total lt other e so_far =
+    ap (λ found. found >>= λ span. Ok (Some span)) e ∙ sym (next_of-span bytes from lt other) ∙ so_far
 
 -- ---- the places of a span
 
@@ -321,28 +280,18 @@ LiesWithin-from_span bytes span (inr s) =
 
 -- ---- the clauses of next_record
 
-pub found_is : (bytes : List ℕ) (from : ℕ) (r : Result (Option RecordSpan) RecordFault) → from ≤ length bytes → r ≡ next_of bytes from
-    → IfOk r (λ next. IsNext bytes from next)
-found_is bytes from (Ok next) le e = next_found bytes from next le (sym e)
-found_is bytes from (Err fault) le e = tt
+pub if_next : (bytes : List ℕ) (from : ℕ) (r : Result (Option RecordSpan) RecordFault) (P : Option RecordSpan → Type 0)
+    → from ≤ length bytes → r ≡ next_of bytes from → ((next : Option RecordSpan) → IsNext bytes from next → P next) → IfOk r P
+if_next bytes from (Ok next) P le e f = f next (next_found bytes from next le (sym e))
+if_next bytes from (Err fault) P le e f = tt
 
-onward_is : (bytes : List ℕ) (from : ℕ) (next : Option RecordSpan) → IsNext bytes from next → IfSome next (λ span. from ≤ span.start)
+pub onward_is : (bytes : List ℕ) (from : ℕ) (next : Option RecordSpan) → IsNext bytes from next → IfSome next (λ span. from ≤ span.start)
 onward_is bytes from None n = tt
 onward_is bytes from (Some span) n = n.0.ordered
 
-within_is : (bytes : List ℕ) (from : ℕ) (next : Option RecordSpan) → IsNext bytes from next → IfSome next (LiesWithin bytes)
+pub within_is : (bytes : List ℕ) (from : ℕ) (next : Option RecordSpan) → IsNext bytes from next → IfSome next (LiesWithin bytes)
 within_is bytes from None n = tt
 within_is bytes from (Some span) n = LiesWithin-from_span bytes span n.1
-
-pub onward_if_ok : (bytes : List ℕ) (from : ℕ) (r : Result (Option RecordSpan) RecordFault) → from ≤ length bytes → r ≡ next_of bytes from
-    → IfOk r (λ next. IfSome next (λ span. from ≤ span.start))
-onward_if_ok bytes from (Ok next) le e = onward_is bytes from next (next_found bytes from next le (sym e))
-onward_if_ok bytes from (Err fault) le e = tt
-
-pub within_if_ok : (bytes : List ℕ) (from : ℕ) (r : Result (Option RecordSpan) RecordFault) → from ≤ length bytes → r ≡ next_of bytes from
-    → IfOk r (λ next. IfSome next (LiesWithin bytes))
-within_if_ok bytes from (Ok next) le e = within_is bytes from next (next_found bytes from next le (sym e))
-within_if_ok bytes from (Err fault) le e = tt
 
 -- ---- what a reader of a span needs
 

@@ -1,25 +1,21 @@
--- What a step of reading gave, and what a test on the way said.
-use Rattle.std.proofs.Common.{◌≡◌, ℕ, ◌<◌, Bool, true, false, cond, eqb, ◌||◌, Option, Some, None, Result, Ok, Err, refl, is_some, ◌⊎◌, inl, inr}
-use Rattle.std.specs.Prelude.{unwrap_or}
+-- What a reading of several steps answers, by what each step does, and what a test on the way said.
+use Rattle.std.proofs.Common.{◌≡◌, ℕ, ◌<◌, true, eqb, ◌||◌, Option, Some, None, Result, Ok, Err, refl, is_some, inl, inr}
+use Rattle.std.specs.Prelude.{unwrap_or, MatchResult}
 use Rattle.std.proofs.lemmas.Bool.{agree_below_at, ne_eqb, or_from, or_cases, both_ways}
+use Rattle.lists.specs.Steps.{◌>>=◌}
 use Rattle.dif_vif.specs.declared.fault.RecordFault.{RecordFault}
 use Rattle.dif_vif.specs.Spelling.{field_width}
 
--- a test that did not fail
-pub guard_ok : {A : Type 0} (b : Bool) (d : RecordFault) (r : Result A RecordFault) (y : A) → cond b (Err d) r ≡ Ok y → (b ≡ false)
-    × (r ≡ Ok y)
-guard_ok true d r y e = absurd cc
-guard_ok false d r y e = (refl, e)
+-- What is read is so, and so is a fault.
+pub record Reads {A : Type 0} (P : A → Type 0) (F : RecordFault → Type 0) (r : Result A RecordFault) : Type 0 where
+  pub is : MatchResult r P F
 
-pub guard_ok_if : {A : Type 0} (b : Bool) (d : RecordFault) (r : Result A RecordFault) (y : A) → cond b r (Err d) ≡ Ok y → (b ≡ true)
-    × (r ≡ Ok y)
-guard_ok_if true d r y e = (refl, e)
-guard_ok_if false d r y e = absurd cc
-
--- which way a choice went
-pub chosen : {A : Type 0} (b : Bool) (x y z : A) → cond b x y ≡ z → ((b ≡ true) × (x ≡ z)) ⊎ ((b ≡ false) × (y ≡ z))
-chosen true x y z e = inl (refl, e)
-chosen false x y z e = inr (refl, e)
+-- a step, and those behind it
+pub bind_reads : {A B : Type 0} {P : A → Type 0} {Q : B → Type 0} {G F : RecordFault → Type 0} (r : Result A RecordFault)
+    (f : A → Result B RecordFault) → Reads P G r → ((fault : RecordFault) → G fault → F fault) → ((x : A) → P x → Reads Q F (f x))
+    → Reads Q F (r >>= f)
+bind_reads (Ok x) f h bad good = good x h.is
+bind_reads (Err fault) f h bad good = record { is = bad fault h.is }
 
 abbrev done : {A : Type 0} → A → Result A RecordFault
 done x = Ok x

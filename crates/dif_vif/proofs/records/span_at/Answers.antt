@@ -1,5 +1,5 @@
 use Rattle.std.proofs.Common.{arith}
-use Rattle.dif_vif.proofs.Takes.{record_takes, record_fits}
+use Rattle.dif_vif.proofs.Readings.{record_takes, record_fits}
 use Rattle.dif_vif.proofs.records.span_at.Goals as goal
 
 pub span_of-requires-clause-is_record : goal.span_of-requires-clause-is_record
