@@ -1,6 +1,7 @@
 -- The choice of the next line.
-use Rattle.std.proofs.Common.{ℕ, zero, suc, ◌≡◌, ◌≢◌, ◌+◌, ◌<◌, ◌≤◌, Bool, true, false, cond, List, [], ◌∷◌, length, get_or, Option, Some, None, arith, refl, sym, subst, ◌∙◌}
+use Rattle.std.proofs.Common.{ℕ, zero, suc, ◌≡◌, ◌+◌, ◌<◌, ◌≤◌, Bool, true, false, cond, List, [], ◌∷◌, length, get_or, Option, Some, None, ⊎_elim, arith, refl, sym, subst, ◌∙◌}
 use Rattle.std.specs.Prelude.{nat_lt, IfSome, IfNone}
+use Rattle.std.proofs.lemmas.Bool.{cases_lt}
 use Rattle.std.proofs.lemmas.Bool.Decides.{nat_tests}
 use Rattle.line_merge_main.specs.Least.{IsLeast, AreDone, HasHead, IsBest, better}
 
@@ -22,47 +23,28 @@ within_all [] place at h = absurd h
 within_all (first ∷ heads) zero at h = omega arith
 within_all (first ∷ heads) (suc place) at h = omega (arith, within_all heads place at h)
 
-pub no_best : (heads : List (Option ℕ)) → IsBest heads 0 None
-no_best heads = λ other later h below. omega (arith, below)
-
-last_or_before : (a n : ℕ) → a < n + 1 → a ≢ n → a < n
-last_or_before a n h k = grind arith
-
 module _ (heads : List (Option ℕ)) (count : ℕ) (head d : Option ℕ) (within : count < length heads) (read : head ≡ get_or heads count d) where
-  -- one more place has this moment at most
-  reads : (other later at : ℕ) → head ≡ Some at → HasHead heads other later → other ≡ count → later ≡ at
-  reads other later at is h e =
-      let here : HasHead heads count later = subst (λ n. HasHead heads n later) e h in
-      let both : Some later ≡ Some at = sym (read_has heads count head d later read here) ∙ is in cc
-
-  absent : (other later : ℕ) → head ≡ None → HasHead heads other later → other ≡ count → ⊥
-  absent other later is h e =
-      let here : HasHead heads count later = subst (λ n. HasHead heads n later) e h in
-      let both : None ≡ Some later = sym is ∙ read_has heads count head d later read here in absurd cc
-
-  by_place : {P : Type 0} (other : ℕ) → other < count + 1 → (b : Bool) → (nat_lt other count) ≡ b → (other < count → P) → (other ≡ count → P) → P
-  by_place other below true e before last = before (grind (arith, nat_tests))
-  by_place other below false e before last = last (grind (arith, nat_tests))
+  -- what holds of the moments before a place, and of the one there, holds of all so far
+  up_to : (P : ℕ → ℕ → Type 0) → ((other later : ℕ) → HasHead heads other later → other < count → P other later)
+      → ((later : ℕ) → head ≡ Some later → P count later)
+      → (other later : ℕ) → HasHead heads other later → other < count + 1 → P other later
+  up_to P before here other later h below = ⊎_elim (before other later h)
+      (λ past. let e : other ≡ count = omega arith in
+      rw e (here later (read_has heads count head d later read (subst (λ n. HasHead heads n later) e h))))
+      (cases_lt other count)
 
   none_more : (best : Option (ℕ × ℕ)) → head ≡ None → IsBest heads count best → IsBest heads (count + 1) best
-  none_more None is b = λ other later h below.
-      by_place other below (nat_lt other count) refl (λ less. b other later h less) (λ e. absent other later is h e)
-  none_more (Some found) is b = (
-    omega (arith, b.0),
-    b.1,
-    λ other later h below. by_place other below (nat_lt other count) refl (λ less. b.2 other later h less)
-        (λ e. absurd (absent other later is h e)),
-    b.3,
-  )
+  none_more None is b = up_to (λ other later. ⊥) b (λ later e. absurd cc)
+  none_more (Some found) is b = (omega (arith, b.0), b.1, up_to (λ other later. found.1 ≤ later) b.2 (λ later e. absurd cc), b.3)
 
   here_best : (at : ℕ) → head ≡ Some at → ((other later : ℕ) → HasHead heads other later → other < count → at < later)
       → IsBest heads (count + 1) (Some (count, at))
   here_best at is above = (
     omega arith,
     has_read heads count head d at within read is,
-    λ other later h below. by_place other below (nat_lt other count) refl (λ less. omega (arith, above other later h less))
-        (λ e. omega (arith, reads other later at is h e)),
-    λ other later h less. above other later h less,
+    up_to (λ other later. at ≤ later) (λ other later h less. omega (arith, above other later h less))
+        (λ later e. let same : later ≡ at = cc in omega arith),
+    above,
   )
 
   some_more : (found : ℕ × ℕ) (at : ℕ) → head ≡ Some at → IsBest heads count (Some found) → (b : Bool) → nat_lt at found.1 ≡ b
@@ -74,8 +56,7 @@ module _ (heads : List (Option ℕ)) (count : ℕ) (head d : Option ℕ) (within
       let most : found.1 ≤ at = grind (arith, nat_tests) in (
         omega (arith, best.0),
         best.1,
-        λ other later h below. by_place other below (nat_lt other count) refl (λ less. best.2 other later h less)
-            (λ e. omega (arith, most, reads other later at is h e)),
+        up_to (λ other later. found.1 ≤ later) best.2 (λ later e. let same : later ≡ at = cc in omega arith),
         best.3,
       )
 
@@ -88,15 +69,6 @@ module _ (heads : List (Option ℕ)) (count : ℕ) (head d : Option ℕ) (within
   more best next is b = subst (IsBest heads (count + 1)) (sym is) (more_by best head refl b)
 
 -- ---- all places
-
-least_of_all : (heads : List (Option ℕ)) (count place at : ℕ) → count ≡ length heads → IsBest heads count (Some (place, at)) → IsLeast heads place
-least_of_all heads count place at all b =
-    record {
-      at = at;
-      has = b.1;
-      least = λ other later h. b.2 other later h (omega (arith, all, within_all heads other later h));
-      first = b.3;
-    }
 
 none_in : (heads : List (Option ℕ)) → ((other later : ℕ) → HasHead heads other later → ⊥) → AreDone heads
 none_in [] h = tt
@@ -116,4 +88,13 @@ all_seen heads count None all b = record {
   at = tt;
   none = none_in heads (λ other later h. b other later h (omega (arith, all, within_all heads other later h)));
 }
-all_seen heads count (Some found) all b = record { least = least_of_all heads count found.0 found.1 all b; at = b.1; none = tt }
+all_seen heads count (Some found) all b = record {
+  least = record {
+    at = found.1;
+    has = b.1;
+    least = λ other later h. b.2 other later h (omega (arith, all, within_all heads other later h));
+    first = b.3;
+  };
+  at = b.1;
+  none = tt;
+}

@@ -1,7 +1,7 @@
 -- What an input's reader gives, as the lines that are left.
-use Rattle.std.proofs.Common.{ℕ, zero, suc, ◌≡◌, ◌+◌, ◌<◌, ◌≤◌, true, false, cond, List, [], ◌∷◌, ◌++◌, length, take, drop, map, Some, None, Ok, arith, refl, sym, ap, subst, ◌∙◌, append_assoc}
+use Rattle.std.proofs.Common.{ℕ, ◌≡◌, ◌+◌, ◌<◌, ◌≤◌, true, false, cond, List, [], ◌∷◌, ◌++◌, length, take, drop, map, Some, None, Ok, arith, sym, ap, subst, ◌∙◌, append_assoc}
 use Rattle.std.specs.Prelude.{not, IsTrue}
-use Rattle.std.proofs.lemmas.List.{append-nil, take-append-drop}
+use Rattle.std.proofs.lemmas.List.{append-nil, drop_all, length_push, take-append-drop}
 use Rattle.std.proofs.Math.Seq.{drop-append_seam}
 use Rattle.outer_io.specs.declared.sources.Source as sources
 use Rattle.line_reader.specs.declared.next.NextText.{NextText}
@@ -15,12 +15,6 @@ use Rattle.line_merge_main.specs.Readers.{IsReading, HasGiven}
 use Rattle.line_merge_main.specs.Run.{HasLongLine, bytes_of}
 
 -- ---- lists
-
-dropped : {X : Type 0} (xs : List X) (n : ℕ) → length xs ≡ n → drop n xs ≡ []
-dropped [] zero e = refl
-dropped [] (suc n) e = refl
-dropped (x ∷ xs) zero e = absurd (omega (arith, e))
-dropped (x ∷ xs) (suc n) e = dropped xs n (omega (arith, e))
 
 -- behind the first so many stands this one
 next_of_all : {X : Type 0} (all front : List X) (x : X) (n m : ℕ) → m ≡ n + 1 → length front ≡ n → take m all ≡ front ++ x ∷ []
@@ -62,7 +56,7 @@ module _ {S : Type 0} (s : sources.Ghosts S) (next : NextText) (old new : TextRe
           lends = λ some. record {
             longest = longest ∙ reading.longest;
             goes_on = done ∙ ap (λ n. not (gives_text (Ok n))) is;
-            counted = λ tells. ap length (more tells) ∙ length_more (given s.taken old.reader) new.text ∙ ap (λ n. n + 1) (reading.counted tells)
+            counted = λ tells. ap length (more tells) ∙ length_push (given s.taken old.reader) new.text ∙ ap (λ n. n + 1) (reading.counted tells)
                 ∙ sym one;
           };
           within = λ none. absurd cc;
@@ -78,10 +72,6 @@ module _ {S : Type 0} (s : sources.Ghosts S) (next : NextText) (old new : TextRe
             ∙ ap (λ b. lines_behind before (drop old.reader.line (all_lines b))) (bytes tells);
         fewer = omega (arith, one, few);
       }
-    where
-      length_more : (xs : List (List ℕ)) (x : List ℕ) → length (xs ++ x ∷ []) ≡ length xs + 1
-      length_more [] x = refl
-      length_more (y ∷ xs) x = omega (arith, length_more xs x)
 
   -- the input is at its end
   module _ (before : ℕ) (is : next ≡ texts.End)
@@ -95,7 +85,7 @@ module _ {S : Type 0} (s : sources.Ghosts S) (next : NextText) (old new : TextRe
         subst (λ n. GivesText (Ok n) old.longest new.text (given s.taken old.reader) (given s.taken new.reader)) is (lines tells) in
         let all : all_lines (bytes_of s old) ≡ given s.taken old.reader =
         ap all_lines (sym (bytes tells) ∙ taken_all tells) ∙ sym (end tells).all ∙ same in
-        dropped (all_lines (bytes_of s old)) old.reader.line (ap length all ∙ reading.counted tells)
+        drop_all old.reader.line (all_lines (bytes_of s old)) (omega (arith, ap length all, reading.counted tells))
 
     pub gave_none : HasGiven s before old new None
     gave_none =

@@ -1,14 +1,9 @@
 -- What holds of merges.
-use Rattle.std.proofs.Common.{ℕ, zero, suc, ◌≡◌, ◌≢◌, ◌<◌, ◌≤◌, ◌==◌, Bool, true, false, List, [], ◌∷◌, ◌++◌, map, Option, Some, None, arith, refl, sym, ap, ap₂, subst, ◌∙◌}
-use Rattle.std.proofs.lemmas.Bool.Decides.{nat_tests}
+use Rattle.std.proofs.Common.{ℕ, zero, suc, ◌≡◌, ◌<◌, ◌≤◌, ◌==◌, Bool, true, false, List, [], ◌∷◌, ◌++◌, map, Option, Some, None, arith, refl, sym, ap, subst, ◌∙◌}
+use Rattle.std.proofs.lemmas.Bool.{eqb-true, eqb-false}
+use Rattle.std.proofs.lemmas.Option.{same_Some}
 use Rattle.line_merge_main.specs.Least.{IsLeast, AreDone, HasHead, carried}
 use Rattle.line_merge_main.specs.Merging.{Timed, Merged, head_of, heads_of, Takes, IsMerge, MergesTo, lines_from, input_at, RiseFrom, AllRiseFrom, Heard, timed, OwnRiseFrom}
-
-is_same : (a b : ℕ) → (a == b) ≡ true → a ≡ b
-is_same a b h = grind (arith, nat_tests)
-
-is_other : (a b : ℕ) → (a == b) ≡ false → a ≢ b
-is_other a b h = grind (arith, nat_tests)
 
 -- ---- each input's lines
 
@@ -21,16 +16,26 @@ done_at [] place h = refl
 done_at (input ∷ inputs) zero h = sym (done_none input h.0)
 done_at (input ∷ inputs) (suc place) h = done_at inputs place h.1
 
+-- what holds where the line is taken from the first input, and goes over to one more input in front, holds of each taking
+taking : (line : Timed) (P : ℕ → (before after : List (List Timed)) → Type 0)
+    → ((left : List Timed) (inputs : List (List Timed)) → P zero ((line ∷ left) ∷ inputs) (left ∷ inputs))
+    → ((place : ℕ) (input : List Timed) (before after : List (List Timed)) → P place before after
+    → P (suc place) (input ∷ before) (input ∷ after))
+    → (place : ℕ) (before after : List (List Timed)) → Takes place line before after → P place before after
+taking line P here there place [] after t = absurd t
+taking line P here there zero (input ∷ inputs) [] t = absurd t
+taking line P here there (suc place) (input ∷ inputs) [] t = absurd t
+taking line P here there zero (input ∷ inputs) (left ∷ later) t = rw (t.0, t.1) (here left inputs)
+taking line P here there (suc place) (input ∷ inputs) (left ∷ later) t =
+    rw t.0 (there place input inputs later (taking line P here there place inputs later t.1))
+
 taken_here : (place : ℕ) (line : Timed) (before after : List (List Timed)) → Takes place line before after
     → input_at before place ≡ line ∷ input_at after place
-taken_here place line [] after t = absurd t
-taken_here zero line (input ∷ inputs) [] t = absurd t
-taken_here (suc place) line (input ∷ inputs) [] t = absurd t
-taken_here zero line (input ∷ inputs) (left ∷ later) t = t.0
-taken_here (suc place) line (input ∷ inputs) (left ∷ later) t = taken_here place line inputs later t.1
+taken_here place line = taking line (λ place before after. input_at before place ≡ line ∷ input_at after place)
+    (λ left inputs. refl) (λ place input before after e. e) place
 
-taken_there : (place other : ℕ) (line : Timed) (before after : List (List Timed)) → Takes place line before after → place ≢ other
-    → input_at before other ≡ input_at after other
+taken_there : (place other : ℕ) (line : Timed) (before after : List (List Timed)) → Takes place line before after
+    → (place ≡ other → ⊥) → input_at before other ≡ input_at after other
 taken_there place other line [] after t unlike = absurd t
 taken_there zero other line (input ∷ inputs) [] t unlike = absurd t
 taken_there (suc place) other line (input ∷ inputs) [] t unlike = absurd t
@@ -44,12 +49,12 @@ keep_by : (b : Bool) (m : Merged) (merged : List Merged) (before after : List (L
     → Takes m.place m.line before after → lines_from place merged ≡ input_at after place
     → lines_from place (m ∷ merged) ≡ input_at before place
 keep_by true m merged before after place e t later =
-    let is : m.place ≡ place = is_same m.place place e in
+    let is : m.place ≡ place = eqb-true m.place place e in
     let here : input_at before place ≡ m.line ∷ input_at after place =
     subst (λ p. input_at before p ≡ m.line ∷ input_at after p) is (taken_here m.place m.line before after t) in
     rw e (ap (λ xs. m.line ∷ xs) later ∙ sym here)
 keep_by false m merged before after place e t later =
-    rw e (later ∙ sym (taken_there m.place place m.line before after t (is_other m.place place e)))
+    rw e (later ∙ sym (taken_there m.place place m.line before after t (eqb-false m.place place e)))
 
 pub keep_each : (inputs : List (List Timed)) (merged : List Merged) → IsMerge inputs merged
     → (place : ℕ) → lines_from place merged ≡ input_at inputs place
@@ -73,39 +78,26 @@ all_later from at (input ∷ inputs) r h =
 -- the line that is taken stands at its input's next moment
 taken_at : (place : ℕ) (line : Timed) (before after : List (List Timed)) → Takes place line before after
     → HasHead (heads_of before) place line.at
-taken_at place line [] after t = absurd t
-taken_at zero line (input ∷ inputs) [] t = absurd t
-taken_at (suc place) line (input ∷ inputs) [] t = absurd t
-taken_at zero line (input ∷ inputs) (left ∷ later) t = ap head_of t.0
-taken_at (suc place) line (input ∷ inputs) (left ∷ later) t = taken_at place line inputs later t.1
-
-some_same : (a b : ℕ) (o : Option ℕ) → o ≡ Some a → o ≡ Some b → a ≡ b
-some_same a b o h k = let e : Some a ≡ Some b = sym h ∙ k in cc
+taken_at place line = taking line (λ place before after. HasHead (heads_of before) place line.at)
+    (λ left inputs. refl) (λ place input before after h. h) place
 
 one_head : (heads : List (Option ℕ)) (place a b : ℕ) → HasHead heads place a → HasHead heads place b → a ≡ b
 one_head [] place a b h k = absurd h
-one_head (head ∷ heads) zero a b h k = some_same a b head h k
+one_head (head ∷ heads) zero a b h k = same_Some a b (sym h ∙ k)
 one_head (head ∷ heads) (suc place) a b h k = one_head heads place a b h k
 
 -- what is left rises from the line that was taken
 left_rises : (place : ℕ) (line : Timed) (before after : List (List Timed)) → Takes place line before after
     → AllRiseFrom line.at before → AllRiseFrom line.at after
-left_rises place line [] after t r = absurd t
-left_rises zero line (input ∷ inputs) [] t r = absurd t
-left_rises (suc place) line (input ∷ inputs) [] t r = absurd t
-left_rises zero line (input ∷ inputs) (left ∷ later) t r =
-    let whole : RiseFrom line.at (line ∷ left) = subst (RiseFrom line.at) t.0 r.0 in
-    (whole.1, subst (AllRiseFrom line.at) (sym t.1) r.1)
-left_rises (suc place) line (input ∷ inputs) (left ∷ later) t r =
-    (subst (RiseFrom line.at) (sym t.0) r.0, left_rises place line inputs later t.1 r.1)
+left_rises place line = taking line (λ place before after. AllRiseFrom line.at before → AllRiseFrom line.at after)
+    (λ left inputs r. (r.0.1, r.1)) (λ place input before after rest r. (r.0, rest r.1)) place
 
 -- the moment of a head isn't before that from which all rise
 not_before : (from : ℕ) (inputs : List (List Timed)) (place at : ℕ) → AllRiseFrom from inputs → HasHead (heads_of inputs) place at → from ≤ at
 not_before from [] place at r h = absurd h
 not_before from ([] ∷ inputs) zero at r h = absurd cc
-not_before from ((line ∷ lines) ∷ inputs) zero at r h = let e : Some line.at ≡ Some at = h in let s : line.at ≡ at = cc in omega (arith, r.0.0, s)
-not_before from ([] ∷ inputs) (suc place) at r h = not_before from inputs place at r.1 h
-not_before from ((line ∷ lines) ∷ inputs) (suc place) at r h = not_before from inputs place at r.1 h
+not_before from ((line ∷ lines) ∷ inputs) zero at r h = let same = same_Some line.at at h in omega (arith, r.0.0, same)
+not_before from (input ∷ inputs) (suc place) at r h = not_before from inputs place at r.1 h
 
 pub rise : (from : ℕ) (inputs : List (List Timed)) (merged : List Merged) → IsMerge inputs merged → AllRiseFrom from inputs
     → RiseFrom from (map (λ (m : Merged). m.line) merged)
@@ -127,27 +119,28 @@ one_place heads a b x y =
     let ba : b < a → ⊥ = λ less. omega (arith, x.first b y.at y.has less, y.least a x.at x.has) in
     grind (arith, ab, ba)
 
-one_line : (place : ℕ) (a b : Timed) (before c d : List (List Timed)) → Takes place a before c → Takes place b before d → a ≡ b
-one_line place a b [] c d x y = absurd x
-one_line zero a b (input ∷ inputs) [] d x y = absurd x
-one_line (suc place) a b (input ∷ inputs) [] d x y = absurd x
-one_line zero a b (input ∷ inputs) (left ∷ later) [] x y = absurd y
-one_line (suc place) a b (input ∷ inputs) (left ∷ later) [] x y = absurd y
-one_line zero a b (input ∷ inputs) (left ∷ later) (left' ∷ later') x y = let e : a ∷ left ≡ b ∷ left' = sym x.0 ∙ y.0 in cc
-one_line (suc place) a b (input ∷ inputs) (left ∷ later) (left' ∷ later') x y = one_line place a b inputs later later' x.1 y.1
+-- inputs give one line at a place, and leave the same
+one_taking : (place : ℕ) (a b : Timed) (before c d : List (List Timed)) → Takes place a before c → Takes place b before d → (a ≡ b) × (c ≡ d)
+one_taking place a b [] c d x y = absurd x
+one_taking zero a b (input ∷ inputs) [] d x y = absurd x
+one_taking (suc place) a b (input ∷ inputs) [] d x y = absurd x
+one_taking zero a b (input ∷ inputs) (left ∷ later) [] x y = absurd y
+one_taking (suc place) a b (input ∷ inputs) (left ∷ later) [] x y = absurd y
+one_taking zero a b (input ∷ inputs) (left ∷ later) (left' ∷ later') x y = let e : a ∷ left ≡ b ∷ left' = sym x.0 ∙ y.0 in (cc, cc (x.1, y.1))
+one_taking (suc place) a b (input ∷ inputs) (left ∷ later) (left' ∷ later') x y =
+    let rest = one_taking place a b inputs later later' x.1 y.1 in (rest.0, λ i. (x.0 ∙ sym y.0) i ∷ rest.1 i)
 
-one_rest : (place : ℕ) (a b : Timed) (before c d : List (List Timed)) → Takes place a before c → Takes place b before d → c ≡ d
-one_rest place a b [] c d x y = absurd x
-one_rest zero a b (input ∷ inputs) [] d x y = absurd x
-one_rest (suc place) a b (input ∷ inputs) [] d x y = absurd x
-one_rest zero a b (input ∷ inputs) (left ∷ later) [] x y = absurd y
-one_rest (suc place) a b (input ∷ inputs) (left ∷ later) [] x y = absurd y
-one_rest zero a b (input ∷ inputs) (left ∷ later) (left' ∷ later') x y =
-    let e : a ∷ left ≡ b ∷ left' = sym x.0 ∙ y.0 in
-    let rest : left ≡ left' = cc in
-    ap₂ (λ (l : List Timed) (ls : List (List Timed)). l ∷ ls) rest (x.1 ∙ sym y.1)
-one_rest (suc place) a b (input ∷ inputs) (left ∷ later) (left' ∷ later') x y =
-    ap₂ (λ (l : List Timed) (ls : List (List Timed)). l ∷ ls) (x.0 ∙ sym y.0) (one_rest place a b inputs later later' x.1 y.1)
+-- two merges, or beginnings of merges, of the same inputs begin with the same line, and leave the same
+record IsOneStep (m n : Merged) (after after' : List (List Timed)) : Type 0 where
+  head : m ≡ n
+  rest : after ≡ after'
+
+one_step : (inputs after after' : List (List Timed)) (m n : Merged) → IsLeast (heads_of inputs) m.place → Takes m.place m.line inputs after
+    → IsLeast (heads_of inputs) n.place → Takes n.place n.line inputs after' → IsOneStep m n after after'
+one_step inputs after after' m n x takes y takes' =
+    let place : m.place ≡ n.place = one_place (heads_of inputs) m.place n.place x y in
+    let one = one_taking m.place m.line n.line inputs after after' takes (subst (λ p. Takes p n.line inputs after') (sym place) takes') in
+    record { head = λ i. record { place = place i; line = one.0 i }; rest = one.1 }
 
 done_has : (heads : List (Option ℕ)) (place at : ℕ) → AreDone heads → HasHead heads place at → ⊥
 done_has [] place at d h = h
@@ -159,13 +152,9 @@ one_merge inputs [] [] x y = refl
 one_merge inputs [] (m ∷ other) x y = absurd (done_has (heads_of inputs) m.place y.0.at x y.0.has)
 one_merge inputs (m ∷ one) [] x y = absurd (done_has (heads_of inputs) m.place x.0.at y x.0.has)
 one_merge inputs (m ∷ one) (n ∷ other) x y =
-    let place : m.place ≡ n.place = one_place (heads_of inputs) m.place n.place x.0 y.0 in
-    let takes : Takes m.place n.line inputs y.1.0 = subst (λ p. Takes p n.line inputs y.1.0) (sym place) y.1.1 in
-    let line : m.line ≡ n.line = one_line m.place m.line n.line inputs x.1.0 y.1.0 x.1.1 takes in
-    let rest : x.1.0 ≡ y.1.0 = one_rest m.place m.line n.line inputs x.1.0 y.1.0 x.1.1 takes in
-    let head : m ≡ n = ap₂ (λ (p : ℕ) (l : Timed). let made : Merged = record { place = p; line = l } in made) place line in
-    ap₂ (λ (h : Merged) (hs : List Merged). h ∷ hs) head
-    (one_merge x.1.0 one other x.1.2 (subst (λ left. IsMerge left other) (sym rest) y.1.2))
+    let step = one_step inputs x.1.0 y.1.0 m n x.0 x.1.1 y.0 y.1.1 in
+    let later = one_merge x.1.0 one other x.1.2 (subst (λ left. IsMerge left other) (sym step.rest) y.1.2) in
+    (λ i. step.head i ∷ later i)
 
 -- ---- fronts of a merge
 
@@ -174,13 +163,9 @@ pub fronts : (inputs left : List (List Timed)) (front merged : List Merged) → 
 fronts inputs left [] merged x y = (merged, refl, subst (λ i. IsMerge i merged) (sym x) y)
 fronts inputs left (m ∷ front) [] x y = absurd (done_has (heads_of inputs) m.place x.0.at y x.0.has)
 fronts inputs left (m ∷ front) (n ∷ merged) x y =
-    let place : m.place ≡ n.place = one_place (heads_of inputs) m.place n.place x.0 y.0 in
-    let takes : Takes m.place n.line inputs y.1.0 = subst (λ p. Takes p n.line inputs y.1.0) (sym place) y.1.1 in
-    let line : m.line ≡ n.line = one_line m.place m.line n.line inputs x.1.0 y.1.0 x.1.1 takes in
-    let rest : x.1.0 ≡ y.1.0 = one_rest m.place m.line n.line inputs x.1.0 y.1.0 x.1.1 takes in
-    let head : n ≡ m = ap₂ (λ (p : ℕ) (l : Timed). let made : Merged = record { place = p; line = l } in made) (sym place) (sym line) in
-    let later = fronts x.1.0 left front merged x.1.2 (subst (λ i. IsMerge i merged) (sym rest) y.1.2) in
-    (later.0, ap₂ (λ (h : Merged) (hs : List Merged). h ∷ hs) head later.1, later.2)
+    let step = one_step inputs x.1.0 y.1.0 m n x.0 x.1.1 y.0 y.1.1 in
+    let later = fronts x.1.0 left front merged x.1.2 (subst (λ i. IsMerge i merged) (sym step.rest) y.1.2) in
+    (later.0, (λ i. sym step.head i ∷ later.1 i), later.2)
 
 -- one more line comes next
 pub merges_more : (inputs left after : List (List Timed)) (front : List Merged) (m : Merged) → MergesTo inputs front left

@@ -1,8 +1,9 @@
 -- Inputs one behind another: what a change of one of them does to what is said of all.
-use Rattle.std.proofs.Common.{ℕ, zero, suc, ◌≡◌, ◌+◌, ◌-◌, ◌<◌, ◌≤◌, false, List, [], ◌∷◌, length, take, drop, get_or, map, slice_set, Option, Some, None, inl, inr, arith, refl, sym, ap, subst, ◌∙◌}
+use Rattle.std.proofs.Common.{ℕ, zero, suc, ◌≡◌, ◌+◌, ◌<◌, ◌≤◌, false, List, [], ◌∷◌, length, drop, get_or, map, slice_set, Option, Some, None, inl, inr, arith, refl, sym, ap, subst, ◌∙◌}
 use Rattle.std.specs.Prelude.{IsTrue, IsSome}
 use Rattle.outer_io.specs.declared.sources.Source as sources
 use Rattle.lists.specs.Each.{Each, EachWith}
+use Rattle.lists.proofs.Members.{with_fold}
 use Rattle.outer_io.specs.Faults.{Rose}
 use Rattle.outer_io.specs.Shown.{LosesNothing}
 use Rattle.line_reader.specs.Lines.{is_over, all_lines}
@@ -11,9 +12,9 @@ use Rattle.line_merge_main.specs.declared.status.FaultyInput.{FaultyInput}
 use Rattle.line_merge_main.specs.declared.status.InputFault.{InputFault}
 use Rattle.line_merge_main.specs.declared.status.InputFault.TheVariants as faults
 use Rattle.line_merge_main.specs.Least.{HasHead, AreDone}
-use Rattle.line_merge_main.specs.Merging.{Takes, heads_of}
+use Rattle.line_merge_main.specs.Merging.{Takes, head_of, heads_of}
 use Rattle.line_merge_main.specs.Inputs.{input_lines, lines_behind}
-use Rattle.line_merge_main.specs.Readers.{IsReading, IsAtHead, GoesOn, later_lines, later_at, rest_of, rests_of, to_come, all_to_come}
+use Rattle.line_merge_main.specs.Readers.{IsReading, IsAtHead, GoesOn, HasGiven, IsTaken, later_lines, later_at, rest_of, rests_of}
 use Rattle.line_merge_main.specs.Run.{IsFresh, InputShown, HasFault, HasLongLine, IsFaulty, bytes_of, input_shown, inputs_shown}
 
 module _ {S : Type 0} (s : sources.Ghosts S) where
@@ -24,11 +25,8 @@ module _ {S : Type 0} (s : sources.Ghosts S) where
   fresh_reading r fresh = record {
     longest = fresh.longest;
     goes_on = fresh.goes_on;
-    counted = λ tells. none_given (all_lines (s.taken r.reader.source)) r.reader.line fresh.line;
+    counted = λ tells. rw fresh.line refl;
   }
-    where
-      none_given : (all : List (List ℕ)) (n : ℕ) → n ≡ 0 → length (take n all) ≡ n
-      none_given all n e = subst (λ k. length (take k all) ≡ k) (sym e) refl
 
   pub fresh_lines : (r : TextReading S) → IsFresh r → later_lines s 0 r ≡ input_lines (bytes_of s r)
   fresh_lines r fresh = ap (λ n. lines_behind 0 (drop n (all_lines (bytes_of s r)))) fresh.line
@@ -55,90 +53,59 @@ module _ {S : Type 0} (s : sources.Ghosts S) where
       subst (λ is. EachWith (GoesOn s) is (new ∷ later)) (sym are) (record { later = on; bytes = bytes }, all_stay later)
 
   pub all_then : (xs ys zs : List (TextReading S)) → EachWith (GoesOn s) xs ys → EachWith (GoesOn s) ys zs → EachWith (GoesOn s) xs zs
-  all_then [] [] [] h k = tt
-  all_then [] [] (z ∷ zs) h k = absurd k
-  all_then [] (y ∷ ys) zs h k = absurd h
-  all_then (x ∷ xs) [] zs h k = absurd h
-  all_then (x ∷ xs) (y ∷ ys) [] h k = absurd k
-  all_then (x ∷ xs) (y ∷ ys) (z ∷ zs) h k = (then x y z h.0 k.0, all_then xs ys zs h.1 k.1)
-
-  pub same_many : (xs ys : List (TextReading S)) → EachWith (GoesOn s) xs ys → length xs ≡ length ys
-  same_many [] [] h = refl
-  same_many [] (y ∷ ys) h = absurd h
-  same_many (x ∷ xs) [] h = absurd h
-  same_many (x ∷ xs) (y ∷ ys) h = ap suc (same_many xs ys h.1)
-
-  pub as_many : (rs : List (TextReading S)) (heads : List (Option ℕ)) → EachWith (IsAtHead s) rs heads → length rs ≡ length heads
-  as_many [] [] h = refl
-  as_many [] (head ∷ heads) h = absurd h
-  as_many (r ∷ rs) [] h = absurd h
-  as_many (r ∷ rs) (head ∷ heads) h = ap suc (as_many rs heads h.1)
+  all_then xs ys zs h =
+      with_fold (GoesOn s) (λ xs ys. (zs : List (TextReading S)) → EachWith (GoesOn s) ys zs → EachWith (GoesOn s) xs zs) (λ zs k. k) next
+      xs ys h zs
+    where
+      next : (x y : TextReading S) (xs ys : List (TextReading S)) → GoesOn s x y → EachWith (GoesOn s) xs ys
+          → ((zs : List (TextReading S)) → EachWith (GoesOn s) ys zs → EachWith (GoesOn s) xs zs)
+          → (zs : List (TextReading S)) → EachWith (GoesOn s) (y ∷ ys) zs → EachWith (GoesOn s) (x ∷ xs) zs
+      next x y xs ys one all rest [] k = absurd k
+      next x y xs ys one all rest (z ∷ zs) k = (then x y z one k.0, rest zs k.1)
 
   -- the moments are those of the next lines
   pub heads_are : (rs : List (TextReading S)) (heads : List (Option ℕ)) → EachWith (IsAtHead s) rs heads
       → heads_of (rests_of s rs heads) ≡ heads
-  heads_are [] [] h = refl
-  heads_are [] (head ∷ heads) h = absurd h
-  heads_are (r ∷ rs) [] h = absurd h
-  heads_are (r ∷ rs) (None ∷ heads) h = ap (λ hs. None ∷ hs) (heads_are rs heads h.1)
-  heads_are (r ∷ rs) (Some at ∷ heads) h = ap (λ hs. Some at ∷ hs) (heads_are rs heads h.1)
+  heads_are = with_fold (IsAtHead s) (λ rs heads. heads_of (rests_of s rs heads) ≡ heads) refl
+      (λ r head rs heads _ _ later. (λ i. first r head i ∷ later i))
+    where
+      first : (r : TextReading S) (head : Option ℕ) → head_of (rest_of s r head) ≡ head
+      first r None = refl
+      first r (Some at) = refl
 
   -- ---- the input at a place
 
-  some_is : (head : Option ℕ) (at : ℕ) → head ≡ Some at → IsSome head
-  some_is head at e = subst IsSome (sym e) refl
+  -- it can be read on, its line is the one that is taken, and what its next line makes of all
+  pub record IsAmong (rs : List (TextReading S)) (heads : List (Option ℕ)) (place at : ℕ) (r : TextReading S) : Type 0 where
+    pub reading : IsReading s r
+    pub takes : Takes place (record { at = at; bytes = r.text }) (rests_of s rs heads)
+        (slice_set (rests_of s rs heads) place (later_at s rs place at))
+    pub next : (r' : TextReading S) (head' : Option ℕ) → HasGiven s at r r' head'
+        → IsTaken s place at rs heads (slice_set rs place r') (slice_set heads place head')
 
-  pub reading_at : (rs : List (TextReading S)) (heads : List (Option ℕ)) (place at : ℕ) (r d : TextReading S)
-      → EachWith (IsAtHead s) rs heads → HasHead heads place at → r ≡ get_or rs place d → IsReading s r
-  reading_at [] [] place at r d h x e = absurd x
-  reading_at [] (head ∷ heads) place at r d h x e = absurd h
-  reading_at (q ∷ rs) [] place at r d h x e = absurd h
-  reading_at (q ∷ rs) (head ∷ heads) zero at r d h x e = subst (IsReading s) (sym e) (h.0.lends (some_is head at x))
-  reading_at (q ∷ rs) (head ∷ heads) (suc place) at r d h x e = reading_at rs heads place at r d h.1 x e
-
-  pub takes_at : (rs : List (TextReading S)) (heads : List (Option ℕ)) (place at : ℕ) (r d : TextReading S)
-      → EachWith (IsAtHead s) rs heads → HasHead heads place at → r ≡ get_or rs place d
-      → Takes place (record { at = at; bytes = r.text }) (rests_of s rs heads) (slice_set (rests_of s rs heads) place (later_at s rs place at))
-  takes_at [] [] place at r d h x e = absurd x
-  takes_at [] (head ∷ heads) place at r d h x e = absurd h
-  takes_at (q ∷ rs) [] place at r d h x e = absurd h
-  takes_at (q ∷ rs) (head ∷ heads) zero at r d h x e =
-      (ap (rest_of s q) x ∙ ap (λ (y : TextReading S). record { at = at; bytes = y.text } ∷ later_lines s at q) (sym e), refl)
-  takes_at (q ∷ rs) (head ∷ heads) (suc place) at r d h x e = (refl, takes_at rs heads place at r d h.1 x e)
-
-  module _ (r' : TextReading S) (head' : Option ℕ) where
-    pub at_heads_set : (rs : List (TextReading S)) (heads : List (Option ℕ)) (place : ℕ) → EachWith (IsAtHead s) rs heads
-        → IsAtHead s r' head' → EachWith (IsAtHead s) (slice_set rs place r') (slice_set heads place head')
-    at_heads_set [] [] place h new = tt
-    at_heads_set [] (head ∷ heads) place h new = absurd h
-    at_heads_set (r ∷ rs) [] place h new = absurd h
-    at_heads_set (r ∷ rs) (head ∷ heads) zero h new = (new, h.1)
-    at_heads_set (r ∷ rs) (head ∷ heads) (suc place) h new = (h.0, at_heads_set rs heads place h.1 new)
-
-    pub rests_set : (rs : List (TextReading S)) (heads : List (Option ℕ)) (place before : ℕ) (r d : TextReading S)
-        → EachWith (IsAtHead s) rs heads → r ≡ get_or rs place d → rest_of s r' head' ≡ later_lines s before r
-        → rests_of s (slice_set rs place r') (slice_set heads place head')
-        ≡ slice_set (rests_of s rs heads) place (later_at s rs place before)
-    rests_set [] [] place before r d h e rest = refl
-    rests_set [] (head ∷ heads) place before r d h e rest = absurd h
-    rests_set (q ∷ rs) [] place before r d h e rest = absurd h
-    rests_set (q ∷ rs) (head ∷ heads) zero before r d h e rest =
-        ap (λ l. l ∷ rests_of s rs heads) (rest ∙ ap (later_lines s before) e)
-    rests_set (q ∷ rs) (head ∷ heads) (suc place) before r d h e rest =
-        ap (λ ls. rest_of s q head ∷ ls) (rests_set rs heads place before r d h.1 e rest)
-
-    pub fewer_set : (rs : List (TextReading S)) (heads : List (Option ℕ)) (place at : ℕ) (r d : TextReading S)
-        → EachWith (IsAtHead s) rs heads → HasHead heads place at → r ≡ get_or rs place d → to_come r' head' < 131073 - r.reader.line
-        → all_to_come (slice_set rs place r') (slice_set heads place head') < all_to_come rs heads
-    fewer_set [] [] place at r d h x e fewer = absurd x
-    fewer_set [] (head ∷ heads) place at r d h x e fewer = absurd h
-    fewer_set (q ∷ rs) [] place at r d h x e fewer = absurd h
-    fewer_set (q ∷ rs) (head ∷ heads) zero at r d h x e fewer =
-        let before : to_come q head ≡ 131073 - r.reader.line =
-        ap (to_come q) x ∙ ap (λ (y : TextReading S). 131073 - y.reader.line) (sym e) in
-        omega (arith, before, fewer)
-    fewer_set (q ∷ rs) (head ∷ heads) (suc place) at r d h x e fewer =
-        let later = fewer_set rs heads place at r d h.1 x e fewer in omega (arith, later)
+  pub among : (rs : List (TextReading S)) (heads : List (Option ℕ)) (place at : ℕ) (r d : TextReading S)
+      → EachWith (IsAtHead s) rs heads → HasHead heads place at → r ≡ get_or rs place d → IsAmong rs heads place at r
+  among [] [] place at r d h x e = absurd x
+  among [] (head ∷ heads) place at r d h x e = absurd h
+  among (q ∷ rs) [] place at r d h x e = absurd h
+  among (q ∷ rs) (head ∷ heads) zero at r d h x e = rw (e, x) (record {
+    reading = h.0.lends (subst IsSome (sym x) refl);
+    takes = (refl, refl);
+    next = λ r' head' given. record {
+      at_heads = (given.at_head, h.1);
+      rests = λ tells. ap (λ l. l ∷ rests_of s rs heads) (given.rest tells);
+      fewer = omega (arith, given.fewer);
+    };
+  })
+  among (q ∷ rs) (head ∷ heads) (suc place) at r d h x e = let later = among rs heads place at r d h.1 x e in record {
+    reading = later.reading;
+    takes = (refl, later.takes);
+    next = λ r' head' given. let rest = later.next r' head' given in record {
+      at_heads = (h.0, rest.at_heads);
+      rests = λ tells. ap (λ ls. rest_of s q head ∷ ls) (rest.rests tells);
+      fewer = omega (arith, rest.fewer);
+    };
+  }
 
   pub goes_on_set : (rs : List (TextReading S)) (place : ℕ) (r d r' : TextReading S) → r ≡ get_or rs place d → GoesOn s r r'
       → EachWith (GoesOn s) rs (slice_set rs place r')
@@ -204,14 +171,12 @@ module _ {S : Type 0} (s : sources.Ghosts S) where
 
   pub none_lost : (olds news : List (TextReading S)) → EachWith (GoesOn s) olds news → IsTrue s.tells
       → Each (λ (i : InputShown). LosesNothing i.source) (inputs_shown s olds news)
-  none_lost [] [] on tells = tt
-  none_lost [] (new ∷ news) on tells = absurd on
-  none_lost (old ∷ olds) [] on tells = absurd on
-  none_lost (old ∷ olds) (new ∷ news) on tells = (on.0.bytes tells, none_lost olds news on.1 tells)
+  none_lost olds news on tells = with_fold (GoesOn s) (λ olds news. Each (λ (i : InputShown). LosesNothing i.source) (inputs_shown s olds news)) tt
+      (λ old new olds news one _ rest. (one.bytes tells, rest)) olds news on
 
   pub lines_shown : (olds news : List (TextReading S)) → EachWith (GoesOn s) olds news
       → map (λ (i : InputShown). input_lines i.bytes) (inputs_shown s olds news) ≡ map (λ (r : TextReading S). input_lines (bytes_of s r)) olds
-  lines_shown [] [] on = refl
-  lines_shown [] (new ∷ news) on = absurd on
-  lines_shown (old ∷ olds) [] on = absurd on
-  lines_shown (old ∷ olds) (new ∷ news) on = ap (λ ls. input_lines (bytes_of s old) ∷ ls) (lines_shown olds news on.1)
+  lines_shown = with_fold (GoesOn s)
+      (λ olds news. map (λ (i : InputShown). input_lines i.bytes) (inputs_shown s olds news)
+      ≡ map (λ (r : TextReading S). input_lines (bytes_of s r)) olds)
+      refl (λ old new olds news _ _ rest. ap (λ ls. input_lines (bytes_of s old) ∷ ls) rest)

@@ -1,9 +1,8 @@
 -- Lines that are passed on, one after another, and what a merge comes to.
-use Rattle.std.proofs.Common.{ℕ, ◌≡◌, ◌+◌, ◌≤◌, Bool, true, false, List, [], ◌∷◌, ◌++◌, length, take, get_or, slice_set, Option, Result, Ok, Err, arith, refl, sym, ap, subst, ◌∙◌, append_assoc, inl, inr}
-use Rattle.std.specs.Prelude.{IsTrue, OnOk, OnErr, is_err}
+use Rattle.std.proofs.Common.{ℕ, ◌≡◌, ◌+◌, ◌≤◌, Bool, true, false, List, [], ◌∷◌, ◌++◌, length, take, get_or, slice_set, Option, Err, arith, refl, sym, ap, subst, ◌∙◌, append_assoc, inl, inr}
+use Rattle.std.specs.Prelude.{IsTrue}
 use Rattle.std.proofs.lemmas.List.{append-nil, length-append}
 use Rattle.std.proofs.Math.Seq.{take-append-add}
-use Rattle.outer_io.specs.declared.failures.Failed.{Failed}
 use Rattle.outer_io.specs.declared.sources.Source as sources
 use Rattle.outer_io.specs.Bytes.{AppendsFront}
 use Rattle.lists.specs.Each.{Each, EachWith}
@@ -14,14 +13,14 @@ use Rattle.line_merge_main.specs.declared.status.InputFault.{InputFault}
 use Rattle.line_merge_main.specs.declared.status.InputFault.TheVariants as faults
 use Rattle.line_merge_main.specs.declared.status.MergeStatus.{MergeStatus}
 use Rattle.line_merge_main.specs.declared.status.MergeStatus.TheVariants as statuses
-use Rattle.line_merge_main.specs.Least.{HasHead, IsLeast, AreDone}
+use Rattle.line_merge_main.specs.Least.{HasHead, IsLeast}
 use Rattle.line_merge_main.specs.Merging.{Timed, Merged, heads_of}
 use Rattle.line_merge_main.specs.Inputs.{line_text, merged_text, merge_text}
-use Rattle.line_merge_main.specs.Run.{Run, IsRun, InputShown, HasFault, IsFaulty, IsFaultless, IsUnhindered, IsCausedBy, IsMergedText, IsMergedSoFar, IsMergedInPart, IsWritten, lines_of, inputs_shown}
+use Rattle.line_merge_main.specs.Run.{Run, IsRun, InputShown, HasFault, IsFaulty, IsFaultless, IsUnhindered, IsCausedBy, IsMergedInPart, IsWritten, lines_of, inputs_shown}
 use Rattle.line_merge_main.specs.Steps.{Passes, PassesInPart, IsStep, IsStopped, IsEnded, StandsAfter}
 use Rattle.line_merge_main.specs.Readers.{IsAtHead, GoesOn, later_at, rests_of}
-use Rattle.line_merge_main.proofs.Rows.{takes_at, rose_from, faulty_from, within_from}
-use Rattle.line_merge_main.proofs.Merges.{merges_more, merges_all}
+use Rattle.line_merge_main.proofs.Rows.{among, rose_from, faulty_from, within_from}
+use Rattle.line_merge_main.proofs.Merges.{merges_more}
 
 -- ---- texts
 
@@ -34,14 +33,6 @@ text_more numbered (n ∷ merged) m =
 
 -- ---- one line
 
-pub no_error : {P : Type 0} (result : Result (Unit {0}) Failed) (b : Bool) → b ≡ is_err result → b ≡ false → OnOk result P → P
-no_error (Ok done) b is off ok = ok
-no_error (Err failed) b is off ok = absurd (let clash : false ≡ true = sym off ∙ is in cc)
-
-pub an_error : {P : Type 0} (result : Result (Unit {0}) Failed) (b : Bool) → b ≡ is_err result → b ≡ true → OnErr result P → P
-an_error (Ok done) b is on err = absurd (let clash : true ≡ false = sym on ∙ is in cc)
-an_error (Err failed) b is on err = err
-
 module _ {S : Type 0} (s : sources.Ghosts S) (numbered : Bool) (place at : ℕ) (rs : List (TextReading S)) (heads : List (Option ℕ))
     (r d : TextReading S) (text : List ℕ) (at_heads : EachWith (IsAtHead s) rs heads) (head : HasHead heads place at)
     (here : r ≡ get_or rs place d) (text_is : text ≡ r.text) (before now : List ℕ) where
@@ -49,7 +40,7 @@ module _ {S : Type 0} (s : sources.Ghosts S) (numbered : Bool) (place at : ℕ) 
       → Passes numbered place (rests_of s rs heads) (slice_set (rests_of s rs heads) place (later_at s rs place at)) before now
   passes written = record {
     line = record { at = at; bytes = r.text };
-    takes = takes_at s rs heads place at r d at_heads head here;
+    takes = (among s rs heads place at r d at_heads head here).takes;
     written = written ∙ ap (λ t. before ++ line_text numbered (place + 1) t) text_is;
   }
 
@@ -58,14 +49,11 @@ module _ {S : Type 0} (s : sources.Ghosts S) (numbered : Bool) (place at : ℕ) 
   passes_in_part front = record {
     line = record { at = at; bytes = r.text };
     after = slice_set (rests_of s rs heads) place (later_at s rs place at);
-    takes = takes_at s rs heads place at r d at_heads head here;
+    takes = (among s rs heads place at r d at_heads head here).takes;
     written = subst (λ t. AppendsFront (line_text numbered (place + 1) t) before now) text_is front;
   }
 
 -- ---- one line more
-
-pub stands_first : (numbered : Bool) (inputs : List (List Timed)) (written : List ℕ) → StandsAfter numbered inputs inputs written written
-stands_first numbered inputs written = record { merged = []; merges = refl; written = sym (append-nil written) }
 
 pub stands_more : (numbered : Bool) (place : ℕ) (inputs left after : List (List Timed)) (before now next : List ℕ)
     → StandsAfter numbered inputs left before now → IsLeast (heads_of left) place → Passes numbered place left after now next
@@ -81,19 +69,6 @@ stands_more numbered place inputs left after before now next stands least passes
     }
 
 -- ---- the last step
-
-pub all_merged : (numbered : Bool) (inputs left : List (List Timed)) (before now : List ℕ) → StandsAfter numbered inputs left before now
-    → AreDone (heads_of left) → IsMergedText numbered inputs before now
-all_merged numbered inputs left before now stands done = record {
-  merged = stands.merged;
-  is_merge = merges_all inputs left stands.merged stands.merges done;
-  written = stands.written;
-}
-
-pub merged_so_far : (numbered : Bool) (inputs left : List (List Timed)) (before now : List ℕ) → StandsAfter numbered inputs left before now
-    → IsMergedSoFar numbered inputs before now
-merged_so_far numbered inputs left before now stands =
-    record { merged = stands.merged; left = left; merges = stands.merges; written = stands.written }
 
 pub merged_in_part : (numbered : Bool) (place : ℕ) (inputs left : List (List Timed)) (before now next : List ℕ)
     → StandsAfter numbered inputs left before now → IsLeast (heads_of left) place → PassesInPart numbered place left now next
@@ -120,8 +95,8 @@ pub written_by : (status : MergeStatus) (numbered : Bool) (place : ℕ) (inputs 
     → IsStep (Err status) numbered place left after now next → IsWritten status numbered inputs before next
 written_by statuses.Done numbered place inputs left after before now next stands least step = absurd step
 written_by (statuses.Input faulty) numbered place inputs left after before now next stands least step =
-    merged_so_far numbered inputs step.0 before next
-    (stands_more numbered place inputs left step.0 before now next stands least step.1)
+    let more = stands_more numbered place inputs left step.0 before now next stands least step.1 in
+    record { merged = more.merged; left = step.0; merges = more.merges; written = more.written }
 written_by statuses.Write numbered place inputs left after before now next stands least step =
     merged_in_part numbered place inputs left before now next stands least step
 

@@ -101,9 +101,9 @@ fn pass_on<S: Source, K: Sink>(
         number: place as u64 + 1,
         bytes: inputs[place].text(),
     };
-    if write(out, &line).is_err() {
+    let Ok(()) = write(out, &line) else {
         return Err(MergeStatus::Write);
-    }
+    };
     match take_next(inputs, heads, place, at) {
         Ok(()) => Ok(()),
         Err(faulty) => Err(MergeStatus::Input(faulty)),

@@ -1,3 +1,4 @@
+-- What was found among all places is the least.
 use Rattle.std.proofs.Common.{refl, arith}
 use Rattle.line_merge_main.proofs.Choosing.{more, all_seen}
 use Rattle.line_merge_main.proofs.choice.least.Goals as goal
@@ -7,17 +8,8 @@ loop-place-preserved c =
     more c.args.heads.now c.loop-place.place _ _ c.loop-place-test.true refl c.loop-place.best c.better_of-best.result
     c.better_of-best.ensures c.loop-place.invariant
 
-pub returns-clause-least : goal.returns-clause-least
-returns-clause-least c =
-    (all_seen c.args.heads.now c.loop-place.place c.loop-place.best (omega (arith, c.loop-place-test.false, c.loop-place.auto.place-end))
-    c.loop-place.invariant).least
-
-pub returns-clause-at : goal.returns-clause-at
-returns-clause-at c =
-    (all_seen c.args.heads.now c.loop-place.place c.loop-place.best (omega (arith, c.loop-place-test.false, c.loop-place.auto.place-end))
-    c.loop-place.invariant).at
-
-pub returns-clause-none : goal.returns-clause-none
-returns-clause-none c =
-    (all_seen c.args.heads.now c.loop-place.place c.loop-place.best (omega (arith, c.loop-place-test.false, c.loop-place.auto.place-end))
-    c.loop-place.invariant).none
+pub returns : goal.returns
+returns c =
+    let found = all_seen c.args.heads.now c.loop-place.place c.loop-place.best
+    (omega (arith, c.loop-place-test.false, c.loop-place.auto.place-end)) c.loop-place.invariant in
+    record { least = found.least; at = found.at; none = found.none }

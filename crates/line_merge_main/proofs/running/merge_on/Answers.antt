@@ -1,10 +1,14 @@
 -- Each line stands behind those before it, and the last step ends the merge.
-use Rattle.std.proofs.Common.{sym, subst, arith}
+use Rattle.std.proofs.Common.{[], refl, sym, subst, arith}
+use Rattle.std.proofs.lemmas.List.{append-nil}
+use Rattle.lists.proofs.Members.{with_length}
 use Rattle.outer_io.specs.Shown.{sink_shown}
 use Rattle.line_merge_main.specs.Least.{IsLeast, AreDone}
+use Rattle.line_merge_main.specs.Readers.{IsAtHead, GoesOn}
 use Rattle.line_merge_main.proofs.Choosing.{within_all}
-use Rattle.line_merge_main.proofs.Rows.{as_many, same_many, heads_are, all_stay, all_then, done_within}
-use Rattle.line_merge_main.proofs.Stepping.{stands_first, stands_more, all_merged, written_by, ended_by}
+use Rattle.line_merge_main.proofs.Merges.{merges_all}
+use Rattle.line_merge_main.proofs.Rows.{heads_are, all_stay, all_then, done_within}
+use Rattle.line_merge_main.proofs.Stepping.{stands_more, written_by, ended_by}
 use Rattle.line_merge_main.proofs.running.merge_on.Goals as goal
 
 pub lines-init : goal.lines-init
@@ -12,14 +16,18 @@ lines-init g c = record {
   few = c.requires.few;
   at_heads = c.requires.at_heads;
   goes_on = all_stay g.S.Source c.args.inputs.now;
-  stands = λ tells on. stands_first c.args.numbered _ _;
+  stands = λ tells on. record { merged = []; merges = refl; written = sym (append-nil _) };
   later = omega arith;
 }
 
 pub returns-in_default-clause-written : goal.returns-in_default-clause-written
 returns-in_default-clause-written g c = λ tells on.
-    all_merged c.args.numbered _ _ _ _ (c.lines.invariant.stands tells on)
-    (subst AreDone (sym (heads_are g.S.Source _ _ c.lines.invariant.at_heads)) c.in_default.ensures.none)
+    let stands = c.lines.invariant.stands tells on in record {
+      merged = stands.merged;
+      is_merge = merges_all _ _ stands.merged stands.merges
+          (subst AreDone (sym (heads_are g.S.Source _ _ c.lines.invariant.at_heads)) c.in_default.ensures.none);
+      written = stands.written;
+    }
 
 pub returns-in_default-clause-ended : goal.returns-in_default-clause-ended
 returns-in_default-clause-ended g c =
@@ -27,7 +35,7 @@ returns-in_default-clause-ended g c =
 
 pub pass_on-requires-clause-within : goal.pass_on-requires-clause-within
 pass_on-requires-clause-within g c =
-    let all = as_many g.S.Source c.lines.inputs c.lines.heads c.lines.invariant.at_heads in
+    let all = with_length (IsAtHead g.S.Source) c.lines.inputs c.lines.heads c.lines.invariant.at_heads in
     let within = within_all c.lines.heads c.in-Some.place c.in-Some.at c.in-Some.ensures.at in
     omega (arith, all, within)
 
@@ -47,7 +55,7 @@ returns-in-Err-clause-goes_on g c = all_then g.S.Source _ _ _ c.lines.invariant.
 
 pub lines-preserved : goal.lines-preserved
 lines-preserved g c = record {
-  few = let same = same_many g.S.Source _ _ c.pass_on.ensures.goes_on in omega (arith, same, c.lines.invariant.few);
+  few = let same = with_length (GoesOn g.S.Source) c.lines.inputs c.pass_on.new.inputs c.pass_on.ensures.goes_on in omega (arith, same, c.lines.invariant.few);
   at_heads = c.in_default-pass_on.ensures.at_heads;
   goes_on = all_then g.S.Source _ _ _ c.lines.invariant.goes_on c.pass_on.ensures.goes_on;
   stands = λ tells on.

@@ -1,21 +1,17 @@
 -- The input at the place gave its next line, and the others are as they were.
 use Rattle.std.proofs.Common.{refl, arith}
-use Rattle.line_merge_main.proofs.Rows.{reading_at, at_heads_set, rests_set, fewer_set, goes_on_set, faulty_set}
+use Rattle.line_merge_main.proofs.Rows.{among, goes_on_set, faulty_set}
 use Rattle.line_merge_main.proofs.running.take_next.Goals as goal
 
 pub next_head-requires : goal.next_head-requires
 next_head-requires g c = record {
-  reading = reading_at g.S.Source c.args.inputs.now c.args.heads.now c.args.place c.args.before _ _ c.requires.at_heads c.requires.place refl;
+  reading = (among g.S.Source c.args.inputs.now c.args.heads.now c.args.place c.args.before _ _ c.requires.at_heads c.requires.place refl).reading;
 }
 
 pub returns-in-Ok-clause-taken : goal.returns-in-Ok-clause-taken
-returns-in-Ok-clause-taken g c = record {
-  at_heads = at_heads_set g.S.Source _ _ c.args.inputs.now c.args.heads.now c.args.place c.requires.at_heads c.in-Ok.ensures.given.at_head;
-  rests = λ tells. rests_set g.S.Source _ _ c.args.inputs.now c.args.heads.now c.args.place c.args.before _ _ c.requires.at_heads refl
-      (c.in-Ok.ensures.given.rest tells);
-  fewer = fewer_set g.S.Source _ _ c.args.inputs.now c.args.heads.now c.args.place c.args.before _ _ c.requires.at_heads
-      c.requires.place refl c.in-Ok.ensures.given.fewer;
-}
+returns-in-Ok-clause-taken g c =
+    (among g.S.Source c.args.inputs.now c.args.heads.now c.args.place c.args.before _ _ c.requires.at_heads c.requires.place refl).next _ _
+    c.in-Ok.ensures.given
 
 pub returns-in-Ok-clause-goes_on : goal.returns-in-Ok-clause-goes_on
 returns-in-Ok-clause-goes_on g c =
