@@ -1,6 +1,7 @@
 pub mod Crossing
 pub mod Cuts
 pub mod DownlinkLaws
+pub mod Entries
 pub mod JournalLaws
 pub mod Journals
 pub mod KeyLaws

@@ -1,3 +1,4 @@
+pub mod Acting
 pub mod Directory
 pub mod Hearing
 pub mod Journal

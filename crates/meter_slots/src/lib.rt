@@ -1,6 +1,7 @@
 //! The slots of the commissioned meters: what each hears and answers, and its journal.
 #![tactic(auto)]
 
+mod acting;
 mod book;
 mod commands;
 mod counts;

@@ -11,14 +11,15 @@ use Rattle.meter_slots.specs.declared.entry.Event.{Event}
 use Rattle.meter_slots.specs.declared.entry.Outcome.{Outcome}
 use Rattle.meter_slots.specs.Directory.{AreApart}
 use Rattle.meter_slots.specs.Journal.{Start, SlotView}
-use Rattle.slot_cells.specs.Acts.{Shown, CellShown, Each, IsPassOf, IsFirstPass, acts_by, made_by, mine}
-use Rattle.slot_cells.specs.Books.{Opening, opening_of, act_of, note_of, IsLegalJournal}
+use Rattle.book_cells.specs.Acts.{Shown, CellShown, IsPassOf, IsFirstPass, acts_by, made_by, mine}
+use Rattle.meter_slots.specs.Acting.{Opening, opening_of, act_of, IsLegalJournal}
+use Rattle.stranger_ring.specs.Ring.{note_of}
 use Rattle.receivers.specs.Classes.{own_lines}
 use Rattle.receivers.specs.Passes.{Answered, Crew, ArePassesOf}
 use Rattle.receivers.specs.Roots.{CanClose, CanCloseAll, AreLeft}
 use Rattle.stranger_ring.specs.declared.strangers.Heard.{Heard}
 use Rattle.receivers.specs.Crews.{IsRoot, AreRoots}
-use Rattle.lists.specs.Each.{EachWith}
+use Rattle.lists.specs.Each.{Each, EachWith}
 use Rattle.receivers.specs.Run.{ReceiverRun}
 use Rattle.receivers.specs.Running.{AreDone, HaveRun}
 use Rattle.receivers.specs.Session.{heard_by, entries_by, IsMetersSlot}

@@ -4,8 +4,9 @@ use Rattle.std.proofs.lemmas.List.{map-append}
 use Rattle.meter_address.specs.declared.address.Address.{Address}
 use Rattle.meter_slots.specs.declared.entry.Event.{Event}
 use Rattle.meter_slots.specs.declared.entry.Outcome.{Outcome}
-use Rattle.slot_cells.specs.declared.known.Made.{Made}
-use Rattle.slot_cells.specs.Acts.{Shown, CellShown, Each, mine, HasJoined}
+use Rattle.book_cells.specs.declared.known.Made.{Made}
+use Rattle.lists.specs.Each.{Each}
+use Rattle.book_cells.specs.Acts.{Shown, CellShown, mine, HasJoined}
 use Rattle.receivers.specs.Roots.{HaveJoined}
 use Rattle.receivers.specs.Passes.{Crew}
 use Rattle.receivers.specs.Crews.{CanJoin, AllJoined, HaveAllJoined}

@@ -4,8 +4,9 @@ use Rattle.std.proofs.lemmas.Bool.Decides.{nat_tests}
 use Rattle.meter_address.specs.declared.address.Address.{Address}
 use Rattle.meter_slots.specs.declared.entry.Event.{Event}
 use Rattle.meter_slots.specs.declared.entry.Outcome.{Outcome}
-use Rattle.slot_cells.specs.Acts.{Shown, CellShown, Each, IsPassOf, is_among, HasHanded, IsSplitOff}
-use Rattle.slot_cells.proofs.Rows.{each_map, each_append}
+use Rattle.lists.specs.Each.{Each}
+use Rattle.book_cells.specs.Acts.{Shown, CellShown, IsPassOf, is_among, HasHanded, IsSplitOff}
+use Rattle.lists.proofs.Members.{each_map, each_append}
 use Rattle.receivers.specs.Passes.{Crew, crew, ArePassesOf}
 use Rattle.receivers.specs.Roots.{CanHand, Handing}
 use Rattle.receivers.specs.Crews.{IsFreshPass, IsRoot, IsCrew, AreCrews, AreRoots}

@@ -9,8 +9,8 @@ use Rattle.outer_io.specs.Shown.{Change, SinkShown, WriteFailed}
 use Rattle.meter_address.specs.declared.address.Address.{Address}
 use Rattle.meter_slots.specs.declared.entry.Event.{Event}
 use Rattle.meter_slots.specs.declared.entry.Outcome.{Outcome}
-use Rattle.slot_cells.specs.declared.act.Act.{Act}
-use Rattle.slot_cells.specs.Acts.{Shown}
+use Rattle.book_cells.specs.declared.act.Act.{Act}
+use Rattle.book_cells.specs.Acts.{Shown}
 use Rattle.receivers.specs.declared.told.Told.{Told}
 use Rattle.receivers.specs.declared.told.Told.TheVariants as told
 use Rattle.receivers.specs.Classes.{OwnLine, StrangeLine, place_of, own_at, own_by, own_of, strange_at, strange_by, strange_of, own_lines, strange_lines}

@@ -6,7 +6,8 @@ use Rattle.meter_slots.specs.declared.entry.Event.{Event}
 use Rattle.meter_slots.specs.declared.entry.Outcome.{Outcome}
 use Rattle.outer_io.specs.declared.sinks.Sink as sinks
 use Rattle.outer_io.specs.declared.sources.Source as sources
-use Rattle.slot_cells.specs.Acts.{Shown, CellShown, Each}
+use Rattle.lists.specs.Each.{Each}
+use Rattle.book_cells.specs.Acts.{Shown, CellShown}
 use Rattle.receivers.specs.Passes.{Crew}
 use Rattle.receivers.specs.Receiver.{Receiving}
 use Rattle.receivers.specs.Run.{receiver_run, receiver_runs}

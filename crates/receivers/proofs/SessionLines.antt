@@ -12,10 +12,11 @@ use Rattle.meter_slots.specs.declared.entry.Event.{Event}
 use Rattle.meter_slots.specs.Directory.{AreApart}
 use Rattle.meter_slots.specs.Journal.{Start, SlotView, Legal}
 use Rattle.stranger_ring.specs.declared.strangers.Heard.{Heard}
-use Rattle.slot_cells.specs.declared.act.Act.{Act}
-use Rattle.slot_cells.specs.Acts.{acts_by}
-use Rattle.slot_cells.specs.Books.{Opening, opening_of, act_of, entry_of, note_of, IsLegalJournal}
-use Rattle.slot_cells.proofs.Entries.{entries_back}
+use Rattle.book_cells.specs.declared.act.Act.{Act}
+use Rattle.book_cells.specs.Acts.{acts_by}
+use Rattle.meter_slots.specs.Acting.{Opening, opening_of, act_of, entry_of, IsLegalJournal}
+use Rattle.stranger_ring.specs.Ring.{note_of}
+use Rattle.meter_slots.proofs.Entries.{entries_back}
 use Rattle.receivers.specs.declared.told.Told.{Told}
 use Rattle.receivers.specs.declared.told.Told.TheVariants as told
 use Rattle.receivers.specs.Classes.{OwnLine, StrangeLine, place_of, own_at, own_by, own_of, own_lines, strange_at, strange_by, strange_of, strange_lines}

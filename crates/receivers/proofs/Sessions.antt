@@ -4,9 +4,10 @@ use Rattle.std.specs.List.{enumerate_from}
 use Rattle.meter_address.specs.declared.address.Address.{Address}
 use Rattle.meter_slots.specs.declared.entry.Event.{Event}
 use Rattle.meter_slots.specs.declared.entry.Outcome.{Outcome}
-use Rattle.slot_cells.specs.declared.act.Act.{Act}
-use Rattle.slot_cells.specs.declared.known.Made.{Made}
-use Rattle.slot_cells.specs.Acts.{Shown, CellShown, Each, IsPassOf, is_among, sources, made, made_by, mine}
+use Rattle.book_cells.specs.declared.act.Act.{Act}
+use Rattle.book_cells.specs.declared.known.Made.{Made}
+use Rattle.lists.specs.Each.{Each}
+use Rattle.book_cells.specs.Acts.{Shown, CellShown, IsPassOf, is_among, sources, made, made_by, mine}
 use Rattle.receivers.specs.Classes.{own_lines, strange_lines}
 use Rattle.receivers.specs.Collected.{did_from}
 use Rattle.receivers.specs.Passes.{Answered, Crew, acts_at, note_by, ArePassesOf}

@@ -7,8 +7,8 @@ use Rattle.meter_slots.specs.declared.entry.Event.{Event}
 use Rattle.meter_slots.specs.declared.entry.Outcome.{Outcome}
 use Rattle.meter_slots.specs.Journal.{Start, SlotView}
 use Rattle.meter_slots.specs.World.{WorldView}
-use Rattle.slot_cells.specs.Acts.{Shown, CellShown, IsFirstPass}
-use Rattle.slot_cells.specs.Books.{Opening, opening_of}
+use Rattle.book_cells.specs.Acts.{Shown, CellShown, IsFirstPass}
+use Rattle.meter_slots.specs.Acting.{Opening, opening_of}
 use Rattle.receivers.specs.Classes.{own_lines}
 use Rattle.receivers.specs.declared.told.Told.{Told}
 use Rattle.lists.specs.Each.{EachWith}

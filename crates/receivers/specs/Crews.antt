@@ -3,8 +3,9 @@ use Rattle.std.specs.Prelude.{◌≡◌, ℕ, ◌+◌, ◌<◌, ◌≤◌, true,
 use Rattle.meter_address.specs.declared.address.Address.{Address}
 use Rattle.meter_slots.specs.declared.entry.Event.{Event}
 use Rattle.meter_slots.specs.declared.entry.Outcome.{Outcome}
-use Rattle.slot_cells.specs.declared.known.Made.{Made}
-use Rattle.slot_cells.specs.Acts.{Shown, CellShown, Each, IsPassOf, IsSamePass, mine}
+use Rattle.book_cells.specs.declared.known.Made.{Made}
+use Rattle.lists.specs.Each.{Each}
+use Rattle.book_cells.specs.Acts.{Shown, CellShown, IsPassOf, IsSamePass, mine}
 use Rattle.receivers.specs.Passes.{Crew, ArePassesOf}
 use Rattle.receivers.specs.Roots.{AreSplit}
 use Rattle.receivers.specs.Workers.{IsCrewOf}

@@ -3,8 +3,8 @@ use Rattle.std.specs.Prelude.{◌≡◌, ℕ, ◌<◌, List, ◌++◌, map, leng
 use Rattle.meter_slots.specs.declared.entry.Event.{Event}
 use Rattle.meter_slots.specs.declared.entry.Outcome.{Outcome}
 use Rattle.meter_address.specs.declared.address.Address.{Address}
-use Rattle.slot_cells.specs.declared.act.Act.{Act}
-use Rattle.slot_cells.specs.Acts.{act, Shown, CellShown, IsPassOf, IsSamePass}
+use Rattle.book_cells.specs.declared.act.Act.{Act}
+use Rattle.book_cells.specs.Acts.{act, Shown, CellShown, IsPassOf, IsSamePass}
 use Rattle.receivers.specs.Classes.{OwnLine, StrangeLine}
 
 -- ---- what is made on the cells

@@ -3,7 +3,7 @@ use Rattle.std.specs.Prelude.{List, [], ◌∷◌, length}
 use Rattle.meter_address.specs.declared.address.Address.{Address}
 use Rattle.meter_slots.specs.declared.entry.Event.{Event}
 use Rattle.meter_slots.specs.declared.entry.Outcome.{Outcome}
-use Rattle.slot_cells.specs.Acts.{Shown, CellShown}
+use Rattle.book_cells.specs.Acts.{Shown, CellShown}
 use Rattle.receivers.specs.Passes.{Crew}
 use Rattle.receivers.specs.Run.{ReceiverRun}
 use Rattle.receivers.specs.Workers.{IsDone}

@@ -2,7 +2,7 @@
 use Rattle.std.specs.Prelude.{◌≡◌, List, Option, None}
 use Rattle.meter_address.specs.declared.address.Address.{Address}
 use Rattle.meter_slots.specs.declared.counts.Ended.{Ended}
-use Rattle.slot_cells.specs.Acts.{CellShown, IsPassOf}
+use Rattle.book_cells.specs.Acts.{CellShown, IsPassOf}
 use Rattle.receivers.specs.Passes.{Crew, ArePassesOf}
 use Rattle.receivers.specs.Run.{ReceiverRun}
 use Rattle.receivers.specs.Works.{HasWorked}

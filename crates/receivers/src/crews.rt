@@ -1,6 +1,7 @@
 //! Passes for all receivers.
 ghost use Rattle.std.specs.Prelude.{◌≡◌, ℕ, ◌≤◌, length, ◌+◌, ◌<◌, ◌^◌, ◌++◌, List, map, IfOk, OnOk, vec_len};
-ghost use Rattle.slot_cells.specs.Acts.{Each, IsPassOf};
+ghost use Rattle.lists.specs.Each.{Each};
+ghost use Rattle.book_cells.specs.Acts.{IsPassOf};
 ghost use Rattle.receivers.specs.Passes.{crew, ArePassesOf};
 ghost use Rattle.receivers.specs.Crews.{IsCrew, AreCrews, AreRoots, CanJoin, HaveAllJoined};
 
@@ -9,7 +10,8 @@ use crate::roots::{join_each, split_each};
 use crate::workers::Worker;
 use meter_slots::{Event, Outcome};
 use outer_io::{Memory, Sink, Source};
-use slot_cells::{Book, BookCell, Pass, StrangerCell};
+use crate::cells::StrangerCell;
+use book_cells::{Book, BookCell, Pass};
 use std::alloc::Global;
 use stranger_ring::Strangers;
 

@@ -2,6 +2,7 @@
 #![tactic(auto)]
 
 mod alone;
+mod cells;
 mod class;
 mod crews;
 mod downlinks;
@@ -20,6 +21,7 @@ mod work;
 mod workers;
 
 pub use alone::Alone;
+pub use cells::{SlotCell, StrangerCell};
 pub use class::Class;
 pub use fresh::show_untaken;
 pub use meter_slots::{Counts, Ended};

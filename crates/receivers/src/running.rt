@@ -1,6 +1,6 @@
 //! All receivers at work on the cells.
 ghost use Rattle.std.specs.Prelude.{◌≡◌, ◌<◌, ◌^◌, None, length, All, OnOk, vec_len};
-ghost use Rattle.slot_cells.specs.Acts.{IsPassOf};
+ghost use Rattle.book_cells.specs.Acts.{IsPassOf};
 ghost use Rattle.receivers.specs.Passes.{ArePassesOf};
 ghost use Rattle.receivers.specs.Crews.{AreRoots};
 ghost use Rattle.receivers.specs.Run.{receiver_runs};
@@ -11,7 +11,8 @@ use crate::receiver::Receiver;
 use crate::workers::work_all;
 use meter_slots::{Directory, Event, Outcome};
 use outer_io::{Memory, Sink, Source};
-use slot_cells::{Book, BookCell, Pass, StrangerCell};
+use crate::cells::StrangerCell;
+use book_cells::{Book, BookCell, Pass};
 use std::alloc::Global;
 use std::sync::Wait;
 use std::thread::Threads;

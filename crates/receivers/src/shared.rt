@@ -1,6 +1,6 @@
 //! Slots that several receivers share: each is in a cell, of which each receiver has a pass.
 ghost use Rattle.std.specs.Prelude.{◌≡◌, ◌<◌, length};
-ghost use Rattle.slot_cells.specs.Acts.{IsPassOf};
+ghost use Rattle.book_cells.specs.Acts.{IsPassOf};
 ghost use Rattle.receivers.specs.Passes.{ArePassesOf, HaveAnswered, HasNoted};
 ghost use Rattle.receivers.specs.Works.{answer_by, note_if};
 
@@ -10,7 +10,8 @@ use crate::slots::{Heard, Slots, silent};
 use meter_address::Address;
 use meter_slots::{Directory, Event, Outcome};
 use outer_io::{Memory, Sink};
-use slot_cells::{Book, BookCell, Pass, StrangerCell};
+use crate::cells::StrangerCell;
+use book_cells::{Book, BookCell, Pass};
 use std::sync::Wait;
 use stranger_ring::Strangers;
 
@@ -62,7 +63,7 @@ impl<R: Wait, B: Book<Call = Event, Answer = Outcome>, K: Sink> Slots<K> for Sha
     ghost use Rattle.std.specs.Prelude.{ℕ, ◌≡◌, List, [], length};
     ghost use Rattle.meter_address.specs.declared.address.Address.{Address};
     ghost use Rattle.outer_io.specs.Shown.{sink_change};
-    ghost use Rattle.slot_cells.specs.Acts.{CellShown, IsPassOf};
+    ghost use Rattle.book_cells.specs.Acts.{CellShown, IsPassOf};
     ghost use Rattle.stranger_ring.specs.declared.strangers.Heard.{Heard};
     ghost use Rattle.receivers.specs.Passes.{crew, ArePassesOf};
     ghost use Rattle.receivers.specs.Works.{Works, MakesShared};

@@ -3,13 +3,14 @@ use crate::receiver::Receiver;
 use crate::shared::Shared;
 use meter_slots::{Directory, Ended, Event, Outcome};
 use outer_io::{Sink, Source};
-use slot_cells::{Book, BookCell, Pass, StrangerCell};
+use crate::cells::StrangerCell;
+use book_cells::{Book, BookCell, Pass};
 use std::sync::Wait;
 use stranger_ring::Strangers;
 
 impl<S: Source, K: Sink> Receiver<S, K> {
     ghost use Rattle.std.specs.Prelude.{◌≡◌, None, Some, length};
-    ghost use Rattle.slot_cells.specs.Acts.{IsPassOf};
+    ghost use Rattle.book_cells.specs.Acts.{IsPassOf};
     ghost use Rattle.receivers.specs.Passes.{crew, ArePassesOf};
     ghost use Rattle.receivers.specs.Run.{receiver_run};
     ghost use Rattle.receivers.specs.Works.{HasWorked};

@@ -8,7 +8,7 @@ use crate::{Worker, work_all};
 use meter_address::Address;
 use meter_slots::{Directory, Ended, Event, Outcome};
 use outer_io::{Memory, MemorySink, MemorySource};
-use slot_cells::{Act, Book};
+use book_cells::{Act, Book};
 use std::alloc::Global;
 use std::sync::Wait;
 use std::sync::atomic::{AtomicU64, Ordering};

@@ -1,5 +1,6 @@
 use Rattle.std.proofs.Common.{◌≡◌, ◌++◌, map, length}
-use Rattle.slot_cells.specs.Acts.{Each, IsPassOf}
+use Rattle.lists.specs.Each.{Each}
+use Rattle.book_cells.specs.Acts.{IsPassOf}
 use Rattle.receivers.specs.Passes.{crew, ArePassesOf}
 use Rattle.receivers.specs.Crews.{CanJoin}
 use Rattle.receivers.proofs.Dismissals.{IsDismissed}

@@ -5,8 +5,8 @@ use Rattle.meter_address.specs.declared.address.Address.{Address}
 use Rattle.meter_slots.specs.declared.entry.Event.{Event}
 use Rattle.meter_slots.specs.declared.entry.Outcome.{Outcome}
 use Rattle.meter_slots.specs.Journal.{SlotView}
-use Rattle.slot_cells.specs.Acts.{Shown}
-use Rattle.slot_cells.specs.Books.{opening_of, act_of, IsLegalJournal}
+use Rattle.book_cells.specs.Acts.{Shown}
+use Rattle.meter_slots.specs.Acting.{opening_of, act_of, IsLegalJournal}
 use Rattle.receivers.specs.Roots.{CanCloseAll, AreLeft}
 use Rattle.receivers.specs.Run.{receiver_runs}
 use Rattle.receivers.proofs.Collecting.{HaveRunOn, have_run_on, can_close_all, whole, collected}

@@ -4,7 +4,7 @@ use Rattle.meter_address.specs.declared.address.Address.{Address}
 use Rattle.meter_slots.specs.declared.entry.Event.{Event}
 use Rattle.meter_slots.specs.declared.entry.Outcome.{Outcome}
 use Rattle.outer_io.specs.Shown.{source_change, sink_shown}
-use Rattle.slot_cells.specs.Acts.{Shown}
+use Rattle.book_cells.specs.Acts.{Shown}
 use Rattle.receivers.specs.Passes.{Crew, crew}
 use Rattle.receivers.specs.Run.{ReceiverRun}
 use Rattle.receivers.specs.Works.{HasWorked}

@@ -2,7 +2,7 @@ use Rattle.std.proofs.Common.{◌≡◌, ℕ, zero, suc, ◌<◌, List, [], ◌�
 use Rattle.meter_address.specs.declared.address.Address.{Address}
 use Rattle.meter_slots.specs.declared.entry.Event.{Event}
 use Rattle.meter_slots.specs.declared.entry.Outcome.{Outcome}
-use Rattle.slot_cells.specs.Acts.{Shown, CellShown, IsPassOf, IsFirstPass}
+use Rattle.book_cells.specs.Acts.{Shown, CellShown, IsPassOf, IsFirstPass}
 use Rattle.receivers.specs.Crews.{IsRoot, AreRoots, AreCrews}
 use Rattle.receivers.specs.Passes.{Crew, crew}
 use Rattle.receivers.specs.Receiver.{Receiving}

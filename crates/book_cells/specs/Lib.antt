@@ -1,0 +1,3 @@
+pub mod Acts
+pub mod Passes
+pub mod Turns
