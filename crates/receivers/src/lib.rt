@@ -30,5 +30,3 @@ pub use session::{Collected, collect};
 pub use told::{Told, tell};
 pub use workers::{Worker, work_all};
 
-#[cfg(test)]
-mod tests;

@@ -6,6 +6,8 @@ mod access_window_calls;
 #[cfg(test)]
 mod asserts;
 #[cfg(test)]
+mod book_cells_calls;
+#[cfg(test)]
 mod command_queue_calls;
 #[cfg(test)]
 mod made_input_calls;
