@@ -10,21 +10,21 @@ use Rattle.aes_block.specs.declared.tables.TheConstants.{SUBSTITUTION, INVERSE_S
 
 -- ---- the tables
 substituted_is_table : holds_below 256 (λ k. get_or SUBSTITUTION k 0 == substitute k) ≡ true
-unfolding holds_below substitute affine inverse inverse_up_to product polynomial_product remainder
+unfolding substitute affine inverse inverse_up_to product polynomial_product remainder
 substituted_is_table = refl
 
 pub substituted_at : (b : ℕ) → b < 256 → get_or SUBSTITUTION b 0 ≡ substitute b
 substituted_at = same_below 256 (λ k. get_or SUBSTITUTION k 0) substitute substituted_is_table
 
 inverse_substituted_is_table : holds_below 256 (λ k. get_or INVERSE_SUBSTITUTION k 0 == inverse_substitute k) ≡ true
-unfolding holds_below inverse_substitute inverse_affine inverse inverse_up_to product polynomial_product remainder
+unfolding inverse_substitute inverse_affine inverse inverse_up_to product polynomial_product remainder
 inverse_substituted_is_table = refl
 
 pub inverse_substituted_at : (b : ℕ) → b < 256 → get_or INVERSE_SUBSTITUTION b 0 ≡ inverse_substitute b
 inverse_substituted_at = same_below 256 (λ k. get_or INVERSE_SUBSTITUTION k 0) inverse_substitute inverse_substituted_is_table
 
 round_constants_are_powers : holds_below 10 (λ n. get_or ROUND_CONSTANTS n 0 == power_of_x n) ≡ true
-unfolding holds_below power_of_x product polynomial_product remainder
+unfolding power_of_x product polynomial_product remainder
 round_constants_are_powers = refl
 
 pub round_constant_at : (n : ℕ) → n < 10 → get_or ROUND_CONSTANTS n 0 ≡ power_of_x n
@@ -32,7 +32,6 @@ round_constant_at = same_below 10 (λ n. get_or ROUND_CONSTANTS n 0) power_of_x 
 
 -- ---- the two substitutions undo each other
 substitutes_are_bytes : holds_below 256 (λ k. ltb (get_or SUBSTITUTION k 0) 256) ≡ true
-unfolding holds_below
 substitutes_are_bytes = refl
 
 pub substitute-lt : (b : ℕ) → b < 256 → substitute b < 256
@@ -40,7 +39,6 @@ substitute-lt b h =
     rw (← substituted_at b h) (ltb-true _ _ (at_each_below 256 (λ k. ltb (get_or SUBSTITUTION k 0) 256) substitutes_are_bytes b h))
 
 inverse_substitutes_are_bytes : holds_below 256 (λ k. ltb (get_or INVERSE_SUBSTITUTION k 0) 256) ≡ true
-unfolding holds_below
 inverse_substitutes_are_bytes = refl
 
 pub inverse_substitute-lt : (b : ℕ) → b < 256 → inverse_substitute b < 256
@@ -49,7 +47,6 @@ inverse_substitute-lt b h =
     (ltb-true _ _ (at_each_below 256 (λ k. ltb (get_or INVERSE_SUBSTITUTION k 0) 256) inverse_substitutes_are_bytes b h))
 
 there_and_back : holds_below 256 (λ k. get_or INVERSE_SUBSTITUTION (get_or SUBSTITUTION k 0) 0 == k) ≡ true
-unfolding holds_below
 there_and_back = refl
 
 pub inverse_substitute-substitute : (b : ℕ) → b < 256 → inverse_substitute (substitute b) ≡ b
@@ -58,7 +55,6 @@ inverse_substitute-substitute b h =
     (same_below 256 (λ k. get_or INVERSE_SUBSTITUTION (get_or SUBSTITUTION k 0) 0) (λ k. k) there_and_back b h)
 
 back_and_there : holds_below 256 (λ k. get_or SUBSTITUTION (get_or INVERSE_SUBSTITUTION k 0) 0 == k) ≡ true
-unfolding holds_below
 back_and_there = refl
 
 pub substitute-inverse_substitute : (b : ℕ) → b < 256 → substitute (inverse_substitute b) ≡ b

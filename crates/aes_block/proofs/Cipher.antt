@@ -6,7 +6,7 @@ use Rattle.std.proofs.lemmas.List.Elements.{All-nil, All-cons, All-head, All-tai
 use Rattle.std.proofs.lemmas.Nat.{xor_of_8}
 use Rattle.std.specs.List.{range_with_len}
 use Rattle.aes_block.proofs.Lists.{AreBytes, add-add, length-add, AreBytes-add, at_four, sixteen}
-use Rattle.aes_block.proofs.Mixing.{length-mix, AreBytes-mix, AreBytes-4, AreBytes-mix_polynomial, AreBytes-inverse_mix_polynomial, inverse_mix-mix, mix-inverse_mix}
+use Rattle.aes_block.proofs.Mixing.{by_columns, length-mix, AreBytes-mix, AreBytes-4, AreBytes-mix_polynomial, AreBytes-inverse_mix_polynomial, inverse_mix-mix, mix-inverse_mix}
 use Rattle.aes_block.proofs.ByteTables.{substitute-lt, inverse_substitute-lt, inverse_substitute-substitute, substitute-inverse_substitute}
 use Rattle.aes_block.proofs.Elements.{product-lt}
 use Rattle.aes_block.specs.Field.{substitute, inverse_substitute}
@@ -104,26 +104,26 @@ IsWord-turned n w h =
 IsWord-add : (v w : List ℕ) → IsWord v → IsWord w → IsWord (add v w)
 IsWord-add v w hv hw = (omega (arith, length-add v w, hv.0, hw.0), AreBytes-add v w hv.1 hw.1)
 
-chained_is : (q : ℕ) (w k : List ℕ) → IsWord w → length k ≡ 4 * q → AreBytes k → (length (chained w k) ≡ 4 * q) × AreBytes (chained w k)
-chained_is q w [] hw h hk = (h, All-nil (λ x. x < 256))
-chained_is q w (a ∷ []) hw h hk = absurd (omega arith)
-chained_is q w (a ∷ b ∷ []) hw h hk = absurd (omega arith)
-chained_is q w (a ∷ b ∷ c ∷ []) hw h hk = absurd (omega arith)
-chained_is zero w (a ∷ b ∷ c ∷ d ∷ k) hw h hk = absurd (omega arith)
-chained_is (suc q) w (a ∷ b ∷ c ∷ d ∷ k) hw h hk =
+chained_is : (q : ℕ) (k : List ℕ) → length k ≡ 4 * q → (w : List ℕ) → IsWord w → AreBytes k
+    → (length (chained w k) ≡ length k) × AreBytes (chained w k)
+chained_is =
     let P : ℕ → Type 0 = λ x. x < 256 in
-    let rest : length k ≡ 4 * q = omega arith in
+    by_columns (λ k. (w : List ℕ) → IsWord w → AreBytes k → (length (chained w k) ≡ length k) × AreBytes (chained w k))
+    (λ w hw hk. (refl, All-nil P))
+    (λ a b c d k rest w hw hk.
     let v : List ℕ = a ∷ b ∷ c ∷ d ∷ [] in
     let at : (i : ℕ) → get_or (a ∷ b ∷ c ∷ d ∷ k) i 0 < 256 = byte_at (a ∷ b ∷ c ∷ d ∷ k) hk in
     let sum : IsWord (add v w) = IsWord-add v w (refl, AreBytes-4 a b c d (at 0) (at 1) (at 2) (at 3)) hw in
-    let more = chained_is q (add v w) k sum rest (All-drop P 4 (a ∷ b ∷ c ∷ d ∷ k) hk) in
-    (omega (arith, length-append (add v w) (chained (add v w) k), sum.0, more.0), All-append P (add v w) (chained (add v w) k) sum.1 more.1)
+    let more = rest (add v w) sum (All-drop P 4 (a ∷ b ∷ c ∷ d ∷ k) hk) in (
+      omega (arith, length-append (add v w) (chained (add v w) k), sum.0, more.0),
+      All-append P (add v w) (chained (add v w) k) sum.1 more.1,
+    ))
 
 pub IsBlock-next_round_key : (n : ℕ) (k : List ℕ) → IsBlock k → IsBlock (next_round_key n k)
 IsBlock-next_round_key n k h =
     let last : IsWord (drop 12 k) = (omega (arith, length-drop 12 k, h.count), All-drop (λ x. x < 256) 12 k h.bytes) in
-    let made = chained_is 4 (turned_word n (drop 12 k)) k (IsWord-turned n (drop 12 k) last) h.count h.bytes in
-    record { count = made.0; bytes = made.1 }
+    let made = chained_is 4 k h.count (turned_word n (drop 12 k)) (IsWord-turned n (drop 12 k) last) h.bytes in
+    record { count = made.0 ∙ h.count; bytes = made.1 }
 
 pub IsBlock-round_key : (key : List ℕ) (n : ℕ) → IsBlock key → IsBlock (round_key key n)
 unfolding round_key

@@ -11,7 +11,7 @@ use Rattle.aes_block.proofs.ByteTables.{substitute-lt, inverse_substitute-lt}
 use Rattle.std.specs.List.{range_with_len}
 use Rattle.aes_block.specs.Field.{substitute, inverse_substitute}
 use Rattle.aes_block.specs.Block.{IsBlock, add, column_product, mix, mix_polynomial, inverse_mix_polynomial, shift_rows, sub_bytes, inverse_shift_rows, inverse_sub_bytes, column}
-use Rattle.aes_block.specs.Words.{word, row, words_of, one_byte, mixed_substitute, inverse_mixed, inverse_mixed_substitute}
+use Rattle.aes_block.specs.Words.{word, row, rows, words_of, one_byte, mixed_substitute, inverse_mixed, inverse_mixed_substitute}
 
 -- a word of four bytes
 word-4 : (a b c d : ℕ) → word (a ∷ b ∷ c ∷ d ∷ []) ≡ ((a * 2 ^ 8 + b) * 2 ^ 8 + c) * 2 ^ 8 + d
@@ -133,6 +133,21 @@ word_of_mixed m a b c d hm ha hb hc hd =
 pub row-lt : (w r : ℕ) → row w r < 256
 row-lt w r = byte_at (to_be_bytes w32 w) (AreBytes-4 _ _ _ _ (omega arith) (omega arith) (omega arith) (omega arith)) r
 
+-- what is made of four bytes, each read from the bytes of a word
+pub four_read : {A : Type 0} (g : ℕ → ℕ → ℕ → ℕ → A) (f0 f1 f2 f3 : ℕ → ℕ) (a b c d : ℕ) {x y z w : ℕ} {s t u v : List ℕ}
+    → s ≡ to_be_bytes w32 a → t ≡ to_be_bytes w32 b → u ≡ to_be_bytes w32 c → v ≡ to_be_bytes w32 d
+    → x ≡ f0 (get_or s 0 0) → y ≡ f1 (get_or t 1 0) → z ≡ f2 (get_or u 2 0) → w ≡ f3 (get_or v 3 0)
+    → g x y z w ≡ g (f0 (row a 0)) (f1 (row b 1)) (f2 (row c 2)) (f3 (row d 3))
+four_read g f0 f1 f2 f3 a b c d p q r k is_x is_y is_z is_w =
+    (λ i. g (is_x i) (is_y i) (is_z i) (is_w i)) ∙ (λ i. g (f0 (get_or (p i) 0 0)) (f1 (get_or (q i) 1 0)) (f2 (get_or (r i) 2 0))
+    (f3 (get_or (k i) 3 0)))
+
+abbrev pub summed : ℕ → ℕ → ℕ → ℕ → ℕ
+summed x y z w = bit_xor (bit_xor (bit_xor x y) z) w
+
+abbrev pub gathered : ℕ → ℕ → ℕ → ℕ → ℕ
+gathered x y z w = from_be_bytes w32 (x ∷ y ∷ z ∷ w ∷ [])
+
 pub mixed_sum : (x y z w : ℕ) → x < 256 → y < 256 → z < 256 → w < 256 →
     bit_xor (bit_xor (bit_xor (mixed_substitute 0 x) (mixed_substitute 1 y)) (mixed_substitute 2 z)) (mixed_substitute 3 w)
     ≡ word (column_product mix_polynomial (substitute x ∷ substitute y ∷ substitute z ∷ substitute w ∷ []))
@@ -159,6 +174,33 @@ inverse_mixed_substitute_sum x y z w hx hy hz hw =
     AreBytes-inverse_mix_polynomial (inverse_substitute-lt x hx) (inverse_substitute-lt y hy) (inverse_substitute-lt z hz)
     (inverse_substitute-lt w hw)
 
+-- four bytes through f, row r of them of the r-th of these words
+abbrev rows_in : List ℕ → (ℕ → ℕ) → ℕ → ℕ → ℕ → ℕ → List ℕ
+rows_in s f i j k l = rows f (get_or s i 0) (get_or s j 0) (get_or s k 0) (get_or s l 0)
+
+abbrev rows_by : List ℕ → (ℕ → ℕ) → ℕ → ℕ → ℕ → ℕ → List ℕ
+rows_by b f i j k l = f (get_or (column b i) 0 0) ∷ f (get_or (column b j) 1 0) ∷ f (get_or (column b k) 2 0) ∷ f (get_or (column b l) 3 0) ∷ []
+
+-- what W makes of the four columns whose rows are turned to the left, whose rows are turned to the right, and as they are
+abbrev to_the_left : {A : Type 0} → (List ℕ → A) → ((i j k l : ℕ) → List ℕ) → List A
+to_the_left W column_at = W (column_at 0 1 2 3) ∷ W (column_at 1 2 3 0) ∷ W (column_at 2 3 0 1) ∷ W (column_at 3 0 1 2) ∷ []
+
+abbrev to_the_right : {A : Type 0} → (List ℕ → A) → ((i j k l : ℕ) → List ℕ) → List A
+to_the_right W column_at = W (column_at 0 3 2 1) ∷ W (column_at 1 0 3 2) ∷ W (column_at 2 1 0 3) ∷ W (column_at 3 2 1 0) ∷ []
+
+abbrev unturned : {A : Type 0} → (List ℕ → A) → ((i j k l : ℕ) → List ℕ) → List A
+unturned W column_at = W (column_at 0 0 0 0) ∷ W (column_at 1 1 1 1) ∷ W (column_at 2 2 2 2) ∷ W (column_at 3 3 3 3) ∷ []
+
+abbrev mixed : List ℕ → ℕ
+mixed x = word (column_product mix_polynomial x)
+
+abbrev mixed_back : List ℕ → ℕ
+mixed_back x = word (column_product inverse_mix_polynomial x)
+
+abbrev joined_columns : List (List ℕ) → List ℕ
+joined_columns [] = []
+joined_columns (x ∷ xs) = x ++ joined_columns xs
+
 -- the words after a round, by the bytes of the words before it
 module _ (b s : List ℕ) (is_block : IsBlock b) (e : s ≡ words_of b) where
   -- byte r of word c
@@ -166,128 +208,65 @@ module _ (b s : List ℕ) (is_block : IsBlock b) (e : s ≡ words_of b) where
   row_at c r lt = ap (λ x. get_or x r 0) (bytes_at b s is_block e c lt)
 
   -- four bytes, one of each of four words
-  rows : (f : ℕ → ℕ) (i j k l : ℕ) → i < 4 → j < 4 → k < 4 → l < 4 →
-      f (row (get_or s i 0) 0) ∷ f (row (get_or s j 0) 1) ∷ f (row (get_or s k 0) 2) ∷ f (row (get_or s l 0) 3) ∷ []
-      ≡ f (get_or (column b i) 0 0) ∷ f (get_or (column b j) 1 0) ∷ f (get_or (column b k) 2 0) ∷ f (get_or (column b l) 3 0) ∷ []
-  rows f i j k l hi hj hk hl = λ n. f (row_at i 0 hi n) ∷ f (row_at j 1 hj n) ∷ f (row_at k 2 hk n) ∷ f (row_at l 3 hl n) ∷ []
+  rows_are : (f : ℕ → ℕ) (i j k l : ℕ) → i < 4 → j < 4 → k < 4 → l < 4 → rows_in s f i j k l ≡ rows_by b f i j k l
+  rows_are f i j k l hi hj hk hl = λ n. f (row_at i 0 hi n) ∷ f (row_at j 1 hj n) ∷ f (row_at k 2 hk n) ∷ f (row_at l 3 hl n) ∷ []
+
+  left_is : (W : List ℕ → ℕ) (f : ℕ → ℕ) → to_the_left W (rows_in s f) ≡ to_the_left W (rows_by b f)
+  left_is W f =
+      let p : 0 < 4 = omega arith in
+      let q : 1 < 4 = omega arith in
+      let r : 2 < 4 = omega arith in
+      let t : 3 < 4 = omega arith in
+      λ n. W (rows_are f 0 1 2 3 p q r t n) ∷ W (rows_are f 1 2 3 0 q r t p n) ∷ W (rows_are f 2 3 0 1 r t p q n)
+      ∷ W (rows_are f 3 0 1 2 t p q r n) ∷ []
+
+  right_is : (W : List ℕ → ℕ) (f : ℕ → ℕ) → to_the_right W (rows_in s f) ≡ to_the_right W (rows_by b f)
+  right_is W f =
+      let p : 0 < 4 = omega arith in
+      let q : 1 < 4 = omega arith in
+      let r : 2 < 4 = omega arith in
+      let t : 3 < 4 = omega arith in
+      λ n. W (rows_are f 0 3 2 1 p t r q n) ∷ W (rows_are f 1 0 3 2 q p t r n) ∷ W (rows_are f 2 1 0 3 r q p t n)
+      ∷ W (rows_are f 3 2 1 0 t r q p n) ∷ []
+
+  unturned_is : {A : Type 0} (W : List ℕ → A) → unturned W (rows_in s (λ x. x)) ≡ unturned W (rows_by b (λ x. x))
+  unturned_is W =
+      let p : 0 < 4 = omega arith in
+      let q : 1 < 4 = omega arith in
+      let r : 2 < 4 = omega arith in
+      let t : 3 < 4 = omega arith in
+      let f : ℕ → ℕ = λ x. x in
+      λ n. W (rows_are f 0 0 0 0 p p p p n) ∷ W (rows_are f 1 1 1 1 q q q q n) ∷ W (rows_are f 2 2 2 2 r r r r n)
+      ∷ W (rows_are f 3 3 3 3 t t t t n) ∷ []
 
   literal : List ℕ
   literal = map (λ i. get_or b i 0) (range_with_len 0 16)
 
-  pub forward_words :
-      word (column_product mix_polynomial (substitute (row (get_or s 0 0) 0) ∷ substitute (row (get_or s 1 0) 1)
-      ∷ substitute (row (get_or s 2 0) 2) ∷ substitute (row (get_or s 3 0) 3) ∷ []))
-      ∷ word (column_product mix_polynomial (substitute (row (get_or s 1 0) 0) ∷ substitute (row (get_or s 2 0) 1)
-      ∷ substitute (row (get_or s 3 0) 2) ∷ substitute (row (get_or s 0 0) 3) ∷ []))
-      ∷ word (column_product mix_polynomial (substitute (row (get_or s 2 0) 0) ∷ substitute (row (get_or s 3 0) 1)
-      ∷ substitute (row (get_or s 0 0) 2) ∷ substitute (row (get_or s 1 0) 3) ∷ []))
-      ∷ word (column_product mix_polynomial (substitute (row (get_or s 3 0) 0) ∷ substitute (row (get_or s 0 0) 1)
-      ∷ substitute (row (get_or s 1 0) 2) ∷ substitute (row (get_or s 2 0) 3) ∷ [])) ∷ []
-      ≡ words_of (mix mix_polynomial (shift_rows (sub_bytes b)))
+  pub forward_words : to_the_left mixed (rows_in s substitute) ≡ words_of (mix mix_polynomial (shift_rows (sub_bytes b)))
   unfolding literal
   forward_words =
-      let p : 0 < 4 = omega arith in
-      let q : 1 < 4 = omega arith in
-      let r : 2 < 4 = omega arith in
-      let t : 3 < 4 = omega arith in
-      let W : List ℕ → ℕ = λ x. word (column_product mix_polynomial x) in
-      (λ n. W (rows substitute 0 1 2 3 p q r t n) ∷ W (rows substitute 1 2 3 0 q r t p n) ∷ W (rows substitute 2 3 0 1 r t p q n)
-      ∷ W (rows substitute 3 0 1 2 t p q r n) ∷ [])
+      left_is mixed substitute
       ∙ sym (words_of-mix mix_polynomial (shift_rows (sub_bytes literal)) refl)
       ∙ ap (λ x. words_of (mix mix_polynomial (shift_rows (sub_bytes x)))) (sym (sixteen b is_block.count))
 
-  pub last_words :
-      word (substitute (row (get_or s 0 0) 0) ∷ substitute (row (get_or s 1 0) 1) ∷ substitute (row (get_or s 2 0) 2)
-      ∷ substitute (row (get_or s 3 0) 3) ∷ [])
-      ∷ word (substitute (row (get_or s 1 0) 0) ∷ substitute (row (get_or s 2 0) 1) ∷ substitute (row (get_or s 3 0) 2)
-      ∷ substitute (row (get_or s 0 0) 3) ∷ [])
-      ∷ word (substitute (row (get_or s 2 0) 0) ∷ substitute (row (get_or s 3 0) 1) ∷ substitute (row (get_or s 0 0) 2)
-      ∷ substitute (row (get_or s 1 0) 3) ∷ [])
-      ∷ word (substitute (row (get_or s 3 0) 0) ∷ substitute (row (get_or s 0 0) 1) ∷ substitute (row (get_or s 1 0) 2)
-      ∷ substitute (row (get_or s 2 0) 3) ∷ []) ∷ []
-      ≡ words_of (shift_rows (sub_bytes b))
-  last_words =
-      let p : 0 < 4 = omega arith in
-      let q : 1 < 4 = omega arith in
-      let r : 2 < 4 = omega arith in
-      let t : 3 < 4 = omega arith in
-      (λ n. word (rows substitute 0 1 2 3 p q r t n) ∷ word (rows substitute 1 2 3 0 q r t p n) ∷ word (rows substitute 2 3 0 1 r t p q n)
-      ∷ word (rows substitute 3 0 1 2 t p q r n) ∷ [])
-      ∙ ap (λ x. words_of (shift_rows (sub_bytes x))) (sym (sixteen b is_block.count))
+  pub last_words : to_the_left word (rows_in s substitute) ≡ words_of (shift_rows (sub_bytes b))
+  last_words = left_is word substitute ∙ ap (λ x. words_of (shift_rows (sub_bytes x))) (sym (sixteen b is_block.count))
 
-  pub inverse_round_words :
-      word (inverse_substitute (row (get_or s 0 0) 0) ∷ inverse_substitute (row (get_or s 3 0) 1)
-      ∷ inverse_substitute (row (get_or s 2 0) 2) ∷ inverse_substitute (row (get_or s 1 0) 3) ∷ [])
-      ∷ word (inverse_substitute (row (get_or s 1 0) 0) ∷ inverse_substitute (row (get_or s 0 0) 1)
-      ∷ inverse_substitute (row (get_or s 3 0) 2) ∷ inverse_substitute (row (get_or s 2 0) 3) ∷ [])
-      ∷ word (inverse_substitute (row (get_or s 2 0) 0) ∷ inverse_substitute (row (get_or s 1 0) 1)
-      ∷ inverse_substitute (row (get_or s 0 0) 2) ∷ inverse_substitute (row (get_or s 3 0) 3) ∷ [])
-      ∷ word (inverse_substitute (row (get_or s 3 0) 0) ∷ inverse_substitute (row (get_or s 2 0) 1)
-      ∷ inverse_substitute (row (get_or s 1 0) 2) ∷ inverse_substitute (row (get_or s 0 0) 3) ∷ []) ∷ []
-      ≡ words_of (inverse_sub_bytes (inverse_shift_rows b))
+  pub inverse_round_words : to_the_right word (rows_in s inverse_substitute) ≡ words_of (inverse_sub_bytes (inverse_shift_rows b))
   inverse_round_words =
-      let p : 0 < 4 = omega arith in
-      let q : 1 < 4 = omega arith in
-      let r : 2 < 4 = omega arith in
-      let t : 3 < 4 = omega arith in
-      let f = inverse_substitute in
-      (λ n. word (rows inverse_substitute 0 3 2 1 p t r q n) ∷ word (rows inverse_substitute 1 0 3 2 q p t r n)
-      ∷ word (rows inverse_substitute 2 1 0 3 r q p t n) ∷ word (rows inverse_substitute 3 2 1 0 t r q p n) ∷ [])
+      right_is word inverse_substitute
       ∙ ap (λ x. words_of (inverse_sub_bytes (inverse_shift_rows x))) (sym (sixteen b is_block.count))
 
-  pub backward_words :
-      word (column_product inverse_mix_polynomial (inverse_substitute (row (get_or s 0 0) 0) ∷ inverse_substitute (row (get_or s 3 0) 1)
-      ∷ inverse_substitute (row (get_or s 2 0) 2) ∷ inverse_substitute (row (get_or s 1 0) 3) ∷ []))
-      ∷ word (column_product inverse_mix_polynomial (inverse_substitute (row (get_or s 1 0) 0) ∷ inverse_substitute (row (get_or s 0 0) 1)
-      ∷ inverse_substitute (row (get_or s 3 0) 2) ∷ inverse_substitute (row (get_or s 2 0) 3) ∷ []))
-      ∷ word (column_product inverse_mix_polynomial (inverse_substitute (row (get_or s 2 0) 0) ∷ inverse_substitute (row (get_or s 1 0) 1)
-      ∷ inverse_substitute (row (get_or s 0 0) 2) ∷ inverse_substitute (row (get_or s 3 0) 3) ∷ []))
-      ∷ word (column_product inverse_mix_polynomial (inverse_substitute (row (get_or s 3 0) 0) ∷ inverse_substitute (row (get_or s 2 0) 1)
-      ∷ inverse_substitute (row (get_or s 1 0) 2) ∷ inverse_substitute (row (get_or s 0 0) 3) ∷ [])) ∷ []
+  pub backward_words : to_the_right mixed_back (rows_in s inverse_substitute)
       ≡ words_of (mix inverse_mix_polynomial (inverse_sub_bytes (inverse_shift_rows b)))
   unfolding literal
   backward_words =
-      let p : 0 < 4 = omega arith in
-      let q : 1 < 4 = omega arith in
-      let r : 2 < 4 = omega arith in
-      let t : 3 < 4 = omega arith in
-      let W : List ℕ → ℕ = λ x. word (column_product inverse_mix_polynomial x) in
-      (λ n. W (rows inverse_substitute 0 3 2 1 p t r q n) ∷ W (rows inverse_substitute 1 0 3 2 q p t r n)
-      ∷ W (rows inverse_substitute 2 1 0 3 r q p t n) ∷ W (rows inverse_substitute 3 2 1 0 t r q p n) ∷ [])
+      right_is mixed_back inverse_substitute
       ∙ sym (words_of-mix inverse_mix_polynomial (inverse_sub_bytes (inverse_shift_rows literal)) refl)
       ∙ ap (λ x. words_of (mix inverse_mix_polynomial (inverse_sub_bytes (inverse_shift_rows x)))) (sym (sixteen b is_block.count))
 
-  pub words_mixed_back :
-      word (column_product inverse_mix_polynomial (row (get_or s 0 0) 0 ∷ row (get_or s 0 0) 1 ∷ row (get_or s 0 0) 2
-      ∷ row (get_or s 0 0) 3 ∷ []))
-      ∷ word (column_product inverse_mix_polynomial (row (get_or s 1 0) 0 ∷ row (get_or s 1 0) 1 ∷ row (get_or s 1 0) 2
-      ∷ row (get_or s 1 0) 3 ∷ []))
-      ∷ word (column_product inverse_mix_polynomial (row (get_or s 2 0) 0 ∷ row (get_or s 2 0) 1 ∷ row (get_or s 2 0) 2
-      ∷ row (get_or s 2 0) 3 ∷ []))
-      ∷ word (column_product inverse_mix_polynomial (row (get_or s 3 0) 0 ∷ row (get_or s 3 0) 1 ∷ row (get_or s 3 0) 2
-      ∷ row (get_or s 3 0) 3 ∷ [])) ∷ []
-      ≡ words_of (mix inverse_mix_polynomial b)
-  words_mixed_back =
-      let p : 0 < 4 = omega arith in
-      let q : 1 < 4 = omega arith in
-      let r : 2 < 4 = omega arith in
-      let t : 3 < 4 = omega arith in
-      let W : List ℕ → ℕ = λ x. word (column_product inverse_mix_polynomial x) in
-      (λ n. W (rows (λ x. x) 0 0 0 0 p p p p n) ∷ W (rows (λ x. x) 1 1 1 1 q q q q n) ∷ W (rows (λ x. x) 2 2 2 2 r r r r n)
-      ∷ W (rows (λ x. x) 3 3 3 3 t t t t n) ∷ [])
-      ∙ sym (words_of-mix inverse_mix_polynomial b is_block.count)
+  pub words_mixed_back : unturned mixed_back (rows_in s (λ x. x)) ≡ words_of (mix inverse_mix_polynomial b)
+  words_mixed_back = unturned_is mixed_back ∙ sym (words_of-mix inverse_mix_polynomial b is_block.count)
 
-  pub stored :
-      row (get_or s 0 0) 0 ∷ row (get_or s 0 0) 1 ∷ row (get_or s 0 0) 2 ∷ row (get_or s 0 0) 3
-      ∷ row (get_or s 1 0) 0 ∷ row (get_or s 1 0) 1 ∷ row (get_or s 1 0) 2 ∷ row (get_or s 1 0) 3
-      ∷ row (get_or s 2 0) 0 ∷ row (get_or s 2 0) 1 ∷ row (get_or s 2 0) 2 ∷ row (get_or s 2 0) 3
-      ∷ row (get_or s 3 0) 0 ∷ row (get_or s 3 0) 1 ∷ row (get_or s 3 0) 2 ∷ row (get_or s 3 0) 3 ∷ [] ≡ b
-  stored =
-      let p : 0 < 4 = omega arith in
-      let q : 1 < 4 = omega arith in
-      let r : 2 < 4 = omega arith in
-      let t : 3 < 4 = omega arith in
-      let J : List ℕ → List ℕ → List ℕ → List ℕ → List ℕ = λ x y z w. x ++ (y ++ (z ++ (w ++ []))) in
-      (λ n. J (rows (λ x. x) 0 0 0 0 p p p p n) (rows (λ x. x) 1 1 1 1 q q q q n) (rows (λ x. x) 2 2 2 2 r r r r n)
-      (rows (λ x. x) 3 3 3 3 t t t t n))
-      ∙ sym (sixteen b is_block.count)
+  pub stored : joined_columns (unturned (λ x. x) (rows_in s (λ x. x))) ≡ b
+  stored = ap joined_columns (unturned_is (λ x. x)) ∙ sym (sixteen b is_block.count)

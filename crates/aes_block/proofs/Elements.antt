@@ -14,7 +14,7 @@ unfoldable row_fits : ℕ → ℕ → Bool
 row_fits a i = ltb i 256 && (cond (a == 0) true (product a i == 1) && holds_below 256 (λ b. fits i b (product a b)))
 
 each_row_fits : holds_below 256 (λ a. row_fits a (inverse a)) ≡ true
-unfolding holds_below fits row_fits inverse inverse_up_to product polynomial_product remainder
+unfolding fits row_fits inverse inverse_up_to product polynomial_product remainder
 each_row_fits = refl
 
 row_at : (a : ℕ) → a < 256 → row_fits a (inverse a) ≡ true

@@ -90,11 +90,11 @@ module _ (n m : List ℕ) (each : holds_below 256 (undoes n m) ≡ true) where
 
 -- ---- the two polynomials of the cipher
 inverse_mix_polynomial_undoes : holds_below 256 (undoes inverse_mix_polynomial mix_polynomial) ≡ true
-unfolding holds_below same_list column_product product polynomial_product remainder
+unfolding same_list column_product product polynomial_product remainder
 inverse_mix_polynomial_undoes = refl
 
 mix_polynomial_undoes : holds_below 256 (undoes mix_polynomial inverse_mix_polynomial) ≡ true
-unfolding holds_below same_list column_product product polynomial_product remainder
+unfolding same_list column_product product polynomial_product remainder
 mix_polynomial_undoes = refl
 
 -- ---- whole blocks
@@ -164,56 +164,56 @@ mix_of_sum m x y hx hy =
     (mix_one_more m (c x 3) (c y 3) [] [] refl refl (no_column m))))
     ∙ sym (ap₂ (λ (p q : List ℕ). add (mix m p) (mix m q)) (sixteen x hx) (sixteen y hy))
 
+-- what holds of no column, and of one more, holds of q columns
+pub by_columns : (P : List ℕ → Type 0) → P [] → ((a b c d : ℕ) (s : List ℕ) → P s → P (a ∷ b ∷ c ∷ d ∷ s)) → (q : ℕ) (s : List ℕ)
+    → length s ≡ 4 * q → P s
+by_columns P none more q [] h = none
+by_columns P none more q (a ∷ []) h = absurd (omega arith)
+by_columns P none more q (a ∷ b ∷ []) h = absurd (omega arith)
+by_columns P none more q (a ∷ b ∷ c ∷ []) h = absurd (omega arith)
+by_columns P none more zero (a ∷ b ∷ c ∷ d ∷ s) h = absurd (omega arith)
+by_columns P none more (suc q) (a ∷ b ∷ c ∷ d ∷ s) h = more a b c d s (by_columns P none more q s (omega arith))
+
+-- the same of columns of bytes
+by_byte_columns : (P : List ℕ → Type 0) → P []
+    → ((a b c d : ℕ) (s : List ℕ) → a < 256 → b < 256 → c < 256 → d < 256 → P s → P (a ∷ b ∷ c ∷ d ∷ s)) → (q : ℕ) (s : List ℕ)
+    → length s ≡ 4 * q → AreBytes s → P s
+by_byte_columns P none more =
+    let Q : ℕ → Type 0 = λ x. x < 256 in
+    by_columns (λ s. AreBytes s → P s) (λ hs. none) (λ a b c d s rest hs.
+    let h1 = All-tail Q a (b ∷ c ∷ d ∷ s) hs in
+    let h2 = All-tail Q b (c ∷ d ∷ s) h1 in
+    let h3 = All-tail Q c (d ∷ s) h2 in
+    more a b c d s (All-head Q a (b ∷ c ∷ d ∷ s) hs) (All-head Q b (c ∷ d ∷ s) h1) (All-head Q c (d ∷ s) h2) (All-head Q d s h3)
+    (rest (All-tail Q d s h3)))
+
 -- a list of q columns is a list of bytes, and m undoes n on each
 module _ (m : List ℕ) where
-  pub length-mix : (q : ℕ) (s : List ℕ) → length s ≡ 4 * q → length (mix m s) ≡ 4 * q
+  same_length : (q : ℕ) (s : List ℕ) → length s ≡ 4 * q → length (mix m s) ≡ length s
   unfolding mix
-  length-mix q [] h = h
-  length-mix q (a ∷ []) h = absurd (omega arith)
-  length-mix q (a ∷ b ∷ []) h = absurd (omega arith)
-  length-mix q (a ∷ b ∷ c ∷ []) h = absurd (omega arith)
-  length-mix zero (a ∷ b ∷ c ∷ d ∷ s) h = absurd (omega arith)
-  length-mix (suc q) (a ∷ b ∷ c ∷ d ∷ s) h =
-      let rest : length s ≡ 4 * q = omega arith in
-      omega (arith, length-append (column_product m (a ∷ b ∷ c ∷ d ∷ [])) (mix m s), length-column_product_4 m a b c d, length-mix q s rest)
+  same_length =
+      by_columns (λ s. length (mix m s) ≡ length s) refl
+      (λ a b c d s rest.
+      omega (arith, length-append (column_product m (a ∷ b ∷ c ∷ d ∷ [])) (mix m s), length-column_product_4 m a b c d, rest))
+
+  pub length-mix : (q : ℕ) (s : List ℕ) → length s ≡ 4 * q → length (mix m s) ≡ 4 * q
+  length-mix q s h = same_length q s h ∙ h
 
   pub AreBytes-mix : (q : ℕ) (s : List ℕ) → length s ≡ 4 * q → AreBytes m → AreBytes s → AreBytes (mix m s)
   unfolding mix
-  AreBytes-mix q [] h hm hs = hs
-  AreBytes-mix q (a ∷ []) h hm hs = absurd (omega arith)
-  AreBytes-mix q (a ∷ b ∷ []) h hm hs = absurd (omega arith)
-  AreBytes-mix q (a ∷ b ∷ c ∷ []) h hm hs = absurd (omega arith)
-  AreBytes-mix zero (a ∷ b ∷ c ∷ d ∷ s) h hm hs = absurd (omega arith)
-  AreBytes-mix (suc q) (a ∷ b ∷ c ∷ d ∷ s) h hm hs =
-      let P : ℕ → Type 0 = λ x. x < 256 in
-      let rest : length s ≡ 4 * q = omega arith in
-      let h1 = All-tail P a (b ∷ c ∷ d ∷ s) hs in
-      let h2 = All-tail P b (c ∷ d ∷ s) h1 in
-      let h3 = All-tail P c (d ∷ s) h2 in
-      All-append P (column_product m (a ∷ b ∷ c ∷ d ∷ [])) (mix m s)
-      (AreBytes-column_product m a b c d hm (All-head P a (b ∷ c ∷ d ∷ s) hs) (All-head P b (c ∷ d ∷ s) h1) (All-head P c (d ∷ s) h2)
-      (All-head P d s h3))
-      (AreBytes-mix q s rest hm (All-tail P d s h3))
+  AreBytes-mix q s h hm =
+      by_byte_columns (λ s. AreBytes (mix m s)) (All-nil (λ x. x < 256))
+      (λ a b c d s ha hb hc hd rest.
+      All-append (λ x. x < 256) (column_product m (a ∷ b ∷ c ∷ d ∷ [])) (mix m s) (AreBytes-column_product m a b c d hm ha hb hc hd) rest)
+      q s h
 
 mix_undone : (n m : List ℕ) → holds_below 256 (undoes n m) ≡ true → (q : ℕ) (s : List ℕ) → length s ≡ 4 * q → AreBytes s
     → mix n (mix m s) ≡ s
 unfolding mix
-mix_undone n m each q [] h hs = refl
-mix_undone n m each q (a ∷ []) h hs = absurd (omega arith)
-mix_undone n m each q (a ∷ b ∷ []) h hs = absurd (omega arith)
-mix_undone n m each q (a ∷ b ∷ c ∷ []) h hs = absurd (omega arith)
-mix_undone n m each zero (a ∷ b ∷ c ∷ d ∷ s) h hs = absurd (omega arith)
-mix_undone n m each (suc q) (a ∷ b ∷ c ∷ d ∷ s) h hs =
-    let P : ℕ → Type 0 = λ x. x < 256 in
-    let rest : length s ≡ 4 * q = omega arith in
-    let h1 = All-tail P a (b ∷ c ∷ d ∷ s) hs in
-    let h2 = All-tail P b (c ∷ d ∷ s) h1 in
-    let h3 = All-tail P c (d ∷ s) h2 in
+mix_undone n m each =
+    by_byte_columns (λ s. mix n (mix m s) ≡ s) refl (λ a b c d s ha hb hc hd rest.
     mix_append n (column_product m (a ∷ b ∷ c ∷ d ∷ [])) (mix m s) (length-column_product_4 m a b c d)
-    ∙ ap₂ (λ (x y : List ℕ). x ++ y)
-    (undone_four n m each a b c d (All-head P a (b ∷ c ∷ d ∷ s) hs) (All-head P b (c ∷ d ∷ s) h1) (All-head P c (d ∷ s) h2)
-    (All-head P d s h3))
-    (mix_undone n m each q s rest (All-tail P d s h3))
+    ∙ ap₂ (λ (x y : List ℕ). x ++ y) (undone_four n m each a b c d ha hb hc hd) rest)
 
 pub inverse_mix-mix : (q : ℕ) (s : List ℕ) → length s ≡ 4 * q → AreBytes s → mix inverse_mix_polynomial (mix mix_polynomial s) ≡ s
 inverse_mix-mix = mix_undone inverse_mix_polynomial mix_polynomial inverse_mix_polynomial_undoes

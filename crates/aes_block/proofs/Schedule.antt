@@ -24,41 +24,29 @@ module _ (key : List ℕ) (h : IsBlock key) (n i : ℕ) where
   unfolding round_key
   here = is_next n (round_key key n) (IsBlock-round_key key n h).count
 
+  -- word i, word i + 3 and word i + 4 in their round keys
+  placed : (r n3 r3 : ℕ) → r < 4 → i ≡ 4 * n + r → r3 < 4 → i + 3 ≡ 4 * n3 + r3 →
+      column (round_key key (suc n)) r
+      ≡ add (column (round_key key n) r)
+      (if r == 0 then turned_word n (column (round_key key n3) r3) else column (round_key key n3) r3)
+      → schedule_word key (i + 4)
+      ≡ add (schedule_word key i) (if i % 4 == 0 then turned_word (i / 4) (schedule_word key (i + 3)) else schedule_word key (i + 3))
+  placed r n3 r3 lt e lt3 e3 h =
+      let a : (i + 4) / 4 ≡ suc n = omega arith in
+      let b : (i + 4) % 4 ≡ r = omega arith in
+      let c : i / 4 ≡ n = omega arith in
+      let d : i % 4 ≡ r = omega arith in
+      let f : (i + 3) / 4 ≡ n3 = omega arith in
+      let g : (i + 3) % 4 ≡ r3 = omega arith in
+      rw (a, b, c, d, f, g) h
+
   at : (r : ℕ) → r < 4 → i ≡ 4 * n + r →
       schedule_word key (i + 4)
       ≡ add (schedule_word key i) (if i % 4 == 0 then turned_word (i / 4) (schedule_word key (i + 3)) else schedule_word key (i + 3))
-  at zero lt e =
-      let a : (i + 4) / 4 ≡ suc n = omega arith in
-      let b : (i + 4) % 4 ≡ 0 = omega arith in
-      let c : i / 4 ≡ n = omega arith in
-      let d : i % 4 ≡ 0 = omega arith in
-      let f : (i + 3) / 4 ≡ n = omega arith in
-      let g : (i + 3) % 4 ≡ 3 = omega arith in
-      rw (a, b, c, d, f, g) here.first
-  at (suc zero) lt e =
-      let a : (i + 4) / 4 ≡ suc n = omega arith in
-      let b : (i + 4) % 4 ≡ 1 = omega arith in
-      let c : i / 4 ≡ n = omega arith in
-      let d : i % 4 ≡ 1 = omega arith in
-      let f : (i + 3) / 4 ≡ suc n = omega arith in
-      let g : (i + 3) % 4 ≡ 0 = omega arith in
-      rw (a, b, c, d, f, g) here.second
-  at (suc (suc zero)) lt e =
-      let a : (i + 4) / 4 ≡ suc n = omega arith in
-      let b : (i + 4) % 4 ≡ 2 = omega arith in
-      let c : i / 4 ≡ n = omega arith in
-      let d : i % 4 ≡ 2 = omega arith in
-      let f : (i + 3) / 4 ≡ suc n = omega arith in
-      let g : (i + 3) % 4 ≡ 1 = omega arith in
-      rw (a, b, c, d, f, g) here.third
-  at (suc (suc (suc zero))) lt e =
-      let a : (i + 4) / 4 ≡ suc n = omega arith in
-      let b : (i + 4) % 4 ≡ 3 = omega arith in
-      let c : i / 4 ≡ n = omega arith in
-      let d : i % 4 ≡ 3 = omega arith in
-      let f : (i + 3) / 4 ≡ suc n = omega arith in
-      let g : (i + 3) % 4 ≡ 2 = omega arith in
-      rw (a, b, c, d, f, g) here.fourth
+  at zero lt e = placed 0 n 3 (omega arith) (omega arith) (omega arith) (omega arith) here.first
+  at (suc zero) lt e = placed 1 (suc n) 0 (omega arith) (omega arith) (omega arith) (omega arith) here.second
+  at (suc (suc zero)) lt e = placed 2 (suc n) 1 (omega arith) (omega arith) (omega arith) (omega arith) here.third
+  at (suc (suc (suc zero))) lt e = placed 3 (suc n) 2 (omega arith) (omega arith) (omega arith) (omega arith) here.fourth
   at (suc (suc (suc (suc r)))) lt e = absurd (omega arith)
 
 pub schedule_is_the_standards : ScheduleIsTheStandards

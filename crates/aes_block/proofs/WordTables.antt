@@ -14,7 +14,7 @@ mixed_at r y = word (column_product mix_polynomial (one_byte r y))
 -- by the table of the substitution, which computes fast
 mixed_substitution_is_table : holds_below 4 (λ r. holds_below 256
     (λ x. get_or (get_or MIXED_SUBSTITUTION r []) x 0 == mixed_at r (get_or SUBSTITUTION x 0))) ≡ true
-unfolding holds_below word column_product product polynomial_product remainder
+unfolding word column_product product polynomial_product remainder
 mixed_substitution_is_table = refl
 
 pub mixed_substitution_at : (r x : ℕ) → r < 4 → x < 256 → get_or (get_or MIXED_SUBSTITUTION r []) x 0 ≡ mixed_substitute r x
@@ -27,7 +27,7 @@ mixed_substitution_at r x hr hx =
     ∙ ap (mixed_at r) (substituted_at x hx)
 
 inverse_mixture_is_table : holds_below 4 (λ r. holds_below 256 (λ x. get_or (get_or INVERSE_MIXED r []) x 0 == inverse_mixed r x)) ≡ true
-unfolding holds_below word inverse_mixed column_product product polynomial_product remainder
+unfolding word inverse_mixed column_product product polynomial_product remainder
 inverse_mixture_is_table = refl
 
 pub inverse_mixture_at : (r x : ℕ) → r < 4 → x < 256 → get_or (get_or INVERSE_MIXED r []) x 0 ≡ inverse_mixed r x
@@ -42,7 +42,7 @@ mixed_back_at r y = word (column_product inverse_mix_polynomial (one_byte r y))
 
 inverse_mixed_substitution_is_table : holds_below 4 (λ r. holds_below 256
     (λ x. get_or (get_or INVERSE_MIXED_SUBSTITUTION r []) x 0 == mixed_back_at r (get_or INVERSE_SUBSTITUTION x 0))) ≡ true
-unfolding holds_below word column_product product polynomial_product remainder
+unfolding word column_product product polynomial_product remainder
 inverse_mixed_substitution_is_table = refl
 
 pub inverse_mixed_substitution_at : (r x : ℕ) → r < 4 → x < 256

@@ -1,28 +1,23 @@
 -- Each fault is the first of the bytes, and bytes with a fault give it.
-use Rattle.std.proofs.Common.{◌≡◌, ℕ, ◌+◌, ◌<◌, ◌↔◌, ◌⊎◌, Bool, true, false, cond, not, eqb, ltb, List, [], ◌∷◌, ◌++◌, length, Some, Result, Ok, Err, refl, sym, ap, subst, ◌∙◌, eq-eqb, arith, inl, inr}
+use Rattle.std.proofs.Common.{◌≡◌, ℕ, ◌+◌, ◌<◌, ◌↔◌, false, cond, not, eqb, ltb, List, [], ◌∷◌, ◌++◌, length, Some, Result, Ok, Err, refl, sym, ap, subst, ◌∙◌, eq-eqb, arith, inl, inr}
 use Rattle.std.specs.Prelude.{slice_get}
 use Rattle.std.specs.Int.{w16, from_le_bytes}
 use Rattle.std.proofs.lemmas.Bool.{eqb-true, eqb-false, false_from_ne_true, ltb-true, ltb-false, lt-ltb, le-ltb}
 use Rattle.std.proofs.lemmas.Nat.{le_bytes_2, from_le_bytes-to_le_bytes_2}
+use Rattle.lists.proofs.Choices.{chosen, not_true, not_false}
 use Rattle.afl_layer.specs.declared.header.Afl.{Afl}
 use Rattle.afl_layer.specs.declared.header.AflFault.{AflFault}
 use Rattle.afl_layer.specs.declared.header.AflFault.TheVariants.{Truncated, AflLength, FieldPlace, FidZero}
 use Rattle.afl_layer.specs.Fields.{fields_len}
 use Rattle.afl_layer.specs.Header.{misplaces, uncounts, BeginsWithFcl, HasFields, IsAflFault, fields_at, afl_at}
 use Rattle.afl_layer.proofs.FieldLaws.{IsBytes}
-use Rattle.afl_layer.proofs.HeaderLaws.{not_false, two_bytes, judged}
+use Rattle.afl_layer.proofs.HeaderLaws.{two_bytes, judged, word_at}
 
 abbrev no_header : AflFault → Result Afl AflFault
 no_header f = Err f
 
-guard_err : {A : Type 0} (b : Bool) (d f : AflFault) (r : Result A AflFault) → cond b (Err d) r ≡ Err f → ((b ≡ true) × (d ≡ f))
-    ⊎ ((b ≡ false) × (r ≡ Err f))
-guard_err true d f r e = inl (refl, cc)
-guard_err false d f r e = inr (refl, e)
-
-not_true : (b : Bool) → not b ≡ true → b ≡ false
-not_true true e = cc
-not_true false e = refl
+same_fault : (bytes : List ℕ) (d f : AflFault) → no_header d ≡ no_header f → IsAflFault bytes d → IsAflFault bytes f
+same_fault bytes d f e h = let is : d ≡ f = cc in subst (IsAflFault bytes) is h
 
 -- ---- what is refused has its fault
 
@@ -32,27 +27,21 @@ judged_fault : (bytes : List ℕ) (said fcl : ℕ) (rest : List ℕ) (f : AflFau
 unfolding judged
 judged_fault bytes said fcl rest f begins len e =
     let counted : ℕ = 2 + fields_len fcl in
-    elim (guard_err (not (eqb said counted)) (AflLength said counted) f _ e) [
+    elim (chosen (not (eqb said counted)) _ _ _ e) [
       | inl other ↦
-          let is : IsAflFault bytes (AflLength said counted) = (fcl, rest, begins, refl, eqb-false _ _ (not_true _ other.0)) in
-          subst (IsAflFault bytes) other.1 is
+          same_fault bytes (AflLength said counted) f other.1 (fcl, rest, begins, refl, eqb-false _ _ (not_true _ other.0))
       | inr counts ↦
           let begins_so = subst (λ (x : ℕ). BeginsWithFcl bytes x fcl rest) (eqb-true _ _ (not_false _ counts.0)) begins in
-          elim (guard_err (ltb (length rest) (fields_len fcl)) (Truncated (4 + length rest)) f _ counts.1) [
+          elim (chosen (ltb (length rest) (fields_len fcl)) _ _ _ counts.1) [
             | inl few ↦
-                let is : IsAflFault bytes (Truncated (4 + length rest)) = (inr (fcl, rest, begins_so, ltb-true _ _ few.0), sym len) in
-                subst (IsAflFault bytes) few.1 is
+                same_fault bytes (Truncated (4 + length rest)) f few.1 (inr (fcl, rest, begins_so, ltb-true _ _ few.0), sym len)
             | inr enough ↦
                 let has : HasFields bytes fcl = record { rest = rest; begins = begins_so; enough = ltb-false _ _ enough.0 } in
-                elim (guard_err (misplaces fcl) (FieldPlace fcl) f _ enough.1) [
-                  | inl misplaced ↦
-                      let is : IsAflFault bytes (FieldPlace fcl) = (has, misplaced.0) in
-                      subst (IsAflFault bytes) misplaced.1 is
+                elim (chosen (misplaces fcl) _ _ _ enough.1) [
+                  | inl misplaced ↦ same_fault bytes (FieldPlace fcl) f misplaced.1 (has, misplaced.0)
                   | inr placed ↦
-                      elim (guard_err (uncounts fcl) FidZero f _ placed.1) [
-                        | inl unnumbered ↦
-                            let is : IsAflFault bytes FidZero = (fcl, has, placed.0, unnumbered.0) in
-                            subst (IsAflFault bytes) unnumbered.1 is
+                      elim (chosen (uncounts fcl) _ _ _ placed.1) [
+                        | inl unnumbered ↦ same_fault bytes FidZero f unnumbered.1 (fcl, has, placed.0, unnumbered.0)
                         | inr numbered ↦ absurd (cc numbered.1)
                       ]
                 ]
@@ -84,11 +73,6 @@ fault_found (a ∷ said ∷ low ∷ high ∷ rest) f ci fits e =
     judged_fault (a ∷ said ∷ low ∷ high ∷ rest) said _ rest f (begins_at a said low high rest is_afl (fits 2) (fits 3)) (omega arith) e
 
 -- ---- a fault gives its refusal
-
-word_at : (ci said low high fcl : ℕ) (rest : List ℕ) → from_le_bytes w16 (low ∷ high ∷ []) ≡ fcl
-    → afl_at (ci ∷ said ∷ low ∷ high ∷ rest) ≡ judged said fcl rest
-unfolding afl_at judged
-word_at ci said low high fcl rest word = ap (λ (n : ℕ). judged said n rest) word
 
 judged_at : (bytes : List ℕ) (said fcl : ℕ) (rest : List ℕ) → BeginsWithFcl bytes said fcl rest → afl_at bytes ≡ judged said fcl rest
 judged_at bytes said fcl rest h = ap afl_at h.parts ∙ word_at 0x90 said _ _ fcl rest (from_le_bytes-to_le_bytes_2 fcl h.word)

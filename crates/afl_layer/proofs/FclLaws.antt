@@ -96,15 +96,7 @@ written_again text rest a n written len fits placed =
       rest = rest;
       word = (bits a fits.fid).below;
       parts = ap (λ (x : List ℕ). x ++ rest) written;
-      says = (let says = says_of a fits.fid in record {
-        more = says.more;
-        fid = says.fid;
-        mcl = says.mcl;
-        ki = says.ki;
-        mcr = says.mcr;
-        mac = says.mac;
-        ml = says.ml;
-      });
+      says = says_of (record a { len = n }) fits.fid;
       fits = record { fid = fits.fid; ki = fits.ki; mcr = fits.mcr; mac = fits.mac; ml = fits.ml };
       placed = record { fields = placed.fields; fid = placed.fid };
       len = len;

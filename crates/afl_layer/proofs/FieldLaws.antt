@@ -1,6 +1,7 @@
 -- The fields of a header: what is read of each is spelled so, and what is spelled so is read.
-use Rattle.std.proofs.Common.{◌≡◌, ℕ, zero, suc, ◌+◌, ◌^◌, ◌<◌, ◌≤◌, Bool, true, false, List, [], ◌∷◌, ◌++◌, length, get_or, take, drop, Option, Some, None, is_some, refl, ap, arith}
+use Rattle.std.proofs.Common.{◌≡◌, ℕ, zero, suc, ◌+◌, ◌^◌, ◌<◌, ◌≤◌, Bool, true, false, List, [], ◌∷◌, ◌++◌, length, get_or, take, drop, Option, Some, None, is_some, refl, sym, ap, arith}
 use Rattle.std.specs.Prelude.{IfSome}
+use Rattle.std.proofs.lemmas.List.FromFn.{fill_by_all}
 use Rattle.std.specs.Int.{w16, w32, to_le_bytes}
 use Rattle.std.proofs.lemmas.List.{take-append-drop, get_or-drop, length-take}
 use Rattle.std.proofs.lemmas.Nat.{le_bytes_2, le_bytes_4, from_le_bytes-to_le_bytes_2, from_le_bytes-to_le_bytes_4}
@@ -11,16 +12,7 @@ use Rattle.afl_layer.specs.Header.{byte_in, two_in, four_in, all_in}
 pub eight_cells : (xs : List ℕ) → length xs ≡ 8
     → Some (get_or xs 0 0 ∷ get_or xs 1 0 ∷ get_or xs 2 0 ∷ get_or xs 3 0 ∷ get_or xs 4 0 ∷ get_or xs 5 0 ∷ get_or xs 6 0 ∷ get_or xs 7 0
     ∷ []) ≡ all_in xs
-eight_cells [] len = absurd (omega arith)
-eight_cells (a ∷ []) len = absurd (omega arith)
-eight_cells (a ∷ b ∷ []) len = absurd (omega arith)
-eight_cells (a ∷ b ∷ c ∷ []) len = absurd (omega arith)
-eight_cells (a ∷ b ∷ c ∷ d ∷ []) len = absurd (omega arith)
-eight_cells (a ∷ b ∷ c ∷ d ∷ e ∷ []) len = absurd (omega arith)
-eight_cells (a ∷ b ∷ c ∷ d ∷ e ∷ f ∷ []) len = absurd (omega arith)
-eight_cells (a ∷ b ∷ c ∷ d ∷ e ∷ f ∷ g ∷ []) len = absurd (omega arith)
-eight_cells (a ∷ b ∷ c ∷ d ∷ e ∷ f ∷ g ∷ h ∷ []) len = refl
-eight_cells (a ∷ b ∷ c ∷ d ∷ e ∷ f ∷ g ∷ h ∷ i ∷ xs) len = absurd (omega arith)
+eight_cells xs len = sym (ap all_in (fill_by_all (λ i. get_or xs i 0) xs 8 0 len (λ k lt. refl)))
 
 abbrev pub IsBytes : List ℕ → Type 0
 IsBytes bytes = (i : ℕ) → get_or bytes i 0 < 256

@@ -1,25 +1,17 @@
 -- What is read is spelled so, and what is spelled so is read.
-use Rattle.std.proofs.Common.{◌≡◌, ℕ, zero, suc, ◌+◌, ◌<◌, ◌≤◌, Bool, true, false, cond, not, eqb, ltb, List, [], ◌∷◌, ◌++◌, length, take, drop, Some, is_some, Result, Ok, Err, refl, sym, ap, subst, ◌∙◌, eq-eqb, append_assoc, arith}
+use Rattle.std.proofs.Common.{◌≡◌, ℕ, zero, suc, ◌+◌, ◌<◌, ◌≤◌, Bool, false, cond, not, eqb, ltb, List, [], ◌∷◌, ◌++◌, length, take, drop, Some, is_some, Result, Ok, Err, refl, sym, ap, subst, ◌∙◌, eq-eqb, append_assoc, arith}
 use Rattle.std.specs.Prelude.{IfOk, slice_get}
 use Rattle.std.specs.Int.{w16, w32, to_le_bytes, from_le_bytes}
 use Rattle.std.proofs.lemmas.Bool.{eqb-true, ltb-false, le-ltb}
 use Rattle.std.proofs.lemmas.List.{take_at, drop_at, take-append-drop, length-append, length-take, length-drop}
 use Rattle.std.proofs.lemmas.Nat.{le_bytes_2, from_le_bytes-to_le_bytes_2}
+use Rattle.lists.proofs.Choices.{guard_ok, not_false}
 use Rattle.afl_layer.specs.declared.header.Afl.{Afl}
 use Rattle.afl_layer.specs.declared.header.AflFault.{AflFault}
 use Rattle.afl_layer.specs.declared.header.AflFault.TheVariants.{Truncated, AflLength, FieldPlace, FidZero}
 use Rattle.afl_layer.specs.Fields.{has_more, names_mcl, names_ki, names_mcr, names_mac, names_ml, fid_of, where_so, fields_len, field_bytes, fields_bytes, one_byte, is_misplaced, is_uncounted}
 use Rattle.afl_layer.specs.Header.{afl_bytes, Says, Fits, IsPlaced, BeginsWithAfl, byte_in, two_in, four_in, all_in, fields_at, misplaces, uncounts, afl_at}
 use Rattle.afl_layer.proofs.FieldLaws.{IsBytes, IsBytes-drop, itself, one_is, two_is, four_is, eight_is, length-one, length-two, length-four, length-eight, one_again, two_again, four_again, eight_again}
-
--- a test that did not fail
-guard_ok : {A : Type 0} (b : Bool) (f : AflFault) (r : Result A AflFault) (x : A) → cond b (Err f) r ≡ Ok x → (b ≡ false) × (r ≡ Ok x)
-guard_ok true f r x e = absurd cc
-guard_ok false f r x e = (refl, e)
-
-pub not_false : (b : Bool) → not b ≡ false → b ≡ true
-not_false true e = refl
-not_false false e = cc
 
 -- ---- the fields behind one another
 
@@ -164,19 +156,12 @@ takes_at ci said low high rest a is_afl fits e =
     } in
     subst (BeginsWithAfl (ci ∷ said ∷ low ∷ high ∷ rest)) same made
 
-too_short : (bytes : List ℕ) (a : Afl) → afl_at bytes ≡ Ok a → 4 ≤ length bytes
-unfolding afl_at
-too_short [] a e = absurd cc
-too_short (b ∷ []) a e = absurd cc
-too_short (b ∷ c ∷ []) a e = absurd cc
-too_short (b ∷ c ∷ d ∷ []) a e = absurd cc
-too_short (b ∷ c ∷ d ∷ f ∷ rest) a e = omega arith
-
 pub takes : (bytes : List ℕ) (a : Afl) → slice_get bytes 0 ≡ Some 0x90 → IsBytes bytes → afl_at bytes ≡ Ok a → BeginsWithAfl bytes a
+unfolding afl_at
 takes [] a ci fits e = absurd cc
-takes (b ∷ []) a ci fits e = absurd (omega (arith, too_short (b ∷ []) a e))
-takes (b ∷ c ∷ []) a ci fits e = absurd (omega (arith, too_short (b ∷ c ∷ []) a e))
-takes (b ∷ c ∷ d ∷ []) a ci fits e = absurd (omega (arith, too_short (b ∷ c ∷ d ∷ []) a e))
+takes (b ∷ []) a ci fits e = absurd cc
+takes (b ∷ c ∷ []) a ci fits e = absurd cc
+takes (b ∷ c ∷ d ∷ []) a ci fits e = absurd cc
 takes (b ∷ c ∷ d ∷ f ∷ rest) a ci fits e = let is_afl : b ≡ 0x90 = cc in takes_at b c d f rest a is_afl fits e
 
 -- ---- what is spelled so is read
@@ -196,12 +181,10 @@ unfolding judged
 judged_ok said fcl rest counted enough placed numbered =
     rw (eq-eqb said (2 + fields_len fcl) counted, le-ltb (length rest) (fields_len fcl) enough, placed, numbered) refl
 
-header_parts : (ci said low high fcl : ℕ) (rest : List ℕ) → from_le_bytes w16 (low ∷ high ∷ []) ≡ fcl → said ≡ 2 + fields_len fcl
-    → fields_len fcl ≤ length rest
-    → misplaces fcl ≡ false → uncounts fcl ≡ false → afl_at (ci ∷ said ∷ low ∷ high ∷ rest) ≡ Ok (fields_at fcl rest)
+pub word_at : (ci said low high fcl : ℕ) (rest : List ℕ) → from_le_bytes w16 (low ∷ high ∷ []) ≡ fcl
+    → afl_at (ci ∷ said ∷ low ∷ high ∷ rest) ≡ judged said fcl rest
 unfolding afl_at judged
-header_parts ci said low high fcl rest word counted enough placed numbered =
-    ap (λ (n : ℕ). judged said n rest) word ∙ judged_ok said fcl rest counted enough placed numbered
+word_at ci said low high fcl rest word = ap (λ (n : ℕ). judged said n rest) word
 
 -- the fields of these lengths are those in front
 fields_at_is : (fcl : ℕ) (a b c d e rest : List ℕ) → length a ≡ where_so (names_mcl fcl) 1 → length b ≡ where_so (names_ki fcl) 2
@@ -285,8 +268,8 @@ again bytes a h =
     let places = placed_of h.fcl a h.says h.placed in
     let whole : length (afl_bytes h.fcl a) ≡ 4 + length (fields_bytes a) = omega arith in
     ap afl_at h.parts
-    ∙ header_parts 0x90 (2 + length (fields_bytes a)) _ _ h.fcl (fields_bytes a ++ h.rest) (from_le_bytes-to_le_bytes_2 h.fcl h.word)
-    (ap (λ (n : ℕ). 2 + n) len) (omega (arith, len, length-append (fields_bytes a) h.rest)) places.0 places.1
+    ∙ word_at 0x90 (2 + length (fields_bytes a)) _ _ h.fcl (fields_bytes a ++ h.rest) (from_le_bytes-to_le_bytes_2 h.fcl h.word)
+    ∙ judged_ok (2 + length (fields_bytes a)) h.fcl (fields_bytes a ++ h.rest) (ap (λ (n : ℕ). 2 + n) len) (omega (arith, len, length-append (fields_bytes a) h.rest)) places.0 places.1
     ∙ ap (λ (x : Afl). let r : Result Afl AflFault = Ok x in r) (again_fields h.fcl a h.rest h.says h.fits (h.len ∙ whole
     ∙ ap (λ (n : ℕ). 4 + n) len))
 

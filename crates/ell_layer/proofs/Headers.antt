@@ -1,13 +1,14 @@
 -- What is read is spelled so, and what is spelled so is read.
-use Rattle.std.proofs.Common.{◌≡◌, ℕ, suc, ◌≤◌, ◌⊎◌, Bool, true, false, cond, eqb, ltb, List, [], ◌∷◌, ◌++◌, length, get_or, take, drop, Result, Ok, Err, refl, sym, ap, subst, ◌∙◌, arith, inl, inr}
+use Rattle.std.proofs.Common.{◌≡◌, ℕ, suc, ◌≤◌, ◌⊎◌, cond, eqb, ltb, List, [], ◌∷◌, ◌++◌, length, get_or, take, drop, Result, Ok, Err, refl, sym, ap, subst, ◌∙◌, arith, inl, inr}
 use Rattle.std.specs.Prelude.{IfOk}
 use Rattle.std.proofs.lemmas.Bool.{eqb-true, ltb-false, le-ltb}
 use Rattle.std.proofs.lemmas.List.{take-append-drop, length-append, length-take}
+use Rattle.lists.proofs.Choices.{chosen, guard_ok}
+use Rattle.lists.proofs.StepLaws.{bind_ok}
 use Rattle.ell_layer.specs.declared.extension.Ell.{Ell}
 use Rattle.ell_layer.specs.declared.extension.EllFault.{EllFault}
 use Rattle.ell_layer.specs.declared.extension.EllFault.TheVariants.{Truncated}
 use Rattle.ell_layer.specs.Access.{access_in}
-use Rattle.lists.specs.Steps.{◌>>=◌}
 use Rattle.ell_layer.specs.Extension.{BeginsWithEll, header_len, ell_at}
 
 -- the header with this control and access number
@@ -16,20 +17,6 @@ made control acc len = record { access = access_in control; acc = acc; len = len
 
 abbrev read : Ell → Result Ell EllFault
 read e = Ok e
-
--- a test that came out one way
-pub chosen : {A : Type 0} (b : Bool) (x y z : A) → cond b x y ≡ z → ((b ≡ true) × (x ≡ z)) ⊎ ((b ≡ false) × (y ≡ z))
-chosen true x y z e = inl (refl, e)
-chosen false x y z e = inr (refl, e)
-
-bind_ok : {A B : Type 0} (r : Result A EllFault) (f : A → Result B EllFault) (y : B) → (r >>= f) ≡ Ok y → (x : A) × (r ≡ Ok x)
-    × (f x ≡ Ok y)
-bind_ok (Ok x) f y e = (x, refl, e)
-bind_ok (Err d) f y e = absurd cc
-
-guard_ok : {A : Type 0} (b : Bool) (d : EllFault) (x y : A) → cond b (Err d) (Ok x) ≡ Ok y → (b ≡ false) × (x ≡ y)
-guard_ok true d x y e = absurd cc
-guard_ok false d x y e = (refl, cc)
 
 -- the CI that goes with a length
 pub ci_of : (ci n : ℕ) (rest : List ℕ) → header_len (ci ∷ rest) ≡ Ok n → ((ci ≡ 0x8C) × (n ≡ 3)) ⊎ ((ci ≡ 0x8E) × (n ≡ 11))
@@ -90,9 +77,10 @@ takes (ci ∷ rest) e h =
     (Ok (made (get_or bytes 1 0) (get_or bytes 2 0) n))) e h in
     let enough = guard_ok (ltb (length bytes) len.0) (Truncated (length bytes)) _ e len.2 in
     let long = ltb-false _ _ enough.0 in
+    let same : made (get_or bytes 1 0) (get_or bytes 2 0) len.0 ≡ e = cc enough.1 in
     elim (ci_of ci len.0 rest len.1) [
-      | inl short ↦ short_takes bytes e (omega arith) (ap (made (get_or bytes 1 0) (get_or bytes 2 0)) (sym short.1) ∙ enough.1) short.0
-      | inr other ↦ long_takes bytes e (omega arith) (ap (made (get_or bytes 1 0) (get_or bytes 2 0)) (sym other.1) ∙ enough.1) other.0
+      | inl short ↦ short_takes bytes e (omega arith) (ap (made (get_or bytes 1 0) (get_or bytes 2 0)) (sym short.1) ∙ same) short.0
+      | inr other ↦ long_takes bytes e (omega arith) (ap (made (get_or bytes 1 0) (get_or bytes 2 0)) (sym other.1) ∙ same) other.0
     ]
 
 is_made : (e : Ell) (control n : ℕ) → e.access ≡ access_in control → e.len ≡ n → e ≡ made control e.acc n

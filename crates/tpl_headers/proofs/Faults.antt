@@ -3,12 +3,12 @@ use Rattle.std.proofs.Common.{◌≡◌, ℕ, ◌+◌, ◌↔◌, eqb, ◌||◌,
 use Rattle.std.specs.Prelude.{ok_or}
 use Rattle.std.specs.Int.{w16, from_le_bytes}
 use Rattle.std.proofs.lemmas.Bool.{eqb-true, false_from_ne_true}
+use Rattle.lists.proofs.Choices.{chosen}
 use Rattle.tpl_headers.specs.declared.header.Tpl.{Tpl}
 use Rattle.tpl_headers.specs.declared.header.TplFault.{TplFault}
 use Rattle.tpl_headers.specs.declared.header.TplFault.TheVariants.{Truncated, Unbuilt}
 use Rattle.tpl_headers.specs.Configuration.{mode_of}
 use Rattle.tpl_headers.specs.Header.{IsShortCi, IsLongCi, IsCutTail, IsCutOff, IsTplFault, cfe_at, tail_at, address_at, with_tail, short_at, long_at, tpl_at}
-use Rattle.tpl_headers.proofs.Parts.{chosen}
 use Rattle.tpl_headers.proofs.Headers.{either_is, either_true, short_test}
 
 abbrev no_header : TplFault → Result Tpl TplFault
@@ -92,31 +92,25 @@ long_none ci (i ∷ j ∷ k ∷ l ∷ m ∷ n ∷ v ∷ d ∷ rest) cut = rw (ta
 
 fault_found : (bytes : List ℕ) (f : TplFault) → tpl_at bytes ≡ Err f → IsTplFault bytes f
 unfolding tpl_at
-fault_found [] f e =
-    let same : Truncated 0 ≡ f = cc in
-    let none : IsTplFault [] (Truncated 0) = (tt, refl) in
-    subst (IsTplFault []) same none
+fault_found [] f e = let same : Truncated 0 ≡ f = cc in subst (IsTplFault []) same (tt, refl)
 fault_found (ci ∷ rest) f e =
     let cut_off : TplFault = Truncated (1 + length rest) in
     elim (chosen (eqb ci 0x7A || eqb ci 0x8A) _ _ _ e) [
       | inl short ↦
           let none = ok_or_err (short_at ci rest) cut_off f short.1 in
-          let cut : IsTplFault (ci ∷ rest) cut_off = (inl (either_is ci 0x7A 0x8A short.0, short_cut ci rest none.0), omega arith) in
-          subst (IsTplFault (ci ∷ rest)) none.1 cut
+          subst (IsTplFault (ci ∷ rest)) none.1 (inl (either_is ci 0x7A 0x8A short.0, short_cut ci rest none.0), omega arith)
       | inr others ↦
           elim (chosen (eqb ci 0x72 || eqb ci 0x8B) _ _ _ others.1) [
             | inl long ↦
                 let none = ok_or_err (long_at ci rest) cut_off f long.1 in
-                let cut : IsTplFault (ci ∷ rest) cut_off = (inr (either_is ci 0x72 0x8B long.0, long_cut ci rest none.0), omega arith) in
-                subst (IsTplFault (ci ∷ rest)) none.1 cut
+                subst (IsTplFault (ci ∷ rest)) none.1 (inr (either_is ci 0x72 0x8B long.0, long_cut ci rest none.0), omega arith)
             | inr neither ↦
                 let same : Unbuilt ci ≡ f = cc neither.1 in
-                let other : IsTplFault (ci ∷ rest) (Unbuilt ci) = (
+                subst (IsTplFault (ci ∷ rest)) same (
                   refl,
                   λ short. absurd (cc (either_true ci 0x7A 0x8A short, others.0)),
                   λ long. absurd (cc (either_true ci 0x72 0x8B long, neither.0)),
-                ) in
-                subst (IsTplFault (ci ∷ rest)) same other
+                )
           ]
     ]
 

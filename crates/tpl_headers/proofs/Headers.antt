@@ -1,15 +1,15 @@
 -- What is read is spelled so, and what is spelled so is read.
-use Rattle.std.proofs.Common.{◌≡◌, ℕ, ◌+◌, ◌^◌, ◌<◌, true, false, eqb, ◌||◌, ◌⊎◌, List, [], ◌∷◌, ◌++◌, length, Option, Some, None, option_map, is_some, Result, Ok, Err, refl, sym, ap, subst, ◌∙◌, append_assoc, arith, inl, inr}
+use Rattle.std.proofs.Common.{◌≡◌, ℕ, ◌+◌, ◌^◌, ◌<◌, true, false, eqb, ◌||◌, ◌⊎◌, List, [], ◌∷◌, ◌++◌, length, Option, Some, None, option_map, Result, Ok, Err, refl, sym, ap, subst, ◌∙◌, append_assoc, arith, inl, inr}
 use Rattle.std.specs.Prelude.{IfOk, IfSome, ok_or}
 use Rattle.std.proofs.lemmas.Bool.Decides.{nat_tests}
 use Rattle.std.proofs.lemmas.List.{length-append}
 use Rattle.std.proofs.lemmas.Option.{option_and_then_some}
+use Rattle.lists.proofs.Choices.{chosen}
 use Rattle.meter_address.specs.declared.address.Address.{Address}
 use Rattle.tpl_headers.specs.declared.header.Tpl.{Tpl}
 use Rattle.tpl_headers.specs.declared.header.TplFault.{TplFault}
-use Rattle.tpl_headers.specs.Configuration.{mode_of}
 use Rattle.tpl_headers.specs.Header.{IsShortCi, IsLongCi, cfe_bytes, tail_bytes, tpl_bytes, HasItsAddress, HasItsExtension, IsHeader, BeginsWithTpl, tail_at, address_at, with_tail, short_at, long_at, tpl_at}
-use Rattle.tpl_headers.proofs.Parts.{IsBytes, IsBytes-rest, chosen, map_some, tail_takes, tail_again, address_takes, address_again}
+use Rattle.tpl_headers.proofs.Parts.{IsBytes, IsBytes-rest, map_some, tail_takes, tail_again, address_takes, address_again}
 use Rattle.meter_address.specs.Address.{header_order}
 use Rattle.meter_address.proofs.HeaderOrder.{length-header_order}
 
@@ -78,40 +78,25 @@ pub short_test : (ci : ℕ) → IsLongCi ci → (eqb ci 0x7A || eqb ci 0x8A) ≡
 short_test ci (inl e) = rw e refl
 short_test ci (inr e) = rw e refl
 
-short_ok : (ci : ℕ) (rest : List ℕ) (t : Tpl) → IsShortCi ci → short_at ci rest ≡ Some t → tpl_at (ci ∷ rest) ≡ Ok t
-unfolding tpl_at
-short_ok ci rest t short read = rw (either_true ci 0x7A 0x8A short, read) refl
-
-long_ok : (ci : ℕ) (rest : List ℕ) (t : Tpl) → IsLongCi ci → long_at ci rest ≡ Some t → tpl_at (ci ∷ rest) ≡ Ok t
-unfolding tpl_at
-long_ok ci rest t long read = rw (short_test ci long, either_true ci 0x72 0x8B long, read) refl
-
-short_again : (ci acc status cf len : ℕ) (cfe : Option ℕ) (rest : List ℕ) → cf < 2 ^ 16 → is_some cfe ≡ eqb (mode_of cf) 7
-    → len ≡ 1 + (4 + length (cfe_bytes cfe))
-    → short_at ci (tail_bytes acc status cf cfe ++ rest) ≡ Some
-    (record { ci = ci; address = None; acc = acc; status = status; cf = cf; cfe = cfe; len = len })
-unfolding short_at
-short_again ci acc status cf len cfe rest fits mode same = rw (tail_again acc status cf cfe rest fits mode, same) refl
-
-long_again : (ci acc status cf len : ℕ) (a : Address) (cfe : Option ℕ) (rest : List ℕ) → a.0 < 2 ^ 64 → cf < 2 ^ 16
-    → is_some cfe ≡ eqb (mode_of cf) 7
-    → len ≡ 9 + (4 + length (cfe_bytes cfe))
-    → long_at ci (header_order a ++ (tail_bytes acc status cf cfe ++ rest)) ≡ Some
-    (record { ci = ci; address = Some a; acc = acc; status = status; cf = cf; cfe = cfe; len = len })
-unfolding long_at
-long_again ci acc status cf len a cfe rest number fits mode same =
-    rw (address_again a (tail_bytes acc status cf cfe ++ rest) number, tail_again acc status cf cfe rest fits mode, same) refl
-
 again_at : (rest : List ℕ) (address : Option Address) (ci acc status cf len : ℕ) (cfe : Option ℕ)
     → (let t : Tpl = record { ci = ci; address = address; acc = acc; status = status; cf = cf; cfe = cfe; len = len } in IsHeader t
     → tpl_at (tpl_bytes t ++ rest) ≡ Ok t)
+unfolding tpl_at short_at long_at
 again_at rest None ci acc status cf len cfe h =
-    short_ok ci _ _ h.address (short_again ci acc status cf len cfe rest h.cf h.extension (h.len ∙ omega arith))
+    let same : len ≡ 1 + (4 + length (cfe_bytes cfe)) = h.len ∙ omega arith in
+    rw (either_true ci 0x7A 0x8A h.address, tail_again acc status cf cfe rest h.cf h.extension, same) refl
 again_at rest (Some a) ci acc status cf len cfe h =
-    let counted : len ≡ 9 + (4 + length (cfe_bytes cfe)) =
-    h.len ∙ omega (arith, length-append (header_order a) (tail_bytes acc status cf cfe), length-header_order a) in
-    ap (λ (x : List ℕ). tpl_at (ci ∷ x)) (append_assoc (header_order a) (tail_bytes acc status cf cfe) rest)
-    ∙ long_ok ci _ _ h.address (long_again ci acc status cf len a cfe rest h.number h.cf h.extension counted)
+    let tail : List ℕ = tail_bytes acc status cf cfe in
+    let same : len ≡ 9 + (4 + length (cfe_bytes cfe)) =
+    h.len ∙ omega (arith, length-append (header_order a) tail, length-header_order a) in
+    ap (λ (x : List ℕ). tpl_at (ci ∷ x)) (append_assoc (header_order a) tail rest)
+    ∙ rw (
+      short_test ci h.address,
+      either_true ci 0x72 0x8B h.address,
+      address_again a (tail ++ rest) h.number,
+      tail_again acc status cf cfe rest h.cf h.extension,
+      same,
+    ) refl
 
 -- a spelt header is read, whatever follows it
 pub again : (rest : List ℕ) (t : Tpl) → IsHeader t → tpl_at (tpl_bytes t ++ rest) ≡ Ok t

@@ -3,8 +3,8 @@ ghost use Rattle.std.specs.Prelude.{◌≡◌, ◌+◌, ◌≤◌, ◌<◌, ◌^
 ghost use Rattle.tpl_headers.specs.Header.{HasItsAddress, HasItsExtension, address_bytes, cfe_bytes, tpl_bytes, tpl_at};
 
 use crate::header::Tpl;
-use meter_address::Address;
 use lists::put;
+use meter_address::Address;
 
 // Writes the address, where there is one, identification first.
 fn put_address(out: &mut [u8], at: usize, address: Option<Address>) -> usize

@@ -71,18 +71,18 @@ fn the_gas_meters_telegram_is_read_in_both_formats(rt: HostRuntime) {
     assert_holds(&rt, a, Format::B, &frame_b, &telegram);
 }
 
-// The control field of the gas meter's telegram, its address, and how many bytes its layers have.
+// The control field of the gas meter's telegram, its address, and how many bytes it has.
 fn told(rt: &impl Abort, alloc: Global) -> (u8, u64, usize) {
     let telegram = bytes(rt, alloc, TELEGRAM);
     let telegram = Telegram::from_bytes(&telegram).expect(rt, "no telegram");
     let address = u64::from_be_bytes(telegram.link_address_bytes());
-    (telegram.control(), address, telegram.bytes()[10..].len())
+    (telegram.control(), address, telegram.bytes().len())
 }
 
 #[test]
 fn the_gas_meters_telegram_tells_its_fields(rt: HostRuntime) {
     let told = told(&rt, rt.alloc());
-    assert_eq!(rt; told, (0x44, 0x9315_7856_3412_3303, 37));
+    assert_eq!(rt; told, (0x44, 0x9315_7856_3412_3303, 47));
 }
 
 // Writes a telegram's frame and reads it again.

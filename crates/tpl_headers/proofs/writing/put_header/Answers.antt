@@ -1,4 +1,4 @@
-use Rattle.std.proofs.Common.{◌≡◌, drop, arith}
+use Rattle.std.proofs.Common.{arith}
 use Rattle.lists.proofs.Puts.{behind_both}
 use Rattle.tpl_headers.proofs.writing.put_header.Goals as goal
 

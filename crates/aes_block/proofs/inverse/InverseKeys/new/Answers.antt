@@ -1,8 +1,8 @@
-use Rattle.std.proofs.Common.{◌≡◌, ◌+◌, ◌<◌, ℕ, List, [], length, get_or, sym, subst, arith, below_more}
+use Rattle.std.proofs.Common.{◌≡◌, ◌+◌, ℕ, List, [], get_or, sym, subst, arith, below_more}
 use Rattle.std.proofs.Math.ListN.{set, length-set}
 use Rattle.std.proofs.lemmas.List.{get_or-set_same, get_or-set_other}
 use Rattle.aes_block.specs.Block.{round_key}
-use Rattle.aes_block.specs.Words.{IsMixedBack, AreMixedBack}
+use Rattle.aes_block.specs.Words.{IsMixedBack}
 use Rattle.aes_block.proofs.inverse.InverseKeys.new.Goals as goal
 
 pub loop-n-preserved : goal.loop-n-preserved

@@ -1,5 +1,5 @@
-use Rattle.std.proofs.Common.{◌≡◌, ◌+◌, ◌-◌, ℕ, List, [], get_or, sym, ap, ap₂, ◌∙◌, subst, arith}
-use Rattle.aes_block.specs.Block.{IsBlock, inverse_mix_polynomial, inverse_mix_columns, inverse_sub_bytes, inverse_shift_rows, round_key}
+use Rattle.std.proofs.Common.{◌≡◌, ◌+◌, ◌-◌, ℕ, List, [], get_or, sym, ap₂, subst, arith}
+use Rattle.aes_block.specs.Block.{IsBlock, inverse_mix_polynomial, inverse_sub_bytes, inverse_shift_rows, round_key}
 use Rattle.aes_block.specs.Words.{AreWordsOf, IsMixedBack}
 use Rattle.aes_block.proofs.Cipher.{IsBlock-inverse_sub_bytes, IsBlock-inverse_shift_rows}
 use Rattle.aes_block.proofs.Mixing.{mix_of_sum}
