@@ -29,6 +29,7 @@ use Rattle.meter_slots.specs.Journal.{Start, commission_of, told, told_by, other
 use Rattle.meter_slots.specs.Journal.{genuine, counters, greater, greatest, last_among, last_counter, Standing, stored_or_refused}
 use Rattle.meter_slots.specs.Journal.{judged, verdict, access_of, access_at, orders_after, standing_with, orders, standing, downlink_with}
 use Rattle.meter_slots.specs.Journal.{heard, answer, outcome, IsJudged, Legal, stored_in, stored, reading_of, readings_back, readings}
+use Rattle.meter_slots.proofs.Alike.{brought_same, genuine_alike, told_alike, access_alike, stored_alike, answer_alike}
 use Rattle.meter_slots.specs.Resuming.{last_of, last_known, resumed, IsSameStanding, resumed_behind, joined, AreLegal, readings_through}
 
 -- what is known behind some entries, of which the latest stands first, with this last reading
@@ -43,138 +44,6 @@ behind c earlier reading = record {
   orders = orders c earlier;
   reading = reading;
 }
-
--- ---- two commissions that differ in numbers alone, and in the second key, where the standing has its own
-
-abbrev numbered : Commissioned → Option ℕ → ℕ → ℕ → Commissioned
-numbered a last down ids = record a { last = last; down = down; ids = ids }
-
-abbrev alike : Commissioned → Option (List ℕ) → Option ℕ → ℕ → ℕ → Commissioned
-alike a other last down ids = record a { other = other; last = last; down = down; ids = ids }
-
-opened_alike : (mode : Mode) (a : Commissioned) (last : Option ℕ) (down ids : ℕ) (m : Message)
-    → opened_in mode (numbered a last down ids) m ≡ opened_in mode a m
-unfolding opened5 opened7 decrypted5
-opened_alike Five a last down ids m = refl
-opened_alike Seven a last down ids m = refl
-
-judged_alike : (a : Commissioned) (last : Option ℕ) (down ids : ℕ) (floor : Option ℕ) (b : Result (Option Message) Reason)
-    → judged (numbered a last down ids) floor b ≡ judged a floor b
-judged_alike a last down ids floor (Err reason) = refl
-judged_alike a last down ids floor (Ok None) = refl
-judged_alike a last down ids floor (Ok (Some m)) =
-    ap (λ (g : Result Found Reason). stored_or_refused (g >>= compared a.mode floor)) (opened_alike a.mode a last down ids m)
-
-genuine_alike : (a : Commissioned) (last : Option ℕ) (down ids : ℕ) (b : Result (Option Message) Reason)
-    → genuine_in (numbered a last down ids) b ≡ genuine_in a b
-genuine_alike a last down ids (Err reason) = refl
-genuine_alike a last down ids (Ok None) = refl
-genuine_alike a last down ids (Ok (Some m)) = ap result_ok (opened_alike a.mode a last down ids m)
-
-verdict_alike : (a : Commissioned) (other : Option (List ℕ)) (last : Option ℕ) (down ids : ℕ) (s : Standing) (t : List ℕ)
-    → verdict (alike a other last down ids) s t ≡ verdict a s t
-verdict_alike a other last down ids s t = judged_alike (rekeyed a s.other) last down ids s.last (brought s.told t (received a.mode t))
-
-told_alike : (a : Commissioned) (other : Option (List ℕ)) (last : Option ℕ) (down ids : ℕ) (event : Event) (o : Outcome)
-    → told_by (alike a other last down ids) event o ≡ told_by a event o
-told_alike a other last down ids (Hear format at t) o = refl
-told_alike a other last down ids Tick o = refl
-told_alike a other last down ids (Put payload) o = refl
-told_alike a other last down ids (Cancel id) o = refl
-told_alike a other last down ids (Rekey key) o = refl
-
-access_alike : (a : Commissioned) (other : Option (List ℕ)) (last : Option ℕ) (down ids : ℕ) (s : Standing) (event : Event)
-    → access_at (alike a other last down ids) s event ≡ access_at a s event
-access_alike a other last down ids s (Hear format at t) =
-    ap (access_of (received a.mode t)) (verdict_alike a other last down ids s t)
-access_alike a other last down ids s Tick = refl
-access_alike a other last down ids s (Put payload) = refl
-access_alike a other last down ids s (Cancel id) = refl
-access_alike a other last down ids s (Rekey key) = refl
-
-stored_alike : (a : Commissioned) (other : Option (List ℕ)) (last : Option ℕ) (down ids : ℕ) (s : Standing) (event : Event)
-    → stored (alike a other last down ids) s event ≡ stored a s event
-stored_alike a other last down ids s (Hear format at t) = ap stored_in (verdict_alike a other last down ids s t)
-stored_alike a other last down ids s Tick = refl
-stored_alike a other last down ids s (Put payload) = refl
-stored_alike a other last down ids s (Cancel id) = refl
-stored_alike a other last down ids s (Rekey key) = refl
-
-downlink_alike : (own : Address) (a : Commissioned) (other : Option (List ℕ)) (last : Option ℕ) (down ids : ℕ) (n : ℕ) (payload : List ℕ)
-    → downlink own (alike a other last down ids) n payload ≡ downlink own a n payload
-unfolding telegram_to message_bytes encrypted_content mac_of
-downlink_alike own a other last down ids n payload = refl
-
-sent_alike : (own : Address) (a : Commissioned) (other : Option (List ℕ)) (last : Option ℕ) (down ids : ℕ) (n : ℕ) (command : Option Command)
-    → option_map (downlink_with own (alike a other last down ids) n) command ≡ option_map (downlink_with own a n) command
-sent_alike own a other last down ids n None = refl
-sent_alike own a other last down ids n (Some command) =
-    ap (λ bytes. Some (record { bytes = bytes; id = command.id; down = n })) (downlink_alike own a other last down ids n command.payload)
-
-heard_alike : (own : Address) (a : Commissioned) (other : Option (List ℕ)) (last : Option ℕ) (down ids : ℕ) (k : Orders) (access : Access)
-    (response : Bool) (v : Result (Option Found) Reason)
-    → heard own (alike a other last down ids) k access response v ≡ heard own a k access response v
-heard_alike own a other last down ids k access response (Err reason) = refl
-heard_alike own a other last down ids k access response (Ok None) = refl
-heard_alike own a other last down ids k access response (Ok (Some f)) =
-    ap (λ sent. Stored f.counter (confirmed k response) sent)
-    (sent_alike own a other last down ids (after_stored k access response).down (sent_at k access response))
-
-answer_alike : (a : Commissioned) (other : Option (List ℕ)) (last : Option ℕ) (down ids : ℕ) (own : Address) (s : Standing) (event : Event)
-    → answer (alike a other last down ids) own s event ≡ answer a own s event
-answer_alike a other last down ids own s (Hear format at t) =
-    let b = alike a other last down ids in
-    let response = is_response (slice_index t 1) in
-    heard_alike own a other last down ids s.orders (access_at b s (Hear format at t)) response (verdict b s t)
-    ∙ ap (λ (x : Access). heard own a s.orders x response (verdict b s t)) (access_alike a other last down ids s (Hear format at t))
-    ∙ ap (heard own a s.orders (access_at a s (Hear format at t)) response) (verdict_alike a other last down ids s t)
-answer_alike a other last down ids own s Tick = refl
-answer_alike a other last down ids own s (Put payload) = refl
-answer_alike a other last down ids own s (Cancel id) = refl
-answer_alike a other last down ids own s (Rekey key) = refl
-
--- ---- two standings that hold the same
-
-message_same : (xs ys : List Told) (content : Content) → held xs ≡ held ys → message_in xs content ≡ message_in ys content
-message_same xs ys (Whole message) e = refl
-message_same xs ys (Part part) e = ap assembled (held_goes_on (Piece part ∷ []) xs ys e)
-
-brought_same : (xs ys : List Told) (t : List ℕ) (r : Result Layers Reason) → held xs ≡ held ys → brought xs t r ≡ brought ys t r
-brought_same xs ys t (Err reason) e = refl
-brought_same xs ys t (Ok l) e = ap Ok (message_same xs ys (content_behind t l) e)
-
-verdict_same : (a : Commissioned) (s s' : Standing) (t : List ℕ) → IsSameStanding s s' → verdict a s t ≡ verdict a s' t
-verdict_same a s s' t h =
-    ap (λ (o : Option (List ℕ)). judged (rekeyed a o) s.last (brought s.told t (received a.mode t))) h.other
-    ∙ ap (λ (l : Option ℕ). judged (rekeyed a s'.other) l (brought s.told t (received a.mode t))) h.last
-    ∙ ap (judged (rekeyed a s'.other) s'.last) (brought_same s.told s'.told t (received a.mode t) h.held)
-
-access_same : (a : Commissioned) (s s' : Standing) (event : Event) → IsSameStanding s s' → access_at a s event ≡ access_at a s' event
-access_same a s s' (Hear format at t) h = ap (access_of (received a.mode t)) (verdict_same a s s' t h)
-access_same a s s' Tick h = refl
-access_same a s s' (Put payload) h = refl
-access_same a s s' (Cancel id) h = refl
-access_same a s s' (Rekey key) h = refl
-
-stored_same : (a : Commissioned) (s s' : Standing) (event : Event) → IsSameStanding s s' → stored a s event ≡ stored a s' event
-stored_same a s s' (Hear format at t) h = ap stored_in (verdict_same a s s' t h)
-stored_same a s s' Tick h = refl
-stored_same a s s' (Put payload) h = refl
-stored_same a s s' (Cancel id) h = refl
-stored_same a s s' (Rekey key) h = refl
-
--- no event tells them apart
-pub answer_same : (a : Commissioned) (own : Address) (s s' : Standing) (event : Event) → IsSameStanding s s'
-    → answer a own s event ≡ answer a own s' event
-answer_same a own s s' (Hear format at t) h =
-    let response = is_response (slice_index t 1) in
-    ap (λ (k : Orders). heard own a k (access_at a s (Hear format at t)) response (verdict a s t)) h.orders
-    ∙ ap (λ (x : Access). heard own a s'.orders x response (verdict a s t)) (access_same a s s' (Hear format at t) h)
-    ∙ ap (heard own a s'.orders (access_at a s' (Hear format at t)) response) (verdict_same a s s' t h)
-answer_same a own s s' Tick h = ap (λ (k : Orders). answer a own (record s { orders = k }) Tick) h.orders
-answer_same a own s s' (Put payload) h = ap (λ (k : Orders). answer a own (record s { orders = k }) (Put payload)) h.orders
-answer_same a own s s' (Cancel id) h = ap (λ (k : Orders). answer a own (record s { orders = k }) (Cancel id)) h.orders
-answer_same a own s s' (Rekey key) h = refl
 
 -- ---- what both journals come to
 
@@ -216,10 +85,7 @@ module _ (c : Start) (earlier : List Entry) (reading : Option Reading) where
       ∙ ap (genuine_in (rekeyed (commission_of next) (other_key c both)))
       (brought_same (told next later) (told c both) t (received c.mode t) (held_cut later))
       ∙ genuine_alike (rekeyed (commission_of c) (other_key c both)) l k.down k.queue.ids (brought (told c both) t (received c.mode t))
-  genuine_cut later Tick = refl
-  genuine_cut later (Put payload) = refl
-  genuine_cut later (Cancel id) = refl
-  genuine_cut later (Rekey key) = refl
+  genuine_cut later _ = refl
 
   abbrev counter_in : Option Found → List ℕ
   counter_in found = option_to_list (option_map (λ f. f.counter) found)
@@ -242,9 +108,8 @@ module _ (c : Start) (earlier : List Entry) (reading : Option Reading) where
       → access_at (commission_of next) (standing_with next later k) event ≡ access_at (commission_of c) (standing_with c (later ++ earlier) k) event
   access_cut later k event =
       access_alike (commission_of c) (other_key c earlier) (last_counter c earlier) (orders c earlier).down (orders c earlier).queue.ids
-      (standing_with next later k) event
-      ∙ access_same (commission_of c) (standing_with next later k) (standing_with c (later ++ earlier) k) event
-      (record { other = other_cut later; last = last_cut later; held = held_cut later; orders = refl })
+      (standing_with next later k) (standing_with c (later ++ earlier) k)
+      (record { other = other_cut later; last = last_cut later; held = held_cut later; orders = refl }) event
 
   orders_cut : (later : List Entry) → orders next later ≡ orders c (later ++ earlier)
   orders_cut [] = refl
@@ -261,16 +126,14 @@ module _ (c : Start) (earlier : List Entry) (reading : Option Reading) where
   outcome_cut : (own : Address) (later : List Entry) (event : Event) → outcome next own later event ≡ outcome c own (later ++ earlier) event
   unfolding outcome
   outcome_cut own later event =
-      answer_alike (commission_of c) (other_key c earlier) (last_counter c earlier) (orders c earlier).down (orders c earlier).queue.ids own
-      (standing next later) event
-      ∙ answer_same (commission_of c) own (standing next later) (standing c (later ++ earlier)) event (standing_cut later)
+      answer_alike (commission_of c) (other_key c earlier) (last_counter c earlier) (orders c earlier).down (orders c earlier).queue.ids
+      (standing next later) (standing c (later ++ earlier)) (standing_cut later) own event
 
   stored_cut : (later : List Entry) (event : Event)
       → stored (commission_of next) (standing next later) event ≡ stored (commission_of c) (standing c (later ++ earlier)) event
   stored_cut later event =
       stored_alike (commission_of c) (other_key c earlier) (last_counter c earlier) (orders c earlier).down (orders c earlier).queue.ids
-      (standing next later) event
-      ∙ stored_same (commission_of c) (standing next later) (standing c (later ++ earlier)) event (standing_cut later)
+      (standing next later) (standing c (later ++ earlier)) (standing_cut later) event
 
   judged_parts : (own : Address) (later : List Entry) → IsJudged c own (later ++ earlier) → IsJudged c own earlier × IsJudged next own later
   judged_parts own [] j = (j, tt)

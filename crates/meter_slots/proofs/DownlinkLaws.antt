@@ -3,6 +3,7 @@ use Rattle.std.proofs.Common.{◌≡◌, ℕ, ◌+◌, ◌<◌, ◌≤◌, lengt
 use Rattle.std.proofs.Common.{ap, sym, ◌∙◌, arith, subst}
 use Rattle.std.specs.Prelude.{option_map}
 use Rattle.std.specs.List.{cons_option}
+use Rattle.std.proofs.lemmas.Bool.{cond_both}
 use Rattle.std.proofs.lemmas.List.Elements.{filter_map-append}
 use Rattle.std.proofs.lemmas.List.{reverse-reverse, append-nil}
 use Rattle.meter_address.specs.declared.address.Address.{Address}
@@ -40,8 +41,7 @@ nothing_sent old new (Some n) h e = absurd cc
 -- ---- a stored message
 
 confirmed_down : (k : Orders) (id : Option ℕ) → (confirmed_orders k id).down ≡ k.down
-confirmed_down k None = refl
-confirmed_down k (Some id) = refl
+confirmed_down k id = grind arith
 
 command_counts : (own : Address) (c : Commissioned) (k : Orders) (command : Option Command)
     → Counts k.down (sent_orders k command).down
@@ -62,32 +62,14 @@ stored_counts own c k access response =
 
 heard_counts : (own : Address) (c : Commissioned) (k : Orders) (access : Access) (response : Bool) (v : Result (Option Found) Reason)
     → Counts k.down (orders_heard k access response (heard own c k access response v)).down (sent_counter (heard own c k access response v))
-heard_counts own c k access response (Err reason) = refl
-heard_counts own c k access response (Ok None) = refl
 heard_counts own c k access response (Ok (Some f)) = stored_counts own c k access response
+heard_counts own c k access response _ = refl
 
 -- ---- the other events
 
-queued_sent : (r : Result ℕ QueueFault) → sent_counter (queued r) ≡ None
-queued_sent (Ok id) = refl
-queued_sent (Err Full) = refl
-queued_sent (Err IdsSpent) = refl
-
-cancelled_sent : (id : ℕ) (r : Result Command NoSuch) → sent_counter (cancelled id r) ≡ None
-cancelled_sent id (Ok command) = refl
-cancelled_sent id (Err missing) = refl
-
-key_sent : (mode : Mode) → sent_counter (key_answer mode) ≡ None
-key_sent Five = refl
-key_sent Seven = refl
-
-cond_down : (b : Bool) (j k : Orders) → j.down ≡ k.down → (cond b j k).down ≡ k.down
-cond_down true j k e = e
-cond_down false j k e = refl
-
 cancel_down : (k : Orders) (id : ℕ) → (after_cancel k id).down ≡ k.down
 unfolding after_cancel
-cancel_down k id = cond_down (is_pending id k.queue) _ k refl
+cancel_down k id = cond_both (is_pending id k.queue) _ k (λ (j : Orders). j.down ≡ k.down) (λ _. refl) (λ _. refl)
 
 tick_down : (k : Orders) → (after_tick k).down ≡ k.down
 unfolding after_tick
@@ -103,10 +85,13 @@ answer_counts : (c : Start) (own : Address) (earlier : List Entry) (event : Even
 answer_counts c own earlier (Hear format at t) =
     heard_counts own (commission_of c) (orders c earlier) _ _ (verdict (commission_of c) (standing c earlier) t)
 answer_counts c own earlier Tick = tick_down (orders c earlier)
-answer_counts c own earlier (Put payload) = nothing_sent _ _ _ (queued_sent (put_answer (orders c earlier).queue)) refl
+answer_counts c own earlier (Put payload) =
+    let none : sent_counter (queued (put_answer (orders c earlier).queue)) ≡ None = grind arith in nothing_sent _ _ _ none refl
 answer_counts c own earlier (Cancel id) =
-    nothing_sent _ _ _ (cancelled_sent id (take_answer id (orders c earlier).queue)) (cancel_down (orders c earlier) id)
-answer_counts c own earlier (Rekey key) = nothing_sent _ _ _ (key_sent c.mode) refl
+    let none : sent_counter (cancelled id (take_answer id (orders c earlier).queue)) ≡ None = grind arith in
+    nothing_sent _ _ _ none (cancel_down (orders c earlier) id)
+answer_counts c own earlier (Rekey key) =
+    let none : sent_counter (key_answer c.mode) ≡ None = grind arith in nothing_sent _ _ _ none refl
 
 entry_counts : (c : Start) (own : Address) (x : Entry) (earlier : List Entry) → IsJudged c own (x ∷ earlier)
     → Counts (orders c earlier).down (orders c (x ∷ earlier)).down (sent_counter x.outcome)
@@ -151,33 +136,21 @@ rises_back c own (x ∷ earlier) j =
     (rises_step c x earlier (sent_counters (reverse earlier)) (sent_counter x.outcome) (entry_counts c own x earlier j)
     (rises_back c own earlier j.1))
 
+rises_behind : (c : Start) (own : Address) (journal : List Entry) → Legal c own journal
+    → RisesTo c (reverse journal) (sent_counters journal)
+rises_behind c own journal j =
+    subst (λ (xs : List Entry). RisesTo c (reverse journal) (sent_counters xs)) (reverse-reverse journal) (rises_back c own (reverse journal) j)
+
 pub downlink_counters_rise : (c : Start) (own : Address) (journal : List Entry) → Legal c own journal
     → IsRising (Some c.orders.down) (sent_counters journal)
-downlink_counters_rise c own journal j =
-    subst (λ (xs : List Entry). IsRising (Some c.orders.down) (sent_counters xs)) (reverse-reverse journal)
-    (rises_back c own (reverse journal) j).rises
-
--- ---- sessions, one after the other
-
--- behind a journal
-record RisesBehind (c : Start) (journal : List Entry) : Type 0 where
-  rises : IsRising (Some c.orders.down) (sent_counters journal)
-  ends : last_or (Some c.orders.down) (sent_counters journal) ≡ Some (resumed c journal).orders.down
-  raised : (resumed c journal).orders.down ≡ c.orders.down + length (sent_counters journal)
-
-rises_behind : (c : Start) (own : Address) (journal : List Entry) → Legal c own journal → RisesBehind c journal
-rises_behind c own journal j =
-    let r = rises_back c own (reverse journal) j in
-    let same = ap sent_counters (reverse-reverse journal) in record {
-      rises = subst (IsRising (Some c.orders.down)) same r.rises;
-      ends = ap (last_or (Some c.orders.down)) (sym same) ∙ r.ends;
-      raised = r.raised ∙ ap (λ (ns : List ℕ). c.orders.down + length ns) same;
-    }
+downlink_counters_rise c own journal j = (rises_behind c own journal j).rises
 
 -- each downlink takes the counter after the last one
 pub downlinks_count : (c : Start) (own : Address) (journal : List Entry) → Legal c own journal
     → (resumed c journal).orders.down ≡ c.orders.down + length (sent_counters journal)
 downlinks_count c own journal j = (rises_behind c own journal j).raised
+
+-- ---- sessions, one after the other
 
 IsRising-join : (floor : Option ℕ) (ns ms : List ℕ) → IsRising floor ns → IsRising (last_or floor ns) ms → IsRising floor (ns ++ ms)
 IsRising-join floor [] ms r s = s

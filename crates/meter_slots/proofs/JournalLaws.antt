@@ -7,6 +7,7 @@ use Rattle.std.specs.List.{cons_option}
 use Rattle.std.proofs.lemmas.List.Elements.{filter_map-append}
 use Rattle.std.proofs.lemmas.Bool.Decides.{nat_tests}
 use Rattle.std.proofs.lemmas.List.{reverse-append, reverse-reverse, append-nil, map-append, append_assoc}
+use Rattle.lists.proofs.Places.{map-reverse}
 use Rattle.meter_address.specs.declared.address.Address.{Address}
 use Rattle.meter_address.specs.declared.commission.Mode.{Mode}
 use Rattle.meter_address.specs.declared.commission.Mode.TheVariants.{Five, Seven}
@@ -65,26 +66,12 @@ judged_at c own before x after j =
 
 -- ---- a message is stored where it is genuine and above the last counter
 
-not_above : (m k n : ℕ) → nat_lt k m ≡ false → m ≡ n → k < n → ⊥
-not_above m k n h e l = grind (arith, nat_tests)
-
-is_above : (m k n : ℕ) → nat_lt k m ≡ true → m ≡ n → k < n
-is_above m k n h e = grind (arith, nat_tests)
-
-max_below : (x y n : ℕ) → x < n → y < n → max x y < n
-max_below x y n h k = omega arith
-
-below_left : (x y n : ℕ) → max x y < n → x < n
-below_left x y n h = omega arith
-
-below_right : (x y n : ℕ) → max x y < n → y < n
-below_right x y n h = omega arith
-
 test_stored : (f : Found) (k n : ℕ) (b : Bool) → nat_lt k f.counter ≡ b
     → (stored_by (stored_or_refused (found_where (cond b (Ok tt) (Err (Stale f.counter k))) f)) ≡ Some n) ↔
     ((Some f.counter ≡ Some n) × (k < n))
-test_stored f k n true h = (λ s. (s, is_above f.counter k n h (cc)), λ p. p.0)
-test_stored f k n false h = (λ s. cc, λ p. absurd (not_above f.counter k n h (cc (p.0)) p.1))
+test_stored f k n true h = (λ s. (s, let e : f.counter ≡ n = cc in grind (arith, nat_tests)), λ p. p.0)
+test_stored f k n false h =
+    (λ s. cc, λ p. let e : f.counter ≡ n = cc (p.0) in let l : k < n = p.1 in absurd (grind (arith, nat_tests)))
 
 compared_stored : (f : Found) (n : ℕ) (last : Option ℕ)
     → (stored_by (stored_or_refused (compared7 last f)) ≡ Some n) ↔ ((Some f.counter ≡ Some n) × IsAbove n last)
@@ -103,13 +90,12 @@ opened_stored Seven m n last (Ok f) = compared_stored f n last
 
 judged_stored : (c : Commissioned) → c.mode ≡ Seven → (n : ℕ) (last : Option ℕ) (b : Result (Option Message) Reason)
     → (stored_by (judged c last b) ≡ Some n) ↔ ((counter (genuine_in c b) ≡ Some n) × IsAbove n last)
-judged_stored c h n last (Err reason) = (λ s. cc, λ p. cc (p.0))
-judged_stored c h n last (Ok None) = (λ s. cc, λ p. cc (p.0))
 judged_stored c h n last (Ok (Some m)) = opened_stored c.mode h n last (opened_in c.mode c m)
+judged_stored c h n last _ = (λ s. cc, λ p. cc (p.0))
 
 greater_above : (n x : ℕ) (o : Option ℕ) → IsAbove n (greater x o) ↔ ((x < n) × IsAbove n o)
 greater_above n x None = (λ h. (h, tt), λ p. p.0)
-greater_above n x (Some y) = (λ h. (below_left x y n h, below_right x y n h), λ p. max_below x y n p.0 p.1)
+greater_above n x (Some y) = (λ h. (omega arith, omega arith), λ p. omega (arith, p.0, p.1))
 
 -- above the greatest is above all
 greatest_above : (n : ℕ) (xs : List ℕ) → IsAbove n (greatest xs) ↔ AreBelow n xs
@@ -121,22 +107,7 @@ greatest_above n (x ∷ xs) =
 
 heard_stored : (own : Address) (c : Commissioned) (k : Orders) (access : Access) (response : Bool) (v : Result (Option Found) Reason)
     → stored_counter (heard own c k access response v) ≡ stored_by v
-heard_stored own c k access response (Err reason) = refl
-heard_stored own c k access response (Ok None) = refl
-heard_stored own c k access response (Ok (Some f)) = refl
-
-pub queued_stored : (r : Result ℕ QueueFault) → stored_counter (queued r) ≡ None
-queued_stored (Ok id) = refl
-queued_stored (Err Full) = refl
-queued_stored (Err IdsSpent) = refl
-
-pub cancelled_stored : (id : ℕ) (r : Result Command NoSuch) → stored_counter (cancelled id r) ≡ None
-cancelled_stored id (Ok command) = refl
-cancelled_stored id (Err missing) = refl
-
-pub key_stored : (mode : Mode) → stored_counter (key_answer mode) ≡ None
-key_stored Five = refl
-key_stored Seven = refl
+heard_stored own c k access response v = grind arith
 
 none_stored : (n : ℕ) (last o : Option ℕ) → o ≡ None → (o ≡ Some n) ↔ ((None ≡ Some n) × IsAbove n last)
 none_stored n last o h = (λ s. cc, λ p. cc (p.0))
@@ -147,12 +118,8 @@ answer_stored : (c : Start) (own : Address) (n : ℕ) (earlier : List Entry) (ev
 answer_stored c own n earlier (Hear format at t) m =
     rw heard_stored (judged_stored (rekeyed (commission_of c) (other_key c earlier)) m n (last_counter c earlier)
     (brought (told c earlier) t (received c.mode t)))
-answer_stored c own n earlier Tick m = none_stored n (last_counter c earlier) None refl
-answer_stored c own n earlier (Put payload) m =
-    none_stored n (last_counter c earlier) _ (queued_stored (put_answer (orders c earlier).queue))
-answer_stored c own n earlier (Cancel id) m =
-    none_stored n (last_counter c earlier) _ (cancelled_stored id (take_answer id (orders c earlier).queue))
-answer_stored c own n earlier (Rekey key) m = none_stored n (last_counter c earlier) _ (key_stored c.mode)
+answer_stored c own n earlier event m =
+    none_stored n (last_counter c earlier) (stored_counter (answer (commission_of c) own (standing c earlier) event)) (grind arith)
 
 last_seven : (c : Start) (earlier : List Entry) → c.mode ≡ Seven
     → last_counter c earlier ≡ greatest (counters c earlier ++ option_to_list c.last)
@@ -192,22 +159,10 @@ record RisesTo (c : Start) (earlier : List Entry) (ns : List ℕ) : Type 0 where
   ends : last_or c.last ns ≡ last_counter c earlier
 
 stored_last : (last : Option ℕ) (o : Outcome) (n : ℕ) → stored_counter o ≡ Some n → last_after last o ≡ Some n
-stored_last last (Stored m confirmed sent) n h = h
-stored_last last PartKept n h = cc
-stored_last last (Ticked expired) n h = cc
-stored_last last (Queued id) n h = cc
-stored_last last (Cancelled id) n h = cc
-stored_last last Rekeyed n h = cc
-stored_last last (Refused reason) n h = cc
+stored_last last o n h = grind arith
 
 kept_last : (last : Option ℕ) (o : Outcome) → stored_counter o ≡ None → last_after last o ≡ last
-kept_last last (Stored m confirmed sent) h = cc
-kept_last last PartKept h = refl
-kept_last last (Ticked expired) h = refl
-kept_last last (Queued id) h = refl
-kept_last last (Cancelled id) h = refl
-kept_last last Rekeyed h = refl
-kept_last last (Refused reason) h = refl
+kept_last last o h = grind arith
 
 rises_step : (c : Start) (own : Address) (x : Entry) (earlier : List Entry) (ns : List ℕ) (s : Option ℕ) → c.mode ≡ Seven
     → IsJudged c own (x ∷ earlier)
@@ -267,7 +222,7 @@ result_there : (r : Result Found Reason) (f : Found) → (result_ok r ≡ Some f
 result_there (Ok g) f = (λ h. cc, λ h. cc)
 result_there (Err e) f = (λ h. cc, λ h. cc)
 
-both_ways : {A B C : Type 0} → A ↔ B → B ↔ C → A ↔ C
+pub both_ways : {A B C : Type 0} → A ↔ B → B ↔ C → A ↔ C
 both_ways p q = (λ a. q.0 (p.0 a), λ c. p.1 (q.1 c))
 
 opened_seven : (mode : Mode) (c : Commissioned) (m : Message) → mode ≡ Seven → opened_in mode c m ≡ opened7 c m.auth m.bytes
@@ -288,37 +243,20 @@ genuine_by_mac c earlier format at t m f h b bytes =
 -- ---- a refusal leaves all as it was
 
 refused_last : (last : Option ℕ) (o : Outcome) → IsRefused o → last_after last o ≡ last
-refused_last last (Refused reason) r = refl
-refused_last last (Stored m confirmed sent) r = absurd r
-refused_last last PartKept r = absurd r
-refused_last last (Ticked expired) r = absurd r
-refused_last last (Queued id) r = absurd r
-refused_last last (Cancelled id) r = absurd r
-refused_last last Rekeyed r = absurd r
+refused_last last o r = grind arith
 
 refused_verdict : (own : Address) (c : Commissioned) (k : Orders) (access : Access) (response : Bool) (at : ℕ)
     (v : Result (Option Found) Reason)
     → IsRefused (heard own c k access response v) → reading_at at (stored_in v) ≡ []
-refused_verdict own c k access response at (Err reason) r = refl
-refused_verdict own c k access response at (Ok None) r = absurd r
-refused_verdict own c k access response at (Ok (Some f)) r = absurd r
+refused_verdict own c k access response at v r = grind arith
 
 refused_reading : (c : Commissioned) (own : Address) (s : Standing) (event : Event) → IsRefused (answer c own s event)
     → reading_of event (stored c s event) ≡ []
 refused_reading c own s (Hear format at t) r = refused_verdict own c s.orders _ _ at (verdict c s t) r
-refused_reading c own s Tick r = refl
-refused_reading c own s (Put payload) r = refl
-refused_reading c own s (Cancel id) r = refl
-refused_reading c own s (Rekey key) r = refl
+refused_reading c own s _ r = refl
 
 heard_refused : (k : Orders) (access : Access) (response : Bool) (o : Outcome) → IsRefused o → orders_heard k access response o ≡ k
-heard_refused k access response (Refused reason) r = refl
-heard_refused k access response (Stored m confirmed sent) r = absurd r
-heard_refused k access response PartKept r = absurd r
-heard_refused k access response (Ticked expired) r = absurd r
-heard_refused k access response (Queued id) r = absurd r
-heard_refused k access response (Cancelled id) r = absurd r
-heard_refused k access response Rekeyed r = absurd r
+heard_refused k access response o r = grind arith
 
 put_refused : (k : Orders) (payload : List ℕ) (r : Result ℕ QueueFault) → IsRefused (queued r)
     → record k { queue = with_command_by k.queue payload r } ≡ k
@@ -339,61 +277,28 @@ answer_refused c own s access (Put payload) o e r = put_refused s.orders payload
 answer_refused c own s access (Cancel id) o e r = cancel_leaves s.orders id (take_answer id s.orders.queue) refl (subst IsRefused e r)
 answer_refused c own s access (Rekey key) o e r = refl
 
-key_refused : (mode : Mode) (key : List ℕ) (other : Option (List ℕ)) → IsRefused (key_answer mode) → other_given mode key other ≡ other
-key_refused Five key other r = refl
-key_refused Seven key other r = absurd r
-
 answer_leaves_key : (c : Commissioned) (own : Address) (s : Standing) (event : Event) (other : Option (List ℕ))
     → IsRefused (answer c own s event) → other_after c.mode event other ≡ other
-answer_leaves_key c own s (Hear format at t) other r = refl
-answer_leaves_key c own s Tick other r = refl
-answer_leaves_key c own s (Put payload) other r = refl
-answer_leaves_key c own s (Cancel id) other r = refl
-answer_leaves_key c own s (Rekey key) other r = key_refused c.mode key other r
-
-left_other : (c : Start) (own : Address) (journal : List Entry) (x : Entry) → Legal c own (journal ++ x ∷ []) → IsRefused x.outcome
-    → other_key c (reverse (journal ++ x ∷ [])) ≡ other_key c (reverse journal)
-unfolding outcome
-left_other c own journal x j r =
-    let earlier = reverse journal in
-    let h = subst (IsJudged c own) (back journal x) j in
-    ap (other_key c) (back journal x) ∙ answer_leaves_key (commission_of c) own (standing c earlier) x.event (other_key c earlier) (subst IsRefused h.0 r)
-
-left_last : (c : Start) (own : Address) (journal : List Entry) (x : Entry) → Legal c own (journal ++ x ∷ []) → IsRefused x.outcome
-    → last_counter c (reverse (journal ++ x ∷ [])) ≡ last_counter c (reverse journal)
-left_last c own journal x j r =
-    let earlier = reverse journal in
-    let h = subst (IsJudged c own) (back journal x) j in
-    ap (last_counter c) (back journal x) ∙ last_counter-cons c own earlier x h.0 ∙ refused_last (last_counter c earlier) x.outcome r
-
-left_orders : (c : Start) (own : Address) (journal : List Entry) (x : Entry) → Legal c own (journal ++ x ∷ []) → IsRefused x.outcome
-    → orders c (reverse (journal ++ x ∷ [])) ≡ orders c (reverse journal)
-unfolding outcome
-left_orders c own journal x j r =
-    let earlier = reverse journal in
-    let h = subst (IsJudged c own) (back journal x) j in
-    ap (orders c) (back journal x)
-    ∙ answer_refused (commission_of c) own (standing c earlier) (access_at (commission_of c) (standing c earlier) x.event) x.event x.outcome h.0 r
-
-left_readings : (c : Start) (own : Address) (journal : List Entry) (x : Entry) → Legal c own (journal ++ x ∷ [])
-    → IsRefused x.outcome
-    → readings c (journal ++ x ∷ []) ≡ readings c journal
-unfolding outcome
-left_readings c own journal x j r =
-    let s = standing c (reverse journal) in
-    let h = subst (IsJudged c own) (back journal x) j in
-    readings-append c journal x ∙ ap (λ rs. readings c journal ++ rs) (refused_reading (commission_of c) own s x.event (subst IsRefused h.0 r))
-    ∙ append-nil (readings c journal)
+answer_leaves_key c own s (Rekey key) other r = grind arith
+answer_leaves_key c own s _ other r = refl
 
 pub refused_left : (c : Start) (own : Address) (journal : List Entry) (x : Entry) → Legal c own (journal ++ x ∷ [])
     → IsRefused x.outcome
     → IsLeft (record { own = own; start = c; journal = journal }) (record { own = own; start = c; journal = journal ++ x ∷ [] })
-refused_left c own journal x j r = record {
-  other = left_other c own journal x j r;
-  last = left_last c own journal x j r;
-  orders = left_orders c own journal x j r;
-  readings = left_readings c own journal x j r;
-}
+unfolding outcome
+refused_left c own journal x j r =
+    let earlier = reverse journal in
+    let s = standing c earlier in
+    let h = subst (IsJudged c own) (back journal x) j in
+    let refused : IsRefused (answer (commission_of c) own s x.event) = subst IsRefused h.0 r in
+    record {
+      other = ap (other_key c) (back journal x) ∙ answer_leaves_key (commission_of c) own s x.event (other_key c earlier) refused;
+      last = ap (last_counter c) (back journal x) ∙ last_counter-cons c own earlier x h.0 ∙ refused_last (last_counter c earlier) x.outcome r;
+      orders = ap (orders c) (back journal x)
+          ∙ answer_refused (commission_of c) own s (access_at (commission_of c) s x.event) x.event x.outcome h.0 r;
+      readings = readings-append c journal x
+          ∙ ap (λ rs. readings c journal ++ rs) (refused_reading (commission_of c) own s x.event refused) ∙ append-nil (readings c journal);
+    }
 
 -- ---- one journal
 
@@ -404,12 +309,6 @@ one_journal_back c own (x ∷ earlier) j =
     let rest = one_journal_back c own earlier j.1 in
     ap (λ o. record { source = x.source; line = x.line; event = x.event; outcome = o } ∷ earlier) j.0
     ∙ ap (λ (e : List Entry). record { source = x.source; line = x.line; event = x.event; outcome = outcome c own e x.event } ∷ e) rest
-
-pub map-reverse : {X Y : Type 0} (f : X → Y) (xs : List X) → map f (reverse xs) ≡ reverse (map f xs)
-map-reverse f [] = refl
-map-reverse f (x ∷ xs) =
-    ap (map f) (front_back x xs) ∙ map-append f (reverse xs) (x ∷ []) ∙ ap (λ ys. ys ++ f x ∷ []) (map-reverse f xs)
-    ∙ sym (front_back (f x) (map f xs))
 
 pub journal_is : (c : Start) (own : Address) (journal : List Entry) → Legal c own journal
     → journal ≡ journal_of c own (map call_in journal)

@@ -36,19 +36,11 @@ use Rattle.meter_slots.specs.Journal.{greater, greatest, last_among, last_counte
 use Rattle.meter_slots.specs.Journal.{Standing, standing, stored_or_refused, judged, verdict, access_at, orders_after, orders}
 use Rattle.meter_slots.specs.Journal.{downlink_with, heard, queued, cancelled, key_answer, answer, outcome}
 use Rattle.meter_slots.specs.Journal.{stored, reading_of, readings_back, readings}
+use Rattle.meter_slots.proofs.Alike.{answer_alike}
 use Rattle.meter_slots.specs.Laws.{AreReady, PutsPayload}
 use Rattle.meter_slots.specs.Keeping.{Kept, standing_for, Keeps, last_after, Moves, StoresInRange}
 
 -- ---- the last number
-
-max_above : (n k : ℕ) → nat_lt k n ≡ true → max n k ≡ n
-max_above n k h = grind (arith, nat_tests)
-
-max_below : (n k : ℕ) → nat_lt k n ≡ false → max n k ≡ k
-max_below n k h = grind (arith, nat_tests)
-
-same_number : (n k : ℕ) → (k == n) ≡ true → n ≡ k
-same_number n k h = grind (arith, nat_tests)
 
 -- the last number after a verdict
 abbrev last_by : Option ℕ → Result (Option Found) Reason → Option ℕ
@@ -61,12 +53,12 @@ found_where passed f = passed >>= (λ _. Ok f)
 
 above_cases : (f : Found) (k : ℕ) (b : Bool) → nat_lt k f.counter ≡ b
     → Some (max f.counter k) ≡ last_by (Some k) (stored_or_refused (found_where (cond b (Ok tt) (Err (Stale f.counter k))) f))
-above_cases f k true h = ap Some (max_above f.counter k h)
-above_cases f k false h = ap Some (max_below f.counter k h)
+above_cases f k true h = grind (arith, nat_tests)
+above_cases f k false h = grind (arith, nat_tests)
 
 other_cases : (f : Found) (k : ℕ) (b : Bool) → (k == f.counter) ≡ b
     → Some f.counter ≡ last_by (Some k) (stored_or_refused (found_where (cond b (Err (SameAccess f.counter)) (Ok tt)) f))
-other_cases f k true h = ap Some (same_number f.counter k h)
+other_cases f k true h = grind (arith, nat_tests)
 other_cases f k false h = refl
 
 compared_last : (mode : Mode) (f : Found) (ns : List ℕ)
@@ -91,29 +83,13 @@ opened_last mode (Ok f) ns floor = compared_last mode f (ns ++ floor)
 judged_last : (c : Commissioned) (b : Result (Option Message) Reason) (ns floor : List ℕ)
     → last_among c.mode ((counter_in (genuine_in c b) ++ ns) ++ floor)
     ≡ last_by (last_among c.mode (ns ++ floor)) (judged c (last_among c.mode (ns ++ floor)) b)
-judged_last c (Err reason) ns floor = refl
-judged_last c (Ok None) ns floor = refl
 judged_last c (Ok (Some m)) ns floor = opened_last c.mode (opened_in c.mode c m) ns floor
+judged_last c _ ns floor = refl
 
 heard_last : (own : Address) (c : Commissioned) (k : Orders) (access : Access) (response : Bool) (last : Option ℕ)
     (v : Result (Option Found) Reason)
     → last_by last v ≡ last_after last (heard own c k access response v)
-heard_last own c k access response last (Err reason) = refl
-heard_last own c k access response last (Ok None) = refl
-heard_last own c k access response last (Ok (Some f)) = refl
-
-queued_last : (last : Option ℕ) (r : Result ℕ QueueFault) → last ≡ last_after last (queued r)
-queued_last last (Ok id) = refl
-queued_last last (Err Full) = refl
-queued_last last (Err IdsSpent) = refl
-
-cancelled_last : (last : Option ℕ) (id : ℕ) (r : Result Command NoSuch) → last ≡ last_after last (cancelled id r)
-cancelled_last last id (Ok command) = refl
-cancelled_last last id (Err missing) = refl
-
-key_last : (last : Option ℕ) (mode : Mode) → last ≡ last_after last (key_answer mode)
-key_last last Five = refl
-key_last last Seven = refl
+heard_last own c k access response last v = grind arith
 
 answer_last : (c : Start) (own : Address) (earlier : List Entry) (event : Event)
     → last_among c.mode ((counter_in (genuine c earlier event) ++ counters c earlier) ++ option_to_list c.last)
@@ -123,10 +99,7 @@ answer_last c own earlier (Hear format at t) =
     judged_last (rekeyed (commission_of c) (other_key c earlier)) (brought (told c earlier) t (received c.mode t)) (counters c earlier)
     (option_to_list c.last)
     ∙ heard_last own (commission_of c) (orders c earlier) _ _ (last_counter c earlier) (verdict (commission_of c) (standing c earlier) t)
-answer_last c own earlier Tick = refl
-answer_last c own earlier (Put payload) = queued_last (last_counter c earlier) (put_answer (orders c earlier).queue)
-answer_last c own earlier (Cancel id) = cancelled_last (last_counter c earlier) id (take_answer id (orders c earlier).queue)
-answer_last c own earlier (Rekey key) = key_last (last_counter c earlier) c.mode
+answer_last c own earlier _ = grind arith
 
 -- the last number after one more entry
 pub last_counter-cons : (c : Start) (own : Address) (earlier : List Entry) (x : Entry) → x.outcome ≡ outcome c own earlier x.event
@@ -137,12 +110,7 @@ last_counter-cons c own earlier x h = answer_last c own earlier x.event ∙ ap (
 pub last_after_fits : (mode : Mode) (last : Option ℕ) (o : Outcome) → ForSome last (λ n. n ≤ most_last mode) → StoresInRange mode o
     → ForSome (last_after last o) (λ n. n ≤ most_last mode)
 last_after_fits mode last (Stored counter confirmed sent) h f = λ n e. let same : counter ≡ n = cc e in rw (sym same) f
-last_after_fits mode last PartKept h f = h
-last_after_fits mode last (Ticked expired) h f = h
-last_after_fits mode last (Queued id) h f = h
-last_after_fits mode last (Cancelled id) h f = h
-last_after_fits mode last Rekeyed h f = h
-last_after_fits mode last (Refused reason) h f = h
+last_after_fits mode last _ h f = h
 
 -- ---- a journal and one more entry
 
@@ -161,42 +129,7 @@ unfolding readings
 readings-append c journal x = ap (readings_back c) (back journal x)
 
 floor_last : (mode : Mode) (o : Option ℕ) → o ≡ last_among mode (option_to_list o)
-floor_last Five None = refl
-floor_last Five (Some n) = refl
-floor_last Seven None = refl
-floor_last Seven (Some n) = refl
-
--- ---- a downlink is under the first key
-
-downlink_rekeyed : (own : Address) (c : Commissioned) (other : Option (List ℕ)) (down : ℕ) (payload : List ℕ)
-    → downlink own (rekeyed c other) down payload ≡ downlink own c down payload
-unfolding telegram_to message_bytes encrypted_content mac_of
-downlink_rekeyed own c other down payload = refl
-
-sent_rekeyed : (own : Address) (c : Commissioned) (other : Option (List ℕ)) (down : ℕ) (command : Option Command)
-    → option_map (downlink_with own (rekeyed c other) down) command ≡ option_map (downlink_with own c down) command
-sent_rekeyed own c other down None = refl
-sent_rekeyed own c other down (Some command) =
-    ap (λ bytes. Some (record { bytes = bytes; id = command.id; down = down })) (downlink_rekeyed own c other down command.payload)
-
-heard_rekeyed : (own : Address) (c : Commissioned) (other : Option (List ℕ)) (k : Orders) (access : Access) (response : Bool)
-    (v : Result (Option Found) Reason)
-    → heard own (rekeyed c other) k access response v ≡ heard own c k access response v
-heard_rekeyed own c other k access response (Err reason) = refl
-heard_rekeyed own c other k access response (Ok None) = refl
-heard_rekeyed own c other k access response (Ok (Some f)) =
-    ap (λ sent. Stored f.counter (confirmed k response) sent)
-    (sent_rekeyed own c other (after_stored k access response).down (sent_at k access response))
-
--- the commission with the second key as it is now gives the same answer
-answer_rekeyed : (c : Commissioned) (own : Address) (s : Standing) (event : Event)
-    → answer (rekeyed c s.other) own s event ≡ answer c own s event
-answer_rekeyed c own s (Hear format at t) =
-    heard_rekeyed own c s.other s.orders (access_at c s (Hear format at t)) (is_response (slice_index t 1)) (verdict c s t)
-answer_rekeyed c own s Tick = refl
-answer_rekeyed c own s (Put payload) = refl
-answer_rekeyed c own s (Cancel id) = refl
-answer_rekeyed c own s (Rekey key) = refl
+floor_last mode o = grind arith
 
 -- ---- what is kept
 
@@ -223,10 +156,8 @@ empty_kept c own k ready same last fits parts commands = record {
 kept_standing : (c : Start) (own : Address) (journal : List Entry) (k : Kept) (kept : List Reading)
     → Keeps c own journal k kept → standing_for k (told c (reverse journal)) ≡ standing c (reverse journal)
 kept_standing c own journal k kept h =
-    let earlier = reverse journal in
-    ap (λ (m : Commissioned). record { other = m.other; last = k.last; told = told c earlier; orders = k.orders }) h.commission_is
-    ∙ ap (λ l. record { other = other_key c earlier; last = l; told = told c earlier; orders = k.orders }) h.last_is
-    ∙ ap (λ o. record { other = other_key c earlier; last = last_counter c earlier; told = told c earlier; orders = o }) h.orders_are
+    let other = ap (λ (m : Commissioned). m.other) h.commission_is in
+    cc (h.last_is, h.orders_are)
 
 -- what the kept state answers is what the journal answers
 pub answer_kept : (c : Start) (own : Address) (journal : List Entry) (k : Kept) (kept : List Reading) (event : Event)
@@ -240,7 +171,8 @@ answer_kept c own journal k kept event given h answered =
     answered (told c earlier) h.parts_are
     ∙ ap (λ (m : Commissioned). answer m own (standing_for k (told c earlier)) event) h.commission_is
     ∙ ap (λ (s : Standing). answer (rekeyed (commission_of c) (other_key c earlier)) own s event) (kept_standing c own journal k kept h)
-    ∙ answer_rekeyed (commission_of c) own (standing c earlier) event
+    ∙ answer_alike (commission_of c) (other_key c earlier) c.last c.orders.down c.orders.queue.ids (standing c earlier) (standing c earlier)
+    (record { other = refl; last = refl; held = refl; orders = refl }) own event
 
 -- what is kept after one more entry
 pub kept_after : (c : Start) (own : Address) (journal : List Entry) (k : Kept) (kept : List Reading) (x : Entry) (k' : Kept)

@@ -1,5 +1,5 @@
 -- Proof that a second key makes no difference where there is none.
-use Rattle.std.proofs.Common.{◌≡◌, ℕ, List, [], ◌∷◌, Option, None, refl, ap, ◌∙◌}
+use Rattle.std.proofs.Common.{◌≡◌, ℕ, List, [], ◌∷◌, Option, None, refl, ap, ◌∙◌, arith}
 use Rattle.std.specs.List.{All}
 use Rattle.std.proofs.lemmas.List.Elements.{All-head, All-tail}
 use Rattle.meter_address.specs.declared.commission.Mode.{Mode}
@@ -14,11 +14,7 @@ use Rattle.meter_slots.specs.Laws.{LeavesKeys}
 use Rattle.message_check.proofs.OpeningLaws.{one_key_alone}
 
 kept_by : (mode : Mode) (event : Event) (other : Option (List ℕ)) → LeavesKeys event → other_after mode event other ≡ other
-kept_by mode (Hear format at t) other h = refl
-kept_by mode Tick other h = refl
-kept_by mode (Put payload) other h = refl
-kept_by mode (Cancel id) other h = refl
-kept_by mode (Rekey key) other h = absurd h
+kept_by mode event other h = grind arith
 
 abbrev LeavesKeysAt : Entry → Type 0
 LeavesKeysAt x = LeavesKeys x.event

@@ -1,3 +1,4 @@
+pub mod Alike
 pub mod Crossing
 pub mod Cuts
 pub mod DownlinkLaws

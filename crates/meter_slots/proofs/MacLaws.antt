@@ -4,6 +4,10 @@ use Rattle.std.proofs.Common.{Option, Some, None, Result, Ok, Err, refl, ap, sym
 use Rattle.std.specs.Prelude.{option_map, ◌==◌}
 use Rattle.std.specs.Result.{result_ok}
 use Rattle.std.specs.List.{All, flat_map}
+use Rattle.std.proofs.lemmas.Bool.{cond_both}
+use Rattle.std.proofs.lemmas.List.{append-nil}
+use Rattle.std.proofs.lemmas.List.Concat.{flat_map-append}
+use Rattle.std.proofs.lemmas.List.Sorted.{All-permutation, IsPermutation-reverse}
 use Rattle.std.proofs.lemmas.List.Elements.{All-nil, All-cons, All-head, All-tail, All-append, All-filter, All-same}
 use Rattle.meter_address.specs.declared.address.Address.{Address}
 use Rattle.meter_address.specs.declared.commission.Mode.{Mode}
@@ -32,29 +36,21 @@ use Rattle.meter_slots.specs.Journal.{Start, Legal, commission_of, other_key, re
 use Rattle.meter_slots.specs.Journal.{genuine, genuine_in, opened_in}
 use Rattle.meter_slots.specs.Laws.{IsAbove, last_stored}
 use Rattle.meter_slots.specs.MacLaw.{HearsBytes, EntryHearsBytes, TellsBytes, BringsGenuine, StoresByMac, MacsDecide}
-use Rattle.meter_slots.proofs.JournalLaws.{front_back, genuine_by_mac, stored_above_last}
+use Rattle.meter_slots.proofs.JournalLaws.{both_ways, genuine_by_mac, stored_above_last}
 
 -- ---- what is held is bytes
 
 abbrev HasBytes : HeldPart → Type 0
 HasBytes h = IsBytes h.part.bytes
 
-counted_bytes : (b : Bool) (n : ℕ) (part : Fragment) (hs : List HeldPart) → IsBytes part.bytes → All HasBytes hs
-    → All HasBytes (cond b (record { ticks = n; part = part } ∷ hs) hs)
-counted_bytes true n part hs bytes all = All-cons HasBytes (record { ticks = n; part = part }) hs bytes all
-counted_bytes false n part hs bytes all = all
-
-first_tick : (b : Bool) (hs : List HeldPart) → All HasBytes hs → All HasBytes (cond b hs [])
-first_tick true hs all = all
-first_tick false hs all = All-nil HasBytes
-
 since_bytes : (n : ℕ) (told : List Told) → All TellsBytes told → All HasBytes (since n told)
-since_bytes n [] all = All-nil HasBytes
 since_bytes n (Piece part ∷ told) all =
-    counted_bytes (is_counted part) n part (since n told) (All-head TellsBytes (Piece part) told all)
-    (since_bytes n told (All-tail TellsBytes (Piece part) told all))
-since_bytes n (Tick ∷ told) all = first_tick (n == 0) (since 1 told) (since_bytes 1 told (All-tail TellsBytes Tick told all))
-since_bytes n (Clear ∷ told) all = All-nil HasBytes
+    let rest = since_bytes n told (All-tail TellsBytes (Piece part) told all) in
+    cond_both (is_counted part) (record { ticks = n; part = part } ∷ since n told) (since n told) (All HasBytes)
+    (λ _. All-cons HasBytes (record { ticks = n; part = part }) (since n told) (All-head TellsBytes (Piece part) told all) rest) (λ _. rest)
+since_bytes n (Tick ∷ told) all =
+    cond_both (n == 0) (since 1 told) [] (All HasBytes) (λ _. since_bytes 1 told (All-tail TellsBytes Tick told all)) (λ _. All-nil HasBytes)
+since_bytes n _ all = All-nil HasBytes
 
 latest_bytes : (hs : List HeldPart) → All HasBytes hs → All HasBytes (latest_each hs)
 latest_bytes [] all = All-nil HasBytes
@@ -73,46 +69,27 @@ abbrev OfBytes : Option HeldPart → Type 0
 OfBytes None = Unit {0}
 OfBytes (Some h) = HasBytes h
 
-chosen_bytes : (b : Bool) (h : HeldPart) (o : Option HeldPart) → HasBytes h → OfBytes o → OfBytes (cond b (Some h) o)
-chosen_bytes true h o bytes rest = bytes
-chosen_bytes false h o bytes rest = rest
-
 found_bytes : (p : HeldPart → Bool) (hs : List HeldPart) → All HasBytes hs → OfBytes (find p hs)
 found_bytes p [] all = tt
-found_bytes p (h ∷ hs) all = chosen_bytes (p h) h (find p hs) (All-head HasBytes h hs all) (found_bytes p hs (All-tail HasBytes h hs all))
+found_bytes p (h ∷ hs) all =
+    cond_both (p h) (Some h) (find p hs) OfBytes (λ _. All-head HasBytes h hs all) (λ _. found_bytes p hs (All-tail HasBytes h hs all))
 
 abbrev PiecesOfBytes : Option (List Fragment) → Type 0
 PiecesOfBytes None = Unit {0}
 PiecesOfBytes (Some parts) = IsBytes (flat_map (λ p. p.bytes) parts)
 
-flat_more : (parts : List Fragment) (part : Fragment)
-    → flat_map (λ (p : Fragment). p.bytes) (parts ++ part ∷ []) ≡ flat_map (λ p. p.bytes) parts ++ part.bytes
-flat_more [] part = append_nil part.bytes
-  where
-    append_nil : (bytes : List ℕ) → bytes ++ [] ≡ bytes
-    append_nil [] = refl
-    append_nil (b ∷ bytes) = ap (λ xs. b ∷ xs) (append_nil bytes)
-flat_more (first ∷ parts) part =
-    ap (λ xs. first.bytes ++ xs) (flat_more parts part) ∙ sym (joined_on first.bytes (flat_map (λ p. p.bytes) parts) part.bytes)
-  where
-    joined_on : (xs ys zs : List ℕ) → (xs ++ ys) ++ zs ≡ xs ++ (ys ++ zs)
-    joined_on [] ys zs = refl
-    joined_on (x ∷ xs) ys zs = ap (λ rest. x ∷ rest) (joined_on xs ys zs)
-
 more_bytes : (parts : List Fragment) (part : Fragment) → IsBytes (flat_map (λ p. p.bytes) parts) → IsBytes part.bytes
     → IsBytes (flat_map (λ (p : Fragment). p.bytes) (parts ++ part ∷ []))
 more_bytes parts part front_is part_is =
-    subst IsBytes (sym (flat_more parts part)) (bytes_joined (flat_map (λ p. p.bytes) parts) part.bytes front_is part_is)
-
-followed_bytes : (b : Bool) (parts : List Fragment) (h : HeldPart) → IsBytes (flat_map (λ p. p.bytes) parts) → HasBytes h
-    → PiecesOfBytes (cond b (Some (parts ++ h.part ∷ [])) None)
-followed_bytes true parts h front_is bytes = more_bytes parts h.part front_is bytes
-followed_bytes false parts h front_is bytes = tt
+    subst IsBytes (sym (flat_map-append (λ (p : Fragment). p.bytes) parts (part ∷ [])
+    ∙ ap (λ (xs : List ℕ). flat_map (λ (p : Fragment). p.bytes) parts ++ xs) (append-nil part.bytes)))
+    (bytes_joined (flat_map (λ p. p.bytes) parts) part.bytes front_is part_is)
 
 with_more_bytes : (o : Option (List Fragment)) (h : Option HeldPart) → PiecesOfBytes o → OfBytes h → PiecesOfBytes (with_more o h)
 with_more_bytes None h front_is bytes = tt
 with_more_bytes (Some parts) None front_is bytes = tt
-with_more_bytes (Some parts) (Some h) front_is bytes = followed_bytes h.part.afl.more parts h front_is bytes
+with_more_bytes (Some parts) (Some h) front_is bytes =
+    cond_both h.part.afl.more (Some (parts ++ h.part ∷ [])) None PiecesOfBytes (λ _. more_bytes parts h.part front_is bytes) (λ _. tt)
 
 front_bytes : (n : ℕ) (hs : List HeldPart) → All HasBytes hs → PiecesOfBytes (front n hs)
 front_bytes zero hs all = tt
@@ -141,14 +118,11 @@ abbrev ContentOfBytes : Content → Type 0
 ContentOfBytes (Whole message) = IsBytes message.bytes
 ContentOfBytes (Part part) = IsBytes part.bytes
 
-one_of_two : (b : Bool) (a : Afl) (bytes : List ℕ) → IsBytes bytes
-    → ContentOfBytes (cond b (Part (record { afl = a; bytes = bytes })) (Whole (record { auth = auth_in (Some a); bytes = bytes })))
-one_of_two true a bytes all = all
-one_of_two false a bytes all = all
-
 content_bytes : (o : Option Afl) (bytes : List ℕ) → IsBytes bytes → ContentOfBytes (content_of o bytes)
 content_bytes None bytes all = all
-content_bytes (Some a) bytes all = one_of_two (is_fragment a) a bytes all
+content_bytes (Some a) bytes all =
+    cond_both (is_fragment a) (Part (record { afl = a; bytes = bytes })) (Whole (record { auth = auth_in (Some a); bytes = bytes }))
+    ContentOfBytes (λ _. all) (λ _. all)
 
 message_bytes : (before : List Told) (content : Content) → All TellsBytes before → ContentOfBytes content → MessageOfBytes (message_in before content)
 message_bytes before (Whole message) all bytes = bytes
@@ -186,9 +160,7 @@ told_by_bytes : (c : Commissioned) (event : Event) (outcome : Outcome) → Hears
 told_by_bytes c (Hear format at t) outcome bytes =
     received_bytes t (received c.mode t) (given_up (stored_counter outcome)) bytes (given_up_bytes (stored_counter outcome))
 told_by_bytes c events.Tick outcome bytes = All-cons TellsBytes Tick [] tt (All-nil TellsBytes)
-told_by_bytes c (Put payload) outcome bytes = All-nil TellsBytes
-told_by_bytes c (Cancel id) outcome bytes = All-nil TellsBytes
-told_by_bytes c (Rekey key) outcome bytes = All-nil TellsBytes
+told_by_bytes c _ outcome bytes = All-nil TellsBytes
 
 told_bytes : (c : Start) (earlier : List Entry) → All TellsBytes c.told → All EntryHearsBytes earlier → All TellsBytes (told c earlier)
 unfolding told
@@ -207,14 +179,6 @@ counted_by (Some f) n h = (f, refl, cc)
 brings : (c : Start) (before : List Entry) (format : Format) (at : ℕ) (t : List ℕ) (n : ℕ) → c.mode ≡ Seven
     → (r : Result (Option Message) Reason) → brought (told c (reverse before)) t (received c.mode t) ≡ r → BroughtOfBytes r
     → option_map (λ f. f.counter) (genuine c (reverse before) (Hear format at t)) ≡ Some n → BringsGenuine c before t n
-brings c before format at t n m (Err reason) b bytes h =
-    let k = rekeyed (commission_of c) (other_key c (reverse before)) in
-    let is : genuine c (reverse before) (Hear format at t) ≡ None = ap (genuine_in k) b in
-    cc
-brings c before format at t n m (Ok None) b bytes h =
-    let k = rekeyed (commission_of c) (other_key c (reverse before)) in
-    let is : genuine c (reverse before) (Hear format at t) ≡ None = ap (genuine_in k) b in
-    cc
 brings c before format at t n m (Ok (Some message)) b bytes h =
     let there = counted_by (genuine c (reverse before) (Hear format at t)) n h in
     record {
@@ -224,6 +188,10 @@ brings c before format at t n m (Ok (Some message)) b bytes h =
       is_genuine = (genuine_by_mac c (reverse before) format at t message there.0 m b bytes).0 there.1;
       counter = there.2;
     }
+brings c before format at t n m _ b bytes h =
+    let k = rekeyed (commission_of c) (other_key c (reverse before)) in
+    let is : genuine c (reverse before) (Hear format at t) ≡ None = ap (genuine_in k) b in
+    cc
 
 found_counter : (c : Start) (before : List Entry) (format : Format) (at : ℕ) (t : List ℕ) (n : ℕ) → c.mode ≡ Seven
     → BroughtOfBytes (brought (told c (reverse before)) t (received c.mode t))
@@ -237,23 +205,14 @@ found_counter c before format at t n m bytes g =
 both : {A B C : Type 0} → (A → B) → (B → A) → (A × C) ↔ (B × C)
 both there back = (λ p. (there p.0, p.1), λ p. (back p.0, p.1))
 
-through : {A B C : Type 0} → A ↔ B → B ↔ C → A ↔ C
-through p q = (λ a. q.0 (p.0 a), λ c. p.1 (q.1 c))
-
-reversed : (xs : List Entry) → All EntryHearsBytes xs → All EntryHearsBytes (reverse xs)
-reversed [] all = All-nil EntryHearsBytes
-reversed (x ∷ xs) all =
-    All-same EntryHearsBytes (reverse (x ∷ xs)) (reverse xs ++ x ∷ []) (front_back x xs)
-    (All-append EntryHearsBytes (reverse xs) (x ∷ []) (reversed xs (All-tail EntryHearsBytes x xs all))
-    (All-cons EntryHearsBytes x [] (All-head EntryHearsBytes x xs all) (All-nil EntryHearsBytes)))
-
 pub macs_decide : MacsDecide
 macs_decide c own before x after m legal start earlier now format at t n is =
     let bytes =
-    brought_bytes (told c (reverse before)) t (received c.mode t) (told_bytes c (reverse before) start (reversed before earlier))
+    brought_bytes (told c (reverse before)) t (received c.mode t) (told_bytes c (reverse before) start
+    (All-permutation EntryHearsBytes before (reverse before) (IsPermutation-reverse before) earlier))
     (subst HearsBytes is now) in
     let genuine_is = stored_above_last c own before x after n m legal in
-    through (subst (λ event. (stored_counter x.outcome ≡ Some n)
+    both_ways (subst (λ event. (stored_counter x.outcome ≡ Some n)
     ↔ ((option_map (λ f. f.counter) (genuine c (reverse before) event) ≡ Some n) × IsAbove n (last_stored c before))) is genuine_is)
     (both (brings c before format at t n m (brought (told c (reverse before)) t (received c.mode t)) refl bytes)
     (found_counter c before format at t n m bytes))

@@ -69,25 +69,14 @@ pub last_known_is : (before : Option Reading) (rs : List Reading) → later_of b
 last_known_is before [] = refl
 last_known_is before (x ∷ rs) = later_last before x rs
 
-abbrev start_with : Address → Mode → List ℕ → Option (List ℕ) → Option ℕ → List Told → Orders → Option Reading → Start
-start_with a m k o l t d r =
-    record { address = a; mode = m; key = k; other = o; last = l; told = t; orders = d; reading = r }
-
-same_start : (a a' : Address) (m m' : Mode) (k k' : List ℕ) (o o' : Option (List ℕ)) (l l' : Option ℕ) (t t' : List Told) (d d' : Orders)
-    (r r' : Option Reading) → a ≡ a' → m ≡ m' → k ≡ k' → o ≡ o' → l ≡ l' → t ≡ t' → d ≡ d' → r ≡ r'
-    → start_with a m k o l t d r ≡ start_with a' m' k' o' l' t' d' r'
-same_start a a' m m' k k' o o' l l' t t' d d' r r' e1 e2 e3 e4 e5 e6 e7 e8 = cc
-
 -- what is known by what is kept and the last reading is what is known behind the journal
 pub passing_known : (v : Passing) (last : Option Reading) (journal : List Entry) → IsAfter journal v
     → last ≡ last_of None (readings v.start journal) → known_with v last ≡ resumed v.start journal
 passing_known v last journal after last_is =
-    let behind = resumed v.start journal in
-    same_start v.start.address behind.address v.start.mode behind.mode v.start.key behind.key v.kept.commission.other behind.other v.kept.last
-    behind.last (told_of v.kept.parts) behind.told v.kept.orders behind.orders (later_of v.start.reading last) behind.reading
-    refl refl refl (ap (λ (m : Commissioned). m.other) after.commission_is) after.last_is
-    (told_is v.kept.parts (told v.start (reverse journal)) after.parts_are) after.orders_are
-    (ap (later_of v.start.reading) last_is ∙ last_known_is v.start.reading (readings v.start journal))
+    let other = ap (λ (m : Commissioned). m.other) after.commission_is in
+    let history = told_is v.kept.parts (told v.start (reverse journal)) after.parts_are in
+    let reads = ap (later_of v.start.reading) last_is ∙ last_known_is v.start.reading (readings v.start journal) in
+    cc (after.last_is, after.orders_are)
 
 -- a meter that is known by its commission with these numbers, its fragments and its commands is known by what is kept
 pub passing_now : (v : Passing) (own : Address) (c : Start) (k : Kept) (known : Start) (last shown : Option Reading)
@@ -98,15 +87,23 @@ pub passing_now : (v : Passing) (own : Address) (c : Start) (k : Kept) (known : 
 passing_now v own c k known last shown view_is some tells commission commands reading shown_is =
     let keeps = some.keeps in
     let earlier = reverse some.journal in
-    let start_is : c ≡ v.start = ap (λ (w : Passing). w.start) view_is in
     let history : known.told ≡ told_of k.parts =
     tells (told c earlier) keeps.parts_are ∙ sym (told_is k.parts (told c earlier) keeps.parts_are) in
     let reads : known.reading ≡ later_of c.reading last =
-    reading ∙ shown_is ∙ ap (λ (s : Start). later_of s.reading last) (sym start_is) in
-    subst (λ (w : Passing). known ≡ known_with w last) view_is
-    (same_start known.address c.address known.mode c.mode known.key c.key known.other k.commission.other known.last k.last known.told
-    (told_of k.parts) known.orders k.orders known.reading (later_of c.reading last)
-    (ap (λ (m : Commissioned). m.address) commission ∙ ap (λ (m : Commissioned). m.address) keeps.commission_is)
-    (ap (λ (m : Commissioned). m.mode) commission ∙ ap (λ (m : Commissioned). m.mode) keeps.commission_is)
-    (ap (λ (m : Commissioned). m.key) commission ∙ ap (λ (m : Commissioned). m.key) keeps.commission_is)
-    (ap (λ (m : Commissioned). m.other) commission) (ap (λ (m : Commissioned). m.last) commission) history commands reads)
+    reading ∙ shown_is ∙ ap (λ (w : Passing). later_of w.start.reading last) (sym view_is) in
+    let address = ap (λ (m : Commissioned). m.address) commission ∙ ap (λ (m : Commissioned). m.address) keeps.commission_is in
+    let mode = ap (λ (m : Commissioned). m.mode) commission ∙ ap (λ (m : Commissioned). m.mode) keeps.commission_is in
+    let key = ap (λ (m : Commissioned). m.key) commission ∙ ap (λ (m : Commissioned). m.key) keeps.commission_is in
+    let other = ap (λ (m : Commissioned). m.other) commission in
+    let number = ap (λ (m : Commissioned). m.last) commission in
+    let fields : record {
+      address = known.address;
+      mode = known.mode;
+      key = known.key;
+      other = known.other;
+      last = known.last;
+      told = known.told;
+      orders = known.orders;
+      reading = known.reading;
+    } ≡ known_with (record { own = own; start = c; kept = k }) last = cc in
+    subst (λ (w : Passing). known ≡ known_with w last) view_is fields

@@ -2,6 +2,8 @@
 use Rattle.std.proofs.Common.{◌≡◌, ℕ, zero, suc, ◌<◌, ◌≤◌, ◌==◌, true, false, List, [], ◌∷◌, ◌++◌, length, get_or, set, map, reverse}
 use Rattle.std.proofs.Common.{Option, Some, None, refl, ap, sym, ◌∙◌, subst, arith}
 use Rattle.std.specs.Prelude.{slice_get, option_to_list, position}
+use Rattle.std.proofs.lemmas.Option.{slice_get-get_or}
+use Rattle.lists.proofs.Members.{with_fold}
 use Rattle.meter_address.specs.declared.address.Address.{Address}
 use Rattle.meter_slots.specs.declared.entry.Entry.{Entry}
 use Rattle.meter_slots.specs.declared.entry.Outcome.{Outcome}
@@ -62,27 +64,11 @@ module _ (b : SlotView) (m new : PassingMeter) (s : Step) (served : Served) (p :
 
 -- ---- lists of them
 
-pub passing_push : (bs : List SlotView) (ms : List PassingMeter) (b : SlotView) (m : PassingMeter) → ArePassing bs ms → IsPassing b m
-    → ArePassing (bs ++ b ∷ []) (ms ++ m ∷ [])
-passing_push [] [] b m all p = (p, tt)
-passing_push [] (x ∷ ms) b m all p = absurd all
-passing_push (y ∷ bs) [] b m all p = absurd all
-passing_push (y ∷ bs) (x ∷ ms) b m all p = (all.0, passing_push bs ms b m all.1 p)
-
-same_length : (bs : List SlotView) (ms : List PassingMeter) → ArePassing bs ms → length bs ≡ length ms
-same_length [] [] all = refl
-same_length [] (x ∷ ms) all = absurd all
-same_length (y ∷ bs) [] all = absurd all
-same_length (y ∷ bs) (x ∷ ms) all = ap suc (same_length bs ms all.1)
-
 same_addresses : (bs : List SlotView) (ms : List PassingMeter) → ArePassing bs ms
     → map address_of_slot (map fresh_view ms) ≡ map address_of_slot bs
-same_addresses [] [] all = refl
-same_addresses [] (x ∷ ms) all = absurd all
-same_addresses (y ∷ bs) [] all = absurd all
-same_addresses (y ∷ bs) (x ∷ ms) all =
-    ap (λ (c : Start). c.address ∷ map address_of_slot (map fresh_view ms)) all.0.start_is
-    ∙ ap (λ xs. y.start.address ∷ xs) (same_addresses bs ms all.1)
+same_addresses =
+    with_fold IsPassing (λ bs ms. map address_of_slot (map fresh_view ms) ≡ map address_of_slot bs) refl (λ b m bs ms p _ rest.
+    ap (λ (c : Start). c.address ∷ map address_of_slot (map fresh_view ms)) p.start_is ∙ ap (λ xs. b.start.address ∷ xs) rest)
 
 ordered_as : (bs : List SlotView) (ms : List PassingMeter) (directory : List Address) → ArePassing bs ms → AreOrdered ms directory
     → IsOrdered bs directory
@@ -145,11 +131,6 @@ some_meter = record {
   stepped = false;
 }
 
-slot_at : (bs : List SlotView) (place : ℕ) (b : SlotView) → place < length bs → slice_get bs place ≡ Some (get_or bs place b)
-slot_at [] place b within = absurd (omega arith)
-slot_at (y ∷ bs) zero b within = refl
-slot_at (y ∷ bs) (suc place) b within = slot_at bs place b (omega arith)
-
 -- ---- a step of all
 
 module _ (ms : List PassingMeter) (directory : List Address) (s : Step) (ordered : AreOrdered ms directory) where
@@ -174,7 +155,7 @@ module _ (ms : List PassingMeter) (directory : List Address) (s : Step) (ordered
         let b = get_or bs place some_slot in
         let p = passing_at bs ms place some_slot d all at.0 in (
           b,
-          slot_at bs place some_slot at.0,
+          slice_get-get_or bs place some_slot at.0,
           at.1,
           given b (get_or ms place d) h.new s served p h.served_is,
           read b (get_or ms place d) h.new s served p h.served_is,

@@ -3,9 +3,10 @@ use Rattle.std.proofs.Common.{◌≡◌, ℕ, ◌+◌, ◌-◌, ◌^◌, ◌<◌
 use Rattle.std.proofs.Common.{None, Result, Ok, Err, refl, sym, arith, subst}
 use Rattle.std.specs.Prelude.{option_map, option_to_list}
 use Rattle.std.specs.List.{All}
-use Rattle.std.proofs.lemmas.Bool.{and_parts, ltb-true}
+use Rattle.std.proofs.lemmas.Bool.{and_parts, cond_both, ltb-true}
+use Rattle.std.proofs.lemmas.List.Sorted.{All-permutation, IsPermutation-reverse, IsPermutation-sym}
 use Rattle.std.proofs.lemmas.List.{reverse-reverse}
-use Rattle.std.proofs.lemmas.List.Elements.{All-nil, All-cons, All-head, All-tail, All-append, All-filter}
+use Rattle.std.proofs.lemmas.List.Elements.{All-nil, All-cons, All-head, All-tail, All-append, All-filter, All-push}
 use Rattle.meter_address.specs.declared.address.Address.{Address}
 use Rattle.meter_address.specs.declared.commission.Mode.{Mode}
 use Rattle.meter_address.specs.declared.commission.Mode.TheVariants.{Five, Seven}
@@ -17,6 +18,7 @@ use Rattle.command_queue.specs.declared.command.QueueFault.{QueueFault}
 use Rattle.command_queue.specs.declared.command.QueueFault.TheVariants.{Full, IdsSpent}
 use Rattle.command_queue.specs.Pending.{Pending, has_id, is_pending, put_answer, take_answer, with_command_by, with_command}
 use Rattle.command_queue.specs.Pending.{without_command, one_try_more, with_try}
+use Rattle.access_window.proofs.Agreement.{put_both}
 use Rattle.access_window.specs.declared.window.Window.{Window}
 use Rattle.access_window.specs.declared.window.Window.TheVariants.{Idle, Waiting}
 use Rattle.access_window.specs.Orders.{Orders, after_put, after_cancel, window_without, queue_less, expired, after_tick, confirmed}
@@ -33,40 +35,23 @@ use Rattle.meter_slots.specs.Journal.{Start, commission_of, Standing, standing, 
 use Rattle.meter_slots.specs.Journal.{cancelled, key_answer, answer, outcome, IsJudged, Legal}
 use Rattle.meter_slots.specs.Laws.{downlinks_of, downlinks_in, IsPayload, HasPayload, AreReady, PutsPayload, CarriesPayload}
 use Rattle.meter_slots.proofs.Journals.{PutsIn}
-use Rattle.meter_slots.proofs.JournalLaws.{front_back}
-
-All-reverse : {X : Type 0} (P : X → Type 0) (xs : List X) → All P xs → All P (reverse xs)
-All-reverse P [] h = All-nil P
-All-reverse P (x ∷ xs) h =
-    subst (All P) (sym (front_back x xs)) (All-append P (reverse xs) (x ∷ []) (All-reverse P xs (All-tail P x xs h))
-    (All-cons P x [] (All-head P x xs h) (All-nil P)))
 
 -- ---- each command that waits has a payload
 
-put_by : (q : Pending) (payload : List ℕ) (r : Result ℕ QueueFault) → IsPayload payload → All HasPayload q.commands
-    → All HasPayload (with_command_by q payload r).commands
-put_by q payload (Err fault) p h = h
-put_by q payload (Ok id) p h =
-    let new : Command = record { id = id; tries = 0; payload = payload } in
-    All-append HasPayload q.commands (new ∷ []) h (All-cons HasPayload new [] p (All-nil HasPayload))
-
 put_ready : (k : Orders) (payload : List ℕ) → IsPayload payload → AreReady k → AreReady (after_put k payload)
-unfolding with_command
-put_ready k payload p h = put_by k.queue payload (put_answer k.queue) p h
+put_ready k payload p h =
+    put_both (λ (q : Pending). All HasPayload q.commands) k.queue payload h
+    (λ _. All-push HasPayload k.queue.commands (record { id = k.queue.ids + 1; tries = 0; payload = payload }) h p)
 
 without_ready : (id : ℕ) (q : Pending) → All HasPayload q.commands → All HasPayload (without_command id q).commands
 unfolding without_command
 without_ready id q h = All-filter (λ (c : Command). not (has_id id c)) HasPayload q.commands h
 
-cond_ready : (b : Bool) (j k : Orders) → AreReady j → AreReady k → AreReady (cond b j k)
-cond_ready true j k hj hk = hj
-cond_ready false j k hj hk = hk
-
 cancel_ready : (k : Orders) (id : ℕ) → AreReady k → AreReady (after_cancel k id)
 unfolding after_cancel
 cancel_ready k id h =
-    cond_ready (is_pending id k.queue) (record k { queue = without_command id k.queue; window = window_without id k.window }) k
-    (without_ready id k.queue h) h
+    cond_both (is_pending id k.queue) (record k { queue = without_command id k.queue; window = window_without id k.window }) k AreReady
+    (λ _. without_ready id k.queue h) (λ _. h)
 
 less_ready : (o : Option ℕ) (q : Pending) → All HasPayload q.commands → All HasPayload (queue_less o q).commands
 less_ready None q h = h
@@ -97,12 +82,7 @@ stored_ready k access response h =
 
 heard_ready : (k : Orders) (access : Access) (response : Bool) (o : Outcome) → AreReady k → AreReady (orders_heard k access response o)
 heard_ready k access response (Stored counter confirmed sent) h = stored_ready k access response h
-heard_ready k access response PartKept h = h
-heard_ready k access response (Ticked expired) h = h
-heard_ready k access response (Queued id) h = h
-heard_ready k access response (Cancelled id) h = h
-heard_ready k access response Rekeyed h = h
-heard_ready k access response (Refused reason) h = h
+heard_ready k access response _ h = h
 
 event_ready : (k : Orders) (access : Access) (event : Event) (o : Outcome) → PutsPayload event → AreReady k
     → AreReady (orders_after k access event o)
@@ -155,29 +135,14 @@ module _ (own : Address) (c : Commissioned) where
 
   heard_sent : (k : Orders) (access : Access) (response : Bool) (v : Result (Option Found) Reason) → AreReady k
       → All (CarriesPayload own c) (downlinks_of (heard own c k access response v))
-  heard_sent k access response (Err reason) h = All-nil (CarriesPayload own c)
-  heard_sent k access response (Ok None) h = All-nil (CarriesPayload own c)
   heard_sent k access response (Ok (Some f)) h = stored_sent k access response h
-
-  queued_sent : (r : Result ℕ QueueFault) → All (CarriesPayload own c) (downlinks_of (queued r))
-  queued_sent (Ok id) = All-nil (CarriesPayload own c)
-  queued_sent (Err Full) = All-nil (CarriesPayload own c)
-  queued_sent (Err IdsSpent) = All-nil (CarriesPayload own c)
-
-  cancelled_sent : (id : ℕ) (r : Result Command NoSuch) → All (CarriesPayload own c) (downlinks_of (cancelled id r))
-  cancelled_sent id (Ok command) = All-nil (CarriesPayload own c)
-  cancelled_sent id (Err missing) = All-nil (CarriesPayload own c)
-
-  key_sent : (mode : Mode) → All (CarriesPayload own c) (downlinks_of (key_answer mode))
-  key_sent Five = All-nil (CarriesPayload own c)
-  key_sent Seven = All-nil (CarriesPayload own c)
+  heard_sent k access response _ h = All-nil (CarriesPayload own c)
 
   answer_sent : (s : Standing) (event : Event) → AreReady s.orders → All (CarriesPayload own c) (downlinks_of (answer c own s event))
   answer_sent s (Hear format at t) h = heard_sent s.orders _ _ (verdict c s t) h
-  answer_sent s Tick h = All-nil (CarriesPayload own c)
-  answer_sent s (Put payload) h = queued_sent (put_answer s.orders.queue)
-  answer_sent s (Cancel id) h = cancelled_sent id (take_answer id s.orders.queue)
-  answer_sent s (Rekey key) h = key_sent c.mode
+  answer_sent s event h =
+      let none : downlinks_of (answer c own s event) ≡ [] = grind arith in
+      subst (All (CarriesPayload own c)) (sym none) (All-nil (CarriesPayload own c))
 
   abbrev SendsRightly : Entry → Type 0
   SendsRightly x = All (CarriesPayload own c) (downlinks_of x.outcome)
@@ -198,16 +163,16 @@ module _ (own : Address) (c : Start) (ready : AreReady c.orders) where
       subst (λ (o : Outcome). All (CarriesPayload own (commission_of c)) (downlinks_of o)) (sym j.0)
       (answer_sent own (commission_of c) (standing c earlier) x.event (orders_ready c earlier ready h))
 
-  journal_sent : (earlier : List Entry) → IsJudged c own earlier → All PutsIn earlier → All Sends (reverse earlier)
+  journal_sent : (earlier : List Entry) → IsJudged c own earlier → All PutsIn earlier → All Sends earlier
   journal_sent [] j h = All-nil Sends
   journal_sent (x ∷ earlier) j h =
       let rest = All-tail PutsIn x earlier h in
-      subst (All Sends) (sym (front_back x earlier))
-      (All-append Sends (reverse earlier) (x ∷ []) (journal_sent earlier j.1 rest)
-      (All-cons Sends x [] (entry_sent x earlier j rest) (All-nil Sends)))
+      All-cons Sends x earlier (entry_sent x earlier j rest) (journal_sent earlier j.1 rest)
 
 pub downlinks_carry : (own : Address) (c : Start) (journal : List Entry) → AreReady c.orders → Legal c own journal → All PutsIn journal
     → All (CarriesPayload own (commission_of c)) (downlinks_in journal)
 downlinks_carry own c journal ready j h =
-    let sends = journal_sent own c ready (reverse journal) j (All-reverse PutsIn journal h) in
-    all_sent own (commission_of c) journal (subst (All (Sends own c ready)) (reverse-reverse journal) sends)
+    let puts = All-permutation PutsIn journal (reverse journal) (IsPermutation-reverse journal) h in
+    all_sent own (commission_of c) journal
+    (All-permutation (Sends own c ready) (reverse journal) journal (IsPermutation-sym journal (reverse journal) (IsPermutation-reverse journal))
+    (journal_sent own c ready (reverse journal) j puts))

@@ -2,19 +2,16 @@
 use Rattle.std.proofs.Common.{◌≡◌, ℕ, zero, suc, ◌+◌, ◌<◌, ◌==◌, ◌||◌, List, [], ◌∷◌, ◌++◌, Bool, true, false, cond, length, take, get_or}
 use Rattle.std.proofs.Common.{refl, ap, sym, ◌∙◌, arith}
 use Rattle.std.specs.List.{list_any}
+use Rattle.std.proofs.lemmas.Bool.{or_parts}
 use Rattle.std.proofs.lemmas.List.{take_more}
 use Rattle.meter_address.specs.declared.address.Address.{Address}
 use Rattle.meter_slots.specs.Directory.{AreApart}
 
-or_false : (x y : Bool) → (x || y) ≡ false → (x ≡ false) × (y ≡ false)
-or_false true y h = absurd cc
-or_false false y h = (refl, h)
-
 none_at : (n : ℕ) (xs : List Address) (i : ℕ) (d : Address) → list_any (λ b. b.0 == n) xs ≡ false → i < length xs
     → ((get_or xs i d).0 == n) ≡ false
 none_at n [] i d h within = absurd (omega arith)
-none_at n (x ∷ xs) zero d h within = (or_false _ _ h).0
-none_at n (x ∷ xs) (suc i) d h within = none_at n xs i d (or_false (x.0 == n) (list_any (λ b. b.0 == n) xs) h).1 (omega arith)
+none_at n (x ∷ xs) zero d h within = (or_parts _ _ h).0
+none_at n (x ∷ xs) (suc i) d h within = none_at n xs i d (or_parts (x.0 == n) (list_any (λ b. b.0 == n) xs) h).1 (omega arith)
 
 -- an address is none of those in front of it
 new_at : (xs : List Address) (i : ℕ) (d : Address) → AreApart xs → i < length xs

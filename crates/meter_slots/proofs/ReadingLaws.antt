@@ -1,6 +1,6 @@
 -- Proof that the readings of a journal are those of its stored messages.
 use Rattle.std.proofs.Common.{◌≡◌, ℕ, Bool, List, [], ◌∷◌, ◌++◌, reverse, map, Option, Some, None, Result, Ok, Err, refl, ap, sym, ◌∙◌}
-use Rattle.std.proofs.Common.{subst}
+use Rattle.std.proofs.Common.{subst, arith}
 use Rattle.std.specs.Prelude.{filter_map}
 use Rattle.std.specs.List.{cons_option}
 use Rattle.std.specs.Result.{result_ok}
@@ -30,7 +30,7 @@ use Rattle.meter_slots.specs.Journal.{stored_or_refused, judged, orders, last_co
 use Rattle.meter_slots.specs.Journal.{stored_in, stored, reading_at, reading_of, readings_back, readings, stored_counter}
 use Rattle.meter_slots.specs.Laws.{stored_counters, moment_read, stored_moment, stored_moments, reading_added}
 use Rattle.meter_slots.proofs.Journals.{back, found_where, readings-append}
-use Rattle.meter_slots.proofs.JournalLaws.{front_back, queued_stored, cancelled_stored, key_stored}
+use Rattle.meter_slots.proofs.JournalLaws.{front_back}
 
 -- what a fact says of one entry it says of all
 each_stored : {X : Type 0} (f : Reading → X) (g : Entry → Option X) (c : Start) (own : Address)
@@ -49,21 +49,12 @@ each_stored f g c own one (x ∷ earlier) j =
 heard_counter : (own : Address) (c : Commissioned) (k : Orders) (access : Access) (response : Bool) (at : ℕ)
     (v : Result (Option Found) Reason)
     → map (λ (r : Reading). r.counter) (reading_at at (stored_in v)) ≡ cons_option (stored_counter (heard own c k access response v)) []
-heard_counter own c k access response at (Err reason) = refl
-heard_counter own c k access response at (Ok None) = refl
-heard_counter own c k access response at (Ok (Some f)) = refl
-
-none_of : (o : Option ℕ) → o ≡ None → [] ≡ cons_option o []
-none_of None h = refl
-none_of (Some n) h = cc
+heard_counter own c k access response at v = grind arith
 
 answer_counter : (c : Commissioned) (own : Address) (s : Standing) (event : Event)
     → map (λ (r : Reading). r.counter) (reading_of event (stored c s event)) ≡ cons_option (stored_counter (answer c own s event)) []
 answer_counter c own s (Hear format at t) = heard_counter own c s.orders _ _ at (verdict c s t)
-answer_counter c own s Tick = refl
-answer_counter c own s (Put payload) = none_of _ (queued_stored (put_answer s.orders.queue))
-answer_counter c own s (Cancel id) = none_of _ (cancelled_stored id (take_answer id s.orders.queue))
-answer_counter c own s (Rekey key) = none_of _ (key_stored c.mode)
+answer_counter c own s _ = grind arith
 
 entry_counter : (c : Start) (own : Address) (x : Entry) (earlier : List Entry) → IsJudged c own (x ∷ earlier)
     → map (λ (r : Reading). r.counter) (reading_of x.event (stored (commission_of c) (standing c earlier) x.event)) ≡ cons_option (stored_counter x.outcome)
@@ -84,17 +75,12 @@ counters_read c own journal j =
 heard_moment : (own : Address) (c : Commissioned) (k : Orders) (access : Access) (response : Bool) (format : Format) (at : ℕ) (t : List ℕ)
     (v : Result (Option Found) Reason)
     → map moment_read (reading_at at (stored_in v)) ≡ cons_option (stored_moment (Hear format at t) (heard own c k access response v)) []
-heard_moment own c k access response format at t (Err reason) = refl
-heard_moment own c k access response format at t (Ok None) = refl
-heard_moment own c k access response format at t (Ok (Some f)) = refl
+heard_moment own c k access response format at t v = grind arith
 
 answer_moment : (c : Commissioned) (own : Address) (s : Standing) (event : Event)
     → map moment_read (reading_of event (stored c s event)) ≡ cons_option (stored_moment event (answer c own s event)) []
 answer_moment c own s (Hear format at t) = heard_moment own c s.orders _ _ format at t (verdict c s t)
-answer_moment c own s Tick = refl
-answer_moment c own s (Put payload) = refl
-answer_moment c own s (Cancel id) = refl
-answer_moment c own s (Rekey key) = refl
+answer_moment c own s _ = refl
 
 entry_moment : (c : Start) (own : Address) (x : Entry) (earlier : List Entry) → IsJudged c own (x ∷ earlier)
     → map moment_read (reading_of x.event (stored (commission_of c) (standing c earlier) x.event)) ≡ cons_option (stored_moment x.event x.outcome) []
@@ -128,33 +114,21 @@ opened_found mode last (Ok x) f h = compared_found mode last x f h
 -- what is stored is what was genuine
 judged_found : (c : Commissioned) (last : Option ℕ) (b : Result (Option Message) Reason) (f : Found) → judged c last b ≡ Ok (Some f)
     → genuine_in c b ≡ Some f
-judged_found c last (Err reason) f h = cc
-judged_found c last (Ok None) f h = cc
 judged_found c last (Ok (Some m)) f h = opened_found c.mode last (opened_in c.mode c m) f h
+judged_found c last _ f h = cc
 
 none_read : (event : Event) → reading_of event None ≡ []
-none_read (Hear format at t) = refl
-none_read Tick = refl
-none_read (Put payload) = refl
-none_read (Cancel id) = refl
-none_read (Rekey key) = refl
+none_read event = grind arith
 
 heard_added : (own : Address) (c : Commissioned) (k : Orders) (access : Access) (response : Bool) (event : Event) (found : Option Found)
     (v : Result (Option Found) Reason)
     → ((f : Found) → v ≡ Ok (Some f) → found ≡ Some f)
     → reading_of event (stored_in v) ≡ reading_added (heard own c k access response v) event found
-heard_added own c k access response event found (Err reason) h = none_read event
-heard_added own c k access response event found (Ok None) h = none_read event
 heard_added own c k access response event found (Ok (Some f)) h = ap (reading_of event) (sym (h f refl))
+heard_added own c k access response event found _ h = none_read event
 
 none_added : (event : Event) (found : Option Found) (o : Outcome) → reading_of event found ≡ [] → [] ≡ reading_added o event found
-none_added event found (Stored counter confirmed sent) h = sym h
-none_added event found PartKept h = refl
-none_added event found (Ticked expired) h = refl
-none_added event found (Queued id) h = refl
-none_added event found (Cancelled id) h = refl
-none_added event found Rekeyed h = refl
-none_added event found (Refused reason) h = refl
+none_added event found o h = grind arith
 
 answer_added : (c : Start) (own : Address) (earlier : List Entry) (event : Event)
     → reading_of event (stored (commission_of c) (standing c earlier) event)
@@ -164,10 +138,7 @@ answer_added c own earlier (Hear format at t) =
     heard_added own (commission_of c) (orders c earlier) _ _ (Hear format at t) (genuine c earlier (Hear format at t))
     (verdict (commission_of c) (standing c earlier) t)
     (judged_found (rekeyed (commission_of c) (other_key c earlier)) (last_counter c earlier) (brought (told c earlier) t (received c.mode t)))
-answer_added c own earlier Tick = refl
-answer_added c own earlier (Put payload) = none_added (Put payload) None _ refl
-answer_added c own earlier (Cancel id) = none_added (Cancel id) None _ refl
-answer_added c own earlier (Rekey key) = none_added (Rekey key) None _ refl
+answer_added c own earlier event = none_added event None (answer (commission_of c) own (standing c earlier) event) refl
 
 -- the readings after one more entry
 pub added_read : (c : Start) (own : Address) (journal : List Entry) (x : Entry) → Legal c own (journal ++ x ∷ [])

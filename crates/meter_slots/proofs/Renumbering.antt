@@ -1,6 +1,8 @@
 -- The numbers of receivers and lines make no difference to what is answered.
+use mathlib.Core.Path.{fun_ext}
 use Rattle.std.proofs.Common.{◌≡◌, ℕ, List, [], ◌∷◌, ◌++◌, map, reverse, Option, refl, ap, ap₂, sym, ◌∙◌, subst}
 use Rattle.std.specs.Prelude.{option_to_list, option_map}
+use Rattle.lists.proofs.Places.{map-reverse}
 use Rattle.meter_address.specs.declared.address.Address.{Address}
 use Rattle.access_window.specs.Orders.{Orders}
 use Rattle.afl_fragments.specs.Held.{Told}
@@ -16,80 +18,52 @@ use Rattle.meter_slots.specs.Journal.{outcome, IsJudged, Legal, stored, reading_
 use Rattle.meter_slots.specs.Resuming.{last_of, resumed}
 use Rattle.meter_slots.specs.declared.reading.Reading.{Reading}
 use Rattle.afl_fragments.specs.Short.{cut_down}
-use Rattle.meter_slots.proofs.JournalLaws.{map-reverse}
 
-module _ (f : Entry → Entry) (event_is : (x : Entry) → (f x).event ≡ x.event) (outcome_is : (x : Entry) → (f x).outcome ≡ x.outcome)
-    (c : Start) where
-  other_same : (es : List Entry) → other_key c (map f es) ≡ other_key c es
-  other_same [] = refl
-  other_same (x ∷ es) =
-      ap (λ (e : Event). other_after c.mode e (other_key c (map f es))) (event_is x) ∙ ap (other_after c.mode x.event) (other_same es)
+-- both lists of entries come to the same
+record IsSame (c : Start) (xs ys : List Entry) : Type 0 where
+  pub other : other_key c xs ≡ other_key c ys
+  pub told_is : told c xs ≡ told c ys
+  pub counters_are : counters c xs ≡ counters c ys
+  pub orders_are : orders c xs ≡ orders c ys
+  pub readings_are : readings_back c xs ≡ readings_back c ys
 
-  told_same : (es : List Entry) → told c (map f es) ≡ told c es
-  unfolding told
-  told_same [] = refl
-  told_same (x ∷ es) =
-      ap (λ (e : Event). told_by (commission_of c) e (f x).outcome ++ told c (map f es)) (event_is x)
-      ∙ ap (λ (o : Outcome). told_by (commission_of c) x.event o ++ told c (map f es)) (outcome_is x)
-      ∙ ap (λ (ts : List Told). told_by (commission_of c) x.event x.outcome ++ ts) (told_same es)
+module _ (c : Start) (xs ys : List Entry) (s : IsSame c xs ys) where
+  genuine_same : (event : Event) → genuine c xs event ≡ genuine c ys event
+  genuine_same (Hear format at t) =
+      ap₂ (λ (o : Option (List ℕ)) (ts : List Told). genuine_in (rekeyed (commission_of c) o) (brought ts t (received c.mode t))) s.other s.told_is
+  genuine_same _ = refl
 
-  genuine_same : (es : List Entry) (event : Event) → genuine c (map f es) event ≡ genuine c es event
-  genuine_same es (Hear format at t) =
-      ap (λ (o : Option (List ℕ)). genuine_in (rekeyed (commission_of c) o) (brought (told c (map f es)) t (received c.mode t))) (other_same es)
-      ∙ ap (λ (ts : List Told). genuine_in (rekeyed (commission_of c) (other_key c es)) (brought ts t (received c.mode t))) (told_same es)
-  genuine_same es Tick = refl
-  genuine_same es (Put payload) = refl
-  genuine_same es (Cancel id) = refl
-  genuine_same es (Rekey key) = refl
-
-  abbrev counter_in : Option Found → List ℕ
-  counter_in found = option_to_list (option_map (λ g. g.counter) found)
-
-  counters_same : (es : List Entry) → counters c (map f es) ≡ counters c es
-  counters_same [] = refl
-  counters_same (x ∷ es) =
-      ap (λ (e : Event). counter_in (genuine c (map f es) e) ++ counters c (map f es)) (event_is x)
-      ∙ ap (λ (g : Option Found). counter_in g ++ counters c (map f es)) (genuine_same es x.event)
-      ∙ ap (λ ns. counter_in (genuine c es x.event) ++ ns) (counters_same es)
-
-  last_same : (es : List Entry) → last_counter c (map f es) ≡ last_counter c es
+  standing_same : standing c xs ≡ standing c ys
   unfolding last_counter
-  last_same es = ap (λ ns. last_among c.mode (ns ++ option_to_list c.last)) (counters_same es)
+  standing_same = cc (s.other, s.told_is, s.counters_are, s.orders_are)
 
-  with_same : (es : List Entry) (k : Orders) → standing_with c (map f es) k ≡ standing_with c es k
-  with_same es k =
-      ap (λ (o : Option (List ℕ)). record { other = o; last = last_counter c (map f es); told = told c (map f es); orders = k }) (other_same es)
-      ∙ ap (λ (l : Option ℕ). record { other = other_key c es; last = l; told = told c (map f es); orders = k }) (last_same es)
-      ∙ ap (λ (ts : List Told). record { other = other_key c es; last = last_counter c es; told = ts; orders = k }) (told_same es)
+  same_more : (source line : ℕ) (x : Entry)
+      → IsSame c (record { source = source; line = line; event = x.event; outcome = x.outcome } ∷ xs) (x ∷ ys)
+  unfolding told
+  same_more source line x = record {
+    other = ap (other_after c.mode x.event) s.other;
+    told_is = ap (λ (ts : List Told). told_by (commission_of c) x.event x.outcome ++ ts) s.told_is;
+    counters_are = let g = genuine_same x.event in cc (s.counters_are);
+    orders_are = ap (λ (t : Standing). orders_after t.orders (access_at (commission_of c) t x.event) x.event x.outcome) standing_same;
+    readings_are = ap₂ (λ (rs : List Reading) (t : Standing). rs ++ reading_of x.event (stored (commission_of c) t x.event)) s.readings_are
+        standing_same;
+  }
 
-  orders_same : (es : List Entry) → orders c (map f es) ≡ orders c es
-  orders_same [] = refl
-  orders_same (x ∷ es) =
-      let k = orders c es in
-      ap (λ (j : Orders). orders_after j (access_at (commission_of c) (standing_with c (map f es) j) (f x).event) (f x).event (f x).outcome)
-      (orders_same es)
-      ∙ ap (λ (s : Standing). orders_after k (access_at (commission_of c) s (f x).event) (f x).event (f x).outcome) (with_same es k)
-      ∙ ap (λ (e : Event). orders_after k (access_at (commission_of c) (standing_with c es k) e) e (f x).outcome) (event_is x)
-      ∙ ap (orders_after k (access_at (commission_of c) (standing_with c es k) x.event) x.event) (outcome_is x)
+module _ (source line : Entry → ℕ) (c : Start) where
+  abbrev renumbered : Entry → Entry
+  renumbered x = record { source = source x; line = line x; event = x.event; outcome = x.outcome }
 
-  standing_same : (es : List Entry) → standing c (map f es) ≡ standing c es
-  standing_same es = ap (standing_with c (map f es)) (orders_same es) ∙ with_same es (orders c es)
+  map_same : (es : List Entry) → IsSame c (map renumbered es) es
+  map_same [] = record { other = refl; told_is = refl; counters_are = refl; orders_are = refl; readings_are = refl }
+  map_same (x ∷ es) = same_more c (map renumbered es) es (map_same es) (source x) (line x) x
 
-  judged_same : (own : Address) (es : List Entry) → IsJudged c own es → IsJudged c own (map f es)
+  judged_same : (own : Address) (es : List Entry) → IsJudged c own es → IsJudged c own (map renumbered es)
   unfolding outcome
   judged_same own [] j = tt
   judged_same own (x ∷ es) j = (
-    outcome_is x ∙ j.0 ∙ ap (λ (s : Standing). answer (commission_of c) own s x.event) (sym (standing_same es))
-        ∙ ap (answer (commission_of c) own (standing c (map f es))) (sym (event_is x)),
+    j.0 ∙ ap (λ (s : Standing). answer (commission_of c) own s x.event) (sym (standing_same c (map renumbered es) es (map_same es))),
     judged_same own es j.1,
   )
-
-  readings_same : (es : List Entry) → readings_back c (map f es) ≡ readings_back c es
-  readings_same [] = refl
-  readings_same (x ∷ es) =
-      ap (λ (rs : List Reading). rs ++ reading_of (f x).event (stored (commission_of c) (standing c (map f es)) (f x).event)) (readings_same es)
-      ∙ ap (λ (s : Standing). readings_back c es ++ reading_of (f x).event (stored (commission_of c) s (f x).event)) (standing_same es)
-      ∙ ap (λ (e : Event). readings_back c es ++ reading_of e (stored (commission_of c) (standing c es) e)) (event_is x)
 
   -- what is known behind a standing and some readings
   abbrev known : Standing → List Reading → Start
@@ -104,20 +78,23 @@ module _ (f : Entry → Entry) (event_is : (x : Entry) → (f x).event ≡ x.eve
     reading = last_of c.reading rs;
   }
 
-  resumed_same : (journal : List Entry) → resumed c (map f journal) ≡ resumed c journal
+  resumed_same : (journal : List Entry) → resumed c (map renumbered journal) ≡ resumed c journal
   unfolding readings
   resumed_same journal =
-      let e : standing c (reverse (map f journal)) ≡ standing c (reverse journal) =
-      ap (standing c) (sym (map-reverse f journal)) ∙ standing_same (reverse journal) in
-      let r : readings_back c (reverse (map f journal)) ≡ readings_back c (reverse journal) =
-      ap (readings_back c) (sym (map-reverse f journal)) ∙ readings_same (reverse journal) in
-      ap₂ known e r
+      let s : IsSame c (reverse (map renumbered journal)) (reverse journal) =
+      subst (λ (es : List Entry). IsSame c es (reverse journal)) (map-reverse renumbered journal) (map_same (reverse journal)) in
+      ap₂ known (standing_same c (reverse (map renumbered journal)) (reverse journal) s) s.readings_are
 
-pub resumed_renumbered : (f : Entry → Entry) → ((x : Entry) → (f x).event ≡ x.event) → ((x : Entry) → (f x).outcome ≡ x.outcome)
-    → (c : Start) (journal : List Entry) → resumed c (map f journal) ≡ resumed c journal
-resumed_renumbered f event_is outcome_is c journal = resumed_same f event_is outcome_is c journal
+module _ (f : Entry → Entry) (event_is : (x : Entry) → (f x).event ≡ x.event) (outcome_is : (x : Entry) → (f x).outcome ≡ x.outcome) where
+  f_is : (c : Start) → f ≡ renumbered (λ x. (f x).source) (λ x. (f x).line) c
+  f_is c = fun_ext (λ x. ap₂ (λ (e : Event) (o : Outcome). record { source = (f x).source; line = (f x).line; event = e; outcome = o })
+      (event_is x) (outcome_is x))
 
-pub legal_renumbered : (f : Entry → Entry) → ((x : Entry) → (f x).event ≡ x.event) → ((x : Entry) → (f x).outcome ≡ x.outcome)
-    → (c : Start) (own : Address) (journal : List Entry) → Legal c own journal → Legal c own (map f journal)
-legal_renumbered f event_is outcome_is c own journal j =
-    subst (IsJudged c own) (map-reverse f journal) (judged_same f event_is outcome_is c own (reverse journal) j)
+  pub resumed_renumbered : (c : Start) (journal : List Entry) → resumed c (map f journal) ≡ resumed c journal
+  resumed_renumbered c journal =
+      ap (λ (g : Entry → Entry). resumed c (map g journal)) (f_is c) ∙ resumed_same (λ x. (f x).source) (λ x. (f x).line) c journal
+
+  pub legal_renumbered : (c : Start) (own : Address) (journal : List Entry) → Legal c own journal → Legal c own (map f journal)
+  legal_renumbered c own journal j =
+      subst (IsJudged c own) (ap (λ (g : Entry → Entry). map g (reverse journal)) (sym (f_is c)) ∙ map-reverse f journal)
+      (judged_same (λ x. (f x).source) (λ x. (f x).line) c own (reverse journal) j)

@@ -1,7 +1,7 @@
 -- The window agrees with the queue after a command that waited before.
 use Rattle.std.proofs.Common.{◌≡◌, ℕ, ◌<◌, ◌≤◌, true, false, List, [], ◌∷◌, ◌++◌, refl, ap, sym, ◌∙◌, arith, subst}
 use Rattle.std.specs.Prelude.{nat_le, nat_lt, if◌then◌else◌}
-use Rattle.std.proofs.lemmas.Bool.Decides.{nat_tests}
+use Rattle.std.proofs.lemmas.Bool.{leb-true, ltb-true}
 use Rattle.command_queue.specs.declared.command.Command.{Command}
 use Rattle.command_queue.specs.Pending.{Pending, IsSound, OnlyOldestTried, may_follow, with_follower}
 use Rattle.command_queue.proofs.Moves.{sound_follower}
@@ -10,19 +10,13 @@ use Rattle.access_window.specs.declared.window.Window.TheVariants.{Idle, Waiting
 use Rattle.access_window.specs.Orders.{AgreesWith, Agrees}
 use Rattle.meter_slots.specs.Restoring.{window_fits}
 
-at_least_one : (n : ℕ) → nat_le 1 n ≡ true → 1 ≤ n
-at_least_one n h = grind (arith, nat_tests)
-
-below_three : (n : ℕ) → nat_lt n 3 ≡ true → n < 3
-below_three n h = grind (arith, nat_tests)
-
 waits_agrees : (cs : List Command) (c : Command) → window_fits cs c true ≡ true → OnlyOldestTried (cs ++ c ∷ [])
     → AgreesWith (Waiting c.id) (cs ++ c ∷ [])
-waits_agrees [] c fits tries = (refl, at_least_one c.tries fits, tries.0)
+waits_agrees [] c fits tries = (refl, leb-true 1 c.tries fits, tries.0)
 waits_agrees (d ∷ cs) c fits tries = absurd cc
 
 idle_agrees : (w : Window) (cs : List Command) (c : Command) → AgreesWith w cs → window_fits cs c false ≡ true → AgreesWith w (cs ++ c ∷ [])
-idle_agrees Idle [] c h fits = below_three c.tries fits
+idle_agrees Idle [] c h fits = ltb-true c.tries 3 fits
 idle_agrees (Waiting id) [] c h fits = absurd h
 idle_agrees Idle (d ∷ cs) c h fits = h
 idle_agrees (Waiting id) (d ∷ cs) c h fits = h

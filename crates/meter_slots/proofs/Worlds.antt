@@ -1,7 +1,10 @@
 -- What one step changes of a world.
 use Rattle.std.proofs.Common.{◌≡◌, ◌↔◌, ℕ, zero, suc, ◌<◌, ◌≤◌, ◌==◌, Bool, true, false, not, ◌||◌, cond, List, [], ◌∷◌, ◌++◌, length}
 use Rattle.std.proofs.Common.{get_or, set, reverse, map, filter, Some, None, refl, ap, sym, ◌∙◌, arith, subst}
-use Rattle.std.specs.Prelude.{position}
+use Rattle.std.specs.Prelude.{Option, position, slice_get, option_map}
+use Rattle.lists.proofs.Choices.{none_if}
+use Rattle.std.proofs.lemmas.Bool.{true≢false, cond_both, eq-eqb, eqb-true, not-true, or_parts, or_right}
+use Rattle.std.proofs.lemmas.Option.{slice_get-get_or, slice_get-map}
 use Rattle.std.specs.List.{list_any, position_or_len, All}
 use Rattle.std.proofs.lemmas.Bool.Decides.{nat_tests}
 use Rattle.std.proofs.lemmas.List.{reverse-append, reverse-reverse, map-append, append-nil, length-map}
@@ -23,9 +26,6 @@ use Rattle.meter_slots.specs.World.{Call, call_of, judged_journal, journal_of, i
 use Rattle.meter_slots.specs.World.{strangers_of, WorldView, world_of, Lands, fresh_slot, outcome_at, stepped_slot, has_slot, slot_after}
 use Rattle.meter_slots.specs.World.{strangers_after, after_step, AnsweredBy, address_of_slot, IsOrdered}
 use Rattle.meter_slots.proofs.JournalLaws.{journal_of_legal}
-
-same_number : (a b : ℕ) → a ≡ b → (a == b) ≡ true
-same_number a b h = grind (arith, nat_tests)
 
 eqb_swap : (a b : ℕ) → (a == b) ≡ (b == a)
 eqb_swap a b = grind (arith, nat_tests)
@@ -76,25 +76,21 @@ slots-push own (c ∷ cs) steps s =
 abbrev Lacks : ℕ → List SlotView → Type 0
 Lacks n bs = list_any (has_number n) bs ≡ false
 
-or_false : (x y : Bool) → (x || y) ≡ false → (x ≡ false) × (y ≡ false)
-or_false true y h = absurd cc
-or_false false y h = (refl, h)
-
-any-map : (n : ℕ) (bs : List SlotView) → list_any (λ a. a.0 == n) (map address_of_slot bs) ≡ list_any (has_number n) bs
-any-map n [] = refl
-any-map n (b ∷ bs) = ap (λ t. has_number n b || t) (any-map n bs)
+any-map : {X Y : Type 0} (p : Y → Bool) (f : X → Y) (xs : List X) → list_any p (map f xs) ≡ list_any (λ x. p (f x)) xs
+any-map p f [] = refl
+any-map p f (x ∷ xs) = ap (λ t. p (f x) || t) (any-map p f xs)
 
 stepped_lacks : (s : Step) (bs : List SlotView) → Lacks s.address.0 bs → map (slot_after s) bs ≡ bs
 stepped_lacks s [] h = refl
 stepped_lacks s (b ∷ bs) h =
-    let parts = or_false (has_number s.address.0 b) (list_any (has_number s.address.0) bs) h in
+    let parts = or_parts (has_number s.address.0 b) (list_any (has_number s.address.0) bs) h in
     ap (λ t. cond t (stepped_slot s b) b ∷ map (slot_after s) bs) parts.0 ∙ ap (λ xs. b ∷ xs) (stepped_lacks s bs parts.1)
 
 lacks_at : (n : ℕ) (bs : List SlotView) (place : ℕ) (d : SlotView) → Lacks n bs → place < length bs
     → has_number n (get_or bs place d) ≡ false
 lacks_at n [] place d h l = absurd (omega arith)
-lacks_at n (b ∷ bs) zero d h l = (or_false (has_number n b) (list_any (has_number n) bs) h).0
-lacks_at n (b ∷ bs) (suc place) d h l = lacks_at n bs place d (or_false (has_number n b) (list_any (has_number n) bs) h).1 (omega arith)
+lacks_at n (b ∷ bs) zero d h l = (or_parts (has_number n b) (list_any (has_number n) bs) h).0
+lacks_at n (b ∷ bs) (suc place) d h l = lacks_at n bs place d (or_parts (has_number n b) (list_any (has_number n) bs) h).1 (omega arith)
 
 other_number : (x b s : ℕ) → (x == b) ≡ false → x ≡ s → (b == s) ≡ false
 other_number x b s h e = grind (arith, nat_tests)
@@ -104,11 +100,11 @@ set_stepped : (bs : List SlotView) (place : ℕ) (s : Step) (d : SlotView) → A
     → set bs place (stepped_slot s (get_or bs place d)) ≡ map (slot_after s) bs
 set_stepped [] place s d a h e = absurd (omega arith)
 set_stepped (b ∷ bs) zero s d a h e =
-    let lacks : Lacks s.address.0 bs = subst (λ n. Lacks n bs) e (sym (any-map b.start.address.0 bs) ∙ a.0) in
+    let lacks : Lacks s.address.0 bs = subst (λ n. Lacks n bs) e (sym (any-map (λ (a : Address). a.0 == b.start.address.0) address_of_slot bs) ∙ a.0) in
     ap (λ bs'. stepped_slot s b ∷ bs') (sym (stepped_lacks s bs lacks))
-    ∙ ap (λ t. cond t (stepped_slot s b) b ∷ map (slot_after s) bs) (sym (same_number b.start.address.0 s.address.0 e))
+    ∙ ap (λ t. cond t (stepped_slot s b) b ∷ map (slot_after s) bs) (sym (eq-eqb b.start.address.0 s.address.0 e))
 set_stepped (b ∷ bs) (suc place) s d a h e =
-    let lacks : Lacks b.start.address.0 bs = sym (any-map b.start.address.0 bs) ∙ a.0 in
+    let lacks : Lacks b.start.address.0 bs = sym (any-map (λ (a : Address). a.0 == b.start.address.0) address_of_slot bs) ∙ a.0 in
     let differs =
     other_number (get_or bs place d).start.address.0 b.start.address.0 s.address.0
     (lacks_at b.start.address.0 bs place d lacks (omega arith)) e in
@@ -117,33 +113,19 @@ set_stepped (b ∷ bs) (suc place) s d a h e =
 
 -- ---- the addresses stay
 
-stepped_address : (t : Bool) (s : Step) (b : SlotView) → address_of_slot (cond t (stepped_slot s b) b) ≡ address_of_slot b
-stepped_address true s b = refl
-stepped_address false s b = refl
-
 addresses_stay : (s : Step) (bs : List SlotView) → map address_of_slot (map (slot_after s) bs) ≡ map address_of_slot bs
 addresses_stay s [] = refl
 addresses_stay s (b ∷ bs) =
-    ap (λ a. a ∷ map address_of_slot (map (slot_after s) bs)) (stepped_address (has_number s.address.0 b) s b)
+    ap (λ a. a ∷ map address_of_slot (map (slot_after s) bs)) (cond_both (has_number s.address.0 b) (stepped_slot s b) b
+    (λ (x : SlotView). address_of_slot x ≡ b.start.address) (λ _. refl) (λ _. refl))
     ∙ ap (λ xs. b.start.address ∷ xs) (addresses_stay s bs)
 
 -- ---- the place that the directory gives
-
-none_if : (b : Bool) (n : ℕ) → cond b (Some n) None ≡ None → b ≡ false
-none_if true n h = absurd cc
-none_if false n h = refl
-
-not_true : (b : Bool) → not b ≡ true → b ≡ false
-not_true true h = absurd cc
-not_true false h = refl
 
 none_any : (p : Address → Bool) (xs : List Address) (d : Address) → ((k : ℕ) → k < length xs → p (get_or xs k d) ≡ false)
     → list_any p xs ≡ false
 none_any p [] d h = refl
 none_any p (x ∷ xs) d h = ap (λ t. t || list_any p xs) (h 0 (omega arith)) ∙ none_any p xs d (λ k l. h (suc k) (omega arith))
-
-some_address : Address
-some_address = record { 0 = 0 }
 
 pub none_found : (bs : List SlotView) (directory : List Address) (n : ℕ) → IsOrdered bs directory
     → position (λ a. a.0 == n) directory ≡ None → Lacks n bs
@@ -151,9 +133,9 @@ none_found bs directory n ordered h =
     let p : Address → Bool = λ a. a.0 == n in
     let past : length directory ≤ position_or_len p directory = let test = none_if _ _ h in grind (arith, nat_tests) in
     let none : list_any p directory ≡ false =
-    none_any p directory some_address (λ k within. not_true _
-    (prefix_len_passes (λ a. not (p a)) directory k some_address (omega arith))) in
-    sym (any-map n bs) ∙ ap (list_any p) (sym ordered.places) ∙ none
+    none_any p directory (record { 0 = 0 }) (λ k within. not-true _
+    (prefix_len_passes (λ a. not (p a)) directory k (record { 0 = 0 }) (omega arith))) in
+    sym (any-map p address_of_slot bs) ∙ ap (list_any p) (sym ordered.places) ∙ none
 
 pub found_at : (bs : List SlotView) (directory : List Address) (n place : ℕ) (d : SlotView) → IsOrdered bs directory
     → position (λ a. a.0 == n) directory ≡ Some place
@@ -164,10 +146,7 @@ found_at bs directory n place d ordered h =
     let same : (get_or bs place d).start.address.0 ≡ (get_or directory place (address_of_slot d)).0 =
     ap (λ (a : Address). a.0) (sym (get_or-map address_of_slot bs place d) ∙ ap (λ xs. get_or xs place (address_of_slot d))
     (sym ordered.places)) in
-    (within, same ∙ is_same (get_or directory place (address_of_slot d)).0 n found.1)
-  where
-    is_same : (a b : ℕ) → (a == b) ≡ true → a ≡ b
-    is_same a b h = grind (arith, nat_tests)
+    (within, same ∙ eqb-true (get_or directory place (address_of_slot d)).0 n found.1)
 
 -- ---- the order is kept
 
@@ -192,20 +171,12 @@ ordered_fresh own cs apart = record { places = same cs; apart = apart }
 
 -- ---- strangers
 
-any_slot : (n : ℕ) (own : Address) (cs : List Start) (steps : List Step)
-    → list_any (has_number n) (map (slot_of own steps) cs) ≡ list_any (λ c. c.address.0 == n) cs
-any_slot n own [] steps = refl
-any_slot n own (c ∷ cs) steps = ap (λ t. (c.address.0 == n) || t) (any_slot n own cs steps)
-
 any_at : (n : ℕ) (bs : List SlotView) (place : ℕ) (d : SlotView) → place < length bs → (get_or bs place d).start.address.0 ≡ n
     → list_any (has_number n) bs ≡ true
 any_at n [] place d h e = absurd (omega arith)
-any_at n (b ∷ bs) zero d h e = ap (λ t. t || list_any (has_number n) bs) (same_number b.start.address.0 n e)
-any_at n (b ∷ bs) (suc place) d h e = ap (λ t. has_number n b || t) (any_at n bs place d (omega arith) e) ∙ or_true (has_number n b)
-  where
-    or_true : (x : Bool) → (x || true) ≡ true
-    or_true true = refl
-    or_true false = refl
+any_at n (b ∷ bs) zero d h e = ap (λ t. t || list_any (has_number n) bs) (eq-eqb b.start.address.0 n e)
+any_at n (b ∷ bs) (suc place) d h e = ap (λ t. has_number n b || t) (any_at n bs place d (omega arith) e)
+    ∙ or_right (has_number n b) true refl
 
 strangers-push : (cs : List Start) (steps : List Step) (s : Step) (t : Bool) → is_commissioned cs s.address ≡ t
     → strangers_of cs (steps ++ s ∷ []) ≡ strangers_of cs steps ++ cond t [] (heard_of s ∷ [])
@@ -253,7 +224,7 @@ after_push own cs steps s =
 
     strangers : strangers_after (world_of own cs steps) s ≡ strangers_of cs (steps ++ s ∷ [])
     strangers =
-        ap (λ t. cond t (strangers_of cs steps) (strangers_of cs steps ++ heard_of s ∷ [])) (any_slot s.address.0 own cs steps)
+        ap (λ t. cond t (strangers_of cs steps) (strangers_of cs steps ++ heard_of s ∷ [])) (any-map (has_number s.address.0) (slot_of own steps) cs)
         ∙ choice (is_commissioned cs s.address) (strangers_of cs steps) (heard_of s ∷ [])
         ∙ sym (strangers-push cs steps s (is_commissioned cs s.address) refl)
 
@@ -263,33 +234,27 @@ pub landed_strange : (own : Address) (cs : List Start) (steps : List Step) (s : 
     → Lacks s.address.0 w.slots → Lands own cs steps s Stranger
 unfolding world_of
 landed_strange own cs steps s w e h =
-    sym (any_slot s.address.0 own cs steps) ∙ sym (ap (λ (v : WorldView). list_any (has_number s.address.0) v.slots) e) ∙ h
+    sym (any-map (has_number s.address.0) (slot_of own steps) cs) ∙ sym (ap (λ (v : WorldView). list_any (has_number s.address.0) v.slots) e) ∙ h
 
-landed_at : (own : Address) (cs : List Start) (steps : List Step) (s : Step) (place : ℕ) (d : SlotView) (given : Outcome)
-    → place < length (map (slot_of own steps) cs)
-    → (get_or (map (slot_of own steps) cs) place d).start.address.0 ≡ s.address.0
-    → given ≡ outcome_at (get_or (map (slot_of own steps) cs) place d) s → Lands own cs steps s (Slot place given)
-landed_at own [] steps s place d given l a h = absurd (omega arith)
-landed_at own (c ∷ cs) steps s zero d given l a h = (c, refl, a, h)
-landed_at own (c ∷ cs) steps s (suc place) d given l a h = landed_at own cs steps s place d given (omega arith) a h
+landed_by : (own : Address) (cs : List Start) (steps : List Step) (s : Step) (place : ℕ) (given : Outcome)
+    → AnsweredBy (map (slot_of own steps) cs) s (Slot place given) → Lands own cs steps s (Slot place given)
+landed_by own cs steps s place given h = at (slice_get cs place) refl (sym (slice_get-map (slot_of own steps) cs place) ∙ h.1)
+  where
+    at : (o : Option Start) → slice_get cs place ≡ o → option_map (slot_of own steps) o ≡ Some h.0 → Lands own cs steps s (Slot place given)
+    at None is e = absurd cc
+    at (Some c) is e =
+        let same : slot_of own steps c ≡ h.0 = cc in
+        (c, is, ap (λ (b : SlotView). b.start.address.0) same ∙ h.2, h.3 ∙ ap (λ (b : SlotView). outcome_at b s) (sym same))
 
-pub landed_own : (own : Address) (cs : List Start) (steps : List Step) (s : Step) (w : WorldView) (place : ℕ) (d : SlotView)
-    (given : Outcome)
-    → w ≡ world_of own cs steps → place < length w.slots
-    → (get_or w.slots place d).start.address.0 ≡ s.address.0 → given ≡ outcome_at (get_or w.slots place d) s
-    → Lands own cs steps s (Slot place given)
+pub landed_own : (own : Address) (cs : List Start) (steps : List Step) (s : Step) (w : WorldView) (place : ℕ) (given : Outcome)
+    → w ≡ world_of own cs steps → AnsweredBy w.slots s (Slot place given) → Lands own cs steps s (Slot place given)
 unfolding world_of
-landed_own own cs steps s w place d given e l a h =
-    let P : List SlotView → Type 0 =
-    λ bs. place < length bs → (get_or bs place d).start.address.0 ≡ s.address.0 → given ≡ outcome_at (get_or bs place d) s → Lands
-    own cs steps s (Slot place given) in
-    subst P (sym (ap (λ (v : WorldView). v.slots) e)) (landed_at own cs steps s place d given) l a h
+landed_own own cs steps s w place given e h =
+    landed_by own cs steps s place given (subst (λ (v : WorldView). AnsweredBy v.slots s (Slot place given)) e h)
 
 pub answered_own : (bs : List SlotView) (s : Step) (place : ℕ) (d : SlotView) (given : Outcome) → place < length bs
     → (get_or bs place d).start.address.0 ≡ s.address.0 → given ≡ outcome_at (get_or bs place d) s → AnsweredBy bs s (Slot place given)
-answered_own [] s place d given l a h = absurd (omega arith)
-answered_own (b ∷ bs) s zero d given l a h = (b, refl, a, h)
-answered_own (b ∷ bs) s (suc place) d given l a h = answered_own bs s place d given (omega arith) a h
+answered_own bs s place d given l a h = (get_or bs place d, slice_get-get_or bs place d l, a, h)
 
 pub stranger_strange : (bs : List SlotView) (s : Step) → Lacks s.address.0 bs → (Stranger ≡ Stranger) ↔ (has_slot bs s ≡ false)
 stranger_strange bs s h = (λ e. h, λ n. refl)
@@ -298,10 +263,7 @@ pub stranger_own : (bs : List SlotView) (s : Step) (place : ℕ) (d : SlotView) 
     → (get_or bs place d).start.address.0 ≡ s.address.0 → (Slot place given ≡ Stranger) ↔ (has_slot bs s ≡ false)
 stranger_own bs s place d given l a =
     let found = any_at s.address.0 bs place d l a in
-    (λ e. cc, λ n. absurd (differ (sym found ∙ n)))
-  where
-    differ : true ≡ false → ⊥
-    differ e = cc
+    (λ e. cc, λ n. absurd (true≢false (sym found ∙ n)))
 
 -- some slot, where a read of a list asks for a default
 abbrev pub some_slot : SlotView

@@ -6,7 +6,8 @@ use Rattle.meter_slots.specs.declared.passing_world.PassingMeter.{PassingMeter}
 use Rattle.meter_slots.specs.Journal.{Start, SlotView}
 use Rattle.meter_slots.specs.PassingWorld.{ArePassing}
 use Rattle.meter_slots.specs.World.{fresh_slot}
-use Rattle.meter_slots.proofs.PassingWorlds.{passing_push}
+use Rattle.lists.proofs.Members.{with_push}
+use Rattle.meter_slots.specs.PassingWorld.{IsPassing}
 use Rattle.meter_slots.proofs.passing_world.fresh_meters.Goals as goal
 
 pub loop-start-preserved : goal.loop-start-preserved
@@ -27,5 +28,5 @@ loop-start-preserved c =
     subst (λ (bs : List SlotView). ArePassing bs c.push.new.self.items) slots_are
     (subst (λ (ms : List PassingMeter). ArePassing (map (fresh_slot c.args.own) (take n starts) ++ fresh_slot c.args.own c.in-Some.start ∷ []) ms)
     (sym pushed)
-    (passing_push (map (fresh_slot c.args.own) (take n starts)) c.loop-start.meters.items (fresh_slot c.args.own c.in-Some.start)
+    (with_push IsPassing (map (fresh_slot c.args.own) (take n starts)) c.loop-start.meters.items (fresh_slot c.args.own c.in-Some.start)
     c.new.result c.loop-start.invariant c.new.ensures))

@@ -1,4 +1,5 @@
-use Rattle.std.proofs.Common.{◌≡◌, ◌↔◌, false, ap, sym, ◌∙◌, subst}
+-- What a step leaves of the world, and where it lands.
+use Rattle.std.proofs.Common.{◌≡◌, ◌↔◌, false, refl, ap, sym, ◌∙◌, subst}
 use Rattle.meter_slots.specs.Directory.{AreApart}
 use Rattle.meter_slots.specs.declared.step.Landed.TheVariants.{Slot, Stranger}
 use Rattle.meter_slots.specs.World.{WorldView, after_step, has_slot, AnsweredBy}
@@ -35,9 +36,7 @@ returns-in_ok-note-in-None-clause-ok c own cs steps e =
 
 pub returns-in_ok-note-in-None-clause-landed : goal.returns-in_ok-note-in-None-clause-landed
 returns-in_ok-note-in-None-clause-landed c own cs steps e =
-    let w : WorldView = record { slots = c.self.inside.slots.items; strangers = c.self.inside.strangers } in
-    let none = none_found w.slots c.self.inside.directory c.args.step.address.0 c.self.invariant (sym c.in-None.ensures) in
-    landed_strange own cs steps c.args.step w (c.self.view_is ∙ e) none
+    landed_strange own cs steps c.args.step c.args.self.now e ((returns-in_ok-note-in-None-clause-stranger c).0 refl)
 
 -- ---- a slot has it
 
@@ -74,8 +73,5 @@ returns-in_ok-outcome-in-Some-clause-ok c own cs steps e =
 
 pub returns-in_ok-outcome-in-Some-clause-landed : goal.returns-in_ok-outcome-in-Some-clause-landed
 returns-in_ok-outcome-in-Some-clause-landed c own cs steps e =
-    let w : WorldView = record { slots = c.self.inside.slots.items; strangers = c.self.inside.strangers } in
-    let found =
-    found_at w.slots c.self.inside.directory c.args.step.address.0 c.in-Some.place some_slot c.self.invariant (sym c.in-Some.ensures) in
-    landed_own own cs steps c.args.step w c.in-Some.place some_slot c.in_ok-outcome-in-Some.outcome (c.self.view_is ∙ e) found.0 found.1
-    (c.in_ok-outcome-in-Some.ensures.outcome some_slot)
+    landed_own own cs steps c.args.step c.args.self.now c.in-Some.place c.in_ok-outcome-in-Some.outcome e
+    (returns-in_ok-outcome-in-Some-clause-slot c)
