@@ -1,7 +1,7 @@
 -- Steps of lines that are told, one after another.
-use Rattle.std.proofs.Common.{◌≡◌, ℕ, ◌+◌, ◌<◌, ◌≤◌, ◌⊎◌, Bool, true, false, List, [], ◌∷◌, ◌++◌, length, take, drop, Result, Ok, Err, refl, sym, ap, ◌∙◌, subst, append_assoc, inl, inr, arith}
+use Rattle.std.proofs.Common.{◌≡◌, ℕ, ◌+◌, ◌<◌, ◌≤◌, ◌⊎◌, Bool, true, false, List, [], ◌∷◌, ◌++◌, length, take, drop, Result, Ok, Err, refl, sym, ap, ◌∙◌, subst, append_assoc, inl, inr, ⊎_elim, arith}
 use Rattle.std.specs.Prelude.{IsTrue, IfErr, OnOk, OnErr}
-use Rattle.std.proofs.lemmas.Bool.{cases_lt}
+use Rattle.std.proofs.lemmas.Bool.{cases_Bool, cases_lt}
 use Rattle.std.proofs.lemmas.List.{append-nil, length-append, take-append-drop}
 use Rattle.std.proofs.Math.Seq.{take-append_seam, take-append-add}
 use Rattle.outer_io.specs.Bytes.{AppendsFront}
@@ -21,8 +21,8 @@ use Rattle.line_teller.specs.Standing.{Pours, PoursMore, Steps, TellsOne, EndsSt
 -- ---- what the reader gives
 
 -- the lines before one of the first lines are first ones
-first_before : {lines all : List (List ℕ)} {line : List ℕ} {n : ℕ} → take n all ≡ lines ++ line ∷ [] → AreFirst lines all
-first_before {lines} {all} {line} {n} e =
+first_before : (lines all : List (List ℕ)) (line : List ℕ) (n : ℕ) → take n all ≡ lines ++ line ∷ [] → AreFirst lines all
+first_before lines all line n e =
     let all_are : all ≡ (lines ++ line ∷ []) ++ drop n all = sym (take-append-drop n all) ∙ ap (λ t. t ++ drop n all) e in
     record {
       count = length lines;
@@ -33,12 +33,12 @@ first_before {lines} {all} {line} {n} e =
 pub before_line : (next : NextText) (longest : ℕ) (text : List ℕ) (lines all : List (List ℕ)) (n : ℕ) → next ≡ texts.Line
     → GivesText (Ok next) longest text lines (take n all) → AreFirst lines all
 before_line next longest text lines all n is gives =
-    first_before {n = n} (subst (λ k. GivesText (Ok k) longest text lines (take n all)) is gives)
+    first_before lines all text n (subst (λ k. GivesText (Ok k) longest text lines (take n all)) is gives)
 
 pub before_long : (next : NextText) (longest : ℕ) (text : List ℕ) (lines all : List (List ℕ)) (n : ℕ) → next ≡ texts.TooLong
     → GivesText (Ok next) longest text lines (take n all) → AreFirst lines all
 before_long next longest text lines all n is gives =
-    first_before {n = n} (subst (λ k. GivesText (Ok k) longest text lines (take n all)) is gives).more
+    let long = subst (λ k. GivesText (Ok k) longest text lines (take n all)) is gives in first_before lines all long.line n long.more
 
 -- ---- by how a step ended
 
@@ -118,6 +118,15 @@ whole_text ends.Read text sink on is = is
 whole_text ends.Write text sink on is = absurd cc
 whole_text ends.Memory text sink on is = absurd cc
 
+-- a front of it is
+pub part_text : (end : LinesEnd) (text : List ℕ) (sink : Change SinkShown) → is_whole end ≡ false
+    → AppendsFront text sink.before.written sink.now.written → EndsText end text sink
+part_text ends.Done text sink off is = absurd cc
+part_text ends.Cut text sink off is = absurd cc
+part_text ends.Read text sink off is = absurd cc
+part_text ends.Write text sink off is = is
+part_text ends.Memory text sink off is = is
+
 -- ---- lines
 
 module _ {T : Type 0} (tells : T → ℕ → List ℕ → List ℕ → List ℕ → T → Type 0) where
@@ -178,19 +187,12 @@ module _ {T : Type 0} (tells : T → ℕ → List ℕ → List ℕ → List ℕ 
       → (IsTrue (is_whole end) → sheet' ≡ sheet) → (IsTrue (is_whole end) → EndsText result sheet' out)
       → (is_whole end ≡ false → out.now.written ≡ out.before.written) → EndsText result (sheet ++ []) out
   last_text end result sheet sheet' out ended same whole silent =
-      subst (λ t. EndsText result t out) (sym (append-nil sheet)) (by end result ended same whole silent)
-    where
-      by : (end result : LinesEnd) → IsEndOf end result → (IsTrue (is_whole end) → sheet' ≡ sheet)
-          → (IsTrue (is_whole end) → EndsText result sheet' out) → (is_whole end ≡ false → out.now.written ≡ out.before.written)
-          → EndsText result sheet out
-      by ends.Done result ended same whole silent = subst (λ t. EndsText result t out) (same refl) (whole refl)
-      by ends.Cut result ended same whole silent = subst (λ t. EndsText result t out) (same refl) (whole refl)
-      by ends.Read result ended same whole silent = subst (λ t. EndsText result t out) (same refl) (whole refl)
-      by end result (inr wrote) same whole silent = subst (λ t. EndsText result t out) (same wrote.1) (whole wrote.1)
-      by ends.Write result (inl is) same whole silent = rw is (subst (λ now. AppendsFront sheet out.before.written now) (sym (silent refl))
-          (none sheet out.before.written))
-      by ends.Memory result (inl is) same whole silent = rw is (subst (λ now. AppendsFront sheet out.before.written now) (sym (silent refl))
-          (none sheet out.before.written))
+      subst (λ t. EndsText result t out) (sym (append-nil sheet)) (elim (cases_Bool (is_whole end)) [
+        | inl on ↦ subst (λ t. EndsText result t out) (same on) (whole on)
+        | inr off ↦
+            part_text result sheet out (⊎_elim (λ is. ap is_whole is ∙ off) (λ wrote. ap is_whole wrote.0) ended)
+            (subst (λ now. AppendsFront sheet out.before.written now) (sym (silent off)) (none sheet out.before.written))
+      ])
 
   -- no more lines are told
   pub stopped_quietly : {number : ℕ} {old new : T} (end result : LinesEnd) {source : SourceShown} {old_lines : List (List ℕ)}
