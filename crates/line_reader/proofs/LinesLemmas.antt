@@ -1,8 +1,9 @@
 -- The lines of bytes that are read from their front.
 use Rattle.std.proofs.Common.{◌≡◌, ℕ, ◌<◌, ◌≤◌, ◌+◌, ◌-◌, ◌==◌, List, [], ◌∷◌, ◌++◌, length, take, get_or, Bool, true, false, cond, Option, Some, None, Err, refl, ap, sym, ◌∙◌, arith, nat_lt, append_assoc}
-use Rattle.std.specs.Prelude.{position, ◌||◌}
+use Rattle.std.specs.Prelude.{position}
 use Rattle.std.specs.List.{slice_split, onto_first}
 use Rattle.std.specs.Str.Lines.{lines, lines_of_parts, strip_carriage_return}
+use Rattle.std.proofs.lemmas.Bool.{cond-false, or_from, or_left, or_right}
 use Rattle.std.proofs.lemmas.Bool.Decides.{nat_tests}
 use Rattle.std.proofs.lemmas.List.{length_push, take_at, take_all, take-take, length-take}
 use Rattle.std.proofs.lemmas.List.Sums.{sum_by-cons}
@@ -132,29 +133,25 @@ pub over_bytes : (bytes : List ℕ) → BYTES_MAX < length bytes → is_over byt
 unfolding is_over
 over_bytes bytes over =
     let test : nat_lt BYTES_MAX (length bytes) ≡ true = grind (arith, nat_tests) in
-    ap (λ b. b || nat_lt LINES_MAX (length (lines bytes))) test
-
-or_true : (b : Bool) → (b || true) ≡ true
-or_true true = refl
-or_true false = refl
+    or_left _ (nat_lt LINES_MAX (length (lines bytes))) test
 
 pub over_lines : (bytes : List ℕ) → LINES_MAX < length (lines bytes) → is_over bytes ≡ true
 unfolding is_over
 over_lines bytes over =
     let test : nat_lt LINES_MAX (length (lines bytes)) ≡ true = grind (arith, nat_tests) in
-    ap (λ b. nat_lt BYTES_MAX (length bytes) || b) test ∙ or_true (nat_lt BYTES_MAX (length bytes))
+    or_right (nat_lt BYTES_MAX (length bytes)) _ test
 
 pub not_over : (bytes : List ℕ) → length bytes ≤ BYTES_MAX → length (lines bytes) ≤ LINES_MAX → is_over bytes ≡ false
 unfolding is_over
 not_over bytes few few_lines =
     let test : nat_lt BYTES_MAX (length bytes) ≡ false = grind (arith, nat_tests) in
     let test' : nat_lt LINES_MAX (length (lines bytes)) ≡ false = grind (arith, nat_tests) in
-    ap (λ b. b || nat_lt LINES_MAX (length (lines bytes))) test ∙ test'
+    or_from (nat_lt BYTES_MAX (length bytes)) _ test test'
 
 -- within the limits all lines are the lines
 pub all_within : (bytes : List ℕ) → is_over bytes ≡ false → all_lines bytes ≡ lines bytes
 unfolding all_lines
-all_within bytes within = ap (λ b. cond b (whole_lines bytes) (lines bytes)) within
+all_within bytes within = cond-false (is_over bytes) _ _ within
 
 -- the lines given while the end of the source isn't met
 pub given_lines : (line : ℕ) (bytes more : List ℕ) → IsFinished bytes → length bytes ≤ BYTES_MAX → length (lines bytes) ≡ line

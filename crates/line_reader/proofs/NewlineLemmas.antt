@@ -1,7 +1,9 @@
 -- Newlines in parts of bytes.
-use Rattle.std.proofs.Common.{◌≡◌, ℕ, suc, ◌<◌, ◌≤◌, ◌+◌, ◌==◌, List, [], ◌∷◌, ◌++◌, length, take, drop, get_or, Bool, true, false, not, cond, Some, None, refl, ap, sym, ◌∙◌, arith, append_assoc, eqb-true}
+use Rattle.std.proofs.Common.{◌≡◌, ℕ, suc, ◌<◌, ◌≤◌, ◌+◌, ◌==◌, List, [], ◌∷◌, ◌++◌, length, take, drop, get_or, Bool, true, false, not, cond, Some, None, refl, ap, sym, subst, ◌∙◌, arith, append_assoc, eqb-true}
 use Rattle.std.specs.Prelude.{position}
 use Rattle.std.specs.List.{position_or_len}
+use Rattle.lists.proofs.Choices.{none_if, some_if}
+use Rattle.std.proofs.lemmas.Bool.{not-false}
 use Rattle.std.proofs.lemmas.Bool.Decides.{nat_tests}
 use Rattle.std.proofs.lemmas.List.{take-append-drop, take-append-le, take_all, drop_more, length-take, length-append}
 use Rattle.std.proofs.lemmas.List.Sums.{sum_by-append, prefix_len_stops, fails_before_first}
@@ -43,18 +45,6 @@ front_alone (x ∷ xs) = by_test (is_newline x) refl (front_alone xs)
         ap (λ n. newlines (take n (x ∷ xs))) one
         ∙ newlines-both (x ∷ []) (take (position_or_len is_newline xs) xs) (ap (λ b. 0 + cond b 1 0) is) none
 
-none_if : (b : Bool) (n : ℕ) → cond b (Some n) None ≡ None → b ≡ false
-none_if true n h = absurd cc
-none_if false n h = refl
-
-some_if : (b : Bool) (n i : ℕ) → cond b (Some n) None ≡ Some i → (b ≡ true) × (n ≡ i)
-some_if true n i h = (refl, cc)
-some_if false n i h = absurd cc
-
-not_false : (b : Bool) → not b ≡ false → b ≡ true
-not_false true h = refl
-not_false false h = absurd cc
-
 pub no_place : (xs : List ℕ) → position is_newline xs ≡ None → newlines xs ≡ 0
 no_place xs none =
     let past : length xs ≤ position_or_len is_newline xs = let test = none_if _ _ none in grind (arith, nat_tests) in
@@ -71,7 +61,7 @@ first_place xs i found =
     let within : position_or_len is_newline xs < length xs = let test = parts.0 in grind (arith, nat_tests) in
     let here : i < length xs = let same = parts.1 in omega arith in
     let newline : get_or xs i 0 ≡ 10 =
-    ap (λ n. get_or xs n 0) (sym parts.1) ∙ eqb-true _ _ (not_false _ (prefix_len_stops (λ x. not (is_newline x)) xs 0 within)) in
+    ap (λ n. get_or xs n 0) (sym parts.1) ∙ eqb-true _ _ (not-false _ (prefix_len_stops (λ x. not (is_newline x)) xs 0 within)) in
     let first : length (take i xs) ≡ i = simp length-take (omega arith) in
     record {
       front = take i xs;
@@ -104,12 +94,6 @@ pub line_in_rest : (bytes : List ℕ) (searched place count : ℕ) → count ≡
     → newlines (take searched bytes) ≡ 0 → position is_newline (drop searched bytes) ≡ Some place → BeginsWithLine bytes count
 line_in_rest bytes searched place count is within none found =
     let line = line_behind (take searched bytes) (drop searched bytes) (place + 1) none (first_place (drop searched bytes) place found) in
-    let first : length (take searched bytes) ≡ searched = simp length-take (omega arith) in
-    let long = line.long in
-    record {
-      front = line.front;
-      rest = line.rest;
-      cut = sym (take-append-drop searched bytes) ∙ line.cut;
-      alone = line.alone;
-      long = omega arith;
-    }
+    let count_is : length (take searched bytes) + (place + 1) ≡ count = simp length-take (omega arith) in
+    subst (λ b. BeginsWithLine b count) (take-append-drop searched bytes)
+    (subst (λ n. BeginsWithLine (take searched bytes ++ drop searched bytes) n) count_is line)

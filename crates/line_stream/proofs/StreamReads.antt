@@ -4,6 +4,7 @@ use Rattle.std.specs.Prelude.{IsTrue, OnOk, OnErr, IfErr}
 use Rattle.std.specs.Str.Lines.{lines, strip_carriage_return}
 use Rattle.std.proofs.lemmas.List.{append-nil, length-append}
 use Rattle.outer_io.specs.Bytes.{AppendsFront}
+use Rattle.outer_io.proofs.Fronts.{both, none as nothing_front}
 use Rattle.outer_io.specs.Shown.{Change, SourceShown, SinkShown}
 use Rattle.paper.specs.InMemory.{Kept}
 use Rattle.line_reader.specs.Lines.{ended_lines}
@@ -13,7 +14,8 @@ use Rattle.line_teller.specs.declared.ending.LinesEnd.{LinesEnd}
 use Rattle.line_teller.specs.declared.ending.LinesEnd.TheVariants as ends
 use Rattle.line_teller.specs.Telling.{AreTold, Tells}
 use Rattle.line_teller.specs.Ending.{AreFirst, EndsText, IsNoted, is_whole}
-use Rattle.line_teller.proofs.Steps.{noted_then, none_noted, one_told, told_then}
+use Rattle.line_teller.specs.Standing.{PoursMore}
+use Rattle.line_teller.proofs.Steps.{noted_then, none_noted, one_told, text_then, told_then, whole_text}
 use Rattle.line_stream.specs.Opened.{Open, Keeps, StandsAt, told_line}
 use Rattle.line_stream.specs.Streams.{EndsStream, StreamEnded, TellsMore, Goes, TellsLast, EndsRead, is_stop, Stops, StopsAtLine}
 use Rattle.std.proofs.Math.Seq.{take-append-add}
@@ -22,12 +24,6 @@ use Rattle.line_stream.specs.Pieces.{IsPlace, Adds}
 use Rattle.line_stream.proofs.Cuts.{first_by, first_behind, first_more, ended_first, ended_at, lines_at, count_at, few_at, added_at, added_ended, ended_after, finished_at}
 
 -- ---- answers
-
--- what follows from how a step ended
-pub err_then : (result : Result (Unit {0}) LinesEnd) (P Q : LinesEnd → Type 0) → IfErr result P → ((end : LinesEnd) → P end → Q end)
-    → IfErr result Q
-err_then (Ok done) P Q err f = tt
-err_then (Err end) P Q err f = f end err
 
 -- a step that ends by a write alone isn't ended by a read
 pub not_read : (result : Result (Unit {0}) LinesEnd) (F : Type 0) → IfErr result (λ end. (end ≡ ends.Write) × F) → result ≢ Err ends.Read
@@ -40,9 +36,6 @@ not_read_by_memory (Err end) err = λ is. absurd cc
 
 -- ---- texts
 
-nothing_front : (text before : List ℕ) → AppendsFront text before before
-nothing_front text before = record { count = 0; within = omega arith; appended = sym (append-nil before) }
-
 nothing_text : (end : LinesEnd) (a : SinkShown) → EndsText end [] (record { before = a; now = a })
 nothing_text ends.Done a = sym (append-nil a.written)
 nothing_text ends.Cut a = sym (append-nil a.written)
@@ -50,32 +43,8 @@ nothing_text ends.Read a = sym (append-nil a.written)
 nothing_text ends.Write a = nothing_front [] a.written
 nothing_text ends.Memory a = nothing_front [] a.written
 
-whole_then : (w0 w1 w2 text more : List ℕ) → w1 ≡ w0 ++ text → w2 ≡ w1 ++ more → w2 ≡ w0 ++ (text ++ more)
-whole_then w0 w1 w2 text more one two = two ∙ ap (λ t. t ++ more) one ∙ append_assoc w0 text more
-
-front_then : (w0 w1 w2 text more : List ℕ) → w1 ≡ w0 ++ text → AppendsFront more w1 w2 → AppendsFront (text ++ more) w0 w2
-front_then w0 w1 w2 text more one front = record {
-  count = length text + front.count;
-  within = omega (arith, front.within, length-append text more);
-  appended = front.appended ∙ ap (λ t. t ++ take front.count more) one ∙ append_assoc w0 text (take front.count more)
-      ∙ ap (λ t. w0 ++ t) (sym (take-append-add text more front.count));
-}
-
-text_then : (end : LinesEnd) (a b c : SinkShown) (text more : List ℕ) → b.written ≡ a.written ++ text
-    → EndsText end more (record { before = b; now = c }) → EndsText end (text ++ more) (record { before = a; now = c })
-text_then ends.Done a b c text more one two = whole_then a.written b.written c.written text more one two
-text_then ends.Cut a b c text more one two = whole_then a.written b.written c.written text more one two
-text_then ends.Read a b c text more one two = whole_then a.written b.written c.written text more one two
-text_then ends.Write a b c text more one two = front_then a.written b.written c.written text more one two
-text_then ends.Memory a b c text more one two = front_then a.written b.written c.written text more one two
-
-whole_text : (end : LinesEnd) (text : List ℕ) (sink : Change SinkShown) → IsTrue (is_whole end)
-    → sink.now.written ≡ sink.before.written ++ text → EndsText end text sink
-whole_text ends.Done text sink on is = is
-whole_text ends.Cut text sink on is = is
-whole_text ends.Read text sink on is = is
-whole_text ends.Write text sink on is = absurd cc
-whole_text ends.Memory text sink on is = absurd cc
+whole_pours : (w0 w1 text : List ℕ) → w1 ≡ w0 ++ text → PoursMore text w0 [] w1 []
+whole_pours w0 w1 text is = record { gone = text; written_is = is; sheet_is = sym (append-nil text) }
 
 -- ---- ends
 
@@ -98,52 +67,65 @@ stop_unwhole ends.Memory off = refl
 no_cut : (end : LinesEnd) {A : Type 0} → is_whole end ≡ false → end ≡ ends.Cut → A
 no_cut end off is = let no_way : true ≡ false = ap is_whole (sym is) ∙ off in absurd cc
 
+some_bytes : (line : List ℕ) → line ≢ [] → 0 < length line
+some_bytes [] some = absurd (some refl)
+some_bytes (b ∷ line) some = omega arith
+
 module _ {T : Type 0} (tells : T → ℕ → List ℕ → List ℕ → List ℕ → T → Type 0) where
   -- ---- one line
 
-  pub line_told : (number : ℕ) (line : List ℕ) (old new : T) (p p' q q' : Kept) (out_tells notes_tell : Bool) (out notes : Change SinkShown)
+  -- what stands on the sheets behind a line are its text and its note
+  told_alone : {number : ℕ} {line : List ℕ} {old new : T} {p p' q q' : Kept} → p.text ≡ [] → q.text ≡ [] → p'.failed ≡ false → q'.failed ≡ false
+      → (h : Tells (tells old number line) new p p' q q') → (p'.text ≡ h.told_text) × (q'.text ≡ h.told_note)
+  told_alone no_text no_note sound sound' h = (
+    (h.text_kept sound).1 ∙ ap (λ t. t ++ h.told_text) no_text,
+    (h.note_kept sound').1 ∙ ap (λ t. t ++ h.told_note) no_note,
+  )
+
+  pub line_told : {number : ℕ} {line : List ℕ} {old new : T} {p p' q q' : Kept} {out_tells notes_tell : Bool} {out notes : Change SinkShown}
       → p.text ≡ [] → q.text ≡ [] → p'.failed ≡ false → q'.failed ≡ false
       → Tells (tells old number line) new p p' q q'
       → (IsTrue out_tells → out.now.written ≡ out.before.written ++ p'.text)
       → (IsTrue notes_tell → IsNoted q'.text notes)
       → TellsMore tells number old new (line ∷ []) out_tells out notes_tell notes
-  line_told number line old new p p' q q' out_tells notes_tell out notes no_text no_note sound sound' h written noted = record {
-    text = h.told_text;
-    note = h.told_note;
-    told = one_told tells number old new line h.told_text h.told_note h.told;
-    written = λ on. written on ∙ ap (λ t. out.before.written ++ t) ((h.text_kept sound).1 ∙ ap (λ t. t ++ h.told_text) no_text);
-    noted = λ on. subst (λ t. IsNoted t notes) ((h.note_kept sound').1 ∙ ap (λ t. t ++ h.told_note) no_note) (noted on);
-  }
+  line_told {out} {notes} no_text no_note sound sound' h written noted =
+      let alone = told_alone no_text no_note sound sound' h in
+      record {
+        text = h.told_text;
+        note = h.told_note;
+        told = one_told tells h.told;
+        written = λ on. written on ∙ ap (λ t. out.before.written ++ t) alone.0;
+        noted = λ on. subst (λ t. IsNoted t notes) alone.1 (noted on);
+      }
 
-  pub line_unwritten : (number : ℕ) (line : List ℕ) (old new : T) (p p' q q' : Kept) (out_tells notes_tell : Bool)
-      (out notes : Change SinkShown)
+  pub line_unwritten : {number : ℕ} {line : List ℕ} {old new : T} {p p' q q' : Kept} {out_tells notes_tell : Bool} {out notes : Change SinkShown}
       → p.text ≡ [] → q.text ≡ [] → p'.failed ≡ false → q'.failed ≡ false
       → Tells (tells old number line) new p p' q q'
       → (IsTrue out_tells → AppendsFront p'.text out.before.written out.now.written)
       → (IsTrue notes_tell → IsNoted q'.text notes)
       → StopsAtLine tells number line old new ends.Write out_tells out notes_tell notes
-  line_unwritten number line old new p p' q q' out_tells notes_tell out notes no_text no_note sound sound' h front noted = record {
-    lines = line ∷ [];
-    unwhole = refl;
-    first = record { count = 1; first = refl };
-    told = record {
-      text = h.told_text;
-      note = h.told_note;
-      last = new;
-      told = one_told tells number old new line h.told_text h.told_note h.told;
-      last_is = λ on. refl;
-      written = λ on.
-          subst (λ t. AppendsFront t out.before.written out.now.written) ((h.text_kept sound).1 ∙ ap (λ t. t ++ h.told_text) no_text)
-          (front on);
-      noted = λ on. subst (λ t. IsNoted t notes) ((h.note_kept sound').1 ∙ ap (λ t. t ++ h.told_note) no_note) (noted on);
-    };
-  }
+  line_unwritten {line} {new} {out} {notes} no_text no_note sound sound' h front noted =
+      let alone = told_alone no_text no_note sound sound' h in
+      record {
+        lines = line ∷ [];
+        unwhole = refl;
+        first = record { count = 1; first = refl };
+        told = record {
+          text = h.told_text;
+          note = h.told_note;
+          last = new;
+          told = one_told tells h.told;
+          last_is = λ on. refl;
+          written = λ on. subst (λ t. AppendsFront t out.before.written out.now.written) alone.0 (front on);
+          noted = λ on. subst (λ t. IsNoted t notes) alone.1 (noted on);
+        };
+      }
 
   -- nothing was told
-  pub none_last : (end : LinesEnd) (number : ℕ) (old new : T) (out_tells notes_tell : Bool) (a x : SinkShown)
+  none_last : (end : LinesEnd) {number : ℕ} {old new : T} {out_tells notes_tell : Bool} {a x : SinkShown}
       → (IsTrue (is_whole end) → old ≡ new)
       → TellsLast tells number old new [] end out_tells (record { before = a; now = a }) notes_tell (record { before = x; now = x })
-  none_last end number old new out_tells notes_tell a x same = record {
+  none_last end {old} {a} {x} same = record {
     text = [];
     note = [];
     last = old;
@@ -153,226 +135,185 @@ module _ {T : Type 0} (tells : T → ℕ → List ℕ → List ℕ → List ℕ 
     noted = λ on. none_noted x;
   }
 
-  pub line_without_memory : (number : ℕ) (line : List ℕ) (old new : T) (end : LinesEnd) (out_tells notes_tell : Bool) (a x : SinkShown)
+  pub line_without_memory : {number : ℕ} {line : List ℕ} {old new : T} {end : LinesEnd} {out_tells notes_tell : Bool} {a x : SinkShown}
       → end ≡ ends.Memory
       → StopsAtLine tells number line old new end out_tells (record { before = a; now = a }) notes_tell (record { before = x; now = x })
-  line_without_memory number line old new end out_tells notes_tell a x is =
-      subst (λ e. StopsAtLine tells number line old new e out_tells (record { before = a; now = a }) notes_tell
-      (record { before = x; now = x })) (sym is) (record {
-        lines = [];
-        unwhole = refl;
-        first = record { count = 0; first = refl };
-        told = none_last ends.Memory number old new out_tells notes_tell a x (λ on. absurd cc);
-      })
+  line_without_memory is = rw is (record {
+    lines = [];
+    unwhole = refl;
+    first = record { count = 0; first = refl };
+    told = none_last ends.Memory (λ on. absurd cc);
+  })
 
   -- ---- lines of a read
 
-  told_at : (n m : ℕ) (old new : T) (ls : List (List ℕ)) (out_tells notes_tell : Bool) (out notes : Change SinkShown) → n ≡ m
-      → TellsMore tells n old new ls out_tells out notes_tell notes → TellsMore tells m old new ls out_tells out notes_tell notes
-  told_at n m old new ls out_tells notes_tell out notes same told =
-      subst (λ k. TellsMore tells k old new ls out_tells out notes_tell notes) same told
-
-  last_at : (n m : ℕ) (old new : T) (ls : List (List ℕ)) (end : LinesEnd) (out_tells notes_tell : Bool) (out notes : Change SinkShown) → n ≡ m
-      → TellsLast tells n old new ls end out_tells out notes_tell notes → TellsLast tells m old new ls end out_tells out notes_tell notes
-  last_at n m old new ls end out_tells notes_tell out notes same told =
-      subst (λ k. TellsLast tells k old new ls end out_tells out notes_tell notes) same told
+  -- lines that were told are the last ones, too, behind which every end is one where all were told
+  last_told : (end : LinesEnd) {number : ℕ} {old new : T} {ls : List (List ℕ)} {out_tells notes_tell : Bool} {out notes : Change SinkShown}
+      → IsTrue (is_whole end) → TellsMore tells number old new ls out_tells out notes_tell notes
+      → TellsLast tells number old new ls end out_tells out notes_tell notes
+  last_told end {new} {out} on told = record {
+    text = told.text;
+    note = told.note;
+    last = new;
+    told = told.told;
+    last_is = λ whole. refl;
+    written = λ tells. whole_text end told.text out on (told.written tells);
+    noted = told.noted;
+  }
 
   -- the open line is finished
-  pub line_goes : (bytes piece : List ℕ) (old mid new : Open) (number longest : ℕ) (t t' : T) (out_tells notes_tell : Bool)
-      (out notes : Change SinkShown)
-      → newlines piece ≡ 0 → mid.finished ≡ old.finished → ((line : List ℕ) → Keeps old line → Keeps mid (line ++ piece))
-      → number ≡ mid.finished + 1
+  pub open_goes : {bytes piece : List ℕ} {old mid new : Open} {number longest : ℕ} {t t' : T} {out_tells notes_tell : Bool}
+      {out notes : Change SinkShown}
+      → Adds old piece mid → number ≡ mid.finished + 1
       → ((line : List ℕ) → Keeps mid line → TellsMore tells number t t' (told_line true line ∷ []) out_tells out notes_tell notes)
       → new ≡ record { kept = []; long = false; finished = number; longest = longest }
       → StandsAt bytes old
       → Goes tells bytes (bytes ++ (piece ++ 10 ∷ [])) old new t t' out_tells out notes_tell notes
-  line_goes bytes piece old mid new number longest t t' out_tells notes_tell out notes none same kept next told is s =
-      let number_is : number ≡ old.finished + 1 = next ∙ ap (λ n. n + 1) same in
+  open_goes {bytes} {piece} {old} {new} {number} {longest} {t} {t'} {out_tells} {notes_tell} {out} {notes} adds next told is s =
+      let number_is : number ≡ old.finished + 1 = next ∙ ap (λ n. n + 1) adds.same in
+      let line : List ℕ = strip_carriage_return (s.line ++ piece) in
       record {
-        lines = strip_carriage_return (s.line ++ piece) ∷ [];
-        more = ended_after bytes piece [] old s none ∙ append-nil (ended_lines bytes ++ strip_carriage_return (s.line ++ piece) ∷ []);
-        told = told_at number (old.finished + 1) t t' (strip_carriage_return (s.line ++ piece) ∷ []) out_tells notes_tell out notes number_is
-            (told (s.line ++ piece) (kept s.line s.keeps));
-        stands = finished_at bytes piece old new number longest s none number_is is;
+        lines = line ∷ [];
+        more = ended_after bytes piece [] old s adds.alone ∙ append-nil (ended_lines bytes ++ line ∷ []);
+        told = subst (λ n. TellsMore tells n t t' (line ∷ []) out_tells out notes_tell notes) number_is
+            (told (s.line ++ piece) (adds.kept s.line s.keeps));
+        stands = finished_at bytes piece old new number longest s adds.alone number_is is;
       }
 
   -- the open line, with more behind it, is one whose text isn't written, or that isn't told
-  pub line_stops : (bytes piece rest : List ℕ) (old mid : Open) (number : ℕ) (t t' : T) (end : LinesEnd) (out_tells notes_tell : Bool)
-      (out notes : Change SinkShown)
-      → newlines piece ≡ 0 → mid.finished ≡ old.finished → ((line : List ℕ) → Keeps old line → Keeps mid (line ++ piece))
-      → number ≡ mid.finished + 1
+  pub open_stops : {bytes piece rest : List ℕ} {old mid : Open} {number : ℕ} {t t' : T} {end : LinesEnd} {out_tells notes_tell : Bool}
+      {out notes : Change SinkShown}
+      → Adds old piece mid → number ≡ mid.finished + 1
       → ((line : List ℕ) → Keeps mid line → StopsAtLine tells number (told_line true line) t t' end out_tells out notes_tell notes)
       → StandsAt bytes old
       → Stops tells bytes (bytes ++ (piece ++ 10 ∷ rest)) old t t' end out_tells out notes_tell notes
-  line_stops bytes piece rest old mid number t t' end out_tells notes_tell out notes none same kept next told s =
-      let number_is : number ≡ old.finished + 1 = next ∙ ap (λ n. n + 1) same in
+  open_stops {bytes} {piece} {rest} {old} {t} {t'} {end} {out_tells} {notes_tell} {out} {notes} adds next told s =
       let line : List ℕ = strip_carriage_return (s.line ++ piece) in
-      let stop = told (s.line ++ piece) (kept s.line s.keeps) in
+      let stop = told (s.line ++ piece) (adds.kept s.line s.keeps) in
       record {
         lines = stop.lines;
         stops = stop_unwhole end stop.unwhole;
-        first = subst (AreFirst (ended_lines bytes ++ stop.lines)) (sym (ended_after bytes piece rest old s none))
+        first = subst (AreFirst (ended_lines bytes ++ stop.lines)) (sym (ended_after bytes piece rest old s adds.alone))
             (first_more (ended_lines bytes ++ stop.lines) (ended_lines bytes ++ line ∷ []) (ended_lines rest)
             (first_behind (ended_lines bytes) stop.lines (line ∷ []) stop.first));
         many = λ cut. no_cut end stop.unwhole cut;
-        told = last_at number (old.finished + 1) t t' stop.lines end out_tells notes_tell out notes number_is stop.told;
+        told = subst (λ n. TellsLast tells n t t' stop.lines end out_tells out notes_tell notes) (next ∙ ap (λ n. n + 1) adds.same) stop.told;
       }
 
   -- no more is told, with whatever bytes behind
-  pub quiet_stop : (bytes more : List ℕ) (old : Open) (t t' : T) (end : LinesEnd) (out_tells notes_tell : Bool) (a x : SinkShown) (all : List (List ℕ))
+  quiet_stop : (all : List (List ℕ)) {bytes more : List ℕ} {old : Open} {t t' : T} {end : LinesEnd} {out_tells notes_tell : Bool} {a x : SinkShown}
       → ended_lines (bytes ++ more) ≡ ended_lines bytes ++ all → IsTrue (is_stop end) → (IsTrue (is_whole end) → t ≡ t')
       → (end ≡ ends.Cut → 2 ^ 64 - 1 ≤ old.finished) → StandsAt bytes old
       → Stops tells bytes (bytes ++ more) old t t' end out_tells (record { before = a; now = a }) notes_tell (record { before = x; now = x })
-  quiet_stop bytes more old t t' end out_tells notes_tell a x all is stop same many s = record {
+  quiet_stop all {bytes} {more} {old} {end} is stop same many s = record {
     lines = [];
     stops = stop;
     first = subst (λ ls. AreFirst ls (ended_lines (bytes ++ more))) (sym (append-nil (ended_lines bytes)))
         (first_by (ended_lines bytes) all (ended_lines (bytes ++ more)) is);
-    many = λ cut. let enough = many cut in
-        let few = few_at bytes old s in
-        let both : length (bytes ++ more) ≡ length bytes + length more = length-append bytes more in
-        omega arith;
-    told = none_last end (old.finished + 1) t t' out_tells notes_tell a x same;
+    many = λ cut. omega (arith, many cut, few_at bytes old s, length-append bytes more);
+    told = none_last end same;
   }
 
-  line_quiet_by : (bytes piece rest : List ℕ) (old : Open) (t t' : T) (end : LinesEnd) (out_tells notes_tell : Bool) (a x : SinkShown)
+  quiet_line : {bytes piece rest : List ℕ} {old : Open} {t t' : T} {end : LinesEnd} {out_tells notes_tell : Bool} {a x : SinkShown}
       → newlines piece ≡ 0 → IsTrue (is_stop end) → (IsTrue (is_whole end) → t ≡ t') → (end ≡ ends.Cut → 2 ^ 64 - 1 ≤ old.finished)
       → StandsAt bytes old
       → Stops tells bytes (bytes ++ (piece ++ 10 ∷ rest)) old t t' end out_tells (record { before = a; now = a }) notes_tell
       (record { before = x; now = x })
-  line_quiet_by bytes piece rest old t t' end out_tells notes_tell a x none stop same many s =
-      quiet_stop bytes (piece ++ 10 ∷ rest) old t t' end out_tells notes_tell a x (strip_carriage_return (s.line ++ piece) ∷ [] ++ ended_lines rest)
+  quiet_line {bytes} {piece} {rest} {old} none stop same many s =
+      quiet_stop (strip_carriage_return (s.line ++ piece) ∷ [] ++ ended_lines rest)
       (ended_after bytes piece rest old s none
       ∙ append_assoc (ended_lines bytes) (strip_carriage_return (s.line ++ piece) ∷ []) (ended_lines rest))
       stop same many s
 
-  pub line_memory : (bytes piece rest : List ℕ) (old : Open) (t t' : T) (end : LinesEnd) (out_tells notes_tell : Bool) (a x : SinkShown)
+  pub line_memory : {bytes piece rest : List ℕ} {old : Open} {t t' : T} {end : LinesEnd} {out_tells notes_tell : Bool} {a x : SinkShown}
       → newlines piece ≡ 0 → end ≡ ends.Memory → StandsAt bytes old
       → Stops tells bytes (bytes ++ (piece ++ 10 ∷ rest)) old t t' end out_tells (record { before = a; now = a }) notes_tell
       (record { before = x; now = x })
-  line_memory bytes piece rest old t t' end out_tells notes_tell a x none is s =
-      subst (λ e. Stops tells bytes (bytes ++ (piece ++ 10 ∷ rest)) old t t' e out_tells (record { before = a; now = a }) notes_tell
-      (record { before = x; now = x })) (sym is)
-      (line_quiet_by bytes piece rest old t t' ends.Memory out_tells notes_tell a x none refl (λ on. absurd cc) (λ cut. absurd cc) s)
+  line_memory none is s = rw is (quiet_line {end = ends.Memory} none refl (λ on. absurd cc) (λ cut. absurd cc) s)
 
-  pub line_cut : (bytes piece rest : List ℕ) (old : Open) (t : T) (out_tells notes_tell : Bool) (a x : SinkShown)
-      → newlines piece ≡ 0 → 2 ^ 64 - 1 ≤ old.finished → StandsAt bytes old
+  pub open_cut : {bytes piece rest : List ℕ} {old mid : Open} {t : T} {out_tells notes_tell : Bool} {a x : SinkShown}
+      → Adds old piece mid → 2 ^ 64 - 1 ≤ mid.finished → StandsAt bytes old
       → Stops tells bytes (bytes ++ (piece ++ 10 ∷ rest)) old t t ends.Cut out_tells (record { before = a; now = a }) notes_tell
       (record { before = x; now = x })
-  line_cut bytes piece rest old t out_tells notes_tell a x none many s =
-      line_quiet_by bytes piece rest old t t ends.Cut out_tells notes_tell a x none refl (λ on. refl) (λ cut. many) s
-
-  pub rest_quiet : (bytes piece : List ℕ) (old : Open) (t t' : T) (end : LinesEnd) (out_tells notes_tell : Bool) (a x : SinkShown)
-      → newlines piece ≡ 0 → end ≡ ends.Memory → StandsAt bytes old
-      → Stops tells bytes (bytes ++ piece) old t t' end out_tells (record { before = a; now = a }) notes_tell
-      (record { before = x; now = x })
-  rest_quiet bytes piece old t t' end out_tells notes_tell a x none is s =
-      subst (λ e. Stops tells bytes (bytes ++ piece) old t t' e out_tells (record { before = a; now = a }) notes_tell
-      (record { before = x; now = x })) (sym is)
-      (quiet_stop bytes piece old t t' ends.Memory out_tells notes_tell a x []
-      (added_ended bytes piece old s none ∙ sym (append-nil (ended_lines bytes)))
-      refl (λ on. absurd cc) (λ cut. absurd cc) s)
+  open_cut adds many s = quiet_line adds.alone refl (λ on. refl) (λ cut. omega (arith, adds.same, many)) s
 
   -- ---- bytes of a read, one after another
 
-  pub goes_none : (bytes : List ℕ) (old : Open) (t : T) (out_tells notes_tell : Bool) (a x : SinkShown) → StandsAt bytes old
+  pub goes_none : {bytes : List ℕ} {old : Open} {t : T} {out_tells notes_tell : Bool} {a x : SinkShown} → StandsAt bytes old
       → Goes tells bytes (bytes ++ []) old old t t out_tells (record { before = a; now = a }) notes_tell (record { before = x; now = x })
-  goes_none bytes old t out_tells notes_tell a x s =
-      let same : bytes ++ [] ≡ bytes = append-nil bytes in
-      record {
-        lines = [];
-        more = ap ended_lines same ∙ sym (append-nil (ended_lines bytes));
-        told = record {
-          text = [];
-          note = [];
-          told = (refl, refl, refl);
-          written = λ on. sym (append-nil a.written);
-          noted = λ on. none_noted x;
-        };
-        stands = subst (λ b. StandsAt b old) (sym same) s;
-      }
-
-  pub more_then : (n m : ℕ) (t t' t'' : T) (xs ys : List (List ℕ)) (out_tells notes_tell : Bool) (a b c x y z : SinkShown)
-      → m ≡ n + length xs → x.faults ≤ y.faults → y.faults ≤ z.faults
-      → TellsMore tells n t t' xs out_tells (record { before = a; now = b }) notes_tell (record { before = x; now = y })
-      → TellsMore tells m t' t'' ys out_tells (record { before = b; now = c }) notes_tell (record { before = y; now = z })
-      → TellsMore tells n t t'' (xs ++ ys) out_tells (record { before = a; now = c }) notes_tell (record { before = x; now = z })
-  more_then n m t t' t'' xs ys out_tells notes_tell a b c x y z at one two g h = record {
-    text = g.text ++ h.text;
-    note = g.note ++ h.note;
-    told = told_then tells n m t t' t'' xs ys g.text h.text g.note h.note at g.told h.told;
-    written = λ on. whole_then a.written b.written c.written g.text h.text (g.written on) (h.written on);
-    noted = λ on. noted_then x y z g.note h.note one two (g.noted on) (h.noted on);
+  goes_none {bytes} {old} {a} {x} s = record {
+    lines = [];
+    more = ap ended_lines (append-nil bytes) ∙ sym (append-nil (ended_lines bytes));
+    told = record {
+      text = [];
+      note = [];
+      told = (refl, refl, refl);
+      written = λ on. sym (append-nil a.written);
+      noted = λ on. none_noted x;
+    };
+    stands = subst (λ b. StandsAt b old) (sym (append-nil bytes)) s;
   }
 
-  pub last_then : (n m : ℕ) (t t' t'' : T) (xs ys : List (List ℕ)) (end : LinesEnd) (out_tells notes_tell : Bool) (a b c x y z : SinkShown)
+  last_then : {n m : ℕ} {t t' t'' : T} {xs ys : List (List ℕ)} {end : LinesEnd} {out_tells notes_tell : Bool} {a b c x y z : SinkShown}
       → m ≡ n + length xs → x.faults ≤ y.faults → y.faults ≤ z.faults
       → TellsMore tells n t t' xs out_tells (record { before = a; now = b }) notes_tell (record { before = x; now = y })
       → TellsLast tells m t' t'' ys end out_tells (record { before = b; now = c }) notes_tell (record { before = y; now = z })
       → TellsLast tells n t t'' (xs ++ ys) end out_tells (record { before = a; now = c }) notes_tell (record { before = x; now = z })
-  last_then n m t t' t'' xs ys end out_tells notes_tell a b c x y z at one two g h = record {
+  last_then {n} {m} {t} {t'} {xs} {ys} {end} {a} {b} {c} {x} {y} {z} at one two g h = record {
     text = g.text ++ h.text;
     note = g.note ++ h.note;
     last = h.last;
     told = told_then tells n m t t' h.last xs ys g.text h.text g.note h.note at g.told h.told;
     last_is = h.last_is;
-    written = λ on. text_then end a b c g.text h.text (g.written on) (h.written on);
+    written = λ on. text_then end a b c g.text h.text [] (whole_pours a.written b.written g.text (g.written on)) (h.written on);
     noted = λ on. noted_then x y z g.note h.note one two (g.noted on) (h.noted on);
   }
 
   -- the number of the line behind those that were finished in between
-  next_number : (bytes bytes' : List ℕ) (old new : Open) (xs : List (List ℕ)) → StandsAt bytes old → StandsAt bytes' new
+  next_number : {bytes bytes' : List ℕ} {old new : Open} {xs : List (List ℕ)} → StandsAt bytes old → StandsAt bytes' new
       → ended_lines bytes' ≡ ended_lines bytes ++ xs → new.finished + 1 ≡ (old.finished + 1) + length xs
-  next_number bytes bytes' old new xs s s' more =
-      let all : new.finished ≡ old.finished + length xs =
-      sym (count_at bytes' new s') ∙ ap length more ∙ length-append (ended_lines bytes) xs ∙ ap (λ n. n + length xs) (count_at bytes old s) in
-      omega (arith, all)
+  next_number {bytes} {bytes'} {old} {new} {xs} s s' more =
+      omega (arith, count_at bytes' new s', ap length more, length-append (ended_lines bytes) xs, count_at bytes old s)
 
-  pub goes_then : (b0 b1 b2 : List ℕ) (o0 o1 o2 : Open) (t t' t'' : T) (out_tells notes_tell : Bool) (a b c x y z : SinkShown)
+  pub goes_then : {b0 b1 b2 : List ℕ} {o0 o1 o2 : Open} {t t' t'' : T} {out_tells notes_tell : Bool} {a b c x y z : SinkShown}
       → x.faults ≤ y.faults → y.faults ≤ z.faults → StandsAt b0 o0
       → Goes tells b0 b1 o0 o1 t t' out_tells (record { before = a; now = b }) notes_tell (record { before = x; now = y })
       → Goes tells b1 b2 o1 o2 t' t'' out_tells (record { before = b; now = c }) notes_tell (record { before = y; now = z })
       → Goes tells b0 b2 o0 o2 t t'' out_tells (record { before = a; now = c }) notes_tell (record { before = x; now = z })
-  goes_then b0 b1 b2 o0 o1 o2 t t' t'' out_tells notes_tell a b c x y z one two s g h = record {
+  goes_then {b0} {o0} {o1} {t} {t'} {t''} {a} {b} {c} {x} {y} {z} one two s g h = record {
     lines = g.lines ++ h.lines;
     more = h.more ∙ ap (λ ls. ls ++ h.lines) g.more ∙ append_assoc (ended_lines b0) g.lines h.lines;
-    told = more_then (o0.finished + 1) (o1.finished + 1) t t' t'' g.lines h.lines out_tells notes_tell a b c x y z
-        (next_number b0 b1 o0 o1 g.lines s g.stands g.more) one two g.told h.told;
+    told = record {
+      text = g.told.text ++ h.told.text;
+      note = g.told.note ++ h.told.note;
+      told = told_then tells (o0.finished + 1) (o1.finished + 1) t t' t'' g.lines h.lines g.told.text h.told.text g.told.note h.told.note
+          (next_number s g.stands g.more) g.told.told h.told.told;
+      written = λ on. both g.told.text h.told.text a.written b.written c.written (g.told.written on) (h.told.written on);
+      noted = λ on. noted_then x y z g.told.note h.told.note one two (g.told.noted on) (h.told.noted on);
+    };
     stands = h.stands;
   }
 
-  pub goes_added : (b0 b1 piece : List ℕ) (o0 o1 o2 : Open) (t t' : T) (out_tells notes_tell : Bool) (out notes : Change SinkShown)
-      → newlines piece ≡ 0 → o2.finished ≡ o1.finished → ((line : List ℕ) → Keeps o1 line → Keeps o2 (line ++ piece))
-      → Goes tells b0 b1 o0 o1 t t' out_tells out notes_tell notes
-      → Goes tells b0 (b1 ++ piece) o0 o2 t t' out_tells out notes_tell notes
-  goes_added b0 b1 piece o0 o1 o2 t t' out_tells notes_tell out notes none same kept g = record {
-    lines = g.lines;
-    more = added_ended b1 piece o1 g.stands none ∙ g.more;
-    told = g.told;
-    stands = added_at b1 piece o1 o2 g.stands none same (kept g.stands.line g.stands.keeps);
-  }
-
-  pub stops_then : (b0 b1 b2 : List ℕ) (o0 o1 : Open) (t t' t'' : T) (end : LinesEnd) (out_tells notes_tell : Bool) (a b c x y z : SinkShown)
+  stops_then : {b0 b1 b2 : List ℕ} {o0 o1 : Open} {t t' t'' : T} {end : LinesEnd} {out_tells notes_tell : Bool} {a b c x y z : SinkShown}
       → x.faults ≤ y.faults → y.faults ≤ z.faults → StandsAt b0 o0
       → Goes tells b0 b1 o0 o1 t t' out_tells (record { before = a; now = b }) notes_tell (record { before = x; now = y })
       → Stops tells b1 b2 o1 t' t'' end out_tells (record { before = b; now = c }) notes_tell (record { before = y; now = z })
       → Stops tells b0 b2 o0 t t'' end out_tells (record { before = a; now = c }) notes_tell (record { before = x; now = z })
-  stops_then b0 b1 b2 o0 o1 t t' t'' end out_tells notes_tell a b c x y z one two s g h = record {
+  stops_then {b0} {b2} one two s g h = record {
     lines = g.lines ++ h.lines;
     stops = h.stops;
     first = subst (λ ls. AreFirst ls (ended_lines b2))
         (ap (λ ls. ls ++ h.lines) g.more ∙ append_assoc (ended_lines b0) g.lines h.lines) h.first;
     many = h.many;
-    told = last_then (o0.finished + 1) (o1.finished + 1) t t' t'' g.lines h.lines end out_tells notes_tell a b c x y z
-        (next_number b0 b1 o0 o1 g.lines s g.stands g.more) one two g.told h.told;
+    told = last_then (next_number s g.stands g.more) one two g.told h.told;
   }
 
   -- ---- the end of a stream
 
-  pub stop_read : (bytes bytes' left : List ℕ) (old : Open) (t t' : T) (end : LinesEnd) (out_tells notes_tell : Bool)
-      (out notes : Change SinkShown) → Stops tells bytes bytes' old t t' end out_tells out notes_tell notes
+  pub stop_read : {bytes bytes' left : List ℕ} {old : Open} {t t' : T} {end : LinesEnd} {out_tells notes_tell : Bool}
+      {out notes : Change SinkShown} → Stops tells bytes bytes' old t t' end out_tells out notes_tell notes
       → EndsRead tells bytes bytes' left old t t' end out_tells out notes_tell notes
-  stop_read bytes bytes' left old t t' end out_tells notes_tell out notes stop = record {
+  stop_read {bytes} {bytes'} {left} {end} stop = record {
     lines = stop.lines;
     lines_are = stop_end end bytes' left (ended_lines bytes ++ stop.lines) stop.stops
         (ended_first (ended_lines bytes ++ stop.lines) bytes' stop.first) stop.many;
@@ -380,144 +321,116 @@ module _ {T : Type 0} (tells : T → ℕ → List ℕ → List ℕ → List ℕ 
   }
 
   -- no line is open
-  pub ends_closed : (bytes : List ℕ) (begun : Open) (t : T) (out_tells notes_tell : Bool) (a x : SinkShown)
+  pub ends_closed : {bytes : List ℕ} {begun : Open} {t : T} {out_tells notes_tell : Bool} {a x : SinkShown}
       → ((line : List ℕ) → Keeps begun line → line ≡ []) → StandsAt bytes begun
       → EndsRead tells bytes bytes [] begun t t ends.Done out_tells (record { before = a; now = a }) notes_tell
       (record { before = x; now = x })
-  ends_closed bytes begun t out_tells notes_tell a x closed s = record {
+  ends_closed {bytes} {begun} closed s = record {
     lines = [];
     lines_are = (refl, ap (λ ls. ended_lines bytes ++ ls) (sym (ap lines (closed s.line s.keeps))) ∙ sym (lines_at bytes begun s));
-    told = none_last ends.Done (begun.finished + 1) t t out_tells notes_tell a x (λ on. refl);
+    told = none_last ends.Done (λ on. refl);
   }
 
   -- the count is at its end
-  pub ends_cut : (bytes : List ℕ) (begun : Open) (t : T) (out_tells notes_tell : Bool) (a x : SinkShown)
+  pub ends_cut : {bytes : List ℕ} {begun : Open} {t : T} {out_tells notes_tell : Bool} {a x : SinkShown}
       → 2 ^ 64 - 1 ≤ begun.finished → StandsAt bytes begun
       → EndsRead tells bytes bytes [] begun t t ends.Cut out_tells (record { before = a; now = a }) notes_tell
       (record { before = x; now = x })
-  ends_cut bytes begun t out_tells notes_tell a x many s =
-      let enough : 2 ^ 64 - 1 ≤ length bytes = let few = few_at bytes begun s in omega arith in
-      record {
-        lines = [];
-        lines_are = (
-          enough,
-          subst (λ ls. AreFirst ls (lines bytes)) (sym (append-nil (ended_lines bytes)))
-              (first_by (ended_lines bytes) (lines s.line) (lines bytes) (lines_at bytes begun s)),
-        );
-        told = none_last ends.Cut (begun.finished + 1) t t out_tells notes_tell a x (λ on. refl);
-      }
-
-  some_bytes : (line : List ℕ) → line ≢ [] → 0 < length line
-  some_bytes [] some = absurd (some refl)
-  some_bytes (b ∷ line) some = omega arith
+  ends_cut {bytes} {begun} many s = record {
+    lines = [];
+    lines_are = (
+      omega (arith, few_at bytes begun s, many),
+      subst (λ ls. AreFirst ls (lines bytes)) (sym (append-nil (ended_lines bytes)))
+          (first_by (ended_lines bytes) (lines s.line) (lines bytes) (lines_at bytes begun s)),
+    );
+    told = none_last ends.Cut (λ on. refl);
+  }
 
   -- the open line is the last one
-  pub ends_last : (bytes : List ℕ) (begun : Open) (number : ℕ) (t t' : T) (out_tells notes_tell : Bool) (out notes : Change SinkShown)
+  last_line : {bytes : List ℕ} {begun : Open} → ((line : List ℕ) → Keeps begun line → line ≢ []) → (s : StandsAt bytes begun)
+      → ended_lines bytes ++ s.line ∷ [] ≡ lines bytes
+  last_line {bytes} {begun} opened s =
+      ap (λ ls. ended_lines bytes ++ ls) (sym (lines_alone s.line s.alone (some_bytes s.line (opened s.line s.keeps))))
+      ∙ sym (lines_at bytes begun s)
+
+  pub ends_last : {bytes : List ℕ} {begun : Open} {number : ℕ} {t t' : T} {out_tells notes_tell : Bool} {out notes : Change SinkShown}
       → ((line : List ℕ) → Keeps begun line → line ≢ []) → number ≡ begun.finished + 1
       → ((line : List ℕ) → Keeps begun line → TellsMore tells number t t' (told_line false line ∷ []) out_tells out notes_tell notes)
       → StandsAt bytes begun
       → EndsRead tells bytes bytes [] begun t t' ends.Done out_tells out notes_tell notes
-  ends_last bytes begun number t t' out_tells notes_tell out notes opened next told s =
-      let one = told_at number (begun.finished + 1) t t' (s.line ∷ []) out_tells notes_tell out notes next (told s.line s.keeps) in
-      record {
-        lines = s.line ∷ [];
-        lines_are = (
-          refl,
-          ap (λ ls. ended_lines bytes ++ ls) (sym (lines_alone s.line s.alone (some_bytes s.line (opened s.line s.keeps))))
-              ∙ sym (lines_at bytes begun s),
-        );
-        told = record {
-          text = one.text;
-          note = one.note;
-          last = t';
-          told = one.told;
-          last_is = λ on. refl;
-          written = one.written;
-          noted = one.noted;
-        };
-      }
+  ends_last {t} {t'} {out_tells} {notes_tell} {out} {notes} opened next told s = record {
+    lines = s.line ∷ [];
+    lines_are = (refl, last_line opened s);
+    told = last_told ends.Done refl
+        (subst (λ n. TellsMore tells n t t' (s.line ∷ []) out_tells out notes_tell notes) next (told s.line s.keeps));
+  }
 
-  pub ends_in_last : (bytes : List ℕ) (begun : Open) (number : ℕ) (t t' : T) (end : LinesEnd) (out_tells notes_tell : Bool)
-      (out notes : Change SinkShown)
+  pub ends_in_last : {bytes : List ℕ} {begun : Open} {number : ℕ} {t t' : T} {end : LinesEnd} {out_tells notes_tell : Bool}
+      {out notes : Change SinkShown}
       → ((line : List ℕ) → Keeps begun line → line ≢ []) → number ≡ begun.finished + 1
       → ((line : List ℕ) → Keeps begun line → StopsAtLine tells number (told_line false line) t t' end out_tells out notes_tell notes)
       → StandsAt bytes begun
       → EndsRead tells bytes bytes [] begun t t' end out_tells out notes_tell notes
-  ends_in_last bytes begun number t t' end out_tells notes_tell out notes opened next told s =
+  ends_in_last {bytes} {t} {t'} {end} {out_tells} {notes_tell} {out} {notes} opened next told s =
       let stop = told s.line s.keeps in
-      let last : lines s.line ≡ s.line ∷ [] = lines_alone s.line s.alone (some_bytes s.line (opened s.line s.keeps)) in
       record {
         lines = stop.lines;
         lines_are = stop_end end bytes [] (ended_lines bytes ++ stop.lines) (stop_unwhole end stop.unwhole)
-            (subst (AreFirst (ended_lines bytes ++ stop.lines)) (ap (λ ls. ended_lines bytes ++ ls) (sym last) ∙ sym (lines_at bytes begun s))
+            (subst (AreFirst (ended_lines bytes ++ stop.lines)) (last_line opened s)
             (first_behind (ended_lines bytes) stop.lines (s.line ∷ []) stop.first))
             (λ cut. no_cut end stop.unwhole cut);
-        told = last_at number (begun.finished + 1) t t' stop.lines end out_tells notes_tell out notes next stop.told;
+        told = subst (λ n. TellsLast tells n t t' stop.lines end out_tells out notes_tell notes) next stop.told;
       }
 
   -- a read failed
-  pub ends_unread : (bytes : List ℕ) (left : List ℕ) (begun : Open) (t : T) (out_tells notes_tell : Bool) (a x : SinkShown)
+  pub ends_unread : {bytes left : List ℕ} {begun : Open} {t : T} {out_tells notes_tell : Bool} {a x : SinkShown}
       → EndsRead tells bytes bytes left begun t t ends.Read out_tells (record { before = a; now = a }) notes_tell
       (record { before = x; now = x })
-  ends_unread bytes left begun t out_tells notes_tell a x = record {
-    lines = [];
-    lines_are = append-nil (ended_lines bytes);
-    told = none_last ends.Read (begun.finished + 1) t t out_tells notes_tell a x (λ on. refl);
-  }
+  ends_unread {bytes} =
+      record { lines = []; lines_are = append-nil (ended_lines bytes); told = none_last ends.Read (λ on. refl) }
 
   -- ---- a whole stream
 
-  pub stream_ends : (bytes : List ℕ) (source : SourceShown) (o0 o1 : Open) (t t' t'' : T) (end : LinesEnd) (out_tells notes_tell : Bool)
-      (a b c x y z : SinkShown)
+  stream_told : {source : SourceShown} {o0 : Open} {t t' : T} {ls : List (List ℕ)} {end : LinesEnd} {out_tells notes_tell : Bool}
+      {out notes : Change SinkShown} → o0.finished ≡ 0 → EndsStream end source.taken source.left ls
+      → TellsLast tells (o0.finished + 1) t t' ls end out_tells out notes_tell notes
+      → StreamEnded tells t t' end source out_tells out notes_tell notes
+  stream_told {t} {ls} fresh ends told = record {
+    lines = ls;
+    text = told.text;
+    note = told.note;
+    last = told.last;
+    told = subst (λ n. AreTold tells n t ls told.text told.note told.last) (ap (λ n. n + 1) fresh) told.told;
+    lines_are = ends;
+    last_is = told.last_is;
+    written = told.written;
+    noted = told.noted;
+  }
+
+  pub stream_ends : {source : SourceShown} {bytes : List ℕ} {o0 o1 : Open} {t t' t'' : T} {end : LinesEnd} {out_tells notes_tell : Bool}
+      {a b c x y z : SinkShown}
       → x.faults ≤ y.faults → y.faults ≤ z.faults → o0.finished ≡ 0 → StandsAt [] o0
       → Goes tells [] bytes o0 o1 t t' out_tells (record { before = a; now = b }) notes_tell (record { before = x; now = y })
       → EndsRead tells bytes source.taken source.left o1 t' t'' end out_tells (record { before = b; now = c }) notes_tell
       (record { before = y; now = z })
       → StreamEnded tells t t'' end source out_tells (record { before = a; now = c }) notes_tell (record { before = x; now = z })
-  stream_ends bytes source o0 o1 t t' t'' end out_tells notes_tell a b c x y z one two fresh s g h =
-      let last = last_then (o0.finished + 1) (o1.finished + 1) t t' t'' g.lines h.lines end out_tells notes_tell a b c x y z
-      (next_number [] bytes o0 o1 g.lines s g.stands g.more) one two g.told h.told in
-      let from_one = last_at (o0.finished + 1) 1 t t'' (g.lines ++ h.lines) end out_tells notes_tell (record { before = a; now = c })
-      (record { before = x; now = z }) (ap (λ n. n + 1) fresh) last in
-      record {
-        lines = g.lines ++ h.lines;
-        text = from_one.text;
-        note = from_one.note;
-        last = from_one.last;
-        told = from_one.told;
-        lines_are = subst (λ ls. EndsStream end source.taken source.left (ls ++ h.lines)) g.more h.lines_are;
-        last_is = from_one.last_is;
-        written = from_one.written;
-        noted = from_one.noted;
-      }
+  stream_ends {source} {o0} {end} one two fresh s g h =
+      stream_told {o0 = o0} fresh (subst (λ ls. EndsStream end source.taken source.left (ls ++ h.lines)) g.more h.lines_are)
+      (last_then (next_number s g.stands g.more) one two g.told h.told)
 
   -- the count of reads is at its end
-  pub stream_cut : (source : SourceShown) (o0 o1 : Open) (t t' : T) (out_tells notes_tell : Bool) (out notes : Change SinkShown)
+  pub stream_cut : {source : SourceShown} {o0 o1 : Open} {t t' : T} {out_tells notes_tell : Bool} {out notes : Change SinkShown}
       → o0.finished ≡ 0 → 2 ^ 64 - 1 ≤ length source.taken
       → Goes tells [] source.taken o0 o1 t t' out_tells out notes_tell notes
       → StreamEnded tells t t' ends.Cut source out_tells out notes_tell notes
-  stream_cut source o0 o1 t t' out_tells notes_tell out notes fresh many g =
-      let from_one = told_at (o0.finished + 1) 1 t t' g.lines out_tells notes_tell out notes (ap (λ n. n + 1) fresh) g.told in
-      record {
-        lines = g.lines;
-        text = from_one.text;
-        note = from_one.note;
-        last = t';
-        told = from_one.told;
-        lines_are = (
-          many,
-          subst (λ ls. AreFirst ls (lines source.taken)) g.more
-              (ended_first (ended_lines source.taken) source.taken (first_by (ended_lines source.taken) [] (ended_lines source.taken)
-              (sym (append-nil (ended_lines source.taken))))),
-        );
-        last_is = λ on. refl;
-        written = from_one.written;
-        noted = from_one.noted;
-      }
+  stream_cut {source} {o0} fresh many g =
+      let all : List (List ℕ) = ended_lines source.taken in
+      let first = ended_first all source.taken (first_by all [] all (sym (append-nil all))) in
+      stream_told {o0 = o0} fresh (many, subst (λ ls. AreFirst ls (lines source.taken)) g.more first) (last_told ends.Cut refl g.told)
 
   -- ---- the pieces of a read
 
-  pub goes_piece : (bytes read piece : List ℕ) (at place : ℕ) (o0 o1 o2 : Open) (t t' t'' : T) (out_tells notes_tell : Bool) (a b c x y z : SinkShown)
+  pub goes_piece : {bytes read piece : List ℕ} {at place : ℕ} {o0 o1 o2 : Open} {t t' t'' : T} {out_tells notes_tell : Bool} {a b c x y z : SinkShown}
       → x.faults ≤ y.faults → y.faults ≤ z.faults → piece ≡ take place (drop at read) → IsPlace read at place → StandsAt bytes o0
       → Goes tells bytes (bytes ++ take at read) o0 o1 t t' out_tells (record { before = a; now = b }) notes_tell
       (record { before = x; now = y })
@@ -526,25 +439,30 @@ module _ {T : Type 0} (tells : T → ℕ → List ℕ → List ℕ → List ℕ 
       (record { before = y; now = z }))
       → Goes tells bytes (bytes ++ take (at + (place + 1)) read) o0 o2 t t'' out_tells (record { before = a; now = c }) notes_tell
       (record { before = x; now = z })
-  goes_piece bytes read piece at place o0 o1 o2 t t' t'' out_tells notes_tell a b c x y z one two is p s g h =
+  goes_piece {bytes} {read} {piece} {at} {o0} {o2} {t} {t''} {out_tells} {notes_tell} {a} {c} {x} {z} one two is p s g h =
       subst (λ bs. Goes tells bytes bs o0 o2 t t'' out_tells (record { before = a; now = c }) notes_tell (record { before = x; now = z }))
       (append_assoc bytes (take at read) (piece ++ 10 ∷ []) ∙ ap (λ bs. bytes ++ bs) (ap (λ q. take at read ++ (q ++ 10 ∷ [])) is ∙ sym p.taken))
-      (goes_then bytes (bytes ++ take at read) ((bytes ++ take at read) ++ (piece ++ 10 ∷ [])) o0 o1 o2 t t' t'' out_tells notes_tell
-      a b c x y z one two s g (h (bytes ++ take at read) g.stands))
+      (goes_then one two s g (h (bytes ++ take at read) g.stands))
 
-  pub goes_rest : (bytes read rest : List ℕ) (at : ℕ) (o0 o1 o2 : Open) (t t' : T) (out_tells notes_tell : Bool) (out notes : Change SinkShown)
+  pub goes_rest : {bytes read rest : List ℕ} {at : ℕ} {o0 o1 o2 : Open} {t t' : T} {out_tells notes_tell : Bool} {out notes : Change SinkShown}
       → rest ≡ drop at read → newlines (drop at read) ≡ 0 → o2.finished ≡ o1.finished
       → ((line : List ℕ) → Keeps o1 line → Keeps o2 (line ++ rest))
       → Goes tells bytes (bytes ++ take at read) o0 o1 t t' out_tells out notes_tell notes
       → Goes tells bytes (bytes ++ read) o0 o2 t t' out_tells out notes_tell notes
-  goes_rest bytes read rest at o0 o1 o2 t t' out_tells notes_tell out notes is none same kept g =
-      subst (λ bs. Goes tells bytes bs o0 o2 t t' out_tells out notes_tell notes)
-      (append_assoc bytes (take at read) (drop at read) ∙ ap (λ bs. bytes ++ bs) (take-append-drop at read))
-      (goes_added bytes (bytes ++ take at read) (drop at read) o0 o1 o2 t t' out_tells notes_tell out notes none same
-      (λ line keeps. subst (λ q. Keeps o2 (line ++ q)) is (kept line keeps)) g)
+  goes_rest {bytes} {read} {at} {o1} {o2} is none same kept g =
+      let first : List ℕ = bytes ++ take at read in
+      let whole : first ++ drop at read ≡ bytes ++ read =
+      append_assoc bytes (take at read) (drop at read) ∙ ap (λ bs. bytes ++ bs) (take-append-drop at read) in
+      record {
+        lines = g.lines;
+        more = ap ended_lines (sym whole) ∙ added_ended first (drop at read) o1 g.stands none ∙ g.more;
+        told = g.told;
+        stands = subst (λ bs. StandsAt bs o2) whole (added_at first (drop at read) o1 o2 g.stands none same
+            (subst (λ q. Keeps o2 (g.stands.line ++ q)) is (kept g.stands.line g.stands.keeps)));
+      }
 
-  pub stops_piece : (bytes read piece : List ℕ) (at place : ℕ) (o0 o1 : Open) (t t' t'' : T) (end : LinesEnd) (out_tells notes_tell : Bool)
-      (a b c x y z : SinkShown)
+  pub stops_piece : {bytes read piece : List ℕ} {at place : ℕ} {o0 o1 : Open} {t t' t'' : T} {end : LinesEnd} {out_tells notes_tell : Bool}
+      {a b c x y z : SinkShown}
       → x.faults ≤ y.faults → y.faults ≤ z.faults → piece ≡ take place (drop at read) → IsPlace read at place → StandsAt bytes o0
       → Goes tells bytes (bytes ++ take at read) o0 o1 t t' out_tells (record { before = a; now = b }) notes_tell
       (record { before = x; now = y })
@@ -552,47 +470,21 @@ module _ {T : Type 0} (tells : T → ℕ → List ℕ → List ℕ → List ℕ 
       → Stops tells bs (bs ++ (piece ++ 10 ∷ rest)) o1 t' t'' end out_tells (record { before = b; now = c }) notes_tell
       (record { before = y; now = z }))
       → Stops tells bytes (bytes ++ read) o0 t t'' end out_tells (record { before = a; now = c }) notes_tell (record { before = x; now = z })
-  stops_piece bytes read piece at place o0 o1 t t' t'' end out_tells notes_tell a b c x y z one two is p s g h =
+  stops_piece {bytes} {read} {piece} {at} {o0} {t} {t''} {end} {out_tells} {notes_tell} {a} {c} {x} {z} one two is p s g h =
       subst (λ bs. Stops tells bytes bs o0 t t'' end out_tells (record { before = a; now = c }) notes_tell (record { before = x; now = z }))
       (append_assoc bytes (take at read) (piece ++ 10 ∷ p.rest) ∙ ap (λ bs. bytes ++ bs) (ap (λ q. take at read ++ (q ++ 10 ∷ p.rest)) is ∙ sym p.whole))
-      (stops_then bytes (bytes ++ take at read) ((bytes ++ take at read) ++ (piece ++ 10 ∷ p.rest)) o0 o1 t t' t'' end out_tells notes_tell
-      a b c x y z one two s g (h (bytes ++ take at read) p.rest g.stands))
+      (stops_then one two s g (h (bytes ++ take at read) p.rest g.stands))
 
-  pub stops_rest : (bytes read : List ℕ) (at : ℕ) (o0 o1 : Open) (t t' t'' : T) (end : LinesEnd) (out_tells notes_tell : Bool) (a b x y : SinkShown)
-      → x.faults ≤ y.faults → newlines (drop at read) ≡ 0 → end ≡ ends.Memory → StandsAt bytes o0
+  pub stops_rest : {bytes read : List ℕ} {at : ℕ} {o0 o1 : Open} {t t' t'' : T} {out_tells notes_tell : Bool} {a b x y : SinkShown}
+      → x.faults ≤ y.faults → newlines (drop at read) ≡ 0 → StandsAt bytes o0
       → Goes tells bytes (bytes ++ take at read) o0 o1 t t' out_tells (record { before = a; now = b }) notes_tell
       (record { before = x; now = y })
-      → Stops tells bytes (bytes ++ read) o0 t t'' end out_tells (record { before = a; now = b }) notes_tell (record { before = x; now = y })
-  stops_rest bytes read at o0 o1 t t' t'' end out_tells notes_tell a b x y one none is s g =
-      subst (λ bs. Stops tells bytes bs o0 t t'' end out_tells (record { before = a; now = b }) notes_tell (record { before = x; now = y }))
+      → Stops tells bytes (bytes ++ read) o0 t t'' ends.Memory out_tells (record { before = a; now = b }) notes_tell
+      (record { before = x; now = y })
+  stops_rest {bytes} {read} {at} {o0} {o1} {t} {t''} {out_tells} {notes_tell} {a} {b} {x} {y} one none s g =
+      let first : List ℕ = bytes ++ take at read in
+      subst (λ bs. Stops tells bytes bs o0 t t'' ends.Memory out_tells (record { before = a; now = b }) notes_tell (record { before = x; now = y }))
       (append_assoc bytes (take at read) (drop at read) ∙ ap (λ bs. bytes ++ bs) (take-append-drop at read))
-      (stops_then bytes (bytes ++ take at read) ((bytes ++ take at read) ++ drop at read) o0 o1 t t' t'' end out_tells notes_tell
-      a b b x y y one (omega arith) s g (rest_quiet (bytes ++ take at read) (drop at read) o1 t' t'' end out_tells notes_tell b y none is g.stands))
-
-  -- ---- the line that was added to last
-
-  pub open_goes : (bytes piece : List ℕ) (before mid new : Open) (number longest : ℕ) (t t' : T) (out_tells notes_tell : Bool)
-      (out notes : Change SinkShown)
-      → Adds before piece mid → number ≡ mid.finished + 1
-      → ((line : List ℕ) → Keeps mid line → TellsMore tells number t t' (told_line true line ∷ []) out_tells out notes_tell notes)
-      → new ≡ record { kept = []; long = false; finished = number; longest = longest }
-      → StandsAt bytes before
-      → Goes tells bytes (bytes ++ (piece ++ 10 ∷ [])) before new t t' out_tells out notes_tell notes
-  open_goes bytes piece before mid new number longest t t' out_tells notes_tell out notes adds next told is s =
-      line_goes bytes piece before mid new number longest t t' out_tells notes_tell out notes adds.alone adds.same adds.kept next told is s
-
-  pub open_stops : (bytes piece rest : List ℕ) (before mid : Open) (number : ℕ) (t t' : T) (end : LinesEnd) (out_tells notes_tell : Bool)
-      (out notes : Change SinkShown)
-      → Adds before piece mid → number ≡ mid.finished + 1
-      → ((line : List ℕ) → Keeps mid line → StopsAtLine tells number (told_line true line) t t' end out_tells out notes_tell notes)
-      → StandsAt bytes before
-      → Stops tells bytes (bytes ++ (piece ++ 10 ∷ rest)) before t t' end out_tells out notes_tell notes
-  open_stops bytes piece rest before mid number t t' end out_tells notes_tell out notes adds next told s =
-      line_stops bytes piece rest before mid number t t' end out_tells notes_tell out notes adds.alone adds.same adds.kept next told s
-
-  pub open_cut : (bytes piece rest : List ℕ) (before mid : Open) (t : T) (out_tells notes_tell : Bool) (a x : SinkShown)
-      → Adds before piece mid → 2 ^ 64 - 1 ≤ mid.finished → StandsAt bytes before
-      → Stops tells bytes (bytes ++ (piece ++ 10 ∷ rest)) before t t ends.Cut out_tells (record { before = a; now = a }) notes_tell
-      (record { before = x; now = x })
-  open_cut bytes piece rest before mid t out_tells notes_tell a x adds many s =
-      line_cut bytes piece rest before t out_tells notes_tell a x adds.alone (subst (λ n. 2 ^ 64 - 1 ≤ n) adds.same many) s
+      (stops_then one (omega arith) s g (quiet_stop []
+      (added_ended first (drop at read) o1 g.stands none ∙ sym (append-nil (ended_lines first)))
+      refl (λ on. absurd cc) (λ cut. absurd cc) g.stands))

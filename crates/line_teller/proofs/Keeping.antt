@@ -1,28 +1,15 @@
 -- What users of the crate need to show that a line is told, that a note is noted, and that a text was written.
 use Rattle.std.proofs.Common.{◌≡◌, ℕ, false, refl, sym, ◌∙◌, ap, append_assoc}
 use Rattle.std.specs.Prelude.{List, [], ◌∷◌, ◌++◌, Result, Ok, Err, OnOk, OnErr}
-use Rattle.std.specs.List.{FoldsTo, concat}
 use Rattle.std.proofs.lemmas.List.{append-nil}
 use Rattle.outer_io.specs.declared.failures.Failed.{Failed}
 use Rattle.outer_io.specs.Shown.{Change, SinkShown, WriteFailed}
 use Rattle.paper.specs.InMemory.{Kept, Keeps}
 use Rattle.paper.specs.Puts.{Puts}
+use Rattle.paper.proofs.Keeping.{puts_keep}
 use Rattle.line_teller.specs.Ending.{IsNoted}
 use Rattle.line_teller.specs.Standing.{Pours}
 use Rattle.line_teller.specs.Telling.{Tells}
-
-calls_keep : (p q : Kept) (parts : List (List ℕ)) → FoldsTo Keeps p parts q → Keeps p (concat parts) q
-calls_keep p q [] same off = rw (sym same) (rw same off, sym (append-nil p.text))
-calls_keep p q (text ∷ parts) (j, one, rest) off =
-    let later = calls_keep j q parts rest off in
-    let first = one later.0 in
-    (first.0, later.1 ∙ ap (λ t. t ++ concat parts) first.1 ∙ append_assoc p.text text (concat parts))
-
--- a text put on a sheet is kept there
-pub puts_keep : (p q : Kept) (text : List ℕ) → Puts Keeps p text q → Keeps p text q
-puts_keep p q text puts off =
-    let all = calls_keep p q puts.calls.parts puts.calls.calls off in
-    (all.0, all.1 ∙ ap (λ t. p.text ++ t) puts.calls.whole)
 
 -- a line is told by what was put on the two sheets
 pub told_by : {T : Type 0} (tells : List ℕ → List ℕ → T → Type 0) (teller : T) (p p' q q' : Kept) (text note : List ℕ)

@@ -1,10 +1,11 @@
 -- Steps of lines that are told, one after another.
-use Rattle.std.proofs.Common.{◌≡◌, ℕ, ◌+◌, ◌<◌, ◌≤◌, ◌⊎◌, Bool, true, false, List, [], ◌∷◌, ◌++◌, length, take, drop, Result, Ok, Err, refl, sym, ap, ◌∙◌, subst, append_assoc, inl, inr, arith}
+use Rattle.std.proofs.Common.{◌≡◌, ℕ, ◌+◌, ◌<◌, ◌≤◌, ◌⊎◌, Bool, true, false, List, [], ◌∷◌, ◌++◌, length, take, drop, Result, Ok, Err, refl, sym, ap, ◌∙◌, subst, append_assoc, inl, inr, ⊎_elim, arith}
 use Rattle.std.specs.Prelude.{IsTrue, IfErr, OnOk, OnErr}
-use Rattle.std.proofs.lemmas.Bool.{cases_lt}
+use Rattle.std.proofs.lemmas.Bool.{cases_Bool, cases_lt}
 use Rattle.std.proofs.lemmas.List.{append-nil, length-append, take-append-drop}
 use Rattle.std.proofs.Math.Seq.{take-append_seam, take-append-add}
 use Rattle.outer_io.specs.Bytes.{AppendsFront}
+use Rattle.outer_io.proofs.Fronts.{none, behind, both}
 use Rattle.outer_io.specs.Faults.{Rose}
 use Rattle.outer_io.specs.Shown.{Change, SourceShown, SinkShown, WriteFailed}
 use Rattle.line_reader.specs.declared.next.NextText.{NextText}
@@ -19,19 +20,8 @@ use Rattle.line_teller.specs.Standing.{Pours, PoursMore, Steps, TellsOne, EndsSt
 
 -- ---- what the reader gives
 
--- one more line was given
-pub more_by_line : (next : NextText) (longest : ℕ) (text : List ℕ) (old new : List (List ℕ)) → next ≡ texts.Line
-    → GivesText (Ok next) longest text old new
-    → new ≡ old ++ text ∷ []
-more_by_line next longest text old new is gives = subst (λ n. GivesText (Ok n) longest text old new) is gives
-
-pub long_by_line : (next : NextText) (longest : ℕ) (text : List ℕ) (old new : List (List ℕ)) → next ≡ texts.TooLong
-    → GivesText (Ok next) longest text old new
-    → GivesLongLine longest old new
-long_by_line next longest text old new is gives = subst (λ n. GivesText (Ok n) longest text old new) is gives
-
 -- the lines before one of the first lines are first ones
-pub first_before : (lines all : List (List ℕ)) (line : List ℕ) (n : ℕ) → take n all ≡ lines ++ line ∷ [] → AreFirst lines all
+first_before : (lines all : List (List ℕ)) (line : List ℕ) (n : ℕ) → take n all ≡ lines ++ line ∷ [] → AreFirst lines all
 first_before lines all line n e =
     let all_are : all ≡ (lines ++ line ∷ []) ++ drop n all = sym (take-append-drop n all) ∙ ap (λ t. t ++ drop n all) e in
     record {
@@ -39,6 +29,16 @@ first_before lines all line n e =
       first = sym (ap (take (length lines)) (all_are ∙ append_assoc lines (line ∷ []) (drop n all))
           ∙ take-append_seam lines (line ∷ drop n all));
     }
+
+pub before_line : (next : NextText) (longest : ℕ) (text : List ℕ) (lines all : List (List ℕ)) (n : ℕ) → next ≡ texts.Line
+    → GivesText (Ok next) longest text lines (take n all) → AreFirst lines all
+before_line next longest text lines all n is gives =
+    first_before lines all text n (subst (λ k. GivesText (Ok k) longest text lines (take n all)) is gives)
+
+pub before_long : (next : NextText) (longest : ℕ) (text : List ℕ) (lines all : List (List ℕ)) (n : ℕ) → next ≡ texts.TooLong
+    → GivesText (Ok next) longest text lines (take n all) → AreFirst lines all
+before_long next longest text lines all n is gives =
+    let long = subst (λ k. GivesText (Ok k) longest text lines (take n all)) is gives in first_before lines all long.line n long.more
 
 -- ---- by how a step ended
 
@@ -95,38 +95,44 @@ poured_then w0 w1 w2 text more sheet sheet' one two = record {
       ∙ sym (append_assoc one.gone two.gone sheet');
 }
 
-whole_then : (w0 w1 w2 text more sheet : List ℕ) → PoursMore text w0 [] w1 sheet → w2 ≡ w1 ++ (sheet ++ more) → w2 ≡ w0 ++ (text ++ more)
-whole_then w0 w1 w2 text more sheet one e =
-    e ∙ ap (λ t. t ++ (sheet ++ more)) one.written_is ∙ append_assoc w0 one.gone (sheet ++ more)
-    ∙ ap (λ t. w0 ++ t) (sym (append_assoc one.gone sheet more) ∙ ap (λ t. t ++ more) (sym one.sheet_is))
-
-front_then : (w0 w1 w2 text more sheet : List ℕ) → PoursMore text w0 [] w1 sheet → AppendsFront (sheet ++ more) w1 w2
-    → AppendsFront (text ++ more) w0 w2
-front_then w0 w1 w2 text more sheet one front =
-    let whole : text ++ more ≡ one.gone ++ (sheet ++ more) = ap (λ t. t ++ more) one.sheet_is ∙ append_assoc one.gone sheet more in
-    record {
-      count = length one.gone + front.count;
-      within = omega (arith, front.within, ap length whole, length-append one.gone (sheet ++ more));
-      appended = front.appended ∙ ap (λ t. t ++ take front.count (sheet ++ more)) one.written_is
-          ∙ append_assoc w0 one.gone (take front.count (sheet ++ more))
-          ∙ ap (λ t. w0 ++ t) (sym (take-append-add one.gone (sheet ++ more) front.count)
-          ∙ ap (take (length one.gone + front.count)) (sym whole));
-    }
-
 pub text_then : (end : LinesEnd) (a b c : SinkShown) (text more sheet : List ℕ) → PoursMore text a.written [] b.written sheet
     → EndsText end (sheet ++ more) (record { before = b; now = c }) → EndsText end (text ++ more) (record { before = a; now = c })
-text_then ends.Done a b c text more sheet one two = whole_then a.written b.written c.written text more sheet one two
-text_then ends.Cut a b c text more sheet one two = whole_then a.written b.written c.written text more sheet one two
-text_then ends.Read a b c text more sheet one two = whole_then a.written b.written c.written text more sheet one two
-text_then ends.Write a b c text more sheet one two = front_then a.written b.written c.written text more sheet one two
-text_then ends.Memory a b c text more sheet one two = front_then a.written b.written c.written text more sheet one two
+text_then end a b c text more sheet one two =
+    subst (λ t. EndsText end t (record { before = a; now = c }))
+    (sym (ap (λ t. t ++ more) one.sheet_is ∙ append_assoc one.gone sheet more)) (by_end end two)
+  where
+    by_end : (end : LinesEnd) → EndsText end (sheet ++ more) (record { before = b; now = c })
+        → EndsText end (one.gone ++ (sheet ++ more)) (record { before = a; now = c })
+    by_end ends.Done two = both one.gone (sheet ++ more) a.written b.written c.written one.written_is two
+    by_end ends.Cut two = both one.gone (sheet ++ more) a.written b.written c.written one.written_is two
+    by_end ends.Read two = both one.gone (sheet ++ more) a.written b.written c.written one.written_is two
+    by_end ends.Write two = behind one.gone (sheet ++ more) a.written b.written c.written one.written_is two
+    by_end ends.Memory two = behind one.gone (sheet ++ more) a.written b.written c.written one.written_is two
+
+-- all of a text is written
+pub whole_text : (end : LinesEnd) (text : List ℕ) (sink : Change SinkShown) → IsTrue (is_whole end)
+    → sink.now.written ≡ sink.before.written ++ text → EndsText end text sink
+whole_text ends.Done text sink on is = is
+whole_text ends.Cut text sink on is = is
+whole_text ends.Read text sink on is = is
+whole_text ends.Write text sink on is = absurd cc
+whole_text ends.Memory text sink on is = absurd cc
+
+-- a front of it is
+pub part_text : (end : LinesEnd) (text : List ℕ) (sink : Change SinkShown) → is_whole end ≡ false
+    → AppendsFront text sink.before.written sink.now.written → EndsText end text sink
+part_text ends.Done text sink off is = absurd cc
+part_text ends.Cut text sink off is = absurd cc
+part_text ends.Read text sink off is = absurd cc
+part_text ends.Write text sink off is = is
+part_text ends.Memory text sink off is = is
 
 -- ---- lines
 
 module _ {T : Type 0} (tells : T → ℕ → List ℕ → List ℕ → List ℕ → T → Type 0) where
-  pub one_told : (n : ℕ) (old new : T) (line text note : List ℕ) → tells old n line text note new
+  pub one_told : {n : ℕ} {old new : T} {line text note : List ℕ} → tells old n line text note new
       → AreTold tells n old (line ∷ []) text note new
-  one_told n old new line text note told = record {
+  one_told {new} {text} {note} told = record {
     next = new;
     first_text = text;
     first_note = note;
@@ -143,10 +149,7 @@ module _ {T : Type 0} (tells : T → ℕ → List ℕ → List ℕ → List ℕ 
       → AreTold tells n first (xs ++ ys) (text ++ more) (note ++ later) last
   told_then n m first mid last [] ys text more note later e one two =
       let start : m ≡ n = omega arith in
-      let at_n : AreTold tells n mid ys more later last = subst (λ k. AreTold tells k mid ys more later last) start two in
-      let at_first : AreTold tells n first ys more later last = subst (λ f. AreTold tells n f ys more later last) one.2 at_n in
-      subst (λ t. AreTold tells n first ys (t ++ more) (note ++ later) last) (sym one.0)
-      (subst (λ t. AreTold tells n first ys more (t ++ later) last) (sym one.1) at_first)
+      rw (one.0, one.1, ← one.2, ← start) two
   told_then n m first mid last (x ∷ xs) ys text more note later e one two = record {
     next = one.next;
     first_text = one.first_text;
@@ -162,73 +165,53 @@ module _ {T : Type 0} (tells : T → ℕ → List ℕ → List ℕ → List ℕ 
   -- ---- the last step
 
   -- a line was told, and its text can't be written
-  pub stopped_by_write : (number heard n : ℕ) → heard ≡ number
-      → (old new : T) (source : SourceShown) (old_lines : List (List ℕ)) (out_tells : Bool) (out : Change SinkShown)
-      (sheet sheet' note note' : List ℕ) (notes_tell : Bool) (notes : Change SinkShown)
+  pub stopped_by_write : (n : ℕ) {number heard : ℕ} {old new : T} {source : SourceShown} {old_lines : List (List ℕ)} {out_tells : Bool}
+      {out : Change SinkShown} {sheet sheet' note note' : List ℕ} {notes_tell : Bool} {notes : Change SinkShown} → heard ≡ number
       → HearsLine tells heard old_lines (take n (all_lines source.taken)) old new sheet sheet' note note' → note ≡ []
       → (IsTrue out_tells → AppendsFront sheet' out.before.written out.now.written) → (IsTrue notes_tell → IsNoted note' notes)
       → EndsStep tells number old new ends.Write source old_lines out_tells out sheet notes_tell notes
-  stopped_by_write number heard n same old new source old_lines out_tells out sheet sheet' note note' notes_tell notes h empty front noted
-      = record {
-        lines = h.line ∷ [];
-        text = h.told_text;
-        note = h.told_note;
-        last = new;
-        told = one_told number old new h.line h.told_text h.told_note
-            (subst (λ k. tells old k h.line h.told_text h.told_note new) same h.told);
-        lines_are = record { count = n; first = sym h.more };
-        last_is = λ whole. refl;
-        written = λ on. subst (λ t. AppendsFront t out.before.written out.now.written) h.text_is (front on);
-        noted = λ on. subst (λ t. IsNoted t notes) (h.note_is ∙ ap (λ t. t ++ h.told_note) empty) (noted on);
-      }
-
-  nothing_front : (text before now : List ℕ) → now ≡ before → AppendsFront text before now
-  nothing_front text before now same = record { count = 0; within = omega arith; appended = same ∙ sym (append-nil before) }
+  stopped_by_write n {old} {new} {out} {notes} same h empty front noted = record {
+    lines = h.line ∷ [];
+    text = h.told_text;
+    note = h.told_note;
+    last = new;
+    told = one_told (subst (λ k. tells old k h.line h.told_text h.told_note new) same h.told);
+    lines_are = record { count = n; first = sym h.more };
+    last_is = λ whole. refl;
+    written = λ on. subst (λ t. AppendsFront t out.before.written out.now.written) h.text_is (front on);
+    noted = λ on. subst (λ t. IsNoted t notes) (h.note_is ∙ ap (λ t. t ++ h.told_note) empty) (noted on);
+  }
 
   -- what is written where no more lines are told
   last_text : (end result : LinesEnd) (sheet sheet' : List ℕ) (out : Change SinkShown) → IsEndOf end result
       → (IsTrue (is_whole end) → sheet' ≡ sheet) → (IsTrue (is_whole end) → EndsText result sheet' out)
       → (is_whole end ≡ false → out.now.written ≡ out.before.written) → EndsText result (sheet ++ []) out
-  last_text end result sheet sheet' out ended same whole silent = by (is_whole end) refl
-    where
-      by : (b : Bool) → is_whole end ≡ b → EndsText result (sheet ++ []) out
-      by true is =
-          let on : IsTrue (is_whole end) = is in
-          subst (λ t. EndsText result t out) (same on ∙ sym (append-nil sheet)) (whole on)
-      by false is = elim ended [
-        | inl end_is ↦ quiet end end_is is
-        | inr wrote ↦ absurd (let clash : true ≡ false = sym wrote.1 ∙ is in cc)
-      ]
-        where
-          quiet : (e : LinesEnd) → result ≡ e → is_whole e ≡ false → EndsText result (sheet ++ []) out
-          quiet ends.Done e off = absurd cc
-          quiet ends.Cut e off = absurd cc
-          quiet ends.Read e off = absurd cc
-          quiet ends.Write e off =
-              subst (λ r. EndsText r (sheet ++ []) out) (sym e) (nothing_front (sheet ++ []) out.before.written out.now.written (silent is))
-          quiet ends.Memory e off =
-              subst (λ r. EndsText r (sheet ++ []) out) (sym e) (nothing_front (sheet ++ []) out.before.written out.now.written (silent is))
+  last_text end result sheet sheet' out ended same whole silent =
+      subst (λ t. EndsText result t out) (sym (append-nil sheet)) (elim (cases_Bool (is_whole end)) [
+        | inl on ↦ subst (λ t. EndsText result t out) (same on) (whole on)
+        | inr off ↦
+            part_text result sheet out (⊎_elim (λ is. ap is_whole is ∙ off) (λ wrote. ap is_whole wrote.0) ended)
+            (subst (λ now. AppendsFront sheet out.before.written now) (sym (silent off)) (none sheet out.before.written))
+      ])
 
   -- no more lines are told
-  pub stopped_quietly : (number : ℕ) (old new : T) (end result : LinesEnd) (source : SourceShown) (old_lines : List (List ℕ))
-      (out_tells : Bool) (out : Change SinkShown)
-      (sheet sheet' : List ℕ) (notes_tell : Bool) (notes : SinkShown) → IsEndOf end result
+  pub stopped_quietly : {number : ℕ} {old new : T} (end result : LinesEnd) {source : SourceShown} {old_lines : List (List ℕ)}
+      {out_tells : Bool} {out : Change SinkShown} (sheet sheet' : List ℕ) {notes_tell : Bool} {notes : SinkShown} → IsEndOf end result
       → EndsLines end source.taken source.left old_lines → AreFirst old_lines (all_lines source.taken)
       → (IsTrue (is_whole end) → (new ≡ old) × (sheet' ≡ sheet)) → (IsTrue (is_whole end) → IsTrue out_tells → EndsText result sheet' out)
       → (is_whole end ≡ false → IsTrue out_tells → out.now.written ≡ out.before.written)
       → EndsStep tells number old new result source old_lines out_tells out sheet notes_tell (record { before = notes; now = notes })
-  stopped_quietly number old new end result source old_lines out_tells out sheet sheet' notes_tell notes ended lines first same whole
-      silent = record {
-        lines = [];
-        text = [];
-        note = [];
-        last = old;
-        told = (refl, refl, refl);
-        lines_are = subst (λ t. EndsLines result source.taken source.left t) (sym (append-nil old_lines)) (lines_of ended);
-        last_is = last_of ended;
-        written = λ on. last_text end result sheet sheet' out ended (λ w. (same w).1) (λ w. whole w on) (λ off. silent off on);
-        noted = λ on. none_noted notes;
-      }
+  stopped_quietly {old} {new} end result {source} {old_lines} {out} sheet sheet' {notes} ended lines first same whole silent = record {
+    lines = [];
+    text = [];
+    note = [];
+    last = old;
+    told = (refl, refl, refl);
+    lines_are = subst (λ t. EndsLines result source.taken source.left t) (sym (append-nil old_lines)) (lines_of ended);
+    last_is = last_of ended;
+    written = λ on. last_text end result sheet sheet' out ended (λ w. (same w).1) (λ w. whole w on) (λ off. silent off on);
+    noted = λ on. none_noted notes;
+  }
     where
       lines_of : IsEndOf end result → EndsLines result source.taken source.left old_lines
       lines_of (inl is) = subst (λ r. EndsLines r source.taken source.left old_lines) (sym is) lines
@@ -240,27 +223,13 @@ module _ {T : Type 0} (tells : T → ℕ → List ℕ → List ℕ → List ℕ 
 
   -- ---- between steps
 
-  pub stands_first : (first : T) (lines : List (List ℕ)) (count : ℕ) (out_tells : Bool) (out : SinkShown) (notes_tell : Bool)
-      (notes : SinkShown) → lines ≡ [] → count ≡ 0
-      → Stands tells first first lines count out_tells (record { before = out; now = out }) [] notes_tell
-      (record { before = notes; now = notes })
-  stands_first first lines count out_tells out notes_tell notes none zero_lines = record {
-    text = [];
-    note = [];
-    told = subst (λ ls. AreTold tells 1 first ls [] [] first) (sym none) (refl, refl, refl);
-    counted = ap length none ∙ sym zero_lines;
-    poured = λ on. record { gone = []; written_is = sym (append-nil out.written); sheet_is = refl };
-    noted = λ on. none_noted notes;
-  }
-
-  pub stands_on : (first now next : T) (lines lines' : List (List ℕ)) (count count' : ℕ) → count' ≡ count + 1
-      → (out_tells : Bool) (a b c : SinkShown) (sheet sheet' : List ℕ)
-      (notes_tell : Bool) (x y z : SinkShown) → x.faults ≤ y.faults → y.faults ≤ z.faults
+  pub stands_on : {first now next : T} {lines lines' : List (List ℕ)} {count count' : ℕ} {out_tells : Bool} {a b c : SinkShown}
+      {sheet sheet' : List ℕ} {notes_tell : Bool} {x y z : SinkShown} → count' ≡ count + 1 → x.faults ≤ y.faults → y.faults ≤ z.faults
       → Stands tells first now lines count out_tells (record { before = a; now = b }) sheet notes_tell (record { before = x; now = y })
       → Steps tells count' now next lines lines' out_tells (record { before = b; now = c }) sheet sheet' notes_tell
       (record { before = y; now = z })
       → Stands tells first next lines' count' out_tells (record { before = a; now = c }) sheet' notes_tell (record { before = x; now = z })
-  stands_on first now next lines lines' count count' next_is out_tells a b c sheet sheet' notes_tell x y z one two s step = record {
+  stands_on {first} {now} {next} {lines} {count'} {a} {b} {c} {sheet} {sheet'} {x} {y} {z} next_is one two s step = record {
     text = s.text ++ step.text;
     note = s.note ++ step.note;
     told = subst (λ ls. AreTold tells 1 first ls (s.text ++ step.text) (s.note ++ step.note) next) (sym step.more)
@@ -270,14 +239,13 @@ module _ {T : Type 0} (tells : T → ℕ → List ℕ → List ℕ → List ℕ 
     noted = λ on. noted_then x y z s.note step.note one two (s.noted on) (step.noted on);
   }
 
-  pub ended_then : (first now new : T) (end : LinesEnd) (source : SourceShown) (lines : List (List ℕ)) (count : ℕ) (out_tells : Bool)
-      (a b c : SinkShown) (sheet : List ℕ)
-      (notes_tell : Bool) (x y z : SinkShown) → x.faults ≤ y.faults → y.faults ≤ z.faults
+  pub ended_then : {first now new : T} {end : LinesEnd} {source : SourceShown} {lines : List (List ℕ)} {count : ℕ} {out_tells : Bool}
+      {a b c : SinkShown} {sheet : List ℕ} {notes_tell : Bool} {x y z : SinkShown} → x.faults ≤ y.faults → y.faults ≤ z.faults
       → Stands tells first now lines count out_tells (record { before = a; now = b }) sheet notes_tell (record { before = x; now = y })
       → EndsStep tells (count + 1) now new end source lines out_tells (record { before = b; now = c }) sheet notes_tell
       (record { before = y; now = z })
       → Ended tells first new end source out_tells (record { before = a; now = c }) notes_tell (record { before = x; now = z })
-  ended_then first now new end source lines count out_tells a b c sheet notes_tell x y z one two s step = record {
+  ended_then {first} {now} {end} {lines} {count} {a} {b} {c} {sheet} {x} {y} {z} one two s step = record {
     lines = lines ++ step.lines;
     text = s.text ++ step.text;
     note = s.note ++ step.note;
@@ -293,18 +261,18 @@ module _ {T : Type 0} (tells : T → ℕ → List ℕ → List ℕ → List ℕ 
   -- ---- one line by itself
 
   -- where nothing waited before a step, and nothing waits behind it, its text was written
-  pub one_told_alone : (number : ℕ) (old new : T) (lines lines' : List (List ℕ)) (out_tells : Bool) (out : Change SinkShown)
-      (sheet sheet' : List ℕ) (notes_tell : Bool) (notes : Change SinkShown) → sheet ≡ [] → sheet' ≡ []
+  pub one_told_alone : {number : ℕ} {old new : T} {lines lines' : List (List ℕ)} {out_tells : Bool} {out : Change SinkShown}
+      {sheet sheet' : List ℕ} {notes_tell : Bool} {notes : Change SinkShown} → sheet ≡ [] → sheet' ≡ []
       → Steps tells number old new lines lines' out_tells out sheet sheet' notes_tell notes
       → TellsOne tells number old new lines lines' out_tells out notes_tell notes
-  one_told_alone number old new lines lines' out_tells out sheet sheet' notes_tell notes none empty step =
+  one_told_alone {number} {old} {new} {lines} {lines'} {out_tells} {out} {notes_tell} {notes} nothing empty step =
       by step.lines step.one step.told step.more
     where
       written_is : IsTrue out_tells → out.now.written ≡ out.before.written ++ step.text
       written_is on =
           let poured = step.poured on in
           let whole : step.text ≡ poured.gone =
-          sym (ap (λ t. t ++ step.text) none) ∙ poured.sheet_is ∙ ap (λ t. poured.gone ++ t) empty ∙ append-nil poured.gone in
+          sym (ap (λ t. t ++ step.text) nothing) ∙ poured.sheet_is ∙ ap (λ t. poured.gone ++ t) empty ∙ append-nil poured.gone in
           poured.written_is ∙ ap (λ t. out.before.written ++ t) (sym whole)
 
       by : (xs : List (List ℕ)) → length xs ≡ 1 → AreTold tells number old xs step.text step.note new → lines' ≡ lines ++ xs
@@ -327,15 +295,15 @@ module _ {T : Type 0} (tells : T → ℕ → List ℕ → List ℕ → List ℕ 
       by (x ∷ y ∷ xs) long told more = absurd (omega (arith, long))
 
   -- a line that was told by itself is a step behind which nothing waits
-  pub step_alone : (number : ℕ) (old new : T) (lines lines' : List (List ℕ)) (out_tells : Bool) (out : Change SinkShown)
-      (notes_tell : Bool) (notes : Change SinkShown)
+  pub step_alone : {number : ℕ} {old new : T} {lines lines' : List (List ℕ)} {out_tells : Bool} {out : Change SinkShown}
+      {notes_tell : Bool} {notes : Change SinkShown}
       → TellsOne tells number old new lines lines' out_tells out notes_tell notes
       → Steps tells number old new lines lines' out_tells out [] [] notes_tell notes
-  step_alone number old new lines lines' out_tells out notes_tell notes one = record {
+  step_alone one = record {
     lines = one.line ∷ [];
     text = one.text;
     note = one.note;
-    told = one_told number old new one.line one.text one.note one.told;
+    told = one_told one.told;
     one = refl;
     more = one.more;
     poured = λ on. record { gone = one.text; written_is = one.written on; sheet_is = sym (append-nil one.text) };

@@ -10,26 +10,13 @@ use Rattle.sender_fences.specs.declared.fence.Answer.TheVariants.{Taken, Again, 
 use Rattle.sender_fences.specs.Fences.{IsNext, IsPast, IsBeyond, is_next, is_past, behind, answer_of}
 
 -- the tests on plain numbers: e and n are a message's epoch and number, d and k a fence's
-next_test : ℕ → ℕ → ℕ → ℕ → Bool
-next_test e n d k = cond (e == d) (n == k + 1) (nat_lt d e && n == 1)
-
 next_by : (b : Bool) (e n d k : ℕ) → (e == d) ≡ b → cond b (n == k + 1) (nat_lt d e && n == 1) ≡ true
     → ((e ≡ d) × (n ≡ k + 1)) ⊎ ((d < e) × (n ≡ 1))
 next_by true e n d k h t = inl (grind (arith, nat_tests), grind (arith, nat_tests))
 next_by false e n d k h t = inr (grind (arith, nat_tests), grind (arith, nat_tests))
 
-not_next_by : (b : Bool) (e n d k : ℕ) → (e == d) ≡ b → cond b (n == k + 1) (nat_lt d e && n == 1) ≡ false
-    → (((e ≡ d) × (n ≡ k + 1)) ⊎ ((d < e) × (n ≡ 1))) → ⊥
-not_next_by true e n d k h t (inl x) = grind (arith, nat_tests)
-not_next_by true e n d k h t (inr x) = grind (arith, nat_tests)
-not_next_by false e n d k h t (inl x) = grind (arith, nat_tests)
-not_next_by false e n d k h t (inr x) = grind (arith, nat_tests)
-
 past_by : (e n d k : ℕ) → (nat_lt e d || (e == d && nat_le n k)) ≡ true → (e < d) ⊎ ((e ≡ d) × (n ≤ k))
 past_by e n d k h = grind (arith, nat_tests)
-
-not_past_by : (e n d k : ℕ) → (nat_lt e d || (e == d && nat_le n k)) ≡ false → ((e < d) ⊎ ((e ≡ d) × (n ≤ k))) → ⊥
-not_past_by e n d k h x = grind (arith, nat_tests)
 
 -- ---- messages
 
@@ -49,36 +36,23 @@ pub is_next_is : (f : Fence) (m : Numbered) → IsNext f m → is_next f m ≡ t
 unfolding is_next
 is_next_is f m h = is_next_by m.epoch m.number f.epoch f.number h
 
-pub next_not : (f : Fence) (m : Numbered) → is_next f m ≡ false → IsNext f m → ⊥
-unfolding is_next
-next_not f m h = not_next_by (m.epoch == f.epoch) m.epoch m.number f.epoch f.number refl h
-
 pub past_is : (f : Fence) (m : Numbered) → is_past f m ≡ true → IsPast f m
 unfolding is_past
 past_is f m h = past_by m.epoch m.number f.epoch f.number h
 
-pub past_not : (f : Fence) (m : Numbered) → is_past f m ≡ false → IsPast f m → ⊥
+pub is_past_is : (f : Fence) (m : Numbered) → IsPast f m → is_past f m ≡ true
 unfolding is_past
-past_not f m h = not_past_by m.epoch m.number f.epoch f.number h
+is_past_is f m past = grind (arith, nat_tests)
 
 -- a message comes before the next one, is it, or comes behind it, and no two of them
 next_past : (f : Fence) (m : Numbered) → IsNext f m → IsPast f m → ⊥
-next_past f m (inl x) (inl y) = omega (arith, x.0, y)
-next_past f m (inl x) (inr y) = omega (arith, x.0, x.1, y.0, y.1)
-next_past f m (inr x) (inl y) = omega (arith, x.0, y)
-next_past f m (inr x) (inr y) = omega (arith, x.0, y.0)
+next_past f m next past = grind arith
 
 next_beyond : (f : Fence) (m : Numbered) → IsNext f m → IsBeyond f m → ⊥
-next_beyond f m (inl x) (inl y) = omega (arith, x.1, y.1)
-next_beyond f m (inl x) (inr y) = omega (arith, x.0, y.0)
-next_beyond f m (inr x) (inl y) = omega (arith, x.0, y.0)
-next_beyond f m (inr x) (inr y) = y.1 x.1
+next_beyond f m next beyond = grind arith
 
 past_beyond : (f : Fence) (m : Numbered) → IsPast f m → IsBeyond f m → ⊥
-past_beyond f m (inl x) (inl y) = omega (arith, x, y.0)
-past_beyond f m (inl x) (inr y) = omega (arith, x, y.0)
-past_beyond f m (inr x) (inl y) = omega (arith, x.1, y.1)
-past_beyond f m (inr x) (inr y) = omega (arith, x.0, y.0)
+past_beyond f m past beyond = grind arith
 
 beyond_by : (a b c : Bool) (e n d k : ℕ) → (e == d) ≡ a → nat_lt d e ≡ b → (n == 1) ≡ c
     → ((((e ≡ d) × (n ≡ k + 1)) ⊎ ((d < e) × (n ≡ 1))) → ⊥) → (((e < d) ⊎ ((e ≡ d) × (n ≤ k))) → ⊥)
@@ -104,7 +78,8 @@ judged_by true b f m n p = Follows (next_is f m n) (rw n refl) n
 judged_by false true f m n p = Came (past_is f m p) (rw (n, p) refl) n
 judged_by false false f m n p =
     Leaves (beyond_by (m.epoch == f.epoch) (nat_lt f.epoch m.epoch) (m.number == 1) m.epoch m.number f.epoch f.number refl refl refl
-    (next_not f m n) (past_not f m p)) (rw (n, p) refl) n
+    (λ next. let no : true ≡ false = sym (is_next_is f m next) ∙ n in cc)
+    (λ past. let no : true ≡ false = sym (is_past_is f m past) ∙ p in cc)) (rw (n, p) refl) n
 
 pub judged : (f : Fence) (m : Numbered) → Judged f m
 judged f m = judged_by (is_next f m) (is_past f m) f m refl refl

@@ -1,5 +1,6 @@
 -- The sender of a message among all.
-use Rattle.std.proofs.Common.{ℕ, suc, zero, ◌≡◌, ◌+◌, ◌<◌, ◌≤◌, take, Bool, true, false, cond, List, [], ◌∷◌, ◌++◌, map, length, get_or, position, slice_get, Option, Some, None, is_some, arith, refl, sym, ap, subst, ◌∙◌}
+use Rattle.std.proofs.Common.{ℕ, suc, zero, ◌≡◌, ◌+◌, ◌<◌, ◌≤◌, take, Bool, true, false, cond, List, [], ◌∷◌, ◌++◌, map, length, get_or, position, slice_get, Option, Some, None, is_some, inl, inr, arith, refl, sym, ap, subst, ◌∙◌}
+use Rattle.std.proofs.lemmas.Bool.{cases_Bool, cond-false, cond-true}
 use Rattle.std.proofs.lemmas.List.{map-append, take_more, take_all, length-map}
 use Rattle.std.proofs.lemmas.Option.{slice_get_within, get_or_from_slice_get}
 use Rattle.std.proofs.lemmas.List.Quantifiers.{position-Some}
@@ -28,19 +29,15 @@ module _ {K : Type 0} (items : K → List ℕ) (name : List ℕ) (m : Numbered) 
 
   -- ---- no sender has the name
 
-  none_by : (b : Bool) (e : K × Fence) (es : List (K × Fence)) → is_own e.0 ≡ b → lookup is_own (e ∷ es) ≡ None
-      → (lookup is_own es ≡ None → kept es ≡ passed_in (kept es) name m) → kept (e ∷ es) ≡ passed_in (kept (e ∷ es)) name m
-  unfolding passed_in
-  none_by true e es is none later =
-      absurd (let found : Some e.1 ≡ None = subst (λ (x : Bool). cond x (Some e.1) (lookup is_own es) ≡ None) is none in cc)
-  none_by false e es is none later =
-      rw is (ap (λ (xs : List Sender). record { name = items e.0; fence = e.1 } ∷ xs)
-      (later (subst (λ (x : Bool). cond x (Some e.1) (lookup is_own es) ≡ None) is none)))
-
   none_stays : (es : List (K × Fence)) → lookup is_own es ≡ None → kept es ≡ passed_in (kept es) name m
   unfolding passed_in
   none_stays [] none = refl
-  none_stays (e ∷ es) none = none_by (is_own e.0) e es refl none (none_stays es)
+  none_stays (e ∷ es) none = elim (cases_Bool (is_own e.0)) [
+    | inl own ↦ absurd (let found : Some e.1 ≡ None = sym (cond-true (is_own e.0) (Some e.1) (lookup is_own es) own) ∙ none in cc)
+    | inr other ↦
+        let later = none_stays es (sym (cond-false (is_own e.0) (Some e.1) (lookup is_own es) other) ∙ none) in
+        rw other (ap (λ (xs : List Sender). record { name = items e.0; fence = e.1 } ∷ xs) later)
+  ]
 
   -- ---- the first one that has it
 

@@ -5,7 +5,7 @@ use Rattle.line_teller.proofs.telling.tell_lines.Goals as goal
 
 pub returns-in-Err-clause-ended : goal.returns-in-Err-clause-ended
 returns-in-Err-clause-ended g c = λ tells.
-    ended_then g.T.Teller.tells _ _ _ _ _ _ _ _ _ _ _ _ _ _ _ _ c.lines.invariant.later_notes c.tell_next.ensures.later_notes
+    ended_then g.T.Teller.tells c.lines.invariant.later_notes c.tell_next.ensures.later_notes
     (c.lines.invariant.stands tells) (c.in-Err.ensures.ended tells)
 
 pub lines-preserved : goal.lines-preserved
@@ -15,7 +15,7 @@ lines-preserved g c = record {
   few = c.tell_next.ensures.few;
   empty = c.in_default.ensures.empty;
   stands = λ tells.
-      stands_on g.T.Teller.tells _ _ _ _ _ _ _ c.in_default.ensures.next.1 _ _ _ _ _ _ _ _ _ _ c.lines.invariant.later_notes
+      stands_on g.T.Teller.tells c.in_default.ensures.next.1 c.lines.invariant.later_notes
       c.tell_next.ensures.later_notes
       (c.lines.invariant.stands tells) (c.in_default.ensures.told tells);
   later = omega arith;

@@ -6,4 +6,4 @@ use Rattle.line_teller.proofs.telling.tell_one.Goals as goal
 pub returns-clause-told : goal.returns-clause-told
 returns-clause-told g c =
     ok_both c.tell_next.result _ _ _ c.tell_next.ensures.told c.tell_next.ensures.all (λ told all tells.
-    one_told_alone g.T.Teller.tells _ _ _ _ _ _ _ _ _ _ _ c.requires.no_text (all refl) (told tells))
+    one_told_alone g.T.Teller.tells c.requires.no_text (all refl) (told tells))

@@ -5,7 +5,7 @@ use Rattle.line_teller.proofs.telling.tell_one_by_one.Goals as goal
 
 pub returns-in-Err-clause-ended : goal.returns-in-Err-clause-ended
 returns-in-Err-clause-ended g c = λ tells.
-    ended_then g.T.Teller.tells _ _ _ _ _ _ _ _ _ _ _ _ _ _ _ _ c.lines.invariant.later_notes c.tell_one.ensures.later_notes
+    ended_then g.T.Teller.tells c.lines.invariant.later_notes c.tell_one.ensures.later_notes
     (c.lines.invariant.stands tells) (c.in-Err.ensures.ended tells)
 
 pub lines-preserved : goal.lines-preserved
@@ -16,9 +16,9 @@ lines-preserved g c = record {
   no_text = c.in_default.ensures.no_text;
   no_note = c.in_default.ensures.no_note;
   stands = λ tells.
-      stands_on g.T.Teller.tells _ _ _ _ _ _ _ c.in_default.ensures.next.1 _ _ _ _ _ _ _ _ _ _ c.lines.invariant.later_notes
+      stands_on g.T.Teller.tells c.in_default.ensures.next.1 c.lines.invariant.later_notes
       c.tell_one.ensures.later_notes
-      (c.lines.invariant.stands tells) (step_alone g.T.Teller.tells _ _ _ _ _ _ _ _ _ (c.in_default.ensures.told tells));
+      (c.lines.invariant.stands tells) (step_alone g.T.Teller.tells (c.in_default.ensures.told tells));
   later = omega arith;
   later_out = omega arith;
   later_notes = omega arith;
