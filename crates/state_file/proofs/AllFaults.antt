@@ -1,6 +1,7 @@
 -- Every faulty line of a state, and the first of them.
 use Rattle.std.proofs.Common.{◌≡◌, ◌⊎◌, inl, inr, ℕ, ◌+◌, Bool, true, false, cond, List, [], ◌∷◌, length, map, codes, Option, Some, None, Result, Ok, Err, refl, sym, ap, ◌∙◌, nat_lt, arith}
 use Rattle.std.specs.Str.Lines.{lines}
+use Rattle.std.proofs.lemmas.Bool.{cond-false, cond-true}
 use Rattle.std.proofs.lemmas.Bool.Decides.{nat_tests}
 use Rattle.lists.specs.Steps.{◌>>=◌}
 use Rattle.plain_text.specs.Parts.{is_word}
@@ -12,7 +13,6 @@ use Rattle.roster_file.specs.declared.roster.RosterFault.TheVariants as faulty
 use Rattle.roster_file.specs.Roster.{Enrolled, entries_from, own_of, roster_of}
 use Rattle.roster_file.specs.Faults as rosters
 use Rattle.roster_file.proofs.AllFaults.{first_fault_refuses as roster_refuses}
-use Rattle.state_file.specs.declared.fault.FileCause.TheVariants as causes
 use Rattle.state_file.specs.declared.fault.StateFault.{StateFault}
 use Rattle.state_file.specs.declared.fault.StateFault.TheVariants.{Roster, Line, Memory}
 use Rattle.state_file.specs.Whole.{Known, Progress, all_of, at_line, by_fault, by_roster, ended, headed, no_meters, of_roster, owned, read_more, starts_of, state_of, with_own}
@@ -102,12 +102,11 @@ headed_other : (entries : List (ℕ × List ℕ)) (end : ℕ) (faults : List Sta
     → faults_headed entries end faults ≡ faults
 unfolding faults_headed
 headed_other [] end faults other = refl
-headed_other (e ∷ entries) end faults other = ap (λ b. cond b (faults_owned entries end) faults) other
+headed_other (e ∷ entries) end faults other = cond-false _ _ _ other
 
 long_roster : (bytes : List ℕ) → nat_lt 1048576 (length bytes) ≡ true → rosters.faults_of bytes ≡ faulty.Line 0 roster.TooLong ∷ []
 unfolding rosters.faults_of
-long_roster bytes long =
-    ap (λ b. cond b (faulty.Line 0 roster.TooLong ∷ []) (rosters.faults_headed (entries_from 1 (lines bytes)) (length (lines bytes) + 1))) long
+long_roster bytes long = cond-true _ _ _ long
 
 pub others_are_rosters : (bytes : List ℕ) → is_state bytes ≡ false → state_faults_of bytes ≡ map by_fault (rosters.faults_of bytes)
 unfolding state_faults_of is_state
@@ -132,24 +131,3 @@ named r Memory other is = absurd (other refl)
 pub left_there : (fault : StateFault) (p q : Progress) → (fault ≡ Memory → ⊥) → (fault ≡ Memory) ⊎ (p ≡ q) → p ≡ q
 left_there fault p q other (inl is) = absurd (other is)
 left_there fault p q other (inr is) = is
-
-pub faults_missing : (p : Progress) (n end : ℕ) (entries : List (ℕ × List ℕ)) → entries ≡ [] → n ≡ end
-    → faults_in p entries end ≡ Line n (causes.Roster roster.Missing) ∷ []
-unfolding faults_in
-faults_missing p n end entries none same = rw (none, same) refl
-
-pub faults_end : (p : Progress) (e : ℕ × List ℕ) (entries all : List (ℕ × List ℕ)) (end : ℕ) → all ≡ e ∷ entries
-    → is_word e.1 (codes "end") ≡ true → faults_in p all end ≡ map behind_end entries
-unfolding faults_in
-faults_end p e entries all end first is = rw (first, is) refl
-
-pub faults_next : (p q : Progress) (e : ℕ × List ℕ) (entries all : List (ℕ × List ℕ)) (end : ℕ) → all ≡ e ∷ entries
-    → is_word e.1 (codes "end") ≡ false → at_line e.0 (read_more p e.1) ≡ Ok q → faults_in p all end ≡ faults_in q entries end
-unfolding faults_in
-faults_next p q e entries all end first is more = rw (first, is, more) refl
-
-pub faults_fault : (p : Progress) (fault : StateFault) (e : ℕ × List ℕ) (entries all : List (ℕ × List ℕ)) (end : ℕ) → all ≡ e ∷ entries
-    → is_word e.1 (codes "end") ≡ false → at_line e.0 (read_more p e.1) ≡ Err fault
-    → faults_in p all end ≡ fault ∷ faults_in (left_by p e.1) entries end
-unfolding faults_in
-faults_fault p fault e entries all end first is fails = rw (first, is, fails) refl

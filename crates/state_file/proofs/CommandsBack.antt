@@ -1,6 +1,6 @@
 -- The commands of a meter are read back.
-use Rattle.std.proofs.Common.{◌≡◌, ℕ, ◌<◌, ◌≤◌, ◌&&◌, nat_le, nat_lt, Bool, true, false, cond, List, [], ◌∷◌, ◌++◌, length, map, codes, Ok, Err, refl, ap, sym, subst, ◌∙◌, arith, append_assoc, length-append}
-use Rattle.std.proofs.lemmas.Bool.Decides.{nat_tests}
+use Rattle.std.proofs.Common.{◌≡◌, ℕ, ◌<◌, ◌≤◌, Bool, true, false, cond, List, [], ◌∷◌, ◌++◌, length, map, codes, Ok, Err, refl, ap, sym, subst, ◌∙◌, arith, append_assoc, length-append}
+use Rattle.std.proofs.lemmas.Bool.{and_from, le-leb, lt-ltb}
 use Rattle.std.proofs.lemmas.List.{append-nil}
 use Rattle.lists.specs.Each.{Each}
 use Rattle.command_queue.specs.declared.command.Command.{Command}
@@ -34,12 +34,6 @@ tries_at : (before : List Command) (d : Command) (after : List Command) → Only
 tries_at [] d after t = t.0
 tries_at (c ∷ before) d after t = let none = untried_at before d after t.1 in omega arith
 
-lt_true : (m n : ℕ) → m < n → nat_lt m n ≡ true
-lt_true m n h = grind (arith, nat_tests)
-
-le_true : (m n : ℕ) → m ≤ n → nat_le m n ≡ true
-le_true m n h = grind (arith, nat_tests)
-
 follows : (ids : ℕ) (before : List Command) (d : Command) (after : List Command) → IsSound (record { ids = ids; commands = before ++ d ∷ after })
     → may_follow (record { ids = ids; commands = before }) d ≡ true
 unfolding may_follow
@@ -47,10 +41,10 @@ follows ids before d after s =
     let few : length before < 8 = (let all = length-append before (d ∷ after) in let eight = s.few in omega arith) in
     let rise = rise_at 0 before d after ids s.rising in
     rw (
-      lt_true (length before) 8 few,
-      lt_true (newest_id 0 before) d.id rise.0,
-      le_true d.id ids rise.1,
-      le_true d.tries (most_tries before) (tries_at before d after s.tries),
+      lt-ltb (length before) 8 few,
+      lt-ltb (newest_id 0 before) d.id rise.0,
+      le-leb d.id ids rise.1,
+      le-leb d.tries (most_tries before) (tries_at before d after s.tries),
     ) refl
 
 taken : (c : Start) (waits : Bool) (d : Command) → window_fits c.orders.queue.commands d waits ≡ true → may_follow c.orders.queue d ≡ true
@@ -58,7 +52,7 @@ taken : (c : Start) (waits : Bool) (d : Command) → window_fits c.orders.queue.
 unfolding may_restore restored
 taken c waits d fits may =
     let k = c.orders in
-    let both : (window_fits k.queue.commands d waits && may_follow k.queue d) ≡ true = rw (fits, may) refl in
+    let both = and_from (window_fits k.queue.commands d waits) (may_follow k.queue d) fits may in
     ap (λ t. cond t (Ok (record c { orders = cond t (with_restored k d waits) k })) (Err causes.Command)) both
 
 -- ---- those behind the oldest
@@ -87,12 +81,6 @@ later_back c o os (d ∷ ds) s each =
 abbrev with_orders : Start → Window → List Command → Start
 with_orders c w cs = record c { orders = record c.orders { queue = record c.orders.queue { commands = cs }; window = w } }
 
-below : (n : ℕ) → n < 3 → nat_lt n 3 ≡ true
-below n h = grind (arith, nat_tests)
-
-one_up : (n : ℕ) → 1 ≤ n → nat_le 1 n ≡ true
-one_up n h = grind (arith, nat_tests)
-
 pub commands_back : (c : Start) (w : Window) (cs : List Command) → IsSound (record { ids = c.orders.queue.ids; commands = cs })
     → AgreesWith w cs → Each IsSpeltCommand cs
     → with_lines (with_orders c Idle []) (commands_lines w cs) ≡ Ok (with_orders c w cs)
@@ -103,14 +91,14 @@ commands_back c Idle (o ∷ ds) s agrees each =
     let now = with_orders c Idle [] in
     let more = with_orders c Idle (o ∷ []) in
     let read : with_line now (line_with (codes "command") (command_fields o)) ≡ Ok more =
-    command_back now o each.0 ∙ taken now false o (below o.tries agrees) (follows c.orders.queue.ids [] o ds s) in
+    command_back now o each.0 ∙ taken now false o (lt-ltb o.tries 3 agrees) (follows c.orders.queue.ids [] o ds s) in
     next now more (line_with (codes "command") (command_fields o)) (map (λ e. line_with (codes "command") (command_fields e)) ds) read
     ∙ later_back more o [] ds s each.1
 commands_back c (Waiting id) (o ∷ ds) s agrees each =
     let now = with_orders c Idle [] in
     let more = with_orders c (Waiting o.id) (o ∷ []) in
     let read : with_line now (line_with (codes "waits") (command_fields o)) ≡ Ok more =
-    waits_back now o each.0 ∙ taken now true o (one_up o.tries agrees.1) (follows c.orders.queue.ids [] o ds s) in
+    waits_back now o each.0 ∙ taken now true o (le-leb 1 o.tries agrees.1) (follows c.orders.queue.ids [] o ds s) in
     next now more (line_with (codes "waits") (command_fields o)) (map (λ e. line_with (codes "command") (command_fields e)) ds) read
     ∙ later_back more o [] ds s each.1
     ∙ ap (λ n. Ok (with_orders c (Waiting n) (o ∷ ds))) agrees.0

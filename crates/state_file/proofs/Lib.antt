@@ -8,10 +8,7 @@ pub mod WholeLength
 pub mod StateLines
 pub mod StatePieces
 pub mod Telling
-pub mod Rooms
 pub mod TooLong
-pub mod ReadSteps
-pub mod ReadMeters
 pub mod ReadHeld
 pub mod ReadLines
 pub mod ReadStates

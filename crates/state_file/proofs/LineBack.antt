@@ -1,9 +1,9 @@
 -- A line of a meter is read back.
-use Rattle.std.proofs.Common.{◌≡◌, ℕ, ◌-◌, ◌/◌, ◌^◌, ◌≤◌, ◌==◌, ◌&&◌, nat_le, Bool, true, false, cond, List, [], ◌∷◌, ◌++◌, length, drop, get_or, codes, Some, None, Ok, refl, ap, sym, ◌∙◌, arith}
+use Rattle.std.proofs.Common.{◌≡◌, ℕ, ◌-◌, ◌/◌, ◌^◌, ◌≤◌, ◌==◌, ◌&&◌, nat_le, true, false, cond, List, [], ◌∷◌, ◌++◌, length, drop, get_or, codes, Some, None, Ok, refl, ap, sym, ◌∙◌, arith}
 use Rattle.std.specs.Option.{ok_or}
 use Rattle.std.specs.Result.{result_ok}
 use Rattle.std.specs.Fmt.{decimal}
-use Rattle.std.proofs.lemmas.Bool.Decides.{nat_tests}
+use Rattle.std.proofs.lemmas.Bool.{and_from, and_right, cond-true, le-leb}
 use Rattle.hex.specs.Hex.{encode_lower, encode_with, decode_of, lower_digits, IsBytes}
 use Rattle.hex.proofs.HexLemmas.{decode_of-encode_lower}
 use Rattle.lists.specs.Each.{Each}
@@ -37,13 +37,9 @@ next c d line rest h = ap (λ r. r >>= λ e. with_lines e rest) h
 
 -- ---- a reading
 
-and_false : (b : Bool) → (b && false) ≡ false
-and_false true = refl
-and_false false = refl
-
 no_dash : (b : ℕ) (bytes : List ℕ) → is_word (encode_lower (b ∷ bytes)) (codes "-") ≡ false
 unfolding encode_with
-no_dash b bytes = and_false (get_or lower_digits (b / 16) 0 == 45)
+no_dash b bytes = and_right (get_or lower_digits (b / 16) 0 == 45) false refl
 
 bytes_back : (bytes : List ℕ) → IsBytes bytes → bytes_in (bytes_text bytes) ≡ Some bytes
 bytes_back [] is = refl
@@ -53,8 +49,7 @@ bytes_back (b ∷ bytes) is =
 
 payload_back : (bytes : List ℕ) → IsBytes bytes → length bytes ≤ 4096 → payload_in (bytes_text bytes) (bytes_in (bytes_text bytes)) ≡ Some bytes
 payload_back bytes is most =
-    let test : nat_le (length bytes) 4096 ≡ true = grind (arith, nat_tests) in
-    ap (payload_in (bytes_text bytes)) (bytes_back bytes is) ∙ ap (λ t. cond t (Some bytes) None) test
+    ap (payload_in (bytes_text bytes)) (bytes_back bytes is) ∙ cond-true _ _ None (le-leb (length bytes) 4096 most)
 
 reading_of_back : (r : Reading) → IsSpeltReading r
     → reading_of (decimal r.at ∷ decimal r.counter ∷ bytes_text r.payload ∷ []) ≡ Ok r
@@ -80,8 +75,7 @@ pub reading_back : (c : Start) (r : Reading) → c.reading ≡ None → IsSpeltR
     → with_line c (reading_line r) ≡ Ok (record c { reading = Some r })
 reading_back c r none is =
     let fields = decimal r.at ∷ decimal r.counter ∷ bytes_text r.payload ∷ [] in
-    ap (with_fields c) (fields_joined (codes "reading") fields (record { passed = refl })
-    (number_above 32 r.at (omega arith), (number_above 32 r.counter (omega arith), (bytes_word r.payload is.bytes, tt))))
+    ap (with_fields c) (fields_joined (codes "reading") fields (record { passed = refl }) (reading_words r is))
     ∙ ap (λ o. with_reading_in c o fields) none
     ∙ ap (λ x. x >>= λ s. Ok (record c { reading = Some s })) (reading_of_back r is)
 
@@ -112,15 +106,12 @@ piece_back part is =
 fragment_back : (part : Fragment) → IsSpeltPart part → fragment_of (spelt part) ≡ Some part
 unfolding fragment_of
 fragment_back part is =
-    let few : nat_le part.afl.fid 16 ≡ true = (let h = is.few in grind (arith, nat_tests)) in
-    let most : nat_le (length part.bytes) 242 ≡ true = (let h = is.most in grind (arith, nat_tests)) in
     let a = part.afl in
+    let tests = and_from _ _ (and_from _ _ is.fragment.fragment (le-leb a.fid 16 is.few)) (le-leb (length part.bytes) 242 is.most) in
     ap (fragment_with (spelt part)) (header_back part is)
     ∙ ap (λ b. cond (is_fragment a && nat_le a.fid 16 && nat_le (length b) 242) (Some (record { afl = a; bytes = b })) None)
     (piece_back part is)
-    ∙ ap (λ t. cond (t && nat_le a.fid 16 && nat_le (length part.bytes) 242) (Some part) None) is.fragment.fragment
-    ∙ ap (λ t. cond (t && nat_le (length part.bytes) 242) (Some part) None) few
-    ∙ ap (λ t. cond t (Some part) None) most
+    ∙ cond-true _ (Some part) None tests
 
 part_back : (part : Fragment) → IsSpeltPart part → part_of (encode_lower (spelt part) ∷ []) ≡ Ok part
 unfolding part_of
@@ -139,8 +130,7 @@ mark_words part is = (hex_word (spelt part) is.bytes, tt)
 pub mark_back : (c : Start) (before : List Told) (m : Told) → c.told ≡ cut_down before → IsSpeltMark m
     → with_line c (mark_line m) ≡ Ok (record c { told = cut_down (m ∷ before) })
 mark_back c before (Piece part) e is =
-    ap (with_fields c) (fields_joined (codes "part") (encode_lower (spelt part) ∷ []) (record { passed = refl })
-    (hex_word (spelt part) is.bytes, tt))
+    ap (with_fields c) (fields_joined (codes "part") (encode_lower (spelt part) ∷ []) (record { passed = refl }) (mark_words part is))
     ∙ ap (λ r. r >>= λ p. Ok (with_part c p)) (part_back part is)
     ∙ ap (λ t. Ok (record c { told = t })) (short_on (Piece part) c.told before e)
 mark_back c before Tick e is =
@@ -154,12 +144,9 @@ command_of_back : (d : Command) → IsSpeltCommand d → command_of (command_fie
 unfolding command_of
 command_of_back d is =
     let small = is.id in
-    let least : nat_le 1 (length d.payload) ≡ true = (let h = is.least in grind (arith, nat_tests)) in
-    let most : nat_le (length d.payload) 94 ≡ true = (let h = is.most in grind (arith, nat_tests)) in
     let read : command_bytes (result_ok (decode_of (encode_lower d.payload))) ≡ Some d.payload =
     ap (λ r. command_bytes (result_ok r)) (decode_of-encode_lower d.payload is.bytes)
-    ∙ ap (λ t. cond (t && nat_le (length d.payload) 94) (Some d.payload) None) least
-    ∙ ap (λ t. cond t (Some d.payload) None) most in
+    ∙ cond-true _ _ None (and_from _ _ (le-leb 1 (length d.payload) is.least) (le-leb (length d.payload) 94 is.most)) in
     rw (number_back (2 ^ 32 - 1) d.id (omega arith) (omega arith), number_back 3 d.tries (omega arith) is.tries, read) refl
 
 pub command_words : (d : Command) → IsSpeltCommand d → Each IsWord (command_fields d)

@@ -3,6 +3,7 @@ use Rattle.std.proofs.Common.{◌≡◌, ℕ, List, [], ◌∷◌, ◌++◌, map
 use Rattle.std.specs.Prelude.{IfSome}
 use Rattle.std.proofs.lemmas.List.{append-nil, reverse-append, reverse-reverse}
 use Rattle.lists.specs.Each.{Each}
+use Rattle.lists.proofs.Members.{each_push}
 use Rattle.afl_fragments.specs.Held.{Told}
 use Rattle.afl_fragments.specs.Short.{told_of, cut_down}
 use Rattle.afl_fragments.proofs.Holding.{held-nothing}
@@ -33,14 +34,10 @@ marks_back c before (m ∷ ms) rest e each =
     next c more (mark_line m) (map mark_line ms ++ rest) (mark_back c before m e each.0)
     ∙ marks_back more (m ∷ before) ms rest refl each.1
 
-each_on : (ms ns : List Told) → Each IsSpeltMark ms → Each IsSpeltMark ns → Each IsSpeltMark (ms ++ ns)
-each_on [] ns a b = b
-each_on (m ∷ ms) ns a b = (a.0, each_on ms ns a.1 b)
-
 pub each_reverse : (ms : List Told) → Each IsSpeltMark ms → Each IsSpeltMark (reverse ms)
 each_reverse [] each = tt
 each_reverse (m ∷ ms) each =
-    subst (Each IsSpeltMark) (sym (reverse-append (m ∷ []) ms)) (each_on (reverse ms) (m ∷ []) (each_reverse ms each.1) (each.0, tt))
+    subst (Each IsSpeltMark) (sym (reverse-append (m ∷ []) ms)) (each_push IsSpeltMark (reverse ms) m (each_reverse ms each.1) each.0)
 
 reading_first : (c : Start) (o : Option Reading) (rest : List (List ℕ)) → c.reading ≡ None → IfSome o IsSpeltReading
     → with_lines c (reading_lines o ++ rest) ≡ with_lines (record c { reading = o }) rest

@@ -1,7 +1,8 @@
 -- What is held of fragments that can be sent: sixteen at most, each of which can be sent.
-use Rattle.std.proofs.Common.{◌≡◌, ℕ, ◌+◌, ◌<◌, ◌≤◌, ◌==◌, ◌||◌, ◌&&◌, nat_le, eqb, Bool, true, false, cond, List, [], ◌∷◌, length, map, filter, refl, sym, subst, arith}
+use Rattle.std.proofs.Common.{◌≡◌, ℕ, ◌+◌, ◌<◌, ◌≤◌, ◌==◌, ◌||◌, ◌&&◌, nat_le, eqb, Bool, true, false, cond, List, [], ◌∷◌, length, map, filter, refl, sym, subst, ⊎_elim, arith}
 use Rattle.std.specs.Prelude.{count_by}
 use Rattle.std.specs.List.{list_any, IsDistinct, AllByRecursion}
+use Rattle.std.proofs.lemmas.Bool.{eq-eqb, or_cases}
 use Rattle.std.proofs.lemmas.Bool.Decides.{nat_tests}
 use Rattle.std.proofs.lemmas.List.{length-map}
 use Rattle.std.proofs.lemmas.List.Sums.{sum_by-cons}
@@ -58,9 +59,6 @@ none_behind : (b : Bool) (n all : ℕ) → b ≡ true → all ≡ cond b 1 0 + n
 none_behind true n all is sum once = omega arith
 none_behind false n all is sum once = absurd cc
 
-itself : (n : ℕ) → (n == n) ≡ true
-itself n = grind (arith, nat_tests)
-
 flipped : (m n : ℕ) → (m == n) ≡ false → eqb n m ≡ false
 flipped m n h = grind (arith, nat_tests)
 
@@ -75,7 +73,7 @@ unfolding IsDistinct
 distinct [] once = tt
 distinct (h ∷ hs) once =
     let own = h.part.afl.fid in
-    let none = none_behind (is_fid own h) (count_by (is_fid own) hs) _ (itself own) (counted own h hs) (once own) in (
+    let none = none_behind (is_fid own h) (count_by (is_fid own) hs) _ (eq-eqb own own refl) (counted own h hs) (once own) in (
       others_differ own hs none,
       distinct hs (λ f. once_behind (is_fid f h) (count_by (is_fid f) hs) _ (counted f h hs) (once f)),
     )
@@ -92,24 +90,20 @@ no_zero (h ∷ hs) each =
     let is = each.0.fragment in
     (from_one h.part.afl.more h.part.afl.fid is.fragment is.numbered, no_zero hs each.1)
 
-one_of_two : {P : Type 0} (b c : Bool) → (b || c) ≡ true → (b ≡ true → P) → (c ≡ true → P) → P
-one_of_two true c h one other = one refl
-one_of_two false c h one other = other h
-
 same_below : (q n : ℕ) → n ≤ 16 → eqb q n ≡ true → q < 17
 same_below q n few h = grind (arith, nat_tests)
 
 all_below : (hs : List HeldPart) → Each HasSpelt hs → (q : ℕ) → list_any (eqb q) (numbers hs) ≡ true → q < 17
 all_below [] each q h = absurd cc
 all_below (h ∷ hs) each q is =
-    one_of_two (eqb q h.part.afl.fid) (list_any (eqb q) (numbers hs)) is (same_below q h.part.afl.fid each.0.few)
-    (all_below hs each.1 q)
+    ⊎_elim (same_below q h.part.afl.fid each.0.few) (all_below hs each.1 q)
+    (or_cases (eqb q h.part.afl.fid) (list_any (eqb q) (numbers hs)) is)
 
 pub few_held : (told : List Told) → Each HasSpelt (held told) → length (held told) ≤ 16
 unfolding IsDistinct
 few_held told each =
     let hs = held told in
     let few = length-le_from_distinct_below (0 ∷ numbers hs) 17 (no_zero hs each, distinct hs (each_number_is_held_once told))
-    (λ q h. one_of_two (eqb q 0) (list_any (eqb q) (numbers hs)) h (same_below q 0 (omega arith)) (all_below hs each q)) in
+    (λ q h. ⊎_elim (same_below q 0 (omega arith)) (all_below hs each q) (or_cases (eqb q 0) (list_any (eqb q) (numbers hs)) h)) in
     let same = length-map hs (λ h. h.part.afl.fid) in
     omega arith

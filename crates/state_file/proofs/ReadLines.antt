@@ -1,10 +1,15 @@
 -- A line below a meter's line leaves what can be told.
-use Rattle.std.proofs.Common.{◌≡◌, ℕ, ◌-◌, ◌^◌, ◌≤◌, ◌==◌, ◌&&◌, nat_le, zero, suc, Bool, true, false, cond, List, [], ◌∷◌, ◌++◌, length, drop, codes, Option, Some, None, Result, Ok, Err, refl, ap, sym, subst, ◌∙◌, arith}
+use Rattle.std.proofs.Common.{◌≡◌, ℕ, ◌-◌, ◌^◌, ◌≤◌, ◌==◌, ◌&&◌, nat_le, zero, suc, Bool, true, false, cond, List, [], ◌∷◌, ◌++◌, length, drop, codes, Option, Some, None, Result, Ok, Err, refl, ap, sym, subst, ◌∙◌, arith, inl, inr}
 use Rattle.std.specs.Prelude.{slice_get, slice_index}
 use Rattle.std.specs.Result.{result_ok}
+use Rattle.std.proofs.lemmas.Bool.{and_parts, cond-true, eqb-true, leb-true}
 use Rattle.std.proofs.lemmas.Bool.Decides.{nat_tests}
 use Rattle.std.proofs.lemmas.List.{drop_at}
 use Rattle.hex.specs.Hex.{decode_of, IsBytes}
+use Rattle.hex.specs.declared.error.FromHexError.{FromHexError}
+use Rattle.hex.proofs.HexLemmas.{decode_of-ok}
+use Rattle.lists.proofs.Choices.{chosen, some_if}
+use Rattle.lists.proofs.Members.{each_push}
 use Rattle.plain_text.specs.Numbers.{number_of}
 use Rattle.plain_text.specs.Parts.{fields_of, is_word}
 use Rattle.afl_layer.specs.declared.header.Afl.{Afl}
@@ -29,15 +34,22 @@ use Rattle.state_file.specs.State.{bytes_in, payload_in, reading_of, with_readin
 use Rattle.state_file.specs.Text.{spelt, IsSpeltReading, IsSpeltPart, IsSpeltMark, IsSpeltCommand}
 use Rattle.state_file.specs.Written.{IsStart}
 use Rattle.state_file.proofs.Telling.{marks_told, told_len}
-use Rattle.state_file.proofs.ReadSteps.{Gives, gives_ok, gives_err, gives_where, gives_then, gives_some, gives_field, number_within, decoded, each_push}
+use Rattle.roster_file.proofs.Gives.{Gives, gives_ok, gives_err, gives_where, gives_then, gives_some, gives_field}
+use Rattle.roster_file.proofs.Enrolling.{number_within}
 use Rattle.state_file.proofs.ReadHeld.{held_spelt, few_held}
 
-both : (a b : Bool) → (a && b) ≡ true → (a ≡ true) × (b ≡ true)
-both true b h = (refl, h)
-both false b h = absurd cc
+-- it can be told, and has the address of another
+pub record Stays (c d : Start) : Type 0 where
+  pub start : IsStart d
+  pub same : d.address ≡ c.address
 
-at_most : (m n : ℕ) → nat_le m n ≡ true → m ≤ n
-at_most m n h = grind (arith, nat_tests)
+-- what is read of hexadecimal digits are bytes
+decoded : (text bytes : List ℕ) → result_ok (decode_of text) ≡ Some bytes → IsBytes bytes
+decoded text bytes h = by_answer (decode_of text) refl h
+  where
+    by_answer : (d : Result (List ℕ) FromHexError) → decode_of text ≡ d → result_ok d ≡ Some bytes → IsBytes bytes
+    by_answer (Ok read) is given = let same : read ≡ bytes = cc in subst IsBytes same (decode_of-ok text read is).3
+    by_answer (Err e) is given = absurd cc
 
 -- ---- a reading
 
@@ -51,16 +63,11 @@ bytes_fit text bytes h = by_dash (is_word text (codes "-")) h
 payload_fits : (text payload : List ℕ) → payload_in text (bytes_in text) ≡ Some payload → IsBytes payload × (length payload ≤ 4096)
 payload_fits text payload h = by_bytes (bytes_in text) refl h
   where
-    by_test : (bytes : List ℕ) (b : Bool) → nat_le (length bytes) 4096 ≡ b → bytes_in text ≡ Some bytes
-        → cond b (Some bytes) None ≡ Some payload → IsBytes payload × (length payload ≤ 4096)
-    by_test bytes true few is given =
-        let same : bytes ≡ payload = cc in
-        subst (λ xs. IsBytes xs × (length xs ≤ 4096)) same (bytes_fit text bytes is, at_most (length bytes) 4096 few)
-    by_test bytes false few is given = absurd cc
-
     by_bytes : (o : Option (List ℕ)) → bytes_in text ≡ o → payload_in text o ≡ Some payload → IsBytes payload × (length payload ≤ 4096)
     by_bytes None is given = absurd cc
-    by_bytes (Some bytes) is given = by_test bytes (nat_le (length bytes) 4096) refl is given
+    by_bytes (Some bytes) is given =
+        let test = some_if (nat_le (length bytes) 4096) bytes payload given in
+        subst (λ xs. IsBytes xs × (length xs ≤ 4096)) test.1 (bytes_fit text bytes is, leb-true (length bytes) 4096 test.0)
 
 reading_fits : (fields : List (List ℕ)) → Gives IsSpeltReading (reading_of fields)
 unfolding reading_of
@@ -92,11 +99,11 @@ start_read c r is reading = record {
   few = is.few;
 }
 
-reading_leaves : (c : Start) (o : Option Reading) (fields : List (List ℕ)) → IsStart c → Gives IsStart (with_reading_in c o fields)
+reading_leaves : (c : Start) (o : Option Reading) (fields : List (List ℕ)) → IsStart c → Gives (Stays c) (with_reading_in c o fields)
 reading_leaves c None fields is =
-    gives_then IsStart (reading_of fields) _ (λ r h.
-    gives_ok IsStart (record c { reading = Some r }) (start_read c r is (reading_fits fields r h)))
-reading_leaves c (Some before) fields is = gives_err IsStart _
+    gives_then (Stays c) (reading_of fields) _ (λ r h.
+    gives_ok (Stays c) (record c { reading = Some r }) (record { start = start_read c r is (reading_fits fields r h); same = refl }))
+reading_leaves c (Some before) fields is = gives_err (Stays c) _
 
 -- ---- a fragment, and a tick
 
@@ -131,39 +138,28 @@ spelt_part bytes a is begins fragment few most = record {
   bytes = spelt_bytes bytes a is begins;
 }
 
-first_is : (bytes : List ℕ) (b : Bool) → (slice_index bytes 0 == 0x90) ≡ b → b ≡ true → slice_get bytes 0 ≡ Some 0x90
-first_is [] b is h = absurd (grind (arith, nat_tests))
-first_is (x ∷ xs) b is h = let same : x ≡ 0x90 = grind (arith, nat_tests) in ap Some same
-
-three : (a b c : Bool) → (a && b && c) ≡ true → (a ≡ true) × (b ≡ true) × (c ≡ true)
-three true true c h = (refl, refl, h)
-three true false c h = absurd cc
-three false b c h = absurd cc
-
-headed_fits : (bytes : List ℕ) (part : Fragment) (a : Afl) (b : Bool)
-    → (is_fragment a && nat_le a.fid 16 && nat_le (length (drop a.len bytes)) 242) ≡ b → IsBytes bytes → BeginsWithAfl bytes a
-    → cond b (Some (record { afl = a; bytes = drop a.len bytes })) None ≡ Some part → IsSpeltPart part
-headed_fits bytes part a true test is begins given =
-    let made : Fragment = record { afl = a; bytes = drop a.len bytes } in
-    let same : made ≡ part = cc in
-    let tests = three (is_fragment a) (nat_le a.fid 16) (nat_le (length (drop a.len bytes)) 242) test in
-    subst IsSpeltPart same
-    (spelt_part bytes a is begins tests.0 (at_most a.fid 16 tests.1) (at_most (length (drop a.len bytes)) 242 tests.2))
-headed_fits bytes part a false test is begins given = absurd cc
+first_is : (bytes : List ℕ) → (slice_index bytes 0 == 0x90) ≡ true → slice_get bytes 0 ≡ Some 0x90
+first_is [] h = absurd (grind (arith, nat_tests))
+first_is (x ∷ xs) h = ap Some (eqb-true x 0x90 h)
 
 with_header : (bytes : List ℕ) (part : Fragment) (r : Result Afl AflFault) → afl_at bytes ≡ r → IsBytes bytes
     → slice_get bytes 0 ≡ Some 0x90 → fragment_with bytes r ≡ Some part → IsSpeltPart part
 with_header bytes part (Err fault) at is first given = absurd cc
-with_header bytes part (Ok a) at is first given = headed_fits bytes part a _ refl is (takes bytes a first is at) given
-
-by_first : (bytes : List ℕ) (part : Fragment) (b : Bool) → (slice_index bytes 0 == 0x90) ≡ b → IsBytes bytes
-    → cond b (fragment_with bytes (afl_at bytes)) None ≡ Some part → IsSpeltPart part
-by_first bytes part true first is given = with_header bytes part (afl_at bytes) refl is (first_is bytes true first refl) given
-by_first bytes part false first is given = absurd cc
+with_header bytes part (Ok a) at is first given =
+    let made : Fragment = record { afl = a; bytes = drop a.len bytes } in
+    let test = some_if (is_fragment a && nat_le a.fid 16 && nat_le (length (drop a.len bytes)) 242) made part given in
+    let most = and_parts (is_fragment a && nat_le a.fid 16) (nat_le (length (drop a.len bytes)) 242) test.0 in
+    let few = and_parts (is_fragment a) (nat_le a.fid 16) most.0 in
+    subst IsSpeltPart test.1
+    (spelt_part bytes a is (takes bytes a first is at) few.0 (leb-true a.fid 16 few.1) (leb-true (length (drop a.len bytes)) 242 most.1))
 
 fragment_fits : (bytes : List ℕ) (part : Fragment) → IsBytes bytes → fragment_of bytes ≡ Some part → IsSpeltPart part
 unfolding fragment_of
-fragment_fits bytes part is h = by_first bytes part (slice_index bytes 0 == 0x90) refl is h
+fragment_fits bytes part is h =
+    elim (chosen (slice_index bytes 0 == 0x90) (fragment_with bytes (afl_at bytes)) None (Some part) h) [
+      | inl begins ↦ with_header bytes part (afl_at bytes) refl is (first_is bytes begins.0) begins.1
+      | inr other ↦ cc other.1
+    ]
 
 fragment_in_fits : (text : List ℕ) (part : Fragment) (o : Option (List ℕ)) → result_ok (decode_of text) ≡ o → fragment_in o ≡ Some part
     → IsSpeltPart part
@@ -192,14 +188,15 @@ start_told c m is mark =
       few = told_len (held (m ∷ c.told)) (few_held (m ∷ c.told) spelt);
     }
 
-part_leaves : (c : Start) (fields : List (List ℕ)) → IsStart c → Gives IsStart (with_part_in c fields)
+part_leaves : (c : Start) (fields : List (List ℕ)) → IsStart c → Gives (Stays c) (with_part_in c fields)
 part_leaves c fields is =
-    gives_then IsStart (part_of fields) _ (λ part h.
-    gives_ok IsStart (with_part c part) (start_told c (Piece part) is (part_fits fields part h)))
+    gives_then (Stays c) (part_of fields) _ (λ part h.
+    gives_ok (Stays c) (with_part c part) (record { start = start_told c (Piece part) is (part_fits fields part h); same = refl }))
 
-tick_leaves : (c : Start) (fields : List (List ℕ)) → IsStart c → Gives IsStart (with_tick c fields)
-tick_leaves c [] is = gives_ok IsStart (record c { told = cut_down (Tick ∷ c.told) }) (start_told c Tick is tt)
-tick_leaves c (f ∷ fields) is = gives_err IsStart _
+tick_leaves : (c : Start) (fields : List (List ℕ)) → IsStart c → Gives (Stays c) (with_tick c fields)
+tick_leaves c [] is =
+    gives_ok (Stays c) (record c { told = cut_down (Tick ∷ c.told) }) (record { start = start_told c Tick is tt; same = refl })
+tick_leaves c (f ∷ fields) is = gives_err (Stays c) _
 
 -- ---- a command
 
@@ -209,17 +206,12 @@ IsSaid bytes = IsBytes bytes × (1 ≤ length bytes) × (length bytes ≤ 94)
 said_fits : (text payload : List ℕ) → command_bytes (result_ok (decode_of text)) ≡ Some payload → IsSaid payload
 said_fits text payload h = by_bytes (result_ok (decode_of text)) refl h
   where
-    by_test : (bytes : List ℕ) (b : Bool) → (nat_le 1 (length bytes) && nat_le (length bytes) 94) ≡ b
-        → result_ok (decode_of text) ≡ Some bytes → cond b (Some bytes) None ≡ Some payload → IsSaid payload
-    by_test bytes true test is given =
-        let same : bytes ≡ payload = cc in
-        let tests = both (nat_le 1 (length bytes)) (nat_le (length bytes) 94) test in
-        subst IsSaid same (decoded text bytes is, at_most 1 (length bytes) tests.0, at_most (length bytes) 94 tests.1)
-    by_test bytes false test is given = absurd cc
-
     by_bytes : (o : Option (List ℕ)) → result_ok (decode_of text) ≡ o → command_bytes o ≡ Some payload → IsSaid payload
     by_bytes None is given = absurd cc
-    by_bytes (Some bytes) is given = by_test bytes _ refl is given
+    by_bytes (Some bytes) is given =
+        let test = some_if (nat_le 1 (length bytes) && nat_le (length bytes) 94) bytes payload given in
+        let tests = and_parts (nat_le 1 (length bytes)) (nat_le (length bytes) 94) test.0 in
+        subst IsSaid test.1 (decoded text bytes is, leb-true 1 (length bytes) tests.0, leb-true (length bytes) 94 tests.1)
 
 command_fits : (fields : List (List ℕ)) → Gives IsSpeltCommand (command_of fields)
 unfolding command_of
@@ -239,7 +231,7 @@ command_fits (i ∷ t ∷ p ∷ q ∷ more) = gives_err IsSpeltCommand _
 followed : (k : Orders) (d : Command) → may_follow k.queue d ≡ true
     → record k.queue { commands = k.queue.commands ++ d ∷ [] } ≡ with_follower k.queue d
 unfolding with_follower
-followed k d may = sym (ap (λ b. cond b (record k.queue { commands = k.queue.commands ++ d ∷ [] }) k.queue) may)
+followed k d may = sym (cond-true _ _ k.queue may)
 
 window_agrees : (k : Orders) (d : Command) (waits : Bool) → IsSound k.queue → Agrees k.window k.queue → may_follow k.queue d ≡ true
     → window_fits k.queue.commands d waits ≡ true
@@ -262,32 +254,33 @@ start_asked c waits d is command fits may = record {
   few = is.few;
 }
 
-command_leaves : (c : Start) (waits : Bool) (d : Command) → IsStart c → IsSpeltCommand d → Gives IsStart (with_command c waits d)
+command_leaves : (c : Start) (waits : Bool) (d : Command) → IsStart c → IsSpeltCommand d → Gives (Stays c) (with_command c waits d)
 unfolding may_restore restored
 command_leaves c waits d is command =
     by_test (window_fits c.orders.queue.commands d waits && may_follow c.orders.queue d) refl
   where
     by_test : (b : Bool) → (window_fits c.orders.queue.commands d waits && may_follow c.orders.queue d) ≡ b
-        → Gives IsStart (cond b (Ok (record c { orders = cond b (with_restored c.orders d waits) c.orders })) (Err causes.Command))
+        → Gives (Stays c) (cond b (Ok (record c { orders = cond b (with_restored c.orders d waits) c.orders })) (Err causes.Command))
     by_test true test =
-        let tests = both (window_fits c.orders.queue.commands d waits) (may_follow c.orders.queue d) test in
-        gives_ok IsStart (record c { orders = with_restored c.orders d waits }) (start_asked c waits d is command tests.0 tests.1)
-    by_test false test = gives_err IsStart _
+        let tests = and_parts (window_fits c.orders.queue.commands d waits) (may_follow c.orders.queue d) test in
+        gives_ok (Stays c) (record c { orders = with_restored c.orders d waits })
+        (record { start = start_asked c waits d is command tests.0 tests.1; same = refl })
+    by_test false test = gives_err (Stays c) _
 
-asked_leaves : (c : Start) (waits : Bool) (fields : List (List ℕ)) → IsStart c → Gives IsStart (with_command_in c waits fields)
+asked_leaves : (c : Start) (waits : Bool) (fields : List (List ℕ)) → IsStart c → Gives (Stays c) (with_command_in c waits fields)
 asked_leaves c waits fields is =
-    gives_then IsStart (command_of fields) _ (λ d h. command_leaves c waits d is (command_fits fields d h))
+    gives_then (Stays c) (command_of fields) _ (λ d h. command_leaves c waits d is (command_fits fields d h))
 
 -- ---- all
 
-fields_leave : (c : Start) (fields : List (List ℕ)) → IsStart c → Gives IsStart (with_fields c fields)
-fields_leave c [] is = gives_err IsStart _
+fields_leave : (c : Start) (fields : List (List ℕ)) → IsStart c → Gives (Stays c) (with_fields c fields)
+fields_leave c [] is = gives_err (Stays c) _
 fields_leave c (kind ∷ fields) is =
-    gives_where IsStart (is_word kind (codes "reading")) _ _ (reading_leaves c c.reading fields is)
-    (gives_where IsStart (is_word kind (codes "part")) _ _ (part_leaves c fields is)
-    (gives_where IsStart (is_word kind (codes "tick")) _ _ (tick_leaves c fields is)
-    (gives_where IsStart (is_word kind (codes "waits")) _ _ (asked_leaves c true fields is)
-    (gives_where IsStart (is_word kind (codes "command")) _ _ (asked_leaves c false fields is) (gives_err IsStart _)))))
+    gives_where (Stays c) (is_word kind (codes "reading")) _ _ (reading_leaves c c.reading fields is)
+    (gives_where (Stays c) (is_word kind (codes "part")) _ _ (part_leaves c fields is)
+    (gives_where (Stays c) (is_word kind (codes "tick")) _ _ (tick_leaves c fields is)
+    (gives_where (Stays c) (is_word kind (codes "waits")) _ _ (asked_leaves c true fields is)
+    (gives_where (Stays c) (is_word kind (codes "command")) _ _ (asked_leaves c false fields is) (gives_err (Stays c) _)))))
 
-pub line_leaves : (c : Start) (line : List ℕ) → IsStart c → Gives IsStart (with_line c line)
+pub line_leaves : (c : Start) (line : List ℕ) → IsStart c → Gives (Stays c) (with_line c line)
 line_leaves c line is = fields_leave c (fields_of line) is

@@ -1,34 +1,26 @@
 -- A roster is read as a state.
-use Rattle.std.proofs.Common.{◌≡◌, ℕ, ◌+◌, ◌<◌, ◌≤◌, ◌&&◌, ◌==◌, nat_lt, Bool, true, false, cond, List, [], ◌∷◌, length, codes, Option, None, Result, Ok, Err, refl, sym, ap, ◌∙◌, arith}
+use Rattle.std.proofs.Common.{◌≡◌, ℕ, ◌+◌, ◌==◌, nat_lt, Bool, true, false, cond, List, [], ◌∷◌, length, codes, None, Result, Ok, refl, sym, ap, ◌∙◌, arith}
 use Rattle.std.specs.Option.{ok_or}
 use Rattle.std.specs.Str.Lines.{lines}
+use Rattle.std.proofs.lemmas.Bool.{and_parts, cond-false, eqb-true, false_from_ne_true, ltb-true}
 use Rattle.std.proofs.lemmas.Bool.Decides.{nat_tests}
 use Rattle.lists.specs.Steps.{◌>>=◌}
 use Rattle.plain_text.specs.Parts.{is_word}
 use Rattle.roster_file.specs.declared.roster.LineCause.TheVariants as roster
-use Rattle.roster_file.specs.declared.roster.RosterFault.TheVariants as faulty
 use Rattle.roster_file.specs.Roster.{Enrolled, at_line, entries_from, head_of, roster_of, headed as roster_headed, owned as roster_owned}
 use Rattle.roster_file.proofs.Enrolling.{too_long}
 use Rattle.state_file.specs.declared.fault.StateFault.{StateFault}
-use Rattle.state_file.specs.declared.fault.StateFault.TheVariants.{Roster}
 use Rattle.state_file.specs.Whole.{Known, fresh_known, headed, of_roster, owned, state_of}
 
 -- ---- the head
-
-both_true : (x y : Bool) → (x && y) ≡ true → (x ≡ true) × (y ≡ true)
-both_true true y h = (refl, h)
-both_true false y h = absurd cc
-
-same_number : (x y : ℕ) → (x == y) ≡ true → x ≡ y
-same_number x y h = grind (arith, nat_tests)
 
 word_is : (text word : List ℕ) → is_word text word ≡ true → text ≡ word
 word_is [] [] h = refl
 word_is [] (y ∷ ys) h = absurd cc
 word_is (x ∷ xs) [] h = absurd cc
 word_is (x ∷ xs) (y ∷ ys) h =
-    let both = both_true (x == y) (is_word xs ys) h in
-    ap (λ z. z ∷ xs) (same_number x y both.0) ∙ ap (λ zs. y ∷ zs) (word_is xs ys both.1)
+    let both = and_parts (x == y) (is_word xs ys) h in
+    ap (λ z. z ∷ xs) (eqb-true x y both.0) ∙ ap (λ zs. y ∷ zs) (word_is xs ys both.1)
 
 no_roster_head : (line : List ℕ) → is_word line (codes "wmbus-state 1") ≡ true → head_of line ≡ None
 no_roster_head line h = ap head_of (word_is line (codes "wmbus-state 1") h)
@@ -50,22 +42,16 @@ headed_roster (e ∷ entries) end r otherwise h = at (is_word e.1 (codes "wmbus-
 head_behind : (bytes : List ℕ) → nat_lt 1048576 (length bytes) ≡ false
     → roster_of bytes ≡ roster_headed (entries_from 1 (lines bytes)) (length (lines bytes) + 1)
 unfolding roster_of
-head_behind bytes short =
-    ap (λ b. cond b (Err (faulty.Line 0 roster.TooLong)) (roster_headed (entries_from 1 (lines bytes)) (length (lines bytes) + 1))) short
+head_behind bytes short = cond-false _ _ _ short
 
 state_is : (bytes : List ℕ) → nat_lt 134217728 (length bytes) ≡ false
     → state_of bytes ≡ headed (entries_from 1 (lines bytes)) (length (lines bytes) + 1) (of_roster (roster_of bytes))
 unfolding state_of
-state_is bytes short =
-    ap (λ b. cond b (Err (Roster 0 roster.TooLong)) (headed (entries_from 1 (lines bytes)) (length (lines bytes) + 1) (of_roster (roster_of bytes))))
-    short
+state_is bytes short = cond-false _ _ _ short
 
 pub is_short : (bytes : List ℕ) (r : Enrolled) → roster_of bytes ≡ Ok r → nat_lt 1048576 (length bytes) ≡ false
-is_short bytes r h = at (nat_lt 1048576 (length bytes)) refl
-  where
-    at : (b : Bool) → nat_lt 1048576 (length bytes) ≡ b → b ≡ false
-    at true test = absurd (let bad = too_long bytes (grind (arith, nat_tests)) in let good = h in cc)
-    at false test = refl
+is_short bytes r h =
+    false_from_ne_true _ (λ long. let bad = too_long bytes (ltb-true 1048576 (length bytes) long) in let good = h in cc)
 
 pub rosters_are_states : (bytes : List ℕ) (r : Enrolled) → roster_of bytes ≡ Ok r → state_of bytes ≡ Ok (fresh_known r)
 rosters_are_states bytes r h =

@@ -1,5 +1,5 @@
 -- The text of a state, piece by piece.
-use Rattle.std.proofs.Common.{◌≡◌, ℕ, zero, suc, ◌+◌, ◌<◌, ◌≤◌, Bool, true, false, cond, ◌||◌, List, [], ◌∷◌, ◌++◌, length, map, filter, reverse, codes, drop, take, slice_get, get_or, Option, Some, None, refl, ap, sym, ◌∙◌, arith, append_assoc}
+use Rattle.std.proofs.Common.{◌≡◌, ℕ, zero, suc, ◌+◌, ◌≤◌, Bool, true, false, cond, ◌||◌, List, [], ◌∷◌, ◌++◌, length, map, filter, reverse, codes, drop, take, slice_get, get_or, Option, Some, None, refl, ap, ap₂, sym, ◌∙◌, arith, append_assoc}
 use Rattle.std.specs.List.{flat_map}
 use Rattle.std.specs.Fmt.{decimal}
 use Rattle.std.proofs.lemmas.Grind.{flat_map-append}
@@ -21,6 +21,7 @@ use Rattle.access_window.specs.declared.window.Window.TheVariants.{Idle, Waiting
 use Rattle.meter_slots.specs.declared.reading.Reading.{Reading}
 use Rattle.meter_slots.specs.Journal.{Start, commission_of}
 use Rattle.roster_file.specs.Text.{meter_text}
+use Rattle.roster_file.proofs.LinePieces.{own_brackets}
 use Rattle.state_file.specs.Text.{line_with, bytes_text, spelt, reading_line, reading_lines, mark_line, command_fields, commands_lines}
 use Rattle.state_file.specs.Written.{ended_text, block_text}
 use Rattle.state_file.specs.Printing.{reading_text, readings_text, payload_text, part_text, is_kind, text_where, kind_if, some_kind, kind_text, has_kind, tick_text, marks_text, said_text, command_text, command_if, word_at, commands_text}
@@ -55,12 +56,9 @@ no_reading = is_put _ _ none_is none
 pub one_reading : {P : Type 0} {takes : P → List ℕ → P → Type 0} {p q : P} (r : Reading) → Puts takes p (reading_text r) q → Puts takes p (readings_text (Some r)) q
 one_reading r puts = is_put _ _ (one_is r) puts
 
-three_brackets : (w a : List ℕ) → (w ++ 32 ∷ a) ++ (10 ∷ []) ≡ (w ++ (32 ∷ [])) ++ a ++ (10 ∷ [])
-three_brackets w a = simp append_assoc refl
-
 part_is : (part : Fragment) → part_text part ≡ codes "part " ++ encode_lower (spelt part) ++ codes "\n"
 unfolding part_text
-part_is part = three_brackets (codes "part") (encode_lower (spelt part))
+part_is part = own_brackets (codes "part") (encode_lower (spelt part))
 
 pub part_pieces : {P : Type 0} {takes : P → List ℕ → P → Type 0} {p q r s : P} (part : Fragment) → Puts takes p (codes "part ") q → Puts takes q (encode_lower (spelt part)) r
     → Puts takes r (codes "\n") s → Puts takes p (part_text part) s
@@ -130,33 +128,19 @@ marks_are hs =
 
 -- ---- loops
 
-slot_found : (hs : List HeldPart) (n : ℕ) (o : Option HeldPart) → n < length hs → o ≡ slice_get hs n
-    → (h : HeldPart) × (o ≡ Some h) × (drop n hs ≡ h ∷ drop (n + 1) hs)
-slot_found hs n o within is =
-    (get_or hs n no_held, is ∙ slice_get-get_or hs n no_held within, drop_more hs n no_held within)
-
-kind_found : {P : Type 0} {takes : P → List ℕ → P → Type 0} {p q r : P} (fresh : Bool) (h : HeldPart) (front rest : List HeldPart)
-    (o : Option HeldPart) → o ≡ Some h → front ≡ h ∷ rest → Puts takes p (kind_text fresh rest) q → Puts takes q (kind_if fresh o) r
-    → Puts takes p (kind_text fresh front) r
-kind_found fresh h front rest o is all before one =
-    is_put (kind_text fresh front) (kind_text fresh rest ++ kind_if fresh o) (ap (kind_text fresh) all
-    ∙ ap (λ p. kind_text fresh rest ++ kind_if fresh p) (sym is)) (then before one)
-
-some_found : (fresh : Bool) (h : HeldPart) (front rest : List HeldPart) (o : Option HeldPart) (any one now : Bool) → o ≡ Some h → front ≡ h ∷ rest
-    → any ≡ has_kind fresh rest → one ≡ some_kind fresh o → now ≡ (one || any) → now ≡ has_kind fresh front
-some_found fresh h front rest o any one now is all before same either =
-    either ∙ ap (λ a. one || a) before ∙ ap (λ b. b || has_kind fresh rest) (same ∙ ap (some_kind fresh) is) ∙ sym (ap (has_kind fresh) all)
-
 pub kind_step : {P : Type 0} {takes : P → List ℕ → P → Type 0} {p q r : P} (fresh : Bool) (hs : List HeldPart) (n left : ℕ)
     (o : Option HeldPart) (any one now : Bool) → n + 1 ≡ left → left ≤ length hs → o ≡ slice_get hs n
     → Puts takes p (kind_text fresh (drop left hs)) q → Puts takes q (kind_if fresh o) r → any ≡ has_kind fresh (drop left hs)
     → one ≡ some_kind fresh o → now ≡ (one || any)
     → Puts takes p (kind_text fresh (drop n hs)) r × (now ≡ has_kind fresh (drop n hs)) × (n ≤ length hs)
 kind_step fresh hs n left o any one now up within is before put have same either =
-    let found = slot_found hs n o (omega arith) is in
-    let all : drop n hs ≡ found.0 ∷ drop left hs = found.2 ∙ ap (λ m. found.0 ∷ drop m hs) up in (
-      kind_found fresh found.0 (drop n hs) (drop left hs) o found.1 all before put,
-      some_found fresh found.0 (drop n hs) (drop left hs) o any one now found.1 all have same either,
+    let h : HeldPart = get_or hs n no_held in
+    let rest = drop left hs in
+    let found : o ≡ Some h = is ∙ slice_get-get_or hs n no_held (omega arith) in
+    let all : drop n hs ≡ h ∷ rest = drop_more hs n no_held (omega arith) ∙ ap (λ m. h ∷ drop m hs) up in (
+      is_put (kind_text fresh (drop n hs)) (kind_text fresh rest ++ kind_if fresh o) (ap (kind_text fresh) all
+          ∙ ap (λ p. kind_text fresh rest ++ kind_if fresh p) (sym found)) (then before put),
+      either ∙ ap₂ ◌||◌ (same ∙ ap (some_kind fresh) found) have ∙ sym (ap (has_kind fresh) all),
       omega arith,
     )
 

@@ -1,14 +1,15 @@
 -- What is known of a meter can be told.
-use Rattle.std.proofs.Common.{◌≡◌, ℕ, ◌+◌, ◌≤◌, List, [], ◌∷◌, ◌++◌, length, filter, not, Bool, true, false, cond, refl, sym, subst, ◌∙◌, arith, length-append}
+use Rattle.std.proofs.Common.{◌≡◌, ℕ, ◌+◌, ◌<◌, ◌^◌, map, ◌≤◌, List, [], ◌∷◌, length, filter, not, Bool, true, false, cond, refl, sym, subst, ◌∙◌, arith, length-append}
 use Rattle.std.specs.Prelude.{IfSome}
 use Rattle.std.specs.List.{All}
 use Rattle.std.proofs.lemmas.List.Elements.{All-head, All-tail}
 use Rattle.lists.specs.Each.{Each}
+use Rattle.lists.proofs.Members.{each_append}
 use Rattle.hex.specs.Hex.{IsBytes}
 use Rattle.afl_layer.specs.Header.{Fits}
 use Rattle.afl_fragments.specs.Fragment.{Fragment, IsFragment}
 use Rattle.state_file.specs.Text.{spelt}
-use Rattle.afl_fragments.specs.Held.{Told, held}
+use Rattle.afl_fragments.specs.Held.{held}
 use Rattle.afl_fragments.specs.Short.{pieces, ticked, told_of, cut_down}
 use Rattle.afl_fragments.specs.Places.{is_fresh}
 use Rattle.afl_fragments.specs.declared.places.HeldPart.{HeldPart}
@@ -18,12 +19,20 @@ use Rattle.access_window.specs.Orders.{Agrees}
 use Rattle.meter_address.specs.Commission.{IsCommission}
 use Rattle.meter_slots.specs.Journal.{Start, commission_of}
 use Rattle.state_file.specs.Text.{IsSpeltReading, IsSpeltPart, IsSpeltMark, IsSpeltCommand}
-use Rattle.state_file.specs.Written.{IsStart}
+use Rattle.state_file.specs.Rooms.{HasRoom}
+use Rattle.state_file.specs.Whole.{Known}
+use Rattle.state_file.specs.Written.{IsStart, IsState}
 use Rattle.state_file.specs.Telling.{HasSpelt, IsSayable}
 
 pub each_of : {A : Type 0} (P : A → Type 0) (xs : List A) → All P xs → Each P xs
 each_of P [] all = tt
 each_of P (x ∷ xs) all = (All-head P x xs all, each_of P xs (All-tail P x xs all))
+
+-- what is made of each
+pub each_made : {A B : Type 0} (P : A → Type 0) (Q : B → Type 0) (f : A → B) → ((x : A) → P x → Q (f x)) → (xs : List A) → Each P xs
+    → Each Q (map f xs)
+each_made P Q f one [] each = tt
+each_made P Q f one (x ∷ xs) each = (one x each.0, each_made P Q f one xs each.1)
 
 -- ---- fragments
 
@@ -46,17 +55,13 @@ pieces_told : (f : HeldPart → Bool) (hs : List HeldPart) → Each HasSpelt hs 
 pieces_told f [] each = tt
 pieces_told f (h ∷ hs) each = piece_where (f h) h (filter f hs) each.0 (pieces_told f hs each.1)
 
-marks_join : (xs ys : List Told) → Each IsSpeltMark xs → Each IsSpeltMark ys → Each IsSpeltMark (xs ++ ys)
-marks_join [] ys a b = b
-marks_join (x ∷ xs) ys a b = (a.0, marks_join xs ys a.1 b)
-
 ticked_told : (hs : List HeldPart) → Each IsSpeltMark (pieces hs) → Each IsSpeltMark (ticked hs)
 ticked_told [] each = tt
 ticked_told (h ∷ hs) each = (tt, each)
 
 pub marks_told : (hs : List HeldPart) → Each HasSpelt hs → Each IsSpeltMark (told_of hs)
 marks_told hs each =
-    marks_join (pieces (filter is_fresh hs)) (ticked (filter (λ h. not (is_fresh h)) hs)) (pieces_told is_fresh hs each)
+    each_append IsSpeltMark (pieces (filter is_fresh hs)) (ticked (filter (λ h. not (is_fresh h)) hs)) (pieces_told is_fresh hs each)
     (ticked_told (filter (λ h. not (is_fresh h)) hs) (pieces_told (λ h. not (is_fresh h)) hs each))
 
 pieces_len : (hs : List HeldPart) → length (pieces hs) ≡ length hs
@@ -119,3 +124,6 @@ can_be_told c short agrees sound commission reading few parts commands = record 
   };
   few = subst (λ ts. length ts ≤ 17) short (told_len (held c.told) few);
 }
+
+pub state_can_be_written : (s : Known) → s.own.0 < 2 ^ 64 → HasRoom s.starts → All IsStart s.starts → IsState s
+state_can_be_written s own room all = record { own = own; few = room.few; apart = room.apart; each = each_of IsStart s.starts all }

@@ -1,16 +1,17 @@
 -- A whole state is read back from its text.
-use Rattle.std.proofs.Common.{◌≡◌, ℕ, ◌+◌, ◌≤◌, ◌==◌, ◌||◌, nat_lt, nat_le, Bool, true, false, cond, List, [], ◌∷◌, ◌++◌, length, map, reverse, codes, Option, Some, None, Result, Ok, Err, refl, ap, sym, ◌∙◌, arith, append_assoc, length-append}
+use Rattle.std.proofs.Common.{◌≡◌, ℕ, ◌+◌, ◌≤◌, true, false, List, [], ◌∷◌, ◌++◌, length, map, reverse, codes, Option, Some, None, Result, Ok, refl, ap, sym, ◌∙◌, arith, append_assoc}
 use Rattle.std.specs.Prelude.{IfSome}
-use Rattle.std.specs.List.{flat_map, list_any}
+use Rattle.std.specs.List.{flat_map}
 use Rattle.std.specs.Fmt.{decimal}
 use Rattle.std.specs.Str.Lines.{lines}
+use Rattle.std.proofs.lemmas.Bool.{cond-false, le-ltb}
 use Rattle.std.proofs.lemmas.Bool.Decides.{nat_tests}
 use Rattle.std.proofs.lemmas.List.{append-nil}
 use Rattle.hex.specs.Hex.{encode_lower}
 use Rattle.lists.specs.Each.{Each}
-use Rattle.lists.specs.Steps.{◌>>=◌}
+use Rattle.lists.proofs.Members.{each_append}
+use Rattle.lists.proofs.StepLaws.{bind_ok}
 use Rattle.plain_text.specs.Parts.{fields_of, is_word}
-use Rattle.meter_address.specs.declared.address.Address.{Address}
 use Rattle.meter_address.specs.Address.{AreApart, text_of}
 use Rattle.meter_address.specs.Commission.{Commissioned}
 use Rattle.afl_fragments.specs.Held.{Told, Piece, Tick, Clear}
@@ -20,22 +21,20 @@ use Rattle.access_window.specs.declared.window.Window.TheVariants.{Idle, Waiting
 use Rattle.meter_slots.specs.declared.reading.Reading.{Reading}
 use Rattle.meter_slots.specs.Journal.{Start, commission_of}
 use Rattle.roster_file.specs.declared.fields.Version.TheVariants.{Two}
-use Rattle.roster_file.specs.declared.roster.LineCause.TheVariants as roster
 use Rattle.roster_file.specs.Roster.{entries_from, is_passed_over, meter_of, roster_of}
 use Rattle.roster_file.specs.Text.{own_text, meter_text}
 use Rattle.roster_file.proofs.RosterLines.{counted, none_left}
-use Rattle.roster_file.proofs.ReadBack.{meter_back, meter_line, meter_word, meter_words, behind_meter, own_line, own_word, own_words, own_back, eqb_swap}
+use Rattle.roster_file.proofs.ReadBack.{meter_back, meter_counts, meter_line, meter_word, meter_words, behind_meter, own_line, own_word, own_words, own_back, own_counts}
+use Rattle.roster_file.proofs.Apart.{new_behind, room_before}
 use Rattle.roster_file.proofs.Words.{IsWord, IsPrinted, fields_joined, joined_printed, ended_line}
-use Rattle.state_file.specs.declared.fault.FileCause.TheVariants as causes
-use Rattle.state_file.specs.declared.cause.StateCause.{StateCause}
 use Rattle.state_file.specs.declared.fault.StateFault.{StateFault}
-use Rattle.state_file.specs.declared.fault.StateFault.TheVariants.{Roster, Line}
 use Rattle.state_file.specs.State.{with_line, with_lines}
 use Rattle.state_file.specs.Text.{line_with, bytes_text, spelt, reading_line, reading_lines, mark_line, command_fields, commands_lines, start_lines, bare}
 use Rattle.state_file.specs.Text.{IsSpeltReading, IsSpeltMark, IsSpeltCommand, IsTold}
 use Rattle.state_file.specs.Whole.{Known, Progress, all_of, enlisted, headed, no_meters, of_roster, opens_meter, owned, read_more, starts_of, state_of}
 use Rattle.state_file.specs.Written.{ended_text, block_text, state_text, IsStart, IsState}
 use Rattle.state_file.proofs.LineBack.{reading_words, mark_words, command_words}
+use Rattle.state_file.proofs.Telling.{each_made}
 use Rattle.state_file.proofs.ReadBack.{lines_back, each_reverse}
 
 -- ---- a line below a meter's line
@@ -78,21 +77,12 @@ command_below d is =
 
 -- ---- all of them
 
-both_each : (xs ys : List (List ℕ)) → Each IsBelow xs → Each IsBelow ys → Each IsBelow (xs ++ ys)
-both_each [] ys a b = b
-both_each (x ∷ xs) ys a b = (a.0, both_each xs ys a.1 b)
-
 readings_below : (c : Start) (o : Option Reading) → IfSome o IsSpeltReading → Each IsBelow (reading_lines o)
 readings_below c None is = tt
 readings_below c (Some r) is = (reading_below r is, tt)
 
-marks_below : (ms : List Told) → Each IsSpeltMark ms → Each IsBelow (map mark_line ms)
-marks_below [] each = tt
-marks_below (m ∷ ms) each = (mark_below m each.0, marks_below ms each.1)
-
 later_below : (ds : List Command) → Each IsSpeltCommand ds → Each IsBelow (map (λ d. line_with (codes "command") (command_fields d)) ds)
-later_below [] each = tt
-later_below (d ∷ ds) each = (command_below d each.0, later_below ds each.1)
+later_below = each_made IsSpeltCommand IsBelow (λ d. line_with (codes "command") (command_fields d)) command_below
 
 commands_below : (w : Window) (ds : List Command) → Each IsSpeltCommand ds → Each IsBelow (commands_lines w ds)
 commands_below Idle [] each = tt
@@ -102,9 +92,9 @@ commands_below (Waiting id) (d ∷ ds) each = (waits_below d each.0, later_below
 
 start_below : (c : Start) → IsTold c → Each IsBelow (start_lines c)
 start_below c is =
-    both_each (reading_lines c.reading ++ map mark_line (reverse c.told)) (commands_lines c.orders.window c.orders.queue.commands)
-    (both_each (reading_lines c.reading) (map mark_line (reverse c.told)) (readings_below c c.reading is.reading)
-    (marks_below (reverse c.told) (each_reverse c.told is.marks)))
+    each_append IsBelow (reading_lines c.reading ++ map mark_line (reverse c.told)) (commands_lines c.orders.window c.orders.queue.commands)
+    (each_append IsBelow (reading_lines c.reading) (map mark_line (reverse c.told)) (readings_below c c.reading is.reading)
+    (each_made IsSpeltMark IsBelow mark_line mark_below (reverse c.told) (each_reverse c.told is.marks)))
     (commands_below c.orders.window c.orders.queue.commands is.commands)
 
 -- ---- reading them one after another
@@ -112,12 +102,7 @@ start_below c is =
 first_read : (c e : Start) (line : List ℕ) (later : List (List ℕ)) → with_lines c (line ∷ later) ≡ Ok e
     → (d : Start) × (with_line c line ≡ Ok d) × (with_lines d later ≡ Ok e)
 unfolding with_lines
-first_read c e line later h = by_answer (with_line c line) refl
-  where
-    by_answer : (r : Result Start StateCause) → r ≡ with_line c line
-        → (d : Start) × (with_line c line ≡ Ok d) × (with_lines d later ≡ Ok e)
-    by_answer (Ok d) is = (d, sym is, ap (λ s. s >>= λ x. with_lines x later) is ∙ h)
-    by_answer (Err cause) is = absurd (let all = ap (λ s. s >>= λ x. with_lines x later) is ∙ h in cc)
+first_read c e line later h = bind_ok (with_line c line) (λ d. with_lines d later) e h
 
 abbrev at_meter : List Start → Start → Progress
 at_meter before c = record { before = before; last = Some c }
@@ -149,31 +134,12 @@ below_read before c e (line ∷ ls) rest end answer each read later n =
 
 -- ---- a meter's line
 
-or_false : (x y : Bool) → (x || y) ≡ false → (x ≡ false) × (y ≡ false)
-or_false true y h = absurd cc
-or_false false y h = (refl, h)
-
-any_at : (n : ℕ) (before : List Start) (c : Start) (after : List Start)
-    → list_any (λ b. b.0 == n) (map (λ m. m.address) (before ++ c ∷ after)) ≡ false → (c.address.0 == n) ≡ false
-any_at n [] c after h = (or_false _ _ h).0
-any_at n (m ∷ before) c after h = any_at n before c after (or_false (m.address.0 == n) _ h).1
-
-new_behind : (before : List Start) (c : Start) (after : List Start)
-    → AreApart (map (λ m. m.address) (before ++ c ∷ after)) → list_any (λ m. m.address.0 == c.address.0) before ≡ false
-new_behind [] c after apart = refl
-new_behind (m ∷ before) c after apart =
-    ap (λ b. b || list_any (λ m. m.address.0 == c.address.0) before) (eqb_swap m.address.0 c.address.0
-    ∙ any_at m.address.0 before c after apart.0)
-    ∙ new_behind before c after apart.1
-
 enlisted_behind : (before : List Start) (c : Start) (after : List Start)
     → AreApart (map (λ m. m.address) (before ++ c ∷ after)) → length (before ++ c ∷ after) ≤ 4096
     → enlisted before (commission_of c) ≡ Ok (at_meter before (bare c))
 enlisted_behind before c after apart few =
-    let room : nat_le 4096 (length before) ≡ false = (let all = length-append before (c ∷ after) in grind (arith, nat_tests)) in
-    let done : Result Progress _ = Ok (at_meter before (bare c)) in
-    ap (λ b. cond b (Err roster.Same) (cond (nat_le 4096 (length before)) (Err roster.TooMany) done)) (new_behind before c after apart)
-    ∙ ap (λ b. cond b (Err roster.TooMany) done) room
+    cond-false _ _ _ (new_behind (λ c. c.address) before c after apart)
+    ∙ cond-false _ _ _ (room_before (λ c. c.address) before c after few)
 
 opening_read : (p q : Progress) (line : List ℕ) (c : Commissioned) → opens_meter (fields_of line) ≡ true → meter_of Two line ≡ Ok c
     → enlisted (all_of p) c ≡ Ok q → read_more p line ≡ Ok q
@@ -191,13 +157,6 @@ opened_read p before c after all is apart few =
 
 abbrev block_lines : Start → List (List ℕ)
 block_lines c = meter_line (commission_of c) ∷ start_lines c
-
-meter_counts : (c : Commissioned) (n : ℕ) (texts : List (List ℕ))
-    → entries_from n (meter_line c ∷ texts) ≡ (n, meter_line c) ∷ entries_from (n + 1) texts
-meter_counts c n texts = counted n (meter_line c) texts (grind (arith, nat_tests))
-
-no_end : (c : Commissioned) → is_word (meter_line c) (codes "end") ≡ false
-no_end c = refl
 
 -- ---- all meters
 
@@ -218,7 +177,7 @@ meters_back p before (c ∷ after) end all apart few each n =
     append_assoc (block_lines c) (flat_map block_lines after) (codes "end" ∷ []) in
     ap (λ ls. starts_of p (entries_from n ls) end) lines_of
     ∙ ap (λ es. starts_of p es end) (meter_counts k n (start_lines c ++ rest))
-    ∙ one_read n p (at_meter before (bare c)) (meter_line k) (entries_from (n + 1) (start_lines c ++ rest)) end (no_end k)
+    ∙ one_read n p (at_meter before (bare c)) (meter_line k) (entries_from (n + 1) (start_lines c ++ rest)) end refl
     (opened_read p before c after all each.0 apart few)
     ∙ below_read before (bare c) c (start_lines c) rest end (Ok (before ++ c ∷ after)) (start_below c each.0.told) (lines_back c each.0.told)
     (λ m. meters_back (at_meter before c) (before ++ c ∷ []) after end refl (rw same apart) (rw same few) each.1 m ∙ ap Ok same)
@@ -272,10 +231,6 @@ state_lines s is =
 
 -- ---- the whole
 
-own_counts : (own : Address) (n : ℕ) (texts : List (List ℕ))
-    → entries_from n (own_line own ∷ texts) ≡ (n, own_line own) ∷ entries_from (n + 1) texts
-own_counts own n texts = counted n (own_line own) texts (grind (arith, nat_tests))
-
 owned_back : (s : Known) (n end : ℕ) → IsState s
     → owned ((n, own_line s.own) ∷ entries_from (n + 1) (flat_map block_lines s.starts ++ codes "end" ∷ [])) end ≡ Ok s
 unfolding owned
@@ -291,9 +246,8 @@ headed_back s end otherwise is =
 pub read_where_short : (s : Known) → IsState s → length (state_text s) ≤ 134217728 → state_of (state_text s) ≡ Ok s
 unfolding state_of
 read_where_short s is few =
-    let short : nat_lt 134217728 (length (state_text s)) ≡ false = grind (arith, nat_tests) in
     let n : ℕ = length (lines (state_text s)) + 1 in
     let otherwise = of_roster (roster_of (state_text s)) in
-    ap (λ b. cond b (Err (Roster 0 roster.TooLong)) (headed (entries_from 1 (lines (state_text s))) n otherwise)) short
+    cond-false _ _ _ (le-ltb 134217728 (length (state_text s)) few)
     ∙ ap (λ ls. headed (entries_from 1 ls) n otherwise) (state_lines s is)
     ∙ headed_back s n otherwise is

@@ -1,16 +1,15 @@
 -- How long the text of a state is.
-use Rattle.std.proofs.Common.{◌≡◌, ℕ, ◌+◌, ◌*◌, ◌≤◌, Bool, true, false, List, [], ◌∷◌, ◌++◌, length, map, reverse, codes, Option, Some, None, arith, length-append}
+use Rattle.std.proofs.Common.{◌≡◌, ℕ, ◌+◌, ◌*◌, ◌≤◌, Bool, true, false, List, [], ◌∷◌, ◌++◌, length, map, reverse, codes, Option, Some, None, ap, ◌∙◌, arith, length-append}
 use Rattle.std.specs.Prelude.{IfSome, is_some}
 use Rattle.std.specs.List.{flat_map}
 use Rattle.std.specs.Fmt.{decimal}
 use Rattle.std.proofs.lemmas.Fmt.{length-decimal-le}
+use Rattle.std.proofs.lemmas.Grind.{flat_map-append}
 use Rattle.std.proofs.lemmas.List.{length-reverse}
 use Rattle.hex.specs.Hex.{encode_lower, lower_digits}
 use Rattle.hex.proofs.HexLemmas.{length-encode_with}
 use Rattle.lists.specs.Each.{Each}
 use Rattle.std.specs.Int.{w16, w32, to_le_bytes}
-use Rattle.meter_address.specs.Address.{text_of, bytes_of}
-use Rattle.meter_address.proofs.Texts.{length-bytes_of}
 use Rattle.afl_layer.specs.Fields.{where_so, field_bytes, one_byte, fcl_of, fields_bytes}
 use Rattle.afl_layer.specs.Header.{afl_bytes}
 use Rattle.afl_layer.proofs.FieldLaws.{length-one, length-two, length-four, length-eight}
@@ -22,7 +21,7 @@ use Rattle.access_window.specs.declared.window.Window.TheVariants.{Idle, Waiting
 use Rattle.meter_slots.specs.declared.reading.Reading.{Reading}
 use Rattle.meter_slots.specs.Journal.{Start, commission_of}
 use Rattle.roster_file.specs.Text.{own_text, meter_text}
-use Rattle.roster_file.proofs.ReadBack.{joined_len, number_len, meter_len, own_line}
+use Rattle.roster_file.proofs.ReadBack.{words_len, number_len, meter_len, own_len}
 use Rattle.state_file.specs.Text.{line_with, bytes_text, spelt, reading_line, reading_lines, mark_line, command_fields, commands_lines, start_lines}
 use Rattle.state_file.specs.Text.{IsSpeltReading, IsSpeltPart, IsSpeltMark, IsSpeltCommand}
 use Rattle.state_file.specs.Whole.{Known}
@@ -64,15 +63,9 @@ spelt_len part is =
     let most = is.most in
     omega arith
 
-part_len : (part : Fragment) → IsSpeltPart part → length (line_with (codes "part") (encode_lower (spelt part) ∷ [])) ≤ 531
-part_len part is =
-    let one = joined_len (codes "part") (encode_lower (spelt part)) [] in
-    let digits = length-encode_with lower_digits (spelt part) in
-    let few = spelt_len part is in
-    omega arith
-
 mark_len : (m : Told) → IsSpeltMark m → length (mark_line m) ≤ 531
-mark_len (Piece part) is = part_len part is
+mark_len (Piece part) is =
+    omega (arith, words_len (codes "part") (encode_lower (spelt part) ∷ []), length-encode_with lower_digits (spelt part), spelt_len part is)
 mark_len Tick is = omega arith
 mark_len Clear is = absurd is
 
@@ -82,9 +75,7 @@ bytes_len (b ∷ bytes) few = omega (arith, length-encode_with lower_digits (b �
 
 reading_len : (r : Reading) → IsSpeltReading r → length (reading_line r) ≤ 8240
 reading_len r is =
-    let one = joined_len (codes "reading") (decimal r.at) (decimal r.counter ∷ bytes_text r.payload ∷ []) in
-    let two = joined_len (decimal r.at) (decimal r.counter) (bytes_text r.payload ∷ []) in
-    let three = joined_len (decimal r.counter) (bytes_text r.payload) [] in
+    let all = words_len (codes "reading") (decimal r.at ∷ decimal r.counter ∷ bytes_text r.payload ∷ []) in
     let small = is.at in
     let at = length-decimal-le 20 r.at (omega arith) (omega arith) (omega arith) in
     let counter = number_len r.counter is.counter in
@@ -93,11 +84,8 @@ reading_len r is =
 
 command_len : (word : List ℕ) (d : Command) → length word ≤ 7 → IsSpeltCommand d → length (line_with word (command_fields d)) ≤ 220
 command_len word d short is =
-    let one = joined_len word (decimal d.id) (decimal d.tries ∷ encode_lower d.payload ∷ []) in
-    let two = joined_len (decimal d.id) (decimal d.tries) (encode_lower d.payload ∷ []) in
-    let three = joined_len (decimal d.tries) (encode_lower d.payload) [] in
-    let small = is.id in
-    let id = number_len d.id small in
+    let all = words_len word (command_fields d) in
+    let id = number_len d.id is.id in
     let few = is.tries in
     let tries = number_len d.tries (omega arith) in
     let digits = length-encode_with lower_digits d.payload in
@@ -110,12 +98,7 @@ ended_len : (line : List ℕ) (rest : List ℕ) → length (ended_text line ++ r
 ended_len line rest = let one = length-append (line ++ 10 ∷ []) rest in let two = length-append line (10 ∷ []) in omega arith
 
 texts_split : (xs ys : List (List ℕ)) → length (flat_map ended_text (xs ++ ys)) ≡ length (flat_map ended_text xs) + length (flat_map ended_text ys)
-texts_split [] ys = omega arith
-texts_split (x ∷ xs) ys =
-    let one = ended_len x (flat_map ended_text (xs ++ ys)) in
-    let two = ended_len x (flat_map ended_text xs) in
-    let rest = texts_split xs ys in
-    omega arith
+texts_split xs ys = ap length (flat_map-append ended_text xs ys) ∙ length-append (flat_map ended_text xs) (flat_map ended_text ys)
 
 readings_len : (o : Option Reading) → IfSome o IsSpeltReading → length (flat_map ended_text (reading_lines o)) ≤ 8241
 readings_len None is = omega arith
@@ -179,16 +162,13 @@ blocks_len (c ∷ cs) each =
 
 -- 79 million bytes at most
 state_len : (s : Known) → IsState s → length (state_text s) ≤ 134217728
-unfolding state_text own_text
+unfolding state_text
 state_len s is =
     let blocks = flat_map block_text s.starts in
-    let own = joined_len (codes "own") (text_of s.own) [] in
-    let address = length-encode_with lower_digits (bytes_of s.own) in
-    let eight = length-bytes_of s.own in
-    let own_end = length-append (own_line s.own) (10 ∷ []) in
-    let front = length-append (codes "wmbus-state 1\n") (own_line s.own ++ 10 ∷ []) in
-    let most = length-append (codes "wmbus-state 1\n" ++ (own_line s.own ++ 10 ∷ [])) blocks in
-    let all = length-append ((codes "wmbus-state 1\n" ++ (own_line s.own ++ 10 ∷ [])) ++ blocks) (codes "end\n") in
+    let front = length-append (codes "wmbus-state 1\n") (own_text s.own) in
+    let most = length-append (codes "wmbus-state 1\n" ++ own_text s.own) blocks in
+    let all = length-append ((codes "wmbus-state 1\n" ++ own_text s.own) ++ blocks) (codes "end\n") in
+    let own = own_len s.own in
     let meters = blocks_len s.starts is.each in
     let few = is.few in
     omega arith

@@ -62,7 +62,7 @@ fn read_starts(alloc: Global, entries: &mut Entries<'_>) -> Result<Vec<MeterStar
 }
 
 // The line after the head is the own line.
-#[tactic(auto, unfolding(crate::specs::Whole::owned), using(crate::proofs::Rooms::starts_have_room))]
+#[tactic(auto, unfolding(crate::specs::Whole::owned), using(crate::proofs::ReadStates::starts_have_room))]
 fn read_owned(alloc: Global, entries: &mut Entries<'_>) -> Result<State, StateFault>
     ensures found { IfOk result (λ state. owned entries.old.entries entries.old.end ≡ Ok state) }
     ensures fault { IfErr result (λ fault. IsFaultOf (owned entries.old.entries entries.old.end) fault) }

@@ -173,7 +173,7 @@ pub fn show_left(own: Address, slots: &[SlotBook])
 }
 
 /// Each state can be written, and is read back from its text then.
-#[tactic(auto, using(crate::proofs::Rooms::state_can_be_written))]
+#[tactic(auto, using(crate::proofs::Telling::state_can_be_written))]
 pub fn show_state(state: &State)
     ensures { IsState state.now }
 {

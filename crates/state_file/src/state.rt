@@ -53,7 +53,7 @@ impl State {
     }
 
     /// The meters of a roster, which are just commissioned.
-    #[tactic(auto, using(crate::proofs::Rooms::enrolled_have_room))]
+    #[tactic(auto, using(crate::proofs::ReadStates::enrolled_have_room))]
     pub fn of_roster(alloc: Global, roster: &Roster) -> Result<Self, Memory>
         requires { IsEnrolled roster.now }
         ensures { IfOk result (λ state. state ≡ fresh_known roster.now) }
