@@ -1,5 +1,5 @@
 -- The first and the last of amounts, as an iterator takes them.
-use Rattle.std.proofs.Common.{◌≡◌, ℕ, Bool, true, false, cond, [], ◌∷◌, ◌++◌, Option, Some, None, ℤ, refl, sym, ap, ◌∙◌, subst}
+use Rattle.std.proofs.Common.{◌≡◌, ℕ, Bool, true, false, cond, List, [], ◌∷◌, ◌++◌, Option, Some, None, ℤ, refl, sym, ap, ◌∙◌, subst}
 use Rattle.std.specs.declared.cmp.Ordering.{Ordering}
 use Rattle.std.specs.declared.cmp.Ordering.TheVariants.{Less, Equal, Greater}
 use Rattle.std.specs.Ordering.{is_eq, nat_cmp}
@@ -15,14 +15,14 @@ use Rattle.meter_usage.specs.Usage.{first, last}
 use Rattle.meter_usage.specs.Indexed.{Numbered, without}
 use Rattle.meter_usage.proofs.Ends.{last-append}
 use Rattle.meter_usage.proofs.Parts.{without_parted}
-use Rattle.meter_usage.proofs.Numbering.{rising_below}
+use Rattle.meter_usage.proofs.Numbering.{rising_around}
 
 same_by : (n k : ℕ) (o : Ordering) → o ≡ nat_cmp n k → is_eq o ≡ true → n ≡ k
 same_by n k Less e same = absurd cc
 same_by n k Equal e same = ranked n k Equal e
 same_by n k Greater e same = absurd cc
 
-all_keys : (P : ℕ → Type 0) (es : Numbered) → AllByRecursion P (keys_of es) → AllByRecursion (λ e. P e.0) es
+pub all_keys : {K X : Type 0} (P : K → Type 0) (es : List (K × X)) → AllByRecursion P (keys_of es) → AllByRecursion (λ e. P e.0) es
 all_keys P [] a = tt
 all_keys P (e ∷ es) a = (a.0, all_keys P es a.1)
 
@@ -43,7 +43,7 @@ module _ (n : ℕ) (rest : Numbered) (e : ℕ × ℤ) (rising : IsStrictlySorted
   below =
       subst (λ m. AllByRecursion (λ (f : ℕ × ℤ). nat_cmp m f.0 ≡ Greater) rest) (sym same)
       (all_keys (λ m. nat_cmp e.0 m ≡ Greater) rest
-      (rising_below (keys_of rest) [] e.0 (subst (IsStrictlySortedBy nat_cmp) (map-append (λ (f : ℕ × ℤ). f.0) rest (e ∷ [])) rising)))
+      (rising_around (keys_of rest) [] e.0 (subst (IsStrictlySortedBy nat_cmp) (map-append (λ (f : ℕ × ℤ). f.0) rest (e ∷ [])) rising)).below)
 
   last_gone : without n (rest ++ e ∷ []) ≡ rest ++ []
   last_gone = ap (λ m. without n (rest ++ (m, e.1) ∷ [])) (sym same) ∙ without_parted n rest (Some e.1) [] below tt

@@ -8,6 +8,7 @@ use Rattle.std.specs.List.Sorted.{IsStrictlySortedBy}
 use Rattle.std.specs.Map.{keys_of}
 use Rattle.std.specs.BTreeMap.{is_at}
 use Rattle.std.specs.declared.cmp.Ordering.TheVariants.{Less}
+use Rattle.std.proofs.lemmas.Bool.{or_parts}
 use Rattle.std.proofs.lemmas.Map.Keys.{sorted_head, sorted_tail}
 use Rattle.std.proofs.lemmas.Cmp.{tied_itself}
 use Rattle.meter_usage.specs.declared.key.UsageKey.{UsageKey}
@@ -16,10 +17,6 @@ use Rattle.meter_usage.specs.Keys.{key_cmp, key_cmp_total}
 use Rattle.meter_usage.specs.Sums.{no_sum, find_sum, sum_at, used_keys, is_among}
 use Rattle.meter_usage.proofs.SameKey.{same_by_test}
 use Rattle.meter_usage.proofs.KeyByKey.{apart_in}
-
-or_false : (a b : Bool) → a || b ≡ false → (a ≡ false) × (b ≡ false)
-or_false true b e = absurd cc
-or_false false b e = (refl, e)
 
 -- a key that isn't among the keys isn't among those that are used
 within_by : (p : Bool) (q : UsageKey) (e : UsageKey × Sum) (used : List (UsageKey × Sum)) → is_at (key_cmp q) e.0 ≡ false
@@ -30,7 +27,7 @@ within_by false q e used here rest = rest
 within : (q : UsageKey) (sums : List (UsageKey × Sum)) → is_among q (keys_of sums) ≡ false → is_among q (used_keys sums) ≡ false
 within q [] misses = refl
 within q (e ∷ es) misses =
-    let both = or_false (is_at (key_cmp q) e.0) (is_among q (keys_of es)) misses in
+    let both = or_parts (is_at (key_cmp q) e.0) (is_among q (keys_of es)) misses in
     within_by (nat_lt 0 e.1.meters) q e (filter (λ x. nat_lt 0 x.1.meters) es) both.0 (within q es both.1)
 
 later_by : (q : UsageKey) (e : UsageKey × Sum) (es : List (UsageKey × Sum)) (b : Bool) → is_among q (keys_of es) ≡ b
