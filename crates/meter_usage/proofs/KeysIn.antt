@@ -39,7 +39,7 @@ below_all : (k x : UsageKey) (xs : List UsageKey) → key_cmp k x ≡ Less → A
 below_all k x [] e all = tt
 below_all k x (y ∷ ys) e all = (key_cmp_total.trans k x y e all.0, below_all k x ys e all.1)
 
-below_none : (k : UsageKey) (xs : List UsageKey) → AllByRecursion (λ y. key_cmp k y ≡ Less) xs → is_among k xs ≡ false
+pub below_none : (k : UsageKey) (xs : List UsageKey) → AllByRecursion (λ y. key_cmp k y ≡ Less) xs → is_among k xs ≡ false
 below_none k [] all = refl
 below_none k (y ∷ ys) all = ap (λ o. is_eq o || is_among k ys) all.0 ∙ below_none k ys all.1
 

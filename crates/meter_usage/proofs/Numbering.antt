@@ -169,10 +169,6 @@ empty_indexed rows index e f = record {
   all = λ q. ap (indexed q) f ∙ ap (series q) (sym e);
 }
 
-pub same_indexed : (rows : List NumberedRow) (next : ℕ) (old now : List (UsageKey × Numbered)) → IsIndexed rows next old
-    → ((q : UsageKey) → indexed q now ≡ indexed q old) → IsIndexed rows next now
-same_indexed rows next old now k same = record { rising = k.rising; all = λ q. same q ∙ k.all q }
-
 module _ (rows : List NumberedRow) (next : ℕ) (old : List (UsageKey × Numbered)) (k : IsIndexed rows next old) where
   series_below : (q : UsageKey) → AreBelow next (series q rows)
   series_below q = all_series (λ m. nat_cmp next m ≡ Greater) q rows (rising_around (numbers rows) [] next k.rising).below

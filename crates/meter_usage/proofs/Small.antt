@@ -69,10 +69,6 @@ module _ {K : Type 0} where
   set_small test es v small = each_set (λ e. IsWithin (2 ^ 80) e.1) v (λ _ _. small) test es
 
   -- the first and the last one are
-  pub first_small : (es : List (K × ℤ)) → AreSmall es → IfSome (first (λ e. Some e.1) es) (IsWithin (2 ^ 80))
-  first_small [] small = tt
-  first_small (e ∷ es) small = small.0
-
   pub last_small : (es : List (K × ℤ)) → AreSmall es → IfSome (last (λ e. Some e.1) es) (IsWithin (2 ^ 80))
   last_small [] small = tt
   last_small (e ∷ es) small = either_small (last (λ e. Some e.1) es) (Some e.1) (last_small es small.1) small.0

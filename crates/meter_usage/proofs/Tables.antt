@@ -35,7 +35,7 @@ module _ {X : Type 0} (a : Address) where
       ]
 
   -- writing rows that are some is having them
-  pub set_is_with : (table : Table X) (rows new : List X) → lookup (same a) table ≡ Some rows → (new ≡ [] → ⊥)
+  set_is_with : (table : Table X) (rows new : List X) → lookup (same a) table ≡ Some rows → (new ≡ [] → ⊥)
       → set_value (same a) table new ≡ with_rows table a new
   set_is_with table rows [] is some = absurd (some refl)
   set_is_with table rows (x ∷ xs) is some = set_is_insert table rows (x ∷ xs) is
@@ -64,6 +64,12 @@ module _ {X : Type 0} (a : Address) where
   pub rows_with : (table : Table X) (new : List X) → (new ≡ [] → ⊥) → rows_at a (with_rows table a new) ≡ new
   rows_with table [] some = absurd (some refl)
   rows_with table (x ∷ xs) some = ap (λ o. unwrap_or o []) (found_inserted table (x ∷ xs))
+
+-- the rows that were found are written otherwise
+pub written_as : {X : Type 0} (a : Address) (table other : Table X) (old : List X) (f : List X → List X) → Some old ≡ lookup (same a) table
+    → other ≡ set_value (same a) table (f old) → (f old ≡ [] → ⊥) → other ≡ with_rows table a (f (rows_at a table))
+written_as a table other old f found is some =
+    is ∙ set_is_with a table old (f old) (sym found) some ∙ ap (λ o. with_rows table a (f (unwrap_or o []))) found
 
 pub append_some : {X : Type 0} (xs : List X) (x : X) → xs ++ x ∷ [] ≡ [] → ⊥
 append_some [] x e = cc

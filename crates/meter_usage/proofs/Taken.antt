@@ -56,26 +56,9 @@ module _ {A : Type 0} (shows : A → ℕ × ℤ) where
   abbrev pub amount_taken : Option A → Option ℤ
   amount_taken r = option_map (λ a. (shows a).1) r
 
-  pub took_first : (es rest : Numbered) (r : Option A) → TakesFirst shows es r rest → amount_taken r ≡ first (λ e. Some e.1) es
-  took_first es rest None t = sym (ap (first (λ e. Some e.1)) t.0)
-  took_first es rest (Some a) t = sym (ap (first (λ e. Some e.1)) t)
-
   pub took_last : (es rest : Numbered) (r : Option A) → TakesLast shows es r rest → amount_taken r ≡ last (λ e. Some e.1) es
   took_last es rest None t = sym (ap (last (λ e. Some e.1)) t.0)
   took_last es rest (Some a) t = sym (ap (last (λ e. Some e.1)) t ∙ last_one rest (shows a))
-
-  -- the first one stands at the number, and is left out
-  pub first_there : (n : ℕ) (es rest : Numbered) (r : Option A) → TakesFirst shows es r rest → is_there n r ≡ true → rest ≡ without n es
-  first_there n es rest None t there = absurd cc
-  first_there n es rest (Some a) t there = sym (ap (without n) t ∙ ap (λ b. cond b rest (shows a ∷ without n rest)) there)
-
-  -- it doesn't, and stays the first
-  pub first_other : (n : ℕ) (es rest : Numbered) (r : Option A) → TakesFirst shows es r rest → is_there n r ≡ false
-      → amount_taken r ≡ first (λ e. Some e.1) (without n es)
-  first_other n es rest None t other = sym (ap (λ x. first (λ e. Some e.1) (without n x)) t.0)
-  first_other n es rest (Some a) t other =
-      sym (ap (λ x. first (λ e. Some e.1) (without n x)) t
-      ∙ ap (λ b. first (λ e. Some e.1) (cond b rest (shows a ∷ without n rest))) other)
 
   -- the last one stands at the number, and is left out
   pub last_there : (n : ℕ) (es rest : Numbered) (r : Option A) → IsStrictlySortedBy nat_cmp (keys_of es) → TakesLast shows es r rest
