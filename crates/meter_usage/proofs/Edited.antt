@@ -1,13 +1,12 @@
 -- What is kept stays kept when a row is added or removed.
-use Rattle.std.proofs.Common.{◌≡◌, ℕ, zero, suc, ◌+◌, ◌^◌, ◌<◌, ◌≤◌, Bool, true, false, cond, List, [], ◌∷◌, ◌++◌, map, length, get_or, remove, Option, Some, None, Result, Ok, Err, OnOk, OnErr, is_some, ℤ, refl, sym, ap, ◌∙◌, subst, inl, inr, arith}
+use Rattle.std.proofs.Common.{◌≡◌, ℕ, zero, suc, ◌+◌, ◌^◌, ◌<◌, ◌≤◌, Bool, true, false, List, [], ◌∷◌, ◌++◌, map, length, get_or, remove, Option, Some, None, Result, Ok, Err, OnOk, OnErr, is_some, ℤ, refl, sym, ap, ◌∙◌, subst, inl, inr, arith}
 use Rattle.std.proofs.lemmas.Bool.{cases_Bool, cond_both}
 use Rattle.std.proofs.lemmas.List.{length-append, length-map, length-set, get_or-set_same}
 use Rattle.std.proofs.lemmas.Map.Keys.{any_passes_from_place}
 use Rattle.std.proofs.lemmas.Option.{slice_get-get_or}
 use Rattle.std.proofs.Math.Seq.{get_or-append_seam}
 use Rattle.std.specs.Prelude.{slice_set}
-use Rattle.std.specs.Option.{unwrap_or, option_or}
-use Rattle.std.specs.Map.{lookup, remove_entry}
+use Rattle.std.specs.Map.{remove_entry}
 use Rattle.std.proofs.lemmas.List.{map-append, map-set}
 use Rattle.indexmap.specs.IndexMap.{insert_entry}
 use Rattle.indexmap.proofs.SetLemmas.{map-remove}
@@ -15,7 +14,7 @@ use Rattle.meter_address.specs.declared.address.Address.{Address}
 use Rattle.meter_usage.specs.declared.key.UsageKey.{UsageKey}
 use Rattle.meter_usage.specs.declared.sums.Sum.{Sum}
 use Rattle.meter_usage.specs.Amounts.{Row, row_of, amount_at}
-use Rattle.meter_usage.specs.Usage.{first, last, less, usage_by, usage_at}
+use Rattle.meter_usage.specs.Usage.{usage_at}
 use Rattle.meter_usage.specs.Sums.{no_sum, with_usage, sum_at, has_sum, total_at, IsFitting}
 use Rattle.meter_usage.specs.Table.{Table, same, rows_at, with_rows, added, replaced, removed, kept, AreFilled, IsKept}
 use Rattle.meter_usage.proofs.Ends.{usage_some}

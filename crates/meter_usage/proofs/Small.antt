@@ -1,5 +1,5 @@
 -- Amounts are small.
-use Rattle.std.proofs.Common.{◌≡◌, ℕ, ◌^◌, Bool, true, false, cond, ◌&&◌, List, [], ◌∷◌, fold, Option, Some, None, IfSome, is_some, ℤ, pos, neg_ℤ, refl, ◌==◌, if◌then◌else◌, arith}
+use Rattle.std.proofs.Common.{◌≡◌, ℕ, ◌^◌, Bool, true, List, [], ◌∷◌, fold, Option, Some, None, IfSome, is_some, ℤ, pos, neg_ℤ, ◌==◌, arith}
 use Rattle.std.specs.Prelude.{int_lt}
 use Rattle.std.specs.declared.cmp.Ordering.{Ordering}
 use Rattle.std.proofs.lemmas.Bool.{and_parts, cond_both}
@@ -16,7 +16,7 @@ use Rattle.record_values.specs.Values.{value}
 use Rattle.meter_usage.specs.declared.key.UsageKey.{UsageKey}
 use Rattle.meter_usage.specs.Keys.{key_cmp}
 use Rattle.meter_usage.specs.Amounts.{Row, amount_at, is_small, key_of, whole, given, noted, IsWithin, AreSmall, row_of}
-use Rattle.meter_usage.specs.Usage.{first, last}
+use Rattle.meter_usage.specs.Usage.{last}
 use Rattle.meter_usage.proofs.Entries.{each_removed, each_set, each_inserted}
 
 within : (v : ℤ) → is_small v ≡ true → IsWithin (2 ^ 80) v

@@ -7,11 +7,11 @@ use Rattle.std.specs.Option.{option_map, unwrap_or}
 use Rattle.std.specs.List.{AllByRecursion}
 use Rattle.std.specs.List.Sorted.{IsStrictlySortedBy}
 use Rattle.std.specs.Map.{keys_of}
-use Rattle.std.specs.Map.Iter.{TakesFirst, TakesLast}
+use Rattle.std.specs.Map.Iter.{TakesLast}
 use Rattle.std.specs.BTreeMap.{is_at}
 use Rattle.std.proofs.lemmas.Cmp.{ranked}
 use Rattle.std.proofs.lemmas.List.{map-append}
-use Rattle.meter_usage.specs.Usage.{first, last}
+use Rattle.meter_usage.specs.Usage.{last}
 use Rattle.meter_usage.specs.Indexed.{Numbered, without}
 use Rattle.meter_usage.proofs.Ends.{last-append}
 use Rattle.meter_usage.proofs.Parts.{without_parted}

@@ -1,5 +1,5 @@
 -- The amounts that a payload gives, by what they are of.
-use Rattle.std.specs.Prelude.{ℕ, ◌^◌, ◌<ℤ◌, Bool, ◌&&◌, List, [], ◌∷◌, fold, Option, Some, None, ℤ, pos, neg_ℤ, int_lt, ◌==◌, if◌then◌else◌, is_some}
+use Rattle.std.specs.Prelude.{ℕ, ◌^◌, ◌<ℤ◌, Bool, ◌&&◌, List, [], fold, Option, Some, None, ℤ, pos, neg_ℤ, int_lt, ◌==◌, if◌then◌else◌, is_some}
 use Rattle.std.specs.Option.{option_map}
 use Rattle.std.specs.List.{filter_map, AllByRecursion}
 use Rattle.std.specs.Map.{lookup}

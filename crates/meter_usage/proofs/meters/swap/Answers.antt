@@ -1,4 +1,4 @@
-use Rattle.std.proofs.Common.{◌≡◌, sym, ap, ◌∙◌, ◌<◌, [], length, subst}
+use Rattle.std.proofs.Common.{sym, ap, ◌∙◌, ◌<◌, [], length, subst}
 use Rattle.std.specs.Prelude.{slice_set}
 use Rattle.std.specs.Map.{set_value}
 use Rattle.std.specs.Option.{unwrap_or}

@@ -1,4 +1,4 @@
-use Rattle.std.proofs.Common.{◌≡◌, sym, ap, ◌∙◌, ◌<◌, [], length, remove, subst}
+use Rattle.std.proofs.Common.{sym, ap, ◌∙◌, ◌<◌, [], length, remove, subst}
 use Rattle.std.specs.Map.{set_value}
 use Rattle.std.specs.Option.{unwrap_or}
 use Rattle.meter_usage.specs.Table.{same}
