@@ -1,8 +1,8 @@
 -- What the profile says of a record, and what the whole standard says of it.
 use Rattle.std.proofs.Common.{◌≡◌, ℕ, ◌+◌, ◌-◌, ◌*◌, ◌%◌, ◌≤◌, Bool, true, false, eqb, leb, ltb, ◌&&◌, cond, List, [], ◌∷◌, length, take, Option, Some, None, refl, sym, ap, subst, ◌∙◌, arith}
 use Rattle.std.specs.Prelude.{ℤ, slice_index}
-use Rattle.std.proofs.lemmas.Bool.{leb-true, le-leb, and_parts, and_from, cond-true, cond-false, eqb-true, ne_eqb}
-use Rattle.std.proofs.lemmas.Option.{same_Some}
+use Rattle.std.proofs.lemmas.Bool.{leb-true, le-leb, and_parts, and_from, cond-true, cond-false, eqb-true, eq-eqb, ne_eqb}
+use Rattle.std.proofs.lemmas.Option.{same_Some, none-some}
 use Rattle.dif_vif.specs.Numbers.{low_first}
 use Rattle.dif_vif.specs.Spelling.{data_width, field_width}
 use Rattle.record_values.specs.declared.units.Quantity.{Quantity}
@@ -243,45 +243,25 @@ empty_moment type None [] exponent none =
 empty_moment type (Some lvar) [] exponent none = refl
 empty_moment type lvar (byte ∷ sent) exponent none = absurd (omega (arith, none))
 
-none_some : {A : Type 0} {x : A} → None ≡ Some x → ⊥
-none_some e = cc
-
 -- an LVAR stands for the data field D alone
 no_lvar : (dif n lvar len : ℕ) → dif % 16 ≡ n → eqb n 13 ≡ false → data_width dif (Some lvar) ≡ Some len → ⊥
 no_lvar dif n lvar len is other width =
     let none : data_width dif (Some lvar) ≡ None = cond-false (eqb (dif % 16) 13) _ _ (subst (λ x. eqb x 13 ≡ false) (sym is) other) in
-    none_some (sym none ∙ width)
+    none-some len (sym none ∙ width)
 
-date_by : (test : Bool) (dif : ℕ) (lvar : Option ℕ) (sent : List ℕ) (exponent : ℤ) → eqb (dif % 16) 2 ≡ test
-    → data_width dif lvar ≡ Some (length sent)
-    → Agrees (cond test (profile_day (low_first 256 sent)) (profile_unread sent)) exponent
-    (value_as (moment_type (dif % 16) lvar) exponent (dif % 16) lvar sent)
-date_by true dif None sent exponent is width =
-    let two : dif % 16 ≡ 2 = eqb-true (dif % 16) 2 is in
-    let type : moment_type (dif % 16) None ≡ types.Date = subst (λ x. moment_type x None ≡ types.Date) (sym two) refl in
-    let len : 2 ≡ length sent = same_Some 2 (length sent) (width_is dif 2 (length sent) width two) in
-    let whole : value_as (moment_type (dif % 16) None) exponent (dif % 16) None sent ≡ found values.Day (day_in (low_first 256 sent) 0 0) =
-    ap (λ t. value_as t exponent (dif % 16) None sent) type
-    ∙ cond-true (eqb (length sent) 2) _ _ (subst (λ x. eqb x 2 ≡ true) len refl) in
-    subst (λ v. Agrees (profile_day (low_first 256 sent)) exponent v) (sym whole) (day_agrees (low_first 256 sent) exponent)
-date_by true dif (Some lvar) sent exponent is width = absurd (no_lvar dif 2 lvar (length sent) (eqb-true (dif % 16) 2 is) refl width)
-date_by false dif lvar sent exponent is width =
-    other_agrees sent exponent _ (λ none. empty_moment (dif % 16) lvar sent exponent none)
-
-time_by : (test : Bool) (dif : ℕ) (lvar : Option ℕ) (sent : List ℕ) (exponent : ℤ) → eqb (dif % 16) 4 ≡ test
-    → data_width dif lvar ≡ Some (length sent)
-    → Agrees (cond test (profile_moment (low_first 256 sent)) (profile_unread sent)) exponent
-    (value_as (moment_type (dif % 16) lvar) exponent (dif % 16) lvar sent)
-time_by true dif None sent exponent is width =
-    let four : dif % 16 ≡ 4 = eqb-true (dif % 16) 4 is in
-    let type : moment_type (dif % 16) None ≡ types.DateTime = subst (λ x. moment_type x None ≡ types.DateTime) (sym four) refl in
-    let len : 4 ≡ length sent = same_Some 4 (length sent) (width_is dif 4 (length sent) width four) in
-    let whole : value_as (moment_type (dif % 16) None) exponent (dif % 16) None sent ≡ found values.Moment (moment_in (low_first 256 sent)) =
-    ap (λ t. value_as t exponent (dif % 16) None sent) type
-    ∙ cond-true (eqb (length sent) 4) _ _ (subst (λ x. eqb x 4 ≡ true) len refl) in
-    subst (λ v. Agrees (profile_moment (low_first 256 sent)) exponent v) (sym whole) (moment_agrees (low_first 256 sent) exponent)
-time_by true dif (Some lvar) sent exponent is width = absurd (no_lvar dif 4 lvar (length sent) (eqb-true (dif % 16) 4 is) refl width)
-time_by false dif lvar sent exponent is width =
+-- data of just as many bytes as the data field says, of which the profile reads one field
+timed_by : (test : Bool) (n dif : ℕ) (lvar : Option ℕ) (sent : List ℕ) (exponent : ℤ) (p : Value) (v : FullValue) → field_width n ≡ Some n
+    → eqb n 13 ≡ false → (eqb (length sent) n ≡ true → value_as (moment_type n None) exponent (dif % 16) None sent ≡ v)
+    → Agrees p exponent v → eqb (dif % 16) n ≡ test → data_width dif lvar ≡ Some (length sent)
+    → Agrees (cond test p (profile_unread sent)) exponent (value_as (moment_type (dif % 16) lvar) exponent (dif % 16) lvar sent)
+timed_by true n dif None sent exponent p v wide plain whole agrees is width =
+    let field : dif % 16 ≡ n = eqb-true (dif % 16) n is in
+    let len : n ≡ length sent = same_Some n (length sent) (sym wide ∙ width_is dif n (length sent) width field) in
+    subst (λ w. Agrees p exponent w) (sym (ap (λ x. value_as (moment_type x None) exponent (dif % 16) None sent) field
+    ∙ whole (eq-eqb (length sent) n (sym len)))) agrees
+timed_by true n dif (Some lvar) sent exponent p v wide plain whole agrees is width =
+    absurd (no_lvar dif n lvar (length sent) (eqb-true (dif % 16) n is) plain width)
+timed_by false n dif lvar sent exponent p v wide plain whole agrees is width =
     other_agrees sent exponent _ (λ none. empty_moment (dif % 16) lvar sent exponent none)
 
 -- ---- all quantities
@@ -293,6 +273,10 @@ pub value_agrees : (q : Quantity) (dif : ℕ) (lvar : Option ℕ) (sent : List �
 value_agrees quantities.Unknown dif lvar sent exponent named other width = absurd (named refl)
 value_agrees quantities.ErrorFlags dif lvar sent exponent named other width = absurd (other refl)
 value_agrees quantities.Manufacturer dif lvar sent exponent named other width = unread_agrees sent exponent
-value_agrees quantities.Date dif lvar sent exponent named other width = date_by (eqb (dif % 16) 2) dif lvar sent exponent refl width
-value_agrees quantities.DateTime dif lvar sent exponent named other width = time_by (eqb (dif % 16) 4) dif lvar sent exponent refl width
+value_agrees quantities.Date dif lvar sent exponent named other width =
+    timed_by (eqb (dif % 16) 2) 2 dif lvar sent exponent (profile_day (low_first 256 sent)) _ refl refl
+    (cond-true (eqb (length sent) 2) _ _) (day_agrees (low_first 256 sent) exponent) refl width
+value_agrees quantities.DateTime dif lvar sent exponent named other width =
+    timed_by (eqb (dif % 16) 4) 4 dif lvar sent exponent (profile_moment (low_first 256 sent)) _ refl refl
+    (cond-true (eqb (length sent) 4) _ _) (moment_agrees (low_first 256 sent) exponent) refl width
 value_agrees _ dif lvar sent exponent named other width = number_agrees dif lvar sent exponent width

@@ -7,10 +7,6 @@ use Rattle.dif_vif.specs.Spans.{IsSpanOf}
 use Rattle.dif_vif.proofs.Spans.{first_vife_within}
 use Rattle.full_records.specs.Measures.{code_behind}
 
-pub few_vifes : (bytes : List ℕ) (span : RecordSpan) → IsSpanOf bytes span → span.vifes ≤ 10
-few_vifes bytes span (inl s) = subst (λ (x : RecordSpan). x.vifes ≤ 10) (sym s.places) s.is_record.few_vifes
-few_vifes bytes span (inr s) = subst (λ (x : RecordSpan). x.vifes ≤ 10) (sym s.places) (omega arith)
-
 code_by : (maker test : Bool) (found code : ℕ) → cond maker None (cond test (Some found) None) ≡ Some code
     → (maker ≡ false) × (test ≡ true)
 code_by true test found code e = absurd cc

@@ -1,5 +1,7 @@
 -- A value that stands for edits, and one edit more.
-use Rattle.std.proofs.Common.{◌≡◌, ℕ, suc, List, [], ◌∷◌, ◌++◌, length, map, Option, Some, None, refl, sym, ap, subst, arith, ◌∙◌, ◌^◌, ◌≤◌, ◌==◌, ◌&&◌, if◌then◌else◌}
+use Rattle.std.proofs.Common.{◌≡◌, ℕ, List, [], ◌∷◌, ◌++◌, length, Option, Some, None, Err, inr, refl, sym, ap, subst, arith, ◌∙◌, ◌^◌, ◌≤◌, ◌==◌, ◌&&◌, if◌then◌else◌}
+use Rattle.std.proofs.lemmas.List.{length-map}
+use Rattle.std.proofs.lemmas.Option.{same_Some}
 use Rattle.std.proofs.lemmas.List.Sums.{fold-append}
 use Rattle.meter_address.specs.declared.address.Address.{Address}
 use Rattle.std.specs.Prelude.{nat_lt}
@@ -11,9 +13,9 @@ use Rattle.meter_usage.specs.Amounts.{Row, row_of, IsWithin}
 use Rattle.meter_usage.specs.Sums.{sum_at, total_at}
 use Rattle.meter_usage.specs.Table.{Table, rows_at, added, replaced, removed, kept, IsKept}
 use Rattle.meter_usage.specs.Faults.{add_fault, place_fault}
-use Rattle.meter_usage.specs.Edits.{Edit, addition, replacement, removal, edited, rows_after, StandsFor}
+use Rattle.meter_usage.specs.Edits.{Edit, addition, replacement, removal, edited, fault_of, rows_after, StandsFor, IsAnswered}
 use Rattle.meter_usage.proofs.Tables.{kept_rows, total_below}
-use Rattle.meter_usage.proofs.Edited.{added_stands, replaced_stands, removed_stands}
+use Rattle.meter_usage.proofs.Edited.{added_stands, replaced_stands, removed_stands, length_kept}
 
 after_more : (edits : List Edit) (edit : Edit) → rows_after (edits ++ edit ∷ []) ≡ edited (rows_after edits) edit
 after_more edits edit = fold-append edited [] edits (edit ∷ [])
@@ -38,16 +40,8 @@ removal_accepted new old a place e edits s =
 
 -- ---- the faults are those of the payloads' rows
 
-length_map : {A B : Type 0} (f : A → B) (xs : List A) → length (map f xs) ≡ length xs
-length_map f [] = refl
-length_map f (x ∷ xs) = ap suc (length_map f xs)
-
 kept_length : (a : Address) (table : Table (List ℕ)) → length (rows_at a (kept table)) ≡ length (rows_at a table)
-kept_length a table = ap length (kept_rows a table) ∙ length_map row_of (rows_at a table)
-
-meters_kept : (table : Table (List ℕ)) → length (kept table) ≡ length table
-meters_kept [] = refl
-meters_kept (meter ∷ meters) = ap suc (meters_kept meters)
+kept_length a table = ap length (kept_rows a table) ∙ length-map (rows_at a table) row_of
 
 fault_by : ℕ → ℕ → Option TotalsFault
 fault_by rows meters = if rows == 0 && meters == 4096 then Some Meters else (if rows == 65536 then Some Rows else None)
@@ -57,7 +51,7 @@ pub add_fault_stands : (a : Address) (value : Table Row) (edits : List Edit) →
 unfolding fault_by
 add_fault_stands a value edits s =
     ap (add_fault a) s.rows ∙ ap (λ n. fault_by n (length (kept (rows_after edits)))) (kept_length a (rows_after edits))
-    ∙ ap (λ n. fault_by (length (rows_at a (rows_after edits))) n) (meters_kept (rows_after edits))
+    ∙ ap (λ n. fault_by (length (rows_at a (rows_after edits))) n) (length_kept (rows_after edits))
 
 pub place_fault_stands : (a : Address) (place : ℕ) (value : Table Row) (edits : List Edit) → StandsFor edits value
     → place_fault a place value ≡ place_fault a place (rows_after edits)
@@ -65,13 +59,15 @@ place_fault_stands a place value edits s =
     ap (place_fault a place) s.rows ∙ ap (λ n. if nat_lt place n then None else Some (NoSuch place)) (kept_length a (rows_after edits))
 
 -- a fault that is found is that of the rows, and where none is found there is none
-pub found_there : (found kept_one there : Option TotalsFault) (fault : TotalsFault) → found ≡ kept_one → kept_one ≡ there
-    → found ≡ Some fault → there ≡ Some fault
-found_there found kept_one there fault e s is = sym (e ∙ s) ∙ is
-
-pub same_fault : (there : Option TotalsFault) (a b : TotalsFault) → there ≡ Some a → there ≡ Some b → a ≡ b
-same_fault None a b e f = absurd cc
-same_fault (Some x) a b e f = cc
+pub refused_by : (edit : Edit) (value : Table Row) (found : Option TotalsFault) (fault : TotalsFault)
+    → ((edits : List Edit) → StandsFor edits value → found ≡ fault_of (rows_after edits) edit) → found ≡ Some fault
+    → IsAnswered edit value (Err fault) value
+refused_by edit value found fault there is = record {
+  accepted = tt;
+  unchanged = refl;
+  refused = λ edits other s e. ap Err (same_Some fault other (sym is ∙ there edits s ∙ e));
+  caused = λ edits s. inr (sym (there edits s) ∙ is);
+}
 
 pub none_there : {A : Type 0} (found kept_one there : Option TotalsFault) (fault : TotalsFault) → found ≡ kept_one → kept_one ≡ there
     → found ≡ None → there ≡ Some fault → A
@@ -81,5 +77,5 @@ none_there found kept_one there fault e s is other = let clash : None ≡ Some f
 pub kept_below : (table : Table Row) (sums : List (UsageKey × Sum)) → IsKept table sums → (q : UsageKey)
     → IsWithin (2 ^ 93) (sum_at q sums).amount
 kept_below table sums k q =
-    let few : length k.payloads ≤ 4096 = omega (arith, k.few, ap length k.rows, meters_kept k.payloads) in
+    let few : length k.payloads ≤ 4096 = omega (arith, k.few, ap length k.rows, length_kept k.payloads) in
     subst (λ (sum : Sum). IsWithin (2 ^ 93) sum.amount) (sym (k.totals q ∙ ap (total_at q) k.rows)) (total_below q k.payloads few)

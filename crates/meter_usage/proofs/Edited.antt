@@ -1,8 +1,12 @@
 -- What is kept stays kept when a row is added or removed.
-use Rattle.std.proofs.Common.{◌≡◌, ℕ, zero, suc, ◌+◌, ◌^◌, ◌<◌, ◌≤◌, Bool, true, false, cond, List, [], ◌∷◌, ◌++◌, length, get_or, remove, Option, Some, None, Result, Ok, Err, OnOk, OnErr, is_some, ℤ, refl, sym, ap, ◌∙◌, subst, arith}
+use Rattle.std.proofs.Common.{◌≡◌, ℕ, zero, suc, ◌+◌, ◌^◌, ◌<◌, ◌≤◌, Bool, true, false, List, [], ◌∷◌, ◌++◌, map, length, get_or, remove, Option, Some, None, Result, Ok, Err, OnOk, OnErr, is_some, ℤ, refl, sym, ap, ◌∙◌, subst, inl, inr, arith}
+use Rattle.std.proofs.lemmas.Bool.{cases_Bool, cond_both}
+use Rattle.std.proofs.lemmas.List.{length-append, length-map, length-set, get_or-set_same}
+use Rattle.std.proofs.lemmas.Map.Keys.{any_passes_from_place}
+use Rattle.std.proofs.lemmas.Option.{slice_get-get_or}
+use Rattle.std.proofs.Math.Seq.{get_or-append_seam}
 use Rattle.std.specs.Prelude.{slice_set}
-use Rattle.std.specs.Option.{unwrap_or, option_or}
-use Rattle.std.specs.Map.{lookup, remove_entry}
+use Rattle.std.specs.Map.{remove_entry}
 use Rattle.std.proofs.lemmas.List.{map-append, map-set}
 use Rattle.indexmap.specs.IndexMap.{insert_entry}
 use Rattle.indexmap.proofs.SetLemmas.{map-remove}
@@ -10,70 +14,68 @@ use Rattle.meter_address.specs.declared.address.Address.{Address}
 use Rattle.meter_usage.specs.declared.key.UsageKey.{UsageKey}
 use Rattle.meter_usage.specs.declared.sums.Sum.{Sum}
 use Rattle.meter_usage.specs.Amounts.{Row, row_of, amount_at}
-use Rattle.meter_usage.specs.Usage.{first, last, less, usage_by, usage_at}
+use Rattle.meter_usage.specs.Usage.{usage_at}
 use Rattle.meter_usage.specs.Sums.{no_sum, with_usage, sum_at, has_sum, total_at, IsFitting}
 use Rattle.meter_usage.specs.Table.{Table, same, rows_at, with_rows, added, replaced, removed, kept, AreFilled, IsKept}
+use Rattle.meter_usage.proofs.Ends.{usage_some}
+use Rattle.meter_usage.proofs.Entries.{each_removed, each_put}
 use Rattle.meter_usage.proofs.KeyByKey.{sum_none}
-use Rattle.meter_usage.proofs.Tables.{kept_rows, kept_edit, rows_with, append_some, set_some, total_split, total_same, total_again, total_fits}
+use Rattle.meter_usage.proofs.Tables.{kept_rows, kept_with, rows_with, append_some, set_some, total_split, total_same, total_again, total_fits}
 
 -- ---- addresses that have rows
 
-filled_by : (b : Bool) (e : Address × List Row) (es gone : Table Row) → (e.1 ≡ [] → ⊥) → AreFilled es → AreFilled gone
-    → AreFilled (cond b es (e ∷ gone))
-filled_by true e es gone some f g = f
-filled_by false e es gone some f g = (some, g)
-
-filled_removed : (a : Address) (table : Table Row) → AreFilled table → AreFilled (remove_entry (same a) table)
-filled_removed a [] f = tt
-filled_removed a (e ∷ es) f = filled_by (same a e.0) e es (remove_entry (same a) es) f.0 f.1 (filled_removed a es f.1)
-
-filled_put_by : (b : Bool) (e : Address × List Row) (es put : Table Row) (new : List Row) → (new ≡ [] → ⊥) → (e.1 ≡ [] → ⊥) → AreFilled es
-    → AreFilled put → AreFilled (cond b ((e.0, new) ∷ es) (e ∷ put))
-filled_put_by true e es put new some other f g = (some, f)
-filled_put_by false e es put new some other f g = (other, g)
-
-filled_put : (a : Address) (table : Table Row) (new : List Row) → (new ≡ [] → ⊥) → AreFilled table
-    → AreFilled (insert_entry same table a new)
-filled_put a [] new some f = (some, tt)
-filled_put a (e ∷ es) new some f =
-    filled_put_by (same a e.0) e es (insert_entry same es a new) new some f.0 f.1 (filled_put a es new some f.1)
-
-pub filled_with : (a : Address) (table : Table Row) (new : List Row) → AreFilled table → AreFilled (with_rows table a new)
-filled_with a table [] f = filled_removed a table f
-filled_with a table (x ∷ xs) f = filled_put a table (x ∷ xs) (λ e. cc) f
+pub filled_with : {X : Type 0} (a : Address) (table : Table X) (new : List X) → AreFilled table → AreFilled (with_rows table a new)
+filled_with a table [] f = each_removed _ (same a) table f
+filled_with a table (x ∷ xs) f = each_put _ (x ∷ xs) (λ meter some none. cc) same table a (λ none. cc) f
 
 -- ---- how many there are
 
-less_by : (b : Bool) (e : Address × List Row) (es gone : Table Row) → length gone ≤ length es
-    → length (cond b es (e ∷ gone)) ≤ length (e ∷ es)
-less_by true e es gone le = omega arith
-less_by false e es gone le = omega arith
-
 few_removed : (a : Address) (table : Table Row) → length (remove_entry (same a) table) ≤ length table
 few_removed a [] = omega arith
-few_removed a (e ∷ es) = less_by (same a e.0) e es (remove_entry (same a) es) (few_removed a es)
+few_removed a (e ∷ es) =
+    cond_both (same a e.0) es (e ∷ remove_entry (same a) es) (λ t. length t ≤ length (e ∷ es)) (λ _. omega arith)
+    (λ _. omega (arith, few_removed a es))
 
 -- one more at most, and none where the address has rows already
-few_by : (b : Bool) (e : Address × List Row) (es put : Table Row) (new : List Row) (o : Option (List Row))
-    → (length put ≤ length es + 1) × ((unwrap_or o [] ≡ [] → ⊥) → length put ≡ length es)
-    → (length (cond b ((e.0, new) ∷ es) (e ∷ put)) ≤ length (e ∷ es) + 1)
-    × ((unwrap_or (cond b (Some e.1) o) [] ≡ [] → ⊥) → length (cond b ((e.0, new) ∷ es) (e ∷ put)) ≡ length (e ∷ es))
-few_by true e es put new o few = (omega arith, λ some. refl)
-few_by false e es put new o few = (omega (arith, few.0), λ some. ap suc (few.1 some))
-
 few_put : (a : Address) (table : Table Row) (new : List Row)
     → (length (insert_entry same table a new) ≤ length table + 1)
     × ((rows_at a table ≡ [] → ⊥) → length (insert_entry same table a new) ≡ length table)
 few_put a [] new = (omega arith, λ some. absurd (some refl))
-few_put a (e ∷ es) new = few_by (same a e.0) e es (insert_entry same es a new) new (lookup (same a) es) (few_put a es new)
+few_put a (e ∷ es) new =
+    elim (cases_Bool (same a e.0)) [
+      | inl here ↦ rw here (omega arith, λ some. refl)
+      | inr other ↦ rw other (omega (arith, (few_put a es new).0), λ some. ap suc ((few_put a es new).1 some))
+    ]
 
 few_with : (a : Address) (table : Table Row) (new rows : List Row) → rows_at a table ≡ rows → length table ≤ 4096
     → (rows_at a table ≡ [] → length table < 4096) → length (with_rows table a new) ≤ 4096
 few_with a table [] rows e few room = omega (arith, few_removed a table)
 few_with a table (x ∷ xs) [] e few room = omega (arith, (few_put a table (x ∷ xs)).0, room e)
-few_with a table (x ∷ xs) (r ∷ rs) e few room = omega (arith, few, (few_put a table (x ∷ xs)).1 (λ none. clash (sym e ∙ none))) where
-  clash : r ∷ rs ≡ [] → ⊥
-  clash is = cc
+few_with a table (x ∷ xs) (r ∷ rs) e few room =
+    omega (arith, few, (few_put a table (x ∷ xs)).1 (λ none. (let clash : r ∷ rs ≡ [] = sym e ∙ none in cc)))
+
+-- ---- an edit of payloads and of what is kept of them
+
+pub added_stands : (new old : Table Row) (a : Address) (payload : List ℕ) → new ≡ added old a (row_of payload) → (table : Table (List ℕ))
+    → old ≡ kept table → new ≡ kept (added table a payload)
+added_stands new old a payload e table is =
+    e ∙ ap (λ t. added t a (row_of payload)) is
+    ∙ ap (with_rows (kept table) a) (ap (λ rs. rs ++ row_of payload ∷ []) (kept_rows a table)
+    ∙ sym (map-append row_of (rows_at a table) (payload ∷ []))) ∙ kept_with a table _
+
+pub replaced_stands : (new old : Table Row) (a : Address) (place : ℕ) (payload : List ℕ) → new ≡ replaced old a place (row_of payload)
+    → (table : Table (List ℕ)) → old ≡ kept table → new ≡ kept (replaced table a place payload)
+replaced_stands new old a place payload e table is =
+    e ∙ ap (λ t. replaced t a place (row_of payload)) is
+    ∙ ap (with_rows (kept table) a) (ap (λ rs. slice_set rs place (row_of payload)) (kept_rows a table)
+    ∙ sym (map-set row_of (rows_at a table) place payload)) ∙ kept_with a table _
+
+pub removed_stands : (new old : Table Row) (a : Address) (place : ℕ) → new ≡ removed old a place → (table : Table (List ℕ))
+    → old ≡ kept table → new ≡ kept (removed table a place)
+removed_stands new old a place e table is =
+    e ∙ ap (λ t. removed t a place) is
+    ∙ ap (with_rows (kept table) a) (ap (λ rs. remove rs place) (kept_rows a table)
+    ∙ sym (map-remove row_of (rows_at a table) place)) ∙ kept_with a table _
 
 -- ---- what is kept
 
@@ -85,72 +87,44 @@ kept_sums table old new k e =
 pub kept_table : (table other : Table Row) (sums : List (UsageKey × Sum)) → other ≡ table → IsKept table sums → IsKept other sums
 kept_table table other sums e k = subst (λ t. IsKept t sums) (sym e) k
 
-pub kept_added : (a : Address) (table other : Table Row) (payload : List ℕ) (old new : List (UsageKey × Sum)) → IsKept table old
-    → (rows_at a table ≡ [] → length table < 4096)
-    → other ≡ added table a (row_of payload) → ((q : UsageKey) → sum_at q new ≡ total_at q other) → IsKept other new
-kept_added a table other payload old new k room e totals = record {
-  payloads = added k.payloads a payload;
-  rows = e ∙ ap (λ t. with_rows t a (rows_at a t ++ row_of payload ∷ [])) k.rows
-      ∙ kept_edit a k.payloads [] (rows_at a (kept k.payloads) ++ row_of payload ∷ []) (rows_at a k.payloads ++ payload ∷ [])
-      (ap (λ rs. rs ++ row_of payload ∷ []) (kept_rows a k.payloads) ∙ sym (map-append row_of (rows_at a k.payloads) (payload ∷ [])));
-  filled = subst AreFilled (sym e) (filled_with a table _ k.filled);
-  few = subst (λ t. length t ≤ 4096) (sym e) (few_with a table _ (rows_at a table) refl k.few room);
-  totals = totals;
-}
+module _ (a : Address) (table other : Table Row) (old new : List (UsageKey × Sum)) (k : IsKept table old) where
+  kept_changed : (rows : List Row) (payloads : Table (List ℕ)) → (rows_at a table ≡ [] → length table < 4096)
+      → other ≡ with_rows table a rows → other ≡ kept payloads → ((q : UsageKey) → sum_at q new ≡ total_at q other) → IsKept other new
+  kept_changed rows payloads room e is totals = record {
+    payloads = payloads;
+    rows = is;
+    filled = subst AreFilled (sym e) (filled_with a table rows k.filled);
+    few = subst (λ t. length t ≤ 4096) (sym e) (few_with a table rows (rows_at a table) refl k.few room);
+    totals = totals;
+  }
 
-pub kept_removed : (a : Address) (table other : Table Row) (place : ℕ) (old new : List (UsageKey × Sum)) → IsKept table old
-    → place < length (rows_at a table)
-    → other ≡ removed table a place → ((q : UsageKey) → sum_at q new ≡ total_at q (removed table a place)) → IsKept other new
-kept_removed a table other place old new k lt e totals = record {
-  payloads = removed k.payloads a place;
-  rows = e ∙ ap (λ t. with_rows t a (remove (rows_at a t) place)) k.rows
-      ∙ kept_edit a k.payloads [] (remove (rows_at a (kept k.payloads)) place) (remove (rows_at a k.payloads) place)
-      (ap (λ rs. remove rs place) (kept_rows a k.payloads) ∙ sym (map-remove row_of (rows_at a k.payloads) place));
-  filled = subst AreFilled (sym e) (filled_with a table _ k.filled);
-  few = subst (λ t. length t ≤ 4096) (sym e) (few_with a table _ (rows_at a table) refl k.few (λ none. absurd (none_lt none)));
-  totals = λ q. totals q ∙ ap (total_at q) (sym e);
-} where
-  none_lt : rows_at a table ≡ [] → ⊥
-  none_lt none = omega (arith, lt, ap length none)
+  pub kept_added : (payload : List ℕ) → (rows_at a table ≡ [] → length table < 4096) → other ≡ added table a (row_of payload)
+      → ((q : UsageKey) → sum_at q new ≡ total_at q other) → IsKept other new
+  kept_added payload room e totals = kept_changed _ _ room e (added_stands other table a payload e k.payloads k.rows) totals
+
+  module _ (place : ℕ) (lt : place < length (rows_at a table)) where
+    has_rows : rows_at a table ≡ [] → length table < 4096
+    has_rows none = absurd (omega (arith, lt, ap length none))
+
+    pub kept_replaced : (payload : List ℕ) → other ≡ replaced table a place (row_of payload)
+        → ((q : UsageKey) → sum_at q new ≡ total_at q other) → IsKept other new
+    kept_replaced payload e totals =
+        kept_changed _ _ has_rows e (replaced_stands other table a place payload e k.payloads k.rows) totals
+
+    pub kept_removed : other ≡ removed table a place → ((q : UsageKey) → sum_at q new ≡ total_at q (removed table a place)) → IsKept other new
+    kept_removed e totals =
+        kept_changed _ _ has_rows e (removed_stands other table a place e k.payloads k.rows) (λ q. totals q ∙ ap (total_at q) (sym e))
 
 -- ---- the sums fit, and those of a row that stands there are kept
+
+pub length_kept : (table : Table (List ℕ)) → length (kept table) ≡ length table
+length_kept table = length-map table (λ (meter : Address × List (List ℕ)). (meter.0, map row_of meter.1))
 
 pub kept_fits : (table : Table Row) (old new : List (UsageKey × Sum)) → IsKept table old → ((q : UsageKey) → sum_at q new ≡ sum_at q old)
     → (q : UsageKey) → IsFitting (2 ^ 100) (sum_at q new)
 kept_fits table old new k e q =
     let few : length k.payloads ≤ 8192 = omega (arith, k.few, ap length k.rows, length_kept k.payloads) in
-    subst (IsFitting (2 ^ 100)) (sym (e q ∙ k.totals q ∙ ap (total_at q) k.rows)) (total_fits q k.payloads few) where
-      length_kept : (t : Table (List ℕ)) → length (kept t) ≡ length t
-      length_kept [] = refl
-      length_kept (x ∷ xs) = ap suc (length_kept xs)
-
-or_some_left : (x y : Option ℤ) → is_some x ≡ true → is_some (option_or x y) ≡ true
-or_some_left None y e = absurd cc
-or_some_left (Some v) y e = refl
-
-or_some_right : (x y : Option ℤ) → is_some y ≡ true → is_some (option_or x y) ≡ true
-or_some_right None y e = e
-or_some_right (Some v) y e = refl
-
-less_some : (x y : Option ℤ) → is_some x ≡ true → is_some y ≡ true → is_some (less x y) ≡ true
-less_some None y e f = absurd cc
-less_some (Some v) None e f = absurd cc
-less_some (Some v) (Some w) e f = refl
-
-module _ (f : Row → Option ℤ) where
-  first_some : (rows : List Row) (i : ℕ) (d : Row) → i < length rows → is_some (f (get_or rows i d)) ≡ true → is_some (first f rows) ≡ true
-  first_some [] i d lt e = absurd (omega arith)
-  first_some (x ∷ xs) zero d lt e = or_some_left (f x) (first f xs) e
-  first_some (x ∷ xs) (suc i) d lt e = or_some_right (f x) (first f xs) (first_some xs i d (omega arith) e)
-
-  last_some : (rows : List Row) (i : ℕ) (d : Row) → i < length rows → is_some (f (get_or rows i d)) ≡ true → is_some (last f rows) ≡ true
-  last_some [] i d lt e = absurd (omega arith)
-  last_some (x ∷ xs) zero d lt e = or_some_right (last f xs) (f x) e
-  last_some (x ∷ xs) (suc i) d lt e = or_some_left (last f xs) (f x) (last_some xs i d (omega arith) e)
-
-  usage_some : (rows : List Row) (i : ℕ) (d : Row) → i < length rows → is_some (f (get_or rows i d)) ≡ true
-      → is_some (usage_by f rows) ≡ true
-  usage_some rows i d lt e = less_some _ _ (last_some rows i d lt e) (first_some rows i d lt e)
+    subst (IsFitting (2 ^ 100)) (sym (e q ∙ k.totals q ∙ ap (total_at q) k.rows)) (total_fits q k.payloads few)
 
 counted_some : (u : Option ℤ) (rest : Sum) → is_some u ≡ true → with_usage u rest ≡ no_sum → ⊥
 counted_some None rest e is = absurd cc
@@ -165,7 +139,9 @@ pub kept_there : (a : Address) (table : Table Row) (sums : List (UsageKey × Sum
     → (q : UsageKey) (d : Row) → is_some (amount_at q (get_or (rows_at a table) place d)) ≡ true → has_sum q sums ≡ true
 kept_there a table sums place k lt q d e =
     has_by q sums (has_sum q sums) refl (λ none. counted_some (usage_at q (rows_at a table)) (total_at q (remove_entry (same a) table))
-    (usage_some (amount_at q) (rows_at a table) place d lt e) (sym (k.totals q ∙ total_split q a table) ∙ none))
+    (usage_some (amount_at q) (rows_at a table)
+    ∙ any_passes_from_place (λ row. is_some (amount_at q row)) (rows_at a table) place (get_or (rows_at a table) place d)
+    (slice_get-get_or (rows_at a table) place d lt) e) (sym (k.totals q ∙ total_split q a table) ∙ none))
 
 -- the sums before the row of an address goes
 pub kept_before : (a : Address) (table : Table Row) (sums : List (UsageKey × Sum)) → IsKept table sums → (q : UsageKey)
@@ -174,17 +150,9 @@ kept_before a table sums k q = k.totals q ∙ sym (total_same q a table)
 
 -- ---- a row that was put behind the others
 
-get_end : (rows : List Row) (row d : Row) → get_or (rows ++ row ∷ []) (length rows) d ≡ row
-get_end [] row d = refl
-get_end (x ∷ xs) row d = get_end xs row d
-
-remove_end : (rows : List Row) (row : Row) → remove (rows ++ row ∷ []) (length rows) ≡ rows
+pub remove_end : {X : Type 0} (rows : List X) (row : X) → remove (rows ++ row ∷ []) (length rows) ≡ rows
 remove_end [] row = refl
 remove_end (x ∷ xs) row = ap (λ z. x ∷ z) (remove_end xs row)
-
-length_end : (rows : List Row) (row : Row) → length rows < length (rows ++ row ∷ [])
-length_end [] row = omega arith
-length_end (x ∷ xs) row = omega (arith, length_end xs row)
 
 module _ (a : Address) (table other : Table Row) (row : Row) (place : ℕ) (e : other ≡ added table a row)
     (at : place ≡ length (rows_at a table)) where
@@ -194,11 +162,11 @@ module _ (a : Address) (table other : Table Row) (row : Row) (place : ℕ) (e : 
   pub put_place : place < length (rows_at a other)
   put_place =
       subst (λ n. n < length (rows_at a other)) (sym at)
-      (subst (λ rs. length (rows_at a table) < length rs) (sym put_rows) (length_end (rows_at a table) row))
+      (subst (λ rs. length (rows_at a table) < length rs) (sym put_rows) (omega (arith, length-append (rows_at a table) (row ∷ []))))
 
   pub put_row : (d : Row) → get_or (rows_at a other) place d ≡ row
   put_row d =
-      ap (λ rs. get_or rs place d) put_rows ∙ ap (λ n. get_or (rows_at a table ++ row ∷ []) n d) at ∙ get_end (rows_at a table) row d
+      ap (λ rs. get_or rs place d) put_rows ∙ ap (λ n. get_or (rows_at a table ++ row ∷ []) n d) at ∙ get_or-append_seam (rows_at a table) row [] d
 
   pub put_totals : (q : UsageKey) → total_at q (with_rows other a (remove (rows_at a other) place)) ≡ total_at q table
   put_totals q =
@@ -210,20 +178,10 @@ module _ (a : Address) (table other : Table Row) (row : Row) (place : ℕ) (e : 
 
 -- ---- a row that was put in the place of another
 
-get_set : (rows : List Row) (i : ℕ) (row d : Row) → i < length rows → get_or (slice_set rows i row) i d ≡ row
-get_set [] i row d lt = absurd (omega arith)
-get_set (x ∷ xs) zero row d lt = refl
-get_set (x ∷ xs) (suc i) row d lt = get_set xs i row d (omega arith)
-
 remove_set : (rows : List Row) (i : ℕ) (row : Row) → i < length rows → remove (slice_set rows i row) i ≡ remove rows i
 remove_set [] i row lt = absurd (omega arith)
 remove_set (x ∷ xs) zero row lt = refl
 remove_set (x ∷ xs) (suc i) row lt = ap (λ z. x ∷ z) (remove_set xs i row (omega arith))
-
-length_set : (rows : List Row) (i : ℕ) (row : Row) → i < length rows → i < length (slice_set rows i row)
-length_set [] i row lt = absurd (omega arith)
-length_set (x ∷ xs) zero row lt = omega arith
-length_set (x ∷ xs) (suc i) row lt = omega (arith, length_set xs i row (omega arith))
 
 module _ (a : Address) (table other : Table Row) (row : Row) (place : ℕ) (lt : place < length (rows_at a table))
     (e : other ≡ replaced table a place row) where
@@ -231,10 +189,10 @@ module _ (a : Address) (table other : Table Row) (row : Row) (place : ℕ) (lt :
   set_rows = ap (rows_at a) e ∙ rows_with a table (slice_set (rows_at a table) place row) (set_some (rows_at a table) place row lt)
 
   pub set_place : place < length (rows_at a other)
-  set_place = subst (λ rs. place < length rs) (sym set_rows) (length_set (rows_at a table) place row lt)
+  set_place = subst (λ rs. place < length rs) (sym set_rows) (omega (arith, lt, length-set (rows_at a table) place row))
 
   pub set_row : (d : Row) → get_or (rows_at a other) place d ≡ row
-  set_row d = ap (λ rs. get_or rs place d) set_rows ∙ get_set (rows_at a table) place row d lt
+  set_row d = ap (λ rs. get_or rs place d) set_rows ∙ get_or-set_same (rows_at a table) place row d lt
 
   pub set_totals : (q : UsageKey)
       → total_at q (with_rows other a (remove (rows_at a other) place)) ≡ total_at q (with_rows table a (remove (rows_at a table) place))
@@ -250,46 +208,7 @@ pub gone_fits : (a : Address) (table : Table Row) (place : ℕ) (old now : List 
     → place < length (rows_at a table)
     → ((q : UsageKey) → sum_at q now ≡ total_at q (removed table a place)) → (q : UsageKey) → IsFitting (2 ^ 100) (sum_at q now)
 gone_fits a table place old now k lt totals =
-    kept_fits (removed table a place) now now (kept_removed a table (removed table a place) place old now k lt refl totals) (λ q. refl)
-
-pub kept_replaced : (a : Address) (table other : Table Row) (place : ℕ) (payload : List ℕ) (old new : List (UsageKey × Sum))
-    → IsKept table old → place < length (rows_at a table)
-    → other ≡ replaced table a place (row_of payload) → ((q : UsageKey) → sum_at q new ≡ total_at q other) → IsKept other new
-kept_replaced a table other place payload old new k lt e totals = record {
-  payloads = replaced k.payloads a place payload;
-  rows = e ∙ ap (λ t. with_rows t a (slice_set (rows_at a t) place (row_of payload))) k.rows
-      ∙ kept_edit a k.payloads [] (slice_set (rows_at a (kept k.payloads)) place (row_of payload))
-      (slice_set (rows_at a k.payloads) place payload)
-      (ap (λ rs. slice_set rs place (row_of payload)) (kept_rows a k.payloads) ∙ sym (map-set row_of (rows_at a k.payloads) place payload));
-  filled = subst AreFilled (sym e) (filled_with a table _ k.filled);
-  few = subst (λ t. length t ≤ 4096) (sym e) (few_with a table _ (rows_at a table) refl k.few (λ none. absurd (none_lt none)));
-  totals = totals;
-} where
-  none_lt : rows_at a table ≡ [] → ⊥
-  none_lt none = omega (arith, lt, ap length none)
-
--- ---- an edit of payloads and of what is kept of them
-
-pub added_stands : (new old : Table Row) (a : Address) (payload : List ℕ) → new ≡ added old a (row_of payload) → (table : Table (List ℕ))
-    → old ≡ kept table → new ≡ kept (added table a payload)
-added_stands new old a payload e table is =
-    e ∙ ap (λ t. added t a (row_of payload)) is
-    ∙ kept_edit a table [] (rows_at a (kept table) ++ row_of payload ∷ []) (rows_at a table ++ payload ∷ [])
-    (ap (λ rs. rs ++ row_of payload ∷ []) (kept_rows a table) ∙ sym (map-append row_of (rows_at a table) (payload ∷ [])))
-
-pub replaced_stands : (new old : Table Row) (a : Address) (place : ℕ) (payload : List ℕ) → new ≡ replaced old a place (row_of payload)
-    → (table : Table (List ℕ)) → old ≡ kept table → new ≡ kept (replaced table a place payload)
-replaced_stands new old a place payload e table is =
-    e ∙ ap (λ t. replaced t a place (row_of payload)) is
-    ∙ kept_edit a table [] (slice_set (rows_at a (kept table)) place (row_of payload)) (slice_set (rows_at a table) place payload)
-    (ap (λ rs. slice_set rs place (row_of payload)) (kept_rows a table) ∙ sym (map-set row_of (rows_at a table) place payload))
-
-pub removed_stands : (new old : Table Row) (a : Address) (place : ℕ) → new ≡ removed old a place → (table : Table (List ℕ))
-    → old ≡ kept table → new ≡ kept (removed table a place)
-removed_stands new old a place e table is =
-    e ∙ ap (λ t. removed t a place) is
-    ∙ kept_edit a table [] (remove (rows_at a (kept table)) place) (remove (rows_at a table) place)
-    (ap (λ rs. remove rs place) (kept_rows a table) ∙ sym (map-remove row_of (rows_at a table) place))
+    kept_fits (removed table a place) now now (kept_removed a table (removed table a place) old now k place lt refl totals) (λ q. refl)
 
 -- an edit that was made, or wasn't
 pub by_result : {T E A B C : Type 0} (r : Result T E) → OnOk r A → OnErr r B → (A → C) → (B → C) → C

@@ -1,12 +1,14 @@
 -- Sums that are mended key by key.
-use Rattle.std.proofs.Common.{◌≡◌, ℕ, ◌<◌, Bool, true, false, cond, ◌||◌, List, [], ◌∷◌, length, get_or, remove, Option, Some, None, is_some, ℤ, refl, sym, ap, ◌∙◌, subst}
+use Rattle.std.proofs.Common.{◌≡◌, ℕ, ◌<◌, Bool, true, false, cond, ◌||◌, List, [], ◌∷◌, length, get_or, remove, Option, Some, None, is_some, ℤ, refl, sym, ap, ◌∙◌, subst, inl, inr}
 use Rattle.std.specs.declared.cmp.Ordering.TheVariants.{Less}
 use Rattle.std.specs.Ordering.{is_eq}
 use Rattle.std.specs.Option.{unwrap_or}
-use Rattle.std.specs.List.{AllByRecursion, list_any}
+use Rattle.std.specs.List.{AllByRecursion}
 use Rattle.std.specs.List.Sorted.{IsStrictlySortedBy}
 use Rattle.std.specs.Map.{keys_of}
 use Rattle.std.specs.BTreeMap.{is_at}
+use Rattle.std.proofs.lemmas.Bool.{cases_Bool, or_right, or_from, or_cases}
+use Rattle.std.proofs.lemmas.Map.Made.{is_some-lookup}
 use Rattle.std.proofs.lemmas.Map.Keys.{sorted_head, sorted_tail}
 use Rattle.std.proofs.lemmas.Cmp.{tied_itself, eq_by_cmp_equiv}
 use Rattle.meter_usage.specs.declared.key.UsageKey.{UsageKey}
@@ -14,33 +16,24 @@ use Rattle.meter_usage.specs.declared.sums.Sum.{Sum}
 use Rattle.meter_usage.specs.Keys.{key_cmp, key_cmp_total}
 use Rattle.meter_usage.specs.Amounts.{Row, amount_at}
 use Rattle.meter_usage.specs.Usage.{usage_at, side}
-use Rattle.meter_usage.specs.Sums.{with_usage, find_sum, has_sum, sum_at, no_sum}
+use Rattle.meter_usage.specs.Sums.{with_usage, find_sum, has_sum, sum_at, no_sum, is_among}
 use Rattle.meter_usage.proofs.Ends.{usage_removed}
 use Rattle.meter_usage.proofs.SameKey.{same_by_test}
-
--- whether a key is among keys
-abbrev pub has_key : UsageKey → List UsageKey → Bool
-has_key q keys = list_any (is_at (key_cmp q)) keys
 
 -- While keys are left, the sums of these are the old ones, and those of all others are mended.
 pub record IsMending (before after : UsageKey → Option ℤ) (old now : List (UsageKey × Sum)) (left : List UsageKey) : Type 0 where
   pub ordered : IsStrictlySortedBy key_cmp left
-  pub there : (q : UsageKey) → has_key q left ≡ true → has_sum q old ≡ true
-  pub waiting : (q : UsageKey) → has_key q left ≡ true → find_sum q now ≡ find_sum q old
-  pub mended : (q : UsageKey) (rest : Sum) → has_key q left ≡ false → sum_at q old ≡ with_usage (before q) rest
+  pub there : (q : UsageKey) → is_among q left ≡ true → has_sum q old ≡ true
+  pub waiting : (q : UsageKey) → is_among q left ≡ true → find_sum q now ≡ find_sum q old
+  pub mended : (q : UsageKey) (rest : Sum) → is_among q left ≡ false → sum_at q old ≡ with_usage (before q) rest
       → sum_at q now ≡ with_usage (after q) rest
   pub stays : (q : UsageKey) → has_sum q old ≡ true → has_sum q now ≡ true
 
 -- ---- a row's keys
 
-found_by : (a b : Bool) (v : ℤ) (o : Option ℤ) → is_some o ≡ b → is_some (cond a (Some v) o) ≡ a || b
-found_by true b v o e = refl
-found_by false b v o e = e
-
 -- a row has an amount of its keys, and of no others
-pub has_amount : (q : UsageKey) (row : Row) → is_some (amount_at q row) ≡ has_key q (keys_of row)
-has_amount q [] = refl
-has_amount q (e ∷ es) = found_by (is_at (key_cmp q) e.0) (has_key q (keys_of es)) e.1 (amount_at q es) (has_amount q es)
+pub has_amount : (q : UsageKey) (row : Row) → is_some (amount_at q row) ≡ is_among q (keys_of row)
+has_amount q row = is_some-lookup (is_at (key_cmp q)) row
 
 both : true ≡ false → ⊥
 both e = cc
@@ -64,27 +57,30 @@ mending_starts before after old row ordered there same = record {
 
 -- ---- one key
 
-pub or_right : (a b : Bool) → b ≡ true → a || b ≡ true
-or_right true b e = refl
-or_right false b e = e
+pub has_first : (k : UsageKey) (left : List UsageKey) → is_among k (k ∷ left) ≡ true
+has_first k left = ap (λ o. is_eq o || is_among k left) (tied_itself key_cmp_total k)
 
-pub or_both : (a b : Bool) → a ≡ false → b ≡ false → a || b ≡ false
-or_both true b e f = e
-or_both false b e f = f
-
-pub has_first : (k : UsageKey) (left : List UsageKey) → has_key k (k ∷ left) ≡ true
-has_first k left = ap (λ o. is_eq o || has_key k left) (tied_itself key_cmp_total k)
-
-apart_by : (k q y : UsageKey) (others : List UsageKey) (test : Bool) → is_at (key_cmp q) y ≡ test → key_cmp k y ≡ Less
-    → (has_key q others ≡ true → is_eq (key_cmp k q) ≡ false) → test || has_key q others ≡ true → is_eq (key_cmp k q) ≡ false
-apart_by k q y others true e below further has = ap is_eq (ap (key_cmp k) (same_by_test q y e) ∙ below)
-apart_by k q y others false e below further has = further has
+-- what holds of a key, and of every other one
+pub at_key : (P : UsageKey → Type 0) (k q : UsageKey) → P k → (is_eq (key_cmp k q) ≡ false → P q) → P q
+at_key P k q here others =
+    elim (cases_Bool (is_eq (key_cmp k q))) [
+      | inl same ↦ subst P (same_by_test k q same) here
+      | inr other ↦ others other
+    ]
 
 -- the first key is none of the later ones
-pub apart_in : (k q : UsageKey) (left : List UsageKey) → AllByRecursion (λ y. key_cmp k y ≡ Less) left → has_key q left ≡ true
+pub apart_in : (k q : UsageKey) (left : List UsageKey) → AllByRecursion (λ y. key_cmp k y ≡ Less) left → is_among q left ≡ true
     → is_eq (key_cmp k q) ≡ false
 apart_in k q [] below has = absurd cc
-apart_in k q (y ∷ ys) below has = apart_by k q y ys (is_at (key_cmp q) y) refl below.0 (apart_in k q ys below.1) has
+apart_in k q (y ∷ ys) below has =
+    elim (or_cases (is_at (key_cmp q) y) (is_among q ys) has) [
+      | inl here ↦ ap is_eq (ap (key_cmp k) (same_by_test q y here) ∙ below.0)
+      | inr later ↦ apart_in k q ys below.1 later
+    ]
+
+-- and what is neither the first nor a later one is none of both
+pub no_key : (k q : UsageKey) (left : List UsageKey) → is_eq (key_cmp k q) ≡ false → is_among q left ≡ false → is_among q (k ∷ left) ≡ false
+no_key k q left other misses = or_from _ _ ((eq_by_cmp_equiv key_cmp_total).symm q k ∙ other) misses
 
 sum_same : (q : UsageKey) (a b : List (UsageKey × Sum)) → find_sum q a ≡ find_sum q b → sum_at q a ≡ sum_at q b
 sum_same q a b e = ap (λ o. unwrap_or o no_sum) e
@@ -93,26 +89,18 @@ module _ (before after : UsageKey → Option ℤ) (old now new : List (UsageKey 
     (m : IsMending before after old now (k ∷ left))
     (here : (rest : Sum) → sum_at k now ≡ with_usage (before k) rest → sum_at k new ≡ with_usage (after k) rest)
     (others : (q : UsageKey) → is_eq (key_cmp k q) ≡ false → find_sum q new ≡ find_sum q now) (put : has_sum k new ≡ true) where
-  stays_by : (q : UsageKey) (test : Bool) → is_eq (key_cmp k q) ≡ test → has_sum q old ≡ true → has_sum q new ≡ true
-  stays_by q true e has = subst (λ p. has_sum p new ≡ true) (same_by_test k q e) put
-  stays_by q false e has = ap is_some (others q e) ∙ m.stays q has
-
-  mended_by : (q : UsageKey) (rest : Sum) (test : Bool) → is_eq (key_cmp k q) ≡ test → has_key q left ≡ false
-      → sum_at q old ≡ with_usage (before q) rest → sum_at q new ≡ with_usage (after q) rest
-  mended_by q rest true e misses =
-      subst (λ (p : UsageKey). sum_at p old ≡ with_usage (before p) rest → sum_at p new ≡ with_usage (after p) rest) (same_by_test k q e)
-      (λ is. here rest (sum_same k now old (m.waiting k (has_first k left)) ∙ is))
-  mended_by q rest false e misses =
-      let other : has_key q (k ∷ left) ≡ false = or_both _ _ ((eq_by_cmp_equiv key_cmp_total).symm q k ∙ e) misses in
-      λ is. sum_same q new now (others q e) ∙ m.mended q rest other is
-
   pub mending_goes_on : IsMending before after old new left
   mending_goes_on = record {
     ordered = sorted_tail key_cmp k left m.ordered;
     there = λ q has. m.there q (or_right _ _ has);
     waiting = λ q has. others q (apart_in k q left (sorted_head key_cmp k left m.ordered) has) ∙ m.waiting q (or_right _ _ has);
-    mended = λ q rest misses. mended_by q rest (is_eq (key_cmp k q)) refl misses;
-    stays = λ q. stays_by q (is_eq (key_cmp k q)) refl;
+    mended = λ q rest misses.
+        at_key (λ p. sum_at p old ≡ with_usage (before p) rest → sum_at p new ≡ with_usage (after p) rest) k q
+        (λ is. here rest (sum_same k now old (m.waiting k (has_first k left)) ∙ is))
+        (λ other is. sum_same q new now (others q other) ∙ m.mended q rest (no_key k q left other misses) is);
+    stays = λ q.
+        at_key (λ p. has_sum p old ≡ true → has_sum p new ≡ true) k q (λ _. put)
+        (λ other has. ap is_some (others q other) ∙ m.stays q has);
   }
 
 -- ---- the row that comes or goes
@@ -145,35 +133,28 @@ mending_step rows place comes old now new k left keys u v m e is_u is_v here oth
 pub next_waits : (before after : UsageKey → Option ℤ) (old now : List (UsageKey × Sum)) (k : UsageKey) (left keys : List UsageKey)
     → IsMending before after old now keys → keys ≡ k ∷ left → (has_sum k now ≡ true) × (sum_at k now ≡ sum_at k old)
 next_waits before after old now k left keys m e =
-    let has : has_key k keys ≡ true = ap (has_key k) e ∙ has_first k left in
+    let has : is_among k keys ≡ true = ap (is_among k) e ∙ has_first k left in
     (ap is_some (m.waiting k has) ∙ m.there k has, sum_same k now old (m.waiting k has))
 
 -- Room is made: no sum changes, and of the row's keys only those that are left may have none.
 pub record IsMakingRoom (row : Row) (old now : List (UsageKey × Sum)) (left : List UsageKey) : Type 0 where
   pub same : (q : UsageKey) → sum_at q now ≡ sum_at q old
-  pub there : (q : UsageKey) → is_some (amount_at q row) ≡ true → has_key q left ≡ false → has_sum q now ≡ true
+  pub there : (q : UsageKey) → is_some (amount_at q row) ≡ true → is_among q left ≡ false → has_sum q now ≡ true
 
 pub room_starts : (row : Row) (old : List (UsageKey × Sum)) (left : List UsageKey) → left ≡ keys_of row → IsMakingRoom row old old left
 room_starts row old left e =
-    record { same = λ q. refl; there = λ q has misses. absurd (both (sym has ∙ has_amount q row ∙ ap (has_key q) (sym e) ∙ misses)) }
-
-room_by : (row : Row) (k : UsageKey) (left : List UsageKey) (old now new : List (UsageKey × Sum)) → IsMakingRoom row old now (k ∷ left)
-    → ((q : UsageKey) → has_sum q now ≡ true → has_sum q new ≡ true) → has_sum k new ≡ true
-    → (q : UsageKey) (test : Bool) → is_at (key_cmp q) k ≡ test → is_some (amount_at q row) ≡ true → has_key q left ≡ false
-    → has_sum q new ≡ true
-room_by row k left old now new m stays here q true e has misses = subst (λ p. has_sum p new ≡ true) (sym (same_by_test q k e)) here
-room_by row k left old now new m stays here q false e has misses = stays q (m.there q has (or_both _ _ e misses))
+    record { same = λ q. refl; there = λ q has misses. absurd (both (sym has ∙ has_amount q row ∙ ap (is_among q) (sym e) ∙ misses)) }
 
 pub room_step : (row : Row) (k : UsageKey) (left keys : List UsageKey) (old now new : List (UsageKey × Sum)) → IsMakingRoom row old now keys
     → keys ≡ k ∷ left
     → ((q : UsageKey) → sum_at q new ≡ sum_at q now) → ((q : UsageKey) → has_sum q now ≡ true → has_sum q new ≡ true) → has_sum k new ≡ true
     → IsMakingRoom row old new left
 room_step row k left keys old now new m e same stays here =
-    let m' = subst (IsMakingRoom row old now) e m in
+    let m' : IsMakingRoom row old now (k ∷ left) = subst (IsMakingRoom row old now) e m in
     record {
       same = λ q. same q ∙ m.same q;
-      there = λ q has misses. room_by row k left old now new m' stays here q (is_at (key_cmp q) k)
-          refl has misses;
+      there = λ q has misses.
+          at_key (λ p. has_sum p new ≡ true) k q here (λ other. stays q (m'.there q has (no_key k q left other misses)));
     }
 
 none_of : (o : Option Sum) → is_some o ≡ false → unwrap_or o no_sum ≡ no_sum

@@ -1,4 +1,5 @@
 pub mod Records
+pub mod Entries
 pub mod Small
 pub mod Ends
 pub mod Parts

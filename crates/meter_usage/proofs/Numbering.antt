@@ -1,5 +1,5 @@
 -- Rows whose numbers rise, and the amounts of a key that they have.
-use Rattle.std.proofs.Common.{◌≡◌, ℕ, zero, suc, ◌+◌, ◌<◌, List, [], ◌∷◌, ◌++◌, append_assoc, append-nil, map, length, get_or, take, drop, remove, Option, Some, None, ℤ, refl, sym, ap, ◌∙◌, subst, arith}
+use Rattle.std.proofs.Common.{◌≡◌, ℕ, suc, ◌+◌, ◌<◌, List, [], ◌∷◌, ◌++◌, append_assoc, append-nil, map, length, get_or, take, drop, remove, Option, Some, None, ℤ, refl, sym, ap, ◌∙◌, subst, arith}
 use Rattle.std.specs.Prelude.{slice_set}
 use Rattle.std.specs.declared.cmp.Ordering.TheVariants.{Less, Greater}
 use Rattle.std.specs.Ordering.{nat_cmp, ordering_reverse}
@@ -9,6 +9,7 @@ use Rattle.std.specs.List.Sorted.{IsStrictlySortedBy}
 use Rattle.std.proofs.lemmas.Bool.Decides.{nat_tests}
 use Rattle.std.proofs.lemmas.Cmp.{nat_cmp_total}
 use Rattle.std.proofs.lemmas.List.{length-map, map-append, set_split}
+use Rattle.std.proofs.Math.Seq.{split_at}
 use Rattle.std.proofs.lemmas.List.Elements.{filter_map-append}
 use Rattle.indexmap.proofs.SetLemmas.{map-remove}
 use Rattle.meter_usage.specs.declared.key.UsageKey.{UsageKey}
@@ -24,43 +25,40 @@ use Rattle.meter_usage.proofs.Parts.{AreBelow, without_parted, amount_parted}
 less_more : (n : ℕ) → nat_cmp n (n + 1) ≡ Less
 less_more n = grind (arith, nat_tests)
 
-all_middle : (P : ℕ → Type 0) (xs ys : List ℕ) (n : ℕ) → AllByRecursion P (xs ++ n ∷ ys) → P n
-all_middle P [] ys n a = a.0
-all_middle P (x ∷ xs) ys n a = all_middle P xs ys n a.1
+all_parts : (P : ℕ → Type 0) (xs ys : List ℕ) → AllByRecursion P (xs ++ ys) → AllByRecursion P xs × AllByRecursion P ys
+all_parts P [] ys a = (tt, a)
+all_parts P (x ∷ xs) ys a = let rest = all_parts P xs ys a.1 in ((a.0, rest.0), rest.1)
 
-all_without : (P : ℕ → Type 0) (xs ys : List ℕ) (n : ℕ) → AllByRecursion P (xs ++ n ∷ ys) → AllByRecursion P (xs ++ ys)
-all_without P [] ys n a = a.1
-all_without P (x ∷ xs) ys n a = (a.0, all_without P xs ys n a.1)
+all_append : (P : ℕ → Type 0) (xs ys : List ℕ) → AllByRecursion P xs → AllByRecursion P ys → AllByRecursion P (xs ++ ys)
+all_append P [] ys a b = b
+all_append P (x ∷ xs) ys a b = (a.0, all_append P xs ys a.1 b)
 
-all_front : (P : ℕ → Type 0) (xs ys : List ℕ) → AllByRecursion P (xs ++ ys) → AllByRecursion P xs
-all_front P [] ys a = tt
-all_front P (x ∷ xs) ys a = (a.0, all_front P xs ys a.1)
+-- the numbers around one of those that rise
+pub record IsAround (xs ys : List ℕ) (n : ℕ) : Type 0 where
+  pub below : AllByRecursion (λ x. nat_cmp n x ≡ Greater) xs
+  pub above : AllByRecursion (λ y. nat_cmp n y ≡ Less) ys
+  pub others : IsStrictlySortedBy nat_cmp (xs ++ ys)
 
-all_more : (x : ℕ) (xs : List ℕ) (n : ℕ) → AllByRecursion (λ y. nat_cmp x y ≡ Less) (xs ++ n ∷ [])
-    → AllByRecursion (λ y. nat_cmp x y ≡ Less) (xs ++ n ∷ (n + 1) ∷ [])
-all_more x [] n a = (a.0, (nat_cmp_total.trans x n (n + 1) a.0 (less_more n), tt))
-all_more x (y ∷ ys) n a = (a.0, all_more x ys n a.1)
-
-pub rising_below : (xs ys : List ℕ) (n : ℕ) → IsStrictlySortedBy nat_cmp (xs ++ n ∷ ys) → AllByRecursion (λ x. nat_cmp n x ≡ Greater) xs
+pub rising_around : (xs ys : List ℕ) (n : ℕ) → IsStrictlySortedBy nat_cmp (xs ++ n ∷ ys) → IsAround xs ys n
 unfolding IsStrictlySortedBy
-rising_below [] ys n s = tt
-rising_below (x ∷ xs) ys n s =
-    (nat_cmp_total.antisymm n x ∙ ap ordering_reverse (all_middle _ xs ys n s.0), rising_below xs ys n s.1)
-
-rising_above : (xs ys : List ℕ) (n : ℕ) → IsStrictlySortedBy nat_cmp (xs ++ n ∷ ys) → AllByRecursion (λ y. nat_cmp n y ≡ Less) ys
-unfolding IsStrictlySortedBy
-rising_above [] ys n s = s.0
-rising_above (x ∷ xs) ys n s = rising_above xs ys n s.1
-
-rising_without : (xs ys : List ℕ) (n : ℕ) → IsStrictlySortedBy nat_cmp (xs ++ n ∷ ys) → IsStrictlySortedBy nat_cmp (xs ++ ys)
-unfolding IsStrictlySortedBy
-rising_without [] ys n s = s.1
-rising_without (x ∷ xs) ys n s = (all_without _ xs ys n s.0, rising_without xs ys n s.1)
+rising_around [] ys n s = record { below = tt; above = s.0; others = s.1 }
+rising_around (x ∷ xs) ys n s =
+    let rest = rising_around xs ys n s.1 in
+    let parts = all_parts _ xs (n ∷ ys) s.0 in
+    record {
+      below = (nat_cmp_total.antisymm n x ∙ ap ordering_reverse parts.1.0, rest.below);
+      above = rest.above;
+      others = (all_append _ xs ys parts.0 parts.1.1, rest.others);
+    }
 
 rising_more : (xs : List ℕ) (n : ℕ) → IsStrictlySortedBy nat_cmp (xs ++ n ∷ []) → IsStrictlySortedBy nat_cmp (xs ++ n ∷ (n + 1) ∷ [])
 unfolding IsStrictlySortedBy
 rising_more [] n s = ((less_more n, tt), (tt, tt))
-rising_more (x ∷ xs) n s = (all_more x xs n s.0, rising_more xs n s.1)
+rising_more (x ∷ xs) n s =
+    let parts = all_parts _ xs (n ∷ []) s.0 in (
+      all_append _ xs (n ∷ (n + 1) ∷ []) parts.0 (parts.1.0, (nat_cmp_total.trans x n (n + 1) parts.1.0 (less_more n), tt)),
+      rising_more xs n s.1,
+    )
 
 -- ---- the amounts of a key
 
@@ -112,11 +110,9 @@ pub place_within : (rows : List NumberedRow) (all : List Row) (i : ℕ) → amou
 place_within rows all i e lt =
     subst (λ n. i < n) (length-map rows (λ (r : NumberedRow). r.amounts)) (subst (λ rs. i < length rs) (sym e) lt)
 
-pub split_row : (rows : List NumberedRow) (i : ℕ) (row : NumberedRow) → i < length rows → row ≡ get_or rows i row
+split_row : (rows : List NumberedRow) (i : ℕ) (row : NumberedRow) → i < length rows → row ≡ get_or rows i row
     → rows ≡ take i rows ++ row ∷ drop (suc i) rows
-split_row [] i row lt e = absurd (omega arith)
-split_row (x ∷ xs) zero row lt e = ap (λ z. z ∷ xs) (sym e)
-split_row (x ∷ xs) (suc i) row lt e = ap (λ z. x ∷ z) (split_row xs i row (omega arith) e)
+split_row rows i row lt e = split_at rows i row lt ∙ ap (λ r. take i rows ++ r ∷ drop (suc i) rows) (sym e)
 
 numbers_parted : (front back : List NumberedRow) (row : NumberedRow) (next : ℕ)
     → numbers (front ++ row ∷ back) ++ next ∷ [] ≡ numbers front ++ row.number ∷ (numbers back ++ next ∷ [])
@@ -126,8 +122,9 @@ numbers_parted front back row next =
 
 module _ (front back : List NumberedRow) (row : NumberedRow) (next : ℕ)
     (s : IsStrictlySortedBy nat_cmp (numbers (front ++ row ∷ back) ++ next ∷ [])) where
-  rises : IsStrictlySortedBy nat_cmp (numbers front ++ row.number ∷ (numbers back ++ next ∷ []))
-  rises = subst (IsStrictlySortedBy nat_cmp) (numbers_parted front back row next) s
+  around : IsAround (numbers front) (numbers back ++ next ∷ []) row.number
+  around = rising_around (numbers front) (numbers back ++ next ∷ []) row.number
+      (subst (IsStrictlySortedBy nat_cmp) (numbers_parted front back row next) s)
 
   -- its amount stands at its number
   row_stands : (q : UsageKey) → StandsAt row.number (amount_at q row.amounts) (series q (front ++ row ∷ back))
@@ -135,11 +132,8 @@ module _ (front back : List NumberedRow) (row : NumberedRow) (next : ℕ)
     front = series q front;
     back = series q back;
     parts = filter_map-append _ front (row ∷ back);
-    below =
-        all_series (λ m. nat_cmp row.number m ≡ Greater) q front
-        (rising_below (numbers front) (numbers back ++ next ∷ []) row.number rises);
-    above = all_series (λ m. nat_cmp row.number m ≡ Less) q back
-        (all_front _ (numbers back) (next ∷ []) (rising_above (numbers front) (numbers back ++ next ∷ []) row.number rises));
+    below = all_series (λ m. nat_cmp row.number m ≡ Greater) q front around.below;
+    above = all_series (λ m. nat_cmp row.number m ≡ Less) q back (all_parts _ (numbers back) (next ∷ []) around.above).0;
   }
 
   row_gone : (q : UsageKey) → without row.number (series q (front ++ row ∷ back)) ≡ series q (front ++ back)
@@ -164,7 +158,7 @@ module _ (front back : List NumberedRow) (row : NumberedRow) (next : ℕ)
       subst (IsStrictlySortedBy nat_cmp)
       (sym (ap (λ z. z ++ next ∷ []) (map-append (λ (r : NumberedRow). r.number) front back)
       ∙ append_assoc (numbers front) (numbers back) (next ∷ [])))
-      (rising_without (numbers front) (numbers back ++ next ∷ []) row.number rises)
+      around.others
 
 -- ---- a meter's rows and index under an edit
 
@@ -175,13 +169,9 @@ empty_indexed rows index e f = record {
   all = λ q. ap (indexed q) f ∙ ap (series q) (sym e);
 }
 
-pub same_indexed : (rows : List NumberedRow) (next : ℕ) (old now : List (UsageKey × Numbered)) → IsIndexed rows next old
-    → ((q : UsageKey) → indexed q now ≡ indexed q old) → IsIndexed rows next now
-same_indexed rows next old now k same = record { rising = k.rising; all = λ q. same q ∙ k.all q }
-
 module _ (rows : List NumberedRow) (next : ℕ) (old : List (UsageKey × Numbered)) (k : IsIndexed rows next old) where
   series_below : (q : UsageKey) → AreBelow next (series q rows)
-  series_below q = all_series (λ m. nat_cmp next m ≡ Greater) q rows (rising_below (numbers rows) [] next k.rising)
+  series_below q = all_series (λ m. nat_cmp next m ≡ Greater) q rows (rising_around (numbers rows) [] next k.rising).below
 
   -- none stands at the next number
   pub next_stands : (q : UsageKey) → StandsAt next None (indexed q old)

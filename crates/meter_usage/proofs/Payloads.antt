@@ -12,6 +12,7 @@ use Rattle.meter_usage.specs.Amounts.{Row, amount_at, noted, all_amounts, amount
 use Rattle.meter_usage.specs.Usage.{first, last, less, usage, usage_at}
 use Rattle.meter_usage.specs.Sums.{with_usage, total, total_at}
 use Rattle.meter_usage.specs.Table.{Table, kept}
+use Rattle.meter_usage.proofs.Ends.{or_none, or_assoc}
 use Rattle.meter_usage.proofs.SameKey.{same_key, same_by_test}
 
 -- a new amount is found at its key, and all others where they were
@@ -54,17 +55,9 @@ or_here : (o : Option ℤ) (v : ℤ) → is_some o ≡ true → option_or o (Som
 or_here None v e = absurd cc
 or_here (Some x) v e = refl
 
-or_nothing : (o : Option ℤ) → option_or o None ≡ o
-or_nothing None = refl
-or_nothing (Some x) = refl
-
 or_absent : (o : Option ℤ) (v : ℤ) → is_some o ≡ false → Some v ≡ option_or o (Some v)
 or_absent None v e = refl
 or_absent (Some x) v e = absurd cc
-
-or_thrice : (a b c : Option ℤ) → option_or (option_or a b) c ≡ option_or a (option_or b c)
-or_thrice None b c = refl
-or_thrice (Some x) b c = refl
 
 cond_or : (x : Bool) (v : ℤ) (o : Option ℤ) → option_or (cond x (Some v) None) o ≡ cond x (Some v) o
 cond_or true v o = refl
@@ -77,22 +70,22 @@ module _ (q : UsageKey) where
       ≡ option_or (amount_at q row) (cond here (Some entry.1) None)
   noted_by row entry true true e is =
       sym (or_here (amount_at q row) entry.1 (ap (λ p. is_some (amount_at p row)) (same_by_test q entry.0 is) ∙ e))
-  noted_by row entry true false e is = sym (or_nothing (amount_at q row))
+  noted_by row entry true false e is = sym (or_none (amount_at q row))
   noted_by row entry false true e is =
       amount_inserted q entry.0 entry.1 row ∙ ap (λ t. cond t (Some entry.1) (amount_at q row)) is
       ∙ or_absent (amount_at q row) entry.1 (ap (λ p. is_some (amount_at p row)) (same_by_test q entry.0 is) ∙ e)
   noted_by row entry false false e is =
-      amount_inserted q entry.0 entry.1 row ∙ ap (λ t. cond t (Some entry.1) (amount_at q row)) is ∙ sym (or_nothing (amount_at q row))
+      amount_inserted q entry.0 entry.1 row ∙ ap (λ t. cond t (Some entry.1) (amount_at q row)) is ∙ sym (or_none (amount_at q row))
 
   amount_noted : (row : Row) (entry : UsageKey × ℤ)
       → amount_at q (noted row entry) ≡ option_or (amount_at q row) (cond (is_at (key_cmp q) entry.0) (Some entry.1) None)
   amount_noted row entry = noted_by row entry (is_some (amount_at entry.0 row)) (is_at (key_cmp q) entry.0) refl refl
 
   pub amount_all : (row entries : Row) → amount_at q (fold noted row entries) ≡ option_or (amount_at q row) (amount_at q entries)
-  amount_all row [] = sym (or_nothing (amount_at q row))
+  amount_all row [] = sym (or_none (amount_at q row))
   amount_all row (e ∷ es) =
       amount_all (noted row e) es ∙ ap (λ o. option_or o (amount_at q es)) (amount_noted row e)
-      ∙ or_thrice (amount_at q row) _ (amount_at q es)
+      ∙ or_assoc (amount_at q row) _ (amount_at q es)
       ∙ ap (option_or (amount_at q row)) (cond_or (is_at (key_cmp q) e.0) e.1 (amount_at q es))
 
   -- the row of a payload has its amounts

@@ -1,145 +1,63 @@
 -- Keys that compare as equal are one.
-use Rattle.std.proofs.Common.{◌≡◌, ℕ, List, codes, Bool, true, ℤ, refl, sym, ap, ◌∙◌, if◌then◌else◌}
-use Rattle.std.specs.Prelude.{nat_eq}
+use Rattle.std.proofs.Common.{◌≡◌, ℕ, List, [], ◌∷◌, Bool, true, false, not, ◌&&◌, ℤ, refl, sym, ap, ◌∙◌, inl, inr}
 use Rattle.std.specs.declared.cmp.Ordering.{Ordering}
 use Rattle.std.specs.declared.cmp.Ordering.TheVariants.{Less, Equal, Greater}
 use Rattle.std.specs.Ordering.{is_eq, nat_cmp, int_cmp, ordering_then}
 use Rattle.std.specs.Cmp.{ranked, int_ranked}
-use Rattle.std.specs.Cmp.Lexicographic.{slice_cmp, pointwise, same_text, texts_ties}
+use Rattle.std.specs.Cmp.Lexicographic.{slice_cmp}
+use Rattle.std.proofs.lemmas.Bool.{and_parts}
+use Rattle.std.proofs.lemmas.Cmp.{tied_back, nat_list_cmp_total}
+use denote.Struct.Field.{Field}
+use denote.Enum.Declared.{Choice, Record}
 use Rattle.record_values.specs.declared.units.Quantity.{Quantity}
-use Rattle.record_values.specs.declared.units.Quantity.TheVariants as quantities
 use Rattle.record_values.specs.declared.units.UnitName.{UnitName}
-use Rattle.record_values.specs.declared.units.UnitName.TheVariants as units
+use Rattle.record_values.specs.contracts.units.Quantity as quantities
+use Rattle.record_values.specs.contracts.units.UnitName as units
 use Rattle.unit_text.specs.Words.{quantity_text, name_text}
 use Rattle.meter_usage.specs.declared.key.UsageKey.{UsageKey}
 use Rattle.meter_usage.specs.Keys.{key_cmp}
 
-abbrev is_text : List ℕ → List ℕ → Bool
-is_text = pointwise nat_eq
+-- whether a test passes for each variant of an enum without fields
+abbrev passes : (parts : List (List Field)) → (Choice parts → Bool) → Bool
+passes [] test = true
+passes ([] ∷ parts) test = test (inl tt) && passes parts (λ c. test (inr c))
+passes ((_ ∷ _) ∷ parts) test = false
 
--- which quantity a word is of, and which unit
-quantity_of : List ℕ → Quantity
-quantity_of w =
-    (if is_text w (codes "energy") then quantities.Energy else
-    (if is_text w (codes "volume") then quantities.Volume else
-    (if is_text w (codes "mass") then quantities.Mass else
-    (if is_text w (codes "ontime") then quantities.OnTime else
-    (if is_text w (codes "operatingtime") then quantities.OperatingTime else
-    (if is_text w (codes "power") then quantities.Power else
-    (if is_text w (codes "flow") then quantities.Flow else
-    (if is_text w (codes "massflow") then quantities.MassFlow else
-    (if is_text w (codes "flowtemperature") then quantities.FlowTemperature else
-    (if is_text w (codes "returntemperature") then quantities.ReturnTemperature else
-    (if is_text w (codes "temperaturedifference") then quantities.TemperatureDifference else
-    (if is_text w (codes "externaltemperature") then quantities.ExternalTemperature else
-    (if is_text w (codes "pressure") then quantities.Pressure else
-    (if is_text w (codes "date") then quantities.Date else
-    (if is_text w (codes "datetime") then quantities.DateTime else
-    (if is_text w (codes "hca") then quantities.Hca else
-    (if is_text w (codes "averagingduration") then quantities.AveragingDuration else
-    (if is_text w (codes "actualityduration") then quantities.ActualityDuration else
-    (if is_text w (codes "fabrication") then quantities.Fabrication else
-    (if is_text w (codes "identification") then quantities.Identification else
-    (if is_text w (codes "address") then quantities.Address else
-    (if is_text w (codes "plain") then quantities.Plain else
-    (if is_text w (codes "any") then quantities.Any else
-    (if is_text w (codes "manufacturer") then quantities.Manufacturer else
-    (if is_text w (codes "accessnumber") then quantities.AccessNumber else
-    (if is_text w (codes "errorflags") then quantities.ErrorFlags else
-    (if is_text w (codes "voltage") then quantities.Voltage else
-    (if is_text w (codes "current") then quantities.Current else
-    quantities.Unknown))))))))))))))))))))))))))))
+passes_at : (parts : List (List Field)) (test : Choice parts → Bool) → passes parts test ≡ true → (c : Choice parts) → test c ≡ true
+passes_at [] test all c = absurd c
+passes_at ([] ∷ parts) test all (inl _) = (and_parts (test (inl tt)) (passes parts (λ c. test (inr c))) all).0
+passes_at ([] ∷ parts) test all (inr c) =
+    passes_at parts (λ c. test (inr c)) (and_parts (test (inl tt)) (passes parts (λ c. test (inr c))) all).1 c
+passes_at ((_ ∷ _) ∷ parts) test all c = absurd cc
 
-name_of : List ℕ → UnitName
-name_of w =
-    (if is_text w (codes "Wh") then units.WattHour else
-    (if is_text w (codes "J") then units.Joule else
-    (if is_text w (codes "m3") then units.CubicMetre else
-    (if is_text w (codes "kg") then units.Kilogram else
-    (if is_text w (codes "s") then units.Second else
-    (if is_text w (codes "min") then units.Minute else
-    (if is_text w (codes "h") then units.Hour else
-    (if is_text w (codes "d") then units.Day else
-    (if is_text w (codes "W") then units.Watt else
-    (if is_text w (codes "J/h") then units.JoulePerHour else
-    (if is_text w (codes "m3/h") then units.CubicMetrePerHour else
-    (if is_text w (codes "m3/min") then units.CubicMetrePerMinute else
-    (if is_text w (codes "m3/s") then units.CubicMetrePerSecond else
-    (if is_text w (codes "kg/h") then units.KilogramPerHour else
-    (if is_text w (codes "C") then units.Celsius else
-    (if is_text w (codes "K") then units.Kelvin else
-    (if is_text w (codes "bar") then units.Bar else
-    (if is_text w (codes "V") then units.Volt else
-    (if is_text w (codes "A") then units.Ampere else
-    (if is_text w (codes "MWh") then units.MegawattHour else
-    (if is_text w (codes "GJ") then units.Gigajoule else
-    units.NoUnit)))))))))))))))))))))
+-- whether no two variants have the same word
+abbrev apart : (parts : List (List Field)) → (Choice parts → List ℕ) → Bool
+apart [] word = true
+apart ([] ∷ parts) word =
+    passes parts (λ c. not (is_eq (slice_cmp nat_cmp (word (inl tt)) (word (inr c))))) && apart parts (λ c. word (inr c))
+apart ((_ ∷ _) ∷ parts) word = false
 
-quantity_again : (q : Quantity) → quantity_of (quantity_text q) ≡ q
-unfolding quantity_of
-quantity_again quantities.Energy = refl
-quantity_again quantities.Volume = refl
-quantity_again quantities.Mass = refl
-quantity_again quantities.OnTime = refl
-quantity_again quantities.OperatingTime = refl
-quantity_again quantities.Power = refl
-quantity_again quantities.Flow = refl
-quantity_again quantities.MassFlow = refl
-quantity_again quantities.FlowTemperature = refl
-quantity_again quantities.ReturnTemperature = refl
-quantity_again quantities.TemperatureDifference = refl
-quantity_again quantities.ExternalTemperature = refl
-quantity_again quantities.Pressure = refl
-quantity_again quantities.Date = refl
-quantity_again quantities.DateTime = refl
-quantity_again quantities.Hca = refl
-quantity_again quantities.AveragingDuration = refl
-quantity_again quantities.ActualityDuration = refl
-quantity_again quantities.Fabrication = refl
-quantity_again quantities.Identification = refl
-quantity_again quantities.Address = refl
-quantity_again quantities.Plain = refl
-quantity_again quantities.Any = refl
-quantity_again quantities.Manufacturer = refl
-quantity_again quantities.AccessNumber = refl
-quantity_again quantities.ErrorFlags = refl
-quantity_again quantities.Voltage = refl
-quantity_again quantities.Current = refl
-quantity_again quantities.Unknown = refl
+clash : {A : Type 0} (o : Ordering) → not (is_eq o) ≡ true → o ≡ Equal → A
+clash o other same = let no : not (is_eq o) ≡ false = ap (λ o. not (is_eq o)) same in absurd cc
 
-name_again : (n : UnitName) → name_of (name_text n) ≡ n
-unfolding name_of
-name_again units.WattHour = refl
-name_again units.Joule = refl
-name_again units.CubicMetre = refl
-name_again units.Kilogram = refl
-name_again units.Second = refl
-name_again units.Minute = refl
-name_again units.Hour = refl
-name_again units.Day = refl
-name_again units.Watt = refl
-name_again units.JoulePerHour = refl
-name_again units.CubicMetrePerHour = refl
-name_again units.CubicMetrePerMinute = refl
-name_again units.CubicMetrePerSecond = refl
-name_again units.KilogramPerHour = refl
-name_again units.Celsius = refl
-name_again units.Kelvin = refl
-name_again units.Bar = refl
-name_again units.Volt = refl
-name_again units.Ampere = refl
-name_again units.MegawattHour = refl
-name_again units.Gigajoule = refl
-name_again units.NoUnit = refl
+one_choice : (parts : List (List Field)) (word : Choice parts → List ℕ) → apart parts word ≡ true → (c d : Choice parts)
+    → slice_cmp nat_cmp (word c) (word d) ≡ Equal → c ≡ d
+one_choice [] word all c d e = absurd c
+one_choice ([] ∷ parts) word all (inl _) (inl _) e = refl
+one_choice ([] ∷ parts) word all (inl _) (inr d) e = clash _ (passes_at parts _ (and_parts _ _ all).0 d) e
+one_choice ([] ∷ parts) word all (inr c) (inl _) e =
+    clash _ (passes_at parts _ (and_parts _ _ all).0 c) (tied_back nat_list_cmp_total (word (inr c)) (word (inl tt)) e)
+one_choice ([] ∷ parts) word all (inr c) (inr d) e = ap inr (one_choice parts (λ c. word (inr c)) (and_parts _ _ all).1 c d e)
+one_choice ((_ ∷ _) ∷ parts) word all c d e = absurd cc
 
-same_quantity : (q r : Quantity) → quantity_text q ≡ quantity_text r → q ≡ r
-same_quantity q r e = sym (quantity_again q) ∙ ap quantity_of e ∙ quantity_again r
-
-same_name : (m n : UnitName) → name_text m ≡ name_text n → m ≡ n
-same_name m n e = sym (name_again m) ∙ ap name_of e ∙ name_again n
-
-text_same : (xs ys : List ℕ) → slice_cmp nat_cmp xs ys ≡ Equal → xs ≡ ys
-text_same xs ys e = same_text xs ys (sym (texts_ties xs ys ∙ ap is_eq e))
+-- variants whose words compare as equal are one
+one_variant : (N : Record) (word : N.D → List ℕ) → apart N.parts (λ c. word (N.make c)) ≡ true → (x y : N.D)
+    → slice_cmp nat_cmp (word x) (word y) ≡ Equal → x ≡ y
+one_variant N word all x y e =
+    sym (N.eta x)
+    ∙ ap N.make (one_choice N.parts (λ c. word (N.make c)) all (N.as_values x) (N.as_values y)
+    (ap (λ z. slice_cmp nat_cmp (word z) (word (N.make (N.as_values y)))) (N.eta x)
+    ∙ ap (λ z. slice_cmp nat_cmp (word x) (word z)) (N.eta y) ∙ e)) ∙ N.eta y
 
 number_same : (x y : ℕ) → nat_cmp x y ≡ Equal → x ≡ y
 number_same x y e = ranked x y Equal (sym e)
@@ -158,12 +76,9 @@ key_with s t u q n e = record { storage = s; tariff = t; subunit = u; quantity =
 fields_same : (a b : UsageKey) → a.storage ≡ b.storage → a.tariff ≡ b.tariff → a.subunit ≡ b.subunit → a.quantity ≡ b.quantity
     → a.name ≡ b.name → a.exponent ≡ b.exponent → a ≡ b
 fields_same a b s t u q n e =
-    ap (λ x. key_with x a.tariff a.subunit a.quantity a.name a.exponent) s
-    ∙ ap (λ x. key_with b.storage x a.subunit a.quantity a.name a.exponent) t
-    ∙ ap (λ x. key_with b.storage b.tariff x a.quantity a.name a.exponent) u
-    ∙ ap (λ x. key_with b.storage b.tariff b.subunit x a.name a.exponent) q
-    ∙ ap (λ x. key_with b.storage b.tariff b.subunit b.quantity x a.exponent) n
-    ∙ ap (λ x. key_with b.storage b.tariff b.subunit b.quantity b.name x) e
+    let same : key_with a.storage a.tariff a.subunit a.quantity a.name a.exponent
+    ≡ key_with b.storage b.tariff b.subunit b.quantity b.name b.exponent = rw (s, t, u, q, n, e) refl in
+    same
 
 -- keys that compare as equal are the same
 pub same_key : (a b : UsageKey) → key_cmp a b ≡ Equal → a ≡ b
@@ -174,7 +89,7 @@ same_key a b e =
     let two = then_equal _ _ three.0 in
     let one = then_equal _ _ two.0 in
     fields_same a b (number_same _ _ one.0) (number_same _ _ one.1) (number_same _ _ two.1)
-    (same_quantity _ _ (text_same _ _ three.1)) (same_name _ _ (text_same _ _ four.1)) (signed_same _ _ five.1)
+    (one_variant quantities.enum quantity_text refl _ _ three.1) (one_variant units.enum name_text refl _ _ four.1) (signed_same _ _ five.1)
 
 equal_by : (o : Ordering) → is_eq o ≡ true → o ≡ Equal
 equal_by Less e = absurd cc

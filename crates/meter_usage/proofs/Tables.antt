@@ -1,9 +1,10 @@
 -- Tables of rows, and their totals, under an edit of one address's rows.
-use Rattle.std.proofs.Common.{◌≡◌, ℕ, zero, suc, ◌+◌, ◌*◌, ◌^◌, ◌<◌, ◌≤◌, Bool, true, false, cond, List, [], ◌∷◌, ◌++◌, map, length, remove, Option, Some, None, Result, Ok, Err, OnOk, OnErr, IfSome, ℤ, pos, neg_ℤ, ◌+ℤ◌, ◌≤ℤ◌, refl, sym, ap, ◌∙◌, arith}
+use Rattle.std.proofs.Common.{◌≡◌, ℕ, zero, suc, ◌+◌, ◌*◌, ◌^◌, ◌<◌, ◌≤◌, true, List, [], ◌∷◌, ◌++◌, map, length, remove, Option, Some, None, IfSome, ℤ, pos, neg_ℤ, ◌+ℤ◌, ◌≤ℤ◌, refl, sym, ap, ◌∙◌, inl, inr, arith}
 use Rattle.std.specs.Prelude.{slice_set}
 use Rattle.std.specs.Option.{unwrap_or, option_map}
 use Rattle.std.specs.Map.{lookup, remove_entry, set_value}
 use Rattle.std.specs.BTreeMap.{is_at}
+use Rattle.std.proofs.lemmas.Bool.{cases_Bool}
 use Rattle.std.proofs.lemmas.Bool.Decides.{nat_tests}
 use Rattle.std.proofs.lemmas.Int.{ints}
 use Rattle.std.proofs.lemmas.Map.Made.{lookup-map_values}
@@ -20,24 +21,55 @@ use Rattle.meter_usage.proofs.Small.{either_small, lookup_small, row_small}
 
 -- ---- one address's rows are written
 
-module _ {X : Type 0} (a : Address) where
-  set_by : (b : Bool) (e : Address × List X) (es : Table X) (rows new : List X)
-      → (lookup (same a) es ≡ Some rows → set_value (same a) es new ≡ insert_entry same es a new)
-      → cond b (Some e.1) (lookup (same a) es) ≡ Some rows
-      → cond b ((e.0, new) ∷ es) (e ∷ set_value (same a) es new) ≡ cond b ((e.0, new) ∷ es) (e ∷ insert_entry same es a new)
-  set_by true e es rows new further is = refl
-  set_by false e es rows new further is = ap (λ z. e ∷ z) (further is)
+pub same_itself : (a : Address) → same a a ≡ true
+same_itself a = grind (arith, nat_tests)
 
+module _ {X : Type 0} (a : Address) where
   set_is_insert : (table : Table X) (rows new : List X) → lookup (same a) table ≡ Some rows
       → set_value (same a) table new ≡ insert_entry same table a new
   set_is_insert [] rows new is = absurd cc
-  set_is_insert (e ∷ es) rows new is = set_by (same a e.0) e es rows new (set_is_insert es rows new) is
+  set_is_insert (e ∷ es) rows new is =
+      elim (cases_Bool (same a e.0)) [
+        | inl here ↦ rw here refl
+        | inr other ↦ rw other (ap (λ z. e ∷ z) (set_is_insert es rows new (rw other at is)))
+      ]
 
   -- writing rows that are some is having them
-  pub set_is_with : (table : Table X) (rows new : List X) → lookup (same a) table ≡ Some rows → (new ≡ [] → ⊥)
+  set_is_with : (table : Table X) (rows new : List X) → lookup (same a) table ≡ Some rows → (new ≡ [] → ⊥)
       → set_value (same a) table new ≡ with_rows table a new
   set_is_with table rows [] is some = absurd (some refl)
   set_is_with table rows (x ∷ xs) is some = set_is_insert table rows (x ∷ xs) is
+
+  pub removed_inserted : (table : Table X) (new : List X)
+      → remove_entry (same a) (insert_entry same table a new) ≡ remove_entry (same a) table
+  removed_inserted [] new = rw (same_itself a) refl
+  removed_inserted (e ∷ es) new =
+      elim (cases_Bool (same a e.0)) [
+        | inl here ↦ rw (here, here) refl
+        | inr other ↦ rw (other, other) (ap (λ z. e ∷ z) (removed_inserted es new))
+      ]
+
+  pub removed_with : (table : Table X) (new : List X) → (new ≡ [] → ⊥) → remove_entry (same a) (with_rows table a new) ≡ remove_entry (same a) table
+  removed_with table [] some = absurd (some refl)
+  removed_with table (x ∷ xs) some = removed_inserted table (x ∷ xs)
+
+  found_inserted : (table : Table X) (new : List X) → lookup (same a) (insert_entry same table a new) ≡ Some new
+  found_inserted [] new = rw (same_itself a) refl
+  found_inserted (e ∷ es) new =
+      elim (cases_Bool (same a e.0)) [
+        | inl here ↦ rw (here, here) refl
+        | inr other ↦ rw (other, other) (found_inserted es new)
+      ]
+
+  pub rows_with : (table : Table X) (new : List X) → (new ≡ [] → ⊥) → rows_at a (with_rows table a new) ≡ new
+  rows_with table [] some = absurd (some refl)
+  rows_with table (x ∷ xs) some = ap (λ o. unwrap_or o []) (found_inserted table (x ∷ xs))
+
+-- the rows that were found are written otherwise
+pub written_as : {X : Type 0} (a : Address) (table other : Table X) (old : List X) (f : List X → List X) → Some old ≡ lookup (same a) table
+    → other ≡ set_value (same a) table (f old) → (f old ≡ [] → ⊥) → other ≡ with_rows table a (f (rows_at a table))
+written_as a table other old f found is some =
+    is ∙ set_is_with a table old (f old) (sym found) some ∙ ap (λ o. with_rows table a (f (unwrap_or o []))) found
 
 pub append_some : {X : Type 0} (xs : List X) (x : X) → xs ++ x ∷ [] ≡ [] → ⊥
 append_some [] x e = cc
@@ -54,14 +86,6 @@ set_some [] i v lt e = omega arith
 set_some (x ∷ xs) zero v lt e = cc
 set_some (x ∷ xs) (suc i) v lt e = cc
 
-pub on_ok : {T E : Type 0} {P Q : Type 0} (r : Result T E) → OnOk r P → (P → Q) → OnOk r Q
-on_ok (Ok x) p f = f p
-on_ok (Err e) p f = tt
-
-pub on_err : {T E : Type 0} {P Q : Type 0} (r : Result T E) → OnErr r P → (P → Q) → OnErr r Q
-on_err (Ok x) p f = tt
-on_err (Err e) p f = f p
-
 -- ---- what is kept of payloads, and what is kept after an edit
 
 kept_by : (o : Option (List (List ℕ))) → unwrap_or (option_map (map row_of) o) [] ≡ map row_of (unwrap_or o [])
@@ -71,33 +95,27 @@ kept_by (Some rows) = refl
 pub kept_rows : (a : Address) (table : Table (List ℕ)) → rows_at a (kept table) ≡ map row_of (rows_at a table)
 kept_rows a table = ap (λ o. unwrap_or o []) (lookup-map_values (map row_of) (same a) table) ∙ kept_by (lookup (same a) table)
 
-kept_removed_by : (b : Bool) (e : Address × List (List ℕ)) (es gone : Table (List ℕ)) (x : Table Row) → x ≡ kept gone
-    → cond b (kept es) ((e.0, map row_of e.1) ∷ x) ≡ kept (cond b es (e ∷ gone))
-kept_removed_by true e es gone x is = refl
-kept_removed_by false e es gone x is = ap (λ z. (e.0, map row_of e.1) ∷ z) is
-
 kept_removed : (a : Address) (table : Table (List ℕ)) → remove_entry (same a) (kept table) ≡ kept (remove_entry (same a) table)
 kept_removed a [] = refl
-kept_removed a (e ∷ es) = kept_removed_by (same a e.0) e es (remove_entry (same a) es) _ (kept_removed a es)
-
-kept_inserted_by : (b : Bool) (e : Address × List (List ℕ)) (es put : Table (List ℕ)) (new : List (List ℕ)) (x : Table Row) → x ≡ kept put
-    → cond b ((e.0, map row_of new) ∷ kept es) ((e.0, map row_of e.1) ∷ x) ≡ kept (cond b ((e.0, new) ∷ es) (e ∷ put))
-kept_inserted_by true e es put new x is = refl
-kept_inserted_by false e es put new x is = ap (λ z. (e.0, map row_of e.1) ∷ z) is
+kept_removed a (e ∷ es) =
+    elim (cases_Bool (same a e.0)) [
+      | inl here ↦ rw here refl
+      | inr other ↦ rw other (ap (λ z. (e.0, map row_of e.1) ∷ z) (kept_removed a es))
+    ]
 
 kept_inserted : (a : Address) (table : Table (List ℕ)) (new : List (List ℕ))
     → insert_entry same (kept table) a (map row_of new) ≡ kept (insert_entry same table a new)
 kept_inserted a [] new = refl
-kept_inserted a (e ∷ es) new = kept_inserted_by (same a e.0) e es (insert_entry same es a new) new _ (kept_inserted a es new)
+kept_inserted a (e ∷ es) new =
+    elim (cases_Bool (same a e.0)) [
+      | inl here ↦ rw here refl
+      | inr other ↦ rw other (ap (λ z. (e.0, map row_of e.1) ∷ z) (kept_inserted a es new))
+    ]
 
 pub kept_with : (a : Address) (table : Table (List ℕ)) (new : List (List ℕ))
     → with_rows (kept table) a (map row_of new) ≡ kept (with_rows table a new)
 kept_with a table [] = kept_removed a table
 kept_with a table (x ∷ xs) = kept_inserted a table (x ∷ xs)
-
-pub kept_edit : (a : Address) (table : Table (List ℕ)) (old rows : List Row) (new : List (List ℕ)) → rows ≡ map row_of new
-    → with_rows (kept table) a rows ≡ kept (with_rows table a new)
-kept_edit a table old rows new e = ap (with_rows (kept table) a) e ∙ kept_with a table new
 
 -- ---- totals
 
@@ -112,73 +130,25 @@ swap_usage (Some u) (Some v) s =
     ap (λ (z : ℤ). sum_of (s.meters + 1 + 1) z) e
 
 module _ (q : UsageKey) (a : Address) where
-  total_by_test : (b : Bool) (e : Address × List Row) (es gone : Table Row) (o : Option (List Row))
-      → total_at q es ≡ with_usage (usage_at q (unwrap_or o [])) (total_at q gone)
-      → with_usage (usage_at q e.1) (total_at q es)
-      ≡ with_usage (usage_at q (unwrap_or (cond b (Some e.1) o) [])) (total_at q (cond b es (e ∷ gone)))
-  total_by_test true e es gone o is = refl
-  total_by_test false e es gone o is =
-      ap (with_usage (usage_at q e.1)) is ∙ swap_usage (usage_at q e.1) (usage_at q (unwrap_or o [])) (total_at q gone)
-
   -- the usage of one address, and that of the others
   pub total_split : (table : Table Row)
       → total_at q table ≡ with_usage (usage_at q (rows_at a table)) (total_at q (remove_entry (same a) table))
   total_split [] = refl
-  total_split (e ∷ es) = total_by_test (same a e.0) e es (remove_entry (same a) es) (lookup (same a) es) (total_split es)
-
-  insert_by_test : (b : Bool) (e : Address × List Row) (es put gone : Table Row) (rows : List Row)
-      → total_at q put ≡ with_usage (usage_at q rows) (total_at q gone)
-      → total_at q (cond b ((e.0, rows) ∷ es) (e ∷ put)) ≡ with_usage (usage_at q rows) (total_at q (cond b es (e ∷ gone)))
-  insert_by_test true e es put gone rows is = refl
-  insert_by_test false e es put gone rows is =
-      ap (with_usage (usage_at q e.1)) is ∙ swap_usage (usage_at q e.1) (usage_at q rows) (total_at q gone)
-
-  total_inserted : (table : Table Row) (rows : List Row)
-      → total_at q (insert_entry same table a rows) ≡ with_usage (usage_at q rows) (total_at q (remove_entry (same a) table))
-  total_inserted [] rows = refl
-  total_inserted (e ∷ es) rows =
-      insert_by_test (same a e.0) e es (insert_entry same es a rows) (remove_entry (same a) es) rows (total_inserted es rows)
+  total_split (e ∷ es) =
+      elim (cases_Bool (same a e.0)) [
+        | inl here ↦ rw here refl
+        | inr other ↦ rw other (ap (with_usage (usage_at q e.1)) (total_split es)
+            ∙ swap_usage (usage_at q e.1) (usage_at q (rows_at a es)) (total_at q (remove_entry (same a) es)))
+      ]
 
   pub total_with : (table : Table Row) (rows : List Row)
       → total_at q (with_rows table a rows) ≡ with_usage (usage_at q rows) (total_at q (remove_entry (same a) table))
   total_with table [] = refl
-  total_with table (x ∷ xs) = total_inserted table (x ∷ xs)
-
--- ---- an address's rows once they are written
-
-removed_inserted_by : {X : Type 0} (b : Bool) (e : Address × List X) (es put gone : Table X) (new : List X) (a : Address) → same a e.0 ≡ b
-    → remove_entry (same a) put ≡ gone
-    → remove_entry (same a) (cond b ((e.0, new) ∷ es) (e ∷ put)) ≡ cond b es (e ∷ gone)
-removed_inserted_by true e es put gone new a is further = ap (λ t. cond t es ((e.0, new) ∷ remove_entry (same a) es)) is
-removed_inserted_by false e es put gone new a is further = ap (λ t. cond t put (e ∷ remove_entry (same a) put)) is ∙ ap (λ z. e ∷ z) further
-
-same_itself : (a : Address) → same a a ≡ true
-same_itself a = grind (arith, nat_tests)
-
-removed_inserted : {X : Type 0} (a : Address) (table : Table X) (new : List X)
-    → remove_entry (same a) (insert_entry same table a new) ≡ remove_entry (same a) table
-removed_inserted a [] new = ap (λ t. cond t [] ((a, new) ∷ [])) (same_itself a)
-removed_inserted a (e ∷ es) new =
-    removed_inserted_by (same a e.0) e es (insert_entry same es a new) (remove_entry (same a) es) new a refl (removed_inserted a es new)
-
-pub removed_with : {X : Type 0} (a : Address) (table : Table X) (new : List X) → (new ≡ [] → ⊥)
-    → remove_entry (same a) (with_rows table a new) ≡ remove_entry (same a) table
-removed_with a table [] some = absurd (some refl)
-removed_with a table (x ∷ xs) some = removed_inserted a table (x ∷ xs)
-
-found_inserted_by : {X : Type 0} (b : Bool) (e : Address × List X) (es put : Table X) (new : List X) (a : Address) → same a e.0 ≡ b
-    → lookup (same a) put ≡ Some new
-    → lookup (same a) (cond b ((e.0, new) ∷ es) (e ∷ put)) ≡ Some new
-found_inserted_by true e es put new a is further = ap (λ t. cond t (Some new) (lookup (same a) es)) is
-found_inserted_by false e es put new a is further = ap (λ t. cond t (Some e.1) (lookup (same a) put)) is ∙ further
-
-found_inserted : {X : Type 0} (a : Address) (table : Table X) (new : List X) → lookup (same a) (insert_entry same table a new) ≡ Some new
-found_inserted a [] new = ap (λ t. cond t (Some new) None) (same_itself a)
-found_inserted a (e ∷ es) new = found_inserted_by (same a e.0) e es (insert_entry same es a new) new a refl (found_inserted a es new)
-
-pub rows_with : {X : Type 0} (a : Address) (table : Table X) (new : List X) → (new ≡ [] → ⊥) → rows_at a (with_rows table a new) ≡ new
-rows_with a table [] some = absurd (some refl)
-rows_with a table (x ∷ xs) some = ap (λ o. unwrap_or o []) (found_inserted a table (x ∷ xs))
+  total_with table (x ∷ xs) =
+      total_split (insert_entry same table a (x ∷ xs))
+      ∙ ap (λ rows. with_usage (usage_at q rows) (total_at q (remove_entry (same a) (insert_entry same table a (x ∷ xs)))))
+      (rows_with a table (x ∷ xs) (λ e. cc))
+      ∙ ap (λ t. with_usage (usage_at q (x ∷ xs)) (total_at q t)) (removed_inserted a table (x ∷ xs))
 
 -- writing the same rows makes no difference to a total
 pub total_same : (q : UsageKey) (a : Address) (table : Table Row) → total_at q (with_rows table a (rows_at a table)) ≡ total_at q table

@@ -1,5 +1,5 @@
 -- The first and the last of amounts, as an iterator takes them.
-use Rattle.std.proofs.Common.{◌≡◌, ℕ, Bool, true, false, cond, [], ◌∷◌, ◌++◌, Option, Some, None, ℤ, refl, sym, ap, ◌∙◌, subst}
+use Rattle.std.proofs.Common.{◌≡◌, ℕ, Bool, true, false, cond, List, [], ◌∷◌, ◌++◌, Option, Some, None, ℤ, refl, sym, ap, ◌∙◌, subst}
 use Rattle.std.specs.declared.cmp.Ordering.{Ordering}
 use Rattle.std.specs.declared.cmp.Ordering.TheVariants.{Less, Equal, Greater}
 use Rattle.std.specs.Ordering.{is_eq, nat_cmp}
@@ -7,22 +7,22 @@ use Rattle.std.specs.Option.{option_map, unwrap_or}
 use Rattle.std.specs.List.{AllByRecursion}
 use Rattle.std.specs.List.Sorted.{IsStrictlySortedBy}
 use Rattle.std.specs.Map.{keys_of}
-use Rattle.std.specs.Map.Iter.{TakesFirst, TakesLast}
+use Rattle.std.specs.Map.Iter.{TakesLast}
 use Rattle.std.specs.BTreeMap.{is_at}
 use Rattle.std.proofs.lemmas.Cmp.{ranked}
 use Rattle.std.proofs.lemmas.List.{map-append}
-use Rattle.meter_usage.specs.Usage.{first, last}
+use Rattle.meter_usage.specs.Usage.{last}
 use Rattle.meter_usage.specs.Indexed.{Numbered, without}
 use Rattle.meter_usage.proofs.Ends.{last-append}
 use Rattle.meter_usage.proofs.Parts.{without_parted}
-use Rattle.meter_usage.proofs.Numbering.{rising_below}
+use Rattle.meter_usage.proofs.Numbering.{rising_around}
 
 same_by : (n k : ℕ) (o : Ordering) → o ≡ nat_cmp n k → is_eq o ≡ true → n ≡ k
 same_by n k Less e same = absurd cc
 same_by n k Equal e same = ranked n k Equal e
 same_by n k Greater e same = absurd cc
 
-all_keys : (P : ℕ → Type 0) (es : Numbered) → AllByRecursion P (keys_of es) → AllByRecursion (λ e. P e.0) es
+pub all_keys : {K X : Type 0} (P : K → Type 0) (es : List (K × X)) → AllByRecursion P (keys_of es) → AllByRecursion (λ e. P e.0) es
 all_keys P [] a = tt
 all_keys P (e ∷ es) a = (a.0, all_keys P es a.1)
 
@@ -43,7 +43,7 @@ module _ (n : ℕ) (rest : Numbered) (e : ℕ × ℤ) (rising : IsStrictlySorted
   below =
       subst (λ m. AllByRecursion (λ (f : ℕ × ℤ). nat_cmp m f.0 ≡ Greater) rest) (sym same)
       (all_keys (λ m. nat_cmp e.0 m ≡ Greater) rest
-      (rising_below (keys_of rest) [] e.0 (subst (IsStrictlySortedBy nat_cmp) (map-append (λ (f : ℕ × ℤ). f.0) rest (e ∷ [])) rising)))
+      (rising_around (keys_of rest) [] e.0 (subst (IsStrictlySortedBy nat_cmp) (map-append (λ (f : ℕ × ℤ). f.0) rest (e ∷ [])) rising)).below)
 
   last_gone : without n (rest ++ e ∷ []) ≡ rest ++ []
   last_gone = ap (λ m. without n (rest ++ (m, e.1) ∷ [])) (sym same) ∙ without_parted n rest (Some e.1) [] below tt
@@ -56,26 +56,9 @@ module _ {A : Type 0} (shows : A → ℕ × ℤ) where
   abbrev pub amount_taken : Option A → Option ℤ
   amount_taken r = option_map (λ a. (shows a).1) r
 
-  pub took_first : (es rest : Numbered) (r : Option A) → TakesFirst shows es r rest → amount_taken r ≡ first (λ e. Some e.1) es
-  took_first es rest None t = sym (ap (first (λ e. Some e.1)) t.0)
-  took_first es rest (Some a) t = sym (ap (first (λ e. Some e.1)) t)
-
   pub took_last : (es rest : Numbered) (r : Option A) → TakesLast shows es r rest → amount_taken r ≡ last (λ e. Some e.1) es
   took_last es rest None t = sym (ap (last (λ e. Some e.1)) t.0)
   took_last es rest (Some a) t = sym (ap (last (λ e. Some e.1)) t ∙ last_one rest (shows a))
-
-  -- the first one stands at the number, and is left out
-  pub first_there : (n : ℕ) (es rest : Numbered) (r : Option A) → TakesFirst shows es r rest → is_there n r ≡ true → rest ≡ without n es
-  first_there n es rest None t there = absurd cc
-  first_there n es rest (Some a) t there = sym (ap (without n) t ∙ ap (λ b. cond b rest (shows a ∷ without n rest)) there)
-
-  -- it doesn't, and stays the first
-  pub first_other : (n : ℕ) (es rest : Numbered) (r : Option A) → TakesFirst shows es r rest → is_there n r ≡ false
-      → amount_taken r ≡ first (λ e. Some e.1) (without n es)
-  first_other n es rest None t other = sym (ap (λ x. first (λ e. Some e.1) (without n x)) t.0)
-  first_other n es rest (Some a) t other =
-      sym (ap (λ x. first (λ e. Some e.1) (without n x)) t
-      ∙ ap (λ b. first (λ e. Some e.1) (cond b rest (shows a ∷ without n rest))) other)
 
   -- the last one stands at the number, and is left out
   pub last_there : (n : ℕ) (es rest : Numbered) (r : Option A) → IsStrictlySortedBy nat_cmp (keys_of es) → TakesLast shows es r rest

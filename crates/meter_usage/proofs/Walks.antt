@@ -5,22 +5,23 @@ use Rattle.std.specs.Option.{unwrap_or}
 use Rattle.std.specs.List.Sorted.{IsStrictlySortedBy}
 use Rattle.std.specs.Map.{keys_of, lookup}
 use Rattle.std.specs.BTreeMap.{is_at}
+use Rattle.std.proofs.lemmas.Bool.{cases_Bool, or_right}
 use Rattle.std.proofs.lemmas.Map.Keys.{sorted_head, sorted_tail}
-use Rattle.std.proofs.lemmas.Cmp.{eq_by_cmp_equiv}
 use Rattle.meter_usage.specs.declared.key.UsageKey.{UsageKey}
-use Rattle.meter_usage.specs.Keys.{key_cmp, key_cmp_total}
+use Rattle.meter_usage.specs.Keys.{key_cmp}
 use Rattle.meter_usage.specs.Amounts.{Row, amount_at}
+use Rattle.meter_usage.specs.Sums.{is_among}
 use Rattle.meter_usage.specs.Indexed.{Numbered, indexed}
-use Rattle.meter_usage.proofs.KeyByKey.{has_key, has_amount, has_first, none_by, or_right, or_both, apart_in}
+use Rattle.meter_usage.proofs.KeyByKey.{has_amount, has_first, none_by, at_key, apart_in, no_key}
 use Rattle.meter_usage.proofs.SameKey.{same_by_test}
 
 -- While keys of a row are left, the amounts of these are the old ones, and those of all others are changed.
 pub record IsChanging (row : Row) (change : UsageKey → Numbered → Numbered) (old now : List (UsageKey × Numbered))
     (left : List UsageKey) : Type 0 where
   pub ordered : IsStrictlySortedBy key_cmp left
-  pub there : (q : UsageKey) → has_key q left ≡ true → is_some (amount_at q row) ≡ true
-  pub waiting : (q : UsageKey) → has_key q left ≡ true → indexed q now ≡ indexed q old
-  pub changed : (q : UsageKey) → has_key q left ≡ false → indexed q now ≡ change q (indexed q old)
+  pub there : (q : UsageKey) → is_among q left ≡ true → is_some (amount_at q row) ≡ true
+  pub waiting : (q : UsageKey) → is_among q left ≡ true → indexed q now ≡ indexed q old
+  pub changed : (q : UsageKey) → is_among q left ≡ false → indexed q now ≡ change q (indexed q old)
 
 pub changing_starts : (row : Row) (change : UsageKey → Numbered → Numbered) (old : List (UsageKey × Numbered)) (left : List UsageKey)
     → left ≡ keys_of row → IsStrictlySortedBy key_cmp (keys_of row)
@@ -45,40 +46,26 @@ module _ (row : Row) (change : UsageKey → Numbered → Numbered) (old now : Li
   module _ (new : List (UsageKey × Numbered)) (others : (q : UsageKey) → is_eq (key_cmp k q) ≡ false → indexed q new ≡ indexed q now) where
     -- it is changed
     module _ (here : indexed k new ≡ change k (indexed k now)) where
-      changed_by : (q : UsageKey) (test : Bool) → is_eq (key_cmp k q) ≡ test → has_key q left ≡ false
-          → indexed q new ≡ change q (indexed q old)
-      changed_by q true is misses =
-          subst (λ p. indexed p new ≡ change p (indexed p old)) (same_by_test k q is)
-          (here ∙ ap (change k) (stands.waiting k (has_first k left)))
-      changed_by q false is misses =
-          others q is ∙ stands.changed q (or_both _ _ ((eq_by_cmp_equiv key_cmp_total).symm q k ∙ is) misses)
-
       pub changing_goes_on : IsChanging row change old new left
       changing_goes_on = record {
         ordered = sorted_tail key_cmp k left stands.ordered;
         there = λ q has. stands.there q (or_right _ _ has);
         waiting = λ q has.
             others q (apart_in k q left (sorted_head key_cmp k left stands.ordered) has) ∙ stands.waiting q (or_right _ _ has);
-        changed = λ q misses. changed_by q (is_eq (key_cmp k q)) refl misses;
+        changed = λ q misses.
+            at_key (λ p. indexed p new ≡ change p (indexed p old)) k q (here ∙ ap (change k) (stands.waiting k (has_first k left)))
+            (λ other. others q other ∙ stands.changed q (no_key k q left other misses));
       }
 
     -- it is not
     module _ (here : indexed k new ≡ indexed k now) where
-      unchanged_by : (q : UsageKey) (test : Bool) → is_eq (key_cmp k q) ≡ test → indexed q new ≡ indexed q now
-      unchanged_by q true is = subst (λ p. indexed p new ≡ indexed p now) (same_by_test k q is) here
-      unchanged_by q false is = others q is
-
-      stopped_by : (q : UsageKey) (test : Bool) → has_key q (k ∷ left) ≡ test → indexed q new ≡ indexed q now
-          → (indexed q new ≡ indexed q old) ⊎ (indexed q new ≡ change q (indexed q old))
-      stopped_by q true has same = inl (same ∙ stands.waiting q has)
-      stopped_by q false misses same = inr (same ∙ stands.changed q misses)
-
       pub changing_stopped : (q : UsageKey) → (indexed q new ≡ indexed q old) ⊎ (indexed q new ≡ change q (indexed q old))
-      changing_stopped q = stopped_by q (has_key q (k ∷ left)) refl (unchanged_by q (is_eq (key_cmp k q)) refl)
-
-pub changing_ends : (row : Row) (change : UsageKey → Numbered → Numbered) (old now : List (UsageKey × Numbered)) (left : List UsageKey)
-    → IsChanging row change old now left → left ≡ [] → (q : UsageKey) → indexed q now ≡ change q (indexed q old)
-changing_ends row change old now left c e q = c.changed q (ap (has_key q) e)
+      changing_stopped q =
+          let same : indexed q new ≡ indexed q now = at_key (λ p. indexed p new ≡ indexed p now) k q here (others q) in
+          elim (cases_Bool (is_among q (k ∷ left))) [
+            | inl has ↦ inl (same ∙ stands.waiting q has)
+            | inr misses ↦ inr (same ∙ stands.changed q misses)
+          ]
 
 -- a key without amounts is forgotten
 tidied_by : (k q : UsageKey) (old new : List (UsageKey × Numbered)) (test : Bool) → is_at (key_cmp k) q ≡ test

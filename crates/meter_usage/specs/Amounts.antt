@@ -1,7 +1,7 @@
 -- The amounts that a payload gives, by what they are of.
-use Rattle.std.specs.Prelude.{ℕ, ◌^◌, ◌<ℤ◌, Bool, ◌&&◌, List, [], ◌∷◌, fold, Option, Some, None, ℤ, pos, neg_ℤ, int_lt, ◌==◌, if◌then◌else◌, is_some}
+use Rattle.std.specs.Prelude.{ℕ, ◌^◌, ◌<ℤ◌, Bool, ◌&&◌, List, [], fold, Option, Some, None, ℤ, pos, neg_ℤ, int_lt, ◌==◌, if◌then◌else◌, is_some}
 use Rattle.std.specs.Option.{option_map}
-use Rattle.std.specs.List.{filter_map}
+use Rattle.std.specs.List.{filter_map, AllByRecursion}
 use Rattle.std.specs.Map.{lookup}
 use Rattle.std.specs.BTreeMap.{is_at, insert_entry}
 use Rattle.dif_vif.specs.declared.span.RecordSpan.{RecordSpan}
@@ -74,8 +74,7 @@ pub record IsWithin (limit : ℕ) (number : ℤ) : Type 0 where
 
 -- Amounts are small, whatever they are kept by.
 abbrev pub AreSmall : {K : Type 0} → List (K × ℤ) → Type 0
-AreSmall [] = Unit {0}
-AreSmall (entry ∷ entries) = IsWithin (2 ^ 80) entry.1 × AreSmall entries
+AreSmall entries = AllByRecursion (λ entry. IsWithin (2 ^ 80) entry.1) entries
 
 -- the amounts of a payload in the order of their keys, one of each
 unfoldable pub row_of : List ℕ → Row

@@ -1,11 +1,11 @@
 -- The decimal digits of bytes, and the number of some of them.
-use Rattle.std.proofs.Common.{◌≡◌, ℕ, zero, suc, ◌+◌, ◌-◌, ◌*◌, ◌/◌, ◌%◌, ◌^◌, ◌<◌, ◌≤◌, Bool, true, false, leb, List, [], ◌∷◌, length, get_or, take, drop, Some, None, refl, sym, ap, ◌∙◌, arith}
+use Rattle.std.proofs.Common.{◌≡◌, ℕ, zero, suc, ◌*◌, ◌/◌, ◌%◌, ◌^◌, ◌<◌, ◌≤◌, Bool, true, leb, List, [], ◌∷◌, length, get_or, take, drop, refl, arith}
 use Rattle.std.specs.List.{list_all}
-use Rattle.std.proofs.lemmas.Bool.{leb-true, lt-leb, le-leb, and_parts, and_from, and_left, and_right, cond-true, cond-false}
-use Rattle.std.proofs.lemmas.List.{get_or-take, length-take, length-drop, drop_all, take_all}
+use Rattle.std.proofs.lemmas.Bool.{leb-true, and_parts}
+use Rattle.std.proofs.lemmas.List.{length-take, length-drop, take_all}
 use Rattle.dif_vif.specs.Numbers.{low_first}
-use Rattle.dif_vif.proofs.Digits.{drop-before, low_first-few, low_first-step}
-use Rattle.record_values.specs.Values.{digits_of, decimal_of}
+use Rattle.dif_vif.proofs.Digits.{low_first-few}
+use Rattle.record_values.specs.Values.{digits_of}
 
 -- a digit of a decimal number
 abbrev pub is_decimal : ℕ → Bool
@@ -43,17 +43,6 @@ pub decimal_below : (most : ℕ) (digits : List ℕ) → length digits ≤ most 
     → low_first 10 digits < 10 ^ most
 decimal_below most digits few all = low_first-few 10 most digits (omega arith) few (all_below digits all)
 
-pub not_all : (digits : List ℕ) (i : ℕ) → i < length digits → 9 < get_or digits i 0 → list_all is_decimal digits ≡ false
-not_all [] i within large = absurd (omega arith)
-not_all (digit ∷ digits) zero within large = and_left (is_decimal digit) (list_all is_decimal digits) (lt-leb digit 9 large)
-not_all (digit ∷ digits) (suc i) within large =
-    and_right (is_decimal digit) (list_all is_decimal digits) (not_all digits i (omega arith) large)
-
-pub all_more : (digits : List ℕ) (left : ℕ) → 0 < left → left ≤ length digits → get_or digits (left - 1) 0 ≤ 9
-    → list_all is_decimal (drop left digits) ≡ true → list_all is_decimal (drop (left - 1) digits) ≡ true
-all_more digits left some within small all =
-    rw (drop-before digits left some within) (and_from _ _ (le-leb (get_or digits (left - 1) 0) 9 small) all)
-
 -- ---- the loop over the first digits
 
 -- what stands from a place on among the first digits
@@ -61,42 +50,6 @@ pub record IsRead (bytes : List ℕ) (count left number : ℕ) : Type 0 where
   pub within : left ≤ count
   pub all : list_all is_decimal (drop left (take count (digits_of bytes))) ≡ true
   pub is : number ≡ low_first 10 (drop left (take count (digits_of bytes)))
-
-pub none_read : (bytes : List ℕ) (count : ℕ) → IsRead bytes count count 0
-none_read bytes count =
-    let none : drop count (take count (digits_of bytes)) ≡ [] =
-    drop_all count (take count (digits_of bytes)) (omega (arith, length-take count (digits_of bytes))) in
-    record { within = omega arith; all = rw none refl; is = rw none refl }
-
-len-first : (bytes : List ℕ) (count : ℕ) → count ≤ 2 * length bytes → length (take count (digits_of bytes)) ≡ count
-len-first bytes count within = omega (arith, length-take count (digits_of bytes), length-digits_of bytes)
-
-pub one_read : (bytes : List ℕ) (count left number digit : ℕ) → count ≤ 2 * length bytes → 0 < left
-    → digit ≡ get_or (digits_of bytes) (left - 1) 0 → digit ≤ 9 → IsRead bytes count left number
-    → IsRead bytes count (left - 1) (number * 10 + digit)
-one_read bytes count left number digit within some is small so_far =
-    let len = len-first bytes count within in
-    let lt : left - 1 < count = omega (arith, so_far.within) in
-    let here : digit ≡ get_or (take count (digits_of bytes)) (left - 1) 0 =
-    is ∙ sym (get_or-take count (digits_of bytes) (left - 1) 0 lt) in
-    record {
-      within = omega arith;
-      all = all_more (take count (digits_of bytes)) left some (omega (arith, so_far.within)) (rw (← here) small) so_far.all;
-      is = rw here (low_first-step 10 (take count (digits_of bytes)) left number some (omega (arith, so_far.within)) so_far.is);
-    }
-
-pub large_read : (bytes : List ℕ) (count left digit : ℕ) → count ≤ 2 * length bytes → 0 < left → left ≤ count
-    → digit ≡ get_or (digits_of bytes) (left - 1) 0 → 9 < digit → None ≡ decimal_of (take count (digits_of bytes))
-large_read bytes count left digit within some le is large =
-    let len = len-first bytes count within in
-    let lt : left - 1 < count = omega arith in
-    let here : get_or (take count (digits_of bytes)) (left - 1) 0 ≡ digit = get_or-take count (digits_of bytes) (left - 1) 0 lt ∙ sym is in
-    sym (cond-false (list_all is_decimal (take count (digits_of bytes))) _ None
-    (not_all (take count (digits_of bytes)) (left - 1) (omega arith) (rw here large)))
-
-pub all_read : (bytes : List ℕ) (count number : ℕ) → IsRead bytes count 0 number → Some number ≡ decimal_of (take count (digits_of bytes))
-all_read bytes count number r =
-    ap (λ (n : ℕ). Some n) r.is ∙ sym (cond-true (list_all is_decimal (take count (digits_of bytes))) _ None r.all)
 
 pub read_below : (bytes : List ℕ) (count left number : ℕ) → count ≤ 18 → IsRead bytes count left number → number < 10 ^ 18
 read_below bytes count left number few r =

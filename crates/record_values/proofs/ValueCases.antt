@@ -6,7 +6,6 @@ use Rattle.record_values.specs.declared.values.Value.{Value}
 use Rattle.dif_vif.specs.declared.span.RecordSpan.{RecordSpan}
 use Rattle.record_values.specs.declared.units.Quantity.{Quantity}
 use Rattle.record_values.specs.declared.values.Reading.{Reading}
-use Rattle.record_values.specs.declared.values.Reading.TheVariants as readings
 use Rattle.record_values.specs.Units.{unit}
 use Rattle.record_values.specs.Values.{digits_of, decimal_of, positive, negative, bcd_value, lvar_value, unread, reading_of, value_as, data_of, value}
 use Rattle.record_values.proofs.Decimal.{take-digits}
@@ -33,20 +32,10 @@ bcd-positive bytes top read v top_is not_f is e =
     ∙ sym (cond-false (eqb (slice_index (digits_of bytes) (2 * length bytes - 1)) 15) _ _ (ne_eqb _ 15 (λ f. not_f (top_is ∙ f))))
 
 -- days and moments of another width are not read
-pub day-unread : (bytes sent : List ℕ) (span : RecordSpan) (quantity : Quantity) (v : Value) → quantity ≡ (unit bytes span).quantity
-    → readings.Day ≡ reading_of quantity → (span.dif % 16 ≡ 2 → ⊥) → sent ≡ data_of bytes span → v ≡ unread sent → v ≡ value bytes span
-day-unread bytes sent span quantity v q r other same e =
-    let is : reading_of (unit bytes span).quantity ≡ readings.Day = ap reading_of (sym q) ∙ sym r in
-    let whole : value bytes span ≡ unread (data_of bytes span) =
-    ap (λ (x : Reading). value_as x (span.dif % 16) span.lvar (data_of bytes span)) is
-    ∙ cond-false (eqb (span.dif % 16) 2) _ _ (ne_eqb _ 2 other) in
-    e ∙ ap unread same ∙ sym whole
-
-pub moment-unread : (bytes sent : List ℕ) (span : RecordSpan) (quantity : Quantity) (v : Value) → quantity ≡ (unit bytes span).quantity
-    → readings.Moment ≡ reading_of quantity → (span.dif % 16 ≡ 4 → ⊥) → sent ≡ data_of bytes span → v ≡ unread sent → v ≡ value bytes span
-moment-unread bytes sent span quantity v q r other same e =
-    let is : reading_of (unit bytes span).quantity ≡ readings.Moment = ap reading_of (sym q) ∙ sym r in
-    let whole : value bytes span ≡ unread (data_of bytes span) =
-    ap (λ (x : Reading). value_as x (span.dif % 16) span.lvar (data_of bytes span)) is
-    ∙ cond-false (eqb (span.dif % 16) 4) _ _ (ne_eqb _ 4 other) in
-    e ∙ ap unread same ∙ sym whole
+pub unread_as : (r : Reading) (bytes sent : List ℕ) (span : RecordSpan) (quantity : Quantity) (v : Value)
+    → quantity ≡ (unit bytes span).quantity → r ≡ reading_of quantity
+    → value_as r (span.dif % 16) span.lvar (data_of bytes span) ≡ unread (data_of bytes span) → sent ≡ data_of bytes span → v ≡ unread sent
+    → v ≡ value bytes span
+unread_as r bytes sent span quantity v q e other same is =
+    is ∙ ap unread same
+    ∙ sym (ap (λ (x : Reading). value_as x (span.dif % 16) span.lvar (data_of bytes span)) (ap reading_of (sym q) ∙ sym e) ∙ other)

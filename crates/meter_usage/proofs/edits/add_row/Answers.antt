@@ -28,7 +28,7 @@ mend_at-requires-clause-totals c = λ q.
 
 pub returns-clause-kept : goal.returns-clause-kept
 returns-clause-kept c =
-    kept_added c.args.address c.args.meters.now.entries c.put.new.meters.entries c.args.payload.now c.args.sums.now.entries
-    c.mend_at.new.sums.entries c.requires.kept c.requires.few
+    kept_added c.args.address c.args.meters.now.entries c.put.new.meters.entries c.args.sums.now.entries
+    c.mend_at.new.sums.entries c.requires.kept c.args.payload.now c.requires.few
     (c.in_ok-put.ensures.ok ∙ ap (added c.args.meters.now.entries c.args.address) c.in_ok-row.ensures)
     (λ q. c.mend_at.ensures.totals q ∙ total_same q c.args.address c.put.new.meters.entries)

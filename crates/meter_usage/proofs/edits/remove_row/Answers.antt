@@ -15,6 +15,6 @@ mend_at-requires-clause-totals c = kept_before c.args.address c.args.meters.now.
 
 pub returns-clause-kept : goal.returns-clause-kept
 returns-clause-kept c =
-    kept_removed c.args.address c.args.meters.now.entries c.take.new.meters.entries c.args.place c.args.sums.now.entries
-    c.mend_at.new.sums.entries c.requires.kept c.requires.place
+    kept_removed c.args.address c.args.meters.now.entries c.take.new.meters.entries c.args.sums.now.entries
+    c.mend_at.new.sums.entries c.requires.kept c.args.place c.requires.place
     c.take.ensures c.mend_at.ensures.totals

@@ -1,8 +1,9 @@
 use Rattle.std.proofs.Common.{◌≡◌, ◌<◌, true, length, get_or, remove, is_some, sym, ap, ◌∙◌, subst}
+use Rattle.std.proofs.lemmas.Result.{on_ok_weaker}
 use Rattle.meter_usage.specs.Amounts.{amount_at}
 use Rattle.meter_usage.specs.Sums.{total_at}
 use Rattle.meter_usage.specs.Table.{rows_at, with_rows, replaced}
-use Rattle.meter_usage.proofs.Tables.{total_same, on_ok}
+use Rattle.meter_usage.proofs.Tables.{total_same}
 use Rattle.meter_usage.proofs.Edited.{by_result, kept_sums, kept_table, kept_there, kept_fits, kept_before, kept_replaced, gone_fits, set_place, set_row, set_totals}
 use Rattle.meter_usage.proofs.edits.replace_row.Goals as goal
 
@@ -51,14 +52,14 @@ mend_at-requires-2-clause-totals c = λ q.
 
 pub returns-clause-ok : goal.returns-clause-ok
 returns-clause-ok c =
-    on_ok c.swap-swapped.result c.swap-swapped.ensures.ok
-    (λ is. is ∙ ap (replaced c.args.meters.now.entries c.args.address c.args.place) c.in_ok-row.ensures)
+    on_ok_weaker c.swap-swapped.result (λ is. is ∙ ap (replaced c.args.meters.now.entries c.args.address c.args.place) c.in_ok-row.ensures)
+    c.swap-swapped.ensures.ok
 
 pub returns-clause-kept : goal.returns-clause-kept
 returns-clause-kept c =
     by_result c.swap-swapped.result c.swap-swapped.ensures.ok c.swap-swapped.ensures.err
-    (λ is. kept_replaced c.args.address c.args.meters.now.entries c.swap-swapped.new.meters.entries c.args.place c.args.payload.now
-    c.args.sums.now.entries c.mend_at-2.new.sums.entries c.requires.kept c.requires.place
+    (λ is. kept_replaced c.args.address c.args.meters.now.entries c.swap-swapped.new.meters.entries c.args.sums.now.entries
+    c.mend_at-2.new.sums.entries c.requires.kept c.args.place c.requires.place c.args.payload.now
     (is ∙ ap (replaced c.args.meters.now.entries c.args.address c.args.place) c.in_ok-row.ensures)
     (λ q. c.mend_at-2.ensures.totals q ∙ total_same q c.args.address c.swap-swapped.new.meters.entries))
     (λ is. kept_table c.args.meters.now.entries c.swap-swapped.new.meters.entries c.mend_at-2.new.sums.entries is

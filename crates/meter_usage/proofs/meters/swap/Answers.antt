@@ -1,28 +1,25 @@
-use Rattle.std.proofs.Common.{◌≡◌, Some, sym, ap, ◌∙◌, [], ◌<◌, length, subst}
+use Rattle.std.proofs.Common.{sym, ap, ◌∙◌, ◌<◌, [], length, subst}
 use Rattle.std.specs.Prelude.{slice_set}
-use Rattle.std.specs.Map.{lookup, set_value}
+use Rattle.std.specs.Map.{set_value}
 use Rattle.std.specs.Option.{unwrap_or}
+use Rattle.std.proofs.lemmas.Result.{on_ok_weaker, on_err_weaker}
 use Rattle.std.proofs.lemmas.Map.Steps.{set_value_same}
-use Rattle.meter_usage.specs.Table.{same, rows_at, with_rows}
-use Rattle.meter_usage.proofs.Tables.{set_is_with, set_some, on_ok, on_err}
+use Rattle.meter_usage.specs.Table.{same}
+use Rattle.meter_usage.proofs.Tables.{written_as, set_some}
 use Rattle.meter_usage.proofs.meters.swap.Goals as goal
 
 pub returns-in-Some-clause-ok : goal.returns-in-Some-clause-ok
 returns-in-Some-clause-ok c =
-    let found : lookup (same c.args.address) c.args.meters.now.entries ≡ Some c.in-Some.meter.now = sym c.in-Some.ensures.value in
-    let rows : rows_at c.args.address c.args.meters.now.entries ≡ c.in-Some.meter.now = ap (λ o. unwrap_or o []) found in
-    let lt : c.args.place < length c.in-Some.meter.now = subst (λ rs. c.args.place < length rs) rows c.requires in
-    on_ok c.replace.result c.replace.ensures.ok (λ is.
-    (c.get_mut.follows.holds c.replace.new.self).0
-    ∙ ap (set_value (same c.args.address) c.args.meters.now.entries) is
-    ∙ set_is_with c.args.address c.args.meters.now.entries c.in-Some.meter.now (slice_set c.in-Some.meter.now c.args.place c.args.row) found
-    (set_some c.in-Some.meter.now c.args.place c.args.row lt)
-    ∙ ap (λ rs. with_rows c.args.meters.now.entries c.args.address (slice_set rs c.args.place c.args.row)) (sym rows))
+    on_ok_weaker c.replace.result (λ is.
+    written_as c.args.address c.args.meters.now.entries _ c.in-Some.meter.now (λ rs. slice_set rs c.args.place c.args.row)
+    c.in-Some.ensures.value ((c.get_mut.follows.holds c.replace.new.self).0
+    ∙ ap (set_value (same c.args.address) c.args.meters.now.entries) is) (set_some c.in-Some.meter.now c.args.place c.args.row
+    (subst (λ o. c.args.place < length (unwrap_or o [])) (sym c.in-Some.ensures.value) c.requires))) c.replace.ensures.ok
 
 pub returns-in-Some-clause-err : goal.returns-in-Some-clause-err
 returns-in-Some-clause-err c =
-    let found : lookup (same c.args.address) c.args.meters.now.entries ≡ Some c.in-Some.meter.now = sym c.in-Some.ensures.value in
-    on_err c.replace.result c.replace.ensures.err (λ is.
+    on_err_weaker c.replace.result (λ is.
     (c.get_mut.follows.holds c.replace.new.self).0
     ∙ ap (set_value (same c.args.address) c.args.meters.now.entries) is
-    ∙ set_value_same (same c.args.address) c.args.meters.now.entries c.in-Some.meter.now found)
+    ∙ set_value_same (same c.args.address) c.args.meters.now.entries c.in-Some.meter.now (sym c.in-Some.ensures.value))
+    c.replace.ensures.err

@@ -1,25 +1,18 @@
 -- What is found of the rows that are kept holds of the rows that the edits leave.
-use Rattle.std.proofs.Common.{rules, Err, ◌∙◌, ap, inr}
+use Rattle.std.proofs.Common.{rules, ◌∙◌, ap}
 use Rattle.meter_usage.specs.Amounts.{row_of}
 use Rattle.meter_usage.specs.Table.{added}
+use Rattle.meter_usage.specs.Edits.{addition}
 use Rattle.meter_usage.specs.Faults.{add_fault}
 use Rattle.meter_usage.proofs.Edited.{ok_at, err_at}
-use Rattle.meter_usage.proofs.Accepted.{addition_accepted, add_fault_stands, found_there, same_fault, none_there}
+use Rattle.meter_usage.proofs.Accepted.{addition_accepted, add_fault_stands, refused_by, none_there}
 use Rattle.meter_usage.proofs.totals.Totals.add.Goals as goal
 use Rattle.meter_usage.proofs.totals.Totals.add.Goals.{in-Ok, in-Err}
 
 pub returns-in-Some : goal.returns-in-Some
-returns-in-Some c = record {
-  accepted = search rules;
-  unchanged = search rules;
-  refused = λ edits fault s there.
-      ap Err (same_fault _ c.in-Some.fault fault
-      (found_there _ _ _ c.in-Some.fault c.add_fault.ensures
-      (ap (add_fault c.args.address) c.self.view_is ∙ add_fault_stands c.args.address c.args.self.now edits s) c.in-Some.is) there);
-  caused = λ edits s.
-      inr (found_there _ _ _ c.in-Some.fault c.add_fault.ensures
-      (ap (add_fault c.args.address) c.self.view_is ∙ add_fault_stands c.args.address c.args.self.now edits s) c.in-Some.is);
-}
+returns-in-Some c =
+    refused_by (addition c.args.address c.args.payload.now) c.args.self.now _ c.in-Some.fault
+    (λ edits s. c.add_fault.ensures ∙ ap (add_fault c.args.address) c.self.view_is ∙ add_fault_stands c.args.address c.args.self.now edits s) c.in-Some.is
 
 pub returns : goal.returns
 returns c = record {
