@@ -20,17 +20,6 @@ use Rattle.line_merge_main.specs.Run.{IsFresh, InputShown, HasFault, HasLongLine
 module _ {S : Type 0} (s : sources.Ghosts S) where
   -- ---- one input
 
-  -- of an input of which no line was given all lines are still to come
-  pub fresh_reading : (r : TextReading S) → IsFresh r → IsReading s r
-  fresh_reading r fresh = record {
-    longest = fresh.longest;
-    goes_on = fresh.goes_on;
-    counted = λ tells. rw fresh.line refl;
-  }
-
-  pub fresh_lines : (r : TextReading S) → IsFresh r → later_lines s 0 r ≡ input_lines (bytes_of s r)
-  fresh_lines r fresh = ap (λ n. lines_behind 0 (drop n (all_lines (bytes_of s r)))) fresh.line
-
   pub stays : (r : TextReading S) → GoesOn s r r
   stays r = record { later = omega arith; bytes = λ tells. refl }
 
