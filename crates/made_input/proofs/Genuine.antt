@@ -6,7 +6,6 @@ use Rattle.std.specs.Result.{result_map_both}
 use Rattle.std.proofs.lemmas.List.Elements.{All-nil, All-cons, All-append, All-take}
 use Rattle.std.specs.Int.{w32, to_le_bytes}
 use Rattle.aes_block.proofs.Lists.{AreBytes}
-use Rattle.aes_block.proofs.Mixing.{AreBytes-4}
 use Rattle.aes_block.specs.Block.{IsBlock}
 use Rattle.cbc_cmac.specs.Cbc.{cbc_decrypted}
 use Rattle.cbc_cmac.specs.Mac.{zeros, cmac}
@@ -16,9 +15,9 @@ use Rattle.key_derivation.specs.declared.KeyUse.TheVariants.{MeterCipher, MeterM
 use Rattle.key_derivation.specs.Derivation.{derived}
 use Rattle.frame_formats.specs.Crc.{IsBytes}
 use Rattle.frame_formats.specs.Frames.{IsTelegram}
-use Rattle.meter_address.specs.declared.address.Address.{Address}
 use Rattle.meter_address.specs.Address.{bytes_of, identification_of}
 use Rattle.meter_address.specs.Commission.{Commissioned}
+use Rattle.meter_address.proofs.Texts.{length-bytes_of}
 use Rattle.ell_layer.specs.declared.access.Access.TheVariants as access
 use Rattle.afl_layer.specs.Header.{afl_at, afl_bytes}
 use Rattle.afl_layer.proofs.HeaderLaws.{again}
@@ -30,10 +29,10 @@ use Rattle.message_check.specs.Layers.{extension_in, fragmentation_in, header_in
 use Rattle.afl_layer.specs.declared.header.Auth.{Auth}
 use Rattle.message_check.specs.Opening.{Found, Genuine7, mac_input, mac_of}
 use Rattle.downlink_maker.specs.Downlink.{authentication_bytes, authentication_of, plain_content}
-use Rattle.downlink_maker.proofs.Bytes.{Byte, all_bytes, AreBytes-bytes_of, IsBlock-zeros, IsBlock-key, AreBytes-1, AreBytes-counter}
+use Rattle.downlink_maker.proofs.Bytes.{Byte, bytes_all, all_bytes, AreBytes-bytes_of, IsBlock-zeros, IsBlock-key, AreBytes-1, AreBytes-counter}
 use Rattle.downlink_maker.proofs.Bytes.{AreBytes-authentication_bytes}
 use Rattle.downlink_maker.proofs.ReadBack.{AreBytes-plain_content, length-plain_content}
-use Rattle.made_input.specs.Draws.{state_after, drawn, key_behind}
+use Rattle.made_input.specs.Draws.{key_behind}
 use Rattle.made_input.specs.Meters.{bcd, meter_at}
 use Rattle.made_input.specs.Uplinks.{volume, header, content_of, message_of, mac_under, uplink}
 use Rattle.made_input.specs.Laws.{IsGenuine, UplinksAreGenuine}
@@ -41,12 +40,9 @@ use Rattle.made_input.proofs.Telegrams.{is_telegram}
 
 -- ---- bytes
 
-AreBytes-bcd : (n : ℕ) → AreBytes (bcd n)
-unfolding bcd
-AreBytes-bcd n = AreBytes-4 _ _ _ _ (omega arith) (omega arith) (omega arith) (omega arith)
-
 AreBytes-volume : (n : ℕ) → AreBytes (volume n)
-AreBytes-volume n = All-cons Byte 0x0C (0x13 ∷ bcd n) (omega arith) (All-cons Byte 0x13 (bcd n) (omega arith) (AreBytes-bcd n))
+unfolding bcd
+AreBytes-volume n = bytes_all (volume n) (search arith)
 
 length-volume : (n : ℕ) → length (volume n) ≡ 6
 unfolding bcd
@@ -55,28 +51,9 @@ length-volume n = refl
 length-plain : (n : ℕ) → length (plain_content (volume n)) ≡ 16
 length-plain n = length-plain_content (volume n) ∙ ap (λ p. 16 * ((p + 2 + 15) / 16)) (length-volume n)
 
-AreBytes-header : AreBytes header
-AreBytes-header = All-append Byte (0x7A ∷ 0x01 ∷ []) (0x00 ∷ 0x10 ∷ 0x07 ∷ 0x10 ∷ [])
-    (All-cons Byte 0x7A (0x01 ∷ []) (omega arith) (AreBytes-1 0x01 (omega arith)))
-    (AreBytes-4 0x00 0x10 0x07 0x10 (omega arith) (omega arith) (omega arith) (omega arith))
-
-AreBytes-joined : (a b c d : List ℕ) → AreBytes a → AreBytes b → AreBytes c → AreBytes d → AreBytes (a ++ b ++ c ++ d)
-AreBytes-joined a b c d ha hb hc hd =
-    All-append Byte (a ++ b ++ c) d (All-append Byte (a ++ b) c (All-append Byte a b ha hb) hc) hd
-
 pub IsBlock-drawn : (number place : ℕ) → IsBlock (meter_at number place).key
 unfolding key_behind
-IsBlock-drawn number place = record {
-  count = refl;
-  bytes = AreBytes-joined (drawn number (4 * place + 1)) (drawn number (4 * place + 2)) (drawn number (4 * place + 3))
-      (drawn number (4 * place + 4))
-      (AreBytes-counter (state_after (4 * place + 1) number / 2 ^ 32)) (AreBytes-counter (state_after (4 * place + 2) number / 2 ^ 32))
-      (AreBytes-counter (state_after (4 * place + 3) number / 2 ^ 32)) (AreBytes-counter (state_after (4 * place + 4) number / 2 ^ 32));
-}
-
-pub length-bytes_of : (a : Address) → length (bytes_of a) ≡ 8
-unfolding bytes_of
-length-bytes_of a = refl
+IsBlock-drawn number place = record { count = refl; bytes = bytes_all (key_behind number (4 * place)) (search arith) }
 
 -- ---- layers
 
@@ -182,7 +159,7 @@ module _ (c : Commissioned) (n : ℕ) (key : IsBlock c.key) (small : n < 2 ^ 32)
       ∙ length-plain n
 
   AreBytes-message : AreBytes (message_of c n)
-  AreBytes-message = All-append Byte header (content_of c n) AreBytes-header AreBytes-content
+  AreBytes-message = All-append Byte header (content_of c n) (bytes_all header (search arith)) AreBytes-content
 
   mac_block : IsBlock (cmac (derived c.key MeterMac n (identification_of c.address)) (mac_input 0x25 n None (message_of c n)))
   mac_block =

@@ -18,7 +18,7 @@ use Rattle.plain_text.specs.Parts.{fields_of}
 use Rattle.meter_address.specs.declared.address.Address.{Address}
 use Rattle.meter_address.specs.Address.{bytes_of}
 use Rattle.meter_address.specs.Commission.{Commissioned}
-use Rattle.meter_address.proofs.Texts.{bytes_of-made}
+use Rattle.meter_address.proofs.Texts.{length-bytes_of, bytes_of-made}
 use Rattle.frame_formats.specs.Crc.{IsBytes, crc_of}
 use Rattle.frame_formats.specs.Decoding.{with_crc, cut, frame_a, decoded_a}
 use Rattle.frame_formats.specs.declared.fault.FrameFault.{FrameFault}
@@ -153,8 +153,7 @@ made_bytes place = 0x93 ∷ 0x15 ∷ bcd (place + 1) ++ 0x01 ∷ 0x07 ∷ []
 
 made_are_bytes : (place : ℕ) → IsBytes (made_bytes place)
 unfolding bcd
-made_are_bytes place =
-    (omega arith, (omega arith, (omega arith, (omega arith, (omega arith, (omega arith, (omega arith, (omega arith, tt))))))))
+made_are_bytes place = search arith
 
 length-made : (place : ℕ) → length (made_bytes place) ≡ 8
 unfolding bcd
@@ -166,7 +165,7 @@ address_bytes place = bytes_of-made (made_bytes place) (address_at place) (lengt
 
 link_bytes : (c : Commissioned) (n : ℕ) → take 8 (drop 2 (uplink c n)) ≡ bytes_of c.address
 unfolding uplink
-link_bytes c n = ap (take 8) (append_assoc (bytes_of c.address) _ _) ∙ take_at (bytes_of c.address) _ 8 (genuine.length-bytes_of c.address)
+link_bytes c n = ap (take 8) (append_assoc (bytes_of c.address) _ _) ∙ take_at (bytes_of c.address) _ 8 (length-bytes_of c.address)
 
 abbrev address_from : List ℕ → Address
 address_from bytes = record { 0 = from_be_bytes w64 bytes }

@@ -1,5 +1,5 @@
 -- What callers see of the text that a receiver hears, and places in a text of several pieces.
-use Rattle.std.specs.Prelude.{ℕ, ◌+◌, ◌≤◌, List, [], length, take, drop}
+use Rattle.std.specs.Prelude.{ℕ, ◌+◌, ◌≤◌, List, length, take, drop}
 use Rattle.std.specs.List.{flat_map}
 
 -- the bytes taken so far, and those that are left

@@ -1,4 +1,4 @@
-use Rattle.std.proofs.Common.{List, ℕ, ◌≡◌, length, ap, ap₂, ◌∙◌, arith}
+use Rattle.std.proofs.Common.{List, ℕ, length, ap, ap₂, ◌∙◌, arith}
 use Rattle.std.proofs.lemmas.List.FromFn.{length-map-range_with_len}
 use Rattle.roster_file.specs.Text.{roster_text}
 use Rattle.roster_file.specs.Roster.{Enrolled}

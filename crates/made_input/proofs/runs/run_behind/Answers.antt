@@ -1,10 +1,10 @@
-use Rattle.std.proofs.Common.{◌+◌, ◌-◌, map, ap, ◌∙◌, arith}
-use Rattle.made_input.specs.Runs.{lines_behind, joined, texts_rotated}
+use Rattle.std.proofs.Common.{map, refl, ap, ◌∙◌, arith}
+use Rattle.made_input.specs.Runs.{joined, texts_rotated}
 use Rattle.made_input.proofs.HeardRuns.{none_heard, one_group_more, all_heard}
 use Rattle.made_input.proofs.runs.run_behind.Goals as goal
 
 pub groups-init : goal.groups-init
-groups-init c = (omega arith, none_heard c.args.meters.now c.args.before c.args.count c.in_ok-run.run' c.in_ok-run.ensures)
+groups-init c = (omega arith, none_heard c.args.meters.now c.args.before c.args.count 0 c.in_ok-run.run' refl c.in_ok-run.ensures)
 
 pub groups-preserved : goal.groups-preserved
 groups-preserved c = (

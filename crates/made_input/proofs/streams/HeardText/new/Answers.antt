@@ -1,5 +1,5 @@
 use Rattle.std.proofs.Common.{[], ap}
-use Rattle.made_input.specs.Streams.{Text, place_in_all}
+use Rattle.made_input.specs.Streams.{place_in_all}
 use Rattle.made_input.proofs.streams.HeardText.new.Goals as goal
 
 pub returns : goal.returns

@@ -6,10 +6,9 @@ use Rattle.made_input.proofs.streams.HeardTextSource.read.Goals as goal
 pub returns-in_default-clause-end : goal.returns-in_default-clause-end
 returns-in_default-clause-end c = λ tells none.
     let at = c.next_place-piece.result in
-    let place = subst (λ ps. IsPlace (λ p. p.items) ps at.0 at.1) c.deref.ensures.value c.next_place-piece.ensures.place in
     let same = ap (λ ps. place_in_all (λ p. p.items) ps at.0 at.1) (sym c.deref.ensures.value) ∙ c.next_place-piece.ensures.same
     ∙ ap (λ ps. place_in_all (λ p. p.items) ps c.self.inside.piece c.self.inside.at) c.deref.ensures.value in
-    nothing_read (λ p. p.items) c.self.inside.pieces.items at.0 at.1 _ c.args.self.now c.self.view_is place same
+    nothing_read (λ p. p.items) c.self.inside.pieces.items at.0 at.1 _ c.args.self.now c.self.view_is same
     (omega (arith, c.in_default.ensures.lookup.3, ap length c.deref-2.ensures.value))
 
 pub returns-clause-ok : goal.returns-clause-ok
