@@ -90,6 +90,7 @@ fn put_others(out: &mut [u8], at: usize, bytes: &[u8]) -> usize
 }
 
 /// Writes the one frame of format A of a telegram (EN 13757-4), and answers its length.
+#[tactic(auto, using(lists::proofs::Puts::behind_both))]
 pub fn encode_a(telegram: &Telegram, out: &mut [u8; 290]) -> usize
     ensures len { result ≡ frame_len (length telegram.now - 1) }
     ensures written { take result out.new ≡ frame_a telegram.now }
