@@ -12,6 +12,7 @@ use crate::{FrameFault, Telegram};
 use lists::put;
 
 // Fills `into` from the blocks behind the first, each with its CRC.
+#[tactic(auto, using(crate::proofs::Reading::fault, crate::proofs::Reading::finished))]
 fn read_others(bytes: &[u8], into: &mut [u8]) -> Result<(), FrameFault>
     requires { length bytes.now ≡ length into.old + 2 * ((length into.old + 15) / 16) }
     ensures { let pieces = cut ((length into.old + 15) / 16) 18 bytes.now in
@@ -33,6 +34,7 @@ fn read_others(bytes: &[u8], into: &mut [u8]) -> Result<(), FrameFault>
 }
 
 // Fills `into` from all blocks, each with its CRC.
+#[tactic(auto, using(crate::proofs::Reading::front_fault))]
 fn read_blocks(bytes: &[u8], into: &mut [u8]) -> Result<(), FrameFault>
     requires more { 10 < length into.old }
     requires whole { length bytes.now ≡ 12 + (length into.old - 10) + 2 * ((length into.old - 10 + 15) / 16) }
