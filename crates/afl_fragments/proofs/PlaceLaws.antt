@@ -176,8 +176,3 @@ pub last_end_place : (places : List HeldPart) (order : List ℕ)
     → option_map (at_place places) (find (λ i. is_end (at_place places i)) order) ≡ last_end (held_in places order)
 last_end_place places [] = refl
 last_end_place places (i ∷ order) = let rest = last_end_place places order in grind arith
-
-pub found_place : (places : List HeldPart) (p : ℕ → Bool) (order : List ℕ) → AllByRecursion (IsPlace places) order
-    → IfSome (find p order) (IsPlace places)
-found_place places p [] a = tt
-found_place places p (i ∷ order) a = let here = a.0 in let rest = found_place places p order a.1 in grind arith

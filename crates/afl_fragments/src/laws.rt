@@ -37,6 +37,7 @@ pub fn each_number_is_held_once()
 {}
 
 /// What was told, cut down to the fragments that are held, holds the same, whatever is told after it.
+#[tactic(auto, using(crate::proofs::Shortening::held_goes_on, crate::proofs::Shortening::cut_holds))]
 pub fn a_cut_history_holds_the_same()
     ensures { (later told : List Told) → held (later ++ cut_down told) ≡ held (later ++ told) }
 {}

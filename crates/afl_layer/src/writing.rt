@@ -117,6 +117,7 @@ fn put_header(afl: &Afl, out: &mut [u8]) -> usize
 
 /// Writes the header, with the bits of FCL that aren't used as 0, and answers how many bytes it has. What stands behind them
 /// in `out` stays. What `afl.len` says doesn't matter.
+#[tactic(auto, using(crate::proofs::FclLaws::written_again))]
 pub fn write_afl(afl: &Afl, out: &mut [u8; 21]) -> usize
     ensures len { result ≡ length (afl_bytes (fcl_of afl.now) afl.now) }
     ensures spelt { take result out.new ≡ afl_bytes (fcl_of afl.now) afl.now }

@@ -13,6 +13,7 @@ pub fn decryption_undoes_encryption_of_bytes()
 {}
 
 /// Two values of `Cmac` that stand for one message under one key are the same, however the message was cut.
+#[tactic(auto, using(crate::proofs::Taking::cut_makes_no_difference))]
 pub fn cut_makes_no_difference()
     ensures { CutMakesNoDifference }
 {}

@@ -62,6 +62,7 @@ fn extension(bytes: &[u8]) -> Result<Ell, EllFault>
 }
 
 /// The header of the extended link layer with which the bytes begin.
+#[tactic(auto, using(crate::proofs::Headers::is_found, crate::proofs::Faults::is_fault))]
 pub fn read_ell(bytes: &[u8]) -> Result<Ell, EllFault>
     // What is read is spelled so, and what is spelled so is read.
     ensures found { IfOk result (λ e. BeginsWithEll bytes.now e) }

@@ -12,6 +12,7 @@ use crate::{FrameFault, Telegram};
 use lists::put;
 
 // Fills `into` from the blocks behind the first, each with its CRC.
+#[tactic(auto, using(crate::proofs::Reading::fault, crate::proofs::Reading::finished))]
 fn read_others(bytes: &[u8], into: &mut [u8]) -> Result<(), FrameFault>
     requires { length bytes.now ≡ length into.old + 2 * ((length into.old + 15) / 16) }
     ensures { let pieces = cut ((length into.old + 15) / 16) 18 bytes.now in
@@ -33,6 +34,7 @@ fn read_others(bytes: &[u8], into: &mut [u8]) -> Result<(), FrameFault>
 }
 
 // Fills `into` from all blocks, each with its CRC.
+#[tactic(auto, using(crate::proofs::Reading::front_fault))]
 fn read_blocks(bytes: &[u8], into: &mut [u8]) -> Result<(), FrameFault>
     requires more { 10 < length into.old }
     requires whole { length bytes.now ≡ 12 + (length into.old - 10) + 2 * ((length into.old - 10 + 15) / 16) }
@@ -90,6 +92,7 @@ fn put_others(out: &mut [u8], at: usize, bytes: &[u8]) -> usize
 }
 
 /// Writes the one frame of format A of a telegram (EN 13757-4), and answers its length.
+#[tactic(auto, using(lists::proofs::Puts::behind_both))]
 pub fn encode_a(telegram: &Telegram, out: &mut [u8; 290]) -> usize
     ensures len { result ≡ frame_len (length telegram.now - 1) }
     ensures written { take result out.new ≡ frame_a telegram.now }

@@ -9,6 +9,7 @@ use crate::{FrameFault, Telegram};
 use lists::put;
 
 // Fills `into` from one block with its CRC.
+#[tactic(auto, using(crate::proofs::RelationB::one_read, crate::proofs::RelationB::one_fault))]
 fn read_one(bytes: &[u8], into: &mut [u8]) -> Result<(), FrameFault>
     requires short { length bytes.now ≤ 128 }
     requires whole { length bytes.now ≡ length into.old + 2 }
@@ -50,6 +51,7 @@ fn read_blocks(bytes: &[u8], into: &mut [u8]) -> Result<(), FrameFault>
 }
 
 // Fills `into` from all blocks, with its own length less one as the first byte.
+#[tactic(auto, using(crate::proofs::RelationB::counted_is, crate::proofs::RelationB::counted_fault))]
 fn read_counted(bytes: &[u8], into: &mut [u8]) -> Result<(), FrameFault>
     requires short { length bytes.now ≤ 128 → length bytes.now ≡ length into.old + 2 }
     requires long { 128 < length bytes.now → (131 ≤ length bytes.now) × (length bytes.now ≡ length into.old + 4) }

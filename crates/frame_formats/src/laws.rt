@@ -18,16 +18,19 @@ pub fn one_telegram_b()
 {}
 
 /// A telegram has one frame of format A, which is read back.
+#[tactic(auto, using(crate::proofs::FrameLaws::one_frame_a))]
 pub fn one_frame_a()
     ensures { OneFrameA }
 {}
 
 /// What bytes are decoded to is the telegram whose frame they are.
+#[tactic(auto, using(crate::proofs::EitherFormat::frames_are_decoded))]
 pub fn frames_are_decoded()
     ensures { FramesAreDecoded }
 {}
 
 /// A frame of bytes has a telegram of bytes.
+#[tactic(auto, using(crate::proofs::EitherFormat::telegrams_are_bytes))]
 pub fn telegrams_are_bytes()
     ensures { TelegramsAreBytes }
 {}

@@ -19,7 +19,7 @@ use Rattle.afl_layer.proofs.FieldLaws.{IsBytes, IsBytes-drop}
 use Rattle.tpl_headers.specs.declared.header.TplFault.{TplFault}
 use Rattle.tpl_headers.specs.Header as transport
 use Rattle.tpl_headers.proofs.Faults as transport_faults
-use Rattle.tpl_headers.proofs.Parts.{chosen}
+use Rattle.lists.proofs.Choices.{chosen}
 use Rattle.message_check.specs.declared.headers.Layers.{Layers}
 use Rattle.message_check.specs.declared.refusal.LayerFault.{LayerFault}
 use Rattle.message_check.specs.declared.refusal.LayerFault.TheVariants as faults

@@ -23,6 +23,7 @@ use Rattle.message_check.specs.declared.refusal.Reason.TheVariants.{OtherAddress
 use Rattle.message_check.specs.Keys.{key_id_in, OneKeyAlone}
 use Rattle.message_check.specs.Opening.{Found, encrypted_of, rest_of, access_in_configuration, decrypted5, decrypted7, mac_key, cipher_key, mac_of, IsFor, IsSecured, Checked5, Genuine7, Passed, header_in, address_passed, mode_passed, header_for, blocks_passed, some_passed, check_bytes_passed, opened5, part_there, control_passed, signature_of, derivation_in, derivation_passed, mac_passed, opened7, CheckedAreOpened, GenuineAreOpened}
 use Rattle.lists.specs.Steps.{◌>>=◌}
+use Rattle.lists.proofs.Choices.{guard_ok, guard_ok_if}
 use Rattle.lists.proofs.StepLaws.{bind_ok, map_both_ok}
 
 abbrev pub passed : Passed
@@ -33,18 +34,10 @@ found f = Ok f
 
 -- ---- single checks
 
-pub if_passed : (b : Bool) (e : Reason) → cond b passed (Err e) ≡ passed → b ≡ true
-if_passed true e h = refl
-if_passed false e h = absurd cc
-
-pub unless_passed : (b : Bool) (e : Reason) → cond b (Err e) passed ≡ passed → b ≡ false
-unless_passed true e h = absurd cc
-unless_passed false e h = refl
-
 pub address_is : (a : Address) (named : Option Address) → address_passed a named ≡ passed → IfSome named (λ n. n ≡ a)
 address_is a None h = tt
 address_is a (Some n) h =
-    let same : n.0 ≡ a.0 = eqb-true _ _ (if_passed (eqb n.0 a.0) (OtherAddress n) h) in
+    let same : n.0 ≡ a.0 = eqb-true _ _ (guard_ok_if (eqb n.0 a.0) (OtherAddress n) passed tt h).0 in
     ap (λ (x : ℕ). let b : Address = record { 0 = x } in b) same
 
 pub is_address : (a : Address) (named : Option Address) → IfSome named (λ n. n ≡ a) → address_passed a named ≡ passed
@@ -55,12 +48,12 @@ check_bytes_are : (plain : List ℕ) → check_bytes_passed plain ≡ passed →
 check_bytes_are [] h = absurd cc
 check_bytes_are (a ∷ []) h =
     let two : List ℕ = a ∷ 0 ∷ [] in
-    let same = (bytes_eq-Decides two (0x2F ∷ 0x2F ∷ [])).0 (if_passed (bytes_eq two (0x2F ∷ 0x2F ∷ [])) (CheckBytes two) h) in
+    let same = (bytes_eq-Decides two (0x2F ∷ 0x2F ∷ [])).0 (guard_ok_if (bytes_eq two (0x2F ∷ 0x2F ∷ [])) (CheckBytes two) passed tt h).0 in
     absurd cc
 check_bytes_are (a ∷ b ∷ content) h =
     let two : List ℕ = a ∷ b ∷ [] in
     let same : two ≡ 0x2F ∷ 0x2F ∷ [] =
-    (bytes_eq-Decides two (0x2F ∷ 0x2F ∷ [])).0 (if_passed (bytes_eq two (0x2F ∷ 0x2F ∷ [])) (CheckBytes two) h) in
+    (bytes_eq-Decides two (0x2F ∷ 0x2F ∷ [])).0 (guard_ok_if (bytes_eq two (0x2F ∷ 0x2F ∷ [])) (CheckBytes two) passed tt h).0 in
     (content, ap (λ (x : List ℕ). x ++ content) same)
 
 pub part_is : {A : Type 0} (o : Option A) (x : A) → part_there o ≡ Ok x → o ≡ Some x
@@ -96,7 +89,7 @@ for_is a mode m h fits e =
     let is : tpl_at m ≡ Ok h = made.1 ∙ ap Ok (made.2 ∙ same) in record {
       begins = is_found m (Ok h) (λ i. byte_at m i fits) (sym is);
       meter = address_is a h.address (ap (λ (x : Tpl). address_passed a x.address) (sym same) ∙ address.1);
-      in_mode = eqb-true _ _ (if_passed _ _ (ap (λ (x : Tpl). mode_passed mode x.cf) (sym same) ∙ in_mode.1));
+      in_mode = eqb-true _ _ (guard_ok_if _ _ _ _ (ap (λ (x : Tpl). mode_passed mode x.cf) (sym same) ∙ in_mode.1)).0;
     }
 
 pub is_for : (a : Address) (mode : ℕ) (m : List ℕ) (h : Tpl) → IsFor a mode m h → header_for a mode m ≡ Ok h
@@ -108,7 +101,7 @@ pub secured : (a : Address) (mode : ℕ) (m : List ℕ) (h : Tpl) → IsBytes m 
 secured a mode m h fits e enough =
     let header : IsFor a mode m h = for_is a mode m h fits e in
     let n : ℕ = 16 * blocks_of h.cf in
-    let long : n ≤ length m - h.len = ltb-false _ _ (unless_passed _ _ enough) in
+    let long : n ≤ length m - h.len = ltb-false _ _ (guard_ok _ _ _ _ enough).0 in
     record {
       header = header;
       parts = parts_at m h header.begins n;
@@ -145,7 +138,7 @@ checked5 c m f fits e =
     let made : Found = record { counter = h.acc; access = access_in_configuration h.cf; payload = decrypted5 c h m ++ rest_of h m } in
     let same : made ≡ f = cc two.2 in
     let message = secured c.address 5 m h fits read.1 enough.1 in
-    let zero = eqb-false _ _ (unless_passed _ _ some.1) in
+    let zero = eqb-false (blocks_of h.cf) 0 (guard_ok (eqb (blocks_of h.cf) 0) _ _ _ some.1).0 in
     subst (Checked5 c m) same (record {
       header = h;
       encrypted = encrypted_of h m;
@@ -206,15 +199,11 @@ signed auth s e =
       counter = part_is auth.mcr counter.0 counter.1;
       mac = part_is auth.mac mac.0 mac.1;
       ml = refl;
-      by_cmac = eqb-true _ _ (if_passed _ _ control.1);
+      by_cmac = eqb-true _ _ (guard_ok_if _ _ _ _ control.1).0;
     })
 
-same_either_way : (b : Bool) (x : List ℕ) → cond b x x ≡ x
-same_either_way true x = refl
-same_either_way false x = refl
-
 pub one_key_alone : OneKeyAlone
-one_key_alone c h none = rw none (same_either_way (eqb (key_id_in h) 1) c.key)
+one_key_alone c h none = rw none (grind arith)
 
 genuine7 : (c : Commissioned) (auth : Auth) (m : List ℕ) (f : Found) → IsBytes m → opened7 c auth m ≡ Ok f → Genuine7 c auth m f
 unfolding opened7 decrypted7
@@ -232,13 +221,13 @@ genuine7 c auth m f fits e =
     let same : made ≡ f = cc mac.2 in
     let is = signed auth s signature.1 in
     let mac_is : mac_of key s.mcl s.counter s.ml m ≡ s.mac =
-    (bytes_eq-Decides _ _).0 (if_passed (bytes_eq (mac_of key s.mcl s.counter s.ml m) s.mac) BadMac mac.1) in
+    (bytes_eq-Decides _ _).0 (guard_ok_if (bytes_eq (mac_of key s.mcl s.counter s.ml m) s.mac) BadMac passed tt mac.1).0 in
     subst (Genuine7 c auth m) same (record {
       header = h;
       encrypted = encrypted_of h m;
       rest = rest_of h m;
       message = secured c.address 7 m h fits read.1 enough.1;
-      derivation = derivation_is (option_map derivation_of h.cfe) (eqb-true _ _ (if_passed _ _ derivation.1));
+      derivation = derivation_is (option_map derivation_of h.cfe) (eqb-true _ _ (guard_ok_if _ _ _ _ derivation.1).0);
       mcl = s.mcl;
       control = is.mcl;
       by_cmac = is.by_cmac;

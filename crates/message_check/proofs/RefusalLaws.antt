@@ -2,7 +2,7 @@
 use Rattle.std.proofs.Common.{◌≡◌, ◌≢◌, ℕ, ◌-◌, ◌*◌, ◌≤◌, Bool, true, false, cond, eqb, ltb, List, [], ◌∷◌, ◌++◌, length, Option, Some, None, Result, Ok, Err, refl, sym, ap, ap₂, subst, ◌∙◌, arith, eq-eqb, inl, inr}
 use Rattle.std.specs.Prelude.{slice_index}
 use Rattle.std.specs.Str.{bytes_eq}
-use Rattle.std.proofs.lemmas.Bool.{false_from_ne_true, eqb-true, eqb-false, ltb-true, lt-ltb, le-ltb}
+use Rattle.std.proofs.lemmas.Bool.{false_from_ne_true, eqb-true, eqb-false, ltb-true, lt-ltb, le-ltb, ne_eqb}
 use Rattle.std.proofs.lemmas.Bool.Decides.{nat_tests}
 use Rattle.std.proofs.lemmas.List.{length-append}
 use Rattle.std.proofs.lemmas.Slice.Eq.{bytes_eq-Decides}
@@ -20,8 +20,9 @@ use Rattle.message_check.specs.declared.refusal.Reason.TheVariants.{BadMessage, 
 use Rattle.lists.specs.Steps.{◌>>=◌}
 use Rattle.message_check.specs.Opening.{Found, encrypted_of, rest_of, access_in_configuration, decrypted5, Passed, header_in, address_passed, mode_passed, header_for, blocks_passed, some_passed, check_bytes_passed, access_number_passed, opened5, compared5, opened5_after}
 use Rattle.message_check.specs.Refusals.{HeaderRefusal, IsShort, Refusal5, RefusedExactly5}
+use Rattle.lists.proofs.Choices.{guard_ok, guard_err}
 use Rattle.lists.proofs.StepLaws.{bind_err, map_both_ok, map_both_err}
-use Rattle.message_check.proofs.OpeningLaws.{passed, found, unless_passed, address_is, is_address, not_zero, checked_are_opened, is_for, for_is, secured, read_again}
+use Rattle.message_check.proofs.OpeningLaws.{passed, found, address_is, is_address, not_zero, checked_are_opened, is_for, for_is, secured, read_again}
 
 abbrev refused : Reason → Result Tpl Reason
 refused r = Err r
@@ -37,10 +38,6 @@ bytes_differ two h =
 pub if_refused : (b : Bool) (e r : Reason) → cond b passed (Err e) ≡ Err r → (b ≡ false) × (e ≡ r)
 if_refused true e r h = absurd cc
 if_refused false e r h = (refl, cc)
-
-pub unless_refused : (b : Bool) (e r : Reason) → cond b (Err e) passed ≡ Err r → (b ≡ true) × (e ≡ r)
-unless_refused true e r h = (refl, cc)
-unless_refused false e r h = absurd cc
 
 -- ---- the header
 
@@ -63,8 +60,7 @@ header_refused a mode m r fits e =
     elim (bind_err (header_in m) _ r e) [
       | inl none ↦
           let fault = map_both_err (λ (x : Tpl). x) BadMessage (tpl_at m) r none in
-          let cause : HeaderRefusal a mode m (BadMessage fault.0) = (faults m fault.0).0 fault.1 in
-          subst (HeaderRefusal a mode m) fault.2 cause
+          subst (HeaderRefusal a mode m) fault.2 ((faults m fault.0).0 fault.1)
       | inr read ↦
           let h : Tpl = read.0 in
           let made = map_both_ok (λ (x : Tpl). x) BadMessage (tpl_at m) h read.1 in
@@ -73,25 +69,20 @@ header_refused a mode m r fits e =
           elim (bind_err (address_passed a h.address) _ r read.2) [
             | inl other ↦
                 let o = address_refused a h.address r other in
-                let cause : HeaderRefusal a mode m (OtherAddress o.found_is) = (h, begins, o.is_there, o.other) in
-                subst (HeaderRefusal a mode m) o.reason cause
+                subst (HeaderRefusal a mode m) o.reason (h, begins, o.is_there, o.other)
             | inr address ↦
                 elim (bind_err (mode_passed mode h.cf) _ r address.2) [
                   | inl other ↦
                       let test = if_refused (eqb (mode_of h.cf) mode) (Mode (mode_of h.cf) mode) r other in
-                      let cause : HeaderRefusal a mode m (Mode (mode_of h.cf) mode) =
-                      (h, begins, address_is a h.address address.1, refl, refl, eqb-false _ _ test.0) in
-                      subst (HeaderRefusal a mode m) test.1 cause
+                      subst (HeaderRefusal a mode m) test.1
+                      (h, begins, address_is a h.address address.1, refl, refl, eqb-false _ _ test.0)
                   | inr both ↦ absurd (cc both.2)
                 ]
           ]
     ]
 
-pub differ : (x y : ℕ) → x ≢ y → eqb x y ≡ false
-differ x y h = grind (arith, nat_tests)
-
 addresses_differ : (a b : Address) → a ≢ b → eqb a.0 b.0 ≡ false
-addresses_differ a b h = differ a.0 b.0 (λ same. h (ap (λ (x : ℕ). let c : Address = record { 0 = x } in c) same))
+addresses_differ a b h = ne_eqb a.0 b.0 (λ same. h (ap (λ (x : ℕ). let c : Address = record { 0 = x } in c) same))
 
 pub header_refuses : (a : Address) (mode : ℕ) (m : List ℕ) (r : Reason) → HeaderRefusal a mode m r → header_for a mode m ≡ Err r
 unfolding header_for
@@ -99,7 +90,7 @@ header_refuses a mode m (BadMessage f) h = rw ((faults m f).1 h) refl
 header_refuses a mode m (OtherAddress n) h =
     rw (is_only m (tpl_at m) refl h.0 h.1, h.2, addresses_differ n a h.3) refl
 header_refuses a mode m (Mode n wanted) h =
-    let test : eqb (mode_of h.0.cf) mode ≡ false = differ _ _ (λ same. h.5 (h.3 ∙ same ∙ sym h.4)) in
+    let test : eqb (mode_of h.0.cf) mode ≡ false = ne_eqb _ _ (λ same. h.5 (h.3 ∙ same ∙ sym h.4)) in
     rw (is_only m (tpl_at m) refl h.0 h.1, is_address a h.0.address h.2, test) (ap₂ (λ (x y : ℕ). refused (Mode x y)) (sym h.3) (sym h.4))
 header_refuses a mode m r h = absurd h
 
@@ -116,7 +107,7 @@ pub record ShortBy (m : List ℕ) (h : Tpl) (r : Reason) : Type 0 where
 
 pub blocks_refused : (m : List ℕ) (h : Tpl) (r : Reason) → BeginsWithTpl m h → blocks_passed h m ≡ Err r → ShortBy m h r
 blocks_refused m h r b e =
-    let test = unless_refused _ (ShortBlocks (16 * blocks_of h.cf) (length m - h.len)) r e in
+    let test = guard_err _ (ShortBlocks (16 * blocks_of h.cf) (length m - h.len)) r tt e in
     let within = len_within m h b in record {
       want = 16 * blocks_of h.cf;
       have = length m - h.len;
@@ -136,7 +127,7 @@ access_number_refused : (last : Option ℕ) (acc : ℕ) (r : Reason) → access_
     → (last ≡ Some acc) × (SameAccess acc ≡ r)
 access_number_refused None acc r e = absurd cc
 access_number_refused (Some l) acc r e =
-    let test = unless_refused (eqb l acc) (SameAccess acc) r e in
+    let test = guard_err (eqb l acc) (SameAccess acc) r tt e in
     (ap Some (eqb-true l acc test.0), test.1)
 
 record OtherBytes (plain : List ℕ) (r : Reason) : Type 0 where
@@ -175,20 +166,18 @@ not_opened5 last c m r fits e =
           elim (bind_err (blocks_passed h m) _ r read.2) [
             | inl few ↦
                 let s = blocks_refused m h r header.begins few in
-                let cause : P (ShortBlocks s.want s.have) = (h, header, s.short) in
-                subst P s.reason cause
+                subst P s.reason (h, header, s.short)
             | inr enough ↦
                 elim (bind_err (some_passed h.cf) _ r enough.2) [
                   | inl none ↦
-                      let test = unless_refused (eqb (blocks_of h.cf) 0) Unchecked r none in
-                      let cause : P Unchecked = (h, header, eqb-true _ _ test.0) in
-                      subst P test.1 cause
+                      let test = guard_err (eqb (blocks_of h.cf) 0) Unchecked r tt none in
+                      subst P test.1 (h, header, eqb-true _ _ test.0)
                   | inr some ↦
                       elim (bind_err (check_bytes_passed (decrypted5 c h m)) _ r some.2) [
                         | inl other ↦
                             let o = check_bytes_refused (decrypted5 c h m) r other in
-                            let zero = eqb-false _ _ (unless_passed _ _ some.1) in
-                            let cause : P (CheckBytes (slice_index (decrypted5 c h m) 0 ∷ slice_index (decrypted5 c h m) 1 ∷ [])) = record {
+                            let zero = eqb-false (blocks_of h.cf) 0 (guard_ok (eqb (blocks_of h.cf) 0) _ _ _ some.1).0 in
+                            subst P o.reason (record {
                               header = h;
                               encrypted = encrypted_of h m;
                               rest = rest_of h m;
@@ -196,8 +185,7 @@ not_opened5 last c m r fits e =
                               some = omega arith;
                               begin = refl;
                               other = o.other;
-                            } in
-                            subst P o.reason cause
+                            })
                         | inr all ↦ absurd (cc all.2)
                       ]
                 ]
@@ -214,16 +202,10 @@ refused5 last c m r fits e =
           elim (bind_err (access_number_passed last f.counter) _ r opened.2) [
             | inl same ↦
                 let s = access_number_refused last f.counter r same in
-                let cause : Refusal5 last c m (SameAccess f.counter) = (f, (checked_are_opened c m f fits).0 opened.1, refl, s.0) in
-                subst (Refusal5 last c m) s.1 cause
+                subst (Refusal5 last c m) s.1 (f, (checked_are_opened c m f fits).0 opened.1, refl, s.0)
             | inr both ↦ absurd (cc both.2)
           ]
     ]
-
-header_refuses5 : (last : Option ℕ) (c : Commissioned) (m : List ℕ) (r : Reason) → HeaderRefusal c.address 5 m r
-    → opened5_after last c m ≡ Err r
-unfolding opened5_after opened5
-header_refuses5 last c m r h = rw (header_refuses c.address 5 m r h) refl
 
 refuses5 : (last : Option ℕ) (c : Commissioned) (m : List ℕ) (r : Reason) → IsBytes m → Refusal5 last c m r → opened5_after last c m ≡ Err r
 unfolding opened5_after opened5 compared5 decrypted5
@@ -240,7 +222,7 @@ refuses5 last c m (CheckBytes two) fits k =
     rw (r.header, r.blocks, not_zero (blocks_of h.cf) k.some) (ap (λ (x : Passed). x >>= (λ _. found made) >>= compared5 last) refusal)
 refuses5 last c m (SameAccess acc) fits k =
     rw ((checked_are_opened c m k.0 fits).1 k.1, k.3, k.2, eq-eqb acc acc refl) refl
-refuses5 last c m r fits k = header_refuses5 last c m r k
+refuses5 last c m r fits k = rw (header_refuses c.address 5 m r k) refl
 
 pub refused_exactly5 : RefusedExactly5
 refused_exactly5 last c m r fits = (refused5 last c m r fits, refuses5 last c m r fits)

@@ -2,7 +2,7 @@
 use Rattle.std.proofs.Common.{◌≡◌, ◌≢◌, ℕ, ◌%◌, ◌≤◌, ◌⊎◌, true, false, eqb, ltb, List, Option, Some, None, option_map, is_some, Result, Ok, Err, refl, sym, ap, subst, ◌∙◌, arith, eq-eqb, inl, inr}
 use Rattle.std.specs.Prelude.{unwrap_or}
 use Rattle.std.specs.Str.{bytes_eq}
-use Rattle.std.proofs.lemmas.Bool.{false_from_ne_true, eqb-true, eqb-false, ltb-false, le-ltb}
+use Rattle.std.proofs.lemmas.Bool.{false_from_ne_true, eqb-true, eqb-false, ltb-false, le-ltb, ne_eqb}
 use Rattle.std.proofs.lemmas.Slice.Eq.{bytes_eq-Decides}
 use Rattle.frame_formats.specs.Crc.{IsBytes}
 use Rattle.meter_address.specs.Commission.{Commissioned}
@@ -14,9 +14,10 @@ use Rattle.message_check.specs.declared.refusal.Reason.{Reason}
 use Rattle.message_check.specs.declared.refusal.Reason.TheVariants.{NoAuth, Kdf, ShortBlocks, BadMac, Stale}
 use Rattle.message_check.specs.Opening.{Found, encrypted_of, rest_of, mac_key, mac_of, IsFor, header_for, blocks_passed, part_there, control_passed, signature_of, derivation_in, derivation_passed, mac_passed, counter_passed, opened7, compared7, opened7_after}
 use Rattle.message_check.specs.Refusals.{HeaderRefusal, HasAuth, Refusal7, RefusedExactly7}
+use Rattle.lists.proofs.Choices.{guard_ok_if}
 use Rattle.lists.proofs.StepLaws.{bind_err}
-use Rattle.message_check.proofs.OpeningLaws.{passed, if_passed, part_is, derivation_is, genuine_are_opened, for_is, is_for, secured, read_again, Signed, signed, signature_again}
-use Rattle.message_check.proofs.RefusalLaws.{failed, if_refused, header_refused, header_refuses, differ, blocks_refused, blocks_refuse}
+use Rattle.message_check.proofs.OpeningLaws.{passed, part_is, derivation_is, genuine_are_opened, for_is, is_for, secured, read_again, Signed, signed, signature_again}
+use Rattle.message_check.proofs.RefusalLaws.{failed, if_refused, header_refused, header_refuses, blocks_refused, blocks_refuse}
 
 -- ---- the authentication
 
@@ -60,16 +61,12 @@ there_by auth s is =
 abbrev unsigned : Reason → Result Signature Reason
 unsigned r = Err r
 
-outcome : {A E : Type 0} (r : Result A E) → ((x : A) × (r ≡ Ok x)) ⊎ ((e : E) × (r ≡ Err e))
-outcome (Ok x) = inl (x, refl)
-outcome (Err e) = inr (e, refl)
-
 signature_refuse : (auth : Auth) → (¬ HasAuth auth) → signature_of auth ≡ Err NoAuth
-signature_refuse auth lacks =
-    elim (outcome (signature_of auth)) [
-      | inl s ↦ absurd (lacks (there_by auth s.0 (signed auth s.0 s.1)))
-      | inr r ↦ r.1 ∙ ap unsigned (sym (signature_refused auth r.0 r.1).1)
-    ]
+signature_refuse auth lacks = by_answer (signature_of auth) refl
+  where
+    by_answer : (r : Result Signature Reason) → signature_of auth ≡ r → signature_of auth ≡ Err NoAuth
+    by_answer (Ok s) is = absurd (lacks (there_by auth s (signed auth s is)))
+    by_answer (Err e) is = is ∙ ap unsigned (sym (signature_refused auth e is).1)
 
 signature_there : (auth : Auth) (a : HasAuth auth)
     → signature_of auth ≡ Ok (record { mcl = a.mcl; counter = a.counter; ml = auth.ml; mac = a.mac })
@@ -97,7 +94,7 @@ derivation_pass h e = rw (eq-eqb (derivation_in h) 1 (ap (λ (x : Option ℕ). u
 derivation_refuse : (h : Tpl) (d : ℕ) → option_map derivation_of h.cfe ≡ Some d → d ≢ 1 → derivation_passed h ≡ Err (Kdf d)
 derivation_refuse h d e other =
     let is : derivation_in h ≡ d = ap (λ (x : Option ℕ). unwrap_or x 0) e in
-    let test : eqb (derivation_in h) 1 ≡ false = differ _ _ (λ same. other (sym is ∙ same)) in
+    let test : eqb (derivation_in h) 1 ≡ false = ne_eqb _ _ (λ same. other (sym is ∙ same)) in
     rw test (ap (λ (x : ℕ). failed (Kdf x)) is)
 
 -- ---- the counter
@@ -133,8 +130,7 @@ not_opened7 last c auth m r fits e =
           elim (bind_err (signature_of auth) _ r read.2) [
             | inl none ↦
                 let lacks = signature_refused auth r none in
-                let cause : P NoAuth = (h, header, lacks.0) in
-                subst P lacks.1 cause
+                subst P lacks.1 (h, header, lacks.0)
             | inr signature ↦
                 let s : Signature = signature.0 in
                 let is = signed auth s signature.1 in
@@ -142,22 +138,20 @@ not_opened7 last c auth m r fits e =
                 elim (bind_err (derivation_passed h) _ r signature.2) [
                   | inl other ↦
                       let test = if_refused (eqb (derivation_in h) 1) (Kdf (derivation_in h)) r other in
-                      let cause : P (Kdf (derivation_in h)) = (h, header, there, names_derivation c m h header, eqb-false _ _ test.0) in
-                      subst P test.1 cause
+                      subst P test.1 (h, header, there, names_derivation c m h header, eqb-false _ _ test.0)
                   | inr derivation ↦
-                      let by_cmac = derivation_is (option_map derivation_of h.cfe) (eqb-true _ _ (if_passed _ _ derivation.1)) in
+                      let by_cmac = derivation_is (option_map derivation_of h.cfe) (eqb-true _ _ (guard_ok_if _ _ _ _ derivation.1).0) in
                       elim (bind_err (blocks_passed h m) _ r derivation.2) [
                         | inl few ↦
                             let short = blocks_refused m h r header.begins few in
-                            let cause : P (ShortBlocks short.want short.have) = (h, header, there, by_cmac, short.short) in
-                            subst P short.reason cause
+                            subst P short.reason (h, header, there, by_cmac, short.short)
                         | inr enough ↦
                             elim (bind_err (mac_passed (mac_key c h s.counter) s m) _ r enough.2) [
                               | inl other ↦
                                   let key : List ℕ = mac_key c h s.counter in
                                   let mac : List ℕ = mac_of key s.mcl s.counter s.ml m in
                                   let test = if_refused (bytes_eq mac s.mac) BadMac r other in
-                                  let cause : P BadMac = record {
+                                  subst P test.1 (record {
                                     header = h;
                                     encrypted = encrypted_of h m;
                                     rest = rest_of h m;
@@ -170,8 +164,7 @@ not_opened7 last c auth m r fits e =
                                               (ap (λ (x : Option ℕ). mac_of key s.mcl s.counter x m) (sym is.ml) ∙ same),
                                           test.0,
                                         ));
-                                  } in
-                                  subst P test.1 cause
+                                  })
                               | inr all ↦ absurd (cc all.2)
                             ]
                       ]
@@ -190,19 +183,12 @@ refused7 last c auth m r fits e =
           elim (bind_err (counter_passed last f.counter) _ r opened.2) [
             | inl stale ↦
                 let s = counter_refused last f.counter r stale in
-                let cause : Refusal7 last c auth m (Stale f.counter s.0) =
-                (f, (genuine_are_opened c auth m f fits).0 opened.1, refl, s.1, s.2) in
-                subst (Refusal7 last c auth m) s.3 cause
+                subst (Refusal7 last c auth m) s.3 (f, (genuine_are_opened c auth m f fits).0 opened.1, refl, s.1, s.2)
             | inr both ↦ absurd (cc both.2)
           ]
     ]
 
 -- ---- each cause gives its refusal
-
-header_refuses7 : (last : Option ℕ) (c : Commissioned) (auth : Auth) (m : List ℕ) (r : Reason) → HeaderRefusal c.address 7 m r
-    → opened7_after last c auth m ≡ Err r
-unfolding opened7_after opened7
-header_refuses7 last c auth m r h = rw (header_refuses c.address 7 m r h) refl
 
 refuses7 : (last : Option ℕ) (c : Commissioned) (auth : Auth) (m : List ℕ) (r : Reason) → IsBytes m → Refusal7 last c auth m r
     → opened7_after last c auth m ≡ Err r
@@ -221,7 +207,7 @@ refuses7 last c auth m (Stale got before) fits k =
     let f : Found = k.0 in
     let test : ltb before f.counter ≡ false = le-ltb _ _ (omega (arith, k.4, k.2)) in
     rw ((genuine_are_opened c auth m f fits).1 k.1, k.3, test) (ap (λ (x : ℕ). let r : Result Found Reason = Err (Stale x before) in r) k.2)
-refuses7 last c auth m r fits k = header_refuses7 last c auth m r k
+refuses7 last c auth m r fits k = rw (header_refuses c.address 7 m r k) refl
 
 pub refused_exactly7 : RefusedExactly7
 refused_exactly7 last c auth m r fits = (refused7 last c auth m r fits, refuses7 last c auth m r fits)

@@ -163,6 +163,7 @@ fn read_header(bytes: &[u8]) -> Result<Tpl, TplFault>
 }
 
 /// The transport header with which the bytes begin.
+#[tactic(auto, using(crate::proofs::Faults::is_fault))]
 pub fn read_tpl(bytes: &[u8]) -> Result<Tpl, TplFault>
     // What is read is spelled so, and what is spelled so is read.
     ensures found { IfOk result (λ t. BeginsWithTpl bytes.now t) }

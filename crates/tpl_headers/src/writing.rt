@@ -59,6 +59,7 @@ fn put_header(tpl: &Tpl, out: &mut [u8]) -> usize
 /// Writes the header, and answers how many bytes it has. What stands behind them in `out` stays. What `tpl.len` says doesn't matter.
 /// The CI has to be that of a long header where there is an address, and that of a short one where there is none; and the
 /// configuration field has to have its extension in mode 7, and in no other mode.
+#[tactic(auto, using(crate::proofs::Headers::written_again))]
 pub fn write_tpl(tpl: &Tpl, out: &mut [u8; 14]) -> usize
     requires address { HasItsAddress tpl.now.ci tpl.now.address }
     requires extension { HasItsExtension tpl.now.cf tpl.now.cfe }

@@ -1,5 +1,4 @@
-use Rattle.std.proofs.Common.{◌≡◌, ◌∙◌, ap, sym, subst, List, ℕ, ◌++◌, take, drop, arith}
-use Rattle.lists.proofs.Puts.{behind_both}
+use Rattle.std.proofs.Common.{◌≡◌, ◌∙◌, ap, sym, subst, List, ℕ, ◌++◌, take, drop}
 use Rattle.frame_formats.specs.Crc.{IsBytes}
 use Rattle.frame_formats.specs.Frames.{FrameA}
 use Rattle.frame_formats.proofs.Writing.{frame_is, is_frame, others_with_crc}
@@ -17,8 +16,3 @@ returns-clause-frame c =
     let all : IsBytes c.args.telegram.now = c.bytes.ensures.each
     in let P : List ℕ → Type 0 = λ x. FrameA x c.args.telegram.now
     in subst P (sym (returns-clause-written c)) (is_frame _ c.bytes.ensures.telegram all)
-
-pub returns-clause-behind : goal.returns-clause-behind
-returns-clause-behind c =
-    behind_both c.put_with_crc-end.result c.put_others.result c.args.out.now c.put_with_crc-end.new.out c.put_others.new.out (omega arith)
-    c.put_with_crc-end.ensures.behind c.put_others.ensures.behind

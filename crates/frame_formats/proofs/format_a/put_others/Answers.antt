@@ -17,6 +17,3 @@ cutting-preserved c =
 
 pub returns-clause-written : goal.returns-clause-written
 returns-clause-written c = all_written _ _ _ _ (eqb-true _ _ (sym c.cutting-test.ensures)) c.cutting.invariant.front
-
-pub returns-clause-behind : goal.returns-clause-behind
-returns-clause-behind c = c.cutting.invariant.behind

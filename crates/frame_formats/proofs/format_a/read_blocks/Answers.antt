@@ -1,13 +1,8 @@
 use Rattle.std.proofs.Common.{arith, ℕ, length-drop, ◌≡◌, ◌∙◌, ap, sym, length, ◌-◌, take, Ok}
 use Rattle.std.proofs.lemmas.List.{length-take}
 use Rattle.std.proofs.lemmas.Result.{err_from_is_err_and}
-use Rattle.frame_formats.proofs.Reading.{all_blocks, behind_first, front_fault}
+use Rattle.frame_formats.proofs.Reading.{all_blocks, behind_first}
 use Rattle.frame_formats.proofs.format_a.read_blocks.Goals as goal
-
-pub returns-in_err-first-clause-read : goal.returns-in_err-first-clause-read
-returns-in_err-first-clause-read c =
-    let p = err_from_is_err_and c.from_residual.result c.from_residual.ensures.1
-    in rw (p.1, p.2) (front_fault _ _ _ c.split_at.ensures.front c.in_err-first.ensures.read)
 
 pub returns-in_err-read_others-clause-read : goal.returns-in_err-read_others-clause-read
 returns-in_err-read_others-clause-read c =

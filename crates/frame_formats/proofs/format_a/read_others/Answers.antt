@@ -1,14 +1,6 @@
 use Rattle.std.proofs.Common.{arith, ◌≡◌, ◌+◌, ◌∙◌, ap, length, take}
-use Rattle.std.proofs.lemmas.Result.{err_from_is_err_and}
-use Rattle.frame_formats.proofs.Reading.{step, fault, finished}
+use Rattle.frame_formats.proofs.Reading.{step}
 use Rattle.frame_formats.proofs.format_a.read_others.Goals as goal
-
-pub returns-in_err-block : goal.returns-in_err-block
-returns-in_err-block c =
-    let p = err_from_is_err_and c.from_residual.result c.from_residual.ensures.1
-    in rw (p.1, p.2)
-    (fault _ _ _ _ _ _ _ _ c.loop-len.invariant c.loop-len-test.true c.min-size.ensures c.split_at.ensures.front
-    c.in_err-block.ensures.read)
 
 pub loop-len-preserved : goal.loop-len-preserved
 loop-len-preserved c =
@@ -17,6 +9,3 @@ loop-len-preserved c =
     in step _ _ _ _ _ _ _ _ _ _ c.loop-len.invariant c.loop-len-test.true c.min-size.ensures c.split_at.ensures.front
     c.split_at.ensures.back c.in_ok-block.ensures.read
     (omega arith) (ap (λ n. take n c.put.new.out) end ∙ c.put.ensures.written)
-
-pub returns : goal.returns
-returns c = finished _ _ _ _ _ c.loop-len.invariant c.loop-len-test.false

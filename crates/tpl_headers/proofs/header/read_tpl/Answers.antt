@@ -1,6 +1,5 @@
 use Rattle.std.proofs.Common.{arith}
 use Rattle.tpl_headers.proofs.Headers.{is_found, is_only}
-use Rattle.tpl_headers.proofs.Faults.{is_fault}
 use Rattle.tpl_headers.proofs.header.read_tpl.Goals as goal
 
 pub returns-clause-found : goal.returns-clause-found
@@ -8,6 +7,3 @@ returns-clause-found c = is_found c.args.bytes.now c.read_header.result (λ i. o
 
 pub returns-clause-only : goal.returns-clause-only
 returns-clause-only c = is_only c.args.bytes.now c.read_header.result c.read_header.ensures
-
-pub returns-clause-fault : goal.returns-clause-fault
-returns-clause-fault c = is_fault c.args.bytes.now c.read_header.result c.read_header.ensures

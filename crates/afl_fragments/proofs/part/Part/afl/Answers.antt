@@ -6,8 +6,7 @@ use Rattle.afl_fragments.proofs.part.Part.afl.Goals as goal
 
 -- a fragment is numbered from 1
 from_one : (more : Bool) (fid : ℕ) → (more || nat_le 2 fid) ≡ true → (more && (fid == 0)) ≡ false → 1 ≤ fid
-from_one true fid f u = grind (arith, nat_tests)
-from_one false fid f u = grind (arith, nat_tests)
+from_one more fid f u = grind (arith, nat_tests)
 
 pub returns-clause-first : goal.returns-clause-first
 returns-clause-first c =
