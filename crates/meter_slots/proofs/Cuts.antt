@@ -1,5 +1,5 @@
 -- A slot that goes on where another one ended is the one slot of both journals.
-use Rattle.std.proofs.Common.{◌≡◌, ◌↔◌, ℕ, Bool, List, [], ◌∷◌, ◌++◌, reverse, Option, Some, None, Result, Ok, Err, refl, ap, sym, ◌∙◌, subst}
+use Rattle.std.proofs.Common.{◌≡◌, ◌↔◌, ℕ, Bool, List, [], ◌∷◌, ◌++◌, reverse, Option, Some, None, Result, Ok, Err, refl, ap, sym, ◌∙◌, subst, arith}
 use Rattle.std.specs.Prelude.{option_to_list, option_map, slice_index}
 use Rattle.std.specs.Result.{result_ok}
 use Rattle.std.proofs.lemmas.List.{reverse-append, append_assoc, append-nil}
@@ -51,11 +51,7 @@ last_floor : (mode : Mode) (xs ys : List ℕ) → last_among mode (xs ++ option_
 last_floor Five [] [] = refl
 last_floor Five [] (y ∷ ys) = refl
 last_floor Five (x ∷ xs) ys = refl
-last_floor Seven [] ys = alone (greatest ys)
-  where
-    alone : (o : Option ℕ) → greatest (option_to_list o) ≡ o
-    alone None = refl
-    alone (Some n) = refl
+last_floor Seven [] ys = grind arith
 last_floor Seven (x ∷ xs) ys = ap (greater x) (last_floor Seven xs ys)
 
 module _ (c : Start) (earlier : List Entry) (reading : Option Reading) where

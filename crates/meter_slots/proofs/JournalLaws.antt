@@ -182,11 +182,9 @@ rises_step c own x earlier ns (Some n) m j r h = record {
 }
 
 floor_seven : (c : Start) → c.mode ≡ Seven → c.last ≡ last_counter c []
-floor_seven c m = alone c.last ∙ sym (last_seven c [] m)
-  where
-    alone : (o : Option ℕ) → o ≡ greatest (option_to_list o)
-    alone None = refl
-    alone (Some n) = refl
+floor_seven c m =
+    let alone : c.last ≡ greatest (option_to_list c.last) = grind arith in
+    alone ∙ sym (last_seven c [] m)
 
 rises_back : (c : Start) (own : Address) (earlier : List Entry) → c.mode ≡ Seven → IsJudged c own earlier
     → RisesTo c earlier (stored_counters (reverse earlier))
