@@ -7,6 +7,7 @@ ghost use Rattle.access_window.specs.Orders.{Agrees, window_without};
 ghost use Rattle.access_window.specs.Moves.{Move, fresh_orders, all_sent};
 
 /// The window and the queue go on agreeing where a command is put, and where one is taken and then cancelled.
+#[tactic(auto, using(crate::proofs::Agreement::agrees_put, crate::proofs::Agreement::agrees_cancelled))]
 pub fn moves_keep_agreement()
     ensures put { (window : Window) (queue : Pending) (payload : List ℕ) → Agrees window queue
         → Agrees window (with_command queue payload) }

@@ -2,6 +2,7 @@
 ghost use Rattle.downlink_maker.specs.Laws.{ContentIsReadBack, DownlinksAreLaidOut};
 
 /// A meter that decrypts the content of a downlink has its payload, between two check bytes and fillers.
+#[tactic(auto, using(crate::proofs::ReadBack::decrypted_again))]
 pub fn content_is_read_back()
     ensures { ContentIsReadBack }
 {}

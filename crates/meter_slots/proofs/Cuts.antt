@@ -1,5 +1,5 @@
 -- A slot that goes on where another one ended is the one slot of both journals.
-use Rattle.std.proofs.Common.{◌≡◌, ◌↔◌, ℕ, Bool, List, [], ◌∷◌, ◌++◌, reverse, Option, Some, None, Result, Ok, Err, refl, ap, sym, ◌∙◌, subst}
+use Rattle.std.proofs.Common.{◌≡◌, ◌↔◌, ℕ, Bool, List, [], ◌∷◌, ◌++◌, reverse, Option, Some, None, Result, Ok, Err, refl, ap, sym, ◌∙◌, subst, arith}
 use Rattle.std.specs.Prelude.{option_to_list, option_map, slice_index}
 use Rattle.std.specs.Result.{result_ok}
 use Rattle.std.proofs.lemmas.List.{reverse-append, append_assoc, append-nil}
@@ -51,11 +51,7 @@ last_floor : (mode : Mode) (xs ys : List ℕ) → last_among mode (xs ++ option_
 last_floor Five [] [] = refl
 last_floor Five [] (y ∷ ys) = refl
 last_floor Five (x ∷ xs) ys = refl
-last_floor Seven [] ys = alone (greatest ys)
-  where
-    alone : (o : Option ℕ) → greatest (option_to_list o) ≡ o
-    alone None = refl
-    alone (Some n) = refl
+last_floor Seven [] ys = grind arith
 last_floor Seven (x ∷ xs) ys = ap (greater x) (last_floor Seven xs ys)
 
 module _ (c : Start) (earlier : List Entry) (reading : Option Reading) where
@@ -77,14 +73,12 @@ module _ (c : Start) (earlier : List Entry) (reading : Option Reading) where
 
   genuine_cut : (later : List Entry) (event : Event) → genuine next later event ≡ genuine c (later ++ earlier) event
   genuine_cut later (Hear format at t) =
-      let l = last_counter c earlier in
-      let k = orders c earlier in
       let both = later ++ earlier in
-      ap (λ (o : Option (List ℕ)). genuine_in (rekeyed (commission_of next) o) (brought (told next later) t (received c.mode t)))
-      (other_cut later)
-      ∙ ap (genuine_in (rekeyed (commission_of next) (other_key c both)))
-      (brought_same (told next later) (told c both) t (received c.mode t) (held_cut later))
-      ∙ genuine_alike (rekeyed (commission_of c) (other_key c both)) l k.down k.queue.ids (brought (told c both) t (received c.mode t))
+      let k = orders c earlier in
+      let b = brought_same (told next later) (told c both) t (received c.mode t) (held_cut later) in
+      let g = genuine_alike (rekeyed (commission_of c) (other_key c both)) (last_counter c earlier) k.down k.queue.ids
+      (brought (told c both) t (received c.mode t)) in
+      cc (other_cut later)
   genuine_cut later _ = refl
 
   abbrev counter_in : Option Found → List ℕ
@@ -114,10 +108,9 @@ module _ (c : Start) (earlier : List Entry) (reading : Option Reading) where
   orders_cut : (later : List Entry) → orders next later ≡ orders c (later ++ earlier)
   orders_cut [] = refl
   orders_cut (x ∷ later) =
-      ap (λ (k : Orders). orders_after k (access_at (commission_of next) (standing_with next later k) x.event) x.event x.outcome)
-      (orders_cut later)
-      ∙ ap (λ (a : Access). orders_after (orders c (later ++ earlier)) a x.event x.outcome)
-      (access_cut later (orders c (later ++ earlier)) x.event)
+      let k = orders_cut later in
+      let a = access_cut later (orders c (later ++ earlier)) x.event in
+      cc
 
   -- what the later entries come to is what all entries come to
   pub standing_cut : (later : List Entry) → IsSameStanding (standing next later) (standing c (later ++ earlier))
@@ -155,12 +148,7 @@ module _ (c : Start) (earlier : List Entry) (reading : Option Reading) where
       (reading_of x.event (stored (commission_of next) (standing next later) x.event))
 
   behind_cut : (later : List Entry) (r : Option Reading) → behind next later r ≡ behind c (later ++ earlier) r
-  behind_cut later r =
-      let both = later ++ earlier in
-      ap (λ (o : Option (List ℕ)). record (behind next later r) { other = o }) (other_cut later)
-      ∙ ap (λ (l : Option ℕ). record (behind next later r) { other = other_key c both; last = l }) (last_cut later)
-      ∙ ap (λ hs. record (behind next later r) { other = other_key c both; last = last_counter c both; told = told_of hs }) (held_cut later)
-      ∙ ap (λ (k : Orders). record (behind c both r) { orders = k }) (orders_cut later)
+  behind_cut later r = let hs = ap told_of (held_cut later) in cc (other_cut later, last_cut later, orders_cut later)
 
 -- ---- journals, the oldest entry first
 

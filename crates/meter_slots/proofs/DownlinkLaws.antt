@@ -27,7 +27,7 @@ use Rattle.meter_slots.specs.Journal.{Start, commission_of, standing, verdict, a
 use Rattle.meter_slots.specs.Journal.{cancelled, key_answer, answer, outcome, IsJudged, Legal}
 use Rattle.meter_slots.specs.Laws.{sent_counter, sent_counters, last_or, IsAbove, IsRising}
 use Rattle.meter_slots.specs.Resuming.{joined, resumed, reserved, Session, journals_of, AreReserved}
-use Rattle.meter_slots.proofs.JournalLaws.{front_back, IsRising-push, last_or-push}
+use Rattle.meter_slots.proofs.JournalLaws.{filtered_back, IsRising-push, last_or-push}
 
 -- nothing is sent and the counter stays, or a downlink is sent under a new counter, which is the one after the old one
 abbrev Counts : ℕ → ℕ → Option ℕ → Type 0
@@ -123,16 +123,11 @@ rises_step c x earlier ns (Some n) above r = record {
   raised = let next = above.0 in let before = r.raised in let long = length-append ns (n ∷ []) in omega arith;
 }
 
-sent_counters-reverse : (x : Entry) (earlier : List Entry)
-    → sent_counters (reverse (x ∷ earlier)) ≡ sent_counters (reverse earlier) ++ cons_option (sent_counter x.outcome) []
-sent_counters-reverse x earlier =
-    ap sent_counters (front_back x earlier) ∙ filter_map-append (λ (y : Entry). sent_counter y.outcome) (reverse earlier) (x ∷ [])
-
 rises_back : (c : Start) (own : Address) (earlier : List Entry) → IsJudged c own earlier
     → RisesTo c earlier (sent_counters (reverse earlier))
 rises_back c own [] j = record { rises = tt; ends = refl; raised = omega arith }
 rises_back c own (x ∷ earlier) j =
-    rw (sent_counters-reverse x earlier)
+    rw (filtered_back (λ (y : Entry). sent_counter y.outcome) x earlier)
     (rises_step c x earlier (sent_counters (reverse earlier)) (sent_counter x.outcome) (entry_counts c own x earlier j)
     (rises_back c own earlier j.1))
 

@@ -1,7 +1,7 @@
 -- Proofs of the laws of journals.
 use Rattle.std.proofs.Common.{◌≡◌, ◌↔◌, ℕ, ◌<◌, max, Bool, true, false, cond, nat_lt, List, [], ◌∷◌, ◌++◌, reverse, map, Option, Some, None}
 use Rattle.std.proofs.Common.{Result, Ok, Err, refl, ap, sym, ◌∙◌, arith, subst}
-use Rattle.std.specs.Prelude.{option_to_list, option_map}
+use Rattle.std.specs.Prelude.{option_to_list, option_map, filter_map}
 use Rattle.std.specs.Result.{result_ok}
 use Rattle.std.specs.List.{cons_option}
 use Rattle.std.proofs.lemmas.List.Elements.{filter_map-append}
@@ -52,6 +52,10 @@ judged_rest c own (x ∷ later) earlier j = judged_rest c own later earlier j.1
 
 pub front_back : {X : Type 0} (x : X) (xs : List X) → reverse (x ∷ xs) ≡ reverse xs ++ x ∷ []
 front_back x xs = reverse-append (x ∷ []) xs
+
+pub filtered_back : {X : Type 0} (g : Entry → Option X) (x : Entry) (earlier : List Entry)
+    → filter_map g (reverse (x ∷ earlier)) ≡ filter_map g (reverse earlier) ++ cons_option (g x) []
+filtered_back g x earlier = ap (filter_map g) (front_back x earlier) ∙ filter_map-append g (reverse earlier) (x ∷ [])
 
 -- the entries of a journal from one of them back
 from_entry : (before : List Entry) (x : Entry) (after : List Entry) → reverse (before ++ x ∷ after) ≡ reverse after ++ x ∷ reverse before
@@ -132,12 +136,13 @@ entry_stored : (c : Start) (own : Address) (x : Entry) (earlier : List Entry) (n
 unfolding outcome
 entry_stored c own x earlier n m j = rw j.0 (answer_stored c own n earlier x.event m)
 
-pub entry_stored_exactly : (c : Start) (own : Address) (x : Entry) (earlier : List Entry) (n : ℕ) → c.mode ≡ Seven
-    → IsJudged c own (x ∷ earlier)
-    → (stored_counter x.outcome ≡ Some n) ↔ ((counter (genuine c earlier x.event) ≡ Some n) × AreBelow n
-    (counters c earlier ++ option_to_list c.last))
-entry_stored_exactly c own x earlier n m j =
-    let both = entry_stored c own x earlier n m j in
+pub stored_where_genuine : (c : Start) (own : Address) (before : List Entry) (x : Entry) (after : List Entry) (n : ℕ) → c.mode ≡ Seven
+    → Legal c own (before ++ x ∷ after)
+    → (stored_counter x.outcome ≡ Some n) ↔ ((counter (genuine c (reverse before) x.event) ≡ Some n) × AreBelow n
+    (counters c (reverse before) ++ option_to_list c.last))
+stored_where_genuine c own before x after n m j =
+    let earlier = reverse before in
+    let both = entry_stored c own x earlier n m (judged_at c own before x after j) in
     let last = last_seven c earlier m in
     let below = greatest_above n (counters c earlier ++ option_to_list c.last) in
     (λ s. ((both.0 s).0, below.0 (subst (IsAbove n) last (both.0 s).1)), λ p. both.1 (p.0, subst (IsAbove n) (sym last) (below.1 p.1)))
@@ -176,23 +181,16 @@ rises_step c own x earlier ns (Some n) m j r h = record {
   ends = last_or-push c.last ns n ∙ sym (last_counter-cons c own earlier x j.0 ∙ stored_last (last_counter c earlier) x.outcome n h);
 }
 
-stored_counters-reverse : (x : Entry) (earlier : List Entry)
-    → stored_counters (reverse (x ∷ earlier)) ≡ stored_counters (reverse earlier) ++ cons_option (stored_counter x.outcome) []
-stored_counters-reverse x earlier =
-    ap stored_counters (front_back x earlier) ∙ filter_map-append (λ (y : Entry). stored_counter y.outcome) (reverse earlier) (x ∷ [])
-
 floor_seven : (c : Start) → c.mode ≡ Seven → c.last ≡ last_counter c []
-floor_seven c m = alone c.last ∙ sym (last_seven c [] m)
-  where
-    alone : (o : Option ℕ) → o ≡ greatest (option_to_list o)
-    alone None = refl
-    alone (Some n) = refl
+floor_seven c m =
+    let alone : c.last ≡ greatest (option_to_list c.last) = grind arith in
+    alone ∙ sym (last_seven c [] m)
 
 rises_back : (c : Start) (own : Address) (earlier : List Entry) → c.mode ≡ Seven → IsJudged c own earlier
     → RisesTo c earlier (stored_counters (reverse earlier))
 rises_back c own [] m j = record { rises = tt; ends = floor_seven c m }
 rises_back c own (x ∷ earlier) m j =
-    rw (stored_counters-reverse x earlier) (rises_step c own x earlier (stored_counters (reverse earlier)) (stored_counter x.outcome) m j
+    rw (filtered_back (λ (y : Entry). stored_counter y.outcome) x earlier) (rises_step c own x earlier (stored_counters (reverse earlier)) (stored_counter x.outcome) m j
     (rises_back c own earlier m j.1) refl)
 
 pub stored_counters_rise : (c : Start) (own : Address) (journal : List Entry) → c.mode ≡ Seven → Legal c own journal

@@ -101,8 +101,7 @@ orders_ready c (x ∷ earlier) ready h =
 -- ---- each downlink that is sent carries a payload
 
 if_some : (b : Bool) (o : Option Command) (c : Command) → cond b o None ≡ Some c → (b ≡ true) × (o ≡ Some c)
-if_some true o c h = (refl, h)
-if_some false o c h = absurd cc
+if_some b o c h = grind arith
 
 oldest_payload : (w : Window) (cs : List Command) (c : Command) → All HasPayload cs → oldest_where_idle w cs ≡ Some c → HasPayload c
 oldest_payload (Waiting id) cs c h e = absurd cc

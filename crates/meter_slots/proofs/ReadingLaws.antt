@@ -30,19 +30,23 @@ use Rattle.meter_slots.specs.Journal.{stored_or_refused, judged, orders, last_co
 use Rattle.meter_slots.specs.Journal.{stored_in, stored, reading_at, reading_of, readings_back, readings, stored_counter}
 use Rattle.meter_slots.specs.Laws.{stored_counters, moment_read, stored_moment, stored_moments, reading_added}
 use Rattle.meter_slots.proofs.Journals.{back, found_where, readings-append}
-use Rattle.meter_slots.proofs.JournalLaws.{front_back}
+use Rattle.meter_slots.proofs.JournalLaws.{filtered_back}
 
--- what a fact says of one entry it says of all
-each_stored : {X : Type 0} (f : Reading → X) (g : Entry → Option X) (c : Start) (own : Address)
-    → ((x : Entry) (earlier : List Entry) → IsJudged c own (x ∷ earlier) → map f
-    (reading_of x.event (stored (commission_of c) (standing c earlier) x.event)) ≡ cons_option (g x) [])
-    → (earlier : List Entry) → IsJudged c own earlier → map f (readings_back c earlier) ≡ filter_map g (reverse earlier)
+-- what a fact says of each answer it says of all entries
+each_stored : {X : Type 0} (f : Reading → X) (g : Event → Outcome → Option X) (c : Start) (own : Address)
+    → ((s : Standing) (event : Event) → map f (reading_of event (stored (commission_of c) s event))
+    ≡ cons_option (g event (answer (commission_of c) own s event)) [])
+    → (earlier : List Entry) → IsJudged c own earlier → map f (readings_back c earlier)
+    ≡ filter_map (λ x. g x.event x.outcome) (reverse earlier)
+unfolding outcome
 each_stored f g c own one [] j = refl
 each_stored f g c own one (x ∷ earlier) j =
-    map-append f (readings_back c earlier) (reading_of x.event (stored (commission_of c) (standing c earlier) x.event))
-    ∙ ap (λ xs. xs ++ map f (reading_of x.event (stored (commission_of c) (standing c earlier) x.event))) (each_stored f g c own one earlier j.1)
-    ∙ ap (λ xs. filter_map g (reverse earlier) ++ xs) (one x earlier j)
-    ∙ sym (ap (filter_map g) (front_back x earlier) ∙ filter_map-append g (reverse earlier) (x ∷ []))
+    let s = standing c earlier in
+    map-append f (readings_back c earlier) (reading_of x.event (stored (commission_of c) s x.event))
+    ∙ ap (λ xs. xs ++ map f (reading_of x.event (stored (commission_of c) s x.event))) (each_stored f g c own one earlier j.1)
+    ∙ ap (λ xs. filter_map (λ (y : Entry). g y.event y.outcome) (reverse earlier) ++ xs)
+    (one s x.event ∙ ap (λ o. cons_option (g x.event o) []) (sym j.0))
+    ∙ sym (filtered_back (λ (y : Entry). g y.event y.outcome) x earlier)
 
 -- ---- the counter
 
@@ -56,18 +60,11 @@ answer_counter : (c : Commissioned) (own : Address) (s : Standing) (event : Even
 answer_counter c own s (Hear format at t) = heard_counter own c s.orders _ _ at (verdict c s t)
 answer_counter c own s _ = grind arith
 
-entry_counter : (c : Start) (own : Address) (x : Entry) (earlier : List Entry) → IsJudged c own (x ∷ earlier)
-    → map (λ (r : Reading). r.counter) (reading_of x.event (stored (commission_of c) (standing c earlier) x.event)) ≡ cons_option (stored_counter x.outcome)
-    []
-unfolding outcome
-entry_counter c own x earlier j =
-    answer_counter (commission_of c) own (standing c earlier) x.event ∙ ap (λ o. cons_option (stored_counter o) []) (sym j.0)
-
 pub counters_read : (c : Start) (own : Address) (journal : List Entry) → Legal c own journal
     → map (λ (r : Reading). r.counter) (readings c journal) ≡ stored_counters journal
 unfolding readings
 counters_read c own journal j =
-    each_stored (λ (r : Reading). r.counter) (λ (x : Entry). stored_counter x.outcome) c own (entry_counter c own) (reverse journal) j
+    each_stored (λ (r : Reading). r.counter) (λ event o. stored_counter o) c own (answer_counter (commission_of c) own) (reverse journal) j
     ∙ ap stored_counters (reverse-reverse journal)
 
 -- ---- the moment with it
@@ -82,17 +79,11 @@ answer_moment : (c : Commissioned) (own : Address) (s : Standing) (event : Event
 answer_moment c own s (Hear format at t) = heard_moment own c s.orders _ _ format at t (verdict c s t)
 answer_moment c own s _ = refl
 
-entry_moment : (c : Start) (own : Address) (x : Entry) (earlier : List Entry) → IsJudged c own (x ∷ earlier)
-    → map moment_read (reading_of x.event (stored (commission_of c) (standing c earlier) x.event)) ≡ cons_option (stored_moment x.event x.outcome) []
-unfolding outcome
-entry_moment c own x earlier j =
-    answer_moment (commission_of c) own (standing c earlier) x.event ∙ ap (λ o. cons_option (stored_moment x.event o) []) (sym j.0)
-
 pub moments_read : (c : Start) (own : Address) (journal : List Entry) → Legal c own journal
     → map moment_read (readings c journal) ≡ stored_moments journal
 unfolding readings
 moments_read c own journal j =
-    each_stored moment_read (λ (x : Entry). stored_moment x.event x.outcome) c own (entry_moment c own) (reverse journal) j
+    each_stored moment_read stored_moment c own (answer_moment (commission_of c) own) (reverse journal) j
     ∙ ap stored_moments (reverse-reverse journal)
 
 -- ---- the payload of what was genuine

@@ -9,7 +9,7 @@ use Rattle.std.specs.List.{list_any, position_or_len, All}
 use Rattle.std.proofs.lemmas.Bool.Decides.{nat_tests}
 use Rattle.std.proofs.lemmas.List.{reverse-append, reverse-reverse, map-append, append-nil, length-map}
 use Rattle.std.proofs.Math.ListN.{get_or-map}
-use Rattle.std.proofs.lemmas.List.Elements.{filter-append, All-nil, All-cons}
+use Rattle.std.proofs.lemmas.List.Elements.{filter-append, All-map}
 use Rattle.std.proofs.lemmas.List.Quantifiers.{position-Some}
 use Rattle.std.proofs.lemmas.List.Sums.{prefix_len_passes}
 use Rattle.meter_address.specs.declared.address.Address.{Address}
@@ -285,12 +285,9 @@ some_slot =
 
 -- ---- every slot is legal
 
-slots_legal : (own : Address) (cs : List Start) (steps : List Step) → All IsLegal (map (slot_of own steps) cs)
-slots_legal own [] steps = All-nil IsLegal
-slots_legal own (c ∷ cs) steps =
-    All-cons IsLegal (slot_of own steps c) (map (slot_of own steps) cs) (journal_of_legal c own (calls_of c.address steps))
-    (slots_legal own cs steps)
-
 pub world_legal : (own : Address) (cs : List Start) (steps : List Step) → All IsLegal (world_of own cs steps).slots
 unfolding world_of
-world_legal own cs steps = slots_legal own cs steps
+world_legal own cs steps =
+    All-map IsLegal (slot_of own steps) cs (λ k d within.
+    let c = get_or cs k d in
+    journal_of_legal c own (calls_of c.address steps))

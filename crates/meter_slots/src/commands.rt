@@ -71,6 +71,7 @@ fn show_payload_at(queue: &Queue, place: usize)
 }
 
 // The payloads of the commands of a queue are payloads.
+#[tactic(auto, using(crate::proofs::Starting::all_more))]
 fn show_payloads(queue: &Queue)
     ensures { All HasPayload queue.now.commands }
 {

@@ -40,6 +40,7 @@ pub(crate) fn take_place(
 }
 
 /// A tick of the meter: a fragment that sees its second tick is dropped.
+#[tactic(auto, using(crate::proofs::NothingHeld::nothing_ticked))]
 pub(crate) fn tick(fragments: &mut Fragments)
     ensures { (told : List Told) → StandsFor (held_by fragments.old) told → StandsFor (held_by fragments.new) (Tick ∷ told) }
 {

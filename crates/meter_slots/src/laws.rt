@@ -24,12 +24,14 @@ ghost use Rattle.meter_slots.specs.PassingWorld.{PassingIsKnown};
 ghost use Rattle.meter_slots.specs.Laws.{IsAbove, last_stored, IsRising, AreBelow, IsRefused, IsLeft, IsLegal, call_in};
 
 /// In mode 7 the stored counters strictly rise, from above the one that was known before.
+#[tactic(auto, using(crate::proofs::JournalLaws::stored_counters_rise))]
 pub fn counters_rise()
     ensures { (c : Start) (own : Address) (journal : List Entry) → c.mode ≡ Seven → Legal c own journal
         → IsRising c.last (stored_counters journal) }
 {}
 
 /// The counters of the downlinks that are sent strictly rise, from above the one that was known before.
+#[tactic(auto, using(crate::proofs::DownlinkLaws::downlink_counters_rise))]
 pub fn sent_counters_rise()
     ensures { (c : Start) (own : Address) (journal : List Entry) → Legal c own journal
         → IsRising (Some c.orders.down) (sent_counters journal) }
@@ -37,6 +39,7 @@ pub fn sent_counters_rise()
 
 /// Each downlink that is sent is that of a payload of 1 to 94 bytes under its counter and the commission's first key, where each command
 /// that is put has such a payload. `SlotBook::journal` says that a slot's commands have.
+#[tactic(auto, using(crate::proofs::PayloadLaws::downlinks_carry))]
 pub fn downlinks_carry_payloads()
     ensures { (c : Start) (own : Address) (journal : List Entry) → AreReady c.orders → Legal c own journal
         → All (λ x. PutsPayload x.event) journal → All (CarriesPayload own (commission_of c)) (downlinks_in journal) }
@@ -75,6 +78,7 @@ pub fn macs_decide()
 
 /// Without a rekeying each message is opened with the commission as it was made; and under its first key, whatever key id the message
 /// names, where it has no second key. So a session without second keys is what it is where a meter has one key alone.
+#[tactic(auto, using(crate::proofs::KeyLaws::commission_stays, crate::proofs::KeyLaws::first_key_of_message))]
 pub fn first_key_stays()
     ensures commission { (c : Start) (earlier : List Entry) → All (λ x. LeavesKeys x.event) earlier
         → rekeyed (commission_of c) (other_key c earlier) ≡ commission_of c }
@@ -83,6 +87,7 @@ pub fn first_key_stays()
 {}
 
 /// Each stored message has one reading, in the order of the journal, with the moment at which it was stored and its counter.
+#[tactic(auto, using(crate::proofs::ReadingLaws::counters_read, crate::proofs::ReadingLaws::moments_read))]
 pub fn readings_are_stored()
     ensures counters { (c : Start) (own : Address) (journal : List Entry) → Legal c own journal
         → map (λ r. r.counter) (readings c journal) ≡ stored_counters journal }
@@ -92,12 +97,14 @@ pub fn readings_are_stored()
 
 /// Each stored message adds one reading, with the payload of the genuine message (checked, in mode 5) that was heard; nothing else
 /// adds one.
+#[tactic(auto, using(crate::proofs::ReadingLaws::added_read))]
 pub fn readings_are_genuine()
     ensures { (c : Start) (own : Address) (journal : List Entry) (x : Entry) → Legal c own (journal ++ x ∷ [])
         → readings c (journal ++ x ∷ []) ≡ readings c journal ++ reading_added x.outcome x.event (genuine c (reverse journal) x.event) }
 {}
 
 /// A refusal leaves the second key, the last counter, the commands with their window, and the readings as they were.
+#[tactic(auto, using(crate::proofs::JournalLaws::refused_left))]
 pub fn refused_leaves()
     ensures { (c : Start) (own : Address) (journal : List Entry) (x : Entry) → Legal c own (journal ++ x ∷ []) → IsRefused x.outcome
         → IsLeft (record { own = own; start = c; journal = journal })
@@ -105,6 +112,7 @@ pub fn refused_leaves()
 {}
 
 /// Each list of calls has one legal journal.
+#[tactic(auto, using(crate::proofs::JournalLaws::journal_of_legal, crate::proofs::JournalLaws::journal_is))]
 pub fn one_journal()
     ensures legal { (c : Start) (own : Address) (calls : List Call) → Legal c own (journal_of c own calls) }
     ensures one { (c : Start) (own : Address) (journal : List Entry) → Legal c own journal
@@ -118,12 +126,14 @@ pub fn own_steps_alone()
 {}
 
 /// Each slot of a world has a legal journal.
+#[tactic(auto, using(crate::proofs::Worlds::world_legal))]
 pub fn slots_are_legal()
     ensures { (own : Address) (commissions : List Start) (steps : List Step)
         → All IsLegal (world_of own commissions steps).slots }
 {}
 
 /// The world of some steps is made one step after the other.
+#[tactic(auto, using(crate::proofs::Worlds::after_push))]
 pub fn world_step_by_step()
     ensures { (own : Address) (commissions : List Start) (steps : List Step) (s : Step)
         → world_of own commissions (steps ++ s ∷ []) ≡ after_step (world_of own commissions steps) s }
@@ -131,6 +141,7 @@ pub fn world_step_by_step()
 
 /// A session that is cut in two is one session: where the second slot begins with what is known behind the first one's journal, its
 /// answers, its readings and what is known behind it are those of the one slot that made both journals.
+#[tactic(auto, using(crate::proofs::Cuts::outcome_goes_on, crate::proofs::Cuts::readings_go_on, crate::proofs::Cuts::resumed_goes_on))]
 pub fn a_cut_session_is_one()
     ensures outcome { (c : Start) (own : Address) (before after : List Entry) (event : Event)
         → outcome (resumed c before) own (reverse after) event ≡ outcome c own (reverse (before ++ after)) event }
@@ -142,6 +153,7 @@ pub fn a_cut_session_is_one()
 {}
 
 /// However many sessions there are, one after the other, each begun with what was known behind the one before it: they are one session.
+#[tactic(auto, using(crate::proofs::Cuts::readings_of_all, crate::proofs::Cuts::resumed_through))]
 pub fn many_sessions_are_one()
     ensures legal { (c : Start) (own : Address) (first : List Entry) (later : List (List Entry))
         → AreLegal c own (first ∷ later) ↔ Legal c own (joined (first ∷ later)) }
@@ -152,6 +164,7 @@ pub fn many_sessions_are_one()
 {}
 
 /// The counters of the downlinks of all these sessions together strictly rise, so that none is used twice.
+#[tactic(auto, using(crate::proofs::Cuts::legal_through, crate::proofs::DownlinkLaws::downlink_counters_rise))]
 pub fn sent_counters_rise_over_sessions()
     ensures { (c : Start) (own : Address) (first : List Entry) (later : List (List Entry)) → AreLegal c own (first ∷ later)
         → IsRising (Some c.orders.down) (sent_counters (joined (first ∷ later))) }
@@ -161,6 +174,7 @@ pub fn sent_counters_rise_over_sessions()
 /// together strictly rise. A downlink takes the counter after the last one, so that a reserve lasts for as many downlinks. Where a session
 /// of which nothing is known but that it sent at most so many downlinks is followed by one that begins with what was known before it and
 /// with such a reserve, no counter is used twice.
+#[tactic(auto, using(crate::proofs::DownlinkLaws::reserved_rise, crate::proofs::DownlinkLaws::downlinks_count))]
 pub fn sent_counters_rise_over_reserves()
     ensures rises { (down : ℕ) (own : Address) (sessions : List Session) → AreReserved down own sessions
         → IsRising (Some down) (sent_counters (joined (journals_of sessions))) }
@@ -173,6 +187,7 @@ pub fn sent_counters_rise_over_reserves()
 
 /// A slot that keeps no journal, and the last reading of its steps, know of the meter what the slot knows that keeps it; and there was a step
 /// exactly where that journal has one.
+#[tactic(auto, using(crate::proofs::PassingWorlds::passing_is_known))]
 pub fn passing_meters_know_the_same()
     ensures { PassingIsKnown }
 {}

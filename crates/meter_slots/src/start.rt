@@ -54,6 +54,7 @@ impl MeterStart {
     ghost use Rattle.meter_slots.specs.Restoring.{may_restore, restored};
 
     /// The start of a commissioned meter of which nothing is known but its commission.
+    #[tactic(auto, using(crate::proofs::NothingHeld::nothing_held))]
     pub fn new(commission: Commission) -> MeterStart
         ensures { result ≡ fresh_start commission }
     {
@@ -66,6 +67,7 @@ impl MeterStart {
     }
 
     /// A fragment that is held, later than those before it.
+    #[tactic(auto, using(afl_fragments::proofs::Shortening::short_stands))]
     pub fn hold(&mut self, alloc: Global, part: Part) -> Result<(), Memory>
         ensures ok { OnOk result (self.new ≡ record self.old { told = cut_down (Piece part ∷ self.old.told) }) }
         ensures err { OnErr result (self.new ≡ self.old) }
@@ -75,6 +77,7 @@ impl MeterStart {
     }
 
     /// A tick that came after them.
+    #[tactic(auto, using(afl_fragments::proofs::Shortening::short_stands))]
     pub fn tick(&mut self)
         ensures { self.new ≡ record self.old { told = cut_down (Tick ∷ self.old.told) } }
     {

@@ -1,6 +1,6 @@
-use Rattle.std.proofs.Common.{reverse}
-use Rattle.meter_slots.proofs.JournalLaws.{judged_at, entry_stored_exactly}
+-- A message is stored exactly where it is genuine and above all.
+use Rattle.meter_slots.proofs.JournalLaws.{stored_where_genuine}
 use Rattle.meter_slots.proofs.laws.stored_exactly.Goals as goal
 
 pub returns : goal.returns
-returns _ c own before x after n m j = entry_stored_exactly c own x (reverse before) n m (judged_at c own before x after j)
+returns _ = λ c own before x after n. stored_where_genuine c own before x after n
