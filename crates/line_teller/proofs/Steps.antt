@@ -266,7 +266,7 @@ module _ {T : Type 0} (tells : T → ℕ → List ℕ → List ℕ → List ℕ 
       {sheet sheet' : List ℕ} {notes_tell : Bool} {notes : Change SinkShown} → sheet ≡ [] → sheet' ≡ []
       → Steps tells number old new lines lines' out_tells out sheet sheet' notes_tell notes
       → TellsOne tells number old new lines lines' out_tells out notes_tell notes
-  one_told_alone {number} {old} {new} {lines} {lines'} {out_tells} {out} {notes_tell} {notes} nothing empty step =
+  one_told_alone {number} {old} {new} {lines} {lines'} {out_tells} {out} {sheet'} {notes_tell} {notes} nothing empty step =
       by step.lines step.one step.told step.more
     where
       written_is : IsTrue out_tells → out.now.written ≡ out.before.written ++ step.text
