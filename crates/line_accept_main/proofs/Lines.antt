@@ -1,7 +1,7 @@
 -- Lines that are answered one after another.
-use Rattle.std.proofs.Common.{◌≡◌, ℕ, ◌+◌, ◌<◌, true, cond, List, [], ◌∷◌, ◌++◌, length, codes, Option, Some, None, refl, sym, ap, ◌∙◌, arith}
+use Rattle.std.proofs.Common.{◌≡◌, ℕ, ◌+◌, ◌<◌, true, cond, List, [], ◌∷◌, ◌++◌, length, codes, Option, Some, None, refl, sym, ap, ap₂, ◌∙◌, arith}
 use Rattle.std.specs.Prelude.{nat_lt}
-use Rattle.std.proofs.lemmas.Bool.Decides.{nat_tests}
+use Rattle.std.proofs.lemmas.Bool.{cond-true, lt-ltb}
 use Rattle.plain_text.specs.Parts.{fields_of}
 use Rattle.line_teller.specs.Telling.{AreTold}
 use Rattle.sender_fences.specs.declared.fence.Answer.{Answer}
@@ -27,18 +27,12 @@ passes_over old new number line is same = record {
   new_is = same ∙ ap (behind_delivery old) is;
 }
 
-long_test : (line : List ℕ) → 96 < length line → nat_lt 96 (length line) ≡ true
-long_test line long = grind (arith, nat_tests)
-
 -- a line that is too long delivers nothing
 pub long_delivers : (line : List ℕ) → 96 < length line → None ≡ delivery_of line
 unfolding delivery_of
-long_delivers line long = sym (ap (λ test. cond test None (delivery_in (fields_of line))) (long_test line long))
+long_delivers line long = sym (cond-true (nat_lt 96 (length line)) _ _ (lt-ltb 96 (length line) long))
 
 -- ---- all lines
-
-joined : (a a' b b' : List ℕ) → a ≡ a' → b ≡ b' → a ++ b ≡ a' ++ b'
-joined a a' b b' e f = cc
 
 -- what is told of lines is what is answered to them
 pub record AreAnswered (first last : List Sender) (lines : List (List ℕ)) (text : List ℕ) : Type 0 where
@@ -52,6 +46,6 @@ are_answered number first last (line ∷ lines) text note told =
     let later = are_answered (number + 1) told.next last lines told.later_text told.later_note told.later in
     let one : AcceptsLine first number line told.first_text told.first_note told.next = told.told in
     record {
-      text_is = told.text_is ∙ joined _ _ _ _ one.text_is (later.text_is ∙ ap (λ (ss : List Sender). answers_text ss lines) one.new_is);
+      text_is = told.text_is ∙ ap₂ (λ (a b : List ℕ). a ++ b) one.text_is (later.text_is ∙ ap (λ (ss : List Sender). answers_text ss lines) one.new_is);
       last_is = later.last_is ∙ ap (λ (ss : List Sender). behind_lines ss lines) one.new_is;
     }

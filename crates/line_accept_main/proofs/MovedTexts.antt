@@ -14,10 +14,6 @@ pub put_there : {P : Type 0} {takes : P → List ℕ → P → Type 0} {p q : P}
 put_there firsts senders place f s one two puts =
     is_put (moved_at firsts senders place) (moved_both f s) (ap₂ moved_both (sym one) (sym two)) puts
 
-none_moved : (fs : List Fence) (ss : List Sender) → moved_text (take 0 fs) (take 0 ss) ≡ []
-none_moved [] ss = refl
-none_moved (f ∷ fs) ss = refl
-
 no_sender : (f : Option Fence) → [] ≡ moved_both f None
 no_sender None = refl
 no_sender (Some f) = refl
@@ -28,7 +24,7 @@ moved_more [] ss zero = refl
 moved_more [] ss (suc i) = refl
 moved_more (f ∷ fs) [] zero = refl
 moved_more (f ∷ fs) [] (suc i) = no_sender (slice_get fs i)
-moved_more (f ∷ fs) (s ∷ ss) zero = ap (λ (t : List ℕ). moved_line f s ++ t) (none_moved fs ss) ∙ append-nil (moved_line f s)
+moved_more (f ∷ fs) (s ∷ ss) zero = append-nil (moved_line f s)
 moved_more (f ∷ fs) (s ∷ ss) (suc i) =
     ap (λ (t : List ℕ). moved_line f s ++ t) (moved_more fs ss i)
     ∙ sym (append_assoc (moved_line f s) (moved_text (take i fs) (take i ss)) (moved_at fs ss i))

@@ -2,7 +2,7 @@
 use Rattle.std.proofs.Common.{◌≡◌, ℕ, ◌+◌, ◌<◌, List, [], ◌∷◌, true, false, cond, length, codes, Ok, Err, refl, ap, arith}
 use Rattle.std.specs.Prelude.{nat_lt}
 use Rattle.std.specs.Str.Lines.{lines}
-use Rattle.std.proofs.lemmas.Bool.Decides.{nat_tests}
+use Rattle.std.proofs.lemmas.Bool.{cond-true, lt-ltb}
 use Rattle.plain_text.specs.Parts.{is_word}
 use Rattle.roster_file.specs.Roster.{entries_from}
 use Rattle.sender_fences.specs.Senders.{Sender}
@@ -16,8 +16,7 @@ use Rattle.line_accept_main.specs.Reading.{IsFaultOf}
 pub too_long : (bytes : List ℕ) → 16777216 < length bytes → senders_of bytes ≡ Err (Line 0 causes.TooLong)
 unfolding senders_of
 too_long bytes long =
-    let test : nat_lt 16777216 (length bytes) ≡ true = grind (arith, nat_tests) in
-    ap (λ b. cond b (Err (Line 0 causes.TooLong)) (headed (entries_from 1 (lines bytes)) (length (lines bytes) + 1))) test
+    cond-true (nat_lt 16777216 (length bytes)) _ _ (lt-ltb 16777216 (length bytes) long)
 
 pub senders_missing : (p : List Sender) (n end : ℕ) (entries : List (ℕ × List ℕ)) → entries ≡ [] → n ≡ end
     → senders_from p entries end ≡ Err (Line n causes.Missing)

@@ -5,7 +5,7 @@ use Rattle.std.specs.List.{slice_split, onto_first}
 use Rattle.std.specs.Str.Lines.{lines, lines_of_parts, strip_carriage_return}
 use Rattle.std.proofs.lemmas.Bool.{cond-false, or_from, or_left, or_right}
 use Rattle.std.proofs.lemmas.Bool.Decides.{nat_tests}
-use Rattle.std.proofs.lemmas.List.{length_push, take_at, take_all, take-take, length-take}
+use Rattle.std.proofs.lemmas.List.{append-nil, length_push, take_at, take_all, take-take, length-take}
 use Rattle.std.proofs.lemmas.List.Sums.{sum_by-cons}
 use Rattle.plain_text.proofs.Cuts.{lines_cut}
 use lib.Seq.{take-append-add}
@@ -20,7 +20,7 @@ use Rattle.line_reader.proofs.NewlineLemmas.{is_newline, newlines-append, no_pla
 
 -- the parts of bytes whose front has no newline
 
-no_head : (x : ℕ) (xs : List ℕ) → newlines (x ∷ xs) ≡ 0 → (is_newline x ≡ false) × (newlines xs ≡ 0)
+pub no_head : (x : ℕ) (xs : List ℕ) → newlines (x ∷ xs) ≡ 0 → (is_newline x ≡ false) × (newlines xs ≡ 0)
 no_head x xs none = by_test (is_newline x) refl (sym (sum_by-cons (λ b. cond (is_newline b) 1 0) x xs) ∙ none)
   where
     by_test : (b : Bool) → is_newline x ≡ b → cond (is_newline x) 1 0 + newlines xs ≡ 0 → (is_newline x ≡ false) × (newlines xs ≡ 0)
@@ -85,11 +85,16 @@ finished_more bytes front finished none = record {
 }
 
 -- the lines that end with a newline, behind lines that do
-ended-append : (bytes more : List ℕ) → IsFinished bytes
-    → ended_lines (bytes ++ more) ≡ take (length (lines bytes) + newlines more) (lines bytes ++ lines more)
-ended-append bytes more finished =
+pub ended_behind : (bytes more : List ℕ) → IsFinished bytes → ended_lines (bytes ++ more) ≡ lines bytes ++ ended_lines more
+ended_behind bytes more finished =
     ap (λ x. take (newlines (bytes ++ more)) x) (finished.follow more)
     ∙ ap (λ n. take n (lines bytes ++ lines more)) (newlines-append bytes more ∙ ap (λ n. n + newlines more) finished.counted)
+    ∙ take-append-add (lines bytes) (lines more) (newlines more)
+
+-- and behind these bytes without a newline
+pub ended_alone : (bytes more : List ℕ) → IsFinished bytes → newlines more ≡ 0 → ended_lines (bytes ++ more) ≡ lines bytes
+ended_alone bytes more finished none =
+    ended_behind bytes more finished ∙ ap (λ n. lines bytes ++ take n (lines more)) none ∙ append-nil (lines bytes)
 
 first_bytes : (bytes more : List ℕ) → length bytes ≤ BYTES_MAX
     → take BYTES_MAX (bytes ++ more) ≡ bytes ++ take (BYTES_MAX - length bytes) more
@@ -102,11 +107,8 @@ pub whole_alone : (bytes more : List ℕ) → IsFinished bytes → length bytes 
 unfolding whole_lines
 whole_alone bytes more finished few few_lines none =
     let front = take (BYTES_MAX - length bytes) more in
-    let count : length (lines bytes) + newlines front ≡ length (lines bytes) = omega arith in
     ap (λ x. take LINES_MAX (ended_lines x)) (first_bytes bytes more few)
-    ∙ ap (take LINES_MAX) (ended-append bytes front finished ∙ ap (λ n. take n (lines bytes ++ lines front)) count
-    ∙ take_at (lines bytes) (lines front) (length (lines bytes)) refl)
-    ∙ take_all LINES_MAX (lines bytes) few_lines
+    ∙ ap (take LINES_MAX) (ended_alone bytes front finished none) ∙ take_all LINES_MAX (lines bytes) few_lines
 
 -- any number of the lines that end with a newline
 whole_first : (n : ℕ) (bytes more : List ℕ) → IsFinished bytes → length bytes ≤ BYTES_MAX → length (lines bytes) ≡ n → n ≤ LINES_MAX
@@ -114,12 +116,9 @@ whole_first : (n : ℕ) (bytes more : List ℕ) → IsFinished bytes → length 
 unfolding whole_lines
 whole_first n bytes more finished few is few_lines =
     let front = take (BYTES_MAX - length bytes) more in
-    let within : n ≤ length (lines bytes) + newlines front = omega arith in
     ap (λ x. take n (take LINES_MAX (ended_lines x))) (first_bytes bytes more few)
     ∙ take-take n LINES_MAX (ended_lines (bytes ++ front)) few_lines
-    ∙ ap (take n) (ended-append bytes front finished)
-    ∙ take-take n (length (lines bytes) + newlines front) (lines bytes ++ lines front) within
-    ∙ take_at (lines bytes) (lines front) n is
+    ∙ ap (take n) (ended_behind bytes front finished) ∙ take_at (lines bytes) (ended_lines front) n is
 
 pub whole_full : (bytes more : List ℕ) → IsFinished bytes → length bytes ≤ BYTES_MAX → length (lines bytes) ≡ LINES_MAX
     → whole_lines (bytes ++ more) ≡ lines bytes

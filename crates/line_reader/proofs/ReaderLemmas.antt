@@ -4,7 +4,7 @@ use Rattle.std.specs.Prelude.{IsTrue}
 use Rattle.std.specs.Str.Lines.{lines, strip_carriage_return}
 use lib.Seq.{take-append-add}
 use Rattle.std.proofs.lemmas.Bool.{cases_lt}
-use Rattle.std.proofs.lemmas.List.{append-nil, length_push, take-append-drop, drop-drop, drop_at, take_all, length-take, length-append}
+use Rattle.std.proofs.lemmas.List.{append-nil, length_push, nil_from_length, take-append-drop, drop-drop, drop_at, take_all, length-take, length-append}
 use Rattle.outer_io.specs.Bytes.{Moves}
 use Rattle.line_reader.specs.Keeps.{IsReader, IsLast, IsTextReader, Keeps}
 use Rattle.line_reader.specs.Lines.{is_over, whole_lines, all_lines}
@@ -300,92 +300,60 @@ module _ {start line most : ℕ} {taken held added taken' : List ℕ} (s : IsSea
 
   -- the whole lines of the bytes taken
   whole_taken : newlines (take most read) ≡ 0 → whole_lines taken' ≡ lines before
-  whole_taken none = ⊎_elim below full (cases_lt line LINES_MAX)
-    where
-      first : length before ≡ start
-      first = before_len
-
-      counted : length (lines before) ≡ line
-      counted = s.reader.counted
-
-      below : line < LINES_MAX → whole_lines taken' ≡ lines before
-      below room =
-          let few_bytes = s.few_bytes in
-          let first' = first in
-          let counted' = counted in
-          let same : most ≡ BYTES_MAX - length before = s.room room ∙ ap (λ n. BYTES_MAX - n) (sym first) in
-          ap whole_lines whole
-          ∙ whole_alone before read s.reader.finished (omega arith) (omega arith) (ap (λ n. newlines (take n read)) (sym same) ∙ none)
-
-      full : LINES_MAX ≤ line → whole_lines taken' ≡ lines before
-      full over =
-          let few_bytes = s.few_bytes in
-          let few_lines = s.few_lines in
-          let first' = first in
-          let counted' = counted in
-          ap whole_lines whole ∙ whole_full before read s.reader.finished (omega arith) (omega arith)
+  whole_taken none =
+      let first = before_len in
+      let counted = s.reader.counted in
+      let few_bytes = s.few_bytes in
+      let few_lines = s.few_lines in
+      ap whole_lines whole ∙ ⊎_elim
+      (λ room.
+      let same : BYTES_MAX - length before ≡ most = ap (λ n. BYTES_MAX - n) first ∙ sym (s.room room) in
+      whole_alone before read s.reader.finished (omega arith) (omega arith) (ap (λ n. newlines (take n read)) same ∙ none))
+      (λ over. whole_full before read s.reader.finished (omega arith) (omega arith))
+      (cases_lt line LINES_MAX)
 
   pub whole_given : newlines (take most read) ≡ 0 → take line (all_lines taken') ≡ whole_lines taken'
   whole_given none = given_is start line taken held read taken' s.reader s.few_bytes s.few_lines whole ∙ sym (whole_taken none)
 
   -- no byte behind a limit: at most one line more, and none where no byte counts
   within_read : newlines read ≡ 0 → length read ≤ most → is_over taken' ≡ false
-  within_read none short = by_read read refl
-    where
-      first : length before ≡ start
-      first = before_len
-
-      counted : length (lines before) ≡ line
-      counted = s.reader.counted
-
-      by_read : (bytes : List ℕ) → read ≡ bytes → is_over taken' ≡ false
-      by_read [] is =
-          let few_bytes = s.few_bytes in
-          let few_lines = s.few_lines in
-          let first' = first in
-          let counted' = counted in
-          ap is_over (whole ∙ ap (λ x. before ++ x) is ∙ append-nil before) ∙ not_over before (omega arith) (omega arith)
-      by_read (b ∷ bytes) is =
-          let some : 0 < length read = let size = ap length is in omega arith in
-          let room = room_after start line most s.room s.no_room (omega arith) in
-          let all = ap length whole ∙ length-append before read in
-          let count = ap length (ap lines whole ∙ s.reader.finished.follow read ∙ ap (λ x. lines before ++ x) (lines_alone read none some))
-          ∙ length_push (lines before) read in
-          let few_bytes = s.few_bytes in
-          let first' = first in
-          let counted' = counted in
-          not_over taken' (omega arith) (omega arith)
+  within_read none short =
+      let first = before_len in
+      let counted = s.reader.counted in
+      let few_bytes = s.few_bytes in
+      let few_lines = s.few_lines in
+      let all = ap length whole ∙ length-append before read in
+      let count = ap length (ap lines whole ∙ s.reader.finished.follow read) ∙ length-append (lines before) (lines read) in
+      ⊎_elim
+      (λ some.
+      let one = ap length (lines_alone read none some) in
+      let room = room_after start line most s.room s.no_room (omega arith) in
+      not_over taken' (omega arith) (omega arith))
+      (λ empty.
+      let nothing = ap (λ x. length (lines x)) (nil_from_length read (omega arith)) in
+      not_over taken' (omega arith) (omega arith))
+      (cases_lt 0 (length read))
 
   pub broken_off : newlines read ≡ 0 → length read ≤ most → IsBrokenOff taken' (take line (all_lines taken'))
   broken_off none short = record { within = within_read none short; all = whole_given (newlines-take most read none) }
 
   -- a byte behind a limit
   over_with : (more bytes : List ℕ) → most < length read → bytes ≡ before ++ (read ++ more) → is_over bytes ≡ true
-  over_with more bytes long is = ⊎_elim below full (cases_lt line LINES_MAX)
-    where
-      longer : length (read ++ more) ≡ length read + length more
-      longer = length-append read more
-
-      first : length before ≡ start
-      first = before_len
-
-      below : line < LINES_MAX → is_over bytes ≡ true
-      below room =
-          let few_bytes = s.few_bytes in
-          let same = s.room room in
-          let all = ap length is ∙ length-append before (read ++ more) in
-          let longer' = longer in
-          let first' = first in
-          over_bytes bytes (omega arith)
-
-      full : LINES_MAX ≤ line → is_over bytes ≡ true
-      full over =
-          let longer' = longer in
-          let some : 0 < length (lines (read ++ more)) = some_line (read ++ more) (omega arith) in
-          let counted = s.reader.counted in
-          let all = ap length (ap lines is ∙ s.reader.finished.follow (read ++ more))
-          ∙ length-append (lines before) (lines (read ++ more)) in
-          over_lines bytes (omega arith)
+  over_with more bytes long is =
+      let longer = length-append read more in
+      let first = before_len in
+      let counted = s.reader.counted in
+      ⊎_elim
+      (λ room.
+      let few_bytes = s.few_bytes in
+      let same = s.room room in
+      let all = ap length is ∙ length-append before (read ++ more) in
+      over_bytes bytes (omega arith))
+      (λ full.
+      let some = some_line (read ++ more) (omega arith) in
+      let all = ap length (ap lines is ∙ s.reader.finished.follow (read ++ more)) ∙ length-append (lines before) (lines (read ++ more)) in
+      over_lines bytes (omega arith))
+      (cases_lt line LINES_MAX)
 
   pub past_limit : (left' : List ℕ) → most < length read → newlines (take most read) ≡ 0
       → IsPastLimit taken' left' (take line (all_lines taken'))

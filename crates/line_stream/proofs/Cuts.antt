@@ -8,7 +8,7 @@ use Rattle.std.proofs.Math.Seq.{take-append_seam, take-append-add}
 use Rattle.line_reader.specs.Keeps.{IsFinished}
 use Rattle.line_reader.specs.Lines.{ended_lines}
 use Rattle.line_reader.specs.Newlines.{newlines}
-use Rattle.line_reader.proofs.LinesLemmas.{lines_more, lines_alone, finished_more}
+use Rattle.line_reader.proofs.LinesLemmas.{ended_alone, ended_behind, lines_more, lines_alone, finished_more}
 use Rattle.line_reader.proofs.NewlineLemmas.{is_newline, newlines-append, newlines-both, first_place}
 use Rattle.line_teller.specs.Ending.{AreFirst}
 use Rattle.line_stream.specs.Opened.{Open, Keeps, StandsAt}
@@ -36,19 +36,9 @@ first_more xs all more f =
 
 -- ---- lines with their newlines
 
--- finished lines, and what stands behind them
-pub ended_behind : (front rest : List ℕ) → IsFinished front → ended_lines (front ++ rest) ≡ lines front ++ ended_lines rest
-ended_behind front rest whole =
-    ap (λ x. take (newlines (front ++ rest)) x) (whole.follow rest)
-    ∙ ap (λ n. take n (lines front ++ lines rest)) (newlines-append front rest ∙ ap (λ n. n + newlines rest) whole.counted)
-    ∙ take-append-add (lines front) (lines rest) (newlines rest)
-
-none_ended : (line : List ℕ) → newlines line ≡ 0 → ended_lines line ≡ []
-none_ended line none = ap (λ n. take n (lines line)) none
-
 pub ended_is : (bytes front line : List ℕ) → bytes ≡ front ++ line → IsFinished front → newlines line ≡ 0 → ended_lines bytes ≡ lines front
 ended_is bytes front line cut whole none =
-    ap ended_lines cut ∙ ended_behind front line whole ∙ ap (λ t. lines front ++ t) (none_ended line none) ∙ append-nil (lines front)
+    ap ended_lines cut ∙ ended_alone front line whole none
 
 -- the lines that have their newline are the first ones
 pub ended_first : (told : List (List ℕ)) (bytes : List ℕ) → AreFirst told (ended_lines bytes) → AreFirst told (lines bytes)

@@ -1,6 +1,6 @@
 -- A file that ends in the middle of a line.
 use Rattle.std.proofs.Common.{◌≡◌, ℕ, ◌+◌, ◌-◌, ◌<◌, ◌≤◌, ◌⊎◌, List, [], ◌∷◌, ◌++◌, length, take, drop, refl, sym, ap, ◌∙◌, subst, append_assoc, inl, inr, arith}
-use Rattle.std.proofs.lemmas.List.{append-nil, length-append, length-take, take-append-drop}
+use Rattle.std.proofs.lemmas.List.{append-nil, length-append, nil_from_length, take-append-drop}
 use Rattle.line_reader.specs.Newlines.{newlines}
 use Rattle.line_stream.specs.Files.{ShowsEnd, EndsLine, AreWholeLines, IsWholePart, HasNoNewline, IsHalf, EndsInHalf}
 use Rattle.line_stream.specs.Pieces.{IsPlace}
@@ -53,14 +53,10 @@ pub ends_in_half : (bytes buffer shown : List ℕ) (room count : ℕ) {read : �
 ends_in_half bytes buffer shown room count {read} front full within s h =
     shown_half bytes (take read buffer) room count full s (subst (λ t. IsHalf t count) front h)
 
-no_half : (half : List ℕ) → length half ≡ 0 → half ≡ []
-no_half [] none = refl
-no_half (b ∷ half) none = absurd (omega arith)
-
 -- nothing is cut off where there is no half line
 pub part_same : (bytes now : List ℕ) (count : ℕ) → EndsInHalf bytes count → count ≡ 0 → now ≡ bytes → IsWholePart bytes now
 part_same bytes now count e none same =
-    let closed : e.half ≡ [] = no_half e.half (e.long ∙ none) in
+    let closed : e.half ≡ [] = nil_from_length e.half (e.long ∙ none) in
     let left : bytes ≡ e.left = e.parts ∙ ap (λ t. e.left ++ t) closed ∙ append-nil e.left in
     let short : count < 1024 = omega (arith, none) in
     subst (IsWholePart bytes) (sym (same ∙ left))

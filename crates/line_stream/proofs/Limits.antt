@@ -2,6 +2,7 @@
 use Rattle.std.proofs.Common.{◌≡◌, ℕ, ◌≤◌, ◌<◌, Bool, true, false, List, length, take, refl, sym, ap, ◌∙◌, subst, arith}
 use Rattle.std.specs.Prelude.{◌||◌, nat_lt}
 use Rattle.std.specs.Str.Lines.{lines}
+use Rattle.std.proofs.lemmas.Bool.{or_parts}
 use Rattle.std.proofs.lemmas.Bool.Decides.{nat_tests}
 use Rattle.std.proofs.lemmas.List.{take_all, length-take}
 use Rattle.line_reader.specs.Lines.{ended_lines, is_over, whole_lines, all_lines}
@@ -13,20 +14,16 @@ use Rattle.line_teller.specs.Ending.{AreFirst, EndsLines}
 use Rattle.line_stream.specs.Streams.{EndsStream}
 use Rattle.line_stream.specs.Laws.{StreamsAreLines}
 
-no_or : (a b : Bool) → (a || b) ≡ false → (a ≡ false) × (b ≡ false)
-no_or true b is = absurd cc
-no_or false b is = (refl, is)
-
 few_bytes : (bytes : List ℕ) → is_over bytes ≡ false → length bytes ≤ 67108864
 unfolding is_over
 few_bytes bytes within =
-    let test = (no_or (nat_lt 67108864 (length bytes)) (nat_lt 131072 (length (lines bytes))) within).0 in
+    let test = (or_parts (nat_lt 67108864 (length bytes)) (nat_lt 131072 (length (lines bytes))) within).0 in
     grind (arith, nat_tests)
 
 few_lines : (bytes : List ℕ) → is_over bytes ≡ false → length (lines bytes) ≤ 131072
 unfolding is_over
 few_lines bytes within =
-    let test = (no_or (nat_lt 67108864 (length bytes)) (nat_lt 131072 (length (lines bytes))) within).1 in
+    let test = (or_parts (nat_lt 67108864 (length bytes)) (nat_lt 131072 (length (lines bytes))) within).1 in
     grind (arith, nat_tests)
 
 whole_within : (bytes : List ℕ) → length bytes ≤ 67108864 → length (lines bytes) ≤ 131072 → ended_lines bytes ≡ whole_lines bytes

@@ -1,7 +1,7 @@
 -- A read, and a whole stream.
 use Rattle.std.proofs.Common.{◌≡◌, ◌≢◌, ℕ, ◌+◌, ◌-◌, ◌^◌, ◌<◌, ◌≤◌, Bool, List, [], ◌∷◌, ◌++◌, length, take, drop, refl, sym, ap, ◌∙◌, subst, arith}
 use Rattle.std.specs.Prelude.{IsTrue}
-use Rattle.std.proofs.lemmas.List.{append-nil, length-append, length-take-le}
+use Rattle.std.proofs.lemmas.List.{append-nil, length-append, length-take-le, nil_from_length}
 use Rattle.outer_io.specs.Bytes.{Moves}
 use Rattle.outer_io.specs.Shown.{Change, SourceShown, SinkShown}
 use Rattle.line_teller.specs.declared.ending.LinesEnd.{LinesEnd}
@@ -17,65 +17,52 @@ some_taken buffer count within some = let all : length (take count buffer) ≡ c
 pub more_taken : (taken taken' front : List ℕ) → taken' ≡ taken ++ front → 0 < length front → length taken < length taken'
 more_taken taken taken' front back some = let all : length taken' ≡ length taken + length front = ap length back ∙ length-append taken front in omega arith
 
-both_empty : (front left : List ℕ) → front ++ left ≡ [] → left ≡ []
-both_empty [] left is = is
-both_empty (b ∷ front) left is = absurd cc
-
 -- nothing is left where the source was at its end
-pub nothing_left : (bytes taken left taken' left' : List ℕ) → Moves bytes taken left taken' left' → left ≡ [] → left' ≡ []
-nothing_left bytes taken left taken' left' moves none = both_empty bytes left' (sym moves.front ∙ none)
+pub nothing_left : {bytes taken left taken' left' : List ℕ} → Moves bytes taken left taken' left' → left ≡ [] → left' ≡ []
+nothing_left {bytes} {left'} moves none =
+    let all = length-append bytes left' in
+    let closed = ap length (sym moves.front ∙ none) in
+    nil_from_length left' (omega arith)
 
 module _ {T : Type 0} (tells : T → ℕ → List ℕ → List ℕ → List ℕ → T → Type 0) where
-  pub last_read : (bytes buffer left : List ℕ) (count : ℕ) (begun : Open) (t t' : T) (end : LinesEnd) (out_tells notes_tell : Bool)
-      (out notes : Change SinkShown) → count ≡ 0 → left ≡ []
+  pub last_read : (buffer : List ℕ) {bytes left : List ℕ} {count : ℕ} {begun : Open} {t t' : T} {end : LinesEnd} {out_tells notes_tell : Bool}
+      {out notes : Change SinkShown} → count ≡ 0 → left ≡ []
       → EndsRead tells bytes bytes [] begun t t' end out_tells out notes_tell notes
       → EndsRead tells bytes (bytes ++ take count buffer) left begun t t' end out_tells out notes_tell notes
-  last_read bytes buffer left count begun t t' end out_tells notes_tell out notes none closed ended =
-      let same : bytes ≡ bytes ++ take count buffer = sym (ap (λ n. bytes ++ take n buffer) none ∙ append-nil bytes) in
-      subst (λ l. EndsRead tells bytes (bytes ++ take count buffer) l begun t t' end out_tells out notes_tell notes) (sym closed)
-      (subst (λ b. EndsRead tells bytes b [] begun t t' end out_tells out notes_tell notes) same ended)
+  last_read buffer {bytes} none closed ended = rw (closed, none, append-nil bytes) ended
 
-  pub goes_front : (bytes front read : List ℕ) (o0 o1 : Open) (t t' : T) (out_tells notes_tell : Bool) (out notes : Change SinkShown)
+  pub goes_front : {bytes front read : List ℕ} {o0 o1 : Open} {t t' : T} {out_tells notes_tell : Bool} {out notes : Change SinkShown}
       → front ≡ read
       → Goes tells bytes (bytes ++ front) o0 o1 t t' out_tells out notes_tell notes
       → Goes tells bytes (bytes ++ read) o0 o1 t t' out_tells out notes_tell notes
-  goes_front bytes front read o0 o1 t t' out_tells notes_tell out notes is g =
-      subst (λ f. Goes tells bytes (bytes ++ f) o0 o1 t t' out_tells out notes_tell notes) is g
+  goes_front is g = rw (← is) g
 
-  pub stops_front : (bytes front read left : List ℕ) (o0 : Open) (t t' : T) (end : LinesEnd) (out_tells notes_tell : Bool)
-      (out notes : Change SinkShown) → front ≡ read
+  pub stops_front : {bytes front read left : List ℕ} {o0 : Open} {t t' : T} {end : LinesEnd} {out_tells notes_tell : Bool}
+      {out notes : Change SinkShown} → front ≡ read
       → Stops tells bytes (bytes ++ front) o0 t t' end out_tells out notes_tell notes
       → EndsRead tells bytes (bytes ++ read) left o0 t t' end out_tells out notes_tell notes
-  stops_front bytes front read left o0 t t' end out_tells notes_tell out notes is stop =
-      subst (λ f. EndsRead tells bytes (bytes ++ f) left o0 t t' end out_tells out notes_tell notes) is
-      (stop_read tells bytes (bytes ++ front) left o0 t t' end out_tells notes_tell out notes stop)
+  stops_front is stop = rw (← is) (stop_read tells stop)
 
   -- by what the source took
-  pub goes_taken : (bytes front bytes' : List ℕ) (o0 o1 : Open) (t t' : T) (out_tells notes_tell : Bool) (out notes : Change SinkShown)
+  pub goes_taken : (front : List ℕ) {bytes bytes' : List ℕ} {o0 o1 : Open} {t t' : T} {out_tells notes_tell : Bool} {out notes : Change SinkShown}
       → bytes' ≡ bytes ++ front
       → Goes tells bytes (bytes ++ front) o0 o1 t t' out_tells out notes_tell notes
       → Goes tells bytes bytes' o0 o1 t t' out_tells out notes_tell notes
-  goes_taken bytes front bytes' o0 o1 t t' out_tells notes_tell out notes is g =
-      subst (λ b. Goes tells bytes b o0 o1 t t' out_tells out notes_tell notes) (sym is) g
+  goes_taken front is g = rw is g
 
-  pub ends_taken : (bytes front bytes' left : List ℕ) (o0 : Open) (t t' : T) (end : LinesEnd) (out_tells notes_tell : Bool)
-      (out notes : Change SinkShown) → bytes' ≡ bytes ++ front
+  pub ends_taken : (front : List ℕ) {bytes bytes' left : List ℕ} {o0 : Open} {t t' : T} {end : LinesEnd} {out_tells notes_tell : Bool}
+      {out notes : Change SinkShown} → bytes' ≡ bytes ++ front
       → EndsRead tells bytes (bytes ++ front) left o0 t t' end out_tells out notes_tell notes
       → EndsRead tells bytes bytes' left o0 t t' end out_tells out notes_tell notes
-  ends_taken bytes front bytes' left o0 t t' end out_tells notes_tell out notes is ended =
-      subst (λ b. EndsRead tells bytes b left o0 t t' end out_tells out notes_tell notes) (sym is) ended
+  ends_taken front is ended = rw is ended
 
-  pub ends_failed : (bytes bytes' left : List ℕ) (o0 : Open) (t : T) (out_tells notes_tell : Bool) (a x : SinkShown)
+  pub ends_failed : {bytes bytes' left : List ℕ} {o0 : Open} {t : T} {out_tells notes_tell : Bool} {a x : SinkShown}
       → bytes' ≡ bytes ++ []
       → EndsRead tells bytes bytes' left o0 t t ends.Read out_tells (record { before = a; now = a }) notes_tell
       (record { before = x; now = x })
-  ends_failed bytes bytes' left o0 t out_tells notes_tell a x is =
-      subst (λ b. EndsRead tells bytes b left o0 t t ends.Read out_tells (record { before = a; now = a }) notes_tell
-      (record { before = x; now = x })) (sym (is ∙ append-nil bytes)) (ends_unread tells bytes left o0 t out_tells notes_tell a x)
+  ends_failed {bytes} is = rw (is, append-nil bytes) (ends_unread tells)
 
   -- before the first read
-  pub goes_fresh : (bytes : List ℕ) (begun : Open) (t : T) (out_tells notes_tell : Bool) (a x : SinkShown) → bytes ≡ [] → StandsAt [] begun
+  pub goes_fresh : {bytes : List ℕ} {begun : Open} {t : T} {out_tells notes_tell : Bool} {a x : SinkShown} → bytes ≡ [] → StandsAt [] begun
       → Goes tells [] bytes begun begun t t out_tells (record { before = a; now = a }) notes_tell (record { before = x; now = x })
-  goes_fresh bytes begun t out_tells notes_tell a x none s =
-      subst (λ b. Goes tells [] b begun begun t t out_tells (record { before = a; now = a }) notes_tell (record { before = x; now = x }))
-      (sym none) (goes_none tells [] begun t out_tells notes_tell a x s)
+  goes_fresh none s = rw none (goes_none tells s)

@@ -181,13 +181,13 @@ module _ {T : Type 0} (tells : T → ℕ → List ℕ → List ℕ → List ℕ 
       }
 
   -- the open line, with more behind it, is one whose text isn't written, or that isn't told
-  pub open_stops : {bytes piece rest : List ℕ} {old mid : Open} {number : ℕ} {t t' : T} {end : LinesEnd} {out_tells notes_tell : Bool}
+  pub open_stops : (rest : List ℕ) {bytes piece : List ℕ} {old mid : Open} {number : ℕ} {t t' : T} {end : LinesEnd} {out_tells notes_tell : Bool}
       {out notes : Change SinkShown}
       → Adds old piece mid → number ≡ mid.finished + 1
       → ((line : List ℕ) → Keeps mid line → StopsAtLine tells number (told_line true line) t t' end out_tells out notes_tell notes)
       → StandsAt bytes old
       → Stops tells bytes (bytes ++ (piece ++ 10 ∷ rest)) old t t' end out_tells out notes_tell notes
-  open_stops {bytes} {piece} {rest} {old} {t} {t'} {end} {out_tells} {notes_tell} {out} {notes} adds next told s =
+  open_stops rest {bytes} {piece} {old} {t} {t'} {end} {out_tells} {notes_tell} {out} {notes} adds next told s =
       let line : List ℕ = strip_carriage_return (s.line ++ piece) in
       let stop = told (s.line ++ piece) (adds.kept s.line s.keeps) in
       record {
@@ -201,11 +201,11 @@ module _ {T : Type 0} (tells : T → ℕ → List ℕ → List ℕ → List ℕ 
       }
 
   -- no more is told, with whatever bytes behind
-  quiet_stop : (all : List (List ℕ)) {bytes more : List ℕ} {old : Open} {t t' : T} {end : LinesEnd} {out_tells notes_tell : Bool} {a x : SinkShown}
+  quiet_stop : (all : List (List ℕ)) (more : List ℕ) {bytes : List ℕ} {old : Open} {t t' : T} {end : LinesEnd} {out_tells notes_tell : Bool} {a x : SinkShown}
       → ended_lines (bytes ++ more) ≡ ended_lines bytes ++ all → IsTrue (is_stop end) → (IsTrue (is_whole end) → t ≡ t')
       → (end ≡ ends.Cut → 2 ^ 64 - 1 ≤ old.finished) → StandsAt bytes old
       → Stops tells bytes (bytes ++ more) old t t' end out_tells (record { before = a; now = a }) notes_tell (record { before = x; now = x })
-  quiet_stop all {bytes} {more} {old} {end} is stop same many s = record {
+  quiet_stop all more {bytes} {old} {end} is stop same many s = record {
     lines = [];
     stops = stop;
     first = subst (λ ls. AreFirst ls (ended_lines (bytes ++ more))) (sym (append-nil (ended_lines bytes)))
@@ -214,28 +214,28 @@ module _ {T : Type 0} (tells : T → ℕ → List ℕ → List ℕ → List ℕ 
     told = none_last end same;
   }
 
-  quiet_line : {bytes piece rest : List ℕ} {old : Open} {t t' : T} {end : LinesEnd} {out_tells notes_tell : Bool} {a x : SinkShown}
+  quiet_line : (piece rest : List ℕ) {bytes : List ℕ} {old : Open} {t t' : T} {end : LinesEnd} {out_tells notes_tell : Bool} {a x : SinkShown}
       → newlines piece ≡ 0 → IsTrue (is_stop end) → (IsTrue (is_whole end) → t ≡ t') → (end ≡ ends.Cut → 2 ^ 64 - 1 ≤ old.finished)
       → StandsAt bytes old
       → Stops tells bytes (bytes ++ (piece ++ 10 ∷ rest)) old t t' end out_tells (record { before = a; now = a }) notes_tell
       (record { before = x; now = x })
-  quiet_line {bytes} {piece} {rest} {old} none stop same many s =
-      quiet_stop (strip_carriage_return (s.line ++ piece) ∷ [] ++ ended_lines rest)
+  quiet_line piece rest {bytes} {old} none stop same many s =
+      quiet_stop (strip_carriage_return (s.line ++ piece) ∷ [] ++ ended_lines rest) (piece ++ 10 ∷ rest)
       (ended_after bytes piece rest old s none
       ∙ append_assoc (ended_lines bytes) (strip_carriage_return (s.line ++ piece) ∷ []) (ended_lines rest))
       stop same many s
 
-  pub line_memory : {bytes piece rest : List ℕ} {old : Open} {t t' : T} {end : LinesEnd} {out_tells notes_tell : Bool} {a x : SinkShown}
+  pub line_memory : (piece rest : List ℕ) {bytes : List ℕ} {old : Open} {t t' : T} {end : LinesEnd} {out_tells notes_tell : Bool} {a x : SinkShown}
       → newlines piece ≡ 0 → end ≡ ends.Memory → StandsAt bytes old
       → Stops tells bytes (bytes ++ (piece ++ 10 ∷ rest)) old t t' end out_tells (record { before = a; now = a }) notes_tell
       (record { before = x; now = x })
-  line_memory none is s = rw is (quiet_line {end = ends.Memory} none refl (λ on. absurd cc) (λ cut. absurd cc) s)
+  line_memory piece rest none is s = rw is (quiet_line piece rest none refl (λ on. absurd cc) (λ cut. absurd cc) s)
 
-  pub open_cut : {bytes piece rest : List ℕ} {old mid : Open} {t : T} {out_tells notes_tell : Bool} {a x : SinkShown}
+  pub open_cut : (rest : List ℕ) {bytes piece : List ℕ} {old mid : Open} {t : T} {out_tells notes_tell : Bool} {a x : SinkShown}
       → Adds old piece mid → 2 ^ 64 - 1 ≤ mid.finished → StandsAt bytes old
       → Stops tells bytes (bytes ++ (piece ++ 10 ∷ rest)) old t t ends.Cut out_tells (record { before = a; now = a }) notes_tell
       (record { before = x; now = x })
-  open_cut adds many s = quiet_line adds.alone refl (λ on. refl) (λ cut. omega (arith, adds.same, many)) s
+  open_cut rest {piece} adds many s = quiet_line piece rest adds.alone refl (λ on. refl) (λ cut. omega (arith, adds.same, many)) s
 
   -- ---- bytes of a read, one after another
 
@@ -270,9 +270,9 @@ module _ {T : Type 0} (tells : T → ℕ → List ℕ → List ℕ → List ℕ 
   }
 
   -- the number of the line behind those that were finished in between
-  next_number : {bytes bytes' : List ℕ} {old new : Open} {xs : List (List ℕ)} → StandsAt bytes old → StandsAt bytes' new
+  next_number : {bytes bytes' : List ℕ} {old new : Open} (xs : List (List ℕ)) → StandsAt bytes old → StandsAt bytes' new
       → ended_lines bytes' ≡ ended_lines bytes ++ xs → new.finished + 1 ≡ (old.finished + 1) + length xs
-  next_number {bytes} {bytes'} {old} {new} {xs} s s' more =
+  next_number {bytes} {bytes'} {old} {new} xs s s' more =
       omega (arith, count_at bytes' new s', ap length more, length-append (ended_lines bytes) xs, count_at bytes old s)
 
   pub goes_then : {b0 b1 b2 : List ℕ} {o0 o1 o2 : Open} {t t' t'' : T} {out_tells notes_tell : Bool} {a b c x y z : SinkShown}
@@ -287,7 +287,7 @@ module _ {T : Type 0} (tells : T → ℕ → List ℕ → List ℕ → List ℕ 
       text = g.told.text ++ h.told.text;
       note = g.told.note ++ h.told.note;
       told = told_then tells (o0.finished + 1) (o1.finished + 1) t t' t'' g.lines h.lines g.told.text h.told.text g.told.note h.told.note
-          (next_number s g.stands g.more) g.told.told h.told.told;
+          (next_number g.lines s g.stands g.more) g.told.told h.told.told;
       written = λ on. both g.told.text h.told.text a.written b.written c.written (g.told.written on) (h.told.written on);
       noted = λ on. noted_then x y z g.told.note h.told.note one two (g.told.noted on) (h.told.noted on);
     };
@@ -305,7 +305,7 @@ module _ {T : Type 0} (tells : T → ℕ → List ℕ → List ℕ → List ℕ 
     first = subst (λ ls. AreFirst ls (ended_lines b2))
         (ap (λ ls. ls ++ h.lines) g.more ∙ append_assoc (ended_lines b0) g.lines h.lines) h.first;
     many = h.many;
-    told = last_then (next_number s g.stands g.more) one two g.told h.told;
+    told = last_then (next_number g.lines s g.stands g.more) one two g.told h.told;
   }
 
   -- ---- the end of a stream
@@ -391,11 +391,11 @@ module _ {T : Type 0} (tells : T → ℕ → List ℕ → List ℕ → List ℕ 
 
   -- ---- a whole stream
 
-  stream_told : {source : SourceShown} {o0 : Open} {t t' : T} {ls : List (List ℕ)} {end : LinesEnd} {out_tells notes_tell : Bool}
+  stream_told : (o0 : Open) {source : SourceShown} {t t' : T} {ls : List (List ℕ)} {end : LinesEnd} {out_tells notes_tell : Bool}
       {out notes : Change SinkShown} → o0.finished ≡ 0 → EndsStream end source.taken source.left ls
       → TellsLast tells (o0.finished + 1) t t' ls end out_tells out notes_tell notes
       → StreamEnded tells t t' end source out_tells out notes_tell notes
-  stream_told {t} {ls} fresh ends told = record {
+  stream_told o0 {t} {ls} fresh ends told = record {
     lines = ls;
     text = told.text;
     note = told.note;
@@ -415,8 +415,8 @@ module _ {T : Type 0} (tells : T → ℕ → List ℕ → List ℕ → List ℕ 
       (record { before = y; now = z })
       → StreamEnded tells t t'' end source out_tells (record { before = a; now = c }) notes_tell (record { before = x; now = z })
   stream_ends {source} {o0} {end} one two fresh s g h =
-      stream_told {o0 = o0} fresh (subst (λ ls. EndsStream end source.taken source.left (ls ++ h.lines)) g.more h.lines_are)
-      (last_then (next_number s g.stands g.more) one two g.told h.told)
+      stream_told o0 fresh (subst (λ ls. EndsStream end source.taken source.left (ls ++ h.lines)) g.more h.lines_are)
+      (last_then (next_number g.lines s g.stands g.more) one two g.told h.told)
 
   -- the count of reads is at its end
   pub stream_cut : {source : SourceShown} {o0 o1 : Open} {t t' : T} {out_tells notes_tell : Bool} {out notes : Change SinkShown}
@@ -426,7 +426,7 @@ module _ {T : Type 0} (tells : T → ℕ → List ℕ → List ℕ → List ℕ 
   stream_cut {source} {o0} fresh many g =
       let all : List (List ℕ) = ended_lines source.taken in
       let first = ended_first all source.taken (first_by all [] all (sym (append-nil all))) in
-      stream_told {o0 = o0} fresh (many, subst (λ ls. AreFirst ls (lines source.taken)) g.more first) (last_told ends.Cut refl g.told)
+      stream_told o0 fresh (many, subst (λ ls. AreFirst ls (lines source.taken)) g.more first) (last_told ends.Cut refl g.told)
 
   -- ---- the pieces of a read
 
@@ -444,12 +444,12 @@ module _ {T : Type 0} (tells : T → ℕ → List ℕ → List ℕ → List ℕ 
       (append_assoc bytes (take at read) (piece ++ 10 ∷ []) ∙ ap (λ bs. bytes ++ bs) (ap (λ q. take at read ++ (q ++ 10 ∷ [])) is ∙ sym p.taken))
       (goes_then one two s g (h (bytes ++ take at read) g.stands))
 
-  pub goes_rest : {bytes read rest : List ℕ} {at : ℕ} {o0 o1 o2 : Open} {t t' : T} {out_tells notes_tell : Bool} {out notes : Change SinkShown}
+  pub goes_rest : (read : List ℕ) (at : ℕ) {bytes rest : List ℕ} {o0 o1 o2 : Open} {t t' : T} {out_tells notes_tell : Bool} {out notes : Change SinkShown}
       → rest ≡ drop at read → newlines (drop at read) ≡ 0 → o2.finished ≡ o1.finished
       → ((line : List ℕ) → Keeps o1 line → Keeps o2 (line ++ rest))
       → Goes tells bytes (bytes ++ take at read) o0 o1 t t' out_tells out notes_tell notes
       → Goes tells bytes (bytes ++ read) o0 o2 t t' out_tells out notes_tell notes
-  goes_rest {bytes} {read} {at} {o1} {o2} is none same kept g =
+  goes_rest read at {bytes} {o1} {o2} is none same kept g =
       let first : List ℕ = bytes ++ take at read in
       let whole : first ++ drop at read ≡ bytes ++ read =
       append_assoc bytes (take at read) (drop at read) ∙ ap (λ bs. bytes ++ bs) (take-append-drop at read) in
@@ -475,16 +475,16 @@ module _ {T : Type 0} (tells : T → ℕ → List ℕ → List ℕ → List ℕ 
       (append_assoc bytes (take at read) (piece ++ 10 ∷ p.rest) ∙ ap (λ bs. bytes ++ bs) (ap (λ q. take at read ++ (q ++ 10 ∷ p.rest)) is ∙ sym p.whole))
       (stops_then one two s g (h (bytes ++ take at read) p.rest g.stands))
 
-  pub stops_rest : {bytes read : List ℕ} {at : ℕ} {o0 o1 : Open} {t t' t'' : T} {out_tells notes_tell : Bool} {a b x y : SinkShown}
+  pub stops_rest : (read : List ℕ) (at : ℕ) {bytes : List ℕ} {o0 o1 : Open} {t t' t'' : T} {out_tells notes_tell : Bool} {a b x y : SinkShown}
       → x.faults ≤ y.faults → newlines (drop at read) ≡ 0 → StandsAt bytes o0
       → Goes tells bytes (bytes ++ take at read) o0 o1 t t' out_tells (record { before = a; now = b }) notes_tell
       (record { before = x; now = y })
       → Stops tells bytes (bytes ++ read) o0 t t'' ends.Memory out_tells (record { before = a; now = b }) notes_tell
       (record { before = x; now = y })
-  stops_rest {bytes} {read} {at} {o0} {o1} {t} {t''} {out_tells} {notes_tell} {a} {b} {x} {y} one none s g =
+  stops_rest read at {bytes} {o0} {o1} {t} {t''} {out_tells} {notes_tell} {a} {b} {x} {y} one none s g =
       let first : List ℕ = bytes ++ take at read in
       subst (λ bs. Stops tells bytes bs o0 t t'' ends.Memory out_tells (record { before = a; now = b }) notes_tell (record { before = x; now = y }))
       (append_assoc bytes (take at read) (drop at read) ∙ ap (λ bs. bytes ++ bs) (take-append-drop at read))
-      (stops_then one (omega arith) s g (quiet_stop []
+      (stops_then one (omega arith) s g (quiet_stop [] (drop at read)
       (added_ended first (drop at read) o1 g.stands none ∙ sym (append-nil (ended_lines first)))
       refl (λ on. absurd cc) (λ cut. absurd cc) g.stands))

@@ -16,6 +16,7 @@ use Rattle.line_teller.specs.declared.ending.LinesEnd.{LinesEnd}
 use Rattle.line_teller.specs.declared.ending.LinesEnd.TheVariants as ends
 use Rattle.line_teller.specs.Telling.{TellsFirst, AreTold}
 use Rattle.line_teller.specs.Ending.{AreFirst, EndsLines, EndsText, IsNoted, IsEndOf, is_whole, Ended, HearsLine}
+use Rattle.line_teller.proofs.Keeping.{poured_whole}
 use Rattle.line_teller.specs.Standing.{Pours, PoursMore, Steps, TellsOne, EndsStep, Stands}
 
 -- ---- what the reader gives
@@ -265,15 +266,13 @@ module _ {T : Type 0} (tells : T → ℕ → List ℕ → List ℕ → List ℕ 
       {sheet sheet' : List ℕ} {notes_tell : Bool} {notes : Change SinkShown} → sheet ≡ [] → sheet' ≡ []
       → Steps tells number old new lines lines' out_tells out sheet sheet' notes_tell notes
       → TellsOne tells number old new lines lines' out_tells out notes_tell notes
-  one_told_alone {number} {old} {new} {lines} {lines'} {out_tells} {out} {notes_tell} {notes} nothing empty step =
+  one_told_alone {number} {old} {new} {lines} {lines'} {out_tells} {out} {sheet'} {notes_tell} {notes} nothing empty step =
       by step.lines step.one step.told step.more
     where
       written_is : IsTrue out_tells → out.now.written ≡ out.before.written ++ step.text
       written_is on =
-          let poured = step.poured on in
-          let whole : step.text ≡ poured.gone =
-          sym (ap (λ t. t ++ step.text) nothing) ∙ poured.sheet_is ∙ ap (λ t. poured.gone ++ t) empty ∙ append-nil poured.gone in
-          poured.written_is ∙ ap (λ t. out.before.written ++ t) (sym whole)
+          poured_whole out.before.written step.text out.now.written sheet'
+          (subst (λ waits. PoursMore step.text out.before.written waits out.now.written sheet') nothing (step.poured on)) empty
 
       by : (xs : List (List ℕ)) → length xs ≡ 1 → AreTold tells number old xs step.text step.note new → lines' ≡ lines ++ xs
           → TellsOne tells number old new lines lines' out_tells out notes_tell notes

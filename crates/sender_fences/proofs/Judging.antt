@@ -1,6 +1,7 @@
 -- The answers as relations.
 use Rattle.std.proofs.Common.{ℕ, ◌≡◌, ◌≢◌, ◌+◌, ◌<◌, ◌≤◌, ◌==◌, Bool, true, false, cond, arith, inl, inr, refl, sym, ap, ◌∙◌}
 use Rattle.std.specs.Prelude.{◌↔◌, ◌⊎◌, nat_lt, nat_le, ◌&&◌, ◌||◌}
+use Rattle.std.proofs.lemmas.Bool.{cases_order}
 use Rattle.std.proofs.lemmas.Bool.Decides.{nat_tests}
 use Rattle.sender_fences.specs.declared.fence.Numbered.{Numbered}
 use Rattle.sender_fences.specs.declared.fence.Fence.{Fence}
@@ -54,17 +55,17 @@ next_beyond f m next beyond = grind arith
 past_beyond : (f : Fence) (m : Numbered) → IsPast f m → IsBeyond f m → ⊥
 past_beyond f m past beyond = grind arith
 
-beyond_by : (a b c : Bool) (e n d k : ℕ) → (e == d) ≡ a → nat_lt d e ≡ b → (n == 1) ≡ c
-    → ((((e ≡ d) × (n ≡ k + 1)) ⊎ ((d < e) × (n ≡ 1))) → ⊥) → (((e < d) ⊎ ((e ≡ d) × (n ≤ k))) → ⊥)
-    → ((e ≡ d) × (k + 1 < n)) ⊎ ((d < e) × (n ≢ 1))
-beyond_by true b c e n d k h1 h2 h3 next past =
-    let same : e ≡ d = grind (arith, nat_tests) in
-    let apart : n ≢ k + 1 = λ x. next (inl (same, x)) in
-    let above : n ≤ k → ⊥ = λ x. past (inr (same, x)) in
-    inl (same, grind (arith, apart, above))
-beyond_by false true true e n d k h1 h2 h3 next past = absurd (next (inr (grind (arith, nat_tests), grind (arith, nat_tests))))
-beyond_by false true false e n d k h1 h2 h3 next past = inr (grind (arith, nat_tests), grind (arith, nat_tests))
-beyond_by false false c e n d k h1 h2 h3 next past = absurd (past (inl (grind (arith, nat_tests))))
+-- what is neither the next one nor before it is behind it
+leaves : (f : Fence) (m : Numbered) → (IsNext f m → ⊥) → (IsPast f m → ⊥) → IsBeyond f m
+leaves f m next past = elim (cases_order m.epoch f.epoch) [
+  | inl same ↦ elim (cases_order m.number (f.number + 1)) [
+    | inl is ↦ absurd (next (inl (same, is)))
+    | inr (inl below) ↦ absurd (past (inr (same, omega arith)))
+    | inr (inr above) ↦ inl (same, above)
+  ]
+  | inr (inl below) ↦ absurd (past (inl below))
+  | inr (inr above) ↦ inr (above, λ first. next (inr (above, first)))
+]
 
 -- what is answered, by what the message is
 pub data Judged (f : Fence) (m : Numbered) : Type 0 where
@@ -77,8 +78,7 @@ unfolding answer_of
 judged_by true b f m n p = Follows (next_is f m n) (rw n refl) n
 judged_by false true f m n p = Came (past_is f m p) (rw (n, p) refl) n
 judged_by false false f m n p =
-    Leaves (beyond_by (m.epoch == f.epoch) (nat_lt f.epoch m.epoch) (m.number == 1) m.epoch m.number f.epoch f.number refl refl refl
-    (λ next. let no : true ≡ false = sym (is_next_is f m next) ∙ n in cc)
+    Leaves (leaves f m (λ next. let no : true ≡ false = sym (is_next_is f m next) ∙ n in cc)
     (λ past. let no : true ≡ false = sym (is_past_is f m past) ∙ p in cc)) (rw (n, p) refl) n
 
 pub judged : (f : Fence) (m : Numbered) → Judged f m

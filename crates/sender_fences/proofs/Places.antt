@@ -63,11 +63,14 @@ module _ {K : Type 0} (items : K → List ℕ) (name : List ℕ) (m : Numbered) 
   -- ---- the call, over senders that are kept by these entries
 
   module _ (es : List (K × Fence)) (now : List Sender) (view : kept es ≡ now) where
+    here : fence_of name now ≡ lookup is_own es
+    here = ap (fence_of name) (sym view) ∙ fence_is es
+
     pub known_is : (known : Bool) → known ≡ is_some (lookup is_own es) → known ≡ is_some (fence_of name now)
-    known_is known is = is ∙ sym (ap (λ (o : Option Fence). is_some o) (ap (fence_of name) (sym view) ∙ fence_is es))
+    known_is known is = is ∙ sym (ap (λ (o : Option Fence). is_some o) here)
 
     pub unknown : fence_of name now ≡ None → lookup is_own es ≡ None
-    unknown none = sym (fence_is es) ∙ ap (fence_of name) view ∙ none
+    unknown none = sym here ∙ none
 
     no_fence : false ≡ is_some (lookup is_own es) → lookup is_own es ≡ None
     no_fence none = by (lookup is_own es) none
@@ -78,8 +81,7 @@ module _ {K : Type 0} (items : K → List ℕ) (name : List ℕ) (m : Numbered) 
 
     pub none_answered : false ≡ is_some (lookup is_own es) → Unknown ≡ answer_in now name m
     unfolding answer_in
-    none_answered none =
-        sym (ap (λ (o : Option Fence). answer_by o m) (ap (fence_of name) (sym view) ∙ fence_is es ∙ no_fence none))
+    none_answered none = sym (ap (λ (o : Option Fence). answer_by o m) (here ∙ no_fence none))
 
     pub none_passed : false ≡ is_some (lookup is_own es) → now ≡ passed_in now name m
     none_passed none = subst (λ (ss : List Sender). ss ≡ passed_in ss name m) view (none_stays es (no_fence none))
@@ -87,8 +89,7 @@ module _ {K : Type 0} (items : K → List ℕ) (name : List ℕ) (m : Numbered) 
     pub one_answered : (i : ℕ) (f : Fence) → slice_get (values_of es) i ≡ Some f → slice_get (values_of es) i ≡ lookup is_own es
         → (a : Answer) → a ≡ answer_of f m → a ≡ answer_in now name m
     unfolding answer_in
-    one_answered i f at found a is =
-        is ∙ sym (ap (λ (o : Option Fence). answer_by o m) (ap (fence_of name) (sym view) ∙ fence_is es ∙ sym found ∙ at))
+    one_answered i f at found a is = is ∙ sym (ap (λ (o : Option Fence). answer_by o m) (here ∙ sym found ∙ at))
 
     pub one_passed : (i : ℕ) (f g : Fence) → Some i ≡ position is_own (keys_of es) → slice_get (values_of es) i ≡ Some f
         → g ≡ passed f m → kept (set_value_at es i g) ≡ passed_in now name m

@@ -5,21 +5,21 @@ use Rattle.line_stream.proofs.streaming.tell_last.Goals as goal
 
 pub returns-then-is_empty-clause-ended : goal.returns-then-is_empty-clause-ended
 returns-then-is_empty-clause-ended g c = λ bytes s.
-    ends_closed g.T.StreamTeller.tells bytes _ _ _ _ _ _ (λ line keeps. (c.is_empty.ensures line keeps).0 c.if-is_empty.true) s
+    ends_closed g.T.StreamTeller.tells (λ line keeps. (c.is_empty.ensures line keeps).0 c.if-is_empty.true) s
 
 pub returns-in_default-clause-ended : goal.returns-in_default-clause-ended
 returns-in_default-clause-ended g c = λ bytes s.
-    ends_cut g.T.StreamTeller.tells bytes _ _ _ _ _ _ c.in_default.ensures s
+    ends_cut g.T.StreamTeller.tells c.in_default.ensures s
 
 pub returns-in-Ok-clause-ended : goal.returns-in-Ok-clause-ended
 returns-in-Ok-clause-ended g c = λ bytes s.
-    ends_last g.T.StreamTeller.tells bytes _ _ _ _ _ _ _ _
+    ends_last g.T.StreamTeller.tells
     (λ line keeps none. let no_way : true ≡ false = sym ((c.is_empty.ensures line keeps).1 none) ∙ c.if-is_empty.false in cc)
     c.in-Some.ensures c.in-Ok.ensures.told s
 
 pub returns-in-Err-clause-ended : goal.returns-in-Err-clause-ended
 returns-in-Err-clause-ended g c = λ bytes s.
-    ends_in_last g.T.StreamTeller.tells bytes _ _ _ _ _ _ _ _ _
+    ends_in_last g.T.StreamTeller.tells
     (λ line keeps none. let no_way : true ≡ false = sym ((c.is_empty.ensures line keeps).1 none) ∙ c.if-is_empty.false in cc)
     c.in-Some.ensures c.in-Err.ensures.ended s
 

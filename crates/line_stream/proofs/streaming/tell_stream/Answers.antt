@@ -15,7 +15,7 @@ reads-init g c =
       room = refl;
       stands = stands;
       fresh = rw c.new-begun.ensures refl;
-      goes = λ tells. goes_fresh g.T.StreamTeller.tells _ _ _ _ _ _ _ (c.requires.fresh tells) stands;
+      goes = λ tells. goes_fresh g.T.StreamTeller.tells (c.requires.fresh tells) stands;
       counted = λ tells. omega arith;
       later = omega arith;
       later_out = omega arith;
@@ -32,7 +32,7 @@ reads-preserved g c = record {
   stands = c.reads.invariant.stands;
   fresh = c.reads.invariant.fresh;
   goes = λ tells.
-      goes_then g.T.StreamTeller.tells _ _ _ _ _ _ _ _ _ _ _ _ _ _ _ _ _ c.reads.invariant.later_notes c.tell_read.ensures.later_notes
+      goes_then g.T.StreamTeller.tells c.reads.invariant.later_notes c.tell_read.ensures.later_notes
       c.reads.invariant.stands (c.reads.invariant.goes tells)
       (c.in_default-tell_read.ensures.told tells ((c.reads.invariant.goes tells).stands));
   counted = λ tells. omega (arith, c.reads.invariant.counted tells, c.in_default-tell_read.ensures.more tells, c.in-Some.ensures.0);
@@ -44,11 +44,11 @@ reads-preserved g c = record {
 
 pub returns-in-Err-clause-ended : goal.returns-in-Err-clause-ended
 returns-in-Err-clause-ended g c = λ tells.
-    stream_ends g.T.StreamTeller.tells _ _ _ _ _ _ _ _ _ _ _ _ _ _ _ _ c.reads.invariant.later_notes c.tell_read.ensures.later_notes
+    stream_ends g.T.StreamTeller.tells c.reads.invariant.later_notes c.tell_read.ensures.later_notes
     c.reads.invariant.fresh c.reads.invariant.stands (c.reads.invariant.goes tells)
     (c.in-Err.ensures.ended tells ((c.reads.invariant.goes tells).stands))
 
 pub returns-in_default-clause-ended : goal.returns-in_default-clause-ended
 returns-in_default-clause-ended g c = λ tells.
-    stream_cut g.T.StreamTeller.tells _ _ _ _ _ _ _ _ _ c.reads.invariant.fresh
+    stream_cut g.T.StreamTeller.tells c.reads.invariant.fresh
     (omega (arith, c.reads.invariant.counted tells, c.in_default.ensures)) (c.reads.invariant.goes tells)

@@ -1,3 +1,4 @@
+-- The sender is unknown, or its fence passes the message.
 use Rattle.sender_fences.proofs.Places.{none_answered, none_passed, one_answered, one_passed}
 use Rattle.sender_fences.proofs.Fronts.{stands_more}
 use Rattle.sender_fences.proofs.senders.Senders.accept.Goals as goal
@@ -15,8 +16,7 @@ returns-in_default-clause-after c =
 pub returns-in_default-clause-stands : goal.returns-in_default-clause-stands
 returns-in_default-clause-stands c = λ told first before content s n.
     stands_more told first before (record { sender = c.args.name.now; message = c.args.message.now; content = content }) c.args.self.now _
-    (none_passed (λ k. k.items) c.args.name.now c.args.message.now c.self.inside.fences.entries c.args.self.now c.self.view_is
-    c.in_default.ensures.found) s n
+    (returns-in_default-clause-after c) s n
 
 pub returns-clause-answer : goal.returns-clause-answer
 returns-clause-answer c =
@@ -31,5 +31,4 @@ returns-clause-after c =
 pub returns-clause-stands : goal.returns-clause-stands
 returns-clause-stands c = λ told first before content s n.
     stands_more told first before (record { sender = c.args.name.now; message = c.args.message.now; content = content }) c.args.self.now _
-    (one_passed (λ k. k.items) c.args.name.now c.args.message.now c.self.inside.fences.entries c.args.self.now c.self.view_is
-    c.in-Some.place c.index.result.now c.accept-answer.new.self c.in-Some.ensures.index c.index.ensures c.accept-answer.ensures.after) s n
+    (returns-clause-after c) s n
