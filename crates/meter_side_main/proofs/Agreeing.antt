@@ -11,24 +11,16 @@ pub agreeing-nil : (ys : List ℕ) → agreeing [] ys ≡ 0
 unfolding agreeing
 agreeing-nil ys = refl
 
--- up to the first place at which they differ
-pub agreeing_until : (want have : List ℕ) (p : ℕ) → p < length want → length want ≤ length have
+-- up to the first place at which they differ, or to the end of the first
+pub agreeing_to : (want have : List ℕ) (p : ℕ) → p ≤ length want → length want ≤ length have
     → ((k : ℕ) → k < p → get_or want k 0 ≡ get_or have k 0)
-    → get_or want p 0 ≢ get_or have p 0 → agreeing want have ≡ p
-agreeing_until [] have p h long same other = absurd (omega arith)
-agreeing_until (x ∷ xs) [] p h long same other = absurd (omega arith)
-agreeing_until (x ∷ xs) (y ∷ ys) zero h long same other = agreeing-cases x y xs ys false (ne_eqb x y other)
-agreeing_until (x ∷ xs) (y ∷ ys) (suc p) h long same other =
-    let rest : agreeing xs ys ≡ p = agreeing_until xs ys p (omega arith) (omega arith) (λ k l. same (suc k) (omega arith)) other in
-    agreeing-cases x y xs ys true (eq-eqb x y (same zero (omega arith))) ∙ omega (arith, rest)
-
--- to the end of the first
-pub agreeing_all : (want have : List ℕ) → length want ≤ length have → ((k : ℕ) → k < length want → get_or want k 0 ≡ get_or have k 0)
-    → agreeing want have ≡ length want
-agreeing_all [] have long same = agreeing-nil have
-agreeing_all (x ∷ xs) [] long same = absurd (omega arith)
-agreeing_all (x ∷ xs) (y ∷ ys) long same =
-    let rest : agreeing xs ys ≡ length xs = agreeing_all xs ys (omega arith) (λ k l. same (suc k) (omega arith)) in
+    → (p < length want → get_or want p 0 ≢ get_or have p 0) → agreeing want have ≡ p
+agreeing_to [] have p h long same other = agreeing-nil have ∙ omega (arith, h)
+agreeing_to (x ∷ xs) [] p h long same other = absurd (omega arith)
+agreeing_to (x ∷ xs) (y ∷ ys) zero h long same other = agreeing-cases x y xs ys false (ne_eqb x y (other (omega arith)))
+agreeing_to (x ∷ xs) (y ∷ ys) (suc p) h long same other =
+    let rest : agreeing xs ys ≡ p =
+    agreeing_to xs ys p (omega arith) (omega arith) (λ k l. same (suc k) (omega arith)) (λ l. other (omega arith)) in
     agreeing-cases x y xs ys true (eq-eqb x y (same zero (omega arith))) ∙ omega (arith, rest)
 
 agreeing-end : (x : ℕ) (xs : List ℕ) → agreeing (x ∷ xs) [] ≡ 0

@@ -1,6 +1,6 @@
 -- What passes all but the comparison of its counter is genuine, and no other is.
 use Rattle.std.proofs.Common.{◌≡◌, ℕ, zero, suc, ◌+◌, ◌-◌, ◌*◌, ◌%◌, ◌^◌, ◌<◌, ◌≤◌, ◌==◌, ◌&&◌, Bool, true, false, cond, leb, eqb, List, [], ◌∷◌, ◌++◌, length, take, drop, get_or, replicate, Result, Ok, Err, refl, sym, ap, ap₂, ◌∙◌, subst, arith}
-use Rattle.std.proofs.lemmas.Bool.{and_parts, eqb-true, leb-true}
+use Rattle.std.proofs.lemmas.Bool.{and_from, and_parts, eq-eqb, eqb-true, le-leb, leb-true}
 use Rattle.std.proofs.lemmas.List.{append_assoc, append-nil, take-append-drop, length-take, length-drop}
 use Rattle.std.proofs.lemmas.List.Elements.{All-head, All-tail, All-take, All-drop}
 use Rattle.std.proofs.lemmas.Slice.Eq.{bytes_eq-Decides}
@@ -197,14 +197,9 @@ told_is_genuine own c bytes e hk hb h =
 -- ---- what is genuine
 
 pub length_of_blocks : (n : ℕ) → 1 ≤ n → n ≤ 6 → is_length (40 + 16 * n) ≡ true
-length_of_blocks zero a b = absurd (omega arith)
-length_of_blocks (suc zero) a b = refl
-length_of_blocks (suc (suc zero)) a b = refl
-length_of_blocks (suc (suc (suc zero))) a b = refl
-length_of_blocks (suc (suc (suc (suc zero)))) a b = refl
-length_of_blocks (suc (suc (suc (suc (suc zero))))) a b = refl
-length_of_blocks (suc (suc (suc (suc (suc (suc zero)))))) a b = refl
-length_of_blocks (suc (suc (suc (suc (suc (suc (suc n))))))) a b = absurd (omega arith)
+length_of_blocks n a b =
+    and_from _ _ (and_from _ _ (le-leb 56 (40 + 16 * n) (omega arith)) (le-leb (40 + 16 * n) 136 (omega arith)))
+    (eq-eqb ((40 + 16 * n - 40) % 16) 0 (omega arith))
 
 -- each check is passed
 told_by : (own : Address) (c : Commissioned) (bytes t content : List ℕ) (down : ℕ) → decoded_a bytes ≡ Ok t

@@ -1,8 +1,8 @@
 -- One line more.
-use Rattle.std.proofs.Common.{◌≡◌, ℕ, ◌<◌, ◌&&◌, ◌==◌, Bool, true, false, cond, List, [], ◌∷◌, ◌++◌, length, Option, None, IsTrue, refl, sym, ap, ap₂, ◌∙◌, subst, arith}
+use Rattle.std.proofs.Common.{◌≡◌, ℕ, ◌<◌, ◌&&◌, ◌==◌, Bool, List, [], ◌∷◌, ◌++◌, length, None, IsTrue, refl, sym, ap, ap₂, ◌∙◌, subst, arith}
 use Rattle.std.specs.Result.{result_ok}
 use Rattle.std.specs.List.{flat_map}
-use Rattle.std.proofs.lemmas.Bool.{lt-ltb}
+use Rattle.std.proofs.lemmas.Bool.{cond_both, cond-true, lt-ltb}
 use Rattle.std.proofs.lemmas.List.{flat_map_more}
 use Rattle.hex.specs.Hex.{decode_of}
 use Rattle.meter_address.specs.declared.address.Address.{Address}
@@ -16,17 +16,13 @@ use Rattle.meter_side_main.specs.Answers.{answers_to, last_after_all}
 use Rattle.meter_side_main.specs.Session.{HearsNext, HasHeard, HasAnswered}
 
 -- a line that is too long delivers nothing
-none_if : (b : Bool) (o : Option (List ℕ)) → o ≡ None → cond b o None ≡ None
-none_if true o is = is
-none_if false o is = refl
-
 pub long_line : (line : List ℕ) → 582 < length line → delivery_in line ≡ None
 unfolding delivery_in bytes_in
 long_line [] long = refl
 long_line (first ∷ []) long = refl
 long_line (first ∷ second ∷ digits) long =
-    none_if (first == 68 && second == 32) _
-    (ap (λ (test : Bool). cond test None (result_ok (decode_of digits))) (lt-ltb 580 (length digits) (omega arith)))
+    cond_both (first == 68 && second == 32) _ None (λ o. o ≡ None)
+    (λ _. cond-true _ None (result_ok (decode_of digits)) (lt-ltb 580 (length digits) (omega arith))) (λ _. refl)
 
 -- ---- a line is heard behind the others
 

@@ -18,7 +18,7 @@ use Rattle.meter_side_main.specs.declared.reason.SideReason.TheVariants.{Frame, 
 use Rattle.meter_side_main.specs.declared.reason.Did.TheVariants as did
 use Rattle.meter_side_main.specs.Reading.{blocks_in, mac_in, parts_with, layout_of, agreeing, mac_due, decrypted, framed, is_length, told, did_with, did_after}
 use Rattle.meter_side_main.specs.Refusals.{HasBlocks, IsFirstOther, IsLaidOut, IsRefusal, RefusedExactly}
-use Rattle.meter_side_main.proofs.Agreeing.{agreed, agreeing-append, agreeing_until, agreeing-cases, agreeing-nil}
+use Rattle.meter_side_main.proofs.Agreeing.{agreed, agreeing-append, agreeing_to, agreeing-cases, agreeing-nil}
 use Rattle.downlink_maker.specs.Parts.{layers_before}
 use Rattle.downlink_maker.proofs.Parts.{length-layers_before}
 use Rattle.lists.specs.Steps.{◌>>=◌}
@@ -59,9 +59,9 @@ first_other (x ∷ xs) (y ∷ ys) long h = by_test (eqb x y) (λ g. first_other 
 
 first_other_is : (want have : List ℕ) (place : ℕ) → length want ≤ length have → IsFirstOther want have place → agreeing want have ≡ place
 first_other_is want have place long h =
-    agreeing_until want have place h.within long
+    agreeing_to want have place (omega (arith, h.within)) long
     (λ k l. sym (get_or-take place want k 0 l) ∙ ap (λ (x : List ℕ). get_or x k 0) h.before ∙ get_or-take place have k 0 l)
-    h.other
+    (λ l. h.other)
 
 -- ---- L
 

@@ -1,5 +1,5 @@
 -- What is promised of a run.
-use Rattle.std.proofs.Common.{◌≡◌, ℕ, ◌⊎◌, Bool, true, false, List, [], ◌∷◌, ◌++◌, length, Option, Some, None, is_some, Result, Ok, Err, is_err, OnOk, OnErr, IsTrue, refl, sym, ap, ap₂, ◌∙◌, subst, inl, inr, append-nil}
+use Rattle.std.proofs.Common.{◌≡◌, ℕ, ◌⊎◌, Bool, true, false, List, [], ◌∷◌, ◌++◌, length, Some, None, is_some, Result, Ok, Err, is_err, OnOk, OnErr, IsTrue, refl, sym, ap, ap₂, ◌∙◌, subst, inl, inr, append-nil}
 use Rattle.aes_block.specs.Block.{IsBlock}
 use Rattle.line_reader.specs.Lines.{is_over}
 use Rattle.meter_address.specs.declared.address.Address.{Address}
@@ -12,8 +12,8 @@ use Rattle.state_file.specs.Whole.{Known, state_of}
 use Rattle.state_file.specs.declared.fault.StateFault.{StateFault}
 use Rattle.state_file.specs.declared.fault.StateFault.TheVariants as faults
 use Rattle.meter_side_main.specs.declared.lines.Answer.{Answer}
-use Rattle.meter_side_main.specs.declared.session.Ended.{Ended}
-use Rattle.meter_side_main.specs.declared.session.Ended.TheVariants.{End, Cut, Fault}
+use Rattle.meter_side_main.specs.declared.session.DeliveriesEnd.{DeliveriesEnd}
+use Rattle.meter_side_main.specs.declared.session.DeliveriesEnd.TheVariants.{End, Cut, Fault}
 use Rattle.meter_side_main.specs.declared.status.SideStatus.{SideStatus}
 use Rattle.meter_side_main.specs.declared.status.SideStatus.TheVariants as statuses
 use Rattle.meter_side_main.specs.declared.top.Meter.{Meter}
@@ -38,13 +38,13 @@ three_words (a ∷ b ∷ c ∷ d ∷ more) h = absurd cc
 
 -- ---- what hearing came to
 
-status_is : (ended : Ended) (failed : Bool) → IsStatusOf ended (status_at ended failed)
+status_is : (ended : DeliveriesEnd) (failed : Bool) → IsStatusOf ended (status_at ended failed)
 status_is End false = inl refl
 status_is End true = inr refl
 status_is Cut failed = refl
 status_is Fault failed = refl
 
-done_is_written : (ended : Ended) (failed : Bool) → status_at ended failed ≡ statuses.Done → failed ≡ false
+done_is_written : (ended : DeliveriesEnd) (failed : Bool) → status_at ended failed ≡ statuses.Done → failed ≡ false
 done_is_written End false e = refl
 done_is_written End true e = absurd cc
 done_is_written Cut failed e = absurd cc
@@ -55,7 +55,7 @@ abbrev sink_of : Filed → SinkShown
 sink_of p = record { written = p.written; faults = p.faults }
 
 -- the paper over the output, which was empty, was finished, and a write failed or none did
-module _ (own : Address) (c : Commissioned) (tx : Change SourceShown) (tells : Bool) (a b : Filed) (ended : Ended)
+module _ (own : Address) (c : Commissioned) (tx : Change SourceShown) (tells : Bool) (a b : Filed) (ended : DeliveriesEnd)
     (lines : List (List ℕ)) (answers : List Answer) (key : IsBlock c.key) (ends : EndsSo ended tx.now.taken tx.now.left lines)
     (answered : answers ≡ answers_to own c c.down lines) (empty : IsTrue tells → a.written ≡ [])
     (d : Finished tells a (side_text c answers) b) where
@@ -95,7 +95,7 @@ module _ (tells : Bool) (tx : Change SourceShown) (out : Change SinkShown) (line
   over_before : EndsSo Cut tx.now.taken tx.now.left lines → IsTrue tells → is_over tx.before.left ≡ true
   over_before ends t = ap is_over (sym (all_bytes tx (fresh t) (kept t))) ∙ ends.source_over
 
-  pub heard_for : (ended : Ended) (failed : Bool) → (IsTrue tells → EndsSo ended tx.now.taken tx.now.left lines)
+  pub heard_for : (ended : DeliveriesEnd) (failed : Bool) → (IsTrue tells → EndsSo ended tx.now.taken tx.now.left lines)
       → (ended ≡ Fault → ReadFailed tx) → (failed ≡ true → WriteFailed out)
       → IsHeardFor tells tx out (status_at ended failed)
   heard_for End false ends broken unwritten =
@@ -157,31 +157,16 @@ data Came (run : Run) (s : SideStatus) : Type 0 where
 
 -- ---- all of it
 
-some_none : {A : Type 0} (o : Option A) (a : A) → o ≡ Some a → o ≡ None → ⊥
-some_none o a s n = absurd cc
-
-ok_err : (r : Result Known StateFault) (x : Known) (e : StateFault) → r ≡ Ok x → r ≡ Err e → ⊥
-ok_err r x e o f = absurd cc
-
-abbrev no_state : StateFault → Result Known StateFault
-no_state fault = Err fault
-
-abbrev a_state : Known → Result Known StateFault
-a_state known = Ok known
-
--- a text has one first fault
-one_fault : (r : Result Known StateFault) (e f : StateFault) → r ≡ Err e → r ≡ Err f → e ≡ f
-one_fault r e f is other = let both : no_state e ≡ no_state f = sym is ∙ other in cc
-
 -- the words and the state name one meter, which is there or isn't
 one_meter : (run : Run) (a b : Address) (x y : Known) (m : Commissioned) → Names run a x → Names run b y → meter_with a x.starts ≡ Some m
     → meter_with b y.starts ≡ None → ⊥
 one_meter run a b x y m n o found missing =
-    let both : Some a ≡ Some b = sym n.named ∙ o.named in
+    let named : Some a ≡ Some b = sym n.named ∙ o.named in
+    let known : Ok x ≡ state_of run.beginning.before.left = sym n.known_is in
+    let other : state_of run.beginning.before.left ≡ Ok y = o.known_is in
     let address : a ≡ b = cc in
-    let states : a_state x ≡ a_state y = sym n.known_is ∙ o.known_is in
-    let known : x ≡ y = cc in
-    some_none (meter_with a x.starts) m found (ap₂ (λ (k : Address) (e : Known). meter_with k e.starts) address known ∙ missing)
+    let same : x ≡ y = cc in
+    absurd (let none = ap₂ (λ (k : Address) (e : Known). meter_with k e.starts) address same ∙ missing in cc)
 
 module _ (run : Run) (headline : IsTrue (was_heard run.status) → IsTrue run.sources_tell → Headline run) (cause : IsCausedBy run run.status)
     (tells : IsTrue run.sources_tell) where
@@ -199,23 +184,23 @@ module _ (run : Run) (headline : IsTrue (was_heard run.status) → IsTrue run.so
 
   beginning_by : (a : Address) (fault : StateFault) → address_in run.words ≡ Some a → state_of run.beginning.before.left ≡ Err fault
       → Came run run.status → IsUnlessUnread (status_of fault) run.status
-  beginning_by a fault named bad (Wordless none) = absurd (some_none (address_in run.words) a named none)
+  beginning_by a fault named bad (Wordless none) = cc (named, none)
   beginning_by a fault named bad (Faulty other is same) =
-      inl (same ∙ ap status_of (one_fault (state_of run.beginning.before.left) other fault is bad))
-  beginning_by a fault named bad (Missing u is) = absurd (ok_err (state_of run.beginning.before.left) u.known fault u.names.known_is bad)
+      let first : other ≡ fault = cc (is, bad) in inl (same ∙ ap status_of first)
+  beginning_by a fault named bad (Missing u is) = cc (u.names.known_is, bad)
   beginning_by a fault named bad (Unread read is) = inr (inl is)
   beginning_by a fault named bad (NoMemory is) = inr (inr is)
-  beginning_by a fault named bad (Heard h) = absurd (ok_err (state_of run.beginning.before.left) h.known fault h.names.known_is bad)
+  beginning_by a fault named bad (Heard h) = cc (h.names.known_is, bad)
 
   meter_by : IsUncommissioned run → Came run run.status → IsUnlessUnread statuses.Uncommissioned run.status
-  meter_by u (Wordless none) = absurd (some_none (address_in run.words) u.address u.names.named none)
-  meter_by u (Faulty fault bad is) = absurd (ok_err (state_of run.beginning.before.left) u.known fault u.names.known_is bad)
+  meter_by u (Wordless none) = cc (u.names.named, none)
+  meter_by u (Faulty fault bad is) = cc (u.names.known_is, bad)
   meter_by u (Missing v is) = inl is
   meter_by u (Unread read is) = inr (inl is)
   meter_by u (NoMemory is) = inr (inr is)
   meter_by u (Heard h) = absurd (one_meter run h.address u.address h.known u.known h.meter h.names u.names h.commissioned u.missing)
 
-  done_by : IsFaultless run → (ended : Ended) → IsStatusOf ended run.status → (run.status ≡ statuses.Done) ⊎ (run.status ≡ statuses.Memory)
+  done_by : IsFaultless run → (ended : DeliveriesEnd) → IsStatusOf ended run.status → (run.status ≡ statuses.Done) ⊎ (run.status ≡ statuses.Memory)
   done_by f End (inl done) = inl done
   done_by f End (inr wrote) = absurd (f.out_steady (subst (λ (s : SideStatus). IsCausedBy run s) wrote cause))
   done_by f Cut is =
@@ -225,8 +210,8 @@ module _ (run : Run) (headline : IsTrue (was_heard run.status) → IsTrue run.so
   done_by f Fault is = absurd (f.tx_steady (subst (λ (s : SideStatus). IsCausedBy run s) is cause))
 
   complete_by : IsFaultless run → Came run run.status → (run.status ≡ statuses.Done) ⊎ (run.status ≡ statuses.Memory)
-  complete_by f (Wordless none) = absurd (some_none (address_in run.words) f.address f.names.named none)
-  complete_by f (Faulty fault bad is) = absurd (ok_err (state_of run.beginning.before.left) f.known fault f.names.known_is bad)
+  complete_by f (Wordless none) = cc (f.names.named, none)
+  complete_by f (Faulty fault bad is) = cc (f.names.known_is, bad)
   complete_by f (Missing u is) =
       absurd (one_meter run f.address u.address f.known u.known f.meter f.names u.names f.commissioned u.missing)
   complete_by f (Unread read is) = absurd (f.beginning_steady read)
@@ -234,7 +219,7 @@ module _ (run : Run) (headline : IsTrue (was_heard run.status) → IsTrue run.so
   complete_by f (Heard h) = done_by f h.hears.ended h.hears.status_is
 
   -- what was heard to its end is within the limits
-  cut_heard : run.tx.before.taken ≡ [] → LosesNothing run.tx → is_over run.tx.before.left ≡ true → (ended : Ended) (lines : List (List ℕ))
+  cut_heard : run.tx.before.taken ≡ [] → LosesNothing run.tx → is_over run.tx.before.left ≡ true → (ended : DeliveriesEnd) (lines : List (List ℕ))
       → EndsSo ended run.tx.now.taken run.tx.now.left lines → IsStatusOf ended run.status → IsCut run.status
   cut_heard fresh kept over End lines ends is =
       let read = read_out run.tx kept ends.nothing_left in
@@ -245,8 +230,8 @@ module _ (run : Run) (headline : IsTrue (was_heard run.status) → IsTrue run.so
   cut_heard fresh kept over Fault lines ends is = inr (inl is)
 
   cut_by : run.tx.before.taken ≡ [] → LosesNothing run.tx → IsTooLong run → Came run run.status → IsCut run.status
-  cut_by fresh kept l (Wordless none) = absurd (some_none (address_in run.words) l.address l.names.named none)
-  cut_by fresh kept l (Faulty fault bad is) = absurd (ok_err (state_of run.beginning.before.left) l.known fault l.names.known_is bad)
+  cut_by fresh kept l (Wordless none) = cc (l.names.named, none)
+  cut_by fresh kept l (Faulty fault bad is) = cc (l.names.known_is, bad)
   cut_by fresh kept l (Missing u is) =
       absurd (one_meter run l.address u.address l.known u.known l.meter l.names u.names l.commissioned u.missing)
   cut_by fresh kept l (Unread read is) = inr (inr (inl is))

@@ -10,8 +10,8 @@ use Rattle.state_file.specs.Whole.{Known, state_of}
 use Rattle.state_file.specs.declared.fault.StateFault.{StateFault}
 use Rattle.state_file.specs.declared.fault.StateFault.TheVariants as faults
 use Rattle.meter_side_main.specs.declared.lines.Answer.{Answer}
-use Rattle.meter_side_main.specs.declared.session.Ended.{Ended}
-use Rattle.meter_side_main.specs.declared.session.Ended.TheVariants as ends
+use Rattle.meter_side_main.specs.declared.session.DeliveriesEnd.{DeliveriesEnd}
+use Rattle.meter_side_main.specs.declared.session.DeliveriesEnd.TheVariants as ends
 use Rattle.meter_side_main.specs.declared.status.SideStatus.{SideStatus}
 use Rattle.meter_side_main.specs.declared.status.SideStatus.TheVariants as statuses
 use Rattle.meter_side_main.specs.Genuine.{AreExecuted}
@@ -47,7 +47,7 @@ pub record Names (run : Run) (a : Address) (known : Known) : Type 0 where
   pub known_is : state_of run.beginning.before.left ≡ Ok known
 
 -- the status where the source of deliveries ended so
-abbrev pub IsStatusOf : Ended → SideStatus → Type 0
+abbrev pub IsStatusOf : DeliveriesEnd → SideStatus → Type 0
 IsStatusOf ends.End status = (status ≡ statuses.Done) ⊎ (status ≡ statuses.Write)
 IsStatusOf ends.Cut status = status ≡ statuses.Cut
 IsStatusOf ends.Fault status = status ≡ statuses.Read
@@ -56,7 +56,7 @@ IsStatusOf ends.Fault status = status ≡ statuses.Read
 -- and above all that was executed before, and what is refused is so for its first cause
 pub record Hears (own : Address) (meter : Commissioned) (tx : Change SourceShown) (sinks_tell : Bool) (out : Change SinkShown)
     (status : SideStatus) : Type 0 where
-  pub ended : Ended
+  pub ended : DeliveriesEnd
   pub lines : List (List ℕ)
   pub answers : List Answer
   pub status_is : IsStatusOf ended status

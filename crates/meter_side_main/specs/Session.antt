@@ -6,15 +6,15 @@ use Rattle.meter_address.specs.declared.address.Address.{Address}
 use Rattle.meter_address.specs.Commission.{Commissioned}
 use Rattle.paper.specs.Puts.{Puts}
 use Rattle.meter_side_main.specs.declared.lines.Answer.{Answer}
-use Rattle.meter_side_main.specs.declared.session.Ended.{Ended}
-use Rattle.meter_side_main.specs.declared.session.Ended.TheVariants.{End, Cut, Fault}
+use Rattle.meter_side_main.specs.declared.session.DeliveriesEnd.{DeliveriesEnd}
+use Rattle.meter_side_main.specs.declared.session.DeliveriesEnd.TheVariants.{End, Cut, Fault}
 use Rattle.meter_side_main.specs.Lines.{delivery_in, answer_of, answer_text}
 use Rattle.meter_side_main.specs.Listening.{Listening}
 use Rattle.meter_side_main.specs.Answers.{answers_to, last_after_all, side_text}
 
 -- the source ended so, and these are the lines that were heard: an unfinished last one too where it ended within its limits, and else
 -- the whole ones
-abbrev pub EndsSo : Ended → (taken left : List ℕ) → List (List ℕ) → Type 0
+abbrev pub EndsSo : DeliveriesEnd → (taken left : List ℕ) → List (List ℕ) → Type 0
 EndsSo End taken left lines = IsAtEnd taken left lines
 EndsSo Cut taken left lines = IsPastLimit taken left lines
 EndsSo Fault taken left lines = IsBrokenOff taken lines

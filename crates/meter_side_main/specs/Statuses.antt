@@ -4,8 +4,8 @@ use Rattle.state_file.specs.declared.fault.StateFault.{StateFault}
 use Rattle.state_file.specs.declared.fault.StateFault.TheVariants as faults
 use Rattle.state_file.specs.declared.load.StateLoadFault.{StateLoadFault}
 use Rattle.state_file.specs.declared.load.StateLoadFault.TheVariants as loads
-use Rattle.meter_side_main.specs.declared.session.Ended.{Ended}
-use Rattle.meter_side_main.specs.declared.session.Ended.TheVariants as ends
+use Rattle.meter_side_main.specs.declared.session.DeliveriesEnd.{DeliveriesEnd}
+use Rattle.meter_side_main.specs.declared.session.DeliveriesEnd.TheVariants as ends
 use Rattle.meter_side_main.specs.declared.status.SideStatus.{SideStatus}
 use Rattle.meter_side_main.specs.declared.status.SideStatus.TheVariants as statuses
 
@@ -31,7 +31,7 @@ was_heard statuses.Write = true
 was_heard _ = false
 
 -- the status where the source of deliveries ended so, and a write failed or none did: an end that is no `End` comes before the write
-abbrev pub status_at : Ended → Bool → SideStatus
+abbrev pub status_at : DeliveriesEnd → Bool → SideStatus
 status_at ends.Cut failed = statuses.Cut
 status_at ends.Fault failed = statuses.Read
 status_at ends.End true = statuses.Write

@@ -22,7 +22,7 @@ pub use laws::{
 };
 pub use lines::{Answer, LINE_MAX};
 pub use reason::{Did, SideReason};
-pub use session::Ended;
+pub use session::DeliveriesEnd;
 pub use side::MeterSide;
 pub use status::SideStatus;
 pub use top::{meter_run, names_meter};

@@ -4,7 +4,7 @@ ghost use Rattle.aes_block.specs.Block.{IsBlock};
 ghost use Rattle.line_reader.specs.Reader.{given};
 ghost use Rattle.outer_io.specs.Faults.{Rose};
 ghost use Rattle.outer_io.specs.Shown.{ReadFailed, LosesNothing, source_change};
-ghost use Rattle.meter_side_main.specs.declared.session.Ended.{Ended};
+ghost use Rattle.meter_side_main.specs.declared.session.DeliveriesEnd.{DeliveriesEnd};
 ghost use Rattle.meter_side_main.specs.Lines.{last_by};
 ghost use Rattle.meter_side_main.specs.Session.{EndsSo, HearsNext, HasAnswered};
 
@@ -18,7 +18,7 @@ use paper::{Paper, Printed};
 
 /// How a source of deliveries ended.
 #[derive(Clone, Copy, Debug, PartialEq, Eq)]
-pub enum Ended {
+pub enum DeliveriesEnd {
     /// At its end.
     End,
     /// It goes on behind the most lines or bytes.
@@ -28,7 +28,10 @@ pub enum Ended {
 }
 
 // Hears the next line and answers what is answered to it, or how the lines end.
-fn hear_next<S: Source>(tx: &mut TextReader<S>, listener: &mut Listener) -> Result<Answer, Ended>
+fn hear_next<S: Source>(
+    tx: &mut TextReader<S>,
+    listener: &mut Listener,
+) -> Result<Answer, DeliveriesEnd>
     requires goes_on { tx.old.reader.done ≡ false }
     requires longest { tx.old.longest ≡ 582 }
     ensures longest { tx.new.longest ≡ 582 }
@@ -41,7 +44,7 @@ fn hear_next<S: Source>(tx: &mut TextReader<S>, listener: &mut Listener) -> Resu
     ensures no_line { OnErr result (IsTrue S.tells → given S.taken tx.new.reader ≡ given S.taken tx.old.reader) }
     ensures ends { IfErr result (λ ended. IsTrue S.tells →
         EndsSo ended (S.taken tx.new.reader.source) (S.left tx.new.reader.source) (given S.taken tx.new.reader)) }
-    ensures failed { result ≡ Err Ended.Fault → Rose (S.faults tx.old.reader.source) (S.faults tx.new.reader.source) }
+    ensures failed { result ≡ Err DeliveriesEnd.Fault → Rose (S.faults tx.old.reader.source) (S.faults tx.new.reader.source) }
     ensures later { S.faults tx.old.reader.source ≤ S.faults tx.new.reader.source }
     ensures bytes { IsTrue S.tells → S.taken tx.new.reader.source ++ S.left tx.new.reader.source
         ≡ S.taken tx.old.reader.source ++ S.left tx.old.reader.source }
@@ -49,9 +52,9 @@ fn hear_next<S: Source>(tx: &mut TextReader<S>, listener: &mut Listener) -> Resu
     match tx.next() {
         Ok(NextText::Line) => Ok(hear_line(listener, tx.text())),
         Ok(NextText::TooLong) => Ok(Answer::Bad),
-        Ok(NextText::End) => Err(Ended::End),
-        Ok(NextText::Cut) => Err(Ended::Cut),
-        Err(_) => Err(Ended::Fault),
+        Ok(NextText::End) => Err(DeliveriesEnd::End),
+        Ok(NextText::Cut) => Err(DeliveriesEnd::Cut),
+        Err(_) => Err(DeliveriesEnd::Fault),
     }
 }
 
@@ -61,14 +64,14 @@ pub(crate) fn hear_source<S: Source, P: Paper>(
     commission: Commission,
     tx: &mut TextReader<S>,
     paper: &mut P,
-) -> Ended
+) -> DeliveriesEnd
     requires fresh { tx.old.reader.line ≡ 0 }
     requires goes_on { tx.old.reader.done ≡ false }
     requires longest { tx.old.longest ≡ 582 }
     ensures told { HasAnswered P.takes S.tells own commission paper.old (given S.taken tx.new.reader) paper.new }
     ensures ends { IsTrue S.tells →
         EndsSo result (S.taken tx.new.reader.source) (S.left tx.new.reader.source) (given S.taken tx.new.reader) }
-    ensures failed { result ≡ Ended.Fault → ReadFailed (source_change S.Source tx.old.reader.source tx.new.reader.source) }
+    ensures failed { result ≡ DeliveriesEnd.Fault → ReadFailed (source_change S.Source tx.old.reader.source tx.new.reader.source) }
     ensures key { IsBlock commission.key }
     ensures no_loss { IsTrue S.tells → LosesNothing (source_change S.Source tx.old.reader.source tx.new.reader.source) }
 {

@@ -6,7 +6,7 @@ ghost use Rattle.meter_side_main.specs.Statuses.{was_heard, status_at, refused_a
 ghost use Rattle.meter_side_main.specs.Run.{address_in, meter_with, IsRun, Hears};
 ghost use Rattle.meter_side_main.specs.Refused.{IsNamed, IsRefused, IsHeardFor};
 
-use crate::session::{Ended, hear_source};
+use crate::session::{DeliveriesEnd, hear_source};
 use crate::status::SideStatus;
 use line_reader::TextReader;
 use meter_address::{Address, Commission};
@@ -94,14 +94,14 @@ fn find_meter<S: Source>(
 }
 
 // The status where the source of deliveries ended so, and a write failed or none did: an end that is no `End` comes before the write.
-fn status_at(ended: Ended, failed: bool) -> SideStatus
+fn status_at(ended: DeliveriesEnd, failed: bool) -> SideStatus
     ensures { result ≡ status_at ended failed }
 {
     match (ended, failed) {
-        (Ended::Cut, _) => SideStatus::Cut,
-        (Ended::Fault, _) => SideStatus::Read,
-        (Ended::End, true) => SideStatus::Write,
-        (Ended::End, false) => SideStatus::Done,
+        (DeliveriesEnd::Cut, _) => SideStatus::Cut,
+        (DeliveriesEnd::Fault, _) => SideStatus::Read,
+        (DeliveriesEnd::End, true) => SideStatus::Write,
+        (DeliveriesEnd::End, false) => SideStatus::Done,
     }
 }
 
