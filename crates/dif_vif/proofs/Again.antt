@@ -54,7 +54,7 @@ not_special dif lvar width wide = not_field dif lvar width 15 wide refl (λ e. o
 not_selection : (dif : ℕ) (lvar : Option ℕ) (width : ℕ) → data_width dif lvar ≡ Some width → dif % 16 ≡ 8 → ⊥
 not_selection dif lvar width wide = not_field dif lvar width 8 wide refl (λ e. omega arith)
 
-pub dif_again : (start dif : ℕ) (rest : List ℕ) → (dif % 16 ≡ 15 → ⊥) → (dif % 16 ≡ 8 → ⊥) → dif_at start (dif ∷ rest) ≡ Ok (dif, rest)
+dif_again : (start dif : ℕ) (rest : List ℕ) → (dif % 16 ≡ 15 → ⊥) → (dif % 16 ≡ 8 → ⊥) → dif_at start (dif ∷ rest) ≡ Ok (dif, rest)
 unfolding dif_at
 dif_again start dif rest not_15 not_8 =
     rw (byte_again start dif rest, ne_eqb (dif % 16) 15 not_15, ne_eqb (dif % 16) 8 not_8) refl

@@ -32,7 +32,6 @@ bytes_reads start count bytes =
 record IsFront (byte room : ℕ) (bytes : List ℕ) (count : ℕ) : Type 0 where
   chain : IsChain byte (take count bytes)
   few : count ≤ room
-  within : count ≤ length bytes
 
 record IsFrontOpen (byte room : ℕ) (bytes : List ℕ) : Type 0 where
   part : List ℕ
@@ -68,11 +67,11 @@ chain_len_reads : (start room byte : ℕ) (bytes : List ℕ)
 unfolding chain_len
 chain_len_reads start room byte [] =
     cond_both (ltb byte 128) _ _ (Reads _ _)
-    (λ last. record { is = record { chain = ltb-true _ _ last; few = omega arith; within = omega arith } })
+    (λ last. record { is = record { chain = ltb-true _ _ last; few = omega arith } })
     (λ open_end. record { is = inl (refl, ltb-false _ _ open_end, omega arith) })
 chain_len_reads start room byte (next ∷ rest) =
     cond_both (ltb byte 128) _ _ (Reads _ _)
-    (λ last. record { is = record { chain = ltb-true _ _ last; few = omega arith; within = omega arith } })
+    (λ last. record { is = record { chain = ltb-true _ _ last; few = omega arith } })
     (λ goes_on. cond_both (eqb room 0) _ _ (Reads _ _)
     (λ full. record {
       is = inr (
@@ -93,7 +92,6 @@ chain_len_reads start room byte (next ∷ rest) =
       is = subst (λ (n : ℕ). IsFront byte room (next ∷ rest) n) (sym (add-one others)) (record {
         chain = (ltb-false _ _ goes_on, t.chain);
         few = omega (arith, t.few, eqb-false _ _ some);
-        within = omega (arith, t.within);
       });
     })))
 

@@ -10,7 +10,7 @@ use Rattle.dif_vif.specs.Spelling.{Dib, Vib, IsPlainText, lvar_width, data_width
 use Rattle.dif_vif.specs.Reading.{byte_at, bytes_at, chain_len, chain_at, dif_at, dib_at, text_at, vib_at, lvar_at, contents_at, record_at}
 use Rattle.dif_vif.specs.Stops.{IsDib, IsVib, IsOpen, IsCut, no_dif, no_dife, no_vif, no_text, short_text, no_vife, no_lvar, short_data, HasEleventh, dife, vife, Stops}
 use Rattle.dif_vif.proofs.Chains.{chain_missing, chain_full, chain_more}
-use Rattle.dif_vif.proofs.Again.{byte_again, dif_again, dib_again, text_again, vib_again, lvar_again}
+use Rattle.dif_vif.proofs.Again.{byte_again, dib_again, text_again, vib_again, lvar_again}
 
 -- ---- extensions
 
@@ -43,10 +43,6 @@ chain_at_eleventh start byte part next rest goes_on full = rw (chain_eleventh st
 
 -- ---- a stage that fails ends the record
 
-from_dib : (start : ℕ) (bytes : List ℕ) (fault : RecordFault) → dib_at start bytes ≡ Err fault → record_at start bytes ≡ Err fault
-unfolding record_at
-from_dib start bytes fault e = rw e refl
-
 from_vib : (start : ℕ) (b : Dib) (rest : List ℕ) (fault : RecordFault) → IsDib b → vib_at start rest ≡ Err fault
     → record_at start (dib_spelling b ++ rest) ≡ Err fault
 unfolding record_at
@@ -59,22 +55,22 @@ from_contents start b v rest fault is_b is_v e = rw (dib_again start b (vib_spel
 
 -- ---- the data information block
 
-dib_empty : (start : ℕ) → dib_at start [] ≡ Err (Truncated start)
-unfolding dib_at dif_at byte_at
+dib_empty : (start : ℕ) → record_at start [] ≡ Err (Truncated start)
+unfolding record_at dib_at dif_at byte_at
 dib_empty start = refl
 
-dib_special : (start dif : ℕ) (rest : List ℕ) → dif % 16 ≡ 15 → dib_at start (dif ∷ rest) ≡ Err (Special dif)
-unfolding dib_at dif_at
-dib_special start dif rest field = rw (byte_again start dif rest, eq-eqb (dif % 16) 15 field) refl
+dib_special : (start dif : ℕ) (rest : List ℕ) → dif % 16 ≡ 15 → record_at start (dif ∷ rest) ≡ Err (Special dif)
+unfolding record_at dib_at dif_at byte_at
+dib_special start dif rest field = rw (eq-eqb (dif % 16) 15 field) refl
 
-dib_selection : (start dif : ℕ) (rest : List ℕ) → dif % 16 ≡ 8 → dib_at start (dif ∷ rest) ≡ Err (Selection start)
-unfolding dib_at dif_at
-dib_selection start dif rest field = rw (byte_again start dif rest, ne_eqb (dif % 16) 15 (λ e. omega arith), eq-eqb (dif % 16) 8 field) refl
+dib_selection : (start dif : ℕ) (rest : List ℕ) → dif % 16 ≡ 8 → record_at start (dif ∷ rest) ≡ Err (Selection start)
+unfolding record_at dib_at dif_at byte_at
+dib_selection start dif rest field = rw (ne_eqb (dif % 16) 15 (λ e. omega arith), eq-eqb (dif % 16) 8 field) refl
 
-dib_chain : (start : ℕ) (b : Dib) (rest : List ℕ) (fault : RecordFault) → (b.dif % 16 ≡ 15 → ⊥) → (b.dif % 16 ≡ 8 → ⊥)
-    → chain_at start b.dif (b.difes ++ rest) ≡ Err fault → dib_at start (dib_spelling b ++ rest) ≡ Err fault
-unfolding dib_at
-dib_chain start b rest fault not_15 not_8 e = rw (dif_again start b.dif (b.difes ++ rest) not_15 not_8, e) refl
+dib_chain : (start dif : ℕ) (rest : List ℕ) (fault : RecordFault) → (dif % 16 ≡ 15 → ⊥) → (dif % 16 ≡ 8 → ⊥)
+    → chain_at start dif rest ≡ Err fault → record_at start (dif ∷ rest) ≡ Err fault
+unfolding record_at dib_at dif_at byte_at
+dib_chain start dif rest fault not_15 not_8 e = rw (ne_eqb (dif % 16) 15 not_15, ne_eqb (dif % 16) 8 not_8, e) refl
 
 -- ---- the value information block
 
@@ -82,25 +78,19 @@ vib_empty : (start : ℕ) → vib_at start [] ≡ Err (Truncated start)
 unfolding vib_at byte_at
 vib_empty start = refl
 
-vib_text : (start vif : ℕ) (rest : List ℕ) (fault : RecordFault) → text_at start vif rest ≡ Err fault
-    → vib_at start (vif ∷ rest) ≡ Err fault
-unfolding vib_at
-vib_text start vif rest fault e = rw (byte_again start vif rest, e) refl
+text_missing : (start vif : ℕ) → vif % 128 ≡ 0x7c → vib_at start (vif ∷ []) ≡ Err (Truncated start)
+unfolding vib_at text_at byte_at
+text_missing start vif plain = rw (eq-eqb (vif % 128) 0x7c plain) refl
+
+text_short : (start vif count : ℕ) (letters : List ℕ) → vif % 128 ≡ 0x7c → length letters < count
+    → vib_at start (vif ∷ count ∷ letters) ≡ Err (Truncated start)
+unfolding vib_at text_at byte_at bytes_at
+text_short start vif count letters plain short = rw (eq-eqb (vif % 128) 0x7c plain, lt-ltb (length letters) count short) refl
 
 vib_chain : (start : ℕ) (v : Vib) (rest : List ℕ) (fault : RecordFault) → IsPlainText v.vif v.text → chain_at start v.vif rest ≡ Err fault
     → vib_at start (v.vif ∷ (v.text ++ rest)) ≡ Err fault
 unfolding vib_at
 vib_chain start v rest fault plain e = rw (byte_again start v.vif (v.text ++ rest), text_again start v.vif v.text rest plain, e) refl
-
-text_missing : (start vif : ℕ) → vif % 128 ≡ 0x7c → text_at start vif [] ≡ Err (Truncated start)
-unfolding text_at byte_at
-text_missing start vif plain = rw (eq-eqb (vif % 128) 0x7c plain) refl
-
-text_short : (start vif count : ℕ) (letters : List ℕ) → vif % 128 ≡ 0x7c → length letters < count
-    → text_at start vif (count ∷ letters) ≡ Err (Truncated start)
-unfolding text_at bytes_at
-text_short start vif count letters plain short =
-    rw (eq-eqb (vif % 128) 0x7c plain, byte_again start count letters, lt-ltb (length letters) count short) refl
 
 -- ---- the data
 
@@ -126,22 +116,17 @@ contents_short start dif lvar sent width wide short =
 -- ---- each cause
 
 cut_stops : (start : ℕ) (bytes : List ℕ) → IsCut bytes → record_at start bytes ≡ Err (Truncated start)
-cut_stops start bytes (no_dif e) = rw e (from_dib start [] (Truncated start) (dib_empty start))
+cut_stops start bytes (no_dif e) = rw e (dib_empty start)
 cut_stops start bytes (no_dife b not_15 not_8 goes_on few e) =
-    let all : b.difes ++ [] ≡ b.difes = append-nil b.difes in
-    let cut : chain_at start b.dif (b.difes ++ []) ≡ Err (Truncated start) =
-    ap (chain_at start b.dif) all ∙ chain_at_open start b.dif b.difes goes_on few in
-    ap (record_at start) (e ∙ sym (append-nil (dib_spelling b)))
-    ∙ from_dib start (dib_spelling b ++ []) (Truncated start) (dib_chain start b [] (Truncated start) not_15 not_8 cut)
+    rw e (dib_chain start b.dif b.difes (Truncated start) not_15 not_8 (chain_at_open start b.dif b.difes goes_on few))
 cut_stops start bytes (no_vif b is e) =
     ap (record_at start) (e ∙ sym (append-nil (dib_spelling b))) ∙ from_vib start b [] (Truncated start) is (vib_empty start)
 cut_stops start bytes (no_text b vif is plain e) =
     ap (record_at start) e
-    ∙ from_vib start b (vif ∷ []) (Truncated start) is (vib_text start vif [] (Truncated start) (text_missing start vif plain))
+    ∙ from_vib start b (vif ∷ []) (Truncated start) is (text_missing start vif plain)
 cut_stops start bytes (short_text b vif count letters is plain short e) =
     ap (record_at start) e
-    ∙ from_vib start b (vif ∷ count ∷ letters) (Truncated start) is
-    (vib_text start vif (count ∷ letters) (Truncated start) (text_short start vif count letters plain short))
+    ∙ from_vib start b (vif ∷ count ∷ letters) (Truncated start) is (text_short start vif count letters plain short)
 cut_stops start bytes (no_vife b v is plain goes_on few e) =
     ap (record_at start) e
     ∙ from_vib start b (vib_spelling v) (Truncated start) is (vib_chain start v v.vifes (Truncated start) plain
@@ -157,9 +142,8 @@ cut_stops start bytes (short_data b v lvar sent width is_b is_v wide short e) =
 
 eleventh_stops : (start : ℕ) (bytes : List ℕ) → HasEleventh bytes → record_at start bytes ≡ Err (TooManyExtensions start)
 eleventh_stops start bytes (dife b next rest not_15 not_8 goes_on full e) =
-    ap (record_at start) e
-    ∙ from_dib start (dib_spelling b ++ next ∷ rest) (TooManyExtensions start)
-    (dib_chain start b (next ∷ rest) (TooManyExtensions start) not_15 not_8 (chain_at_eleventh start b.dif b.difes next rest goes_on full))
+    rw e (dib_chain start b.dif (b.difes ++ next ∷ rest) (TooManyExtensions start) not_15 not_8
+    (chain_at_eleventh start b.dif b.difes next rest goes_on full))
 eleventh_stops start bytes (vife b v next rest is plain goes_on full e) =
     let regrouped : vib_spelling v ++ next ∷ rest ≡ v.vif ∷ (v.text ++ (v.vifes ++ next ∷ rest)) =
     ap (λ (x : List ℕ). v.vif ∷ x) (append_assoc v.text v.vifes (next ∷ rest)) in
@@ -177,6 +161,6 @@ stops_record start bytes (Lvar lvar) s =
     ∙ from_contents start s.dib s.vib (lvar ∷ s.rest) (Lvar lvar) s.is_dib s.is_vib
     (contents_unused start s.dib.dif lvar s.rest s.by_lvar s.unused)
 stops_record start bytes (Selection place) s =
-    rw (s.0, s.2.begins) (from_dib start (s.1 ∷ s.2.rest) (Selection start) (dib_selection start s.1 s.2.rest s.3))
+    rw (s.0, s.2.begins) (dib_selection start s.1 s.2.rest s.3)
 stops_record start bytes (Special dif) s =
-    rw s.0.begins (from_dib start (dif ∷ s.0.rest) (Special dif) (dib_special start dif s.0.rest s.1))
+    rw s.0.begins (dib_special start dif s.0.rest s.1)

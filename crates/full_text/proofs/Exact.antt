@@ -1,15 +1,16 @@
 -- The decimal text of a number is that number.
-use Rattle.std.proofs.Common.{◌≡◌, ℕ, zero, suc, ◌+◌, ◌-◌, ◌*◌, ◌^◌, ◌<◌, ◌≤◌, ◌==◌, Bool, true, false, cond, List, [], ◌∷◌, ◌++◌, length, take, drop, ℤ, refl, sym, ap, ◌∙◌, append_assoc, arith}
+use Rattle.std.proofs.Common.{◌≡◌, ℕ, zero, suc, ◌+◌, ◌-◌, ◌*◌, ◌^◌, ◌<◌, ◌≤◌, ◌==◌, Bool, true, false, cond, List, [], ◌∷◌, ◌++◌, length, take, drop, ℤ, refl, sym, ap, subst, ◌∙◌, inl, inr, append_assoc, arith}
 use Rattle.std.specs.Prelude.{unsigned_abs, int_lt, pos, negsuc, codes, nat_lt}
 use Rattle.std.specs.Fmt.{decimal}
 use Rattle.std.specs.Char.{digit_value}
 use Rattle.std.specs.Str.Parse.{digits_value, digits_value_after}
 use Rattle.std.proofs.Math.Nat.{mul_assoc, pow-succ', zero-mul}
+use Rattle.std.proofs.lemmas.Bool.{cases_Bool, ltb-true, ltb-false}
 use Rattle.std.proofs.lemmas.Bool.Decides.{nat_tests}
 use Rattle.std.proofs.lemmas.Fmt.{decimal_is_IsNumeral_wide}
 use Rattle.std.proofs.lemmas.List.{append-nil, length-append, length-take, length-drop, length-replicate, take-append-drop}
-use Rattle.full_text.specs.Decimals.{zeros, pointed, lengthened, sign_of, decimal_text}
-use Rattle.full_text.specs.DecimalLaw.{behind_point, Writes, DecimalsAreExact}
+use Rattle.full_text.specs.Decimals.{zeros, pointed, lengthened, scaled, sign_of, decimal_text}
+use Rattle.full_text.specs.DecimalLaw.{above, below, behind_point, Writes, DecimalsAreExact}
 
 -- ---- digits behind digits
 
@@ -48,9 +49,9 @@ numeral n small = (decimal_is_IsNumeral_wide n small).1
 some_digits : (n : ℕ) → n < 10 ^ 64 → 0 < length (decimal n)
 some_digits n small = (decimal_is_IsNumeral_wide n small).0.0
 
-inside : (n k : ℕ) (digits text : List ℕ) → digits_value 10 digits ≡ n → 0 < k → k < length digits
-    → text ≡ take (length digits - k) digits ++ codes "." ++ drop (length digits - k) digits → Parts text n k
-inside n k digits text value some within is =
+inside : (n k : ℕ) (digits : List ℕ) → digits_value 10 digits ≡ n → 0 < k → k < length digits
+    → Parts (take (length digits - k) digits ++ codes "." ++ drop (length digits - k) digits) n k
+inside n k digits value some within =
     let left = take (length digits - k) digits in
     let right = drop (length digits - k) digits in
     let long : length right ≡ k = omega (arith, length-drop (length digits - k) digits) in
@@ -58,15 +59,15 @@ inside n k digits text value some within is =
     record {
       whole = left;
       behind = right;
-      text_is = is ∙ append_assoc left (codes ".") right ∙ ap (λ t. left ++ t) (sym (point_some right full));
+      text_is = append_assoc left (codes ".") right ∙ ap (λ t. left ++ t) (sym (point_some right full));
       some = omega (arith, length-take (length digits - k) digits);
       value_is = ap (digits_value 10) (take-append-drop (length digits - k) digits) ∙ value;
       places_is = long;
     }
 
-outside : (n k : ℕ) (digits text : List ℕ) → digits_value 10 digits ≡ n → 0 < length digits → length digits ≤ k
-    → text ≡ codes "0." ++ zeros (k - length digits) ++ digits → Parts text n k
-outside n k digits text value some few is =
+outside : (n k : ℕ) (digits : List ℕ) → digits_value 10 digits ≡ n → 0 < length digits → length digits ≤ k
+    → Parts (codes "0." ++ zeros (k - length digits) ++ digits) n k
+outside n k digits value some few =
     let behind = zeros (k - length digits) ++ digits in
     let front : length (zeros (k - length digits)) ≡ k - length digits = length-replicate (k - length digits) 48 in
     let long : length behind ≡ k = omega (arith, length-append (zeros (k - length digits)) digits, front) in
@@ -74,7 +75,7 @@ outside n k digits text value some few is =
     record {
       whole = codes "0";
       behind = behind;
-      text_is = is ∙ ap (λ t. codes "0" ++ t) (sym (point_some behind full));
+      text_is = ap (λ t. codes "0" ++ t) (sym (point_some behind full));
       some = omega arith;
       value_is = zeros_front (k - length digits) digits ∙ value;
       places_is = long;
@@ -82,21 +83,11 @@ outside n k digits text value some few is =
 
 pointed_parts : (n k : ℕ) → n < 10 ^ 64 → 0 < k → Parts (pointed (decimal n) k) n k
 unfolding pointed
-pointed_parts n k small some = by (nat_lt k (length (decimal n))) refl
-  where
-    d : List ℕ
-    d = decimal n
-
-    within : List ℕ
-    within = take (length d - k) d ++ codes "." ++ drop (length d - k) d
-
-    beyond : List ℕ
-    beyond = codes "0." ++ zeros (k - length d) ++ d
-
-    by : (b : Bool) → nat_lt k (length d) ≡ b → Parts (pointed d k) n k
-    by true is = inside n k d (pointed d k) (numeral n small) some (grind (arith, nat_tests)) (ap (λ b. cond b within beyond) is)
-    by false is = outside n k d (pointed d k) (numeral n small) (some_digits n small) (grind (arith, nat_tests))
-        (ap (λ b. cond b within beyond) is)
+pointed_parts n k small some =
+    elim (cases_Bool (nat_lt k (length (decimal n)))) [
+      | inl is ↦ rw is (inside n k (decimal n) (numeral n small) some (ltb-true k (length (decimal n)) is))
+      | inr is ↦ rw is (outside n k (decimal n) (numeral n small) (some_digits n small) (ltb-false k (length (decimal n)) is))
+    ]
 
 lengthened_parts : (n k : ℕ) → n < 10 ^ 64 → Parts (lengthened n k) (n * 10 ^ k) 0
 unfolding lengthened
@@ -128,35 +119,24 @@ below_nought : (e : ℤ) → int_lt e (pos 0) ≡ true → 0 < unsigned_abs e
 below_nought (pos m) is = grind (arith, nat_tests)
 below_nought (negsuc m) is = omega arith
 
+scaled_parts : (n : ℕ) (exponent : ℤ) → n < 10 ^ 64 → Parts (scaled n exponent) (n * 10 ^ above exponent) (below exponent)
+scaled_parts n exponent small =
+    let k = unsigned_abs exponent in
+    let once : n ≡ n * 10 ^ 0 = omega arith in
+    elim (cases_Bool (int_lt exponent (pos 0))) [
+      | inl is ↦ rw is (subst (λ v. Parts (pointed (decimal n) k) v k) once (pointed_parts n k small (below_nought exponent is)))
+      | inr is ↦ rw is (lengthened_parts n k small)
+    ]
+
 pub decimals_exact : DecimalsAreExact
 unfolding decimal_text
-decimals_exact number exponent small = by (int_lt exponent (pos 0)) refl
-  where
-    n : ℕ
-    n = unsigned_abs number
-
-    k : ℕ
-    k = unsigned_abs exponent
-
-    by : (b : Bool) → int_lt exponent (pos 0) ≡ b → Writes (decimal_text number exponent) number exponent
-    by true is =
-        let p = pointed_parts n k small (below_nought exponent is) in
-        let once : n ≡ n * 10 ^ 0 = omega arith in
-        record {
-          whole = p.whole;
-          behind = p.behind;
-          text_is = ap (λ t. sign_of number ++ t) (ap (λ b. cond b (pointed (decimal n) k) (lengthened n k)) is ∙ p.text_is);
-          some = p.some;
-          value = p.value_is ∙ once ∙ sym (ap (λ b. n * 10 ^ cond b 0 k) is);
-          places = p.places_is ∙ sym (ap (λ b. cond b k 0) is);
-        }
-    by false is =
-        let p = lengthened_parts n k small in
-        record {
-          whole = p.whole;
-          behind = p.behind;
-          text_is = ap (λ t. sign_of number ++ t) (ap (λ b. cond b (pointed (decimal n) k) (lengthened n k)) is ∙ p.text_is);
-          some = p.some;
-          value = p.value_is ∙ sym (ap (λ b. n * 10 ^ cond b 0 k) is);
-          places = p.places_is ∙ sym (ap (λ b. cond b k 0) is);
-        }
+decimals_exact number exponent small =
+    let p = scaled_parts (unsigned_abs number) exponent small in
+    record {
+      whole = p.whole;
+      behind = p.behind;
+      text_is = ap (λ t. sign_of number ++ t) p.text_is;
+      some = p.some;
+      value = p.value_is;
+      places = p.places_is;
+    }

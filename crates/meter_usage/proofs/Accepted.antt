@@ -15,28 +15,15 @@ use Rattle.meter_usage.specs.Table.{Table, rows_at, added, replaced, removed, ke
 use Rattle.meter_usage.specs.Faults.{add_fault, place_fault}
 use Rattle.meter_usage.specs.Edits.{Edit, addition, replacement, removal, edited, fault_of, rows_after, StandsFor, IsAnswered}
 use Rattle.meter_usage.proofs.Tables.{kept_rows, total_below}
-use Rattle.meter_usage.proofs.Edited.{added_stands, replaced_stands, removed_stands, length_kept}
+use Rattle.meter_usage.proofs.Edited.{length_kept}
 
 after_more : (edits : List Edit) (edit : Edit) → rows_after (edits ++ edit ∷ []) ≡ edited (rows_after edits) edit
 after_more edits edit = fold-append edited [] edits (edit ∷ [])
 
-pub addition_accepted : (new old : Table Row) (a : Address) (payload : List ℕ) → new ≡ added old a (row_of payload)
-    → (edits : List Edit) → StandsFor edits old → StandsFor (edits ++ addition a payload ∷ []) new
-addition_accepted new old a payload e edits s =
-    record { rows = added_stands new old a payload e (rows_after edits) s.rows ∙ ap kept (sym (after_more edits (addition a payload))) }
-
-pub replacement_accepted : (new old : Table Row) (a : Address) (place : ℕ) (payload : List ℕ) → new ≡ replaced old a place (row_of payload)
-    → (edits : List Edit) → StandsFor edits old → StandsFor (edits ++ replacement a place payload ∷ []) new
-replacement_accepted new old a place payload e edits s =
-    record {
-      rows = replaced_stands new old a place payload e (rows_after edits) s.rows
-          ∙ ap kept (sym (after_more edits (replacement a place payload)));
-    }
-
-pub removal_accepted : (new old : Table Row) (a : Address) (place : ℕ) → new ≡ removed old a place
-    → (edits : List Edit) → StandsFor edits old → StandsFor (edits ++ removal a place ∷ []) new
-removal_accepted new old a place e edits s =
-    record { rows = removed_stands new old a place e (rows_after edits) s.rows ∙ ap kept (sym (after_more edits (removal a place))) }
+pub accepted_by : (edit : Edit) (old new : Table Row) → ((table : Table (List ℕ)) → old ≡ kept table → new ≡ kept (edited table edit))
+    → (edits : List Edit) → StandsFor edits old → StandsFor (edits ++ edit ∷ []) new
+accepted_by edit old new stands edits s =
+    record { rows = stands (rows_after edits) s.rows ∙ ap kept (sym (after_more edits edit)) }
 
 -- ---- the faults are those of the payloads' rows
 

@@ -18,7 +18,8 @@ use Rattle.meter_usage.proofs.Entries.{all_both, each_removed, each_put}
 use Rattle.meter_usage.proofs.Tables.{same_itself}
 
 -- what writing rows keeps holds of the table that edits leave
-edits_keep : (P : Table (List ℕ) → Type 0) → ((table : Table (List ℕ)) (a : Address) (rows : List (List ℕ)) → P table → P (with_rows table a rows))
+edits_keep : (P : Table (List ℕ) → Type 0)
+    → ((table : Table (List ℕ)) (a : Address) (rows : List (List ℕ)) → P table → P (with_rows table a rows))
     → (edits : List Edit) (table : Table (List ℕ)) → P table → P (fold edited table edits)
 edits_keep P written [] table p = p
 edits_keep P written (addition a payload ∷ edits) table p = edits_keep P written edits _ (written table a _ p)
@@ -26,7 +27,8 @@ edits_keep P written (replacement a place payload ∷ edits) table p = edits_kee
 edits_keep P written (removal a place ∷ edits) table p = edits_keep P written edits _ (written table a _ p)
 
 pub after_edits : (P : Table (List ℕ) → Type 0) → P []
-    → ((table : Table (List ℕ)) (a : Address) (rows : List (List ℕ)) → P table → P (with_rows table a rows)) → (edits : List Edit) → P (rows_after edits)
+    → ((table : Table (List ℕ)) (a : Address) (rows : List (List ℕ)) → P table → P (with_rows table a rows)) → (edits : List Edit)
+    → P (rows_after edits)
 after_edits P none written edits = edits_keep P written edits [] none
 
 -- no later entry has an earlier one's address

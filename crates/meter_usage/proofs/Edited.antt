@@ -16,17 +16,10 @@ use Rattle.meter_usage.specs.declared.sums.Sum.{Sum}
 use Rattle.meter_usage.specs.Amounts.{Row, row_of, amount_at}
 use Rattle.meter_usage.specs.Usage.{usage_at}
 use Rattle.meter_usage.specs.Sums.{no_sum, with_usage, sum_at, has_sum, total_at, IsFitting}
-use Rattle.meter_usage.specs.Table.{Table, same, rows_at, with_rows, added, replaced, removed, kept, AreFilled, IsKept}
+use Rattle.meter_usage.specs.Table.{Table, same, rows_at, with_rows, added, replaced, removed, kept, IsKept}
 use Rattle.meter_usage.proofs.Ends.{usage_some}
-use Rattle.meter_usage.proofs.Entries.{each_removed, each_put}
 use Rattle.meter_usage.proofs.KeyByKey.{sum_none}
 use Rattle.meter_usage.proofs.Tables.{kept_rows, kept_with, rows_with, append_some, set_some, total_split, total_same, total_again, total_fits}
-
--- ---- addresses that have rows
-
-pub filled_with : {X : Type 0} (a : Address) (table : Table X) (new : List X) → AreFilled table → AreFilled (with_rows table a new)
-filled_with a table [] f = each_removed _ (same a) table f
-filled_with a table (x ∷ xs) f = each_put _ (x ∷ xs) (λ meter some none. cc) same table a (λ none. cc) f
 
 -- ---- how many there are
 
@@ -82,7 +75,7 @@ removed_stands new old a place e table is =
 pub kept_sums : (table : Table Row) (old new : List (UsageKey × Sum)) → IsKept table old → ((q : UsageKey) → sum_at q new ≡ sum_at q old)
     → IsKept table new
 kept_sums table old new k e =
-    record { payloads = k.payloads; rows = k.rows; filled = k.filled; few = k.few; totals = λ q. e q ∙ k.totals q }
+    record { payloads = k.payloads; rows = k.rows; few = k.few; totals = λ q. e q ∙ k.totals q }
 
 pub kept_table : (table other : Table Row) (sums : List (UsageKey × Sum)) → other ≡ table → IsKept table sums → IsKept other sums
 kept_table table other sums e k = subst (λ t. IsKept t sums) (sym e) k
@@ -93,7 +86,6 @@ module _ (a : Address) (table other : Table Row) (old new : List (UsageKey × Su
   kept_changed rows payloads room e is totals = record {
     payloads = payloads;
     rows = is;
-    filled = subst AreFilled (sym e) (filled_with a table rows k.filled);
     few = subst (λ t. length t ≤ 4096) (sym e) (few_with a table rows (rows_at a table) refl k.few room);
     totals = totals;
   }
@@ -111,7 +103,8 @@ module _ (a : Address) (table other : Table Row) (old new : List (UsageKey × Su
     kept_replaced payload e totals =
         kept_changed _ _ has_rows e (replaced_stands other table a place payload e k.payloads k.rows) totals
 
-    pub kept_removed : other ≡ removed table a place → ((q : UsageKey) → sum_at q new ≡ total_at q (removed table a place)) → IsKept other new
+    pub kept_removed : other ≡ removed table a place
+        → ((q : UsageKey) → sum_at q new ≡ total_at q (removed table a place)) → IsKept other new
     kept_removed e totals =
         kept_changed _ _ has_rows e (removed_stands other table a place e k.payloads k.rows) (λ q. totals q ∙ ap (total_at q) (sym e))
 
@@ -134,74 +127,66 @@ has_by : (q : UsageKey) (sums : List (UsageKey × Sum)) (b : Bool) → has_sum q
 has_by q sums true e other = refl
 has_by q sums false e other = absurd (other (sum_none q sums e))
 
-pub kept_there : (a : Address) (table : Table Row) (sums : List (UsageKey × Sum)) (place : ℕ) → IsKept table sums
-    → place < length (rows_at a table)
-    → (q : UsageKey) (d : Row) → is_some (amount_at q (get_or (rows_at a table) place d)) ≡ true → has_sum q sums ≡ true
-kept_there a table sums place k lt q d e =
-    has_by q sums (has_sum q sums) refl (λ none. counted_some (usage_at q (rows_at a table)) (total_at q (remove_entry (same a) table))
+pub kept_there : (a : Address) (table : Table Row) (old new : List (UsageKey × Sum)) (place : ℕ) → IsKept table old
+    → ((q : UsageKey) → sum_at q new ≡ sum_at q old) → place < length (rows_at a table)
+    → (q : UsageKey) (d : Row) → is_some (amount_at q (get_or (rows_at a table) place d)) ≡ true → has_sum q new ≡ true
+kept_there a table old new place k same_sums lt q d e =
+    has_by q new (has_sum q new) refl (λ none. counted_some (usage_at q (rows_at a table)) (total_at q (remove_entry (same a) table))
     (usage_some (amount_at q) (rows_at a table)
     ∙ any_passes_from_place (λ row. is_some (amount_at q row)) (rows_at a table) place (get_or (rows_at a table) place d)
-    (slice_get-get_or (rows_at a table) place d lt) e) (sym (k.totals q ∙ total_split q a table) ∙ none))
+    (slice_get-get_or (rows_at a table) place d lt) e) (sym (same_sums q ∙ k.totals q ∙ total_split q a table) ∙ none))
 
 -- the sums before the row of an address goes
-pub kept_before : (a : Address) (table : Table Row) (sums : List (UsageKey × Sum)) → IsKept table sums → (q : UsageKey)
-    → sum_at q sums ≡ total_at q (with_rows table a (rows_at a table))
-kept_before a table sums k q = k.totals q ∙ sym (total_same q a table)
+pub kept_before : (a : Address) (table : Table Row) (old new : List (UsageKey × Sum)) → IsKept table old
+    → ((q : UsageKey) → sum_at q new ≡ sum_at q old) → (q : UsageKey) → sum_at q new ≡ total_at q (with_rows table a (rows_at a table))
+kept_before a table old new k same_sums q = same_sums q ∙ k.totals q ∙ sym (total_same q a table)
 
--- ---- a row that was put behind the others
+-- ---- a row that was put
+
+-- A row stands at a place of an address, and without it there are the rest.
+pub record HasRow (a : Address) (table other : Table Row) (row : Row) (place : ℕ) (rest : List Row) : Type 0 where
+  pub within : place < length (rows_at a other)
+  pub is : (d : Row) → get_or (rows_at a other) place d ≡ row
+  pub totals : (q : UsageKey) → total_at q (with_rows other a (remove (rows_at a other) place)) ≡ total_at q (with_rows table a rest)
+
+has_row : (a : Address) (table other : Table Row) (row : Row) (place : ℕ) (rest rows : List Row) → other ≡ with_rows table a rows
+    → (rows ≡ [] → ⊥) → place < length rows → ((d : Row) → get_or rows place d ≡ row) → remove rows place ≡ rest
+    → HasRow a table other row place rest
+has_row a table other row place rest rows e some lt at gone =
+    let there : rows_at a other ≡ rows = ap (rows_at a) e ∙ rows_with a table rows some in
+    record {
+      within = subst (λ rs. place < length rs) (sym there) lt;
+      is = λ d. ap (λ rs. get_or rs place d) there ∙ at d;
+      totals = λ q.
+          ap (λ rs. total_at q (with_rows other a (remove rs place))) there ∙ ap (λ rs. total_at q (with_rows other a rs)) gone
+          ∙ ap (λ t. total_at q (with_rows t a rest)) e ∙ total_again q a table rows rest some;
+    }
 
 pub remove_end : {X : Type 0} (rows : List X) (row : X) → remove (rows ++ row ∷ []) (length rows) ≡ rows
 remove_end [] row = refl
 remove_end (x ∷ xs) row = ap (λ z. x ∷ z) (remove_end xs row)
 
-module _ (a : Address) (table other : Table Row) (row : Row) (place : ℕ) (e : other ≡ added table a row)
-    (at : place ≡ length (rows_at a table)) where
-  put_rows : rows_at a other ≡ rows_at a table ++ row ∷ []
-  put_rows = ap (rows_at a) e ∙ rows_with a table (rows_at a table ++ row ∷ []) (append_some (rows_at a table) row)
-
-  pub put_place : place < length (rows_at a other)
-  put_place =
-      subst (λ n. n < length (rows_at a other)) (sym at)
-      (subst (λ rs. length (rows_at a table) < length rs) (sym put_rows) (omega (arith, length-append (rows_at a table) (row ∷ []))))
-
-  pub put_row : (d : Row) → get_or (rows_at a other) place d ≡ row
-  put_row d =
-      ap (λ rs. get_or rs place d) put_rows ∙ ap (λ n. get_or (rows_at a table ++ row ∷ []) n d) at ∙ get_or-append_seam (rows_at a table) row [] d
-
-  pub put_totals : (q : UsageKey) → total_at q (with_rows other a (remove (rows_at a other) place)) ≡ total_at q table
-  put_totals q =
-      ap (λ rs. total_at q (with_rows other a (remove rs place))) put_rows
-      ∙ ap (λ n. total_at q (with_rows other a (remove (rows_at a table ++ row ∷ []) n))) at
-      ∙ ap (λ rs. total_at q (with_rows other a rs)) (remove_end (rows_at a table) row)
-      ∙ ap (λ t. total_at q (with_rows t a (rows_at a table))) e
-      ∙ total_again q a table (rows_at a table ++ row ∷ []) (rows_at a table) (append_some (rows_at a table) row) ∙ total_same q a table
-
--- ---- a row that was put in the place of another
+-- behind the others
+pub added_row : (a : Address) (table other : Table Row) (row : Row) (place : ℕ) → other ≡ added table a row
+    → place ≡ length (rows_at a table) → HasRow a table other row place (rows_at a table)
+added_row a table other row place e at =
+    let rows = rows_at a table in
+    has_row a table other row place rows (rows ++ row ∷ []) e (append_some rows row) (omega (arith, at, length-append rows (row ∷ [])))
+    (λ d. ap (λ n. get_or (rows ++ row ∷ []) n d) at ∙ get_or-append_seam rows row [] d)
+    (ap (remove (rows ++ row ∷ [])) at ∙ remove_end rows row)
 
 remove_set : (rows : List Row) (i : ℕ) (row : Row) → i < length rows → remove (slice_set rows i row) i ≡ remove rows i
 remove_set [] i row lt = absurd (omega arith)
 remove_set (x ∷ xs) zero row lt = refl
 remove_set (x ∷ xs) (suc i) row lt = ap (λ z. x ∷ z) (remove_set xs i row (omega arith))
 
-module _ (a : Address) (table other : Table Row) (row : Row) (place : ℕ) (lt : place < length (rows_at a table))
-    (e : other ≡ replaced table a place row) where
-  set_rows : rows_at a other ≡ slice_set (rows_at a table) place row
-  set_rows = ap (rows_at a) e ∙ rows_with a table (slice_set (rows_at a table) place row) (set_some (rows_at a table) place row lt)
-
-  pub set_place : place < length (rows_at a other)
-  set_place = subst (λ rs. place < length rs) (sym set_rows) (omega (arith, lt, length-set (rows_at a table) place row))
-
-  pub set_row : (d : Row) → get_or (rows_at a other) place d ≡ row
-  set_row d = ap (λ rs. get_or rs place d) set_rows ∙ get_or-set_same (rows_at a table) place row d lt
-
-  pub set_totals : (q : UsageKey)
-      → total_at q (with_rows other a (remove (rows_at a other) place)) ≡ total_at q (with_rows table a (remove (rows_at a table) place))
-  set_totals q =
-      ap (λ rs. total_at q (with_rows other a (remove rs place))) set_rows
-      ∙ ap (λ rs. total_at q (with_rows other a rs)) (remove_set (rows_at a table) place row lt)
-      ∙ ap (λ t. total_at q (with_rows t a (remove (rows_at a table) place))) e
-      ∙ total_again q a table (slice_set (rows_at a table) place row) (remove (rows_at a table) place)
-      (set_some (rows_at a table) place row lt)
+-- in the place of another
+pub replaced_row : (a : Address) (table other : Table Row) (row : Row) (place : ℕ) → place < length (rows_at a table)
+    → other ≡ replaced table a place row → HasRow a table other row place (remove (rows_at a table) place)
+replaced_row a table other row place lt e =
+    let rows = rows_at a table in
+    has_row a table other row place (remove rows place) (slice_set rows place row) e (set_some rows place row lt)
+    (omega (arith, lt, length-set rows place row)) (λ d. get_or-set_same rows place row d lt) (remove_set rows place row lt)
 
 -- the sums fit while a row is gone
 pub gone_fits : (a : Address) (table : Table Row) (place : ℕ) (old now : List (UsageKey × Sum)) → IsKept table old

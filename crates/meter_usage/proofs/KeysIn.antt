@@ -12,6 +12,8 @@ use Rattle.std.proofs.lemmas.Bool.{both_ways, cond_both}
 use Rattle.std.proofs.lemmas.Bool.Decides.{nat_tests}
 use Rattle.std.proofs.lemmas.List.{map-append}
 use Rattle.std.proofs.lemmas.List.Folds.{list_any-append}
+use Rattle.std.specs.BTreeSet.{BTreeSet}
+use Rattle.std.proofs.lemmas.Map.Lookups.{btree_set_from_contains}
 use Rattle.std.proofs.lemmas.Map.Made.{is_some-lookup}
 use Rattle.std.proofs.lemmas.Map.Keys.{sorted_tail}
 use Rattle.std.proofs.lemmas.Cmp.{tied_itself}
@@ -43,43 +45,12 @@ pub below_none : (k : UsageKey) (xs : List UsageKey) → AllByRecursion (λ y. k
 below_none k [] all = refl
 below_none k (y ∷ ys) all = ap (λ o. is_eq o || is_among k ys) all.0 ∙ below_none k ys all.1
 
-among_first : (k : UsageKey) (xs : List UsageKey) → is_among k (k ∷ xs) ≡ true
-among_first k xs = ap (λ o. is_eq o || is_among k xs) (tied_itself key_cmp_total k)
-
--- a key below the first of a list in order isn't among them
-missed : (k x : UsageKey) (xs : List UsageKey) → key_cmp k x ≡ Less → AllByRecursion (λ y. key_cmp x y ≡ Less) xs
-    → is_among k (x ∷ xs) ≡ false
-missed k x xs e all = below_none k (x ∷ xs) (e, below_all k x xs e all)
-
-tail_by : (q x : UsageKey) (xs ys : List UsageKey) (here : Bool) → is_at (key_cmp q) x ≡ here → AllByRecursion (λ y. key_cmp x y ≡ Less) xs
-    → AllByRecursion (λ y. key_cmp x y ≡ Less) ys
-    → here || is_among q xs ≡ here || is_among q ys → is_among q xs ≡ is_among q ys
-tail_by q x xs ys true e a b same =
-    let is : q ≡ x = same_by_test q x e in
-    ap (λ k. is_among k xs) is ∙ below_none x xs a ∙ sym (ap (λ k. is_among k ys) is ∙ below_none x ys b)
-tail_by q x xs ys false e a b same = same
-
-firsts : (o : Ordering) (x y : UsageKey) (xs ys : List UsageKey) → key_cmp x y ≡ o → IsStrictlySortedBy key_cmp (x ∷ xs)
-    → IsStrictlySortedBy key_cmp (y ∷ ys)
-    → ((q : UsageKey) → is_among q (x ∷ xs) ≡ is_among q (y ∷ ys))
-    → (x ≡ y → ((q : UsageKey) → is_among q xs ≡ is_among q ys) → xs ≡ ys) → x ∷ xs ≡ y ∷ ys
-unfolding IsStrictlySortedBy
-firsts Less x y xs ys e a b same rest = absurd (both_ways _ (missed x y ys e b.0) (sym (same x) ∙ among_first x xs))
-firsts Greater x y xs ys e a b same rest =
-    absurd (both_ways _ (missed y x xs (less_of_greater x y e) a.0) (same y ∙ among_first y ys))
-firsts Equal x y xs ys e a b same rest =
-    let is : x ≡ y = same_key x y e in
-    let below : AllByRecursion (λ z. key_cmp x z ≡ Less) ys = subst (λ k. AllByRecursion (λ z. key_cmp k z ≡ Less) ys) (sym is) b.0 in
-    ap (λ k. k ∷ xs) is ∙ ap (λ zs. y ∷ zs) (rest is (λ q. tail_by q x xs ys (is_at (key_cmp q) x) refl a.0 below
-    (same q ∙ ap (λ k. is_at (key_cmp q) k || is_among q ys) (sym is))))
-
 pub same_members : (xs ys : List UsageKey) → IsStrictlySortedBy key_cmp xs → IsStrictlySortedBy key_cmp ys
     → ((q : UsageKey) → is_among q xs ≡ is_among q ys) → xs ≡ ys
-same_members [] [] a b same = refl
-same_members [] (y ∷ ys) a b same = absurd (both_ways _ (sym (same y)) (among_first y ys))
-same_members (x ∷ xs) [] a b same = absurd (both_ways _ (same x) (among_first x xs))
-same_members (x ∷ xs) (y ∷ ys) a b same = firsts (key_cmp x y) x y xs ys refl a b same
-    (λ is rest. same_members xs ys (sorted_tail key_cmp x xs a) (sorted_tail key_cmp y ys b) rest)
+same_members xs ys a b same =
+    let s : BTreeSet UsageKey = record { keys = xs } in
+    let t : BTreeSet UsageKey = record { keys = ys } in
+    btree_set_from_contains key_cmp_total s t a b same same_key
 
 -- ---- noted amounts are in order
 

@@ -120,46 +120,6 @@ numbers_parted front back row next =
     ap (λ z. z ++ next ∷ []) (map-append (λ (r : NumberedRow). r.number) front (row ∷ back))
     ∙ append_assoc (numbers front) (row.number ∷ numbers back) (next ∷ [])
 
-module _ (front back : List NumberedRow) (row : NumberedRow) (next : ℕ)
-    (s : IsStrictlySortedBy nat_cmp (numbers (front ++ row ∷ back) ++ next ∷ [])) where
-  around : IsAround (numbers front) (numbers back ++ next ∷ []) row.number
-  around = rising_around (numbers front) (numbers back ++ next ∷ []) row.number
-      (subst (IsStrictlySortedBy nat_cmp) (numbers_parted front back row next) s)
-
-  -- its amount stands at its number
-  row_stands : (q : UsageKey) → StandsAt row.number (amount_at q row.amounts) (series q (front ++ row ∷ back))
-  row_stands q = record {
-    front = series q front;
-    back = series q back;
-    parts = filter_map-append _ front (row ∷ back);
-    below = all_series (λ m. nat_cmp row.number m ≡ Greater) q front around.below;
-    above = all_series (λ m. nat_cmp row.number m ≡ Less) q back (all_parts _ (numbers back) (next ∷ []) around.above).0;
-  }
-
-  row_gone : (q : UsageKey) → without row.number (series q (front ++ row ∷ back)) ≡ series q (front ++ back)
-  unfolding row_stands
-  row_gone q =
-      let at = row_stands q in
-      ap (without row.number) at.parts ∙ without_parted row.number at.front (amount_at q row.amounts) at.back at.below at.above
-      ∙ sym (filter_map-append _ front back)
-
-  row_changed : (q : UsageKey) (new : Row)
-      → with_amount row.number (amount_at q new) (series q (front ++ row ∷ back))
-      ≡ series q (front ++ record { number = row.number; amounts = new } ∷ back)
-  unfolding row_stands
-  row_changed q new =
-      let at = row_stands q in
-      ap (with_amount row.number (amount_at q new)) at.parts
-      ∙ amount_parted row.number at.front (amount_at q row.amounts) (amount_at q new) at.back at.below at.above
-      ∙ sym (filter_map-append _ front (record { number = row.number; amounts = new } ∷ back))
-
-  gone_rises : IsStrictlySortedBy nat_cmp (numbers (front ++ back) ++ next ∷ [])
-  gone_rises =
-      subst (IsStrictlySortedBy nat_cmp)
-      (sym (ap (λ z. z ++ next ∷ []) (map-append (λ (r : NumberedRow). r.number) front back)
-      ∙ append_assoc (numbers front) (numbers back) (next ∷ [])))
-      around.others
-
 -- ---- a meter's rows and index under an edit
 
 pub empty_indexed : (rows : List NumberedRow) (index : List (UsageKey × Numbered)) → rows ≡ [] → index ≡ [] → IsIndexed rows 0 index
@@ -198,47 +158,67 @@ module _ (rows : List NumberedRow) (next : ℕ) (old : List (UsageKey × Numbere
       }
 
   module _ (i : ℕ) (row : NumberedRow) (lt : i < length rows) (e : row ≡ get_or rows i row) where
-    split : rows ≡ take i rows ++ row ∷ drop (suc i) rows
+    abbrev front : List NumberedRow
+    front = take i rows
+
+    abbrev back : List NumberedRow
+    back = drop (suc i) rows
+
+    split : rows ≡ front ++ row ∷ back
     split = split_row rows i row lt e
 
-    rises_there : IsStrictlySortedBy nat_cmp (numbers (take i rows ++ row ∷ drop (suc i) rows) ++ next ∷ [])
-    rises_there = subst (λ rs. IsStrictlySortedBy nat_cmp (numbers rs ++ next ∷ [])) split k.rising
+    rises : IsStrictlySortedBy nat_cmp (numbers front ++ row.number ∷ (numbers back ++ next ∷ []))
+    rises = subst (IsStrictlySortedBy nat_cmp) (ap (λ rs. numbers rs ++ next ∷ []) split ∙ numbers_parted front back row next) k.rising
 
+    around : IsAround (numbers front) (numbers back ++ next ∷ []) row.number
+    around = rising_around (numbers front) (numbers back ++ next ∷ []) row.number rises
+
+    -- its amount stands at its number
     pub place_stands : (q : UsageKey) → StandsAt row.number (amount_at q row.amounts) (indexed q old)
-    place_stands q =
-        subst (StandsAt row.number (amount_at q row.amounts)) (sym (k.all q ∙ ap (series q) split))
-        (row_stands (take i rows) (drop (suc i) rows) row next rises_there q)
+    place_stands q = record {
+      front = series q front;
+      back = series q back;
+      parts = k.all q ∙ ap (series q) split ∙ filter_map-append _ front (row ∷ back);
+      below = all_series (λ m. nat_cmp row.number m ≡ Greater) q front around.below;
+      above = all_series (λ m. nat_cmp row.number m ≡ Less) q back (all_parts _ (numbers back) (next ∷ []) around.above).0;
+    }
+
+    gone : (q : UsageKey) → without row.number (indexed q old) ≡ series q (remove rows i)
+    unfolding place_stands
+    gone q =
+        let at = place_stands q in
+        ap (without row.number) at.parts ∙ without_parted row.number at.front (amount_at q row.amounts) at.back at.below at.above
+        ∙ sym (filter_map-append _ front back)
 
     pub set_indexed : (new : Row) (now : List (UsageKey × Numbered))
         → ((q : UsageKey) → indexed q now ≡ with_amount row.number (amount_at q new) (indexed q old))
         → IsIndexed (slice_set rows i (record { number = row.number; amounts = new })) next now
+    unfolding place_stands
     set_indexed new now change =
         let put : NumberedRow = record { number = row.number; amounts = new } in
-        let there : slice_set rows i put ≡ take i rows ++ put ∷ drop (suc i) rows = set_split rows i put lt in
-        subst (λ rs. IsIndexed rs next now) (sym there) (record {
-          rising = subst (IsStrictlySortedBy nat_cmp)
-              (numbers_parted (take i rows) (drop (suc i) rows) row next ∙ sym (numbers_parted (take i rows) (drop (suc i) rows) put next))
-              rises_there;
+        subst (λ rs. IsIndexed rs next now) (sym (set_split rows i put lt)) (record {
+          rising = subst (IsStrictlySortedBy nat_cmp) (sym (numbers_parted front back put next)) rises;
           all = λ q.
-              change q ∙ ap (with_amount row.number (amount_at q new)) (k.all q ∙ ap (series q) split)
-              ∙ row_changed (take i rows) (drop (suc i) rows) row next rises_there q new;
+              let at = place_stands q in
+              change q ∙ ap (with_amount row.number (amount_at q new)) at.parts
+              ∙ amount_parted row.number at.front (amount_at q row.amounts) (amount_at q new) at.back at.below at.above
+              ∙ sym (filter_map-append _ front (put ∷ back));
         })
 
     pub removed_indexed : (now : List (UsageKey × Numbered)) → ((q : UsageKey) → indexed q now ≡ without row.number (indexed q old))
         → IsIndexed (remove rows i) next now
     removed_indexed now change = record {
-      rising = gone_rises (take i rows) (drop (suc i) rows) row next rises_there;
-      all = λ q.
-          change q ∙ ap (without row.number) (k.all q ∙ ap (series q) split)
-          ∙ row_gone (take i rows) (drop (suc i) rows) row next rises_there q;
+      rising =
+          subst (IsStrictlySortedBy nat_cmp)
+          (sym (ap (λ z. z ++ next ∷ []) (map-append (λ (r : NumberedRow). r.number) front back)
+          ∙ append_assoc (numbers front) (numbers back) (next ∷ []))) around.others;
+      all = λ q. change q ∙ gone q;
     }
 
     -- what was used by the other rows
     pub used_without : (q : UsageKey) → used (without row.number (indexed q old)) ≡ usage_at q (remove (amounts_of rows) i)
     used_without q =
-        ap (λ es. used (without row.number es)) (k.all q ∙ ap (series q) split)
-        ∙ ap used (row_gone (take i rows) (drop (suc i) rows) row next rises_there q)
-        ∙ used_series q (remove rows i) ∙ ap (usage_at q) (map-remove (λ (r : NumberedRow). r.amounts) rows i)
+        ap used (gone q) ∙ used_series q (remove rows i) ∙ ap (usage_at q) (map-remove (λ (r : NumberedRow). r.amounts) rows i)
 
   -- what was used by all
   pub used_all : (q : UsageKey) → used (indexed q old) ≡ usage_at q (amounts_of rows)

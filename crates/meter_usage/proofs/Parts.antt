@@ -6,20 +6,19 @@ use Rattle.std.specs.Option.{option_map}
 use Rattle.std.specs.List.{AllByRecursion, cons_option}
 use Rattle.std.specs.Map.{lookup, set_value}
 use Rattle.std.specs.BTreeMap.{is_at, insert_entry}
+use Rattle.std.proofs.lemmas.Bool.{cases_Bool}
+use Rattle.std.proofs.lemmas.Option.{none-some}
 use Rattle.std.proofs.lemmas.Cmp.{tied_itself, nat_cmp_total}
 use Rattle.meter_usage.specs.Indexed.{Numbered, without, with_put, with_set, with_amount, parted, StandsAt}
-
-set_absent_by : (b : Bool) (e : ℕ × ℤ) (es new : Numbered) (v : ℤ) (o : Option ℤ) → cond b (Some e.1) o ≡ None → (o ≡ None → new ≡ es)
-    → cond b ((e.0, v) ∷ es) (e ∷ new) ≡ e ∷ es
-set_absent_by true e es new v o misses further = absurd cc
-set_absent_by false e es new v o misses further = ap (λ z. e ∷ z) (further misses)
 
 -- where none stands, none is set
 pub set_absent : (n : ℕ) (es : Numbered) (v : ℤ) → lookup (is_at (nat_cmp n)) es ≡ None → set_value (is_at (nat_cmp n)) es v ≡ es
 set_absent n [] v misses = refl
 set_absent n (e ∷ es) v misses =
-    set_absent_by (is_at (nat_cmp n) e.0) e es (set_value (is_at (nat_cmp n)) es v) v (lookup (is_at (nat_cmp n)) es) misses
-    (set_absent n es v)
+    elim (cases_Bool (is_at (nat_cmp n) e.0)) [
+      | inl here ↦ absurd (none-some e.1 (sym (rw here at misses)))
+      | inr other ↦ rw other (ap (λ z. e ∷ z) (set_absent n es v (rw other at misses)))
+    ]
 
 module _ (n : ℕ) where
   abbrev pub AreBelow : Numbered → Type 0
@@ -32,43 +31,32 @@ module _ (n : ℕ) where
 
   without_absent : (es : Numbered) → AreAbove es → without n es ≡ es
   without_absent [] a = refl
-  without_absent (e ∷ es) a = ap (λ o. cond (is_eq o) es (e ∷ without n es)) a.0 ∙ ap (λ z. e ∷ z) (without_absent es a.1)
+  without_absent (e ∷ es) a = rw a.0 (ap (λ z. e ∷ z) (without_absent es a.1))
 
   without_here : (x : Option ℤ) (back : Numbered) → AreAbove back → without n (cons_option (option_map (λ v. (n, v)) x) back) ≡ back
   without_here None back a = without_absent back a
-  without_here (Some v) back a = ap (λ o. cond (is_eq o) back ((n, v) ∷ without n back)) (tied_itself nat_cmp_total n)
+  without_here (Some v) back a = rw (tied_itself nat_cmp_total n) refl
 
   pub without_parted : (front : Numbered) (x : Option ℤ) (back : Numbered) → AreBelow front → AreAbove back
       → without n (parted front n x back) ≡ front ++ back
   without_parted [] x back b a = without_here x back a
-  without_parted (f ∷ front) x back b a =
-      ap (λ o. cond (is_eq o) (parted front n x back) (f ∷ without n (parted front n x back))) b.0
-      ∙ ap (λ z. f ∷ z) (without_parted front x back b.1 a)
+  without_parted (f ∷ front) x back b a = rw b.0 (ap (λ z. f ∷ z) (without_parted front x back b.1 a))
 
   insert_here : (x : Option ℤ) (back : Numbered) (v : ℤ) → AreAbove back
       → insert_entry nat_cmp (cons_option (option_map (λ w. (n, w)) x) back) n v ≡ (n, v) ∷ back
   insert_here None [] v a = refl
-  insert_here None (e ∷ es) v a =
-      ap (λ o. match_ordering o ((n, v) ∷ e ∷ es) ((e.0, v) ∷ es) (e ∷ insert_entry nat_cmp es n v)) a.0
-  insert_here (Some x) back v a =
-      ap (λ o. match_ordering o ((n, v) ∷ (n, x) ∷ back) ((n, v) ∷ back) ((n, x) ∷ insert_entry nat_cmp back n v))
-      (tied_itself nat_cmp_total n)
+  insert_here None (e ∷ es) v a = rw a.0 refl
+  insert_here (Some x) back v a = rw (tied_itself nat_cmp_total n) refl
 
   insert_parted : (front : Numbered) (x : Option ℤ) (back : Numbered) (v : ℤ) → AreBelow front → AreAbove back
       → insert_entry nat_cmp (parted front n x back) n v ≡ front ++ (n, v) ∷ back
   insert_parted [] x back v b a = insert_here x back v a
-  insert_parted (f ∷ front) x back v b a =
-      ap (λ o. match_ordering o ((n, v) ∷ f ∷ parted front n x back) ((f.0, v) ∷ parted front n x back)
-      (f ∷ insert_entry nat_cmp (parted front n x back) n v)) b.0
-      ∙ ap (λ z. f ∷ z) (insert_parted front x back v b.1 a)
+  insert_parted (f ∷ front) x back v b a = rw b.0 (ap (λ z. f ∷ z) (insert_parted front x back v b.1 a))
 
   set_parted : (front : Numbered) (x v : ℤ) (back : Numbered) → AreBelow front
       → set_value (is_at (nat_cmp n)) (front ++ (n, x) ∷ back) v ≡ front ++ (n, v) ∷ back
-  set_parted [] x v back b =
-      ap (λ o. cond (is_eq o) ((n, v) ∷ back) ((n, x) ∷ set_value (is_at (nat_cmp n)) back v)) (tied_itself nat_cmp_total n)
-  set_parted (f ∷ front) x v back b =
-      ap (λ o. cond (is_eq o) ((f.0, v) ∷ front ++ (n, x) ∷ back) (f ∷ set_value (is_at (nat_cmp n)) (front ++ (n, x) ∷ back) v)) b.0
-      ∙ ap (λ z. f ∷ z) (set_parted front x v back b.1)
+  set_parted [] x v back b = rw (tied_itself nat_cmp_total n) refl
+  set_parted (f ∷ front) x v back b = rw b.0 (ap (λ z. f ∷ z) (set_parted front x v back b.1))
 
   -- the amount at the number becomes another one, or none
   pub amount_parted : (front : Numbered) (x y : Option ℤ) (back : Numbered) → AreBelow front → AreAbove back

@@ -1,11 +1,9 @@
 -- What is kept of payloads says what they say.
 use Rattle.std.proofs.Common.{◌≡◌, ℕ, Bool, true, false, cond, List, [], ◌∷◌, map, fold, Option, Some, None, is_some, ℤ, refl, sym, ap, ◌∙◌, if◌then◌else◌}
-use Rattle.std.specs.declared.cmp.Ordering.{Ordering}
-use Rattle.std.specs.declared.cmp.Ordering.TheVariants.{Less, Equal, Greater}
 use Rattle.std.specs.Ordering.{match_ordering}
+use Rattle.std.specs.FinMap.Entries.{put, find-put}
 use Rattle.std.specs.Option.{option_or}
 use Rattle.std.specs.BTreeMap.{is_at, insert_entry}
-use Rattle.std.proofs.lemmas.Cmp.{tied_itself}
 use Rattle.meter_usage.specs.declared.key.UsageKey.{UsageKey}
 use Rattle.meter_usage.specs.Keys.{key_cmp, key_cmp_total}
 use Rattle.meter_usage.specs.Amounts.{Row, amount_at, noted, all_amounts, amount, row_of}
@@ -13,43 +11,16 @@ use Rattle.meter_usage.specs.Usage.{first, last, less, usage, usage_at}
 use Rattle.meter_usage.specs.Sums.{with_usage, total, total_at}
 use Rattle.meter_usage.specs.Table.{Table, kept}
 use Rattle.meter_usage.proofs.Ends.{or_none, or_assoc}
-use Rattle.meter_usage.proofs.SameKey.{same_key, same_by_test}
+use Rattle.meter_usage.proofs.SameKey.{same_by_test}
 
 -- a new amount is found at its key, and all others where they were
-module _ (q k : UsageKey) (v : ℤ) where
-  equal_by : (e : UsageKey × ℤ) (others : Option ℤ) (x y : Bool) → x ≡ y
-      → cond x (Some v) others ≡ cond y (Some v) (cond x (Some e.1) others)
-  equal_by e others true true is = refl
-  equal_by e others true false is = absurd cc
-  equal_by e others false true is = absurd cc
-  equal_by e others false false is = refl
+inserted_is : (row : Row) (k : UsageKey) (v : ℤ) → insert_entry key_cmp row k v ≡ put key_cmp k v row
+inserted_is [] k v = refl
+inserted_is (e ∷ es) k v = ap (λ z. match_ordering (key_cmp k e.0) ((k, v) ∷ e ∷ es) ((e.0, v) ∷ es) (e ∷ z)) (inserted_is es k v)
 
-  later_by : (e : UsageKey × ℤ) (o others : Option ℤ) (x y : Bool) → (x ≡ true → y ≡ true → ⊥) → o ≡ cond y (Some v) others
-      → cond x (Some e.1) o ≡ cond y (Some v) (cond x (Some e.1) others)
-  later_by e o others true true apart is = absurd (apart refl refl)
-  later_by e o others true false apart is = refl
-  later_by e o others false y apart is = is
-
-  greater_apart : (e : UsageKey) → key_cmp k e ≡ Greater → is_at (key_cmp q) e ≡ true → is_at (key_cmp q) k ≡ true → ⊥
-  greater_apart e above x y =
-      let same : k ≡ e = sym (same_by_test q k y) ∙ same_by_test q e x in
-      let tied : key_cmp k e ≡ Equal = ap (key_cmp k) (sym same) ∙ tied_itself key_cmp_total k in
-      let clash : Greater ≡ Equal = sym above ∙ tied in
-      cc
-
-  insert_by : (o : Ordering) (e : UsageKey × ℤ) (es put : Row) → key_cmp k e.0 ≡ o
-      → amount_at q put ≡ cond (is_at (key_cmp q) k) (Some v) (amount_at q es)
-      → amount_at q (match_ordering o ((k, v) ∷ e ∷ es) ((e.0, v) ∷ es) (e ∷ put))
-      ≡ cond (is_at (key_cmp q) k) (Some v) (amount_at q (e ∷ es))
-  insert_by Less e es put is further = refl
-  insert_by Equal e es put is further =
-      equal_by e (amount_at q es) (is_at (key_cmp q) e.0) (is_at (key_cmp q) k) (ap (is_at (key_cmp q)) (sym (same_key k e.0 is)))
-  insert_by Greater e es put is further =
-      later_by e (amount_at q put) (amount_at q es) (is_at (key_cmp q) e.0) (is_at (key_cmp q) k) (greater_apart e.0 is) further
-
-  amount_inserted : (row : Row) → amount_at q (insert_entry key_cmp row k v) ≡ cond (is_at (key_cmp q) k) (Some v) (amount_at q row)
-  amount_inserted [] = refl
-  amount_inserted (e ∷ es) = insert_by (key_cmp k e.0) e es (insert_entry key_cmp es k v) refl (amount_inserted es)
+amount_inserted : (q k : UsageKey) (v : ℤ) (row : Row)
+    → amount_at q (insert_entry key_cmp row k v) ≡ cond (is_at (key_cmp q) k) (Some v) (amount_at q row)
+amount_inserted q k v row = ap (amount_at q) (inserted_is row k v) ∙ find-put key_cmp key_cmp_total q k v row
 
 or_here : (o : Option ℤ) (v : ℤ) → is_some o ≡ true → option_or o (Some v) ≡ o
 or_here None v e = absurd cc

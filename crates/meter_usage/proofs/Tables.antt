@@ -49,7 +49,8 @@ module _ {X : Type 0} (a : Address) where
         | inr other ↦ rw (other, other) (ap (λ z. e ∷ z) (removed_inserted es new))
       ]
 
-  pub removed_with : (table : Table X) (new : List X) → (new ≡ [] → ⊥) → remove_entry (same a) (with_rows table a new) ≡ remove_entry (same a) table
+  pub removed_with : (table : Table X) (new : List X) → (new ≡ [] → ⊥)
+      → remove_entry (same a) (with_rows table a new) ≡ remove_entry (same a) table
   removed_with table [] some = absurd (some refl)
   removed_with table (x ∷ xs) some = removed_inserted table (x ∷ xs)
 

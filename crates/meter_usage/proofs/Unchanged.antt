@@ -2,6 +2,7 @@
 use Rattle.std.proofs.Common.{◌≡◌, ℕ, List, [], ◌∷◌, ◌++◌, length, remove, slice_get, Option, Some, None, refl, sym, ap, ◌∙◌, inl, inr, arith}
 use Rattle.std.specs.Prelude.{slice_set}
 use Rattle.std.specs.Option.{unwrap_or}
+use Rattle.std.specs.List.{AllByRecursion}
 use Rattle.std.specs.Map.{lookup, remove_entry}
 use Rattle.std.proofs.lemmas.Bool.{cases_Bool, cond_both}
 use Rattle.std.proofs.lemmas.List.{set-get_or}
@@ -9,16 +10,24 @@ use Rattle.std.proofs.lemmas.List.Sums.{fold-append}
 use Rattle.std.proofs.lemmas.Option.{get_or_from_slice_get, slice_get_within, same_Some, none-some}
 use Rattle.indexmap.specs.IndexMap.{insert_entry}
 use Rattle.meter_address.specs.declared.address.Address.{Address}
-use Rattle.meter_usage.specs.Table.{Table, same, rows_at, with_rows, AreFilled}
+use Rattle.meter_usage.specs.Table.{Table, same, rows_at, with_rows}
 use Rattle.meter_usage.specs.Edits.{Edit, addition, replacement, removal, edited, rows_after}
 use Rattle.meter_usage.proofs.Tables.{same_itself, rows_with, removed_with, append_some}
-use Rattle.meter_usage.proofs.Edited.{filled_with, remove_end}
+use Rattle.meter_usage.proofs.Edited.{remove_end}
+use Rattle.meter_usage.proofs.Entries.{each_removed, each_put}
 use Rattle.meter_usage.proofs.EachMeter.{after_edits}
 
 abbrev Payloads : Type 0
 Payloads = List (List ℕ)
 
 -- ---- no address of a table that edits leave is without rows
+
+abbrev AreFilled : Table (List ℕ) → Type 0
+AreFilled table = AllByRecursion (λ meter. meter.1 ≡ [] → ⊥) table
+
+filled_with : (table : Table (List ℕ)) (a : Address) (new : Payloads) → AreFilled table → AreFilled (with_rows table a new)
+filled_with table a [] f = each_removed _ (same a) table f
+filled_with table a (x ∷ xs) f = each_put _ (x ∷ xs) (λ meter some none. cc) same table a (λ none. cc) f
 
 found_filled : (a : Address) (table : Table (List ℕ)) → AreFilled table → lookup (same a) table ≡ Some [] → ⊥
 found_filled a [] f is = cc
@@ -33,7 +42,8 @@ none_by (Some rows) filled_one is = absurd (filled_one (ap Some is))
 
 absent : (a : Address) (edits : List Edit) → rows_at a (rows_after edits) ≡ [] → lookup (same a) (rows_after edits) ≡ None
 absent a edits is =
-    none_by (lookup (same a) (rows_after edits)) (found_filled a (rows_after edits) (after_edits AreFilled tt (λ table b rows. filled_with b table rows) edits)) is
+    none_by (lookup (same a) (rows_after edits)) (found_filled a (rows_after edits)
+    (after_edits AreFilled tt filled_with edits)) is
 
 -- ---- writing what is there
 

@@ -1,7 +1,6 @@
 -- The rows of all meters, and what becomes of them by an edit.
 use Rattle.std.specs.Prelude.{◌≡◌, ℕ, ◌≤◌, ◌==◌, Bool, List, [], ◌∷◌, ◌++◌, map, length, slice_set, remove}
 use Rattle.std.specs.Option.{unwrap_or}
-use Rattle.std.specs.List.{AllByRecursion}
 use Rattle.std.specs.Map.{lookup, remove_entry}
 use Rattle.indexmap.specs.IndexMap.{insert_entry}
 use Rattle.meter_address.specs.declared.address.Address.{Address}
@@ -43,14 +42,9 @@ module _ {X : Type 0} where
 abbrev pub kept : Table (List ℕ) → Table Row
 kept table = map (λ meter. (meter.0, map row_of meter.1)) table
 
--- Each address has a row.
-abbrev pub AreFilled : {X : Type 0} → Table X → Type 0
-AreFilled table = AllByRecursion (λ meter. meter.1 ≡ [] → ⊥) table
-
 -- The rows are those of payloads, and the sums are their totals.
 pub record IsKept (table : Table Row) (sums : List (UsageKey × Sum)) : Type 0 where
   pub payloads : Table (List ℕ)
   pub rows : table ≡ kept payloads
-  pub filled : AreFilled table
   pub few : length table ≤ 4096
   pub totals : (key : UsageKey) → sum_at key sums ≡ total_at key table

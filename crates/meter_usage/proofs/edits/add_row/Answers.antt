@@ -2,19 +2,19 @@ use Rattle.std.proofs.Common.{sym, ap, ◌∙◌, is_some}
 use Rattle.meter_usage.specs.Amounts.{amount_at}
 use Rattle.meter_usage.specs.Table.{added}
 use Rattle.meter_usage.proofs.Tables.{total_same}
-use Rattle.meter_usage.proofs.Edited.{kept_fits, kept_added, put_place, put_row, put_totals}
+use Rattle.meter_usage.proofs.Edited.{kept_fits, kept_added, added_row}
 use Rattle.meter_usage.proofs.edits.add_row.Goals as goal
 
 pub mend_at-requires-clause-place : goal.mend_at-requires-clause-place
 mend_at-requires-clause-place c =
-    put_place c.args.address c.args.meters.now.entries c.put.new.meters.entries c.in_ok-row.row c.count-place.result c.in_ok-put.ensures.ok
-    c.count-place.ensures
+    (added_row c.args.address c.args.meters.now.entries c.put.new.meters.entries c.in_ok-row.row c.count-place.result
+    c.in_ok-put.ensures.ok c.count-place.ensures).within
 
 pub mend_at-requires-clause-there : goal.mend_at-requires-clause-there
 mend_at-requires-clause-there c = λ q d has.
     c.in_ok-make_room.ensures.there q (ap (λ row. is_some (amount_at q row))
-    (sym (put_row c.args.address c.args.meters.now.entries c.put.new.meters.entries c.in_ok-row.row
-    c.count-place.result c.in_ok-put.ensures.ok c.count-place.ensures d)) ∙ has)
+    (sym ((added_row c.args.address c.args.meters.now.entries c.put.new.meters.entries c.in_ok-row.row c.count-place.result
+    c.in_ok-put.ensures.ok c.count-place.ensures).is d)) ∙ has)
 
 pub mend_at-requires-clause-fitting : goal.mend_at-requires-clause-fitting
 mend_at-requires-clause-fitting c =
@@ -22,9 +22,9 @@ mend_at-requires-clause-fitting c =
 
 pub mend_at-requires-clause-totals : goal.mend_at-requires-clause-totals
 mend_at-requires-clause-totals c = λ q.
-    c.make_room.ensures.same q ∙ c.requires.kept.totals q
-    ∙ sym (put_totals c.args.address c.args.meters.now.entries c.put.new.meters.entries c.in_ok-row.row
-    c.count-place.result c.in_ok-put.ensures.ok c.count-place.ensures q)
+    c.make_room.ensures.same q ∙ c.requires.kept.totals q ∙ sym ((added_row c.args.address c.args.meters.now.entries
+    c.put.new.meters.entries c.in_ok-row.row c.count-place.result c.in_ok-put.ensures.ok c.count-place.ensures).totals q
+    ∙ total_same q c.args.address c.args.meters.now.entries)
 
 pub returns-clause-kept : goal.returns-clause-kept
 returns-clause-kept c =

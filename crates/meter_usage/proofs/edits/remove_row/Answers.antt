@@ -4,14 +4,16 @@ use Rattle.meter_usage.proofs.edits.remove_row.Goals as goal
 
 pub mend_at-requires-clause-there : goal.mend_at-requires-clause-there
 mend_at-requires-clause-there c =
-    kept_there c.args.address c.args.meters.now.entries c.args.sums.now.entries c.args.place c.requires.kept c.requires.place
+    kept_there c.args.address c.args.meters.now.entries c.args.sums.now.entries c.args.sums.now.entries c.args.place c.requires.kept
+    (λ q. refl) c.requires.place
 
 pub mend_at-requires-clause-fitting : goal.mend_at-requires-clause-fitting
 mend_at-requires-clause-fitting c =
     kept_fits c.args.meters.now.entries c.args.sums.now.entries c.args.sums.now.entries c.requires.kept (λ q. refl)
 
 pub mend_at-requires-clause-totals : goal.mend_at-requires-clause-totals
-mend_at-requires-clause-totals c = kept_before c.args.address c.args.meters.now.entries c.args.sums.now.entries c.requires.kept
+mend_at-requires-clause-totals c =
+    kept_before c.args.address c.args.meters.now.entries c.args.sums.now.entries c.args.sums.now.entries c.requires.kept (λ q. refl)
 
 pub returns-clause-kept : goal.returns-clause-kept
 returns-clause-kept c =

@@ -1,31 +1,27 @@
-use Rattle.std.proofs.Common.{◌≡◌, ◌<◌, sym, ap, ◌∙◌, subst, IfSome, Ok, Err, Some, None, arith}
+use Rattle.std.proofs.Common.{◌≡◌, sym, ap, ◌∙◌, subst, IfSome, Ok, Err, Some, None, arith}
 use Rattle.dif_vif.specs.Spans.{LiesWithin}
-use Rattle.dif_vif.specs.Reading.{next_of}
-use Rattle.record_text.proofs.Listings.{goes_on, is_done, is_faulty, is_full}
+use Rattle.paper.proofs.Calls.{none, then}
+use Rattle.record_text.proofs.Listings.{next_put, is_full}
 use Rattle.record_text.proofs.listing.put_records.Goals as goal
 
 pub returns-in-Err : goal.returns-in-Err
 returns-in-Err g c =
-    let some : 0 < c.records.left = omega (arith, c.records-test.true) in
-    let is : next_of c.args.payload.now c.records.from ≡ Err c.in-Err.fault = sym c.in-Err.ensures.exact in
-    c.records.invariant.1 _ (is_faulty c.records.left c.args.payload.now c.records.from c.in-Err.fault some is c.put_fault.ensures)
+    c.records.invariant.1 _ (next_put c.records.left c.args.payload.now c.records.from (Err c.in-Err.fault)
+    (omega (arith, c.records-test.true)) (sym c.in-Err.ensures.exact) c.put_fault.ensures)
 
 pub returns-in-Ok-None : goal.returns-in-Ok-None
 returns-in-Ok-None g c =
-    let some : 0 < c.records.left = omega (arith, c.records-test.true) in
-    let is : next_of c.args.payload.now c.records.from ≡ Ok None = sym c.in-Ok-None.ensures.exact ∙ ap Ok c.in-Ok-None.field-0-is in
-    c.records.invariant.1 _ (is_done c.records.left c.args.payload.now c.records.from some is)
+    c.records.invariant.1 _ (next_put c.records.left c.args.payload.now c.records.from (Ok None) (omega (arith, c.records-test.true))
+    (sym c.in-Ok-None.ensures.exact ∙ ap Ok c.in-Ok-None.field-0-is) none)
 
 pub records-preserved : goal.records-preserved
 records-preserved g c =
-    let some : 0 < c.records.left = omega (arith, c.records-test.true) in
-    let is : next_of c.args.payload.now c.records.from ≡ Ok (Some c.in-Ok-Some.span) =
-    sym c.in-Ok-Some.ensures.exact ∙ ap Ok c.in-Ok-Some.field-0-is in
     let within : LiesWithin c.args.payload.now c.in-Ok-Some.span =
     subst (λ next. IfSome next (LiesWithin c.args.payload.now)) c.in-Ok-Some.field-0-is c.in-Ok-Some.ensures.within in (
       within.within,
       λ q later. c.records.invariant.1 q
-          (goes_on c.records.left c.args.payload.now c.records.from c.in-Ok-Some.span some is c.put_span.ensures later),
+          (next_put c.records.left c.args.payload.now c.records.from (Ok (Some c.in-Ok-Some.span)) (omega (arith, c.records-test.true))
+          (sym c.in-Ok-Some.ensures.exact ∙ ap Ok c.in-Ok-Some.field-0-is) (then c.put_span.ensures later)),
     )
 
 pub returns : goal.returns

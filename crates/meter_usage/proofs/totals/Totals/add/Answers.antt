@@ -4,22 +4,24 @@ use Rattle.meter_usage.specs.Amounts.{row_of}
 use Rattle.meter_usage.specs.Table.{added}
 use Rattle.meter_usage.specs.Edits.{addition}
 use Rattle.meter_usage.specs.Faults.{add_fault}
-use Rattle.meter_usage.proofs.Edited.{ok_at, err_at}
-use Rattle.meter_usage.proofs.Accepted.{addition_accepted, add_fault_stands, refused_by, none_there}
+use Rattle.meter_usage.proofs.Edited.{added_stands, ok_at, err_at}
+use Rattle.meter_usage.proofs.Accepted.{accepted_by, add_fault_stands, refused_by, none_there}
 use Rattle.meter_usage.proofs.totals.Totals.add.Goals as goal
 use Rattle.meter_usage.proofs.totals.Totals.add.Goals.{in-Ok, in-Err}
 
 pub returns-in-Some : goal.returns-in-Some
 returns-in-Some c =
     refused_by (addition c.args.address c.args.payload.now) c.args.self.now _ c.in-Some.fault
-    (λ edits s. c.add_fault.ensures ∙ ap (add_fault c.args.address) c.self.view_is ∙ add_fault_stands c.args.address c.args.self.now edits s) c.in-Some.is
+    (λ edits s. c.add_fault.ensures ∙ ap (add_fault c.args.address) c.self.view_is
+    ∙ add_fault_stands c.args.address c.args.self.now edits s) c.in-Some.is
 
 pub returns : goal.returns
 returns c = record {
   accepted = elim c.match-add_row.branch [
     | in-Ok w ↦ ok_at c.match-add_row.result (λ edits s.
-        addition_accepted c.add_row.new.meters.entries c.args.self.now c.args.address c.args.payload.now
-        (w.in-Ok.ensures.ok ∙ ap (λ t. added t c.args.address (row_of c.args.payload.now)) c.self.view_is) edits s)
+        accepted_by (addition c.args.address c.args.payload.now) _ _ (added_stands c.add_row.new.meters.entries c.args.self.now
+        c.args.address c.args.payload.now
+        (w.in-Ok.ensures.ok ∙ ap (λ t. added t c.args.address (row_of c.args.payload.now)) c.self.view_is)) edits s)
     | in-Err w ↦ err_at _ c.match-add_row.result _ w.result-is
   ];
   unchanged = search rules;

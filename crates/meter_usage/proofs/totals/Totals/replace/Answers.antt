@@ -4,22 +4,24 @@ use Rattle.meter_usage.specs.Amounts.{row_of}
 use Rattle.meter_usage.specs.Table.{replaced}
 use Rattle.meter_usage.specs.Edits.{replacement}
 use Rattle.meter_usage.specs.Faults.{place_fault}
-use Rattle.meter_usage.proofs.Edited.{ok_at, err_at}
-use Rattle.meter_usage.proofs.Accepted.{replacement_accepted, place_fault_stands, refused_by, none_there}
+use Rattle.meter_usage.proofs.Edited.{replaced_stands, ok_at, err_at}
+use Rattle.meter_usage.proofs.Accepted.{accepted_by, place_fault_stands, refused_by, none_there}
 use Rattle.meter_usage.proofs.totals.Totals.replace.Goals as goal
 use Rattle.meter_usage.proofs.totals.Totals.replace.Goals.{in-Ok, in-Err}
 
 pub returns-in-Some : goal.returns-in-Some
 returns-in-Some c =
     refused_by (replacement c.args.address c.args.place c.args.payload.now) c.args.self.now _ c.in-Some.fault
-    (λ edits s. c.place_fault.ensures ∙ ap (place_fault c.args.address c.args.place) c.self.view_is ∙ place_fault_stands c.args.address c.args.place c.args.self.now edits s) c.in-Some.is
+    (λ edits s. c.place_fault.ensures ∙ ap (place_fault c.args.address c.args.place) c.self.view_is
+    ∙ place_fault_stands c.args.address c.args.place c.args.self.now edits s) c.in-Some.is
 
 pub returns : goal.returns
 returns c = record {
   accepted = elim c.match-replace_row.branch [
     | in-Ok w ↦ ok_at c.match-replace_row.result (λ edits s.
-        replacement_accepted c.replace_row.new.meters.entries c.args.self.now c.args.address c.args.place c.args.payload.now
-        (w.in-Ok.ensures.ok ∙ ap (λ t. replaced t c.args.address c.args.place (row_of c.args.payload.now)) c.self.view_is) edits s)
+        accepted_by (replacement c.args.address c.args.place c.args.payload.now) _ _
+        (replaced_stands c.replace_row.new.meters.entries c.args.self.now c.args.address c.args.place c.args.payload.now
+        (w.in-Ok.ensures.ok ∙ ap (λ t. replaced t c.args.address c.args.place (row_of c.args.payload.now)) c.self.view_is)) edits s)
     | in-Err w ↦ err_at _ c.match-replace_row.result _ w.result-is
   ];
   unchanged = search rules;
