@@ -56,6 +56,9 @@ numbers_more f heard t line number =
 
 -- ---- a number more in one of some lists
 
+suc-is : (n : ℕ) → 1 + n ≡ suc n
+suc-is n = omega arith
+
 abbrev one_if : Bool → ℕ → List ℕ
 one_if b n = cond b (n ∷ []) []
 
@@ -91,16 +94,9 @@ placed f s a n (c ∷ cs) apart = at (c.address.0 == a) refl (placed f s a n cs 
         → with_number (place_in a (c ∷ cs)) n (map f (c ∷ cs) ++ s ∷ []) ≡ all_with f s a n (c ∷ cs)
     at true e h =
         let none = unchanged f a c.address.0 n cs (eqb-true c.address.0 a e) apart.0 in
-        (λ i. with_number (cond (not (e i)) (1 + place_in a cs) 0) n (f c ∷ (map f cs ++ s ∷ [])))
-        ∙ (λ i. (f c ++ one_if (sym e i) n) ∷ (sym none.0 i ++ (sym (append-nil s) i) ∷ []))
-        ∙ (λ i. (f c ++ one_if (c.address.0 == a) n) ∷ (map (λ d. f d ++ one_if (is_for a d) n) cs
-        ++ (s ++ one_if (not (sym e i || list_any (is_for a) cs)) n) ∷ []))
+        rw (e, none.0) (λ i. (f c ++ n ∷ []) ∷ (map f cs ++ (sym (append-nil s) i) ∷ []))
     at false e h =
-        (λ i. with_number (cond (not (e i)) (1 + place_in a cs) 0) n (f c ∷ (map f cs ++ s ∷ [])))
-        ∙ (ap (λ j. with_number j n (f c ∷ (map f cs ++ s ∷ []))) (let e' : 1 + place_in a cs ≡ suc (place_in a cs) = omega arith in e')
-        ∙ (λ i. (sym (append-nil (f c)) i) ∷ h i))
-        ∙ (λ i. (f c ++ one_if (sym e i) n) ∷ (map (λ d. f d ++ one_if (is_for a d) n) cs
-        ++ (s ++ one_if (not (sym e i || list_any (is_for a) cs)) n) ∷ []))
+        rw (e, suc-is (place_in a cs)) (λ i. (sym (append-nil (f c)) i) ∷ h i)
 
 -- ---- all lists, and one line more
 

@@ -1,5 +1,5 @@
 -- Sources that are read one after another.
-use Rattle.std.proofs.Common.{◌≡◌, ℕ, suc, ◌+◌, ◌<◌, ◌≤◌, List, [], ◌∷◌, ◌++◌, length, take, drop, get_or, set, IsTrue, Bool, false, cond, Result, Ok, Err, is_ok, is_err, refl, sym, ap, ◌∙◌, subst, arith, append_assoc, length-append}
+use Rattle.std.proofs.Common.{◌≡◌, ℕ, suc, ◌+◌, ◌<◌, ◌≤◌, List, [], ◌∷◌, ◌++◌, length, take, drop, get_or, set, IsTrue, refl, sym, ap, ◌∙◌, subst, arith, append_assoc, length-append}
 use Rattle.std.specs.Prelude.{Option, Some, None, IfSome}
 use Rattle.std.proofs.lemmas.List.{drop_more, get_or_at, length-take-le, set_at, take_more, take-append-drop}
 use Rattle.lists.proofs.Members.{each_append, with_push}
@@ -137,9 +137,3 @@ module _ {S : Type 0} (s : sources.Ghosts S) where
         (source_change s x x') (source_changes s (drop (place + 1) olds) (drop (place + 1) olds))
         (all_read (IsTrue s.tells) (source_changes s (take place olds) so.front) read so.each)
         (let l = length-changes (take place olds) so.front long in let m = long in let n = so.count in omega arith) failed)
-
--- what a push that worked leaves
-pub pushed : {T E A : Type 0} (r : Result T E) (new old : List A) (x : A) (b : Bool) → new ≡ cond (is_ok r) (old ++ x ∷ []) old
-    → b ≡ is_err r → b ≡ false → new ≡ old ++ x ∷ []
-pushed (Ok t) new old x b e f g = e
-pushed (Err y) new old x b e f g = absurd cc

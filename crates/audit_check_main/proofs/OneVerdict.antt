@@ -3,8 +3,9 @@ use Rattle.std.proofs.Common.{◌≡◌, ◌==◌, ℕ, zero, suc, ◌+◌, ◌<
 use Rattle.std.specs.Prelude.{Some, IfSome}
 use Rattle.std.specs.List.{slice_get}
 use Rattle.std.proofs.lemmas.Bool.{both_ways, cases_lt}
-use Rattle.std.proofs.lemmas.List.{length-map, reverse-append, take-append-drop, take-take}
+use Rattle.std.proofs.lemmas.List.{length-map, reverse-append, same_from_push, take-append-drop, take-take}
 use Rattle.std.proofs.Math.Seq.{take-length}
+use Rattle.lists.proofs.Places.{head_is, tail_is}
 use Rattle.lists.specs.Each.{EachWith, IsFirst}
 use Rattle.line_reader.specs.Lines.{is_over}
 use Rattle.meter_address.specs.declared.address.Address.{Address}
@@ -197,33 +198,26 @@ wrong_not_ordered a r world list place wrong h =
 
 -- ---- one session
 
-one_each : (own : Address) (all : List (List Told)) (cs : List Start) (slots slots' : List SlotView) (x y : List (ℕ × ℕ))
+one_each : (own : Address) (all : List (List Told)) (cs : List Start) (slots slots' : List SlotView)
     → EachWith (IsMetersSlot own all) cs slots → EachWith (IsMetersSlot own all) cs slots'
-    → map (λ (s : SlotView). order_of s.journal) slots ++ x ∷ [] ≡ map (λ (s : SlotView). order_of s.journal) slots' ++ y ∷ []
-    → (slots ≡ slots') × (x ≡ y)
-one_each own all [] [] [] x y h k e = (refl, cc)
-one_each own all [] [] (s ∷ slots') x y h k e = absurd k
-one_each own all [] (s ∷ slots) slots' x y h k e = absurd h
-one_each own all (c ∷ cs) [] slots' x y h k e = absurd h
-one_each own all (c ∷ cs) (s ∷ slots) [] x y h k e = absurd k
-one_each own all (c ∷ cs) (s ∷ slots) (s' ∷ slots') x y h k e =
-    let head : order_of s.journal ≡ order_of s'.journal = cc in
-    let tail : map (λ (t : SlotView). order_of t.journal) slots ++ x ∷ [] ≡ map (λ (t : SlotView). order_of t.journal) slots' ++ y ∷ [] =
-    cc in
-    let rest = one_each own all cs slots slots' x y h.1 k.1 tail in
-    let same = one_slot own c all all s s' h.0 k.0 (λ w. refl) head in
-    ((λ i. same i ∷ rest.0 i), rest.1)
+    → map (λ (s : SlotView). order_of s.journal) slots ≡ map (λ (s : SlotView). order_of s.journal) slots' → slots ≡ slots'
+one_each own all [] [] [] h k e = refl
+one_each own all [] [] (s ∷ slots') h k e = absurd k
+one_each own all [] (s ∷ slots) slots' h k e = absurd h
+one_each own all (c ∷ cs) [] slots' h k e = absurd h
+one_each own all (c ∷ cs) (s ∷ slots) [] h k e = absurd k
+one_each own all (c ∷ cs) (s ∷ slots) (s' ∷ slots') h k e =
+    (λ i. one_slot own c all all s s' h.0 k.0 (λ w. refl) (head_is _ _ _ _ e) i
+    ∷ one_each own all cs slots slots' h.1 k.1 (tail_is _ _ _ _ e) i)
 
 one_world : (a : Audited) (r : Known) (world world' : WorldView) → IsOrdered a r world → IsOrdered a r world' → world ≡ world'
 one_world a r world world' h k =
-    let parts =
-    one_each r.own (heard_of a) r.starts world.slots world'.slots (order_of_strangers world.strangers)
-    (order_of_strangers world'.strangers) h.session.meters k.session.meters (sym (printed_are a r world h)
-    ∙ printed_are a r world' k) in
+    let both = same_from_push _ _ _ _ (sym (printed_are a r world h) ∙ printed_are a r world' k) in
+    let slots = one_each r.own (heard_of a) r.starts world.slots world'.slots h.session.meters k.session.meters both.0 in
     let strangers =
     one_strangers (λ w. lines_of_strangers r.starts (heard_by w (heard_of a)))
-    world.strangers world'.strangers h.session.strangers k.session.strangers parts.1 in
-    (λ i. record { slots = parts.0 i; strangers = strangers i })
+    world.strangers world'.strangers h.session.strangers k.session.strangers both.1 in
+    (λ i. record { slots = slots i; strangers = strangers i })
 
 -- ---- one place of a difference
 

@@ -3,15 +3,15 @@ use Rattle.std.proofs.Common.{◌≡◌, ◌+◌, slice_set, IsTrue, Err, refl, 
 use Rattle.lists.specs.Each.{IsFirst}
 use Rattle.outer_io.specs.Shown.{ReadFailed}
 use Rattle.audit_check_main.specs.Run.{WasRead, source_changes}
-use Rattle.audit_check_main.proofs.InputReads.{inputs_first, inputs_next, inputs_lost, inputs_failed, pushed}
+use Rattle.audit_check_main.proofs.InputReads.{inputs_first, inputs_next, inputs_lost, inputs_failed}
 use Rattle.audit_check_main.proofs.running.read_inputs.Goals as goal
 
 pub loop-place-init : goal.loop-place-init
 loop-place-init g c =
     inputs_first g.S.Source c.args.inputs.now.items c.args.inputs.now.items c.new-read.result.items refl c.new-read.ensures.items
 
-pub returns-then-is_err-clause-no_loss : goal.returns-then-is_err-clause-no_loss
-returns-then-is_err-clause-no_loss g c =
+pub returns-in_default-clause-no_loss : goal.returns-in_default-clause-no_loss
+returns-in_default-clause-no_loss g c =
     λ t. inputs_lost g.S.Source _ _ _ _ _ _ c.read_input.new.source c.loop-place.invariant
     (let t = c.loop-place-test.true in let n = c.len-place-end.ensures in let o = c.args.inputs.now.ok.0 in omega arith)
     c.index_mut-source.ensures.value refl c.read_input.ensures.no_loss t
@@ -42,6 +42,5 @@ loop-place-preserved g c =
     inputs_next g.S.Source _ _ _ _ _ _ c.read_input.new.source c.loop-place.invariant
     (let t = c.loop-place-test.true in let n = c.len-place-end.ensures in let o = c.args.inputs.now.ok.0 in omega arith)
     c.index_mut-source.ensures.value refl c.in-Ok.input c.push.new.self.items
-    (pushed c.push.result c.push.new.self.items c.loop-place.read.items c.in-Ok.input c.is_err.result c.push.ensures.items
-    c.is_err.ensures.value c.if-is_err.false)
+    c.in-Ok-push.ensures.items
     c.in-Ok.ensures.read c.read_input.ensures.no_loss
