@@ -1,12 +1,12 @@
 -- Lines that lists name: each is one of the list that names it.
-use Rattle.std.proofs.Common.{◌≡◌, ◌==◌, ◌||◌, ℕ, zero, suc, ◌+◌, ◌<◌, ◌≤◌, not, Bool, true, false, cond, List, [], ◌∷◌, ◌++◌, map, length, take, get_or, Result, Ok, Err, ⊎_elim, refl, sym, ap, ◌∙◌, subst, arith}
+use Rattle.std.proofs.Common.{◌≡◌, ◌==◌, ℕ, zero, suc, ◌+◌, ◌<◌, ◌≤◌, not, Bool, false, cond, List, [], ◌∷◌, map, length, get_or, Result, Ok, Err, ⊎_elim, refl, sym, ap, ◌∙◌, subst, arith}
 use Rattle.std.specs.List.{list_any, position_or_len}
-use Rattle.std.proofs.lemmas.Bool.{cases_lt}
+use Rattle.std.proofs.lemmas.Bool.{cases_lt, eq-eqb, or_parts}
 use Rattle.std.proofs.lemmas.Bool.Decides.{nat_tests}
-use Rattle.std.proofs.lemmas.List.{take_more, length-map}
+use Rattle.std.proofs.lemmas.List.{get_or-map, length-map}
 use Rattle.std.proofs.lemmas.List.Sums.{prefix_len-le-length}
-use Rattle.std.proofs.Math.Seq.{take-length}
 use Rattle.lists.specs.Each.{Each}
+use Rattle.lists.proofs.Members.{each_map}
 use Rattle.meter_address.specs.declared.address.Address.{Address}
 use Rattle.meter_address.specs.Address.{AreApart}
 use Rattle.meter_slots.specs.Journal.{Start}
@@ -18,25 +18,6 @@ use Rattle.audit_check_main.specs.declared.stepping.Unmade.{Unmade}
 use Rattle.audit_check_main.specs.declared.stepping.Unmade.TheVariants as unmade
 use Rattle.audit_check_main.specs.Hearing.{HeardInput, told_at, sort_of, AreListed, AreListedBelow}
 use Rattle.audit_check_main.specs.Stepping.{IsEventFor}
-use Rattle.audit_check_main.proofs.Steps.{get-map}
-
--- ---- facts on each item of a list
-
-each_push : {X : Type 0} (P : X → Type 0) (xs : List X) (x : X) → Each P xs → P x → Each P (xs ++ x ∷ [])
-each_push P [] x h p = (p, tt)
-each_push P (y ∷ xs) x h p = (h.0, each_push P xs x h.1 p)
-
-pub each_more : {X : Type 0} (P : X → Type 0) (xs : List X) (i : ℕ) (x d : X) → Each P (take i xs) → i < length xs → x ≡ get_or xs i d → P x
-    → Each P (take (i + 1) xs)
-each_more P xs i x d h inside is p =
-    subst (Each P) (ap (λ y. take i xs ++ y ∷ []) is ∙ sym (take_more xs i d inside)) (each_push P (take i xs) x h p)
-
-pub each_whole : {X : Type 0} (P : X → Type 0) (xs : List X) (n : ℕ) → n ≡ length xs → Each P (take n xs) → Each P xs
-each_whole P xs n e h = subst (Each P) (ap (λ m. take m xs) e ∙ take-length xs) h
-
-each_map : {X : Type 0} (P Q : X → Type 0) → ((x : X) → P x → Q x) → (xs : List X) → Each P xs → Each Q xs
-each_map P Q f [] h = tt
-each_map P Q f (x ∷ xs) h = (f x h.0, each_map P Q f xs h.1)
 
 -- ---- a stray line that is handed on
 
@@ -48,13 +29,6 @@ pub stray_from : {T : Type 0} (r : Result T Unmade) (y e : Unmade) → r ≡ Err
 stray_from r y e is same stray = sym same ∙ ap error_of (sym is ∙ stray)
 
 -- ---- the lists of addresses
-
-or_parts : (x y : Bool) → (x || y) ≡ false → (x ≡ false) × (y ≡ false)
-or_parts true y h = absurd cc
-or_parts false y h = (refl, h)
-
-same_test : (a b : ℕ) → a ≡ b → (a == b) ≡ true
-same_test a b h = grind (arith, nat_tests)
 
 other_test : (a b c : ℕ) → (b == a) ≡ false → b ≡ c → (a == c) ≡ false
 other_test a b c h e = grind (arith, nat_tests)
@@ -69,7 +43,7 @@ own_place : (xs : List Address) (k : ℕ) (d : Address) (n : ℕ) → AreApart x
     → position_or_len (λ a. a.0 == n) xs ≡ k
 own_place [] k d n apart inside is = absurd (omega arith)
 own_place (x ∷ xs) zero d n apart inside is =
-    ap (λ b. cond (not b) (1 + position_or_len (λ (a : Address). a.0 == n) xs) 0) (same_test x.0 n is)
+    ap (λ b. cond (not b) (1 + position_or_len (λ (a : Address). a.0 == n) xs) 0) (eq-eqb x.0 n is)
 own_place (x ∷ xs) (suc k) d n apart inside is =
     let other = other_test x.0 (get_or xs k d).0 n (none_at (λ (b : Address). b.0 == x.0) xs k d apart.0 (omega arith)) is in
     let rest = own_place xs k d n apart.1 (omega arith) is in
@@ -124,7 +98,7 @@ module _ (heard : List HeardInput) (lists : List (List (ℕ × ℕ))) where
       IsListed k p = sort_of (map (λ (d : Start). d.address) cs) (told_at heard p.0 p.1) ≡ sorts.Listed k
 
       there : get_or (map (λ (d : Start). d.address) cs) i c.address ≡ c.address
-      there = get-map (λ (d : Start). d.address) cs i c.address c inside ∙ ap (λ (d : Start). d.address) (sym is)
+      there = get_or-map (λ (d : Start). d.address) cs i c c.address inside ∙ ap (λ (d : Start). d.address) (sym is)
 
       here : Each (IsListed i) (get_or lists i [])
       here =

@@ -2,6 +2,7 @@
 use Rattle.std.proofs.Common.{◌≡◌, ◌==◌, ◌||◌, ℕ, suc, ◌+◌, ◌<◌, ◌≤◌, not, nat_lt, Bool, true, false, cond, List, [], ◌∷◌, ◌++◌, map, length, take, get_or, Option, Some, None, refl, sym, ap, ◌∙◌, subst, arith, append-nil, length-append}
 use Rattle.std.specs.Prelude.{option_to_list, position, count_by}
 use Rattle.std.specs.List.{slice_get, filter_map, cons_option, list_any, position_or_len, enumerate_from}
+use Rattle.std.proofs.lemmas.Bool.{eqb-true, ltb-false, or_parts}
 use Rattle.std.proofs.lemmas.Bool.Decides.{nat_tests}
 use Rattle.std.proofs.lemmas.List.{map-append, length-map, length-take, length-take-le, take_more}
 use Rattle.std.proofs.lemmas.Option.{slice_get-get_or}
@@ -9,6 +10,7 @@ use Rattle.std.proofs.Math.Nat.{min-le_right}
 use Rattle.std.proofs.Math.Seq.{take-length}
 use Rattle.std.proofs.lemmas.List.Sums.{prefix_len-le-length, sum_by-cons}
 use Rattle.std.specs.Str.Lines.{lines}
+use Rattle.lists.proofs.Choices.{none_if}
 use Rattle.line_reader.specs.Lines.{is_over}
 use Rattle.meter_slots.specs.declared.counts.Counts.{Counts}
 use Rattle.receivers.specs.declared.class.Class.TheVariants as classes
@@ -54,6 +56,9 @@ numbers_more f heard t line number =
 
 -- ---- a number more in one of some lists
 
+suc-is : (n : ℕ) → 1 + n ≡ suc n
+suc-is n = omega arith
+
 abbrev one_if : Bool → ℕ → List ℕ
 one_if b n = cond b (n ∷ []) []
 
@@ -66,10 +71,6 @@ place_in a cs = position_or_len (λ x. x.0 == a) (map (λ (c : Start). c.address
 -- the list of each meter with this address has the number behind its others, and the last list where there is no such meter
 abbrev all_with : (Start → List ℕ) → List ℕ → ℕ → ℕ → List Start → List (List ℕ)
 all_with f s a n cs = map (λ c. f c ++ one_if (is_for a c) n) cs ++ (s ++ one_if (not (list_any (is_for a) cs)) n) ∷ []
-
-or_parts : (x y : Bool) → (x || y) ≡ false → (x ≡ false) × (y ≡ false)
-or_parts true y h = absurd cc
-or_parts false y h = (refl, h)
 
 -- where no meter has the address, no list of a meter changes
 unchanged : (f : Start → List ℕ) (a b n : ℕ) (cs : List Start) → b ≡ a
@@ -84,9 +85,6 @@ unchanged f a b n (c ∷ cs) same h =
       (λ i. other i || rest.1 i),
     )
 
-is_same : (a b : ℕ) → (a == b) ≡ true → a ≡ b
-is_same a b h = grind (arith, nat_tests)
-
 placed : (f : Start → List ℕ) (s : List ℕ) (a n : ℕ) (cs : List Start) → AreApart (map (λ (c : Start). c.address) cs)
     → with_number (place_in a cs) n (map f cs ++ s ∷ []) ≡ all_with f s a n cs
 placed f s a n [] apart = refl
@@ -95,17 +93,10 @@ placed f s a n (c ∷ cs) apart = at (c.address.0 == a) refl (placed f s a n cs 
     at : (b : Bool) → (c.address.0 == a) ≡ b → with_number (place_in a cs) n (map f cs ++ s ∷ []) ≡ all_with f s a n cs
         → with_number (place_in a (c ∷ cs)) n (map f (c ∷ cs) ++ s ∷ []) ≡ all_with f s a n (c ∷ cs)
     at true e h =
-        let none = unchanged f a c.address.0 n cs (is_same c.address.0 a e) apart.0 in
-        (λ i. with_number (cond (not (e i)) (1 + place_in a cs) 0) n (f c ∷ (map f cs ++ s ∷ [])))
-        ∙ (λ i. (f c ++ one_if (sym e i) n) ∷ (sym none.0 i ++ (sym (append-nil s) i) ∷ []))
-        ∙ (λ i. (f c ++ one_if (c.address.0 == a) n) ∷ (map (λ d. f d ++ one_if (is_for a d) n) cs
-        ++ (s ++ one_if (not (sym e i || list_any (is_for a) cs)) n) ∷ []))
+        let none = unchanged f a c.address.0 n cs (eqb-true c.address.0 a e) apart.0 in
+        rw (e, none.0) (λ i. (f c ++ n ∷ []) ∷ (map f cs ++ (sym (append-nil s) i) ∷ []))
     at false e h =
-        (λ i. with_number (cond (not (e i)) (1 + place_in a cs) 0) n (f c ∷ (map f cs ++ s ∷ [])))
-        ∙ (ap (λ j. with_number j n (f c ∷ (map f cs ++ s ∷ []))) (let e' : 1 + place_in a cs ≡ suc (place_in a cs) = omega arith in e')
-        ∙ (λ i. (sym (append-nil (f c)) i) ∷ h i))
-        ∙ (λ i. (f c ++ one_if (sym e i) n) ∷ (map (λ d. f d ++ one_if (is_for a d) n) cs
-        ++ (s ++ one_if (not (sym e i || list_any (is_for a) cs)) n) ∷ []))
+        rw (e, suc-is (place_in a cs)) (λ i. (sym (append-nil (f c)) i) ∷ h i)
 
 -- ---- all lists, and one line more
 
@@ -149,10 +140,6 @@ numbers_for-push cs heard told.Bad line apart number =
 
 -- ---- the list of an address
 
-none_if : (b : Bool) (n : ℕ) → cond b (Some n) None ≡ None → b ≡ false
-none_if true n h = absurd cc
-none_if false n h = refl
-
 pub place_none : (p : Address → Bool) (xs : List Address) → position p xs ≡ None → length xs ≡ position_or_len p xs
 place_none p xs h =
     let test : nat_lt (position_or_len p xs) (length xs) ≡ false = none_if _ _ h in
@@ -187,19 +174,6 @@ addresses cs = map (λ c. c.address) cs
 pub record HaveComeTo (cs : List Start) (heard : List Told) (lists : List (List ℕ)) (kinds : List Class) : Type 0 where
   pub lists_are : lists ≡ numbers_for cs heard
   pub classes_are : kinds ≡ map (class_by (map (λ c. c.address) cs)) heard
-
-empty_numbers : (cs : List Start) → map (λ (c : Start). []) cs ++ [] ∷ [] ≡ numbers_for cs []
-empty_numbers [] = refl
-empty_numbers (c ∷ cs) = ap (λ l. [] ∷ l) (rest cs)
-  where
-    rest : (cs : List Start) → map (λ (c : Start). []) cs ++ [] ∷ []
-        ≡ map (λ (c : Start). map number_of (lines_for c.address [])) cs ++ [] ∷ []
-    rest [] = refl
-    rest (c ∷ cs) = ap (λ l. [] ∷ l) (rest cs)
-
-pub come_none : (cs : List Start) (lists : List (List ℕ)) (kinds : List Class)
-    → lists ≡ map (λ (c : Start). []) cs ++ [] ∷ [] → kinds ≡ [] → HaveComeTo cs [] lists kinds
-come_none cs lists kinds empty no_kinds = record { lists_are = empty ∙ empty_numbers cs; classes_are = no_kinds }
 
 -- one line more
 come_more : (cs : List Start) (heard : List Told) (t : Told) (number : ℕ) (lists lists' : List (List ℕ)) (kinds : List Class)
@@ -239,8 +213,7 @@ module _ (cs : List Start) (texts : List (List ℕ)) (i : ℕ) (t : Told) (insid
 pub few_lines : (input : List ℕ) → is_over input ≡ false → length (lines input) ≤ 131072
 unfolding is_over
 few_lines input h =
-    let parts : (nat_lt 67108864 (length input) ≡ false) × (nat_lt 131072 (length (lines input)) ≡ false) =
-    or_parts _ _ h in let few : nat_lt 131072 (length (lines input)) ≡ false = parts.1 in grind (arith, nat_tests)
+    ltb-false 131072 (length (lines input)) (or_parts _ _ h).1
 
 -- so have those among its first lines
 pub first_few : (cs : List Start) (input : List ℕ) (i : ℕ) (lists : List (List ℕ)) (kinds : List Class) → is_over input ≡ false
@@ -255,10 +228,6 @@ first_few cs input i lists kinds within so =
 -- one list for each meter, and one
 pub length-numbers_for : (cs : List Start) (heard : List Told) → length (numbers_for cs heard) ≡ length cs + 1
 length-numbers_for cs heard = length-append (map (own_numbers heard) cs) _ ∙ ap (λ n. n + 1) (length-map cs (own_numbers heard))
-
-pub long_lists : (cs : List Start) (heard : List Told) (lists : List (List ℕ)) (kinds : List Class) → HaveComeTo cs heard lists kinds
-    → length lists ≡ length cs + 1
-long_lists cs heard lists kinds so = ap length so.lists_are ∙ length-numbers_for cs heard
 
 -- ---- counts
 

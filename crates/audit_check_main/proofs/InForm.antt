@@ -1,9 +1,9 @@
 -- Each line of a report stands in its own list.
-use Rattle.std.proofs.Common.{◌≡◌, ℕ, suc, ◌+◌, ◌<◌, ◌≤◌, ◌^◌, ◌-◌, nat_le, true, false, not, cond, ◌&&◌, List, [], ◌∷◌, ◌++◌, codes, map, filter, length, reverse, Option, Some, refl, sym, ap, ◌∙◌, subst, arith, append_assoc, append-nil}
+use Rattle.std.proofs.Common.{◌≡◌, ℕ, suc, ◌+◌, ◌<◌, ◌≤◌, ◌^◌, ◌-◌, nat_le, Bool, true, false, not, cond, ◌&&◌, List, [], ◌∷◌, ◌++◌, codes, map, filter, length, reverse, Option, Some, refl, sym, ap, ◌∙◌, subst, arith, append_assoc, append-nil}
 use Rattle.std.specs.Prelude.{slice_get, is_some}
 use Rattle.std.specs.Fmt.{decimal}
 use Rattle.std.specs.List.{All, AllByRecursion, flat_map}
-use Rattle.std.proofs.lemmas.Bool.Decides.{nat_tests}
+use Rattle.std.proofs.lemmas.Bool.{lt-leb}
 use Rattle.std.proofs.lemmas.List.Elements.{recursion_from_All}
 use Rattle.meter_address.specs.declared.commission.Mode.{Mode}
 use Rattle.meter_address.specs.declared.address.Address.{Address}
@@ -28,7 +28,8 @@ use Rattle.report_text.proofs.LineReport.{commission_is, numbers_front, numbers_
 use Rattle.roster_file.proofs.ReadBack.{number_back}
 use Rattle.audit_check_main.specs.declared.line_lists.Open.{Open}
 use Rattle.audit_check_main.specs.declared.line_lists.Open.TheVariants as opens
-use Rattle.audit_check_main.specs.Lists.{is_meter, is_strangers, is_step, is_stranger, both, numbers_in, pair_of, open_in, is_meters, is_of_strangers, is_faulty, AreInForm}
+use Rattle.audit_check_main.specs.Lists.{is_meter, both, numbers_in, pair_of, open_in, is_meters, is_of_strangers, AreInForm}
+use Rattle.audit_check_main.proofs.ReadLists.{IsKind, form_by, form_is, opened_by, counted_by}
 
 -- ---- lines on top of others
 
@@ -50,79 +51,27 @@ module _ (meters : ℕ) where
     count : length (filter is_meter above) ≡ headings
     open_is : open_in above ≡ open_list
 
-  other_at : (line : List ℕ) (above : List (List ℕ)) (n : ℕ) (o : Open) → IsOther line → IsAt above n o → IsAt (line ∷ above) n o
-  unfolding is_faulty
-  other_at line above n o other at = record {
-    in_form = (
-      λ i. cond (other.meter i) (nat_le meters (length (filter is_meter above))) (cond (other.strangers i) false
-          (cond (other.step i) (not (is_meters (open_in above) && is_some (pair_of line)))
-          (cond (other.stranger i) (not (is_of_strangers (open_in above) && is_some (pair_of line))) false))),
-      at.in_form,
-    );
-    count = ap (λ b. length (cond b (line ∷ filter is_meter above) (filter is_meter above))) other.meter ∙ at.count;
-    open_is = (λ i. cond (other.meter i) opens.Meter (cond (other.strangers i) opens.Strangers (open_in above))) ∙ at.open_is;
-  }
-
-  heading_at : (line : List ℕ) (above : List (List ℕ)) (n : ℕ) (o : Open) → is_meter line ≡ true → n < meters → IsAt above n o
-      → IsAt (line ∷ above) (suc n) opens.Meter
-  unfolding is_faulty
-  heading_at line above n o heads few at = record {
-    in_form = (
-      ap (λ b. cond b (nat_le meters (length (filter is_meter above))) (cond (is_strangers line) false
-          (cond (is_step line) (not (is_meters (open_in above) && is_some (pair_of line)))
-          (cond (is_stranger line) (not (is_of_strangers (open_in above) && is_some (pair_of line))) false)))) heads
-          ∙ (ap (nat_le meters) at.count ∙ not_yet),
-      at.in_form,
-    );
-    count = ap (λ b. length (cond b (line ∷ filter is_meter above) (filter is_meter above))) heads ∙ ap suc at.count;
-    open_is = ap (λ b. cond b opens.Meter (cond (is_strangers line) opens.Strangers (open_in above))) heads;
+  -- a line of a kind that is in form
+  line_at : {m s t r : Bool} (line : List ℕ) (above : List (List ℕ)) (n : ℕ) (o : Open) → IsKind line m s t r
+      → form_by m s t r meters above line ≡ false → IsAt above n o
+      → IsAt (line ∷ above) (cond m (suc n) n) (cond m opens.Meter (cond s opens.Strangers o))
+  line_at {m} {s} {t} {r} line above n o k fine at = record {
+    in_form = (form_is meters above line k ∙ fine, at.in_form);
+    count = counted_by above line k ∙ counts m;
+    open_is = opened_by above line k ∙ ap (λ p. cond m opens.Meter (cond s opens.Strangers p)) at.open_is;
   }
     where
-      not_yet : nat_le meters n ≡ false
-      not_yet = grind (arith, nat_tests)
+      counts : (b : Bool) → length (cond b (line ∷ filter is_meter above) (filter is_meter above)) ≡ cond b (suc n) n
+      counts true = ap suc at.count
+      counts false = at.count
 
-  strangers_at : (line : List ℕ) (above : List (List ℕ)) (n : ℕ) (o : Open) → is_meter line ≡ false → is_strangers line ≡ true
-      → IsAt above n o → IsAt (line ∷ above) n opens.Strangers
-  unfolding is_faulty
-  strangers_at line above n o meter heads at = record {
-    in_form = (
-      λ i. cond (meter i) (nat_le meters (length (filter is_meter above))) (cond (heads i) false
-          (cond (is_step line) (not (is_meters (open_in above) && is_some (pair_of line)))
-          (cond (is_stranger line) (not (is_of_strangers (open_in above) && is_some (pair_of line))) false))),
-      at.in_form,
-    );
-    count = ap (λ b. length (cond b (line ∷ filter is_meter above) (filter is_meter above))) meter ∙ at.count;
-    open_is = λ i. cond (meter i) opens.Meter (cond (heads i) opens.Strangers (open_in above));
-  }
-
-  step_at : (line : List ℕ) (above : List (List ℕ)) (n : ℕ) (pair : ℕ × ℕ) → is_meter line ≡ false → is_strangers line ≡ false
-      → is_step line ≡ true → pair_of line ≡ Some pair → IsAt above n opens.Meter → IsAt (line ∷ above) n opens.Meter
-  unfolding is_faulty
-  step_at line above n pair meter strangers step named at = record {
-    in_form = (
-      λ i. cond (meter i) (nat_le meters (length (filter is_meter above))) (cond (strangers i) false
-          (cond (step i) (not (is_meters (at.open_is i) && is_some (named i)))
-          (cond (is_stranger line) (not (is_of_strangers (open_in above) && is_some (pair_of line))) false))),
-      at.in_form,
-    );
-    count = ap (λ b. length (cond b (line ∷ filter is_meter above) (filter is_meter above))) meter ∙ at.count;
-    open_is = (λ i. cond (meter i) opens.Meter (cond (strangers i) opens.Strangers (open_in above))) ∙ at.open_is;
-  }
-
-  stranger_at : (line : List ℕ) (above : List (List ℕ)) (n : ℕ) (pair : ℕ × ℕ) → is_meter line ≡ false → is_strangers line ≡ false
-      → is_step line ≡ false → is_stranger line ≡ true → pair_of line ≡ Some pair → IsAt above n opens.Strangers
-      → IsAt (line ∷ above) n opens.Strangers
-  unfolding is_faulty
-  stranger_at line above n pair meter strangers step stranger named at = record {
-    in_form = (
-      λ i. cond (meter i) (nat_le meters (length (filter is_meter above))) (cond (strangers i) false
-          (cond (step i) (not (is_meters (open_in above) && is_some (pair_of line)))
-          (cond (stranger i) (not (is_of_strangers (at.open_is i) && is_some (named i))) false))),
-      at.in_form,
-    );
-    count = ap (λ b. length (cond b (line ∷ filter is_meter above) (filter is_meter above))) meter ∙ at.count;
-    open_is = (λ i. cond (meter i) opens.Meter (cond (strangers i) opens.Strangers (open_in above))) ∙ at.open_is;
-  }
+  other_at : (line : List ℕ) (above : List (List ℕ)) (n : ℕ) (o : Open) → IsOther line → IsAt above n o → IsAt (line ∷ above) n o
+  other_at line above n o other = line_at line above n o (record {
+    meter_is = other.meter;
+    strangers_is = other.strangers;
+    step_is = other.step;
+    stranger_is = other.stranger;
+  }) refl
 
   -- ---- texts
 
@@ -167,7 +116,9 @@ module _ (meters : ℕ) where
       same_stands _ n (suc n) o opens.Meter (sym (append_assoc (commission_text a mode) (numbers_front last down steps kept) (codes "\n")))
       (one_stands (commission_text a mode ++ numbers_front last down steps kept) n (suc n) o opens.Meter
       (commission_is a mode ⌢ numbers_is last down steps kept)
-      (λ above at. heading_at (commission_text a mode ++ numbers_front last down steps kept) above n o refl few at))
+      (λ above at. line_at (commission_text a mode ++ numbers_front last down steps kept) above n o
+      (record { meter_is = refl; strangers_is = refl; step_is = refl; stranger_is = refl })
+      (ap (nat_le meters) at.count ∙ lt-leb meters n few) at))
 
   pair_back : (word first second : List ℕ) (more : List (List ℕ)) (i j : ℕ) → first ≡ decimal i → second ≡ decimal j
       → i < 2 ^ 32 → j < 2 ^ 32 → numbers_in (word ∷ first ∷ second ∷ more) ≡ Some (i, j)
@@ -195,8 +146,9 @@ module _ (meters : ℕ) where
   step_stands i j o n small_i small_j h =
       one_stands (labelled_two (codes "step ") i j ++ codes " " ++ o) n n opens.Meter opens.Meter
       (worded_two (literal (codes "step ") refl) i j ⌢ literal (codes " ") refl ⌢ h)
-      (λ above at. step_at (labelled_two (codes "step ") i j ++ codes " " ++ o) above n (i, j) refl refl refl
-      (step_pair i j o small_i small_j) at)
+      (λ above at. line_at (labelled_two (codes "step ") i j ++ codes " " ++ o) above n opens.Meter
+      (record { meter_is = refl; strangers_is = refl; step_is = refl; stranger_is = refl })
+      (λ k. not (is_meters (at.open_is k) && is_some (step_pair i j o small_i small_j k))) at)
 
   entry_stands : (reading : Option Reading) (e : Entry) (n : ℕ) → IsCounted (place_of_step e)
       → Stands (step_text reading e) n opens.Meter n opens.Meter
@@ -247,15 +199,17 @@ module _ (meters : ℕ) where
   unfolding labelled
   heading_stands count n o =
       one_stands (labelled (codes "strangers ") count) n n o opens.Strangers (worded_number (literal (codes "strangers ") refl) count)
-      (λ above at. strangers_at (labelled (codes "strangers ") count) above n o refl refl at)
+      (λ above at. line_at (labelled (codes "strangers ") count) above n o
+      (record { meter_is = refl; strangers_is = refl; step_is = refl; stranger_is = refl }) refl at)
 
   stranger_stands : (h : Heard) (n : ℕ) → IsCounted (place_of_stranger h) → Stands (stranger_text h) n opens.Strangers n opens.Strangers
   unfolding stranger_text labelled_two
   stranger_stands h n small =
       one_stands (labelled_two (codes "stranger ") h.source h.line) n n opens.Strangers opens.Strangers
       (worded_two (literal (codes "stranger ") refl) h.source h.line)
-      (λ above at. stranger_at (labelled_two (codes "stranger ") h.source h.line) above n (h.source, h.line) refl refl refl refl
-      (stranger_pair h.source h.line small.0 small.1) at)
+      (λ above at. line_at (labelled_two (codes "stranger ") h.source h.line) above n opens.Strangers
+      (record { meter_is = refl; strangers_is = refl; step_is = refl; stranger_is = refl })
+      (λ k. not (is_of_strangers (at.open_is k) && is_some (stranger_pair h.source h.line small.0 small.1 k))) at)
 
   heard_stand : (heard : List Heard) (n : ℕ) → AllByRecursion IsCounted (map place_of_stranger heard)
       → Stands (flat_map stranger_text heard) n opens.Strangers n opens.Strangers

@@ -1,31 +1,15 @@
 -- Sources that are read one after another.
-use Rattle.std.proofs.Common.{◌≡◌, ℕ, zero, suc, ◌+◌, ◌<◌, ◌≤◌, List, [], ◌∷◌, ◌++◌, length, take, drop, get_or, set, IsTrue, Bool, true, false, cond, Result, Ok, Err, is_ok, is_err, inl, inr, refl, sym, ap, ◌∙◌, subst, arith, append_assoc, append-nil, length-append}
+use Rattle.std.proofs.Common.{◌≡◌, ℕ, suc, ◌+◌, ◌<◌, ◌≤◌, List, [], ◌∷◌, ◌++◌, length, take, drop, get_or, set, IsTrue, refl, sym, ap, ◌∙◌, subst, arith, append_assoc, length-append}
 use Rattle.std.specs.Prelude.{Option, Some, None, IfSome}
-use Rattle.std.specs.List.{enumerate_from}
-use Rattle.std.proofs.lemmas.List.{take_more, take-append-drop}
-use Rattle.std.proofs.Math.Seq.{take-length}
+use Rattle.std.proofs.lemmas.List.{drop_more, get_or_at, length-take-le, set_at, take_more, take-append-drop}
+use Rattle.lists.proofs.Members.{each_append, with_push}
 use Rattle.outer_io.specs.declared.sources.Source as sources
-use Rattle.lists.specs.Each.{Each, EachWith, PassUntil, IsFirst}
+use Rattle.lists.specs.Each.{Each, EachWith, IsFirst}
 use Rattle.outer_io.specs.Shown.{Change, SourceShown, source_change, ReadFailed, LosesNothing}
+use Rattle.audit_check_main.proofs.Firsts.{stops_behind}
 use Rattle.audit_check_main.specs.Run.{IsReadPast, WasRead, next_change, source_changes}
 
 -- ---- lists
-
-each_append : {A : Type 0} (P : A → Type 0) (xs ys : List A) → Each P xs → Each P ys → Each P (xs ++ ys)
-each_append P [] ys h k = k
-each_append P (x ∷ xs) ys h k = (h.0, each_append P xs ys h.1 k)
-
-pub each_with_push : {A B : Type 0} (P : A → B → Type 0) (xs : List A) (ys : List B) (x : A) (y : B) → EachWith P xs ys → P x y
-    → EachWith P (xs ++ x ∷ []) (ys ++ y ∷ [])
-each_with_push P [] [] x y h k = (k, tt)
-each_with_push P [] (b ∷ ys) x y h k = absurd h
-each_with_push P (a ∷ xs) [] x y h k = absurd h
-each_with_push P (a ∷ xs) (b ∷ ys) x y h k = (h.0, each_with_push P xs ys x y h.1 k)
-
-pass_behind : {A : Type 0} (P Q : A → Type 0) (n m : ℕ) (xs : List A) (x : A) (ys : List A) → Each P xs → m ≡ n + length xs → Q x
-    → PassUntil (λ (y : ℕ × A). P y.1) (λ (y : ℕ × A). (y.0 ≡ m) × Q y.1) (enumerate_from n (xs ++ x ∷ ys))
-pass_behind P Q n m [] x ys each e h = inl (omega arith, h)
-pass_behind P Q n m (a ∷ xs) x ys each e h = inr (each.0, pass_behind P Q (n + 1) m xs x ys each.1 (omega arith) h)
 
 -- inputs of which these bytes were read were read
 all_read : (T : Type 0) (sources : List (Change SourceShown)) (read : List (List ℕ)) → (T → EachWith (IsReadPast 67108864) sources read)
@@ -38,31 +22,6 @@ all_read T (source ∷ sources) [] h = ((λ t. absurd (h t)), none sources)
     none (later ∷ rest) = ((λ t. absurd (h t)), none rest)
 all_read T (source ∷ sources) (bytes ∷ read) h =
     ((λ t. record { bytes = bytes; past = (h t).0 }), all_read T sources read (λ t. (h t).1))
-
-drop_more : {X : Type 0} (i : ℕ) (xs : List X) (d : X) → i < length xs → drop i xs ≡ get_or xs i d ∷ drop (i + 1) xs
-drop_more i [] d h = absurd (omega arith)
-drop_more zero (x ∷ xs) d h = refl
-drop_more (suc i) (x ∷ xs) d h =
-    drop_more i xs d (omega arith) ∙ ap (λ n. get_or xs i d ∷ drop n (x ∷ xs)) (let e : suc (i + 1) ≡ suc i + 1 = omega arith in e)
-
-there : {X : Type 0} (front : List X) (x d : X) (rest : List X) (n : ℕ) → length front ≡ n → get_or (front ++ x ∷ rest) n d ≡ x
-there [] x d rest zero e = refl
-there [] x d rest (suc n) e = absurd (omega arith)
-there (y ∷ front) x d rest zero e = absurd (omega arith)
-there (y ∷ front) x d rest (suc n) e = there front x d rest n (omega arith)
-
-set_there : {X : Type 0} (front : List X) (x y : X) (rest : List X) (n : ℕ) → length front ≡ n
-    → set (front ++ x ∷ rest) n y ≡ (front ++ y ∷ []) ++ rest
-set_there [] x y rest zero e = refl
-set_there [] x y rest (suc n) e = absurd (omega arith)
-set_there (z ∷ front) x y rest zero e = absurd (omega arith)
-set_there (z ∷ front) x y rest (suc n) e = ap (λ l. z ∷ l) (set_there front x y rest n (omega arith))
-
-take_none : {X : Type 0} (xs : List X) (n : ℕ) → n ≡ length xs → drop n xs ≡ []
-take_none [] zero e = refl
-take_none [] (suc n) e = absurd (omega arith)
-take_none (x ∷ xs) zero e = absurd (omega arith)
-take_none (x ∷ xs) (suc n) e = take_none xs n (omega arith)
 
 -- ---- sources
 
@@ -113,24 +72,20 @@ module _ {S : Type 0} (s : sources.Ghosts S) where
   module _ (place : ℕ) (olds news news' : List S) (read : List (List ℕ)) (x x' : S) (so : InputsSo place olds news read)
       (more : place < length olds) (is : x ≡ get_or news place x) (after : news' ≡ set news place x') where
     old_is : get_or olds place x ≡ x
-    old_is = sym (is ∙ (ap (λ l. get_or l place x) (so.news_are ∙ ap (λ l. so.front ++ l) (drop_more place olds x more))
-        ∙ there so.front (get_or olds place x) x (drop (place + 1) olds) place so.count))
+    old_is = sym (is ∙ (ap (λ l. get_or l place x) (so.news_are ∙ ap (λ l. so.front ++ l) (drop_more olds place x more))
+        ∙ get_or_at so.front (get_or olds place x) (drop (place + 1) olds) x place so.count))
 
     taken_more : take (place + 1) olds ≡ take place olds ++ x ∷ []
     taken_more = take_more olds place x more ∙ ap (λ y. take place olds ++ y ∷ []) old_is
 
     news_more : news' ≡ (so.front ++ x' ∷ []) ++ drop (place + 1) olds
     news_more =
-        after ∙ (ap (λ l. set l place x') (so.news_are ∙ ap (λ l. so.front ++ l) (drop_more place olds x more))
-        ∙ set_there so.front (get_or olds place x) x' (drop (place + 1) olds) place so.count)
+        after ∙ (ap (λ l. set l place x') (so.news_are ∙ ap (λ l. so.front ++ l) (drop_more olds place x more))
+        ∙ (set_at so.front (get_or olds place x) (drop (place + 1) olds) x' place so.count
+        ∙ sym (append_assoc so.front (x' ∷ []) (drop (place + 1) olds))))
 
     long : length (take place olds) ≡ length so.front
-    long = long_take place olds more ∙ sym so.count
-      where
-        long_take : {X : Type 0} (i : ℕ) (xs : List X) → i < length xs → length (take i xs) ≡ i
-        long_take i [] h = absurd (omega arith)
-        long_take zero (x ∷ xs) h = refl
-        long_take (suc i) (x ∷ xs) h = ap suc (long_take i xs (omega arith))
+    long = length-take-le place olds (omega arith) ∙ sym so.count
 
     changed : source_changes s (take place olds ++ x ∷ []) (so.front ++ x' ∷ []) ≡ source_changes s (take place olds) so.front
         ++ source_change s x x' ∷ []
@@ -147,7 +102,7 @@ module _ {S : Type 0} (s : sources.Ghosts S) where
       counted = length-append read (bytes ∷ []) ∙ ap (λ n. n + 1) so.counted;
       each = λ t. subst (λ c. EachWith (IsReadPast 67108864) c (read ++ bytes ∷ []))
           (sym (ap (λ o. source_changes s o (so.front ++ x' ∷ [])) taken_more ∙ changed))
-          (each_with_push (IsReadPast 67108864) (source_changes s (take place olds) so.front) read (source_change s x x') bytes (so.each t)
+          (with_push (IsReadPast 67108864) (source_changes s (take place olds) so.front) read (source_change s x x') bytes (so.each t)
           (past t));
       steady = λ t. subst (Each LosesNothing) (sym (ap (λ o. source_changes s o (so.front ++ x' ∷ [])) taken_more
           ∙ changed)) (each_append LosesNothing (source_changes s (take place olds) so.front) (source_change s x x' ∷ []) (so.steady t)
@@ -178,29 +133,7 @@ module _ {S : Type 0} (s : sources.Ghosts S) where
         → IsFirst (λ source. IsTrue s.tells → WasRead source) ReadFailed (place + 1) (source_changes s olds news')
     inputs_failed failed =
         subst (λ c. IsFirst (λ source. IsTrue s.tells → WasRead source) ReadFailed (place + 1) c) (sym all_changes)
-        (pass_behind (λ source. IsTrue s.tells → WasRead source) ReadFailed 1 (place + 1) (source_changes s (take place olds) so.front)
+        (stops_behind (λ source. IsTrue s.tells → WasRead source) ReadFailed 1 (place + 1) (source_changes s (take place olds) so.front)
         (source_change s x x') (source_changes s (drop (place + 1) olds) (drop (place + 1) olds))
         (all_read (IsTrue s.tells) (source_changes s (take place olds) so.front) read so.each)
         (let l = length-changes (take place olds) so.front long in let m = long in let n = so.count in omega arith) failed)
-
-  whole_changes : (n : ℕ) (olds news : List S) (read : List (List ℕ)) (so : InputsSo n olds news read) → length olds ≤ n
-      → source_changes s olds news ≡ source_changes s (take n olds) so.front
-  whole_changes n olds news read so past =
-      let e : n ≡ length olds = let i = so.inside in omega arith in
-      (λ i. source_changes s (sym (ap (λ m. take m olds) e ∙ take-length olds) i) ((so.news_are
-      ∙ (ap (λ l. so.front ++ l) (take_none olds n e) ∙ append-nil so.front)) i))
-
-  pub inputs_read : (n : ℕ) (olds news : List S) (read : List (List ℕ)) → InputsSo n olds news read → length olds ≤ n → IsTrue s.tells
-      → EachWith (IsReadPast 67108864) (source_changes s olds news) read
-  inputs_read n olds news read so past t =
-      subst (λ c. EachWith (IsReadPast 67108864) c read) (sym (whole_changes n olds news read so past)) (so.each t)
-
-  pub inputs_steady : (n : ℕ) (olds news : List S) (read : List (List ℕ)) → InputsSo n olds news read → length olds ≤ n → IsTrue s.tells
-      → Each LosesNothing (source_changes s olds news)
-  inputs_steady n olds news read so past t = subst (Each LosesNothing) (sym (whole_changes n olds news read so past)) (so.steady t)
-
--- what a push that worked leaves
-pub pushed : {T E A : Type 0} (r : Result T E) (new old : List A) (x : A) (b : Bool) → new ≡ cond (is_ok r) (old ++ x ∷ []) old
-    → b ≡ is_err r → b ≡ false → new ≡ old ++ x ∷ []
-pushed (Ok t) new old x b e f g = e
-pushed (Err y) new old x b e f g = absurd (let d : true ≡ false = sym f ∙ g in cc)

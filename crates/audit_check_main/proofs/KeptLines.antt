@@ -6,6 +6,7 @@ use Rattle.std.proofs.Math.Seq.{drop-append_seam, take-length, take-append_seam}
 use Rattle.byteorder.specs.Endian.{big_bytes}
 use Rattle.byteorder.specs.Numbers.{big_number-reads_back, length-bytes_high_first}
 use Rattle.lists.specs.Each.{Each}
+use Rattle.lists.proofs.Members.{each_map, each_push}
 use Rattle.audit_check_main.specs.declared.kept.KeptLine.{KeptLine}
 use Rattle.audit_check_main.specs.Kept.{FitsKind, part_of, bytes_in, told_again, told_in, told_kept, IsKept}
 
@@ -37,18 +38,10 @@ kept-longer bytes more line kept = record {
 
 -- ---- all lines
 
-each-longer : (bytes more : List ℕ) (ls : List KeptLine) → Each (IsKept bytes) ls → Each (IsKept (bytes ++ more)) ls
-each-longer bytes more [] h = tt
-each-longer bytes more (line ∷ ls) h = (kept-longer bytes more line h.0, each-longer bytes more ls h.1)
-
 all-longer : (bytes more : List ℕ) (ls : List KeptLine) → Each (IsKept bytes) ls
     → map (told_kept (bytes ++ more)) ls ≡ map (told_kept bytes) ls
 all-longer bytes more [] h = refl
 all-longer bytes more (line ∷ ls) h = (λ i. told-longer bytes more line h.0 i ∷ all-longer bytes more ls h.1 i)
-
-each-push : {X : Type 0} (P : X → Type 0) (xs : List X) (x : X) → Each P xs → P x → Each P (xs ++ x ∷ [])
-each-push P [] x h p = (p, tt)
-each-push P (y ∷ xs) x h p = (h.0, each-push P xs x h.1 p)
 
 -- ---- a number in front of a line's bytes
 
@@ -83,7 +76,7 @@ module _ (bytes more : List ℕ) (number : ℕ) (ls : List KeptLine) (line : Kep
       ∙ sym (length-append (big_bytes line.width number) more)
 
   pub each-next : FitsKind line.kind more → Each (IsKept (bytes ++ part)) (ls ++ line ∷ [])
-  each-next fits = each-push (IsKept (bytes ++ part)) ls line (each-longer bytes part ls before) (record {
+  each-next fits = each_push (IsKept (bytes ++ part)) ls line (each_map (IsKept bytes) (IsKept (bytes ++ part)) (kept-longer bytes part) ls before) (record {
     within = let l = length-append bytes part in let p = part-long in omega arith;
     least = least;
     most = most;

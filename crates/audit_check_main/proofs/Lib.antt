@@ -1,6 +1,7 @@
 pub mod Claimed
 pub mod Compared
 pub mod ComparedLater
+pub mod Firsts
 pub mod HeardLists
 pub mod InForm
 pub mod InputReads
@@ -9,7 +10,6 @@ pub mod Leavings
 pub mod Notes
 pub mod OneVerdict
 pub mod OrderChecks
-pub mod Overs
 pub mod Prints
 pub mod ReadLists
 pub mod Runs

@@ -1,5 +1,5 @@
 -- The strangers' list, noted in the order of a printed list.
-use Rattle.std.proofs.Common.{◌≡◌, ℕ, ◌+◌, ◌<◌, Bool, true, false, cond, List, [], ◌∷◌, ◌++◌, map, length, take, get_or, Some, None, refl, sym, ap, ◌∙◌, subst, arith}
+use Rattle.std.proofs.Common.{◌≡◌, ℕ, ◌+◌, ◌<◌, Bool, true, false, cond, List, [], ◌∷◌, ◌++◌, map, length, take, get_or, Some, None, refl, sym, ap, ◌∙◌, subst}
 use Rattle.std.proofs.lemmas.List.{length-map}
 use Rattle.std.proofs.Math.Seq.{take-length}
 use Rattle.lists.specs.Each.{Each}
@@ -13,7 +13,7 @@ use Rattle.receivers.specs.declared.told.Told.TheVariants as told
 use Rattle.receivers.specs.Orders.{AreOrderedStrangers}
 use Rattle.receivers.specs.Session.{stranger_at, lines_of_strangers}
 use Rattle.audit_check_main.specs.Hearing.{HeardInput, tells, input_of, told_at}
-use Rattle.audit_check_main.proofs.Steps.{tells_of, all_lines_told, of_all, IsCutAt, cut_at, each_item, item_there, get-map, take_cut, long_take}
+use Rattle.audit_check_main.proofs.Steps.{tells_of, all_lines_told, of_all, StandsAt, stands_at, taken_next}
 
 -- a line tells something for an address that no meter has
 abbrev pub HasAddress : List Start → Told → Address → Type 0
@@ -36,58 +36,35 @@ address_fits cs line (told.Event address event) p e = address_if cs (is_commissi
 address_fits cs line told.Unframed p e = absurd cc
 address_fits cs line told.Bad p e = absurd cc
 
-module _ (heard : List HeardInput) (cs : List Start) (order : List (ℕ
-    × ℕ)) (target : List Heard) (h : AreOrderedStrangers cs (map tells heard) order target) where
-  note_told : Each (λ (x : Heard). HasAddress cs (told_at heard x.source x.line) x.address) target
+abbrev pub note_pair : Heard → ℕ × ℕ
+note_pair x = (x.source, x.line)
+
+module _ (heard : List HeardInput) (cs : List Start) (order : List (ℕ × ℕ)) (target : List Heard)
+    (h : AreOrderedStrangers cs (map tells heard) order target) where
+  pub note_told : Each (λ (x : Heard). HasAddress cs (told_at heard x.source x.line) x.address) target
   note_told = of_all (λ (x : Heard). x.source) (λ (x : Heard). (x.line, x.address)) (λ w p. HasAddress cs (told_at heard w p.0) p.1) target
       (λ w. subst (Each (λ (p : ℕ × Address). HasAddress cs (told_at heard w p.0) p.1))
       (sym (h.lines w ∙ ap (lines_of_strangers cs) (tells_of heard w)))
       (all_lines_told (λ l. stranger_at cs l.0 l.1) (HasAddress cs) (address_fits cs) (input_of heard w).lines))
 
-  order_long : length order ≡ length target
-  order_long = sym (ap length h.in_order) ∙ length-map target (λ (x : Heard). (x.source, x.line))
-
-  pair_is : (i : ℕ) (pair : ℕ × ℕ) (k : IsCutAt i target) → i < length order → pair ≡ get_or order i (0, 0)
-      → pair ≡ (k.item.source, k.item.line)
-  pair_is i pair k inside is =
-      let l = order_long in
-      let m : i < length target = omega arith in
-      is ∙ (ap (λ o. get_or o i (0, 0)) (sym h.in_order) ∙ (get-map (λ (x : Heard). (x.source, x.line)) target i (0, 0) k.item m
-      ∙ ap (λ (x : Heard). (x.source, x.line)) (item_there target (take i target) k.item k.item k.later i k.cut
-      (sym (long_take i target m)))))
-
-  address_there : (i : ℕ) (k : IsCutAt i target) → HasAddress cs (told_at heard k.item.source k.item.line) k.item.address
-  address_there i k =
-      each_item (λ (x : Heard). HasAddress cs (told_at heard x.source x.line) x.address) (take i target) k.item k.later
-      (subst (Each (λ (x : Heard). HasAddress cs (told_at heard x.source x.line) x.address)) k.cut note_told)
-
-  pub noted_told : (i : ℕ) (pair : ℕ × ℕ) → i < length order → pair ≡ get_or order i (0, 0) → (address : Address)
-      × HasAddress cs (told_at heard pair.0 pair.1) address
-  noted_told i pair inside is =
-      let l = order_long in
-      let k = cut_at i target (omega arith) in
-      let e = address_there i k in
-      let same = pair_is i pair k inside is in
-      (k.item.address, (e.0, ((λ j. told_at heard (same j).0 (same j).1) ∙ e.1.0, e.1.1)))
+  pub noted_told : (i : ℕ) (pair : ℕ × ℕ) → i < length order → pair ≡ get_or order i (0, 0)
+      → StandsAt note_pair (λ (x : Heard). x.address) heard (HasAddress cs) order target h.in_order note_told i pair
+  noted_told = stands_at note_pair (λ (x : Heard). x.address) heard (HasAddress cs) order target h.in_order note_told
 
   pub note_more : (i : ℕ) (pair : ℕ × ℕ) (address : Address) (event : Event) (heard_so : List Heard) → i < length order
-      → pair ≡ get_or order i (0, 0) → heard_so ≡ take i target
-      → told_at heard pair.0 pair.1 ≡ told.Event address event → heard_so ++ record { source = pair.0; line = pair.1; address = address }
-      ∷ [] ≡ take (i + 1) target
+      → pair ≡ get_or order i (0, 0) → heard_so ≡ take i target → told_at heard pair.0 pair.1 ≡ told.Event address event
+      → heard_so ++ record { source = pair.0; line = pair.1; address = address } ∷ [] ≡ take (i + 1) target
   note_more i pair address event heard_so inside is so tells_event =
-      let l = order_long in
-      let m : i < length target = omega arith in
-      let k = cut_at i target m in
-      let same = pair_is i pair k inside is in
-      let e = address_there i k in
-      let both : told.Event address event ≡ told.Event k.item.address e.0 =
-      sym tells_event ∙ ((λ j. told_at heard (same j).0 (same j).1) ∙ e.1.0) in
-      let address_is : address ≡ k.item.address = cc in
-      (λ j. so j ++ record { source = (same j).0; line = (same j).1; address = address_is j } ∷ [])
-      ∙ take_cut target i k.item k.later m k.cut
+      let at = noted_told i pair inside is in
+      let both : told.Event address event ≡ told.Event at.item.address at.told_is.0 = sym tells_event ∙ at.told_is.1.0 in
+      let address_is : address ≡ at.item.address = cc in
+      ap (λ l. l ++ record { source = pair.0; line = pair.1; address = address } ∷ []) so
+      ∙ taken_next note_pair (λ (x : Heard). x.address) heard (HasAddress cs) order target h.in_order note_told i pair at _
+      (λ j. record { source = (at.pair_is j).0; line = (at.pair_is j).1; address = address_is j })
 
   pub all_noted : (strangers : List Heard) (n : ℕ) → n ≡ length order → strangers ≡ take n target
       → AreOrderedStrangers cs (map tells heard) order strangers
   all_noted strangers n e so =
-      let same : target ≡ strangers = sym (so ∙ (ap (λ m. take m target) (e ∙ order_long) ∙ take-length target)) in
-      subst (AreOrderedStrangers cs (map tells heard) order) same h
+      let long = sym (ap length h.in_order) ∙ length-map target note_pair in
+      subst (AreOrderedStrangers cs (map tells heard) order)
+      (sym (so ∙ (ap (λ m. take m target) (e ∙ long) ∙ take-length target))) h

@@ -1,12 +1,12 @@
 -- At most one verdict holds of a report.
-use Rattle.std.proofs.Common.{◌≡◌, ◌==◌, ℕ, zero, suc, ◌+◌, ◌<◌, ◌≤◌, Bool, true, false, cond, List, [], ◌∷◌, ◌++◌, map, filter, length, take, get_or, reverse, Result, Ok, Err, IfOk, ⊎_elim, refl, sym, ap, ◌∙◌, subst, arith, append_assoc, append-nil, length-append}
+use Rattle.std.proofs.Common.{◌≡◌, ◌==◌, ℕ, zero, suc, ◌+◌, ◌<◌, ◌≤◌, Bool, true, false, cond, List, [], ◌∷◌, ◌++◌, map, filter, length, take, drop, get_or, reverse, Result, Ok, Err, IfOk, ⊎_elim, refl, sym, ap, ◌∙◌, subst, arith, append_assoc, append-nil, length-append}
 use Rattle.std.specs.Prelude.{Some, IfSome}
-use Rattle.std.specs.List.{slice_get, enumerate_from}
-use Rattle.std.proofs.lemmas.Bool.{cases_lt}
-use Rattle.std.proofs.lemmas.List.{length-map, map-append}
-use Rattle.std.proofs.lemmas.List.Elements.{filter-append}
+use Rattle.std.specs.List.{slice_get}
+use Rattle.std.proofs.lemmas.Bool.{both_ways, cases_lt}
+use Rattle.std.proofs.lemmas.List.{length-map, reverse-append, same_from_push, take-append-drop, take-take}
 use Rattle.std.proofs.Math.Seq.{take-length}
-use Rattle.lists.specs.Each.{Each, EachWith, PassUntil, IsFirst}
+use Rattle.lists.proofs.Places.{head_is, tail_is}
+use Rattle.lists.specs.Each.{EachWith, IsFirst}
 use Rattle.line_reader.specs.Lines.{is_over}
 use Rattle.meter_address.specs.declared.address.Address.{Address}
 use Rattle.meter_slots.specs.Journal.{Start, SlotView}
@@ -30,26 +30,16 @@ use Rattle.audit_check_main.specs.Difference.{DiffersAt}
 use Rattle.audit_check_main.specs.Leaving.{IsLeftBy, left_text, line_at}
 use Rattle.audit_check_main.specs.Lists.{is_faulty, AreInForm, IsFirstFaulty, lists_printed}
 use Rattle.audit_check_main.specs.Order.{wanted, AreNext, IsRight, IsWrongAt, IsFirstWrong}
+use Rattle.audit_check_main.proofs.Compared.{get-take}
+use Rattle.audit_check_main.proofs.Firsts.{none_stops, one_stops}
+use Rattle.audit_check_main.proofs.OrderChecks.{numbers_append}
 use Rattle.audit_check_main.proofs.ReadLists.{as_many-all}
 use Rattle.audit_check_main.proofs.Slots.{as_many_slots}
 
 -- ---- the first input past the limits
 
-until_not : {A : Type 0} (P : A → Type 0) (Q : A → Type 0) → ((a : A) → P a → Q a → ⊥) → (n w : ℕ) (xs : List A)
-    → PassUntil (λ (x : ℕ × A). P x.1) (λ (x : ℕ × A). (x.0 ≡ w) × Q x.1) (enumerate_from n xs) → Each P xs → ⊥
-until_not P Q never n w [] h all = h
-until_not P Q never n w (x ∷ xs) h all = ⊎_elim (λ stop. never x all.0 stop.1) (λ later. until_not P Q never (n + 1) w xs later.1 all.1) h
-
-until_one : {A : Type 0} (P : A → Type 0) (Q : A → Type 0) → ((a : A) → P a → Q a → ⊥) → (n w v : ℕ) (xs : List A)
-    → PassUntil (λ (x : ℕ × A). P x.1) (λ (x : ℕ × A). (x.0 ≡ w) × Q x.1) (enumerate_from n xs)
-    → PassUntil (λ (x : ℕ × A). P x.1) (λ (x : ℕ × A). (x.0 ≡ v) × Q x.1) (enumerate_from n xs) → w ≡ v
-until_one P Q never n w v [] h k = absurd h
-until_one P Q never n w v (x ∷ xs) h k =
-    ⊎_elim (λ stop. ⊎_elim (λ stops. sym stop.0 ∙ stops.0) (λ later. absurd (never x later.0 stop.1)) k)
-    (λ later. ⊎_elim (λ stops. absurd (never x later.0 stops.1)) (λ laters. until_one P Q never (n + 1) w v xs later.1 laters.1) k) h
-
-not_both : (input : List ℕ) → is_over input ≡ false → is_over input ≡ true → ⊥
-not_both input h k = absurd (let e : false ≡ true = sym h ∙ k in cc)
+never_both : (input : List ℕ) → is_over input ≡ false → is_over input ≡ true → ⊥
+never_both input = both_ways (is_over input)
 
 -- ---- the first line that is out of form
 
@@ -76,16 +66,15 @@ in_form_back n (line ∷ later) earlier h = in_form_back n later earlier h.1
 
 from_line : (front : List (List ℕ)) (line : List ℕ) (later : List (List ℕ))
     → reverse (front ++ line ∷ later) ≡ reverse later ++ line ∷ reverse front
-from_line [] line later = front_back line later
-from_line (x ∷ front) line later =
-    front_back x (front ++ line ∷ later) ∙ (ap (λ l. l ++ x ∷ []) (from_line front line later)
-    ∙ (append_assoc (reverse later) (line ∷ reverse front) (x ∷ []) ∙ ap (λ l. reverse later ++ line ∷ l) (sym (front_back x front))))
+from_line front line later =
+    reverse-append front (line ∷ later) ∙ (ap (λ l. l ++ reverse front) (front_back line later)
+    ∙ append_assoc (reverse later) (line ∷ []) (reverse front))
 
 fine_inside : (n : ℕ) (front : List (List ℕ)) (line : List ℕ) (later : List (List ℕ)) → AreInForm n (reverse (front ++ line ∷ later))
     → is_faulty n (reverse front) line ≡ true → ⊥
 fine_inside n front line later h faulty =
     let fine = in_form_back n (reverse later) (line ∷ reverse front) (subst (AreInForm n) (from_line front line later) h) in
-    absurd (let e : false ≡ true = sym fine.0 ∙ faulty in cc)
+    both_ways _ fine.0 faulty
 
 faulty_not : (n number : ℕ) (lines : List (List ℕ)) → IsFirstFaulty n lines number → AreInForm n (reverse lines) → ⊥
 faulty_not n number lines h fine = fine_inside n h.above h.line h.below (subst (λ l. AreInForm n (reverse l)) h.cut fine) h.faulty
@@ -96,63 +85,47 @@ not_earlier n p q lines h k less =
     let cuts = inside h.above k.above h.below k.below h.line k.line (sym h.cut ∙ k.cut) (omega arith) in
     fine_inside n h.above h.line cuts.later (subst (λ l. AreInForm n (reverse l)) cuts.is k.in_form) h.faulty
 
-by_order : (P : Type 0) (p q : ℕ) → (p < q → ⊥) → (q < p → ⊥) → p ≡ q
-by_order P p q h k =
+by_order : (p q : ℕ) → (p < q → ⊥) → (q < p → ⊥) → p ≡ q
+by_order p q h k =
     ⊎_elim (λ less. absurd (h less)) (λ more. ⊎_elim (λ less. absurd (k less)) (λ le. omega arith) (cases_lt q p)) (cases_lt p q)
 
 one_faulty : (n p q : ℕ) (lines : List (List ℕ)) → IsFirstFaulty n lines p → IsFirstFaulty n lines q → p ≡ q
-one_faulty n p q lines h k = by_order ⊥ p q (not_earlier n p q lines h k) (not_earlier n q p lines k h)
+one_faulty n p q lines h k = by_order p q (not_earlier n p q lines h k) (not_earlier n q p lines k h)
 
 -- ---- where a list goes wrong
 
-numbers_append : (w : ℕ) (xs ys : List (ℕ × ℕ)) → numbers_by w (xs ++ ys) ≡ numbers_by w xs ++ numbers_by w ys
-numbers_append w xs ys =
-    ap (map (λ (p : ℕ × ℕ). p.1)) (filter-append (λ (p : ℕ × ℕ). p.0 == w) xs ys)
-    ∙ map-append (λ (p : ℕ × ℕ). p.1) (filter (λ (p : ℕ × ℕ). p.0 == w) xs) (filter (λ (p : ℕ × ℕ). p.0 == w) ys)
-
 -- the first pairs of those that are each the next one are so too
-fewer_next : (numbers : ℕ → List ℕ) (order front rest : List (ℕ × ℕ)) → order ≡ front ++ rest → AreNext numbers order
-    → AreNext numbers front
-fewer_next numbers order front rest e next w = record {
-  rest = numbers_by w rest ++ (next w).rest;
-  joined = (next w).joined ∙ (ap (λ o. numbers_by w o ++ (next w).rest) e
-      ∙ (ap (λ l. l ++ (next w).rest) (numbers_append w front rest) ∙ append_assoc (numbers_by w front) (numbers_by w rest) (next w).rest));
-}
+fewer_next : (numbers : ℕ → List ℕ) (order : List (ℕ × ℕ)) (p q : ℕ) → p ≤ q → AreNext numbers (take q order) → AreNext numbers (take p order)
+fewer_next numbers order p q few next w =
+    let rest = drop p (take q order) in
+    let cut : take q order ≡ take p order ++ rest =
+    sym (take-append-drop p (take q order)) ∙ ap (λ l. l ++ rest) (take-take p q order few) in record {
+      rest = numbers_by w rest ++ (next w).rest;
+      joined = (next w).joined ∙ (ap (λ o. numbers_by w o ++ (next w).rest) cut
+          ∙ (ap (λ l. l ++ (next w).rest) (numbers_append w (take p order) rest)
+          ∙ append_assoc (numbers_by w (take p order)) (numbers_by w rest) (next w).rest));
+    }
 
 right_next : (numbers : ℕ → List ℕ) (order : List (ℕ × ℕ)) → IsRight numbers order → AreNext numbers order
 right_next numbers order right w = record { rest = []; joined = sym (right w) ∙ sym (append-nil (numbers_by w order)) }
 
--- the first p of some first pairs
-record IsShorter (p q : ℕ) (order : List (ℕ × ℕ)) : Type 0 where
-  rest : List (ℕ × ℕ)
-  is : take q order ≡ take p order ++ rest
-
-shorter : (p q : ℕ) (order : List (ℕ × ℕ)) → p ≤ q → IsShorter p q order
-shorter zero q order h = record { rest = take q order; is = refl }
-shorter (suc p) zero order h = absurd (omega arith)
-shorter (suc p) (suc q) [] h = record { rest = []; is = refl }
-shorter (suc p) (suc q) (x ∷ order) h = let s = shorter p q order (omega arith) in record { rest = s.rest; is = ap (λ l. x ∷ l) s.is }
-
 wrong_not_right : (numbers : ℕ → List ℕ) (order : List (ℕ × ℕ)) (place : ℕ) → IsWrongAt numbers order place → IsRight numbers order → ⊥
 wrong_not_right numbers order place wrong right =
-    ⊎_elim (λ less. let s = shorter (place + 1) (length order) order (omega arith) in
-    wrong.wrong_pair less (fewer_next numbers order (take (place + 1) order) s.rest (sym (take-length order)
-    ∙ s.is) (right_next numbers order right)))
+    ⊎_elim (λ less. wrong.wrong_pair less (fewer_next numbers order (place + 1) (length order) (omega arith)
+    (subst (AreNext numbers) (sym (take-length order)) (right_next numbers order right))))
     (λ more. let w = wrong.within in wrong.missing (omega arith) right) (cases_lt place (length order))
 
 not_before : (numbers : ℕ → List ℕ) (order : List (ℕ × ℕ)) (p q : ℕ) → IsWrongAt numbers order p → IsWrongAt numbers order q → p < q → ⊥
 not_before numbers order p q h k less =
-    let within = k.within in
-    let s = shorter (p + 1) q order (omega arith) in
-    h.wrong_pair (omega arith) (fewer_next numbers (take q order) (take (p + 1) order) s.rest s.is k.right_before)
+    let within = k.within in h.wrong_pair (omega arith) (fewer_next numbers order (p + 1) q (omega arith) k.right_before)
 
 one_place : (numbers : ℕ → List ℕ) (order : List (ℕ × ℕ)) (p q : ℕ) → IsWrongAt numbers order p → IsWrongAt numbers order q → p ≡ q
-one_place numbers order p q h k = by_order ⊥ p q (not_before numbers order p q h k) (not_before numbers order q p k h)
+one_place numbers order p q h k = by_order p q (not_before numbers order p q h k) (not_before numbers order q p k h)
 
 one_list : (numbers : ℕ → ℕ → List ℕ) (lists : List (List (ℕ × ℕ))) (l m p q : ℕ) → IsFirstWrong numbers lists l p
     → IsFirstWrong numbers lists m q → l ≡ m
 one_list numbers lists l m p q h k =
-    by_order ⊥ l m (λ less. wrong_not_right (numbers l) (get_or lists l []) p h.wrong (k.right_before l less))
+    by_order l m (λ less. wrong_not_right (numbers l) (get_or lists l []) p h.wrong (k.right_before l less))
     (λ less. wrong_not_right (numbers m) (get_or lists m []) q k.wrong (h.right_before m less))
 
 -- ---- a session's lists are right
@@ -225,47 +198,34 @@ wrong_not_ordered a r world list place wrong h =
 
 -- ---- one session
 
-one_each : (own : Address) (all : List (List Told)) (cs : List Start) (slots slots' : List SlotView) (x y : List (ℕ × ℕ))
+one_each : (own : Address) (all : List (List Told)) (cs : List Start) (slots slots' : List SlotView)
     → EachWith (IsMetersSlot own all) cs slots → EachWith (IsMetersSlot own all) cs slots'
-    → map (λ (s : SlotView). order_of s.journal) slots ++ x ∷ [] ≡ map (λ (s : SlotView). order_of s.journal) slots' ++ y ∷ []
-    → (slots ≡ slots') × (x ≡ y)
-one_each own all [] [] [] x y h k e = (refl, cc)
-one_each own all [] [] (s ∷ slots') x y h k e = absurd k
-one_each own all [] (s ∷ slots) slots' x y h k e = absurd h
-one_each own all (c ∷ cs) [] slots' x y h k e = absurd h
-one_each own all (c ∷ cs) (s ∷ slots) [] x y h k e = absurd k
-one_each own all (c ∷ cs) (s ∷ slots) (s' ∷ slots') x y h k e =
-    let head : order_of s.journal ≡ order_of s'.journal = cc in
-    let tail : map (λ (t : SlotView). order_of t.journal) slots ++ x ∷ [] ≡ map (λ (t : SlotView). order_of t.journal) slots' ++ y ∷ [] =
-    cc in
-    let rest = one_each own all cs slots slots' x y h.1 k.1 tail in
-    let same = one_slot own c all all s s' h.0 k.0 (λ w. refl) head in
-    ((λ i. same i ∷ rest.0 i), rest.1)
+    → map (λ (s : SlotView). order_of s.journal) slots ≡ map (λ (s : SlotView). order_of s.journal) slots' → slots ≡ slots'
+one_each own all [] [] [] h k e = refl
+one_each own all [] [] (s ∷ slots') h k e = absurd k
+one_each own all [] (s ∷ slots) slots' h k e = absurd h
+one_each own all (c ∷ cs) [] slots' h k e = absurd h
+one_each own all (c ∷ cs) (s ∷ slots) [] h k e = absurd k
+one_each own all (c ∷ cs) (s ∷ slots) (s' ∷ slots') h k e =
+    (λ i. one_slot own c all all s s' h.0 k.0 (λ w. refl) (head_is _ _ _ _ e) i
+    ∷ one_each own all cs slots slots' h.1 k.1 (tail_is _ _ _ _ e) i)
 
 one_world : (a : Audited) (r : Known) (world world' : WorldView) → IsOrdered a r world → IsOrdered a r world' → world ≡ world'
 one_world a r world world' h k =
-    let parts =
-    one_each r.own (heard_of a) r.starts world.slots world'.slots (order_of_strangers world.strangers)
-    (order_of_strangers world'.strangers) h.session.meters k.session.meters (sym (printed_are a r world h)
-    ∙ printed_are a r world' k) in
+    let both = same_from_push _ _ _ _ (sym (printed_are a r world h) ∙ printed_are a r world' k) in
+    let slots = one_each r.own (heard_of a) r.starts world.slots world'.slots h.session.meters k.session.meters both.0 in
     let strangers =
     one_strangers (λ w. lines_of_strangers r.starts (heard_by w (heard_of a)))
-    world.strangers world'.strangers h.session.strangers k.session.strangers parts.1 in
-    (λ i. record { slots = parts.0 i; strangers = strangers i })
+    world.strangers world'.strangers h.session.strangers k.session.strangers both.1 in
+    (λ i. record { slots = slots i; strangers = strangers i })
 
 -- ---- one place of a difference
-
-get-take : (xs : List ℕ) (p q : ℕ) → p < q → slice_get (take q xs) p ≡ slice_get xs p
-get-take xs p zero h = absurd (omega arith)
-get-take [] p (suc q) h = refl
-get-take (x ∷ xs) zero (suc q) h = refl
-get-take (x ∷ xs) (suc p) (suc q) h = get-take xs p q (omega arith)
 
 not_nearer : (text other : List ℕ) (p q : ℕ) → DiffersAt p text other → DiffersAt q text other → p < q → ⊥
 not_nearer text other p q h k less = h.differs (sym (get-take text p q less) ∙ (ap (λ l. slice_get l p) k.same ∙ get-take other p q less))
 
 one_difference : (text other : List ℕ) (p q : ℕ) → DiffersAt p text other → DiffersAt q text other → p ≡ q
-one_difference text other p q h k = by_order ⊥ p q (not_nearer text other p q h k) (not_nearer text other q p k h)
+one_difference text other p q h k = by_order p q (not_nearer text other p q h k) (not_nearer text other q p k h)
 
 -- ---- one verdict
 
@@ -280,7 +240,7 @@ module _ (a : Audited) where
   no_state r h k = absurd cc
 
   over_not : (w : ℕ) (r : Known) → Over w → IsReadable a r → ⊥
-  over_not w r h k = until_not (λ input. is_over input ≡ false) (λ input. is_over input ≡ true) not_both 1 w a.inputs h k.within
+  over_not w r h k = none_stops (λ input. is_over input ≡ false) (λ input. is_over input ≡ true) (λ input. is_over input ≡ false) never_both 1 w a.inputs h k.within
 
   form_not : (line : ℕ) (r r' : Known) → IsReadable a r → IsFirstFaulty (length r.starts) (lines_in a.report) line → IsInForm a r' → ⊥
   form_not line r r' read h k =
@@ -381,7 +341,7 @@ module _ (a : Audited) where
   one_cause (causes.Over w) (causes.Roster line cause) h k = absurd (no_state h.0 k h.1)
   one_cause (causes.Over w) (causes.State line cause) h k = absurd (no_state h.0 k h.1)
   one_cause (causes.Over w) (causes.Over v) h k =
-      ap causes.Over (until_one (λ input. is_over input ≡ false) (λ input. is_over input ≡ true) not_both 1 w v a.inputs h.2 k.2)
+      ap causes.Over (one_stops (λ input. is_over input ≡ false) (λ input. is_over input ≡ true) never_both 1 w v a.inputs h.2 k.2)
   one_cause (causes.Over w) (causes.Form l) h k = absurd (over_not w k.0 h.2 k.1)
   one_cause (causes.Over w) (causes.Order l p) h k = absurd (over_not w k.0 h.2 k.1.readable)
   one_cause (causes.Over w) (causes.Text p) h k = absurd (over_not w k.known h.2 k.ordered.form.readable)

@@ -1,10 +1,12 @@
 -- The report of a session that is compared with a text, a slot at a time.
-use Rattle.std.proofs.Common.{◌≡◌, ℕ, ◌+◌, ◌<◌, false, List, [], ◌∷◌, ◌++◌, codes, map, length, take, get_or, refl, sym, ap, ◌∙◌, subst, append_assoc, append-nil, arith}
-use Rattle.std.specs.Prelude.{◌≤◌, ◌^◌, Option, Some, None, IfSome}
+use Rattle.std.proofs.Common.{◌≡◌, ℕ, ◌+◌, ◌<◌, false, List, [], ◌∷◌, ◌++◌, codes, map, length, take, get_or, refl, sym, ap, ◌∙◌, subst, arith}
+use Rattle.std.specs.Prelude.{◌≤◌, ◌^◌, Option, IfSome}
 use Rattle.std.specs.List.{flat_map, All}
 use Rattle.std.proofs.lemmas.List.Elements.{All-nil, All-cons}
-use Rattle.std.proofs.lemmas.List.{length-map}
-use Rattle.lists.specs.Each.{Each, EachWith}
+use Rattle.std.proofs.lemmas.List.{flat_map_more, length-map}
+use Rattle.std.proofs.lemmas.Option.{IfSome_then}
+use Rattle.lists.specs.Each.{Each}
+use Rattle.lists.proofs.Members.{each_push, with_fold}
 use Rattle.paper.specs.Puts.{Puts}
 use Rattle.paper.proofs.Calls.{none, then, three_make, four_make}
 use Rattle.paper.proofs.Items.{is_put}
@@ -35,13 +37,7 @@ use Rattle.audit_check_main.proofs.Slots.{slots_none, slots_more, as_many_slots,
 -- ---- the meters
 
 flat_more : {X : Type 0} (text : X → List ℕ) (xs : List X) (x : X) → flat_map text (xs ++ x ∷ []) ≡ flat_map text xs ++ text x
-flat_more text [] x = append-nil (text x)
-flat_more text (y ∷ xs) x =
-    ap (λ (t : List ℕ). text y ++ t) (flat_more text xs x) ∙ sym (append_assoc (text y) (flat_map text xs) (text x))
-
-each_push : (slots : List SlotView) (slot : SlotView) → Each IsLeft slots → IsLeft slot → Each IsLeft (slots ++ slot ∷ [])
-each_push [] slot h one = (one, tt)
-each_push (s ∷ slots) slot h one = (h.0, each_push slots slot h.1 one)
+flat_more text xs x = sym (flat_map_more text [] xs x)
 
 module _ (own : Address) (all : List (List Told)) (lists : List (List (ℕ × ℕ))) where
   pub no_meters : (p : Papers) → AreMetersPut own all [] lists p p
@@ -55,7 +51,7 @@ module _ (own : Address) (all : List (List Told)) (lists : List (List (ℕ × �
     slots = before.slots ++ one.slot ∷ [];
     so = slots_more own all cs i c lists before.slots one.slot before.so inside few is one.so;
     put = is_put _ _ (flat_more meter_text before.slots one.slot) (then before.put one.put);
-    told = each_push before.slots one.slot before.told one.told;
+    told = each_push IsLeft before.slots one.slot before.told one.told;
     left = is_put _ _ (flat_more slot_block before.slots one.slot) (then before.left one.left);
   }
 
@@ -68,14 +64,9 @@ all_left (s ∷ slots) h = All-cons IsLeft s slots h.0 (all_left slots h.1)
 -- a meter keeps its address
 same_addresses : (own : Address) (all : List (List Told)) (cs : List Start) (lists : List (List (ℕ × ℕ))) (slots : List SlotView)
     → AreOrderedSlots own all cs lists slots → map (λ (c : Start). c.address) (map known_now slots) ≡ map (λ (c : Start). c.address) cs
-same_addresses own all cs lists slots so = each cs slots (meters_slots own all cs lists slots so)
-  where
-    each : (cs : List Start) (slots : List SlotView) → EachWith (IsMetersSlot own all) cs slots
-        → map (λ (c : Start). c.address) (map known_now slots) ≡ map (λ (c : Start). c.address) cs
-    each [] [] h = refl
-    each [] (s ∷ slots) h = absurd h
-    each (c ∷ cs) [] h = absurd h
-    each (c ∷ cs) (s ∷ slots) h = (λ i. (h.0.commission_is i).address ∷ each cs slots h.1 i)
+same_addresses own all cs lists slots so =
+    with_fold (IsMetersSlot own all) (λ cs slots. map (λ (c : Start). c.address) (map known_now slots) ≡ map (λ (c : Start). c.address) cs) refl
+    (λ c s cs slots one _ rest. (λ i. (one.commission_is i).address ∷ rest i)) cs slots (meters_slots own all cs lists slots so)
 
 -- what slots leave that can be told is read back
 left_back : (own : Address) (all : List (List Told)) (cs : List Start) (lists : List (List (ℕ × ℕ))) (slots : List SlotView)
@@ -96,11 +87,6 @@ left_is : (own : Address) (slots : List SlotView)
     → left_text own slots ≡ (codes "wmbus-state 1\n" ++ own_text own) ++ flat_map slot_block slots ++ codes "end\n"
 unfolding state_text
 left_is own slots = ap (λ t. (codes "wmbus-state 1\n" ++ own_text own) ++ t ++ codes "end\n") (blocks_are slots)
-
-whole_state : {P : Type 0} (takes : P → List ℕ → P → Type 0) (p q r s : P) (own : Address) (slots : List SlotView)
-    → Puts takes p (codes "wmbus-state 1\n" ++ own_text own) q → Puts takes q (flat_map slot_block slots) r
-    → Puts takes r (codes "end\n") s → Puts takes p (left_text own slots) s
-whole_state takes p q r s own slots one two three = three_make (left_text own slots) one two three (left_is own slots)
 
 -- ---- the whole report
 
@@ -127,7 +113,7 @@ session_put own meters heard lists p q r s t u v w x ends order strangers small 
       put = whole_report Compares p q r s t (map end_of heard) all.slots strangers
           (subst (λ e. Puts Compares p (head_text e) q) ends_are head) all.put three four;
       read_back = left_back own (map tells heard) meters lists all.slots small few apart all.so all.told;
-      left = whole_state Compares u v w x own all.slots front all.left end;
+      left = three_make (left_text own all.slots) front all.left end (left_is own all.slots);
     }
 
 -- ---- what is found
@@ -147,13 +133,9 @@ module _ (own : Address) (meters : List Start) (heard : List HeardInput) (lists 
 
   left_so_far : IsNextSoFar now.next next (left_text own session.slots)
   left_so_far = record {
-    text_is = if_same next next_is;
+    text_is = IfSome_then next next_is (λ text h. left_found.0 ∙ h);
     so_far = left_found.1;
   }
-    where
-      if_same : (n : Option (List ℕ)) → IfSome n (λ text. fresh.next.text ≡ text) → IfSome n (λ text. now.next.text ≡ text)
-      if_same None h = tt
-      if_same (Some text) h = left_found.0 ∙ h
 
   pub found_is : (verdict : Verdict) → ((text left : List ℕ) → IsSoFar now.report text → IsNextSoFar now.next next left
       → IsCompared now.report.text text next left verdict)

@@ -1,5 +1,5 @@
 -- The lists of the lines read so far, and one line more.
-use Rattle.std.proofs.Common.{◌≡◌, ℕ, zero, suc, ◌+◌, ◌-◌, ◌^◌, ◌<◌, ◌≤◌, ◌&&◌, ◌||◌, not, nat_le, Bool, true, false, cond, List, [], ◌∷◌, ◌++◌, filter, length, get_or, set, reverse, Option, Some, None, Result, Ok, Err, OnOk, refl, sym, ap, ◌∙◌, subst, arith, append_assoc, append-nil, length-append}
+use Rattle.std.proofs.Common.{◌≡◌, ℕ, zero, suc, ◌+◌, ◌-◌, ◌^◌, ◌<◌, ◌≤◌, ◌&&◌, ◌||◌, not, nat_le, Bool, true, false, cond, List, [], ◌∷◌, ◌++◌, filter, length, get_or, set, reverse, Option, Some, None, refl, sym, ap, ◌∙◌, subst, arith, append_assoc, append-nil, length-append}
 use Rattle.std.specs.Prelude.{is_some}
 use Rattle.std.specs.List.{list_all}
 use Rattle.std.specs.Char.{is_ascii_digit}
@@ -7,14 +7,14 @@ use Rattle.std.specs.Str.{all_ascii_digits}
 use Rattle.std.specs.Str.Parse.{digits_value}
 use Rattle.std.proofs.lemmas.Bool.{and_parts}
 use Rattle.std.proofs.lemmas.Bool.Decides.{nat_tests}
-use Rattle.std.proofs.lemmas.List.{reverse-reverse}
+use Rattle.std.proofs.lemmas.Option.{cond_some}
 use Rattle.meter_slots.proofs.JournalLaws.{front_back}
 use Rattle.plain_text.specs.Numbers.{is_plain, number_of}
 use Rattle.plain_text.specs.Parts.{fields_of}
 use Rattle.report_text.specs.Orders.{Told, lines_in, pair_in, meter_heading, strangers_heading, with_steps, with_line, told, orders}
 use Rattle.audit_check_main.specs.declared.line_lists.Open.{Open}
 use Rattle.audit_check_main.specs.declared.line_lists.Open.TheVariants as opens
-use Rattle.audit_check_main.specs.Lists.{is_meter, is_strangers, is_step, is_stranger, small_number, both, numbers_in, pair_of, open_in, is_meters, is_of_strangers, is_faulty, AreInForm, IsFirstFaulty, as_many, lists_printed}
+use Rattle.audit_check_main.specs.Lists.{is_meter, is_strangers, is_step, is_stranger, small_number, both, numbers_in, pair_of, open_in, is_meters, is_of_strangers, is_faulty, AreInForm, as_many, lists_printed}
 use Rattle.audit_check_main.specs.Reading.{ListsRead, onto_last, joined_to, told_above, StandsFor, TakesStep, TakesStranger}
 
 -- ---- the last one of some lists
@@ -62,11 +62,6 @@ all_digits : (text : List ℕ) → list_all is_ascii_digit text ≡ true → all
 all_digits [] h = refl
 all_digits (b ∷ text) h = let parts = and_parts _ _ h in (λ i. (parts.0 i) && (all_digits text parts.1 i))
 
-number_if : (a b : Bool) (v n : ℕ) → cond (a && b) (Some v) None ≡ Some n → (a ≡ true) × (v ≡ n)
-number_if true true v n h = (refl, cc)
-number_if true false v n h = absurd cc
-number_if false b v n h = absurd cc
-
 record IsNumeral (text : List ℕ) (n : ℕ) : Type 0 where
   digits : all_ascii_digits text ≡ true
   value : digits_value 10 text ≡ n
@@ -74,8 +69,8 @@ record IsNumeral (text : List ℕ) (n : ℕ) : Type 0 where
 numeral : (text : List ℕ) (n : ℕ) → small_number text ≡ Some n → IsNumeral text n
 unfolding number_of
 numeral text n h =
-    let found = number_if (is_plain text) (nat_le (digits_value 10 text) (2 ^ 32 - 1)) (digits_value 10 text) n h in
-    let plain = and_parts _ _ found.0 in record { digits = all_digits text plain.0; value = found.1 }
+    let found = cond_some (is_plain text && nat_le (digits_value 10 text) (2 ^ 32 - 1)) (digits_value 10 text) n h in
+    let plain = and_parts _ _ (and_parts _ _ found.0).0 in record { digits = all_digits text plain.0; value = found.1 }
 
 pair_read : (fields : List (List ℕ)) (pair : ℕ × ℕ) → numbers_in fields ≡ Some pair → pair_in fields ≡ pair ∷ []
 pair_read [] pair h = absurd cc
@@ -95,60 +90,60 @@ pair_read (word ∷ first ∷ second ∷ more) pair h = at (small_number first) 
 
 -- ---- one line more
 
-pub stands_first : StandsFor [] (record { meters = []; strangers = []; open_list = opens.Nothing })
-stands_first = record { count = refl; open_is = refl; told_is = λ below. refl }
-
 -- what the test of a line's form comes to, by what the line begins with
-abbrev form_by : (meter strangers step stranger : Bool) → ℕ → List (List ℕ) → List ℕ → Bool
+abbrev pub form_by : (meter strangers step stranger : Bool) → ℕ → List (List ℕ) → List ℕ → Bool
 form_by meter strangers step stranger most above line =
     cond meter (nat_le most (length (filter is_meter above))) (cond strangers false
     (cond step (not (is_meters (open_in above) && is_some (pair_of line)))
     (cond stranger (not (is_of_strangers (open_in above) && is_some (pair_of line))) false)))
 
-with_meter : (line : List ℕ) (below : Told) → is_meter line ≡ true → with_line line below ≡ meter_heading below
-unfolding with_line
-with_meter line below h =
-    ap (λ b. cond b (meter_heading below) (cond (is_strangers line) (strangers_heading below)
-    (cond (is_step line || is_stranger line) (with_steps (pair_in (fields_of line)) below) below))) h
+-- what kind of line this is
+pub record IsKind (line : List ℕ) (meter strangers step stranger : Bool) : Type 0 where
+  pub meter_is : is_meter line ≡ meter
+  pub strangers_is : is_strangers line ≡ strangers
+  pub step_is : is_step line ≡ step
+  pub stranger_is : is_stranger line ≡ stranger
 
-with_strangers : (line : List ℕ) (below : Told) → is_meter line ≡ false → is_strangers line ≡ true
-    → with_line line below ≡ strangers_heading below
-unfolding with_line
-with_strangers line below h k =
-    (λ i. cond (h i) (meter_heading below) (cond (k i) (strangers_heading below)
-    (cond (is_step line || is_stranger line) (with_steps (pair_in (fields_of line)) below) below)))
+pub form_is : {m s t r : Bool} (most : ℕ) (above : List (List ℕ)) (line : List ℕ) → IsKind line m s t r
+    → is_faulty most above line ≡ form_by m s t r most above line
+unfolding is_faulty
+form_is most above line k = λ i. form_by (k.meter_is i) (k.strangers_is i) (k.step_is i) (k.stranger_is i) most above line
 
-with_step : (line : List ℕ) → is_meter line ≡ false → is_strangers line ≡ false → is_step line ≡ true → (below : Told)
-    → with_line line below ≡ with_steps (pair_in (fields_of line)) below
-unfolding with_line
-with_step line h k l below =
-    (λ i. cond (h i) (meter_heading below) (cond (k i) (strangers_heading below)
-    (cond (l i || is_stranger line) (with_steps (pair_in (fields_of line)) below) below)))
+pub opened_by : {m s t r : Bool} (above : List (List ℕ)) (line : List ℕ) → IsKind line m s t r
+    → open_in (line ∷ above) ≡ cond m opens.Meter (cond s opens.Strangers (open_in above))
+opened_by above line k = λ i. cond (k.meter_is i) opens.Meter (cond (k.strangers_is i) opens.Strangers (open_in above))
 
-with_stranger : (line : List ℕ) → is_meter line ≡ false → is_strangers line ≡ false → is_step line ≡ false → is_stranger line ≡ true
-    → (below : Told) → with_line line below ≡ with_steps (pair_in (fields_of line)) below
-unfolding with_line
-with_stranger line h k l m below =
-    (λ i. cond (h i) (meter_heading below) (cond (k i) (strangers_heading below)
-    (cond (l i || m i) (with_steps (pair_in (fields_of line)) below) below)))
+pub counted_by : {m s t r : Bool} (above : List (List ℕ)) (line : List ℕ) → IsKind line m s t r
+    → length (filter is_meter (line ∷ above)) ≡ length (cond m (line ∷ filter is_meter above) (filter is_meter above))
+counted_by above line k = λ i. length (cond (k.meter_is i) (line ∷ filter is_meter above) (filter is_meter above))
 
-with_other : (line : List ℕ) → is_meter line ≡ false → is_strangers line ≡ false → is_step line ≡ false → is_stranger line ≡ false
-    → (below : Told) → with_line line below ≡ below
+-- what a line of a kind tells, above what the lines below tell
+abbrev told_by : (meter strangers listed : Bool) → List ℕ → Told → Told
+told_by meter strangers listed line below = cond meter (meter_heading below) (cond strangers (strangers_heading below)
+    (cond listed (with_steps (pair_in (fields_of line)) below) below))
+
+told_is : {m s t r : Bool} (line : List ℕ) → IsKind line m s t r → (below : Told) → with_line line below ≡ told_by m s (t || r) line below
 unfolding with_line
-with_other line h k l m below =
-    (λ i. cond (h i) (meter_heading below) (cond (k i) (strangers_heading below)
-    (cond (l i || m i) (with_steps (pair_in (fields_of line)) below) below)))
+told_is line k below = λ i. told_by (k.meter_is i) (k.strangers_is i) (k.step_is i || k.stranger_is i) line below
 
 module _ (above : List (List ℕ)) (old : ListsRead) (line : List ℕ) (so : StandsFor above old) where
-  pub after_meter : is_meter line ≡ true
-      → StandsFor (line ∷ above) (record { meters = old.meters ++ [] ∷ []; strangers = old.strangers; open_list = opens.Meter })
-  after_meter h = record {
-    count = length-append old.meters ([] ∷ [])
-        ∙ ((let n : length old.meters + 1 ≡ suc (length (filter is_meter above)) = let c = so.count in omega arith in n)
-        ∙ ap (λ b. length (cond b (line ∷ filter is_meter above) (filter is_meter above))) (sym h));
-    open_is = ap (λ b. cond b opens.Meter (cond (is_strangers line) opens.Strangers (open_in above))) (sym h);
-    told_is = λ below. ap (told_above above) (with_meter line below h) ∙ (so.told_is (meter_heading below) ∙ joined old.open_list below);
+  -- the lists behind a line of a kind
+  after : {m s t r : Bool} (new : ListsRead) → IsKind line m s t r
+      → length new.meters ≡ length (cond m (line ∷ filter is_meter above) (filter is_meter above))
+      → new.open_list ≡ cond m opens.Meter (cond s opens.Strangers (open_in above))
+      → ((below : Told) → joined_to old.open_list old (told_by m s (t || r) line below) ≡ joined_to new.open_list new below)
+      → StandsFor (line ∷ above) new
+  after new k many opened joined = record {
+    count = many ∙ sym (counted_by above line k);
+    open_is = opened ∙ sym (opened_by above line k);
+    told_is = λ below. ap (told_above above) (told_is line k below) ∙ (so.told_is _ ∙ joined below);
   }
+
+  pub after_meter : {s t r : Bool} → IsKind line true s t r
+      → StandsFor (line ∷ above) (record { meters = old.meters ++ [] ∷ []; strangers = old.strangers; open_list = opens.Meter })
+  after_meter k = after _ k
+      (length-append old.meters ([] ∷ []) ∙ (let e : length old.meters + 1 ≡ suc (length (filter is_meter above)) = let c = so.count in omega arith in e))
+      refl (joined old.open_list)
     where
       pushed : (below : Told) → old.meters ++ below.above ∷ below.meters ≡ onto_last (old.meters ++ [] ∷ []) below.above ++ below.meters
       pushed below =
@@ -165,15 +160,9 @@ module _ (above : List (List ℕ)) (old : ListsRead) (line : List ℕ) (so : Sta
       joined opens.Strangers below =
           ap (λ m. record { above = []; meters = m; strangers = old.strangers ++ below.strangers }) (pushed below)
 
-  pub after_strangers : is_meter line ≡ false → is_strangers line ≡ true
+  pub after_strangers : {t r : Bool} → IsKind line false true t r
       → StandsFor (line ∷ above) (record { meters = old.meters; strangers = old.strangers; open_list = opens.Strangers })
-  after_strangers h k = record {
-    count = so.count ∙ ap (λ b. length (cond b (line ∷ filter is_meter above) (filter is_meter above))) (sym h);
-    open_is = (λ i. cond (sym h i) opens.Meter (cond (sym k i) opens.Strangers (open_in above)));
-    told_is =
-        λ below. ap (told_above above) (with_strangers line below h k)
-        ∙ (so.told_is (strangers_heading below) ∙ joined old.open_list below);
-  }
+  after_strangers k = after _ k so.count refl (joined old.open_list)
     where
       joined : (o : Open) (below : Told) → joined_to o old (strangers_heading below) ≡ joined_to opens.Strangers old below
       joined opens.Nothing below = refl
@@ -182,82 +171,44 @@ module _ (above : List (List ℕ)) (old : ListsRead) (line : List ℕ) (so : Sta
           (onto_last-nil old.meters)
       joined opens.Strangers below = refl
 
-  not_heading : is_meter line ≡ false → is_strangers line ≡ false → open_in above ≡ open_in (line ∷ above)
-  not_heading h k = (λ i. cond (sym h i) opens.Meter (cond (sym k i) opens.Strangers (open_in above)))
+  -- a line of a list, with the pair that it names
+  listed : (pair : ℕ × ℕ) → pair_of line ≡ Some pair → (below : Told)
+      → joined_to old.open_list old (with_steps (pair_in (fields_of line)) below) ≡ joined_to old.open_list old (with_steps (pair ∷ []) below)
+  listed pair names below = ap (λ pairs. joined_to old.open_list old (with_steps pairs below)) (pair_read (fields_of line) pair names)
 
-  same_count : is_meter line ≡ false → length (filter is_meter above) ≡ length (filter is_meter (line ∷ above))
-  same_count h = ap (λ b. length (cond b (line ∷ filter is_meter above) (filter is_meter above))) (sym h)
+  pub after_step : {r : Bool} (new : ListsRead) → IsKind line false false true r → TakesStep line old new → StandsFor (line ∷ above) new
+  after_step new k takes = subst (StandsFor (line ∷ above)) (sym takes.after) (after _ k
+      (length-onto_last old.meters (takes.pair ∷ []) ∙ so.count) (sym takes.is_open ∙ so.open_is)
+      (λ below. listed takes.pair takes.names below
+      ∙ (ap (λ o. joined_to o old (with_steps (takes.pair ∷ []) below)) takes.is_open
+      ∙ ap (λ m. record { above = []; meters = m ++ below.meters; strangers = old.strangers ++ below.strangers })
+      (sym (onto_last-twice old.meters (takes.pair ∷ []) below.above)))))
 
-  pub after_step : (new : ListsRead) → is_meter line ≡ false → is_strangers line ≡ false → is_step line ≡ true → TakesStep line old new
-      → StandsFor (line ∷ above) new
-  after_step new h k l takes =
-      let pair = takes.pair in
-      let with_pair : (below : Told) → with_line line below ≡ with_steps (pair ∷ []) below =
-      λ below. with_step line h k l below ∙ ap (λ pairs. with_steps pairs below) (pair_read (fields_of line) pair takes.names) in
-      subst (StandsFor (line ∷ above)) (sym takes.after) (record {
-        count = length-onto_last old.meters (pair ∷ []) ∙ (so.count ∙ same_count h);
-        open_is = sym takes.is_open ∙ (so.open_is ∙ not_heading h k);
-        told_is = λ below.
-            ap (told_above above) (with_pair below) ∙ (so.told_is (with_steps (pair ∷ []) below)
-            ∙ (ap (λ o. joined_to o old (with_steps (pair ∷ []) below)) takes.is_open
-            ∙ ap (λ m. record { above = []; meters = m ++ below.meters; strangers = old.strangers ++ below.strangers })
-            (sym (onto_last-twice old.meters (pair ∷ []) below.above))));
-      })
+  pub after_stranger : (new : ListsRead) → IsKind line false false false true → TakesStranger line old new → StandsFor (line ∷ above) new
+  after_stranger new k takes = subst (StandsFor (line ∷ above)) (sym takes.after) (after _ k so.count (sym takes.is_open ∙ so.open_is)
+      (λ below. listed takes.pair takes.names below
+      ∙ (ap (λ o. joined_to o old (with_steps (takes.pair ∷ []) below)) takes.is_open
+      ∙ ap (λ s. record { above = []; meters = old.meters ++ below.meters; strangers = s })
+      (sym (append_assoc old.strangers (takes.pair ∷ []) (below.above ++ below.strangers))))))
 
-  pub after_stranger : (new : ListsRead) → is_meter line ≡ false → is_strangers line ≡ false → is_step line ≡ false
-      → is_stranger line ≡ true → TakesStranger line old new → StandsFor (line ∷ above) new
-  after_stranger new h k l m takes =
-      let pair = takes.pair in
-      let with_pair : (below : Told) → with_line line below ≡ with_steps (pair ∷ []) below =
-      λ below. with_stranger line h k l m below ∙ ap (λ pairs. with_steps pairs below) (pair_read (fields_of line) pair takes.names) in
-      subst (StandsFor (line ∷ above)) (sym takes.after) (record {
-        count = so.count ∙ same_count h;
-        open_is = sym takes.is_open ∙ (so.open_is ∙ not_heading h k);
-        told_is = λ below.
-            ap (told_above above) (with_pair below) ∙ (so.told_is (with_steps (pair ∷ []) below)
-            ∙ (ap (λ o. joined_to o old (with_steps (pair ∷ []) below)) takes.is_open
-            ∙ ap (λ s. record { above = []; meters = old.meters ++ below.meters; strangers = s })
-            (sym (append_assoc old.strangers (pair ∷ []) (below.above ++ below.strangers)))));
-      })
-
-  pub after_other : is_meter line ≡ false → is_strangers line ≡ false → is_step line ≡ false → is_stranger line ≡ false
-      → StandsFor (line ∷ above) old
-  after_other h k l m = record {
-    count = so.count ∙ same_count h;
-    open_is = so.open_is ∙ not_heading h k;
-    told_is = λ below. ap (told_above above) (with_other line h k l m below) ∙ so.told_is below;
-  }
+  pub after_other : IsKind line false false false false → StandsFor (line ∷ above) old
+  after_other k = after old k so.count so.open_is (λ below. refl)
 
   -- ---- whether it is in form
 
-  pub faulty_meter : (most : ℕ) (b : Bool) → is_meter line ≡ true → nat_le most (length old.meters) ≡ b → is_faulty most above line ≡ b
-  unfolding is_faulty
-  faulty_meter most b h e =
-      (λ i. form_by (h i) (is_strangers line) (is_step line) (is_stranger line) most above line) ∙ (ap (nat_le most) (sym so.count) ∙ e)
+  pub faulty_meter : {s t r : Bool} (most : ℕ) (b : Bool) → IsKind line true s t r → nat_le most (length old.meters) ≡ b
+      → is_faulty most above line ≡ b
+  faulty_meter most b k e = form_is most above line k ∙ (ap (nat_le most) (sym so.count) ∙ e)
 
-  pub faulty_strangers : (most : ℕ) → is_meter line ≡ false → is_strangers line ≡ true → is_faulty most above line ≡ false
-  unfolding is_faulty
-  faulty_strangers most h k = (λ i. form_by (h i) (k i) (is_step line) (is_stranger line) most above line)
-
-  pub faulty_step : (most : ℕ) (b : Bool) → is_meter line ≡ false → is_strangers line ≡ false → is_step line ≡ true
+  pub faulty_step : {r : Bool} (most : ℕ) (b : Bool) → IsKind line false false true r
       → (is_meters old.open_list && is_some (pair_of line)) ≡ b → is_faulty most above line ≡ not b
-  unfolding is_faulty
-  faulty_step most b h k l e =
-      (λ i. form_by (h i) (k i) (l i) (is_stranger line) most above line)
-      ∙ (ap (λ o. not (is_meters o && is_some (pair_of line))) (sym so.open_is) ∙ ap not e)
+  faulty_step most b k e =
+      form_is most above line k ∙ (ap (λ o. not (is_meters o && is_some (pair_of line))) (sym so.open_is) ∙ ap not e)
 
-  pub faulty_stranger : (most : ℕ) (b : Bool) → is_meter line ≡ false → is_strangers line ≡ false → is_step line ≡ false
-      → is_stranger line ≡ true → (is_of_strangers old.open_list && is_some (pair_of line)) ≡ b → is_faulty most above line ≡ not b
-  unfolding is_faulty
-  faulty_stranger most b h k l m e =
-      (λ i. form_by (h i) (k i) (l i) (m i) most above line)
-      ∙ (ap (λ o. not (is_of_strangers o && is_some (pair_of line))) (sym so.open_is) ∙ ap not e)
-
-  pub faulty_other : (most : ℕ) → is_meter line ≡ false → is_strangers line ≡ false → is_step line ≡ false → is_stranger line ≡ false
-      → is_faulty most above line ≡ false
-  unfolding is_faulty
-  faulty_other most h k l m =
-      (λ i. form_by (h i) (k i) (l i) (m i) most above line)
+  pub faulty_stranger : (most : ℕ) (b : Bool) → IsKind line false false false true
+      → (is_of_strangers old.open_list && is_some (pair_of line)) ≡ b → is_faulty most above line ≡ not b
+  faulty_stranger most b k e =
+      form_is most above line k ∙ (ap (λ o. not (is_of_strangers o && is_some (pair_of line))) (sym so.open_is) ∙ ap not e)
 
 -- a step and a stranger's line that are taken stand in their lists
 pub step_placed : (line : List ℕ) (old new : ListsRead) → TakesStep line old new
@@ -278,56 +229,6 @@ pub record HaveRead (most : ℕ) (all left : List (List ℕ)) (number : ℕ) (li
   pub in_form : AreInForm most above
   pub so : StandsFor above lists
 
-pub read_none : (most : ℕ) (all left : List (List ℕ)) (number : ℕ) (lists : ListsRead) → left ≡ all → number ≡ 0
-    → lists ≡ record { meters = []; strangers = []; open_list = opens.Nothing } → HaveRead most all left number lists
-read_none most all left number lists same none fresh =
-    record { above = []; cut = sym same; counted = none; in_form = tt; so = subst (StandsFor []) (sym fresh) stands_first }
-
-cut_more : (all above left rest : List (List ℕ)) (line : List ℕ) → all ≡ reverse above ++ left → left ≡ line ∷ rest
-    → all ≡ reverse (line ∷ above) ++ rest
-cut_more all above left rest line cut next =
-    cut ∙ (ap (λ l. reverse above ++ l) next ∙ (sym (append_assoc (reverse above) (line ∷ []) rest)
-    ∙ ap (λ l. l ++ rest) (sym (front_back line above))))
-
-pub read_more : (most : ℕ) (all left rest : List (List ℕ)) (line : List ℕ) (number number' : ℕ) (lists lists' : ListsRead)
-    → HaveRead most all left number lists → left ≡ line ∷ rest → number' ≡ number + 1
-    → ((above : List (List ℕ)) → StandsFor above lists → is_faulty most above line ≡ false)
-    → ((above : List (List ℕ)) → StandsFor above lists → StandsFor (line ∷ above) lists')
-    → HaveRead most all rest number' lists'
-read_more most all left rest line number number' lists lists' before next count fine stands = record {
-  above = line ∷ before.above;
-  cut = cut_more all before.above left rest line before.cut next;
-  counted = count ∙ (let c = before.counted in omega arith);
-  in_form = (fine before.above before.so, before.in_form);
-  so = stands before.above before.so;
-}
-
-length-reverse' : {X : Type 0} (xs : List X) → length (reverse xs) ≡ length xs
-length-reverse' [] = refl
-length-reverse' (x ∷ xs) = ap length (front_back x xs) ∙ (length-append (reverse xs) (x ∷ []) ∙ (let l = length-reverse' xs in omega arith))
-
-pub read_faulty : (most : ℕ) (all left rest : List (List ℕ)) (line : List ℕ) (number number' : ℕ) (lists : ListsRead)
-    → HaveRead most all left number lists → left ≡ line ∷ rest → number' ≡ number + 1
-    → ((above : List (List ℕ)) → StandsFor above lists → is_faulty most above line ≡ true) → IsFirstFaulty most all number'
-read_faulty most all left rest line number number' lists before next count faulty = record {
-  above = reverse before.above;
-  line = line;
-  below = rest;
-  cut = before.cut ∙ ap (λ l. reverse before.above ++ l) next;
-  number_is = count ∙ (let c = before.counted in let l = length-reverse' before.above in omega arith);
-  in_form = subst (AreInForm most) (sym (reverse-reverse before.above)) before.in_form;
-  faulty = ap (λ l. is_faulty most l line) (reverse-reverse before.above) ∙ faulty before.above before.so;
-}
-
--- a line that is still to come is counted
-pub room_for_line : (most : ℕ) (all left rest : List (List ℕ)) (line : List ℕ) (number : ℕ) (lists : ListsRead)
-    → HaveRead most all left number lists → left ≡ line ∷ rest → number < length all
-room_for_line most all left rest line number lists before next =
-    let l = ap length before.cut ∙ length-append (reverse before.above) left in
-    let r = length-reverse' before.above in
-    let c = before.counted in
-    let n = ap length next in omega arith
-
 -- ---- the end
 
 told_so_far : (above rest : List (List ℕ)) → told (reverse above ++ rest) ≡ told_above above (told rest)
@@ -337,9 +238,8 @@ told_so_far (line ∷ above) rest =
 
 room_for_meter : (most : ℕ) (above : List (List ℕ)) (line : List ℕ) → is_meter line ≡ true → is_faulty most above line ≡ false
     → nat_le most (length (filter is_meter above)) ≡ false
-unfolding is_faulty
 room_for_meter most above line e fine =
-    sym (λ i. form_by (e i) (is_strangers line) (is_step line) (is_stranger line) most above line) ∙ fine
+    sym (form_is most above line (record { meter_is = e; strangers_is = refl; step_is = refl; stranger_is = refl })) ∙ fine
 
 -- no more headings of meters were read than there are meters
 few_meters : (most : ℕ) (above : List (List ℕ)) → AreInForm most above → length (filter is_meter above) ≤ most
@@ -354,12 +254,6 @@ few_meters most (line ∷ above) h = at (is_meter line) refl (few_meters most ab
 pub lists_fit : (most : ℕ) (all left : List (List ℕ)) (number : ℕ) (lists : ListsRead) → HaveRead most all left number lists
     → length lists.meters ≤ most
 lists_fit most all left number lists so = let f = few_meters most so.above so.in_form in let c = so.so.count in omega arith
-
-pub all_in_form : (most : ℕ) (all left : List (List ℕ)) (number : ℕ) (lists : ListsRead) → HaveRead most all left number lists → left ≡ []
-    → AreInForm most (reverse all)
-all_in_form most all left number lists so none =
-    let whole : all ≡ reverse so.above = so.cut ∙ (ap (λ l. reverse so.above ++ l) none ∙ append-nil (reverse so.above)) in
-    subst (AreInForm most) (sym (ap reverse whole ∙ reverse-reverse so.above)) so.in_form
 
 abbrev no_lines : Told
 no_lines = record { above = []; meters = []; strangers = [] }
@@ -396,9 +290,3 @@ as_many-all zero [] h = refl
 as_many-all zero (list ∷ lists) h = absurd (omega arith)
 as_many-all (suc n) [] h = absurd (omega arith)
 as_many-all (suc n) (list ∷ lists) h = ap (λ l. list ∷ l) (as_many-all n lists (omega arith))
-
--- ---- results
-
-pub on_ok : {T E P Q : Type 0} (r : Result T E) → OnOk r P → (P → Q) → OnOk r Q
-on_ok (Ok x) h f = f h
-on_ok (Err e) h f = tt

@@ -28,6 +28,7 @@ use Rattle.report_text.proofs.LineReport.{commission_is, numbers_front, numbers_
 use Rattle.audit_check_main.specs.declared.meter_steps.MeterSteps.{MeterSteps}
 use Rattle.audit_check_main.specs.Comparing.{Compared, Compares, line_passed, settled}
 use Rattle.audit_check_main.specs.MeterSteps.{HasStepped, later_reading, stepped}
+use Rattle.audit_check_main.proofs.Compared.{get-there}
 use Rattle.audit_check_main.proofs.ComparedLater.{IsLine, compared_later}
 
 -- ---- the text of one step more
@@ -72,19 +73,12 @@ steps_more c own journal e reading legal more =
 
 -- ---- the last reading
 
-at_end : {X : Type 0} (xs : List X) (x : X) (n : ℕ) → n ≡ length xs → slice_get (xs ++ x ∷ []) n ≡ Some x
-at_end xs x n e = ap (slice_get (xs ++ x ∷ [])) e ∙ at xs
-  where
-    at : (ys : List _) → slice_get (ys ++ x ∷ []) (length ys) ≡ Some x
-    at [] = refl
-    at (y ∷ ys) = at ys
-
 last_more : (kept : List Reading) (reading : Option Reading)
     → later_reading (last_reading kept) reading ≡ last_reading (kept ++ option_to_list reading)
 last_more kept None = ap last_reading (sym (append-nil kept))
 last_more kept (Some r) =
     let long = length-append kept (r ∷ []) in
-    sym (at_end kept r (length (kept ++ r ∷ []) - 1) (let e : length (kept ++ r ∷ []) - 1 ≡ length kept = omega arith in e))
+    sym (get-there kept r [] (length (kept ++ r ∷ []) - 1) (let e : length (kept ++ r ∷ []) - 1 ≡ length kept = omega arith in e))
 
 -- ---- one step
 

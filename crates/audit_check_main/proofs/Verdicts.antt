@@ -4,7 +4,8 @@ use Rattle.std.specs.Prelude.{codes, Option, Some, None, IfSome}
 use Rattle.std.specs.Str.{all_ascii_digits}
 use Rattle.std.specs.Str.Parse.{digits_value}
 use Rattle.std.specs.Str.Lines.{lines}
-use Rattle.std.proofs.lemmas.List.{length-map}
+use Rattle.std.proofs.lemmas.List.{drop_all, drop_more, get_or_push, length-map}
+use Rattle.std.proofs.lemmas.Result.{IfOk-weaker}
 use Rattle.lists.specs.Each.{Each}
 use Rattle.line_reader.specs.Lines.{is_over, all_lines, whole_lines}
 use Rattle.meter_address.specs.declared.address.Address.{Address}
@@ -42,21 +43,21 @@ use Rattle.audit_check_main.proofs.Steps.{heard_none, heard_suc}
 -- ---- inputs
 
 -- all lines of an input within the limits
-all_within : (input : List ℕ) → is_over input ≡ false → all_lines input ≡ lines input
+pub lines_within : (input : List ℕ) → is_over input ≡ false → all_lines input ≡ lines input
 unfolding all_lines
-all_within input h = ap (λ b. cond b (whole_lines input) (lines input)) h
+lines_within input h = ap (λ b. cond b (whole_lines input) (lines input)) h
 
 pub tells_all : (cs : List Start) (inputs : List (List ℕ)) → Each (λ input. is_over input ≡ false) inputs
     → map tells (map (heard_input cs) inputs) ≡ map told_in inputs
 tells_all cs [] h = refl
-tells_all cs (x ∷ inputs) h = (λ i. map told_of (sym (all_within x h.0) i) ∷ tells_all cs inputs h.1 i)
+tells_all cs (x ∷ inputs) h = (λ i. map told_of (sym (lines_within x h.0) i) ∷ tells_all cs inputs h.1 i)
 
 ends_all : (cs : List Start) (inputs : List (List ℕ)) → Each (λ input. is_over input ≡ false) inputs
     → map end_of (map (heard_input cs) inputs) ≡ map (heard_out (map (λ c. c.address) cs)) inputs
 ends_all cs [] h = refl
 ends_all cs (x ∷ inputs) h =
     (λ i. record {
-      counts = counts_of (map (λ (c : Start). c.address) cs) (map told_of (sym (all_within x h.0) i));
+      counts = counts_of (map (λ (c : Start). c.address) cs) (map told_of (sym (lines_within x h.0) i));
       ended = ends.End;
     } ∷ ends_all cs inputs h.1 i)
 
@@ -75,7 +76,7 @@ nothing_heard cs k = at cs k
 numbers_at : (cs : List Start) (inputs : List (List ℕ)) → Each (λ input. is_over input ≡ false) inputs → (k v : ℕ)
     → get_or (get_or (map (heard_input cs) inputs) v no_input).lists k [] ≡ get_or (numbers_for cs (get_or (map told_in inputs) v [])) k []
 numbers_at cs [] h k v = sym (nothing_heard cs k)
-numbers_at cs (x ∷ inputs) h k zero = ap (λ ls. get_or (numbers_for cs (map told_of ls)) k []) (sym (all_within x h.0))
+numbers_at cs (x ∷ inputs) h k zero = ap (λ ls. get_or (numbers_for cs (map told_of ls)) k []) (sym (lines_within x h.0))
 numbers_at cs (x ∷ inputs) h k (suc v) = numbers_at cs inputs h.1 k v
 
 pub numbers_same : (cs : List Start) (inputs : List (List ℕ)) → Each (λ input. is_over input ≡ false) inputs → (k w : ℕ)
@@ -86,10 +87,6 @@ numbers_same cs inputs h k (suc v) =
     numbers_at cs inputs h k v ∙ ap (λ heard. get_or (numbers_for cs heard) k []) (sym (heard_suc v (map told_in inputs)))
 
 -- ---- right lists
-
-last_there : {X : Type 0} (xs : List X) (x d : X) → get_or (xs ++ x ∷ []) (length xs) d ≡ x
-last_there [] x d = refl
-last_there (y ∷ xs) x d = last_there xs x d
 
 abbrev own_numbers : List (List Told) → ℕ → Start → List ℕ
 own_numbers all w c = map (λ l. l.0) (lines_for c.address (heard_by w all))
@@ -121,9 +118,8 @@ module _ (cs : List Start) (inputs : List (List ℕ)) (within : Each (λ input. 
   strangers_right w =
       let all : List (List Told) = map tells (map (heard_input cs) inputs) in
       right_at (length cs) (omega arith) w
-      ∙ (ap (λ n. get_or (map (own_numbers all w) cs ++ map (λ l. l.0) (lines_of_strangers cs (heard_by w all)) ∷ []) n [])
-      (sym (length-map cs (own_numbers all w)))
-      ∙ last_there (map (own_numbers all w) cs) (map (λ l. l.0) (lines_of_strangers cs (heard_by w all))) [])
+      ∙ get_or_push (map (own_numbers all w) cs) (map (λ l. l.0) (lines_of_strangers cs (heard_by w all))) [] (length cs)
+      (length-map cs (own_numbers all w))
 
 -- where all lists are right by what all inputs told, each is an order of its lines
 pub orders_are : (cs : List Start) (inputs : List (List ℕ)) (before heard : List HeardInput) (lists : List (List (ℕ × ℕ)))
@@ -143,11 +139,6 @@ pub told_are : {E F : Type 0} (found : Result Verdict E) (result : Result Verdic
     → ((v : Verdict) → result ≡ Ok v → found ≡ Ok v) → IfOk found P → IfOk result P
 told_are found (Err e) P same h = tt
 told_are found (Ok v) P same h = subst (λ r. IfOk r P) (same v refl) h
-
-pub if_orders : {E : Type 0} (result : Result Verdict E) (Q R : Type 0) (P : Verdict → Type 0) → R → Q → IfOk result (λ v. Q → P v)
-    → IfOk result (λ v. R × P v)
-if_orders (Err e) Q R P r q h = tt
-if_orders (Ok v) Q R P r q h = (r, h q)
 
 -- ---- as many lists as there are meters, and one
 
@@ -248,11 +239,7 @@ module _ (r : Known) (text : List ℕ) (next : Option (List ℕ)) (report : List
           (record { meters = meters_slots _ _ r.starts lists slots so; strangers = noted.lines })
 
       lists_end : {X : Type 0} (n : ℕ) (xs : List X) (d : X) → length xs ≡ n + 1 → drop n xs ≡ get_or xs n d ∷ []
-      lists_end zero [] d h = absurd (omega arith)
-      lists_end zero (x ∷ []) d h = refl
-      lists_end zero (x ∷ y ∷ xs) d h = absurd (omega arith)
-      lists_end (suc n) [] d h = absurd (omega arith)
-      lists_end (suc n) (x ∷ xs) d h = lists_end n xs d (omega arith)
+      lists_end n xs d h = drop_more xs n d (omega arith) ∙ ap (λ l. get_or xs n d ∷ l) (drop_all (n + 1) xs (omega arith))
 
       printed : lists_printed (length r.starts) (orders report) ≡ lists_printed (length r.starts) (orders_of slots strangers)
       printed =
@@ -303,13 +290,13 @@ module _ (r : Known) (text : List ℕ) (next : Option (List ℕ)) (report : List
         → own ≡ r.own → meters ≡ r.starts
         → IfOk result (λ v. (heard ≡ map (heard_input meters) inputs) × IsStepped own meters heard lists report next v)
         → IfOk result (IsVerdict audited)
-    stepped_is (Err e) own meters heard own_is meters_are h = tt
-    stepped_is (Ok verdict) own meters heard own_is meters_are h =
+    stepped_is result own meters heard own_is meters_are = IfOk-weaker result
+        (λ v. (heard ≡ map (heard_input meters) inputs) × IsStepped own meters heard lists report next v) (IsVerdict audited) (λ verdict h.
         let heard_is = subst (λ m. heard ≡ map (heard_input m) inputs) meters_are h.0 in
         let there = subst (λ o. IsStepped o r.starts (map (heard_input r.starts) inputs) lists report next verdict) own_is
         (subst (λ m. IsStepped own m (map (heard_input r.starts) inputs) lists report next verdict) meters_are
         (subst (λ k. IsStepped own meters k lists report next verdict) heard_is h.1)) in
-        compared_is there.slots there.strangers there.so there.noted verdict there.read_back there.compared
+        compared_is there.slots there.strangers there.so there.noted verdict there.read_back there.compared)
 
 -- the verdict of each state's text
 pub for_each_text : {E T : Type 0} {Q : T → Type 0} (result : Result Verdict E) (P : T → Verdict → Type 0)
@@ -322,6 +309,7 @@ pub verdict_by : {E : Type 0} (result : Result Verdict E) (s : Known) (own : Add
     (next : Option (List ℕ)) (report : List ℕ) (inputs : List (List ℕ)) → own ≡ s.own → starts ≡ s.starts → state_of text ≡ Ok s
     → IfOk result (IsVerdictBy (record { own = own; starts = starts }) next report inputs)
     → IfOk result (IsVerdict (record { state = text; next = next; report = report; inputs = inputs }))
-verdict_by (Err e) s own starts text next report inputs own_is starts_are found h = tt
-verdict_by (Ok v) s own starts text next report inputs own_is starts_are found h =
-    h text (found ∙ (λ i. Ok (record { own = sym own_is i; starts = sym starts_are i })))
+verdict_by result s own starts text next report inputs own_is starts_are found =
+    IfOk-weaker result (IsVerdictBy (record { own = own; starts = starts }) next report inputs)
+    (IsVerdict (record { state = text; next = next; report = report; inputs = inputs }))
+    (λ v h. h text (found ∙ (λ i. Ok (record { own = sym own_is i; starts = sym starts_are i }))))

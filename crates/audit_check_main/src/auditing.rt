@@ -191,6 +191,7 @@ fn verdict_on(
 /// and whether `next`, if there is one, is the state that this session leaves; and if not, the first cause.
 ///
 /// It believes nothing but the state and the inputs, and takes memory for the slots, not for a second report or a second state.
+#[tactic(auto, using(crate::proofs::OneVerdict::only_verdict))]
 pub fn audit(
     alloc: Global,
     state: &[u8],

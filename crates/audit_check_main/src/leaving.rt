@@ -40,6 +40,7 @@ pub(crate) fn put_state_head(paper: &mut Comparing<'_>, own: Address)
 }
 
 /// Puts what is left of a meter, unless the text differs by now. It can be told, whatever it is.
+#[tactic(auto, using(crate::proofs::Leavings::skips))]
 pub(crate) fn put_left(paper: &mut Comparing<'_>, known: &KnownMeter<'_>)
     ensures told { IsStart known.now }
     ensures put { Puts Compares paper.old (block_text known.now) paper.new }

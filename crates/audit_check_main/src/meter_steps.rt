@@ -89,6 +89,7 @@ impl MeterSteps {
     }
 
     /// The line of the meter.
+    #[tactic(auto, using(crate::proofs::SteppedLines::line_kept))]
     pub(crate) fn line(&self) -> MeterLine
         ensures { (slot : SlotView) (start now : Compared) → HasStepped slot start self.now now → result ≡ line_of slot }
     {
@@ -110,6 +111,7 @@ impl MeterSteps {
     }
 
     /// Puts what stands behind the lines of the steps: the records of the last reading, and the commands that wait.
+    #[tactic(auto, using(crate::proofs::SteppedLines::rest_put))]
     pub(crate) fn put_rest(&self, paper: &mut Comparing<'_>)
         ensures { (slot : SlotView) (start now : Compared) → HasStepped slot start self.now now
             → Puts Compares paper.old

@@ -128,9 +128,9 @@ fn read_inputs<S: Source>(
         let source = &mut inputs[place];
         match read_input(alloc, source, room) {
             Ok(input) => {
-                if read.push(input).is_err() {
+                let Ok(()) = read.push(input) else {
                     return Err(InputFault::Memory);
-                }
+                };
             }
             Err(Unread::Failed) => return Err(InputFault::Read(place as u32 + 1)),
             Err(Unread::Memory) => return Err(InputFault::Memory),

@@ -1,4 +1,6 @@
+-- The verdict on lists that were read, by the first that goes wrong or by the session of their orders.
 use Rattle.std.proofs.Common.{◌≡◌, ◌∙◌, ℕ, List, [], Ok, refl, ap, sym, subst, map, length, get_or, option_copied, arith}
+use Rattle.std.proofs.lemmas.Result.{IfOk-weaker}
 use Rattle.meter_slots.specs.Journal.{Start}
 use Rattle.audit_check_main.specs.Audit.{IsVerdict}
 use Rattle.audit_check_main.specs.Auditing.{IsStepped}
@@ -6,7 +8,7 @@ use Rattle.audit_check_main.specs.declared.verdict.Verdict.{Verdict}
 use Rattle.audit_check_main.specs.Hearing.{HeardInput, heard_input, numbers_in_list}
 use Rattle.audit_check_main.specs.Order.{IsFirstWrong}
 use Rattle.audit_check_main.specs.Stepping.{AreOrders}
-use Rattle.audit_check_main.proofs.Verdicts.{first_wrong_is, stepped_is, for_each_text, told_are, if_orders, orders_are, list_short, length-lists_printed}
+use Rattle.audit_check_main.proofs.Verdicts.{first_wrong_is, stepped_is, for_each_text, told_are, orders_are, list_short, length-lists_printed}
 use Rattle.audit_check_main.proofs.auditing.audit_lists.Goals as goal
 
 pub overflow_cast-result : goal.overflow_cast-result
@@ -62,9 +64,12 @@ returns-in-None c =
     (λ text is. stepped_is (record { own = c.args.own; starts = c.args.meters.items }) text (option_copied c.args.next) c.args.report.now c.args.inputs.now is c.requires.within c.requires.in_form
     c.args.lists.now c.requires.lists_are c.told_verdict.result c.args.own c.args.meters.items c.as_slice-in-None.result.now
     refl refl
-    (if_orders c.told_verdict.result (AreOrders c.args.meters.items c.as_slice-in-None.result.now c.args.lists.now)
-    (c.as_slice-in-None.result.now ≡ map (heard_input c.args.meters.items) c.args.inputs.now)
-    (IsStepped c.args.own c.args.meters.items c.as_slice-in-None.result.now c.args.lists.now c.args.report.now (option_copied c.args.next)) heard orders
+    (IfOk-weaker c.told_verdict.result
+    (λ (v : Verdict). AreOrders c.args.meters.items c.as_slice-in-None.result.now c.args.lists.now
+    → IsStepped c.args.own c.args.meters.items c.as_slice-in-None.result.now c.args.lists.now c.args.report.now (option_copied c.args.next) v)
+    (λ (v : Verdict). (c.as_slice-in-None.result.now ≡ map (heard_input c.args.meters.items) c.args.inputs.now)
+    × IsStepped c.args.own c.args.meters.items c.as_slice-in-None.result.now c.args.lists.now c.args.report.now (option_copied c.args.next) v)
+    (λ v stepped. (heard, stepped orders))
     (told_are c.audit_orders.result c.told_verdict.result
     (λ (v : Verdict). AreOrders c.args.meters.items c.as_slice-in-None.result.now c.args.lists.now
     → IsStepped c.args.own c.args.meters.items c.as_slice-in-None.result.now c.args.lists.now c.args.report.now (option_copied c.args.next) v)

@@ -1,4 +1,4 @@
-use Rattle.std.proofs.Common.{◌≡◌, ◌≤◌, ◌∙◌, false, true, List, map, length, option_copied, ap, sym, subst, arith, rules}
+use Rattle.std.proofs.Common.{◌≡◌, false, true, List, map, length, option_copied, ap, sym, subst, arith, rules}
 use Rattle.lists.specs.Each.{IsFirst}
 use Rattle.line_reader.specs.Lines.{is_over}
 use Rattle.meter_address.specs.Address.{AreApart}

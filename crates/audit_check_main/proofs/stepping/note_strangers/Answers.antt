@@ -1,3 +1,4 @@
+-- Each stranger is that of the list which has the printed order, and a stray line is none of theirs.
 use Rattle.std.proofs.Common.{◌≡◌, ◌==◌, ◌∙◌, ℕ, map, length, refl, sym, ap, arith}
 use Rattle.std.proofs.lemmas.List.{length-map}
 use Rattle.std.specs.List.{position_or_len}
@@ -7,7 +8,8 @@ use Rattle.receivers.specs.declared.told.Told.TheVariants as told
 use Rattle.receivers.proofs.OrderLaws.{strangers_exist}
 use Rattle.audit_check_main.specs.declared.hearing.Sort.TheVariants as sorts
 use Rattle.audit_check_main.specs.Hearing.{tells, told_at, sort_of}
-use Rattle.audit_check_main.proofs.Claimed.{each_more, each_whole, strange_listed, strange_place}
+use Rattle.lists.proofs.Members.{each_more, each_whole}
+use Rattle.audit_check_main.proofs.Claimed.{strange_listed, strange_place}
 use Rattle.audit_check_main.proofs.Notes.{noted_told, note_more, all_noted}
 use Rattle.audit_check_main.proofs.stepping.note_strangers.Goals as goal
 
@@ -16,19 +18,19 @@ returns-in_default-clause-stray c = λ _ right.
     let target = strangers_exist c.args.meters.now (map tells c.args.heard.now) c.args.order.now right in
     let t = noted_told c.args.heard.now c.args.meters.now c.args.order.now target.0 target.1 c.loop-pair.pair-index _ c.loop-pair-test.true
     refl in
-    c.in_default.not-Event t.0 t.1.0 (c.told_at.ensures ∙ t.1.1.0)
+    c.in_default.not-Event t.item.address t.told_is.0 (c.told_at.ensures ∙ t.told_is.1.0)
 
 pub returns-then-list_of-meters-clause-stray : goal.returns-then-list_of-meters-clause-stray
 returns-then-list_of-meters-clause-stray c = λ _ right.
     let target = strangers_exist c.args.meters.now (map tells c.args.heard.now) c.args.order.now right in
     let t = noted_told c.args.heard.now c.args.meters.now c.args.order.now target.0 target.1 c.loop-pair.pair-index _ c.loop-pair-test.true
     refl in
-    let both : told.Event c.in-Event.address c.in-Event.field-1 ≡ told.Event t.0 t.1.0 =
-    sym (sym c.told_at.ensures ∙ c.in-Event.is) ∙ t.1.1.0 in
-    let same : c.in-Event.address ≡ t.0 = cc in
+    let both : told.Event c.in-Event.address c.in-Event.field-1 ≡ told.Event t.item.address t.told_is.0 =
+    sym (sym c.told_at.ensures ∙ c.in-Event.is) ∙ t.told_is.1.0 in
+    let same : c.in-Event.address ≡ t.item.address = cc in
     let is : c.list_of.result ≡ length c.args.meters.now =
     c.list_of.ensures ∙ ((λ i. position_or_len (λ (x : Address). x.0 == (same i).0) (c.requires i))
-    ∙ strange_place t.0.0 c.args.meters.now t.1.1.1) in
+    ∙ strange_place t.item.address.0 c.args.meters.now t.told_is.1.1) in
     let inside = c.if-list_of-meters.true in omega arith
 
 pub loop-pair-preserved : goal.loop-pair-preserved

@@ -1,3 +1,4 @@
+-- Each step is that of the slot whose journal has the printed order, and a stray line is none of its own.
 use Rattle.std.proofs.Common.{◌≡◌, ◌∙◌, ℕ, List, map, take, refl, sym, ap, subst, arith}
 use Rattle.meter_slots.specs.declared.entry.Entry.{Entry}
 use Rattle.meter_slots.specs.Journal.{SlotView}
@@ -6,7 +7,7 @@ use Rattle.receivers.specs.declared.told.Told.TheVariants as told
 use Rattle.receivers.proofs.OrderLaws.{slot_exists}
 use Rattle.audit_check_main.specs.Hearing.{tells, told_at}
 use Rattle.audit_check_main.specs.Stepping.{IsEventFor}
-use Rattle.audit_check_main.proofs.Claimed.{each_more, each_whole}
+use Rattle.lists.proofs.Members.{each_more, each_whole}
 use Rattle.audit_check_main.proofs.SteppedLines.{same_slot}
 use Rattle.audit_check_main.proofs.Steps.{step_told, step_more, all_stepped}
 use Rattle.audit_check_main.proofs.stepping.step_meter.Goals as goal
@@ -16,19 +17,19 @@ returns-in_default-clause-stray c = λ _ right.
     let target = slot_exists c.args.own c.args.start (map tells c.args.heard.now) c.args.order.now right in
     let t = step_told c.args.own c.args.heard.now c.args.start c.args.order.now target.0 target.1 c.loop-pair.pair-index _
     c.loop-pair-test.true refl in
-    c.in_default.not-Event t.1.0 t.0 (c.told_at.ensures ∙ t.1.1.0)
+    c.in_default.not-Event t.told_is.0 t.item.event (c.told_at.ensures ∙ t.told_is.1.0)
 
 pub returns-then-address-mine-clause-stray : goal.returns-then-address-mine-clause-stray
 returns-then-address-mine-clause-stray c = λ _ right.
     let target = slot_exists c.args.own c.args.start (map tells c.args.heard.now) c.args.order.now right in
     let t = step_told c.args.own c.args.heard.now c.args.start c.args.order.now target.0 target.1 c.loop-pair.pair-index _
     c.loop-pair-test.true refl in
-    let both : told.Event c.in-Event.address c.in-Event.event ≡ told.Event t.1.0 t.0 =
-    sym (sym c.told_at.ensures ∙ c.in-Event.is) ∙ t.1.1.0 in
-    let same : c.in-Event.address ≡ t.1.0 = cc in
+    let both : told.Event c.in-Event.address c.in-Event.event ≡ told.Event t.told_is.0 t.item.event =
+    sym (sym c.told_at.ensures ∙ c.in-Event.is) ∙ t.told_is.1.0 in
+    let same : c.in-Event.address ≡ t.told_is.0 = cc in
     let opened = ap (λ (a : Address). a.0) c.address-mine.ensures in
     let there = ap (λ (a : Address). a.0) same in
-    let mine = t.1.1.1 in c.if-address-mine.true (omega arith)
+    let mine = t.told_is.1.1 in c.if-address-mine.true (omega arith)
 
 pub loop-pair-init : goal.loop-pair-init
 loop-pair-init c = record {
@@ -54,8 +55,7 @@ loop-pair-preserved c =
           same_slot _ _ _ _ _
           (ap (λ (js : List Entry). let v : SlotView = record { own = c.args.own; start = c.args.start; journal = js } in v)
           (step_more c.args.own c.args.heard.now c.args.start c.args.order.now target h c.loop-pair.pair-index _ c.in-Event.address
-          c.in-Event.event _ (take c.loop-pair.pair-index target.journal) c.loop-pair-test.true refl refl
-          (sym c.told_at.ensures ∙ c.in-Event.is) refl))
+          c.in-Event.event c.loop-pair-test.true refl (sym c.told_at.ensures ∙ c.in-Event.is)))
           (c.in_ok-step.ensures.stepped now _ (so.so target h));
       own_lines =
           each_more (λ (p : ℕ × ℕ). IsEventFor c.args.start.address (told_at c.args.heard.now p.0 p.1)) c.args.order.now
