@@ -3,6 +3,7 @@ use Rattle.std.proofs.Common.{◌≡◌, ℕ, List, [], ◌∷◌, map, Result, 
 use Rattle.std.specs.List.{All}
 use Rattle.std.proofs.lemmas.List.Elements.{All-nil, All-cons}
 use Rattle.lists.specs.Each.{Each, EachWith}
+use Rattle.lists.proofs.Members.{each_map, with_fold}
 use Rattle.meter_address.specs.declared.address.Address.{Address}
 use Rattle.frame_formats.specs.Crc.{IsBytes}
 use Rattle.frame_formats.proofs.Checked.{bytes-append}
@@ -47,8 +48,7 @@ abbrev StartTells : Start → Type 0
 StartTells c = All TellsBytes c.told
 
 starts_tell : (starts : List Start) → Each IsStart starts → Each StartTells starts
-starts_tell [] each = tt
-starts_tell (c ∷ starts) each = (marks_tell c.told each.0.told.marks, starts_tell starts each.1)
+starts_tell = each_map IsStart StartTells (λ c start. marks_tell c.told start.told.marks)
 
 roster_tells : (bytes : List ℕ) (r : Result Enrolled RosterFault) (known : Known) → roster_of bytes ≡ r → of_roster r ≡ Ok known
     → Each StartTells known.starts
@@ -76,11 +76,9 @@ receivers_say (r ∷ receivers) = All-cons AllSayBytes (tellings r) (map telling
 
 each_decides : (own : Address) (all : List (List Telling)) → All AllSayBytes all → (starts : List Start) (slots : List SlotView)
     → EachWith (IsMetersSlot own all) starts slots → Each StartTells starts → EachWith StoresByMacs starts slots
-each_decides own all says [] [] meters tells = tt
-each_decides own all says [] (slot ∷ slots) meters tells = absurd meters
-each_decides own all says (c ∷ starts) [] meters tells = absurd meters
-each_decides own all says (c ∷ starts) (slot ∷ slots) meters tells =
-    (macs_decide_over_all_receivers own c all slot meters.0 tells.0 says, each_decides own all says starts slots meters.1 tells.1)
+each_decides own all says =
+    with_fold (IsMetersSlot own all) (λ starts slots. Each StartTells starts → EachWith StoresByMacs starts slots) (λ tells. tt)
+    (λ c slot starts slots meters each later tells. (macs_decide_over_all_receivers own c all slot meters tells.0 says, later tells.1))
 
 pub macs_decide_in_runs : MacsDecideInRuns
 macs_decide_in_runs run h =

@@ -1,7 +1,8 @@
 -- A made session is heard whole, and its run.
-use Rattle.std.proofs.Common.{◌≡◌, ◌≢◌, ◌++◌, ◌≤◌, ℕ, List, [], ◌∷◌, false, Some, Result, Ok, Err, IfOk, ⊎_elim, refl, sym, ap, subst, ◌∙◌, IsTrue, map, length, arith}
+use Rattle.std.proofs.Common.{◌≡◌, ◌≢◌, ◌++◌, ◌≤◌, ℕ, List, [], ◌∷◌, false, Some, Result, Ok, Err, IfOk, ⊎_elim, refl, sym, ap, ap₂, subst, ◌∙◌, IsTrue, map, length, arith}
 use Rattle.std.proofs.lemmas.List.{append-nil, length-map}
 use Rattle.lists.specs.Each.{Each, EachWith}
+use Rattle.lists.proofs.Members.{with_fold, with_length}
 use Rattle.outer_io.specs.Faults.{Rose}
 use Rattle.outer_io.specs.declared.sources.Source as sources
 use Rattle.outer_io.specs.declared.sinks.Sink as sinks
@@ -30,7 +31,7 @@ use Rattle.collector_main.specs.Heard.{Heard, receiver_end}
 use Rattle.collector_main.specs.MadeRun.{heard_whole, heard_texts}
 use Rattle.collector_main.specs.Ready.{IsEndOf, HaveHeard, HearsText, IsMadeTogether}
 use Rattle.collector_main.specs.Showing.{IsFresh}
-use Rattle.collector_main.proofs.ManyReceivers.{IsEnd, each_known, each_short, each_many, ends_are, runs_known, runs_ended, runs_many}
+use Rattle.collector_main.proofs.ManyReceivers.{IsEnd, all_found, each_known, each_short, ends_are, runs_known, runs_ended, runs_many}
 use Rattle.collector_main.proofs.Orders.{order_is_told}
 
 abbrev pub session_of : (roster first second third fourth : List ℕ) → Session
@@ -52,45 +53,41 @@ module _ {S K : Type 0} (s : sources.Ghosts S) (k : sinks.Ghosts K) (reads : (x 
   abbrev heard_as : List (List ℕ) → Ended → HeardLines
   heard_as lines ended = record { lines = lines; ended = ended }
 
-  by_end : (old new : Receiving S K) (text : List ℕ) (e : ReceiverEnd) (how : Ended) (lines : List (List ℕ)) → IsOver old text
-      → s.taken new.source ++ s.left new.source ≡ text → new.ended ≡ Some e.ended → e.ended ≢ ends.Memory → new.ended ≡ Some how
+  by_end : (old new : Receiving S K) (text : List ℕ) (how : Ended) (lines : List (List ℕ)) → IsOver old text
+      → s.taken new.source ++ s.left new.source ≡ text → new.ended ≢ Some ends.Memory → new.ended ≡ Some how
       → IsEnding how (s.taken new.source) (s.left new.source) lines
       → (how ≡ ends.ReadFault → Rose (s.faults old.source) (s.faults new.source))
       → (how ≡ ends.TxFault → Rose (k.faults old.tx) (k.faults new.tx)) → heard_as lines how ≡ heard_whole text
-  by_end old new text e ends.End lines over bytes is found so ending read tx =
+  by_end old new text ends.End lines over bytes found so ending read tx =
       let taken : s.taken new.source ≡ text = sym (append-nil (s.taken new.source))
       ∙ ap (λ t. s.taken new.source ++ t) (sym ending.nothing_left) ∙ bytes in
       ap (λ l. heard_as l ends.End) (ending.all ∙ ap all_lines taken)
-  by_end old new text e ends.Cut lines over bytes is found so ending read tx =
+  by_end old new text ends.Cut lines over bytes found so ending read tx =
       absurd (let cut = ap is_over (sym bytes) ∙ ending.source_over in let within = over.within in cc)
-  by_end old new text e ends.ReadFault lines over bytes is found so ending read tx =
+  by_end old new text ends.ReadFault lines over bytes found so ending read tx =
       absurd (no_rise _ _ (reads old.source) (reads new.source) (read refl))
-  by_end old new text e ends.TxFault lines over bytes is found so ending read tx =
+  by_end old new text ends.TxFault lines over bytes found so ending read tx =
       absurd (no_rise _ _ (writes old.tx) (writes new.tx) (tx refl))
-  by_end old new text e ends.Memory lines over bytes is found so ending read tx = absurd (found (let same = sym is ∙ so in cc))
+  by_end old new text ends.Memory lines over bytes found so ending read tx = absurd (found so)
 
   module _ (directory : List Address) where
-    one_whole : (old new : Receiving S K) (text : List ℕ) (e : ReceiverEnd) (h : HeardLines) → IsOver old text → IsEndOf new e
+    one_whole : (old new : Receiving S K) (text : List ℕ) (h : HeardLines) → IsOver old text → new.ended ≢ Some ends.Memory
         → HasTaken directory (receiver_run s k old new) h → h ≡ heard_whole text
-    one_whole old new text e h over end taken =
-        by_end old new text e h.ended h.lines over (taken.no_loss ∙ ap (λ t. t ++ s.left old.source) over.untaken ∙ over.left)
-        end.ended end.found_memory taken.ended taken.lines taken.read_fault taken.tx_fault
+    one_whole old new text h over found taken =
+        by_end old new text h.ended h.lines over (taken.no_loss ∙ ap (λ t. t ++ s.left old.source) over.untaken ∙ over.left)
+        found taken.ended taken.lines taken.read_fault taken.tx_fault
 
-    all_whole : (olds news : List (Receiving S K)) (texts : List (List ℕ)) (es : List ReceiverEnd) (hs : List HeardLines)
-        → EachWith IsOver olds texts
-        → length news ≡ length olds → EachWith IsEndOf news es → EachWith (HasTaken directory) (receiver_runs s k olds news) hs
-        → hs ≡ map heard_whole texts
-    all_whole [] [] [] es [] over many each taken = refl
-    all_whole [] news [] es (h ∷ hs) over many each taken = absurd taken
-    all_whole [] news (t ∷ texts) es hs over many each taken = absurd over
-    all_whole [] (n ∷ news) [] es [] over many each taken = absurd cc
-    all_whole (o ∷ olds) news [] es hs over many each taken = absurd over
-    all_whole (o ∷ olds) [] (t ∷ texts) es hs over many each taken = absurd cc
-    all_whole (o ∷ olds) (n ∷ news) (t ∷ texts) [] hs over many each taken = absurd each
-    all_whole (o ∷ olds) (n ∷ news) (t ∷ texts) (e ∷ es) [] over many each taken = absurd taken
-    all_whole (o ∷ olds) (n ∷ news) (t ∷ texts) (e ∷ es) (h ∷ hs) over many each taken =
-        ap (λ x. x ∷ hs) (one_whole o n t e h over.0 each.0 taken.0)
-        ∙ ap (λ xs. heard_whole t ∷ xs) (all_whole olds news texts es hs over.1 (omega arith) each.1 taken.1)
+    all_whole : (olds news : List (Receiving S K)) (texts : List (List ℕ)) (hs : List HeardLines) → EachWith IsOver olds texts
+        → length news ≡ length olds → Each (λ r. r.ended ≢ Some ends.Memory) (receiver_runs s k olds news)
+        → EachWith (HasTaken directory) (receiver_runs s k olds news) hs → hs ≡ map heard_whole texts
+    all_whole [] news [] [] over many found taken = refl
+    all_whole [] news [] (h ∷ hs) over many found taken = absurd taken
+    all_whole [] news (t ∷ texts) hs over many found taken = absurd over
+    all_whole (o ∷ olds) news [] hs over many found taken = absurd over
+    all_whole (o ∷ olds) [] (t ∷ texts) hs over many found taken = absurd cc
+    all_whole (o ∷ olds) (n ∷ news) (t ∷ texts) [] over many found taken = absurd taken
+    all_whole (o ∷ olds) (n ∷ news) (t ∷ texts) (h ∷ hs) over many found taken =
+        ap₂ (λ x xs. x ∷ xs) (one_whole o n t h over.0 found.0 taken.0) (all_whole olds news texts hs over.1 (omega arith) found.1 taken.1)
 
   -- ---- what they heard together
 
@@ -106,16 +103,16 @@ module _ {S K : Type 0} (s : sources.Ghosts S) (k : sinks.Ghosts K) (reads : (x 
       let directory : List Address = map address_of e.starts in
       let ended : EachWith IsEnd runs h.ends.items = runs_ended s k olds news h.ends.items have.as_many have.receiver_ends in
       let heard : Heard = record { known = e; receivers = t.receivers; world = world } in
-      let four : length (heard_texts session) ≡ length olds = each_many IsOver olds (heard_texts session) over in
+      let four : length (heard_texts session) ≡ length olds = with_length IsOver olds (heard_texts session) over in
       let many : length (map tellings t.receivers) ≡ length runs = length-map t.receivers tellings
-      ∙ each_many (HasTaken directory) runs t.receivers t.taken in
+      ∙ with_length (HasTaken directory) runs t.receivers t.taken in
       let all : length runs ≡ length olds = runs_many s k olds news have.as_many in
       record {
         heard = heard;
         is_heard = record {
           known_is = is;
-          receivers = all_whole directory olds news (heard_texts session)
-              h.ends.items t.receivers over have.as_many have.receiver_ends t.taken;
+          receivers = all_whole directory olds news (heard_texts session) t.receivers over have.as_many
+              (all_found s.tells directory runs h.ends.items ended) t.taken;
           session = t.session;
           told = order_is_told e.own (map tellings t.receivers) (omega arith)
               (each_short s.tells directory runs h.ends.items t.receivers ended t.taken) e.starts world
@@ -128,25 +125,21 @@ module _ {S K : Type 0} (s : sources.Ghosts S) (k : sinks.Ghosts K) (reads : (x 
 -- ---- four receivers over the texts of a made session
 
 pub four_fresh : {K : Type 0} (rs : List (Receiving Text K)) (texts : List (List ℕ)) → EachWith HearsText rs texts → Each IsFresh rs
-four_fresh [] texts each = tt
-four_fresh (r ∷ rs) [] each = absurd each
-four_fresh (r ∷ rs) (t ∷ texts) each = (each.0.fresh, four_fresh rs texts each.1)
+four_fresh = with_fold HearsText (λ rs texts. Each IsFresh rs) tt (λ r t rs texts hears each later. (hears.fresh, later))
 
 module _ {K : Type 0} (s : sources.Ghosts Text) (k : sinks.Ghosts K) (told : IsTrue s.tells) (taken : (x : Text) → s.taken x ≡ x.taken)
     (left : (x : Text) → s.left x ≡ x.left) (reads : (x : Text) → s.faults x ≡ 0) (writes : (x : K) → k.faults x ≡ 0) where
   over_texts : (rs : List (Receiving Text K)) (texts : List (List ℕ)) → EachWith HearsText rs texts → Each (λ t. is_over t ≡ false) texts
       → EachWith (IsOver s k reads writes) rs texts
-  over_texts [] [] each within = tt
-  over_texts [] (t ∷ texts) each within = absurd each
-  over_texts (r ∷ rs) [] each within = absurd each
-  over_texts (r ∷ rs) (t ∷ texts) each within = (
-    record {
-      untaken = taken r.source ∙ ap (λ (x : Text). x.taken) each.0.source;
-      left = left r.source ∙ ap (λ (x : Text). x.left) each.0.source;
-      within = within.0;
-    },
-    over_texts rs texts each.1 within.1,
-  )
+  over_texts = with_fold HearsText (λ rs texts. Each (λ t. is_over t ≡ false) texts → EachWith (IsOver s k reads writes) rs texts) (λ within. tt)
+      (λ r t rs texts hears each later within. (
+        record {
+          untaken = taken r.source ∙ ap (λ (x : Text). x.taken) hears.source;
+          left = left r.source ∙ ap (λ (x : Text). x.left) hears.source;
+          within = within.0;
+        },
+        later within.1,
+      ))
 
   -- what they heard together, where the session has these texts
   pub made_heard : {E : Type 0} (count telegrams number : ℕ) → count ≤ 1024 → telegrams ≤ 16384

@@ -1,11 +1,12 @@
 -- A run of several receivers.
-use Rattle.std.proofs.Common.{get_or, IfOk, suc, ◌≡◌, ◌≢◌, ◌⊎◌, ◌++◌, ◌+◌, ◌<◌, ◌≤◌, ◌^◌, ℕ, List, [], ◌∷◌, Bool, true, false, Option, Some, None, Result, Ok, Err, inl, inr, ⊎_elim, refl, sym, ap, subst, ◌∙◌, IsTrue, map, length, take, arith}
+use Rattle.std.proofs.Common.{get_or, IfOk, suc, ◌≡◌, ◌≢◌, ◌⊎◌, ◌++◌, ◌+◌, ◌<◌, ◌≤◌, ◌^◌, ℕ, List, [], ◌∷◌, Bool, true, false, Option, Some, None, Result, Ok, Err, inl, inr, ⊎_elim, refl, sym, ap, ap₂, subst, ◌∙◌, IsTrue, map, length, take, arith}
 use Rattle.std.specs.List.{enumerate_from}
 use Rattle.std.specs.List.{All}
 use Rattle.std.proofs.lemmas.List.{length-map, map-append, take_more}
 use Rattle.std.proofs.lemmas.Simd.{map-map}
 use Rattle.std.proofs.lemmas.List.Elements.{All-nil, All-cons}
-use Rattle.lists.specs.Each.{Each, EachWith, PassUntil}
+use Rattle.lists.specs.Each.{Each, EachWith, PassUntil, IsFirst}
+use Rattle.lists.proofs.Members.{each_map, with_fold, with_length, with_map}
 use Rattle.outer_io.specs.Shown.{Change, SourceShown, SinkShown, ReadFailed, WriteFailed, LosesNothing, IsReadOut, HasText}
 use Rattle.outer_io.specs.declared.failures.Failed.{Failed}
 use Rattle.outer_io.specs.declared.sources.Source as sources
@@ -48,10 +49,14 @@ use Rattle.collector_main.specs.Ready.{IsEndOf, HaveHeard}
 use Rattle.collector_main.specs.declared.together.HeardTogether.{HeardTogether}
 use Rattle.collector_main.specs.Run.{Run, Output, IsRun, EndsSo, HasEnded, IsWhole, IsUnwritten, EndIsCaused, IsCausedBy}
 use Rattle.collector_main.specs.Showing.{IsFresh, report_output, all_outputs}
-use Rattle.collector_main.specs.Statuses.{IsUnread, was_heard, stop_at, stop_from, status_after, unwritten, Wrote}
-use Rattle.collector_main.proofs.Orders.{order_is_told}
+use Rattle.collector_main.specs.Statuses.{IsUnread, was_heard, status_at, stop_at, stop_from, status_after, unwritten, Wrote}
+use Rattle.collector_main.proofs.Orders.{with_meet, order_is_told}
+use Rattle.collector_main.proofs.Runs.{end_caused}
 
 -- ---- the first receiver that stops
+
+some_is : {A : Type 0} (x y : A) → Some x ≡ Some y → x ≡ y
+some_is x y e = cc
 
 -- a run ended so
 pub record IsEnd (r : ReceiverRun) (e : ReceiverEnd) : Type 0 where
@@ -60,220 +65,171 @@ pub record IsEnd (r : ReceiverRun) (e : ReceiverEnd) : Type 0 where
   pub few : e.counts.lines < 2 ^ 32
   pub found_memory : e.ended ≢ ends.Memory
 
--- the cause of the status of a receiver that stopped, where the first one of these has the number n
-abbrev Stops : ℕ → List ReceiverRun → Status → Type 0
-Stops n runs (statuses.Read w) =
-    PassUntil (λ x. HasEnded ends.End x.1) (λ x. (x.0 ≡ w) × HasEnded ends.ReadFault x.1) (enumerate_from n runs)
-Stops n runs (statuses.Transmit w) =
-    PassUntil (λ x. HasEnded ends.End x.1) (λ x. (x.0 ≡ w) × HasEnded ends.TxFault x.1) (enumerate_from n runs)
-Stops n runs (statuses.Cut w) = PassUntil (λ x. HasEnded ends.End x.1) (λ x. (x.0 ≡ w) × HasEnded ends.Cut x.1) (enumerate_from n runs)
-Stops n runs _ = ⊥
+-- how a receiver stops before its source's end
+abbrev IsStopping : Ended → Type 0
+IsStopping ends.End = ⊥
+IsStopping ends.Memory = ⊥
+IsStopping _ = Unit {0}
 
-stops_later : (n : ℕ) (r : ReceiverRun) (runs : List ReceiverRun) (s : Status) → HasEnded ends.End r → Stops (n + 1) runs s
-    → Stops n (r ∷ runs) s
-stops_later n r runs (statuses.Read w) ended later = inr (ended, later)
-stops_later n r runs (statuses.Transmit w) ended later = inr (ended, later)
-stops_later n r runs (statuses.Cut w) ended later = inr (ended, later)
-stops_later n r runs statuses.Done ended later = absurd later
-stops_later n r runs (statuses.Words fault) ended later = absurd later
-stops_later n r runs statuses.ReadRoster ended later = absurd later
-stops_later n r runs (statuses.Roster line cause) ended later = absurd later
-stops_later n r runs (statuses.State line cause) ended later = absurd later
-stops_later n r runs (statuses.Write which) ended later = absurd later
-stops_later n r runs statuses.Memory ended later = absurd later
+-- the first receiver that stopped, where the first one of these has the number n
+record IsStop (n : ℕ) (runs : List ReceiverRun) (s : Status) : Type 0 where
+  number : ℕ
+  how : Ended
+  stopping : IsStopping how
+  is : status_at number how ≡ s
+  first : PassUntil (λ x. HasEnded ends.End x.1) (λ x. (x.0 ≡ number) × HasEnded how x.1) (enumerate_from n runs)
 
-some_is : {A : Type 0} (x y : A) → Some x ≡ Some y → x ≡ y
-some_is x y e = cc
+abbrev StopsAt : List ReceiverRun → List ReceiverEnd → Type 0
+StopsAt runs es = (n : ℕ) (s : Status) → stop_from n es ≡ Some s → IsStop n runs s
 
-pub stops_from : (n : ℕ) (runs : List ReceiverRun) (es : List ReceiverEnd) → EachWith IsEnd runs es → (s : Status)
-    → stop_from n es ≡ Some s → Stops n runs s
-stops_from n [] [] each s is = absurd cc
-stops_from n [] (e ∷ es) each s is = absurd each
-stops_from n (r ∷ runs) [] each s is = absurd each
-stops_from n (r ∷ runs) (e ∷ es) each s is = at e.ended each.0.ended each.0.found_memory is (stops_from (n + 1) runs es each.1 s)
+one_stops : (r : ReceiverRun) (e : ReceiverEnd) (runs : List ReceiverRun) (es : List ReceiverEnd) → IsEnd r e → EachWith IsEnd runs es
+    → StopsAt runs es → StopsAt (r ∷ runs) (e ∷ es)
+one_stops r e runs es end each later n s = at e.ended end.ended end.found_memory
   where
-    at : (v : Ended) → r.ended ≡ Some v → v ≢ ends.Memory → stop_at n v (stop_from (n + 1) es) ≡ Some s
-        → (stop_from (n + 1) es ≡ Some s → Stops (n + 1) runs s) → Stops n (r ∷ runs) s
-    at ends.End ended found stop later = stops_later n r runs s ended (later stop)
-    at ends.Cut ended found stop later = subst (Stops n (r ∷ runs)) (some_is (statuses.Cut n) s stop) (inl (refl, ended))
-    at ends.ReadFault ended found stop later = subst (Stops n (r ∷ runs)) (some_is (statuses.Read n) s stop) (inl (refl, ended))
-    at ends.TxFault ended found stop later = subst (Stops n (r ∷ runs)) (some_is (statuses.Transmit n) s stop) (inl (refl, ended))
-    at ends.Memory ended found stop later = absurd (found refl)
+    at : (v : Ended) → r.ended ≡ Some v → v ≢ ends.Memory → stop_at n v (stop_from (n + 1) es) ≡ Some s → IsStop n (r ∷ runs) s
+    at ends.End ended found stop =
+        let l = later (n + 1) s stop in
+        record { number = l.number; how = l.how; stopping = l.stopping; is = l.is; first = inr (ended, l.first) }
+    at ends.Cut ended found stop = record { number = n; how = ends.Cut; stopping = tt; is = cc; first = inl (refl, ended) }
+    at ends.ReadFault ended found stop = record { number = n; how = ends.ReadFault; stopping = tt; is = cc; first = inl (refl, ended) }
+    at ends.TxFault ended found stop = record { number = n; how = ends.TxFault; stopping = tt; is = cc; first = inl (refl, ended) }
+    at ends.Memory ended found stop = absurd (found refl)
+
+stops_from : (runs : List ReceiverRun) (es : List ReceiverEnd) → EachWith IsEnd runs es → StopsAt runs es
+stops_from = with_fold IsEnd StopsAt (λ n s none. absurd cc) one_stops
 
 -- where none stops, each one ended at its source's end
-pub none_stops : (n : ℕ) (runs : List ReceiverRun) (es : List ReceiverEnd) → EachWith IsEnd runs es → stop_from n es ≡ None
-    → Each (HasEnded ends.End) runs
-none_stops n [] [] each is = tt
-none_stops n [] (e ∷ es) each is = absurd each
-none_stops n (r ∷ runs) [] each is = absurd each
-none_stops n (r ∷ runs) (e ∷ es) each is = at e.ended each.0.ended is (none_stops (n + 1) runs es each.1)
+abbrev NoneStops : List ReceiverRun → List ReceiverEnd → Type 0
+NoneStops runs es = (n : ℕ) → stop_from n es ≡ None → Each (HasEnded ends.End) runs
+
+none_stops : (runs : List ReceiverRun) (es : List ReceiverEnd) → EachWith IsEnd runs es → NoneStops runs es
+none_stops = with_fold IsEnd NoneStops (λ n none. tt) (λ r e runs es end each later n. one r e runs es later n e.ended end.ended)
   where
-    at : (v : Ended) → r.ended ≡ Some v → stop_at n v (stop_from (n + 1) es) ≡ None
-        → (stop_from (n + 1) es ≡ None → Each (HasEnded ends.End) runs) → Each (HasEnded ends.End) (r ∷ runs)
-    at ends.End ended none later = (ended, later none)
-    at ends.Cut ended none later = absurd cc
-    at ends.ReadFault ended none later = absurd cc
-    at ends.TxFault ended none later = absurd cc
-    at ends.Memory ended none later = absurd cc
+    one : (r : ReceiverRun) (e : ReceiverEnd) (runs : List ReceiverRun) (es : List ReceiverEnd) → NoneStops runs es → (n : ℕ) (v : Ended)
+        → r.ended ≡ Some v → stop_at n v (stop_from (n + 1) es) ≡ None → Each (HasEnded ends.End) (r ∷ runs)
+    one r e runs es later n ends.End ended none = (ended, later (n + 1) none)
+    one r e runs es later n ends.Cut ended none = absurd cc
+    one r e runs es later n ends.ReadFault ended none = absurd cc
+    one r e runs es later n ends.TxFault ended none = absurd cc
+    one r e runs es later n ends.Memory ended none = absurd cc
 
 -- and the other way round
-pub all_end : (n : ℕ) (runs : List ReceiverRun) (es : List ReceiverEnd) → EachWith IsEnd runs es → Each (HasEnded ends.End) runs
+all_end : (runs : List ReceiverRun) (es : List ReceiverEnd) → EachWith IsEnd runs es → Each (HasEnded ends.End) runs → (n : ℕ)
     → stop_from n es ≡ None
-all_end n [] [] each all = refl
-all_end n [] (e ∷ es) each all = absurd each
-all_end n (r ∷ runs) [] each all = absurd each
-all_end n (r ∷ runs) (e ∷ es) each all =
-    let is : ends.End ≡ e.ended = some_is ends.End e.ended (sym all.0 ∙ each.0.ended) in
-    ap (λ v. stop_at n v (stop_from (n + 1) es)) (sym is) ∙ all_end (n + 1) runs es each.1 all.1
+all_end = with_fold IsEnd (λ runs es. Each (HasEnded ends.End) runs → (n : ℕ) → stop_from n es ≡ None) (λ all n. refl)
+    (λ r e runs es end each later all n. let is : ends.End ≡ e.ended = some_is ends.End e.ended (sym all.0 ∙ end.ended) in
+    ap (λ v. stop_at n v (stop_from (n + 1) es)) (sym is) ∙ later all.1 (n + 1))
 
 -- ---- one receiver's run
 
 module _ (st : Bool) (directory : List Address) where
-  end_caused : (r : ReceiverRun) (how : Ended) (lines : List (List ℕ)) → (how ≡ ends.ReadFault → ReadFailed r.source)
-      → (how ≡ ends.TxFault → WriteFailed r.tx)
-      → (IsTrue st → IsEnding how r.source.now.taken r.source.now.left lines) → EndIsCaused st r (Some how)
-  end_caused r ends.End lines read tx ending = λ told. (ending told).nothing_left
-  end_caused r ends.Cut lines read tx ending = λ told. (ending told).over
-  end_caused r ends.ReadFault lines read tx ending = read refl
-  end_caused r ends.TxFault lines read tx ending = tx refl
-  end_caused r ends.Memory lines read tx ending = tt
-
   run_caused : (r : ReceiverRun) (p : Part) → r.source_tells ≡ st → HasRun directory r p → EndIsCaused st r r.ended
   run_caused r p knows h =
       subst (EndIsCaused st r) (sym h.ended)
-      (end_caused r h.how (lines_of (hearing_of r h.how)) h.has_heard.read_fault h.tx_fault (λ told. h.has_heard.ending (knows ∙ told)))
+      (end_caused st r h.how (lines_of (hearing_of r h.how)) h.has_heard.read_fault h.tx_fault (λ told. h.has_heard.ending (knows ∙ told)))
 
-  pub each_caused : (runs : List ReceiverRun) (parts : List Part) → Each (λ r. r.source_tells ≡ st) runs
-      → EachWith (HasRun directory) runs parts
-      → Each (λ r. EndIsCaused st r r.ended) runs
-  each_caused [] [] knows each = tt
-  each_caused [] (p ∷ parts) knows each = absurd each
-  each_caused (r ∷ runs) [] knows each = absurd each
-  each_caused (r ∷ runs) (p ∷ parts) knows each = (run_caused r p knows.0 each.0, each_caused runs parts knows.1 each.1)
+  each_caused : (runs : List ReceiverRun) (parts : List Part) → EachWith (HasRun directory) runs parts
+      → Each (λ r. r.source_tells ≡ st) runs → Each (λ r. EndIsCaused st r r.ended) runs
+  each_caused = with_fold (HasRun directory) (λ runs parts. Each (λ r. r.source_tells ≡ st) runs → Each (λ r. EndIsCaused st r r.ended) runs)
+      (λ knows. tt) (λ r p runs parts h each later knows. (run_caused r p knows.0 h, later knows.1))
 
-  pub each_keeps : (runs : List ReceiverRun) (parts : List Part) → Each (λ r. r.source_tells ≡ st) runs
-      → EachWith (HasRun directory) runs parts
-      → IsTrue st → Each (λ r. LosesNothing r.source) runs
-  each_keeps [] [] knows each told = tt
-  each_keeps [] (p ∷ parts) knows each told = absurd each
-  each_keeps (r ∷ runs) [] knows each told = absurd each
-  each_keeps (r ∷ runs) (p ∷ parts) knows each told = (each.0.has_heard.no_loss (knows.0 ∙ told), each_keeps runs parts knows.1 each.1 told)
+  each_keeps : (runs : List ReceiverRun) (parts : List Part) → EachWith (HasRun directory) runs parts
+      → Each (λ r. r.source_tells ≡ st) runs → IsTrue st → Each (λ r. LosesNothing r.source) runs
+  each_keeps = with_fold (HasRun directory)
+      (λ runs parts. Each (λ r. r.source_tells ≡ st) runs → IsTrue st → Each (λ r. LosesNothing r.source) runs) (λ knows told. tt)
+      (λ r p runs parts h each later knows told. (h.has_heard.no_loss (knows.0 ∙ told), later knows.1 told))
 
   -- a receiver in whose way nothing stood ended at its source's end
-  faultless_end : (r : ReceiverRun) (e : ReceiverEnd) (how : Ended) (lines : List (List ℕ)) → e.ended ≡ how → IsEnd r e
+  faultless_end : (r : ReceiverRun) (how : Ended) (lines : List (List ℕ)) → r.ended ≡ Some how → r.ended ≢ Some ends.Memory
       → (how ≡ ends.ReadFault → ReadFailed r.source) → (how ≡ ends.TxFault → WriteFailed r.tx)
       → IsEnding how r.source.now.taken r.source.now.left lines → r.source.now.taken ++ r.source.now.left ≡ r.source.before.left
       → is_over r.source.before.left ≡ false → ¬ ReadFailed r.source → ¬ WriteFailed r.tx → HasEnded ends.End r
-  faultless_end r e ends.End lines same end read tx ending bytes within steady tx_steady = end.ended ∙ ap Some same
-  faultless_end r e ends.Cut lines same end read tx ending bytes within steady tx_steady =
+  faultless_end r ends.End lines is found read tx ending bytes within steady tx_steady = is
+  faultless_end r ends.Cut lines is found read tx ending bytes within steady tx_steady =
       absurd (let over = ap is_over (sym bytes) ∙ ending.source_over in cc)
-  faultless_end r e ends.ReadFault lines same end read tx ending bytes within steady tx_steady = absurd (steady (read refl))
-  faultless_end r e ends.TxFault lines same end read tx ending bytes within steady tx_steady = absurd (tx_steady (tx refl))
-  faultless_end r e ends.Memory lines same end read tx ending bytes within steady tx_steady = absurd (end.found_memory same)
+  faultless_end r ends.ReadFault lines is found read tx ending bytes within steady tx_steady = absurd (steady (read refl))
+  faultless_end r ends.TxFault lines is found read tx ending bytes within steady tx_steady = absurd (tx_steady (tx refl))
+  faultless_end r ends.Memory lines is found read tx ending bytes within steady tx_steady = absurd (found is)
 
   bytes_of_run : (r : ReceiverRun) → LosesNothing r.source → r.source.before.taken ≡ []
       → r.source.now.taken ++ r.source.now.left ≡ r.source.before.left
   bytes_of_run r kept none = kept ∙ ap (λ t. t ++ r.source.before.left) none
 
-  pub all_faultless : (runs : List ReceiverRun) (es : List ReceiverEnd) (parts : List Part) → Each (λ r. r.source_tells ≡ st) runs
-      → Each (λ r. IsTrue st → r.source.before.taken ≡ []) runs → EachWith IsEnd runs es → EachWith (HasRun directory) runs parts
-      → IsTrue st
-      → Each (λ r. is_over r.source.before.left ≡ false) runs → Each (λ r. ¬ ReadFailed r.source) runs → Each (λ r. ¬ WriteFailed r.tx) runs
-      → Each (HasEnded ends.End) runs
-  all_faultless [] es parts knows none each ran told within steady tx_steady = tt
-  all_faultless (r ∷ runs) [] parts knows none each ran told within steady tx_steady = absurd each
-  all_faultless (r ∷ runs) (e ∷ es) [] knows none each ran told within steady tx_steady = absurd ran
-  all_faultless (r ∷ runs) (e ∷ es) (p ∷ parts) knows none each ran told within steady tx_steady =
-      let h = ran.0 in
-      let same : e.ended ≡ h.how = some_is e.ended h.how (sym each.0.ended ∙ h.ended) in (
-        faultless_end r e h.how (lines_of (hearing_of r h.how)) same each.0 h.has_heard.read_fault h.tx_fault
-            (h.has_heard.ending (knows.0 ∙ told))
-            (bytes_of_run r (h.has_heard.no_loss (knows.0 ∙ told)) (none.0 told)) within.0 steady.0 tx_steady.0,
-        all_faultless runs es parts knows.1 none.1 each.1 ran.1 told within.1 steady.1 tx_steady.1,
-      )
+  pub all_found : (runs : List ReceiverRun) (es : List ReceiverEnd) → EachWith IsEnd runs es → Each (λ r. r.ended ≢ Some ends.Memory) runs
+  all_found = with_fold IsEnd (λ runs es. Each (λ r. r.ended ≢ Some ends.Memory) runs) tt
+      (λ r e runs es end each later. (λ is. end.found_memory (some_is e.ended ends.Memory (sym end.ended ∙ is)), later))
+
+  all_faultless : IsTrue st → (runs : List ReceiverRun) (parts : List Part) → EachWith (HasRun directory) runs parts
+      → Each (λ r. r.source_tells ≡ st) runs → Each (λ r. IsTrue st → r.source.before.taken ≡ []) runs
+      → Each (λ r. r.ended ≢ Some ends.Memory) runs → Each (λ r. is_over r.source.before.left ≡ false) runs
+      → Each (λ r. ¬ ReadFailed r.source) runs → Each (λ r. ¬ WriteFailed r.tx) runs → Each (HasEnded ends.End) runs
+  all_faultless told = with_fold (HasRun directory)
+      (λ runs parts. Each (λ r. r.source_tells ≡ st) runs → Each (λ r. IsTrue st → r.source.before.taken ≡ []) runs
+      → Each (λ r. r.ended ≢ Some ends.Memory) runs → Each (λ r. is_over r.source.before.left ≡ false) runs
+      → Each (λ r. ¬ ReadFailed r.source) runs → Each (λ r. ¬ WriteFailed r.tx) runs → Each (HasEnded ends.End) runs)
+      (λ knows none found within steady tx_steady. tt)
+      (λ r p runs parts h each later knows none found within steady tx_steady. (
+        faultless_end r h.how (lines_of (hearing_of r h.how)) h.ended found.0 h.has_heard.read_fault h.tx_fault
+            (h.has_heard.ending (knows.0 ∙ told)) (bytes_of_run r (h.has_heard.no_loss (knows.0 ∙ told)) (none.0 told))
+            within.0 steady.0 tx_steady.0,
+        later knows.1 none.1 found.1 within.1 steady.1 tx_steady.1,
+      ))
 
   -- ---- the lines taken
 
-  pub each_so : (runs : List ReceiverRun) (heard : List HeardLines) → Each (λ r. IsTrue st → r.source.before.taken ≡ []) runs → IsTrue st
-      → EachWith (HasTaken directory) runs heard → EachWith (EndsSo directory) runs heard
-  each_so [] [] none told each = tt
-  each_so [] (h ∷ heard) none told each = absurd each
-  each_so (r ∷ runs) [] none told each = absurd each
-  each_so (r ∷ runs) (h ∷ heard) none told each = (
-    record {
-      ended = each.0.ended;
-      lines = each.0.lines;
-      counts = each.0.counts;
-      first_bytes = bytes_of_run r each.0.no_loss (none.0 told);
-    },
-    each_so runs heard none.1 told each.1,
-  )
+  each_so : IsTrue st → (runs : List ReceiverRun) (heard : List HeardLines) → EachWith (HasTaken directory) runs heard
+      → Each (λ r. IsTrue st → r.source.before.taken ≡ []) runs → EachWith (EndsSo directory) runs heard
+  each_so told = with_fold (HasTaken directory)
+      (λ runs heard. Each (λ r. IsTrue st → r.source.before.taken ≡ []) runs → EachWith (EndsSo directory) runs heard) (λ none. tt)
+      (λ r h runs heard one each later none. (
+        record { ended = one.ended; lines = one.lines; counts = one.counts; first_bytes = bytes_of_run r one.no_loss (none.0 told) },
+        later none.1,
+      ))
 
   abbrev end_by : HeardLines → ReceiverEnd
   end_by h = record { counts = counts_of directory (tellings h); ended = h.ended }
 
-  one_end : (r : ReceiverRun) (e : ReceiverEnd) (h : HeardLines) → IsEnd r e → HasTaken directory r h → e ≡ end_by h
+  -- how a receiver ended, and its lines
+  record IsEndBy (e : ReceiverEnd) (h : HeardLines) : Type 0 where
+    same : e ≡ end_by h
+    few : length (tellings h) < 2 ^ 32
+
+  one_end : (r : ReceiverRun) (e : ReceiverEnd) (h : HeardLines) → IsEnd r e → HasTaken directory r h → IsEndBy e h
+  unfolding counts_of
   one_end r e h end taken =
       let ended : e.ended ≡ h.ended = some_is e.ended h.ended (sym end.ended ∙ taken.ended) in
       let counts : e.counts ≡ counts_of directory (tellings h) = end.counts ∙ taken.counts in
-      ap (λ (n : Counts). let x : ReceiverEnd = record { counts = n; ended = e.ended } in x) counts
-      ∙ ap (λ (v : Ended). let x : ReceiverEnd = record { counts = counts_of directory (tellings h); ended = v } in x) ended
+      record {
+        same = ap (λ (n : Counts). let x : ReceiverEnd = record { counts = n; ended = e.ended } in x) counts
+            ∙ ap (λ (v : Ended). let x : ReceiverEnd = record { counts = counts_of directory (tellings h); ended = v } in x) ended;
+        few = subst (λ n. n < 2 ^ 32) (ap (λ (n : Counts). n.lines) counts) end.few;
+      }
+
+  ends_by : (runs : List ReceiverRun) (es : List ReceiverEnd) (heard : List HeardLines) → EachWith IsEnd runs es
+      → EachWith (HasTaken directory) runs heard → EachWith IsEndBy es heard
+  ends_by runs es heard ended taken =
+      with_map (λ e h. (r : ReceiverRun) × IsEnd r e × HasTaken directory r h) IsEndBy (λ e h both. one_end both.0 e h both.1 both.2)
+      es heard (with_meet IsEnd (HasTaken directory) runs es heard ended taken)
 
   pub ends_are : (runs : List ReceiverRun) (es : List ReceiverEnd) (heard : List HeardLines) → EachWith IsEnd runs es
-      → EachWith (HasTaken directory) runs heard
-      → es ≡ map end_by heard
-  ends_are [] [] [] ended taken = refl
-  ends_are [] [] (h ∷ heard) ended taken = absurd taken
-  ends_are [] (e ∷ es) heard ended taken = absurd ended
-  ends_are (r ∷ runs) [] heard ended taken = absurd ended
-  ends_are (r ∷ runs) (e ∷ es) [] ended taken = absurd taken
-  ends_are (r ∷ runs) (e ∷ es) (h ∷ heard) ended taken =
-      ap (λ x. x ∷ es) (one_end r e h ended.0 taken.0) ∙ ap (λ xs. end_by h ∷ xs) (ends_are runs es heard ended.1 taken.1)
-
-  counted : (heard : List Told) → (counts_of directory heard).lines ≡ length heard
-  unfolding counts_of
-  counted heard = refl
+      → EachWith (HasTaken directory) runs heard → es ≡ map end_by heard
+  ends_are runs es heard ended taken =
+      with_fold IsEndBy (λ es heard. es ≡ map end_by heard) refl (λ e h es heard by each later. ap₂ (λ x xs. x ∷ xs) by.same later)
+      es heard (ends_by runs es heard ended taken)
 
   pub each_short : (runs : List ReceiverRun) (es : List ReceiverEnd) (heard : List HeardLines) → EachWith IsEnd runs es
-      → EachWith (HasTaken directory) runs heard
-      → Each (λ (told : List Told). length told < 2 ^ 32) (map tellings heard)
-  each_short runs es [] ended taken = tt
-  each_short [] es (h ∷ heard) ended taken = absurd taken
-  each_short (r ∷ runs) [] (h ∷ heard) ended taken = absurd ended
-  each_short (r ∷ runs) (e ∷ es) (h ∷ heard) ended taken =
-      let lines : e.counts.lines ≡ length (tellings h) =
-      ap (λ (n : Counts). n.lines) (ended.0.counts ∙ taken.0.counts) ∙ counted (tellings h) in
-      let few = ended.0.few in
-      (omega arith, each_short runs es heard ended.1 taken.1)
-
-pub each_many : {A B : Type 0} (P : A → B → Type 0) (xs : List A) (ys : List B) → EachWith P xs ys → length ys ≡ length xs
-each_many P [] [] each = refl
-each_many P [] (y ∷ ys) each = absurd each
-each_many P (x ∷ xs) [] each = absurd each
-each_many P (x ∷ xs) (y ∷ ys) each = ap (λ n. suc n) (each_many P xs ys each.1)
-
-pub each_more : {A B : Type 0} (P : A → B → Type 0) (xs : List A) (ys : List B) (x : A) (y : B) → EachWith P xs ys → P x y
-    → EachWith P (xs ++ x ∷ []) (ys ++ y ∷ [])
-each_more P [] [] x y each one = (one, tt)
-each_more P [] (z ∷ ys) x y each one = absurd each
-each_more P (z ∷ xs) [] x y each one = absurd each
-each_more P (z ∷ xs) (w ∷ ys) x y each one = (each.0, each_more P xs ys x y each.1 one)
+      → EachWith (HasTaken directory) runs heard → Each (λ (told : List Told). length told < 2 ^ 32) (map tellings heard)
+  each_short runs es heard ended taken =
+      with_fold IsEndBy (λ es heard. Each (λ (told : List Told). length told < 2 ^ 32) (map tellings heard)) tt
+      (λ e h es heard by each later. (by.few, later)) es heard (ends_by runs es heard ended taken)
 
 pub each_known : (st : Bool) (runs : List ReceiverRun) → Each (λ r. r.source_tells ≡ st) runs → IsTrue st → Each IsKnown runs
-each_known st [] knows told = tt
-each_known st (r ∷ runs) knows told = (knows.0 ∙ told, each_known st runs knows.1 told)
+each_known st runs knows told = each_map (λ (r : ReceiverRun). r.source_tells ≡ st) IsKnown (λ r is. is ∙ told) runs knows
 
 -- ---- outputs
 
-pub write_is : (n m : ℕ) → statuses.Write n ≡ statuses.Write m → n ≡ m
-write_is n m e = cc
-
 suc_is : {n m : ℕ} → suc n ≡ suc m → n ≡ m
 suc_is e = omega (arith, e)
-
-wrote_or : (kt : Bool) (text now : List ℕ) → (IsTrue kt → now ≡ text) → (now ≡ text) ⊎ (kt ≡ false)
-wrote_or true text now wrote = inl (wrote refl)
-wrote_or false text now wrote = inr refl
 
 pub text_of : (kt : Bool) (text : List ℕ) (sink : Change SinkShown) (came : Result Unit Failed) → Wrote kt text sink came → IsTrue kt
     → HasText text sink
@@ -322,61 +278,36 @@ module _ (form : Form) (st kt : Bool) (beginning : Change SourceShown) (runs : L
     all_whole (Ok _) (Ok _) (Err _) w is writes = absurd cc
 
     -- the first output that couldn't be written, each one before it being such
-    first_unwritten : (P : Output → Type 0) (a b c : Result Unit Failed) (which : ℕ) (o1 o2 o3 : Output)
-        → o1.number ≡ 1 → o2.number ≡ 2 → o3.number ≡ 3 → o1.sink ≡ next → o2.sink ≡ readings → o3.sink ≡ report
-        → Writes a b c → ((next.now.written ≡ next_is) ⊎ (kt ≡ false) → P o1)
-        → ((readings.now.written ≡ readings_are) ⊎ (kt ≡ false) → P o2)
-        → unwritten a b c ≡ statuses.Write which → PassUntil P (IsUnwritten which) (o1 ∷ o2 ∷ o3 ∷ [])
-    first_unwritten P (Err _) b c which o1 o2 o3 n1 n2 n3 s1 s2 s3 w p1 p2 is =
-        let same : 1 ≡ which = write_is 1 which is in
-        inl (n1 ∙ same, subst WriteFailed (sym s1) w.wrote_next.0)
-    first_unwritten P (Ok _) (Err _) c which o1 o2 o3 n1 n2 n3 s1 s2 s3 w p1 p2 is =
-        let same : 2 ≡ which = write_is 2 which is in
-        inr (p1 (wrote_or kt _ _ w.wrote_next), inl (n2 ∙ same, subst WriteFailed (sym s2) w.wrote_readings.0))
-    first_unwritten P (Ok _) (Ok _) (Err _) which o1 o2 o3 n1 n2 n3 s1 s2 s3 w p1 p2 is =
-        let same : 3 ≡ which = write_is 3 which is in
-        inr (
-          p1 (wrote_or kt _ _ w.wrote_next),
-          inr (p2 (wrote_or kt _ _ w.wrote_readings), inl (n3 ∙ same, subst WriteFailed (sym s3) w.wrote_report.0)),
-        )
-    first_unwritten P (Ok _) (Ok _) (Ok _) which o1 o2 o3 n1 n2 n3 s1 s2 s3 w p1 p2 is = absurd cc
+    first_unwritten : (P : Output → Type 0) (a b c : Result Unit Failed) (which : ℕ) → Writes a b c
+        → ((IsTrue kt → next.now.written ≡ next_is) → P (record { number = 1; text = next_of form; sink = next }))
+        → ((IsTrue kt → readings.now.written ≡ readings_are) → P (record { number = 2; text = readings_of; sink = readings }))
+        → unwritten a b c ≡ statuses.Write which → PassUntil P (IsUnwritten which) (all_outputs form next readings report)
+    first_unwritten P (Err _) b c which w p1 p2 is = inl (cc, w.wrote_next.0)
+    first_unwritten P (Ok _) (Err _) c which w p1 p2 is = inr (p1 w.wrote_next, inl (cc, w.wrote_readings.0))
+    first_unwritten P (Ok _) (Ok _) (Err _) which w p1 p2 is =
+        inr (p1 w.wrote_next, inr (p2 w.wrote_readings, inl (cc, w.wrote_report.0)))
+    first_unwritten P (Ok _) (Ok _) (Ok _) which w p1 p2 is = absurd cc
 
-    caused_writes : (a b c : Result Unit Failed) → Writes a b c → (result : Status) → Each (HasEnded ends.End) runs
-        → IsCausedBy (this result) (unwritten a b c)
-    caused_writes (Err _) b c w result all = (all, inl (refl, w.wrote_next.0))
-    caused_writes (Ok _) (Err _) c w result all = (all, inr (tt, inl (refl, w.wrote_readings.0)))
-    caused_writes (Ok _) (Ok _) (Err _) w result all = (all, inr (tt, inr (tt, inl (refl, w.wrote_report.0))))
-    caused_writes (Ok _) (Ok _) (Ok _) w result all = all
+    -- a status with its cause, after which the receivers were heard
+    abbrev IsHeardBy : Status → Status → Type 0
+    IsHeardBy result s = IsCausedBy (this result) s × (was_heard s ≡ true) × (IsUnread s → ⊥)
 
-    caused_stop : (result s : Status) → Stops 1 runs s → IsCausedBy (this result) s
-    caused_stop result (statuses.Read w) stops = stops
-    caused_stop result (statuses.Transmit w) stops = (refl, stops)
-    caused_stop result (statuses.Cut w) stops = stops
-    caused_stop result statuses.Done stops = absurd stops
-    caused_stop result (statuses.Words fault) stops = absurd stops
-    caused_stop result statuses.ReadRoster stops = absurd stops
-    caused_stop result (statuses.Roster line cause) stops = absurd stops
-    caused_stop result (statuses.State line cause) stops = absurd stops
-    caused_stop result (statuses.Write which) stops = absurd stops
-    caused_stop result statuses.Memory stops = absurd stops
+    heard_writes : (a b c : Result Unit Failed) → Writes a b c → (result : Status) → Each (HasEnded ends.End) runs
+        → IsHeardBy result (unwritten a b c)
+    heard_writes (Err _) b c w result all = ((all, inl (refl, w.wrote_next.0)), refl, λ unread. unread)
+    heard_writes (Ok _) (Err _) c w result all = ((all, inr (tt, inl (refl, w.wrote_readings.0))), refl, λ unread. unread)
+    heard_writes (Ok _) (Ok _) (Err _) w result all = ((all, inr (tt, inr (tt, inl (refl, w.wrote_report.0)))), refl, λ unread. unread)
+    heard_writes (Ok _) (Ok _) (Ok _) w result all = (all, refl, λ unread. unread)
 
-    heard_writes : (a b c : Result Unit Failed) → was_heard (unwritten a b c) ≡ true
-    heard_writes (Err _) b c = refl
-    heard_writes (Ok _) (Err _) c = refl
-    heard_writes (Ok _) (Ok _) (Err _) = refl
-    heard_writes (Ok _) (Ok _) (Ok _) = refl
-
-    heard_stop : (s : Status) → Stops 1 runs s → was_heard s ≡ true
-    heard_stop (statuses.Read w) stops = refl
-    heard_stop (statuses.Transmit w) stops = refl
-    heard_stop (statuses.Cut w) stops = refl
-    heard_stop statuses.Done stops = absurd stops
-    heard_stop (statuses.Words fault) stops = absurd stops
-    heard_stop statuses.ReadRoster stops = absurd stops
-    heard_stop (statuses.Roster line cause) stops = absurd stops
-    heard_stop (statuses.State line cause) stops = absurd stops
-    heard_stop (statuses.Write which) stops = absurd stops
-    heard_stop statuses.Memory stops = absurd stops
+    heard_stop : (result s : Status) → IsStop 1 runs s → IsHeardBy result s
+    heard_stop result s stop = subst (IsHeardBy result) stop.is (at stop.number stop.how stop.stopping stop.first)
+      where
+        at : (w : ℕ) (how : Ended) → IsStopping how → IsFirst (HasEnded ends.End) (HasEnded how) w runs → IsHeardBy result (status_at w how)
+        at w ends.Cut stopping first = (first, refl, λ unread. unread)
+        at w ends.ReadFault stopping first = (first, refl, λ unread. unread)
+        at w ends.TxFault stopping first = ((refl, first), refl, λ unread. unread)
+        at w ends.End stopping first = absurd stopping
+        at w ends.Memory stopping first = absurd stopping
 
     steady_writes : (a b c : Result Unit Failed) → Writes a b c → ¬ WriteFailed next → ¬ WriteFailed readings → ¬ WriteFailed report
         → unwritten a b c ≡ statuses.Done
@@ -386,6 +317,19 @@ module _ (form : Form) (st kt : Bool) (beginning : Change SourceShown) (runs : L
     steady_writes (Ok _) (Ok _) (Ok _) w n r p = refl
 
   -- ---- together
+
+  -- a status with which no receiver stops
+  abbrev IsOther : Status → Type 0
+  IsOther statuses.Done = Unit {0}
+  IsOther (statuses.Write which) = Unit {0}
+  IsOther _ = ⊥
+
+  never : (s : Status) → IsOther s → (w : ℕ) (how : Ended) → IsStopping how → status_at w how ≡ s → ⊥
+  never s other w ends.Cut stopping is = subst IsOther (sym is) other
+  never s other w ends.ReadFault stopping is = subst IsOther (sym is) other
+  never s other w ends.TxFault stopping is = subst IsOther (sym is) other
+  never s other w ends.End stopping is = stopping
+  never s other w ends.Memory stopping is = stopping
 
   module _ (a b c : Result Unit Failed) (w : Writes (report_text es world.slots world.strangers) a b c) (each : EachWith IsEnd runs es)
       (result : Status)
@@ -401,18 +345,14 @@ module _ (form : Form) (st kt : Bool) (beginning : Change SourceShown) (runs : L
         at None is = subst P (sym (result_is ∙ ap (λ o. status_after o (unwritten a b c)) is)) (none is)
         at (Some s) is = subst P (sym (result_is ∙ ap (λ o. status_after o (unwritten a b c)) is)) (some s is)
 
-    caused : IsCausedBy (this result) result
-    caused = by_stop (IsCausedBy (this result)) (λ none. caused_writes plain a b c w result (none_stops 1 runs es each none))
-        (λ s is. caused_stop plain result s (stops_from 1 runs es each s is))
-
-    pub heard_result : was_heard result ≡ true
-    heard_result = by_stop (λ s. was_heard s ≡ true) (λ none. heard_writes plain a b c)
-        (λ s is. heard_stop plain s (stops_from 1 runs es each s is))
+    heard_so : IsHeardBy plain result result
+    heard_so = by_stop (IsHeardBy plain result) (λ none. heard_writes plain a b c w result (none_stops runs es each 1 none))
+        (λ s is. heard_stop plain result s (stops_from runs es each 1 s is))
 
     -- after this status no receiver stopped
-    no_stop : (s : Status) → (Stops 1 runs s → ⊥) → result ≡ s → unwritten a b c ≡ s
+    no_stop : (s : Status) → ((w : ℕ) (how : Ended) → IsStopping how → status_at w how ≡ s → ⊥) → result ≡ s → unwritten a b c ≡ s
     no_stop s not is = by_stop (λ r. r ≡ s → unwritten a b c ≡ s) (λ none same. same)
-        (λ t some same. absurd (not (subst (Stops 1 runs) same (stops_from 1 runs es each t some)))) is
+        (λ t some same. let stop = stops_from runs es each 1 t some in absurd (not stop.number stop.how stop.stopping (stop.is ∙ same))) is
 
     pub collected_run : (st_is : Each (λ r. r.source_tells ≡ st) runs) → Each (λ r. IsTrue st → r.source.before.taken ≡ []) runs
         → length runs < 2 ^ 32
@@ -429,13 +369,13 @@ module _ (form : Form) (st kt : Bool) (beginning : Change SourceShown) (runs : L
               let same : plain ≡ report_of heard =
               ap (λ l. report_text l world.slots world.strangers) (ends_are st directory runs es s.receivers each s.taken) in
               let many : length (map tellings s.receivers) ≡ length runs = length-map s.receivers tellings
-              ∙ each_many (HasTaken directory) runs s.receivers s.taken in
+              ∙ with_length (HasTaken directory) runs s.receivers s.taken in
               let is_report : Wrote kt (report_of heard) report c = wrote_same kt plain (report_of heard) report c same w.wrote_report in
               record {
                 heard = heard;
                 begun = read told;
                 known_is = found told;
-                receivers = each_so st directory runs s.receivers none told s.taken;
+                receivers = each_so st directory told runs s.receivers s.taken none;
                 session = s.session;
                 told = order_is_told e.own (map tellings s.receivers) (omega arith)
                     (each_short st directory runs es s.receivers each s.taken) e.starts world
@@ -449,52 +389,30 @@ module _ (form : Form) (st kt : Bool) (beginning : Change SourceShown) (runs : L
                     (text_of kt (report_of heard) report c is_report writes, tt),
                   ),
                 );
-                whole = λ writes all. let o = all_whole plain a b c w (no_stop statuses.Done (λ stops. stops) all) writes in
+                whole = λ writes all. let o = all_whole plain a b c w (no_stop statuses.Done (never statuses.Done tt) all) writes in
                     (o.0, (o.1, (o.2 ∙ same, tt)));
                 stopped = λ writes which is.
-                    first_unwritten plain (IsWhole heard) a b c which (record { number = 1; text = next_of form; sink = next })
-                    (record { number = 2; text = readings_of; sink = readings }) (report_output report) refl refl refl refl refl refl w
-                    (λ o. ⊎_elim (λ t. t) (λ n. absurd (let y = writes in cc)) o) (λ o.
-                    ⊎_elim (λ t. t) (λ n. absurd (let y = writes in cc)) o)
-                    (no_stop (statuses.Write which) (λ stops. stops) is);
+                    first_unwritten plain (IsWhole heard) a b c which w (λ done. done writes) (λ done. done writes)
+                    (no_stop (statuses.Write which) (never (statuses.Write which) tt) is);
               };
-          status_caused = caused;
-          ends_caused = λ told. each_caused st directory runs collected.parts knows collected.each_run;
+          status_caused = heard_so.0;
+          ends_caused = λ told. each_caused st directory runs collected.parts collected.each_run knows;
           refused = λ told fault bad. let yes = found told in absurd cc;
           complete = λ told f. inl (let all =
-              all_faultless st directory runs es collected.parts knows none each collected.each_run told f.within f.receivers_steady
-              (f.sinks_steady refl) in
-              result_is ∙ ap (λ o. status_after o (unwritten a b c)) (all_end 1 runs es each all)
+              all_faultless st directory told runs collected.parts collected.each_run knows none (all_found st directory runs es each) f.within
+              f.receivers_steady (f.sinks_steady refl) in
+              result_is ∙ ap (λ o. status_after o (unwritten a b c)) (all_end runs es each all 1)
               ∙ steady_writes plain a b c w f.outputs_steady.0 f.outputs_steady.1.0 f.outputs_steady.1.1.0);
-          no_loss = λ told. (kept told, λ shown. each_keeps st directory runs collected.parts knows collected.each_run told);
-          silent = λ unheard. let heard = heard_result in absurd cc;
+          no_loss = λ told. (kept told, λ shown. each_keeps st directory runs collected.parts collected.each_run knows told);
+          silent = λ unheard. let heard = heard_so.1 in absurd cc;
         }
-
-pub not_unread : (status : Status) → was_heard status ≡ true → IsUnread status → ⊥
-not_unread statuses.Done heard unread = unread
-not_unread (statuses.Words fault) heard unread = cc
-not_unread statuses.ReadRoster heard unread = cc
-not_unread (statuses.Roster line cause) heard unread = cc
-not_unread (statuses.State line cause) heard unread = cc
-not_unread (statuses.Read w) heard unread = unread
-not_unread (statuses.Transmit w) heard unread = unread
-not_unread (statuses.Cut w) heard unread = unread
-not_unread (statuses.Write which) heard unread = unread
-not_unread statuses.Memory heard unread = unread
-
-pub all_fresh : {S K : Type 0} (rs : List (Receiving S K)) → Each IsFresh rs → All (λ r. r.ended ≡ None) rs
-all_fresh [] each = All-nil (λ r. r.ended ≡ None)
-all_fresh (r ∷ rs) each = All-cons (λ r. r.ended ≡ None) r rs each.0 (all_fresh rs each.1)
 
 -- ---- what slots leave for the meters that they were made for
 
 same_addresses : {P : Start → SlotView → Type 0} → ((c : Start) (b : SlotView) → P c b → b.start ≡ c) → (cs : List Start) (bs : List SlotView)
     → EachWith P cs bs → map address_of (map known_now bs) ≡ map address_of cs
-same_addresses is [] [] each = refl
-same_addresses is [] (b ∷ bs) each = absurd each
-same_addresses is (c ∷ cs) [] each = absurd each
-same_addresses is (c ∷ cs) (b ∷ bs) each =
-    ap (λ (s : Start). s.address ∷ map address_of (map known_now bs)) (is c b each.0) ∙ ap (λ xs. c.address ∷ xs) (same_addresses is cs bs each.1)
+same_addresses {P} is = with_fold P (λ cs bs. map address_of (map known_now bs) ≡ map address_of cs) refl
+    (λ c b cs bs slot each later. ap₂ (λ (x : Start) xs. x.address ∷ xs) (is c b slot) later)
 
 pub left_have_room : (own : Address) (cs : List Start) (runs : List ReceiverRun) (world : WorldView) → HasRoom cs → IsCollected own cs runs world
     → HasRoom (map known_now world.slots)
@@ -602,5 +520,5 @@ module _ {S K : Type 0} (s : sources.Ghosts S) (k : sinks.Ghosts K) where
         (runs_known olds news) (runs_untaken olds news is.untaken) (omega arith) is.collected found read kept (is.left form)
 
     pub together_heard : IsUnread result → ⊥
-    together_heard unread = not_unread result
-        (heard_result form s.tells k.tells beginning runs next readings report e world heard.ends.items a b c writes ended result result_so) unread
+    together_heard =
+        (heard_so form s.tells k.tells beginning runs next readings report e world heard.ends.items a b c writes ended result result_so).2

@@ -1,6 +1,8 @@
 -- The lines of one receiver fix the session.
-use Rattle.std.proofs.Common.{◌≡◌, ◌==◌, ℕ, Bool, true, false, cond, List, [], ◌∷◌, map, refl, sym, ap, ◌∙◌, subst}
+use Rattle.std.proofs.Common.{◌≡◌, ◌==◌, ℕ, Bool, true, false, cond, List, [], ◌∷◌, map, refl, sym, ap, ap₂, ◌∙◌, subst}
+use Rattle.std.proofs.lemmas.Bool.{eqb-true}
 use Rattle.lists.specs.Each.{Each, EachWith}
+use Rattle.lists.proofs.Members.{with_fold}
 use Rattle.meter_address.specs.declared.address.Address.{Address}
 use Rattle.meter_slots.specs.declared.entry.Entry.{Entry}
 use Rattle.meter_slots.specs.declared.entry.Event.{Event}
@@ -13,7 +15,7 @@ use Rattle.receivers.specs.Orders.{order_of}
 use Rattle.receivers.specs.Session.{heard_by, lines_for, lines_of_strangers, notes_by, IsMetersSlot, IsSession}
 use Rattle.receivers.proofs.OneSession.{session_alone}
 use Rattle.receivers.proofs.OrderLaws.{one_slot}
-use Rattle.collector_main.proofs.Orders.{is_number, part, from_parts, of_source, none_mapped}
+use Rattle.collector_main.proofs.Orders.{with_meet, part, from_parts, of_source, none_mapped}
 
 -- ---- items of one source
 
@@ -24,7 +26,7 @@ module _ {X Y : Type 0} (source line : X → ℕ) (what : X → Y) where
   all_first lines xs is none = from_parts source line what (λ x. source x ≡ 1) xs (λ w. at w (1 == w) refl)
     where
       at : (w : ℕ) (b : Bool) → (1 == w) ≡ b → Each (λ x. source x ≡ 1) (part source line what w xs)
-      at w true e = subst (λ (n : ℕ). Each (λ x. source x ≡ n) (part source line what w xs)) (sym (is_number 1 w e))
+      at w true e = subst (λ (n : ℕ). Each (λ x. source x ≡ n) (part source line what w xs)) (sym (eqb-true 1 w e))
           (of_source source line what w xs)
       at w false e = subst (Each (λ x. source x ≡ 1)) (sym (none_mapped source line what (part source line what w xs) (is w ∙ none w e))) tt
 
@@ -62,16 +64,12 @@ order_alone own c heard slot h =
 slots_one : (own : Address) (heard : List Told) (cs : List Start) (slots again : List SlotView)
     → EachWith (IsMetersSlot own (heard ∷ [])) cs slots
     → EachWith (IsMetersSlot own (heard ∷ [])) cs again → slots ≡ again
-slots_one own heard [] [] [] one two = refl
-slots_one own heard [] [] (b ∷ again) one two = absurd two
-slots_one own heard [] (s ∷ slots) again one two = absurd one
-slots_one own heard (c ∷ cs) [] again one two = absurd one
-slots_one own heard (c ∷ cs) (s ∷ slots) [] one two = absurd two
-slots_one own heard (c ∷ cs) (s ∷ slots) (b ∷ again) one two =
-    ap (λ (x : SlotView). x ∷ slots)
-    (one_slot own c (heard ∷ []) (heard ∷ []) s b one.0 two.0 (λ w. refl) (order_alone own c heard s one.0
-    ∙ sym (order_alone own c heard b two.0)))
-    ∙ ap (λ t. b ∷ t) (slots_one own heard cs slots again one.1 two.1)
+slots_one own heard cs slots again one two =
+    with_fold (λ s b. (c : Start) × IsMetersSlot own (heard ∷ []) c s × IsMetersSlot own (heard ∷ []) c b) (λ slots again. slots ≡ again) refl
+    (λ s b slots again both each later. ap₂ (λ (x : SlotView) xs. x ∷ xs)
+    (one_slot own both.0 (heard ∷ []) (heard ∷ []) s b both.1 both.2 (λ w. refl) (order_alone own both.0 heard s both.1
+    ∙ sym (order_alone own both.0 heard b both.2))) later) slots again
+    (with_meet (IsMetersSlot own (heard ∷ [])) (IsMetersSlot own (heard ∷ [])) cs slots again one two)
 
 -- ---- the strangers
 
@@ -105,9 +103,8 @@ world_with slots strangers = record { slots = slots; strangers = strangers }
 two_are_one : (own : Address) (cs : List Start) (heard : List Told) (world again : WorldView) → IsSession own cs (heard ∷ []) world
     → IsSession own cs (heard ∷ []) again → world ≡ again
 two_are_one own cs heard world again one two =
-    ap (λ slots. world_with slots world.strangers) (slots_one own heard cs world.slots again.slots one.meters two.meters)
-    ∙ ap (world_with again.slots) (notes_alone cs heard world.strangers one.strangers
-    ∙ sym (notes_alone cs heard again.strangers two.strangers))
+    ap₂ world_with (slots_one own heard cs world.slots again.slots one.meters two.meters)
+    (notes_alone cs heard world.strangers one.strangers ∙ sym (notes_alone cs heard again.strangers two.strangers))
 
 pub session_fixed : (own : Address) (cs : List Start) (heard : List Told) (world : WorldView) → IsSession own cs (heard ∷ []) world
     → world ≡ world_of own cs (steps_of 1 heard)

@@ -1,9 +1,12 @@
 -- The numbers of a session's receivers and lines fit 32 bits, so that the text of its report tells its order.
 use Rattle.std.proofs.Common.{◌≡◌, ◌⊎◌, ◌==◌, ℕ, ◌+◌, ◌<◌, ◌≤◌, ◌^◌, Bool, true, false, cond, List, [], ◌∷◌, map, filter, length, Option, Some, None, inl, inr, ⊎_elim, refl, sym, ap, ◌∙◌, subst, arith}
 use Rattle.std.specs.List.{All, filter_map, cons_option, enumerate_from}
-use Rattle.std.proofs.lemmas.Bool.Decides.{nat_tests}
+use Rattle.std.proofs.Common.{eq-eqb}
+use Rattle.std.proofs.lemmas.Bool.{eqb-true}
 use Rattle.std.proofs.lemmas.List.Elements.{All-nil, All-cons}
 use Rattle.lists.specs.Each.{Each, EachWith}
+use Rattle.lists.proofs.Choices.{some_if}
+use Rattle.lists.proofs.Members.{with_fold}
 use Rattle.meter_address.specs.declared.address.Address.{Address}
 use Rattle.meter_slots.specs.declared.entry.Entry.{Entry}
 use Rattle.meter_slots.specs.declared.entry.Event.{Event}
@@ -21,11 +24,15 @@ use Rattle.report_text.proofs.LineReport.{report_orders}
 
 -- ---- items that each receiver's part has
 
-pub same_number : (n : ℕ) → (n == n) ≡ true
-same_number n = grind (arith, nat_tests)
-
-pub is_number : (n m : ℕ) → (n == m) ≡ true → n ≡ m
-is_number n m h = grind (arith, nat_tests)
+-- what two lists have in common with a third one
+pub with_meet : {A B C : Type 0} (P : A → B → Type 0) (Q : A → C → Type 0) (xs : List A) (ys : List B) (zs : List C) → EachWith P xs ys
+    → EachWith Q xs zs → EachWith (λ y z. (x : A) × P x y × Q x z) ys zs
+with_meet P Q [] [] [] one two = tt
+with_meet P Q [] [] (z ∷ zs) one two = absurd two
+with_meet P Q [] (y ∷ ys) zs one two = absurd one
+with_meet P Q (x ∷ xs) [] zs one two = absurd one
+with_meet P Q (x ∷ xs) (y ∷ ys) [] one two = absurd two
+with_meet P Q (x ∷ xs) (y ∷ ys) (z ∷ zs) one two = ((x, one.0, two.0), with_meet P Q xs ys zs one.1 two.1)
 
 module _ {X Y : Type 0} (source line : X → ℕ) (what : X → Y) where
   abbrev pub part : ℕ → List X → List X
@@ -40,19 +47,15 @@ module _ {X Y : Type 0} (source line : X → ℕ) (what : X → Y) where
   abbrev Fits : X → Type 0
   Fits x = (source x < 2 ^ 32) × (line x < 2 ^ 32)
 
-  front_of : (P : X → Type 0) (x : X) (rest : List X) (b : Bool) → b ≡ true → Each P (cond b (x ∷ rest) rest) → P x
-  front_of P x rest true e h = h.0
-  front_of P x rest false e h = absurd cc
-
-  rest_of : (P : X → Type 0) (x : X) (rest : List X) (b : Bool) → Each P (cond b (x ∷ rest) rest) → Each P rest
-  rest_of P x rest true h = h.1
-  rest_of P x rest false h = h
+  cut_first : (P : X → Type 0) (x : X) (rest : List X) (b : Bool) → Each P (cond b (x ∷ rest) rest) → (b ≡ true → P x) × Each P rest
+  cut_first P x rest true h = (λ e. h.0, h.1)
+  cut_first P x rest false h = (λ e. absurd cc, h)
 
   pub from_parts : (P : X → Type 0) (xs : List X) → ((w : ℕ) → Each P (part w xs)) → Each P xs
   from_parts P [] h = tt
   from_parts P (x ∷ xs) h = (
-    front_of P x (part (source x) xs) (source x == source x) (same_number (source x)) (h (source x)),
-    from_parts P xs (λ w. rest_of P x (part w xs) (source x == w) (h w)),
+    (cut_first P x (part (source x) xs) (source x == source x) (h (source x))).0 (eq-eqb (source x) (source x) refl),
+    from_parts P xs (λ w. (cut_first P x (part w xs) (source x == w) (h w)).1),
   )
 
   pub of_source : (w : ℕ) (xs : List X) → Each (λ x. source x ≡ w) (part w xs)
@@ -61,7 +64,7 @@ module _ {X Y : Type 0} (source line : X → ℕ) (what : X → Y) where
     where
       at : (b : Bool) → (source x == w) ≡ b → Each (λ y. source y ≡ w) (part w xs)
           → Each (λ y. source y ≡ w) (cond b (x ∷ part w xs) (part w xs))
-      at true e rest = (is_number (source x) w e, rest)
+      at true e rest = (eqb-true (source x) w e, rest)
       at false e rest = rest
 
   fit_together : (w : ℕ) → w < 2 ^ 32 → (xs : List X) → Each (λ x. source x ≡ w) xs → Each (λ (p : ℕ × Y). p.0 < 2 ^ 32) (map pair_of xs)
@@ -98,12 +101,11 @@ module _ {Y : Type 0} (f : ℕ × Told → Option (ℕ × Y)) (keeps : (l : ℕ 
       at (Some p) e later = let same = keeps (n, t) p e in (omega (arith, same), later)
 
 if_some : {Y : Type 0} (b : Bool) (line : ℕ) (y : Y) (p : ℕ × Y) → cond b (Some (line, y)) None ≡ Some p → p.0 ≡ line
-if_some true line y p e = let same : (line, y) ≡ p = cc in sym (ap (λ (q : ℕ × _). q.0) same)
-if_some false line y p e = absurd cc
+if_some b line y p e = sym (ap (λ (q : ℕ × _). q.0) (some_if b (line, y) p e).1)
 
 if_none : {Y : Type 0} (b : Bool) (line : ℕ) (y : Y) (p : ℕ × Y) → cond b None (Some (line, y)) ≡ Some p → p.0 ≡ line
 if_none true line y p e = absurd cc
-if_none false line y p e = let same : (line, y) ≡ p = cc in sym (ap (λ (q : ℕ × _). q.0) same)
+if_none false line y p e = if_some true line y p e
 
 keeps_event : (a : Address) (l : ℕ × Told) (p : ℕ × Event) → event_at a l.0 l.1 ≡ Some p → p.0 ≡ l.0
 keeps_event a (line, told.Event address event) p e = if_some (a.0 == address.0) line event p e
@@ -123,7 +125,7 @@ no_receiver n w (heard ∷ all) few = at (n == w) refl (no_receiver (n + 1) w al
   where
     at : (b : Bool) → (n == w) ≡ b → (w < 2 ^ 32) ⊎ (heard_from (n + 1) w all ≡ [])
         → (w < 2 ^ 32) ⊎ (cond b heard (heard_from (n + 1) w all) ≡ [])
-    at true e later = inl (let same = is_number n w e in omega (arith, same))
+    at true e later = inl (let same = eqb-true n w e in omega (arith, same))
     at false e later = later
 
 few_of : (n w : ℕ) (all : List (List Told)) → Each (λ heard. length heard < 2 ^ 32) all → length (heard_from n w all) < 2 ^ 32
@@ -155,11 +157,9 @@ module _ (own : Address) (all : List (List Told)) (few : length all < 2 ^ 32) (s
 
   pub slots_counted : (cs : List Start) (slots : List SlotView) → EachWith (IsMetersSlot own all) cs slots
       → All (λ order. All IsCounted order) (map order_of slots)
-  slots_counted [] [] each = All-nil (λ order. All IsCounted order)
-  slots_counted [] (b ∷ slots) each = absurd each
-  slots_counted (c ∷ cs) [] each = absurd each
-  slots_counted (c ∷ cs) (b ∷ slots) each =
-      All-cons (λ order. All IsCounted order) (order_of b) (map order_of slots) (slot_counted c b each.0) (slots_counted cs slots each.1)
+  slots_counted = with_fold (IsMetersSlot own all) (λ cs slots. All (λ order. All IsCounted order) (map order_of slots))
+      (All-nil (λ order. All IsCounted order))
+      (λ c b cs slots slot each later. All-cons (λ order. All IsCounted order) (order_of b) (map order_of slots) (slot_counted c b slot) later)
 
   pub strangers_counted : (cs : List Start) (world : WorldView) → IsSession own cs all world
       → All IsCounted (map place_of_stranger world.strangers)

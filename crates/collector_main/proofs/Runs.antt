@@ -1,6 +1,6 @@
 -- A run of one receiver.
 use Rattle.std.proofs.Common.{◌≡◌, ◌≢◌, ◌++◌, ◌<◌, ◌^◌, ℕ, List, [], ◌∷◌, Bool, true, false, Option, Some, None, Ok, Err, inl, inr, ⊎_elim, refl, sym, ap, subst, ◌∙◌, IsTrue, map, length, arith}
-use Rattle.outer_io.specs.Shown.{Change, SourceShown, SinkShown, ReadFailed, LosesNothing, IsReadOut, IsSilent, HasText}
+use Rattle.outer_io.specs.Shown.{Change, SourceShown, SinkShown, ReadFailed, WriteFailed, LosesNothing, IsReadOut, IsSilent, HasText}
 use Rattle.line_reader.specs.Lines.{is_over}
 use Rattle.meter_address.specs.declared.address.Address.{Address}
 use Rattle.meter_slots.specs.declared.counts.Counts.{Counts}
@@ -58,6 +58,16 @@ IsUnended None = Unit {0}
 IsUnended (Some ends.Memory) = Unit {0}
 IsUnended _ = ⊥
 
+-- the cause of an end
+pub end_caused : (st : Bool) (r : ReceiverRun) (how : Ended) (lines : List (List ℕ)) → (how ≡ ends.ReadFault → ReadFailed r.source)
+    → (how ≡ ends.TxFault → WriteFailed r.tx) → (IsTrue st → IsEnding how r.source.now.taken r.source.now.left lines)
+    → EndIsCaused st r (Some how)
+end_caused st r ends.End lines read tx ending = λ told. (ending told).nothing_left
+end_caused st r ends.Cut lines read tx ending = λ told. (ending told).over
+end_caused st r ends.ReadFault lines read tx ending = read refl
+end_caused st r ends.TxFault lines read tx ending = tx refl
+end_caused st r ends.Memory lines read tx ending = tt
+
 -- ---- a run in which no receiver was heard to its end
 
 pub unended_caused : (st : Bool) (r : ReceiverRun) (ended : Option Ended) → IsUnended ended → EndIsCaused st r ended
@@ -81,70 +91,56 @@ module _ (form : Form) (st kt : Bool) (beginning : Change SourceShown) (runs : L
     status = status;
   }
 
-  unheard_caused : (status : Status) → IsRefusal form st beginning status → IsCausedBy (run_with status) status
-  unheard_caused statuses.ReadRoster why = why
-  unheard_caused (statuses.Roster line cause) why = why
-  unheard_caused (statuses.State line cause) why = why
-  unheard_caused statuses.Memory why = tt
-  unheard_caused statuses.Done why = absurd why
-  unheard_caused (statuses.Words fault) why = absurd why
-  unheard_caused (statuses.Read w) why = absurd why
-  unheard_caused (statuses.Transmit w) why = absurd why
-  unheard_caused (statuses.Cut w) why = absurd why
-  unheard_caused (statuses.Write which) why = absurd why
+  -- what is promised of a status by which nothing was heard
+  record IsUnheard (status : Status) : Type 0 where
+    caused : IsCausedBy (run_with status) status
+    unheard : was_heard status ≡ false
+    refused : IsTrue st → (fault : StateFault) → known_of form beginning.before.left ≡ Err fault → IsRefused fault status
+    complete : IsTrue st → IsFaultless (run_with status) → IsDone status
 
-  unheard : (status : Status) → IsRefusal form st beginning status → was_heard status ≡ false
-  unheard statuses.ReadRoster why = refl
-  unheard (statuses.Roster line cause) why = refl
-  unheard (statuses.State line cause) why = refl
-  unheard statuses.Memory why = refl
-  unheard statuses.Done why = absurd why
-  unheard (statuses.Words fault) why = absurd why
-  unheard (statuses.Read w) why = absurd why
-  unheard (statuses.Transmit w) why = absurd why
-  unheard (statuses.Cut w) why = absurd why
-  unheard (statuses.Write which) why = absurd why
-
-  unheard_refused : (status : Status) → IsRefusal form st beginning status → IsTrue st → (fault : StateFault)
-      → known_of form beginning.before.left ≡ Err fault → IsRefused fault status
-  unheard_refused statuses.ReadRoster why told fault bad = inr (inl refl)
-  unheard_refused (statuses.Roster line cause) why told fault bad =
-      inl (let is = why told in let same : faults.Roster line cause ≡ fault = cc in ap status_of same)
-  unheard_refused (statuses.State line cause) why told fault bad =
-      inl (let is = why told in let same : faults.Line line cause ≡ fault = cc in ap status_of same)
-  unheard_refused statuses.Memory why told fault bad = inr (inr refl)
-  unheard_refused statuses.Done why told fault bad = absurd why
-  unheard_refused (statuses.Words words) why told fault bad = absurd why
-  unheard_refused (statuses.Read w) why told fault bad = absurd why
-  unheard_refused (statuses.Transmit w) why told fault bad = absurd why
-  unheard_refused (statuses.Cut w) why told fault bad = absurd why
-  unheard_refused (statuses.Write which) why told fault bad = absurd why
-
-  unheard_complete : (status : Status) → IsRefusal form st beginning status → IsTrue st → IsFaultless (run_with status) → IsDone status
-  unheard_complete statuses.ReadRoster why told f = absurd (f.beginning_steady why)
-  unheard_complete (statuses.Roster line cause) why told f = absurd (let bad = why told in let good = f.known_is in cc)
-  unheard_complete (statuses.State line cause) why told f = absurd (let bad = why told in let good = f.known_is in cc)
-  unheard_complete statuses.Memory why told f = inr refl
-  unheard_complete statuses.Done why told f = absurd why
-  unheard_complete (statuses.Words fault) why told f = absurd why
-  unheard_complete (statuses.Read w) why told f = absurd why
-  unheard_complete (statuses.Transmit w) why told f = absurd why
-  unheard_complete (statuses.Cut w) why told f = absurd why
-  unheard_complete (statuses.Write which) why told f = absurd why
+  unheard_is : (status : Status) → IsRefusal form st beginning status → IsUnheard status
+  unheard_is statuses.ReadRoster why = record {
+    caused = why;
+    unheard = refl;
+    refused = λ told fault bad. inr (inl refl);
+    complete = λ told f. absurd (f.beginning_steady why);
+  }
+  unheard_is (statuses.Roster line cause) why = record {
+    caused = why;
+    unheard = refl;
+    refused = λ told fault bad. inl (let is = why told in let same : faults.Roster line cause ≡ fault = cc in ap status_of same);
+    complete = λ told f. absurd (let bad = why told in let good = f.known_is in cc);
+  }
+  unheard_is (statuses.State line cause) why = record {
+    caused = why;
+    unheard = refl;
+    refused = λ told fault bad. inl (let is = why told in let same : faults.Line line cause ≡ fault = cc in ap status_of same);
+    complete = λ told f. absurd (let bad = why told in let good = f.known_is in cc);
+  }
+  unheard_is statuses.Memory why =
+      record { caused = tt; unheard = refl; refused = λ told fault bad. inr (inr refl); complete = λ told f. inr refl }
+  unheard_is statuses.Done why = absurd why
+  unheard_is (statuses.Words fault) why = absurd why
+  unheard_is (statuses.Read w) why = absurd why
+  unheard_is (statuses.Transmit w) why = absurd why
+  unheard_is (statuses.Cut w) why = absurd why
+  unheard_is (statuses.Write which) why = absurd why
 
   pub unheard_run : (status : Status) → IsRefusal form st beginning status
       → (AreTold (run_with status) → Each (λ r. EndIsCaused st r r.ended) runs)
       → (IsTrue st → LosesNothing beginning) → (IsTrue st → AreTold (run_with status) → Each (λ r. LosesNothing r.source) runs)
       → Each (λ o. IsSilent o.sink) outputs → IsRun (run_with status)
-  unheard_run status why caused kept lost silent = record {
-    headline = λ heard. absurd (let not = unheard status why in cc);
-    status_caused = unheard_caused status why;
-    ends_caused = caused;
-    refused = unheard_refused status why;
-    complete = unheard_complete status why;
-    no_loss = λ told. (kept told, lost told);
-    silent = λ not. silent;
-  }
+  unheard_run status why caused kept lost silent =
+      let is = unheard_is status why in
+      record {
+        headline = λ heard. absurd (let not = is.unheard in cc);
+        status_caused = is.caused;
+        ends_caused = caused;
+        refused = is.refused;
+        complete = is.complete;
+        no_loss = λ told. (kept told, lost told);
+        silent = λ not. silent;
+      }
 
 -- the same of one receiver that is heard alone
 pub alone_unheard : (form : Form) (st kt : Bool) (beginning : Change SourceShown) (r : ReceiverRun) (report : Change SinkShown) (status : Status)
@@ -162,42 +158,36 @@ module _ (form : Form) (st kt : Bool) (beginning : Change SourceShown) (r : Rece
   abbrev this : Run
   this = run_of form st kt beginning r report result
 
-  caused : (ended : Ended) → r.ended ≡ Some ended → IsHeardEnd ended → IsFinished ended report result → IsCausedBy this result
-  caused ends.End is never finished =
-      ⊎_elim (λ same. subst (IsCausedBy this) (sym same) (is, tt))
-      (λ failed. subst (IsCausedBy this) (sym failed.0) ((is, tt), inl (refl, failed.1))) finished
-  caused ends.Cut is never finished = let same : result ≡ statuses.Cut 1 = ⊎_elim (λ s. s) (λ f. f.0) finished in
-      subst (IsCausedBy this) (sym same) (inl (refl, is))
-  caused ends.ReadFault is never finished = let same : result ≡ statuses.Read 1 = ⊎_elim (λ s. s) (λ f. f.0) finished in
-      subst (IsCausedBy this) (sym same) (inl (refl, is))
-  caused ends.TxFault is never finished = absurd (never.0 refl)
-  caused ends.Memory is never finished = absurd (never.1 refl)
+  -- what is promised of a receiver's end, and of the status that it makes
+  record ComesTo (ended : Ended) : Type 0 where
+    caused : IsCausedBy this result
+    was : was_heard result ≡ true
+    complete : IsTrue st → IsFaultless this → IsDone result
 
-  was : (ended : Ended) → IsHeardEnd ended → IsFinished ended report result → was_heard result ≡ true
-  was ends.End never finished = ⊎_elim (λ same. ap was_heard same) (λ failed. ap was_heard failed.0) finished
-  was ends.Cut never finished = ⊎_elim (λ same. ap was_heard same) (λ failed. ap was_heard failed.0) finished
-  was ends.ReadFault never finished = ⊎_elim (λ same. ap was_heard same) (λ failed. ap was_heard failed.0) finished
-  was ends.TxFault never finished = absurd (never.0 refl)
-  was ends.Memory never finished = absurd (never.1 refl)
-
-  end_caused : (ended : Ended) (lines : List (List ℕ)) → (ended ≡ ends.ReadFault → ReadFailed r.source) → IsHeardEnd ended
-      → (IsTrue st → IsEnding ended r.source.now.taken r.source.now.left lines) → EndIsCaused st r (Some ended)
-  end_caused ends.End lines cause never ending = λ told. (ending told).nothing_left
-  end_caused ends.Cut lines cause never ending = λ told. (ending told).over
-  end_caused ends.ReadFault lines cause never ending = cause refl
-  end_caused ends.TxFault lines cause never ending = absurd (never.0 refl)
-  end_caused ends.Memory lines cause never ending = absurd (never.1 refl)
-
-  completed : (ended : Ended) (lines : List (List ℕ)) → IsFaultless this → (ended ≡ ends.ReadFault → ReadFailed r.source) → IsHeardEnd ended
-      → IsEnding ended r.source.now.taken r.source.now.left lines → r.source.now.taken ++ r.source.now.left ≡ r.source.before.left
-      → IsFinished ended report result → IsDone result
-  completed ends.End lines f cause never ending bytes finished =
-      ⊎_elim (λ same. inl same) (λ failed. absurd (f.outputs_steady.0 failed.1)) finished
-  completed ends.Cut lines f cause never ending bytes finished =
-      let over = ap is_over (sym bytes) ∙ ending.source_over in let within = f.within.0 in absurd cc
-  completed ends.ReadFault lines f cause never ending bytes finished = absurd (f.receivers_steady.0 (cause refl))
-  completed ends.TxFault lines f cause never ending bytes finished = absurd (never.0 refl)
-  completed ends.Memory lines f cause never ending bytes finished = absurd (never.1 refl)
+  comes_to : (ended : Ended) (lines : List (List ℕ)) → r.ended ≡ Some ended → IsHeardEnd ended → IsFinished ended report result
+      → (ended ≡ ends.ReadFault → ReadFailed r.source) → (IsTrue st → IsEnding ended r.source.now.taken r.source.now.left lines)
+      → (IsTrue st → r.source.now.taken ++ r.source.now.left ≡ r.source.before.left) → ComesTo ended
+  comes_to ends.End lines is never finished cause ending bytes = record {
+    caused = ⊎_elim (λ same. subst (IsCausedBy this) (sym same) (is, tt))
+        (λ failed. subst (IsCausedBy this) (sym failed.0) ((is, tt), inl (refl, failed.1))) finished;
+    was = ⊎_elim (λ same. ap was_heard same) (λ failed. ap was_heard failed.0) finished;
+    complete = λ told f. ⊎_elim (λ same. inl same) (λ failed. absurd (f.outputs_steady.0 failed.1)) finished;
+  }
+  comes_to ends.Cut lines is never finished cause ending bytes = let same : result ≡ statuses.Cut 1 = ⊎_elim (λ s. s) (λ f. f.0) finished in
+      record {
+        caused = subst (IsCausedBy this) (sym same) (inl (refl, is));
+        was = ap was_heard same;
+        complete = λ told f. absurd (let over = ap is_over (sym (bytes told)) ∙ (ending told).source_over in let within = f.within.0 in cc);
+      }
+  comes_to ends.ReadFault lines is never finished cause ending bytes =
+      let same : result ≡ statuses.Read 1 = ⊎_elim (λ s. s) (λ f. f.0) finished in
+      record {
+        caused = subst (IsCausedBy this) (sym same) (inl (refl, is));
+        was = ap was_heard same;
+        complete = λ told f. absurd (f.receivers_steady.0 (cause refl));
+      }
+  comes_to ends.TxFault lines is never finished cause ending bytes = absurd (never.0 refl)
+  comes_to ends.Memory lines is never finished cause ending bytes = absurd (never.1 refl)
 
   -- the receiver was heard
   pub heard_run : (e : Known) (ended ended' : Ended) (counts counts' : Counts) (fresh world : WorldView) → ended ≡ ended'
@@ -224,6 +214,7 @@ module _ (form : Form) (st kt : Bool) (beginning : Change SourceShown) (r : Rece
       let lines = lines_of h in
       let bytes : IsTrue st → r.source.now.taken ++ r.source.now.left ≡ r.source.before.left =
       λ told. alone.has_heard.no_loss told ∙ ap (λ t. t ++ r.source.before.left) (untaken told) in
+      let comes = comes_to ended lines is never finished alone.has_heard.read_fault alone.has_heard.ending bytes in
       record {
         headline = λ was_so told.
             let heard : Heard = record { known = e; receivers = record { lines = lines; ended = ended } ∷ []; world = world } in
@@ -256,13 +247,16 @@ module _ (form : Form) (st kt : Bool) (beginning : Change SourceShown) (r : Rece
               written = λ writes. (subst (λ t. HasText t report) same (written writes), tt);
               whole = λ writes all. (done all writes ∙ same, tt);
               stopped = λ writes which stop.
-                  ⊎_elim (λ at. inl at) (λ later. absurd later.1) (subst (IsCausedBy this) stop (caused ended is never finished)).1;
+                  ⊎_elim (λ at. inl at) (λ later. absurd later.1) (subst (IsCausedBy this) stop comes.caused).1;
             };
-        status_caused = caused ended is never finished;
-        ends_caused = λ shown.
-            (subst (EndIsCaused st r) (sym is) (end_caused ended lines alone.has_heard.read_fault never alone.has_heard.ending), tt);
+        status_caused = comes.caused;
+        ends_caused = λ shown. (
+          subst (EndIsCaused st r) (sym is) (end_caused st r ended lines alone.has_heard.read_fault (λ tx. absurd (never.0 tx))
+              alone.has_heard.ending),
+          tt,
+        );
         refused = λ told fault bad. let yes = found told in absurd cc;
-        complete = λ told f. completed ended lines f alone.has_heard.read_fault never (alone.has_heard.ending told) (bytes told) finished;
+        complete = comes.complete;
         no_loss = λ told. (kept told, λ shown. (alone.has_heard.no_loss told, tt));
-        silent = λ unheard. let heard = was ended never finished in absurd cc;
+        silent = λ unheard. let heard = comes.was in absurd cc;
       }

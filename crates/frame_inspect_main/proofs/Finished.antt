@@ -1,5 +1,5 @@
 -- A run that shows the lines of a file.
-use Rattle.std.proofs.Common.{◌≡◌, ◌⊎◌, ◌↔◌, ◌++◌, ℕ, List, Bool, true, Option, Some, inl, ⊎_elim, refl, sym, ap, subst, ◌∙◌, IsTrue}
+use Rattle.std.proofs.Common.{◌≡◌, ◌⊎◌, ◌↔◌, ◌++◌, ℕ, List, Bool, true, Option, Some, inl, inr, refl, sym, ap, subst, ◌∙◌, IsTrue}
 use Rattle.std.specs.Prelude.{map}
 use Rattle.std.specs.List.{concat}
 use Rattle.std.proofs.lemmas.List.{append-nil}
@@ -19,7 +19,7 @@ use Rattle.frame_inspect_main.specs.Statuses.{shows_lines, EndsBy, IsEnd, unwrit
 pub text_is : (lines : List (List ℕ)) (items lent : List Item) (shown : List (List ℕ)) → items ≡ map item_of lines → lent ≡ items
     → shown ≡ shown_from layered_text 1 lent → concat shown ≡ inspected lines
 unfolding inspected
-text_is lines items lent shown taken same is = ap concat (is ∙ ap (λ t. shown_from layered_text 1 t) (same ∙ taken))
+text_is lines items lent shown taken same is = rw (is, same, taken) refl
 
 -- the lines given at the end of a source are all lines of the bytes that it had
 all_given : (status : InspectStatus) (taken left bytes : List ℕ) (lines : List (List ℕ)) → status ≡ statuses.Done
@@ -38,6 +38,15 @@ cut_exact statuses.Cut lines taken left shows ends = (λ cut. ends.over, λ over
 cut_exact statuses.Words lines taken left shows ends = absurd cc
 cut_exact statuses.Memory lines taken left shows ends = absurd cc
 
+-- the statuses by which lines end
+by_end : (P : InspectStatus → Type 0) → P statuses.Done → P statuses.Read → P statuses.Cut → (ended : InspectStatus) → IsEnd ended → P ended
+by_end P done read cut statuses.Done is = done
+by_end P done read cut statuses.Read is = read
+by_end P done read cut statuses.Cut is = cut
+by_end P done read cut statuses.Words is = absurd is
+by_end P done read cut statuses.Write is = absurd is
+by_end P done read cut statuses.Memory is = absurd is
+
 module _ (workers : Option ℕ) (st kt : Bool) (frames : Change SourceShown) (lines : List (List ℕ)) (output : Change SinkShown)
     (result : InspectStatus) where
   abbrev this : Run
@@ -50,46 +59,35 @@ module _ (workers : Option ℕ) (st kt : Bool) (frames : Change SourceShown) (li
   abbrev Ends : InspectStatus → Type 0
   Ends status = EndsBy status frames.now.taken frames.now.left lines
 
+  finished_as : (P : InspectStatus → Type 0) (ended : InspectStatus) → P ended → (WriteFailed output → P (unwritten ended))
+      → IsFinished ended → P result
+  finished_as P ended one other (inl same) = subst P (sym same) one
+  finished_as P ended one other (inr failed) = subst P (sym failed.0) (other failed.1)
+
   caused : (ended : InspectStatus) → IsEnd ended → (ended ≡ statuses.Read → ReadFailed frames) → (IsTrue st → Ends ended)
       → IsFinished ended → IsCausedBy this result
-  caused statuses.Done is cause ends finished =
-      ⊎_elim (λ same. subst (IsCausedBy this) (sym same) (λ told. (ends told).nothing_left))
-      (λ failed. subst (IsCausedBy this) (sym failed.0) failed.1) finished
-  caused statuses.Read is cause ends finished =
-      let same : result ≡ statuses.Read = ⊎_elim (λ s. s) (λ f. f.0) finished in subst (IsCausedBy this) (sym same) (cause refl)
-  caused statuses.Cut is cause ends finished =
-      let same : result ≡ statuses.Cut = ⊎_elim (λ s. s) (λ f. f.0) finished in
-      subst (IsCausedBy this) (sym same) (λ told. (ends told).over)
-  caused statuses.Words is cause ends finished = absurd is
-  caused statuses.Write is cause ends finished = absurd is
-  caused statuses.Memory is cause ends finished = absurd is
+  caused = by_end (λ e. (e ≡ statuses.Read → ReadFailed frames) → (IsTrue st → Ends e) → IsFinished e → IsCausedBy this result)
+      (λ cause ends. finished_as (IsCausedBy this) statuses.Done (λ told. (ends told).nothing_left) (λ failed. failed))
+      (λ cause ends. finished_as (IsCausedBy this) statuses.Read (cause refl) (λ failed. cause refl))
+      (λ cause ends. finished_as (IsCausedBy this) statuses.Cut (λ told. (ends told).over) (λ failed told. (ends told).over))
 
   shown : (ended : InspectStatus) → IsEnd ended → IsFinished ended → shows_lines result ≡ true
-  shown statuses.Done is finished = ⊎_elim (λ same. ap shows_lines same) (λ failed. ap shows_lines failed.0) finished
-  shown statuses.Read is finished = ⊎_elim (λ same. ap shows_lines same) (λ failed. ap shows_lines failed.0) finished
-  shown statuses.Cut is finished = ⊎_elim (λ same. ap shows_lines same) (λ failed. ap shows_lines failed.0) finished
-  shown statuses.Words is finished = absurd is
-  shown statuses.Write is finished = absurd is
-  shown statuses.Memory is finished = absurd is
+  shown = by_end (λ e. IsFinished e → shows_lines result ≡ true)
+      (finished_as (λ s. shows_lines s ≡ true) statuses.Done refl (λ failed. refl))
+      (finished_as (λ s. shows_lines s ≡ true) statuses.Read refl (λ failed. refl))
+      (finished_as (λ s. shows_lines s ≡ true) statuses.Cut refl (λ failed. refl))
 
   ended_so : (ended : InspectStatus) → IsEnd ended → Ends ended → IsFinished ended → Ends result
-  ended_so statuses.Done is ends finished = ⊎_elim (λ same. subst Ends (sym same) ends) (λ failed. subst Ends (sym failed.0) ends) finished
-  ended_so statuses.Read is ends finished = ⊎_elim (λ same. subst Ends (sym same) ends) (λ failed. subst Ends (sym failed.0) ends) finished
-  ended_so statuses.Cut is ends finished = ⊎_elim (λ same. subst Ends (sym same) ends) (λ failed. subst Ends (sym failed.0) ends) finished
-  ended_so statuses.Words is ends finished = absurd is
-  ended_so statuses.Write is ends finished = absurd is
-  ended_so statuses.Memory is ends finished = absurd is
+  ended_so = by_end (λ e. Ends e → IsFinished e → Ends result) (λ ends. finished_as Ends statuses.Done ends (λ failed. ends))
+      (λ ends. finished_as Ends statuses.Read ends (λ failed. ends)) (λ ends. finished_as Ends statuses.Cut ends (λ failed. ends))
 
   completed : (ended : InspectStatus) → IsEnd ended → IsFaultless this → (ended ≡ statuses.Read → ReadFailed frames) → Ends ended
       → LosesNothing frames → IsFinished ended → IsDone result
-  completed statuses.Done is clear cause ends kept finished =
-      ⊎_elim (λ same. inl same) (λ failed. absurd (clear.sink_steady failed.1)) finished
-  completed statuses.Read is clear cause ends kept finished = absurd (clear.source_steady (cause refl))
-  completed statuses.Cut is clear cause ends kept finished =
-      let over = ap is_over (sym kept) ∙ ends.source_over in let within = clear.within in absurd cc
-  completed statuses.Words is clear cause ends kept finished = absurd is
-  completed statuses.Write is clear cause ends kept finished = absurd is
-  completed statuses.Memory is clear cause ends kept finished = absurd is
+  completed = by_end
+      (λ e. IsFaultless this → (e ≡ statuses.Read → ReadFailed frames) → Ends e → LosesNothing frames → IsFinished e → IsDone result)
+      (λ clear cause ends kept. finished_as IsDone statuses.Done (inl refl) (λ failed. absurd (clear.sink_steady failed)))
+      (λ clear cause ends kept finished. absurd (clear.source_steady (cause refl)))
+      (λ clear cause ends kept finished. let over = ap is_over (sym kept) ∙ ends.source_over in let within = clear.within in absurd cc)
 
   pub finished_run : (count : ℕ) (ended : InspectStatus) (text : List ℕ) → workers ≡ Some count → IsEnd ended
       → (ended ≡ statuses.Read → ReadFailed frames) → (IsTrue st → Ends ended) → (IsTrue st → LosesNothing frames)

@@ -1,6 +1,6 @@
 -- A line that was given, as an item.
-use Rattle.std.proofs.Common.{◌≡◌, ◌≤◌, ◌<◌, ℕ, List, true, false, cond, length, sym, ap, subst, ◌∙◌, arith}
-use Rattle.std.specs.Prelude.{nat_lt, Result, Ok, Err, IfOk}
+use Rattle.std.proofs.Common.{◌≡◌, ◌≤◌, ◌<◌, ℕ, List, length, sym, ap, subst, ◌∙◌, arith}
+use Rattle.std.specs.Prelude.{Result, Ok, Err, IfOk}
 use Rattle.std.proofs.lemmas.Bool.Decides.{nat_tests}
 use Rattle.outer_io.specs.declared.failures.Memory.{Memory}
 use Rattle.line_reader.specs.Reader.{GivesText, GivesLongLine}
@@ -11,12 +11,10 @@ use Rattle.frame_inspect_main.specs.declared.item.Item.TheVariants as items
 use Rattle.frame_inspect_main.specs.Items.{item_of, GivesItem}
 
 short : (text : List ℕ) → length text ≤ 1024 → item_of text ≡ items.Line text
-short text within =
-    let test : nat_lt 1024 (length text) ≡ false = grind (arith, nat_tests) in ap (λ b. cond b items.TooLong (items.Line text)) test
+short text within = grind (arith, nat_tests)
 
 long : (text : List ℕ) → 1024 < length text → item_of text ≡ items.TooLong
-long text over =
-    let test : nat_lt 1024 (length text) ≡ true = grind (arith, nat_tests) in ap (λ b. cond b items.TooLong (items.Line text)) test
+long text over = grind (arith, nat_tests)
 
 -- where there was memory for the line that is lent, its item is given
 pub line_given : (answer : Result Item Memory) (next : NextText) (longest : ℕ) (lent text : List ℕ) (tells : Type 0)

@@ -1,10 +1,11 @@
 use Rattle.std.proofs.Common.{◌<◌, ◌^◌, ◌≡◌, length, refl, ap, subst, arith, rules}
+use Rattle.lists.proofs.Members.{with_length}
 use Rattle.outer_io.specs.Shown.{source_change, sink_change}
 use Rattle.meter_address.specs.declared.address.Address.{Address}
 use Rattle.state_file.specs.Whole.{Known}
 use Rattle.collector_main.specs.Heard.{next_text}
 use Rattle.collector_main.specs.Ready.{HaveHeard}
-use Rattle.collector_main.proofs.ManyReceivers.{each_many, fresh_caused, same_keeps, wrote_same, together_run, together_heard}
+use Rattle.collector_main.proofs.ManyReceivers.{fresh_caused, same_keeps, wrote_same, together_run, together_heard}
 use Rattle.collector_main.proofs.Runs.{unheard_run}
 use Rattle.collector_main.proofs.collecting.collect_session.Goals as goal
 
@@ -20,7 +21,7 @@ hear_together-requires-clause-room g c κs within = search rules
 pub first_stop-stop-requires : goal.first_stop-stop-requires
 first_stop-stop-requires g c =
     let is = c.in-Ok-hear_together.ensures in
-    let many = each_many _ _ _ is.receiver_ends in
+    let many = with_length _ _ _ is.receiver_ends in
     let as_many = is.as_many in
     let few = c.requires.few in
     let len = c.as_slice.ensures.len in

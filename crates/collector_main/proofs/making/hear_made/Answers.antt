@@ -1,8 +1,8 @@
 use Rattle.std.proofs.Common.{rules, ◌≡◌, ◌<◌, ◌^◌, Result, Ok, length, refl, ap, sym, ◌∙◌, arith}
+use Rattle.lists.proofs.Members.{with_length}
 use Rattle.roster_file.proofs.Enrolling.{read_is_enrolled}
 use Rattle.state_file.specs.Whole.{Known, fresh_known, of_roster}
 use Rattle.collector_main.specs.Ready.{HearsText}
-use Rattle.collector_main.proofs.ManyReceivers.{each_many}
 use Rattle.collector_main.proofs.MadeSessions.{four_fresh, made_heard}
 use Rattle.collector_main.proofs.making.hear_made.Goals as goal
 
@@ -11,7 +11,7 @@ of_roster-requires g c = read_is_enrolled c.as_slice.result.now c.in-Ok.roster c
 
 pub hear_together-requires-clause-few : goal.hear_together-requires-clause-few
 hear_together-requires-clause-few g c κs within =
-    let many = each_many HearsText c.in_ok-receivers.receivers.items _ c.in_ok-receivers.ensures in
+    let many = with_length HearsText c.in_ok-receivers.receivers.items _ c.in_ok-receivers.ensures in
     let few : length c.in_ok-receivers.receivers.items < 2 ^ 32 = omega (arith, many) in
     search rules
 
