@@ -11,9 +11,9 @@ use Rattle.meter_usage.specs.declared.key.UsageKey.{UsageKey}
 use Rattle.meter_usage.specs.declared.sums.Sum.{Sum}
 use Rattle.meter_usage.specs.Amounts.{Row, row_of, IsWithin}
 use Rattle.meter_usage.specs.Sums.{sum_at, total_at}
-use Rattle.meter_usage.specs.Table.{Table, rows_at, added, replaced, removed, kept, IsKept}
+use Rattle.meter_usage.specs.Table.{Table, rows_at, kept, IsKept}
 use Rattle.meter_usage.specs.Faults.{add_fault, place_fault}
-use Rattle.meter_usage.specs.Edits.{Edit, addition, replacement, removal, edited, fault_of, rows_after, StandsFor, IsAnswered}
+use Rattle.meter_usage.specs.Edits.{Edit, edited, fault_of, rows_after, StandsFor, IsAnswered}
 use Rattle.meter_usage.proofs.Tables.{kept_rows, total_below}
 use Rattle.meter_usage.proofs.Edited.{length_kept}
 

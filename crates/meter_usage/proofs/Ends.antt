@@ -1,5 +1,6 @@
 -- The first and the last amount of rows.
-use Rattle.std.proofs.Common.{◌≡◌, ℕ, zero, suc, ◌<◌, Bool, true, false, ◌||◌, is_some, length, get_or, remove, arith, List, [], ◌∷◌, ◌++◌, Option, Some, None, ℤ, refl, sym, ap, ◌∙◌}
+use Rattle.std.proofs.Common.{◌≡◌, ℕ, zero, suc, ◌<◌, Bool, ◌||◌, is_some, length, get_or, remove, arith, List, [], ◌∷◌, ◌++◌, Option, Some, None, ℤ, refl, sym, ap, ◌∙◌}
+use Rattle.std.proofs.Math.Bool.{or_comm}
 use Rattle.std.specs.Option.{option_or}
 use Rattle.std.specs.List.{list_any}
 use Rattle.meter_usage.specs.Usage.{first, last, less, usage_by}
@@ -15,14 +16,6 @@ or_assoc (Some x) b c = refl
 some_or : {T : Type 0} (a b : Option T) → is_some (option_or a b) ≡ is_some a || is_some b
 some_or None b = refl
 some_or (Some x) b = refl
-
-or_turned : (a b : Bool) → a || b ≡ b || a
-or_turned true true = refl
-or_turned true false = refl
-or_turned false b = sym (or_false_right b) where
-  or_false_right : (c : Bool) → c || false ≡ c
-  or_false_right true = refl
-  or_false_right false = refl
 
 some_less : (a b : Option ℤ) (there : Bool) → is_some a ≡ there → is_some b ≡ there → is_some (less a b) ≡ there
 some_less None b there e f = e
@@ -43,7 +36,7 @@ module _ {X : Type 0} (amount_in : X → Option ℤ) where
   last_some [] = refl
   last_some (x ∷ xs) =
       some_or (last amount_in xs) (amount_in x) ∙ ap (λ b. b || is_some (amount_in x)) (last_some xs)
-      ∙ or_turned (list_any (λ x. is_some (amount_in x)) xs) (is_some (amount_in x))
+      ∙ or_comm (list_any (λ x. is_some (amount_in x)) xs) (is_some (amount_in x))
 
   -- there is a usage where some row has an amount
   pub usage_some : (xs : List X) → is_some (usage_by amount_in xs) ≡ list_any (λ x. is_some (amount_in x)) xs

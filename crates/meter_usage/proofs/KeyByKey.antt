@@ -85,23 +85,26 @@ no_key k q left other misses = or_from _ _ ((eq_by_cmp_equiv key_cmp_total).symm
 sum_same : (q : UsageKey) (a b : List (UsageKey × Sum)) → find_sum q a ≡ find_sum q b → sum_at q a ≡ sum_at q b
 sum_same q a b e = ap (λ o. unwrap_or o no_sum) e
 
-module _ (before after : UsageKey → Option ℤ) (old now new : List (UsageKey × Sum)) (k : UsageKey) (left : List UsageKey)
-    (m : IsMending before after old now (k ∷ left))
-    (here : (rest : Sum) → sum_at k now ≡ with_usage (before k) rest → sum_at k new ≡ with_usage (after k) rest)
-    (others : (q : UsageKey) → is_eq (key_cmp k q) ≡ false → find_sum q new ≡ find_sum q now) (put : has_sum k new ≡ true) where
-  pub mending_goes_on : IsMending before after old new left
-  mending_goes_on = record {
-    ordered = sorted_tail key_cmp k left m.ordered;
-    there = λ q has. m.there q (or_right _ _ has);
-    waiting = λ q has. others q (apart_in k q left (sorted_head key_cmp k left m.ordered) has) ∙ m.waiting q (or_right _ _ has);
-    mended = λ q rest misses.
-        at_key (λ p. sum_at p old ≡ with_usage (before p) rest → sum_at p new ≡ with_usage (after p) rest) k q
-        (λ is. here rest (sum_same k now old (m.waiting k (has_first k left)) ∙ is))
-        (λ other is. sum_same q new now (others q other) ∙ m.mended q rest (no_key k q left other misses) is);
-    stays = λ q.
-        at_key (λ p. has_sum p old ≡ true → has_sum p new ≡ true) k q (λ _. put)
-        (λ other has. ap is_some (others q other) ∙ m.stays q has);
-  }
+pub mending_step : (before after : UsageKey → Option ℤ) (old now new : List (UsageKey × Sum)) (k : UsageKey) (left keys : List UsageKey)
+    (u v : Option ℤ) → IsMending before after old now keys → keys ≡ k ∷ left → u ≡ before k → v ≡ after k
+    → ((rest : Sum) → sum_at k now ≡ with_usage u rest → sum_at k new ≡ with_usage v rest)
+    → ((q : UsageKey) → is_eq (key_cmp k q) ≡ false → find_sum q new ≡ find_sum q now) → has_sum k new ≡ true
+    → IsMending before after old new left
+mending_step before after old now new k left keys u v mending e is_u is_v here others put =
+    let m : IsMending before after old now (k ∷ left) = subst (IsMending before after old now) e mending in
+    record {
+      ordered = sorted_tail key_cmp k left m.ordered;
+      there = λ q has. m.there q (or_right _ _ has);
+      waiting = λ q has. others q (apart_in k q left (sorted_head key_cmp k left m.ordered) has) ∙ m.waiting q (or_right _ _ has);
+      mended = λ q rest misses.
+          at_key (λ p. sum_at p old ≡ with_usage (before p) rest → sum_at p new ≡ with_usage (after p) rest) k q
+          (λ is. here rest (sum_same k now old (m.waiting k (has_first k left)) ∙ is ∙ ap (λ o. with_usage o rest) (sym is_u))
+          ∙ ap (λ o. with_usage o rest) is_v)
+          (λ other is. sum_same q new now (others q other) ∙ m.mended q rest (no_key k q left other misses) is);
+      stays = λ q.
+          at_key (λ p. has_sum p old ≡ true → has_sum p new ≡ true) k q (λ _. put)
+          (λ other has. ap is_some (others q other) ∙ m.stays q has);
+    }
 
 -- ---- the row that comes or goes
 
@@ -117,18 +120,6 @@ used_before rows place comes q = usage_at q (side comes (remove rows place) rows
 
 abbrev pub used_after : List Row → ℕ → Bool → UsageKey → Option ℤ
 used_after rows place comes q = usage_at q (side comes rows (remove rows place))
-
-pub mending_step : (rows : List Row) (place : ℕ) (comes : Bool) (old now new : List (UsageKey × Sum)) (k : UsageKey)
-    (left keys : List UsageKey) (u v : Option ℤ)
-    → IsMending (used_before rows place comes) (used_after rows place comes) old now keys → keys ≡ k ∷ left
-    → u ≡ used_before rows place comes k → v ≡ used_after rows place comes k
-    → ((rest : Sum) → sum_at k now ≡ with_usage u rest → sum_at k new ≡ with_usage v rest)
-    → ((q : UsageKey) → is_eq (key_cmp k q) ≡ false → find_sum q new ≡ find_sum q now) → has_sum k new ≡ true
-    → IsMending (used_before rows place comes) (used_after rows place comes) old new left
-mending_step rows place comes old now new k left keys u v m e is_u is_v here others put =
-    mending_goes_on _ _ old now new k left (subst (λ ks. IsMending (used_before rows place comes) (used_after rows place comes) old now ks)
-    e m)
-    (λ rest is. here rest (is ∙ ap (λ o. with_usage o rest) (sym is_u)) ∙ ap (λ o. with_usage o rest) is_v) others put
 
 pub next_waits : (before after : UsageKey → Option ℤ) (old now : List (UsageKey × Sum)) (k : UsageKey) (left keys : List UsageKey)
     → IsMending before after old now keys → keys ≡ k ∷ left → (has_sum k now ≡ true) × (sum_at k now ≡ sum_at k old)

@@ -1,5 +1,5 @@
 -- The keys of all amounts of a table.
-use Rattle.std.proofs.Common.{◌≡◌, ℕ, ◌+◌, Bool, true, false, ◌||◌, List, [], ◌∷◌, ◌++◌, fold, Option, Some, None, is_some, ℤ, refl, sym, ap, ◌∙◌, subst, arith}
+use Rattle.std.proofs.Common.{◌≡◌, ℕ, ◌+◌, true, false, ◌||◌, List, [], ◌∷◌, ◌++◌, fold, Option, Some, None, is_some, ℤ, refl, sym, ap, ◌∙◌, arith}
 use Rattle.std.specs.Prelude.{nat_lt}
 use Rattle.std.specs.declared.cmp.Ordering.{Ordering}
 use Rattle.std.specs.declared.cmp.Ordering.TheVariants.{Less, Equal, Greater}
@@ -8,15 +8,13 @@ use Rattle.std.specs.List.{AllByRecursion, flat_map, list_any}
 use Rattle.std.specs.List.Sorted.{IsStrictlySortedBy}
 use Rattle.std.specs.Map.{keys_of}
 use Rattle.std.specs.BTreeMap.{is_at, insert_entry}
-use Rattle.std.proofs.lemmas.Bool.{both_ways, cond_both}
+use Rattle.std.proofs.lemmas.Bool.{cond_both}
 use Rattle.std.proofs.lemmas.Bool.Decides.{nat_tests}
 use Rattle.std.proofs.lemmas.List.{map-append}
 use Rattle.std.proofs.lemmas.List.Folds.{list_any-append}
 use Rattle.std.specs.BTreeSet.{BTreeSet}
 use Rattle.std.proofs.lemmas.Map.Lookups.{btree_set_from_contains}
 use Rattle.std.proofs.lemmas.Map.Made.{is_some-lookup}
-use Rattle.std.proofs.lemmas.Map.Keys.{sorted_tail}
-use Rattle.std.proofs.lemmas.Cmp.{tied_itself}
 use Rattle.meter_usage.specs.declared.key.UsageKey.{UsageKey}
 use Rattle.meter_usage.specs.declared.sums.Sum.{Sum}
 use Rattle.meter_usage.specs.Keys.{key_cmp, key_cmp_total}
@@ -27,7 +25,7 @@ use Rattle.meter_usage.specs.Table.{Table}
 use Rattle.meter_usage.proofs.Ends.{usage_some}
 use Rattle.meter_usage.proofs.Entries.{each_inserted}
 use Rattle.meter_usage.proofs.Taken.{all_keys}
-use Rattle.meter_usage.proofs.SameKey.{same_key, same_by_test}
+use Rattle.meter_usage.proofs.SameKey.{same_key}
 use Rattle.meter_usage.proofs.KeyByKey.{has_amount}
 use Rattle.meter_usage.proofs.Payloads.{amount_all}
 

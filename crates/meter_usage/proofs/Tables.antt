@@ -1,5 +1,5 @@
 -- Tables of rows, and their totals, under an edit of one address's rows.
-use Rattle.std.proofs.Common.{◌≡◌, ℕ, zero, suc, ◌+◌, ◌*◌, ◌^◌, ◌<◌, ◌≤◌, true, List, [], ◌∷◌, ◌++◌, map, length, remove, Option, Some, None, IfSome, ℤ, pos, neg_ℤ, ◌+ℤ◌, ◌≤ℤ◌, refl, sym, ap, ◌∙◌, inl, inr, arith}
+use Rattle.std.proofs.Common.{◌≡◌, ℕ, suc, ◌+◌, ◌*◌, ◌^◌, ◌<◌, ◌≤◌, true, List, [], ◌∷◌, ◌++◌, map, length, remove, Option, Some, None, IfSome, ℤ, pos, neg_ℤ, ◌+ℤ◌, ◌≤ℤ◌, refl, sym, ap, ◌∙◌, inl, inr, arith}
 use Rattle.std.specs.Prelude.{slice_set}
 use Rattle.std.specs.Option.{unwrap_or, option_map}
 use Rattle.std.specs.Map.{lookup, remove_entry, set_value}
@@ -7,6 +7,8 @@ use Rattle.std.specs.BTreeMap.{is_at}
 use Rattle.std.proofs.lemmas.Bool.{cases_Bool}
 use Rattle.std.proofs.lemmas.Bool.Decides.{nat_tests}
 use Rattle.std.proofs.lemmas.Int.{ints}
+use Rattle.std.proofs.lemmas.List.{length-append, length-set}
+use Rattle.std.proofs.lemmas.List.Edits.{length-remove}
 use Rattle.std.proofs.lemmas.Map.Made.{lookup-map_values}
 use Rattle.indexmap.specs.IndexMap.{insert_entry}
 use Rattle.meter_address.specs.declared.address.Address.{Address}
@@ -73,19 +75,13 @@ written_as a table other old f found is some =
     is ∙ set_is_with a table old (f old) (sym found) some ∙ ap (λ o. with_rows table a (f (unwrap_or o []))) found
 
 pub append_some : {X : Type 0} (xs : List X) (x : X) → xs ++ x ∷ [] ≡ [] → ⊥
-append_some [] x e = cc
-append_some (y ∷ ys) x e = cc
+append_some xs x e = omega (arith, length-append xs (x ∷ []), ap length e)
 
 pub remove_some : {X : Type 0} (xs : List X) (i : ℕ) → i < length xs → (length xs ≡ 1 → ⊥) → remove xs i ≡ [] → ⊥
-remove_some [] i lt many e = omega arith
-remove_some (x ∷ []) i lt many e = many refl
-remove_some (x ∷ y ∷ zs) zero lt many e = cc
-remove_some (x ∷ y ∷ zs) (suc i) lt many e = cc
+remove_some xs i lt many e = many (omega (arith, length-remove xs i lt, ap length e))
 
 pub set_some : {X : Type 0} (xs : List X) (i : ℕ) (v : X) → i < length xs → slice_set xs i v ≡ [] → ⊥
-set_some [] i v lt e = omega arith
-set_some (x ∷ xs) zero v lt e = cc
-set_some (x ∷ xs) (suc i) v lt e = cc
+set_some xs i v lt e = omega (arith, lt, length-set xs i v, ap length e)
 
 -- ---- what is kept of payloads, and what is kept after an edit
 

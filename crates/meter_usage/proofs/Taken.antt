@@ -1,5 +1,5 @@
 -- The first and the last of amounts, as an iterator takes them.
-use Rattle.std.proofs.Common.{◌≡◌, ℕ, Bool, true, false, cond, List, [], ◌∷◌, ◌++◌, Option, Some, None, ℤ, refl, sym, ap, ◌∙◌, subst}
+use Rattle.std.proofs.Common.{◌≡◌, ℕ, Bool, true, false, List, [], ◌∷◌, ◌++◌, Option, Some, None, ℤ, refl, sym, ap, ◌∙◌, subst, inl, inr}
 use Rattle.std.specs.declared.cmp.Ordering.{Ordering}
 use Rattle.std.specs.declared.cmp.Ordering.TheVariants.{Less, Equal, Greater}
 use Rattle.std.specs.Ordering.{is_eq, nat_cmp}
@@ -9,6 +9,7 @@ use Rattle.std.specs.List.Sorted.{IsStrictlySortedBy}
 use Rattle.std.specs.Map.{keys_of}
 use Rattle.std.specs.Map.Iter.{TakesLast}
 use Rattle.std.specs.BTreeMap.{is_at}
+use Rattle.std.proofs.lemmas.Bool.{cases_Bool}
 use Rattle.std.proofs.lemmas.Cmp.{ranked}
 use Rattle.std.proofs.lemmas.List.{map-append}
 use Rattle.meter_usage.specs.Usage.{last}
@@ -26,14 +27,14 @@ pub all_keys : {K X : Type 0} (P : K → Type 0) (es : List (K × X)) → AllByR
 all_keys P [] a = tt
 all_keys P (e ∷ es) a = (a.0, all_keys P es a.1)
 
-keeps_by : (b : Bool) (f e : ℕ × ℤ) (fs gone more : Numbered) → more ≡ gone ++ e ∷ []
-    → cond b (fs ++ e ∷ []) (f ∷ more) ≡ cond b fs (f ∷ gone) ++ e ∷ []
-keeps_by true f e fs gone more is = refl
-keeps_by false f e fs gone more is = ap (λ z. f ∷ z) is
-
-keeps_last : (n : ℕ) (rest : Numbered) (e : ℕ × ℤ) → is_at (nat_cmp n) e.0 ≡ false → without n (rest ++ e ∷ []) ≡ without n rest ++ e ∷ []
-keeps_last n [] e other = ap (λ b. cond b [] (e ∷ [])) other
-keeps_last n (f ∷ fs) e other = keeps_by (is_at (nat_cmp n) f.0) f e fs (without n fs) (without n (fs ++ e ∷ [])) (keeps_last n fs e other)
+keeps_last : (n : ℕ) (rest : Numbered) (e : ℕ × ℤ) → is_at (nat_cmp n) e.0 ≡ false
+    → without n (rest ++ e ∷ []) ≡ without n rest ++ e ∷ []
+keeps_last n [] e other = rw other refl
+keeps_last n (f ∷ fs) e other =
+    elim (cases_Bool (is_at (nat_cmp n) f.0)) [
+      | inl here ↦ rw here refl
+      | inr apart ↦ rw apart (ap (λ z. f ∷ z) (keeps_last n fs e other))
+    ]
 
 last_one : (rest : Numbered) (e : ℕ × ℤ) → last (λ e. Some e.1) (rest ++ e ∷ []) ≡ Some e.1
 last_one rest e = last-append (λ e. Some e.1) rest (e ∷ [])

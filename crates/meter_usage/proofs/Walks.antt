@@ -1,5 +1,5 @@
 -- An index whose amounts change key by key.
-use Rattle.std.proofs.Common.{◌≡◌, ◌⊎◌, inl, inr, Bool, true, false, cond, List, [], ◌∷◌, Some, None, is_some, refl, sym, ap, ◌∙◌, subst}
+use Rattle.std.proofs.Common.{◌≡◌, ◌⊎◌, inl, inr, true, false, cond, List, [], ◌∷◌, Some, None, is_some, refl, sym, ap, ◌∙◌, subst}
 use Rattle.std.specs.Ordering.{is_eq}
 use Rattle.std.specs.Option.{unwrap_or}
 use Rattle.std.specs.List.Sorted.{IsStrictlySortedBy}
@@ -68,13 +68,11 @@ module _ (row : Row) (change : UsageKey → Numbered → Numbered) (old now : Li
           ]
 
 -- a key without amounts is forgotten
-tidied_by : (k q : UsageKey) (old new : List (UsageKey × Numbered)) (test : Bool) → is_at (key_cmp k) q ≡ test
-    → lookup (is_at (key_cmp k)) old ≡ Some []
-    → lookup (is_at (key_cmp q)) new ≡ cond test None (lookup (is_at (key_cmp q)) old) → indexed q new ≡ indexed q old
-tidied_by k q old new true same bare now =
-    ap (λ o. unwrap_or o []) now ∙ ap (λ o. unwrap_or o []) (sym bare ∙ ap (λ p. lookup (is_at (key_cmp p)) old) (same_by_test k q same))
-tidied_by k q old new false other bare now = ap (λ o. unwrap_or o []) now
-
 pub tidied : (k q : UsageKey) (old new : List (UsageKey × Numbered)) → lookup (is_at (key_cmp k)) old ≡ Some []
     → lookup (is_at (key_cmp q)) new ≡ cond (is_at (key_cmp k) q) None (lookup (is_at (key_cmp q)) old) → indexed q new ≡ indexed q old
-tidied k q old new bare now = tidied_by k q old new (is_at (key_cmp k) q) refl bare now
+tidied k q old new bare now =
+    elim (cases_Bool (is_at (key_cmp k) q)) [
+      | inl same ↦ ap (λ o. unwrap_or o []) (now ∙ ap (λ b. cond b None (lookup (is_at (key_cmp q)) old)) same)
+          ∙ ap (λ o. unwrap_or o []) (sym bare ∙ ap (λ p. lookup (is_at (key_cmp p)) old) (same_by_test k q same))
+      | inr other ↦ ap (λ o. unwrap_or o []) (now ∙ ap (λ b. cond b None (lookup (is_at (key_cmp q)) old)) other)
+    ]

@@ -18,15 +18,6 @@ no_fault : (edit : Edit) (old new : Table Row) (found : Option TotalsFault) (edi
 no_fault edit old new None edits a s is = refl
 no_fault edit old new (Some fault) edits a s is = cc (a.refused edits fault s is)
 
-kept_more : (edit : Edit) (old new : Table Row) (edits : List Edit) (table : Table (List ℕ)) (found : Option TotalsFault)
-    → IsAnswered edit old (Ok tt) new → StandsFor edits old
-    → rows_after edits ≡ table → found ≡ None → Keeps (unless found table (edited table edit)) new
-kept_more edit old new edits table found a s is none = record {
-  edits = edits ++ edit ∷ [];
-  stands = a.accepted edits s;
-  rows = fold-append edited [] edits (edit ∷ []) ∙ ap (λ t. edited t edit) is ∙ ap (λ o. unless o table (edited table edit)) (sym none);
-}
-
 -- a refusal that isn't want of memory is for the rows' fault
 its_fault : (edit : Edit) (old new : Table Row) (fault : TotalsFault) (edits : List Edit) → IsAnswered edit old (Err fault) new
     → (fault ≡ faults.Memory → ⊥) → StandsFor edits old
@@ -36,22 +27,26 @@ its_fault edit old new fault edits a other s = elim (a.caused edits s) [
   | inr is ↦ is
 ]
 
+-- what the rows say of an edit is told, and kept are the rows that it leaves then
+settled : (edit : Edit) (old new : Table Row) (found : Option TotalsFault) (result : Result (Option TotalsFault) Memory)
+    → ((edits : List Edit) → StandsFor edits old → fault_of (rows_after edits) edit ≡ found)
+    → ((table : Table (List ℕ)) → Keeps table old → Keeps (unless found table (edited table edit)) new) → result ≡ Ok found
+    → DoesEdit edit old result new
+settled edit old new found result there kept is =
+    let here : (table : Table (List ℕ)) → Keeps table old → found ≡ fault_of table edit = λ table k.
+    sym (subst (λ t. fault_of t edit ≡ found) k.rows (there k.edits k.stands)) in
+    subst (λ r. DoesEdit edit old r new) (sym is) (record {
+      told = here;
+      kept = λ table k. subst (λ f. Keeps (unless f table (edited table edit)) new) (here table k) (kept table k);
+      unchanged = tt;
+    })
+
 refused_for : (edit : Edit) (old new : Table Row) (fault : TotalsFault) (result : Result (Option TotalsFault) Memory)
     → IsAnswered edit old (Err fault) new → (fault ≡ faults.Memory → ⊥)
     → result ≡ Ok (Some fault) → DoesEdit edit old result new
-refused_for edit old new fault result a other is =
-    subst (λ r. DoesEdit edit old r new) (sym is) (record {
-      told = λ table k. sym (ap (λ t. fault_of t edit) (sym k.rows) ∙ its_fault edit old new fault k.edits a other k.stands);
-      kept = λ table k. kept_one table k (ap (λ t. fault_of t edit) (sym k.rows) ∙ its_fault edit old new fault k.edits a other k.stands);
-      unchanged = tt;
-    }) where
-      kept_one : (table : Table (List ℕ)) → Keeps table old → fault_of table edit ≡ Some fault
-          → Keeps (unless (fault_of table edit) table (edited table edit)) new
-      kept_one table k is = record {
-        edits = k.edits;
-        stands = subst (StandsFor k.edits) (sym a.unchanged) k.stands;
-        rows = k.rows ∙ ap (λ o. unless o table (edited table edit)) (sym is);
-      }
+refused_for edit old new fault result a other =
+    settled edit old new (Some fault) result (λ edits s. its_fault edit old new fault edits a other s)
+    (λ table k. record { edits = k.edits; stands = subst (StandsFor k.edits) (sym a.unchanged) k.stands; rows = k.rows })
 
 no_memory : (edit : Edit) (old new : Table Row) (result : Result (Option TotalsFault) Memory) → new ≡ old → IsErr result
     → DoesEdit edit old result new
@@ -62,12 +57,12 @@ pub edit_settled : (edit : Edit) (old new : Table Row) (answer : Result (Unit {0
     (result : Result (Option TotalsFault) Memory)
     → IsAnswered edit old answer new → Settles answer result → DoesEdit edit old result new
 edit_settled edit old new (Ok done) result a is =
-    subst (λ r. DoesEdit edit old r new) (sym is) (record {
-      told = λ table k. sym (ap (λ t. fault_of t edit) (sym k.rows) ∙ no_fault edit old new _ k.edits a k.stands refl);
-      kept = λ table k. kept_more edit old new k.edits table (fault_of table edit) a k.stands k.rows
-          (ap (λ t. fault_of t edit) (sym k.rows) ∙ no_fault edit old new _ k.edits a k.stands refl);
-      unchanged = tt;
-    })
+    settled edit old new None result (λ edits s. no_fault edit old new _ edits a s refl)
+    (λ table k. record {
+      edits = k.edits ++ edit ∷ [];
+      stands = a.accepted k.edits k.stands;
+      rows = fold-append edited [] k.edits (edit ∷ []) ∙ ap (λ t. edited t edit) k.rows;
+    }) is
 edit_settled edit old new (Err faults.Memory) result a is = no_memory edit old new result a.unchanged is
 edit_settled edit old new (Err faults.Meters) result a is = refused_for edit old new faults.Meters result a (λ e. cc) is
 edit_settled edit old new (Err faults.Rows) result a is = refused_for edit old new faults.Rows result a (λ e. cc) is

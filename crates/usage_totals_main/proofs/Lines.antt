@@ -1,7 +1,7 @@
 -- Lines that are answered one after another.
-use Rattle.std.proofs.Common.{◌≡◌, ℕ, ◌+◌, ◌<◌, Bool, true, cond, List, [], ◌∷◌, ◌++◌, length, take, drop, None, refl, sym, ap, ◌∙◌, append_assoc, arith}
-use Rattle.std.specs.Prelude.{fold, nat_lt}
-use Rattle.std.proofs.lemmas.Bool.Decides.{nat_tests}
+use Rattle.std.proofs.Common.{◌≡◌, ℕ, ◌+◌, ◌<◌, Bool, List, [], ◌∷◌, ◌++◌, length, take, drop, None, refl, sym, ap, ◌∙◌, append_assoc, arith}
+use Rattle.std.specs.Prelude.{fold}
+use Rattle.std.proofs.lemmas.Bool.{lt-ltb, cond-true}
 use Rattle.std.proofs.lemmas.List.{length-append, take-append-drop, take-append-le}
 use Rattle.outer_io.specs.Bytes.{AppendsFront}
 use Rattle.plain_text.specs.Parts.{fields_of}
@@ -49,9 +49,6 @@ front_of_all addressed count lines now front =
     }
 
 -- a line that is too long asks for nothing
-long_test : (line : List ℕ) → 7774 < length line → nat_lt 7774 (length line) ≡ true
-long_test line long = grind (arith, nat_tests)
-
 pub long_line : (line : List ℕ) → 7774 < length line → request_of line ≡ None
 unfolding request_of
-long_line line long = ap (λ test. cond test None (by_sign (fields_of line))) (long_test line long)
+long_line line long = cond-true _ None (by_sign (fields_of line)) (lt-ltb 7774 (length line) long)

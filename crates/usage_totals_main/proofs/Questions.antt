@@ -1,7 +1,8 @@
 -- What is printed of the amounts that are kept is what the rows say.
-use Rattle.std.proofs.Common.{◌≡◌, ℕ, List, [], ◌∷◌, ◌++◌, Option, refl, ap, ◌∙◌}
+use Rattle.std.proofs.Common.{◌≡◌, ℕ, List, ◌++◌, Option, ap, ◌∙◌}
 use Rattle.std.specs.Prelude.{codes}
 use Rattle.std.specs.List.{flat_map}
+use Rattle.std.proofs.Math.Path.{fun_ext}
 use Rattle.paper.specs.Pieces.{text_if}
 use Rattle.meter_address.specs.declared.address.Address.{Address}
 use Rattle.meter_usage.specs.declared.key.UsageKey.{UsageKey}
@@ -14,10 +15,6 @@ use Rattle.meter_usage.proofs.Tables.{kept_rows}
 use Rattle.meter_usage.proofs.Payloads.{usage_kept, total_kept}
 use Rattle.usage_totals_main.specs.Texts.{usage_line, total_line, done_text, usages_text, totals_text, usages_kept, totals_kept}
 use Rattle.usage_totals_main.specs.Answering.{Keeps}
-
-flat_map_same : {A : Type 0} (f g : A → List ℕ) (xs : List A) → ((x : A) → f x ≡ g x) → flat_map f xs ≡ flat_map g xs
-flat_map_same f g [] same = refl
-flat_map_same f g (x ∷ xs) same = ap (λ t. t ++ flat_map f xs) (same x) ∙ ap (λ t. g x ++ t) (flat_map_same f g xs same)
 
 module _ (table : Table (List ℕ)) (value : Table Row) (k : Keeps table value) where
   value_is : value ≡ kept table
@@ -40,9 +37,8 @@ module _ (table : Table (List ℕ)) (value : Table Row) (k : Keeps table value) 
       → usages_kept meter value address keys ≡ usages_text meter table address
   unfolding usages_kept usages_text
   usages_are meter address keys given =
-      ap (λ t. t ++ done_text meter (codes "end")) (flat_map_same (λ key. text_if (usage_line meter key) (usage_at key (rows_at address value)))
-      (λ key. text_if (usage_line meter key) (usage (rows_at address table) key)) keys
-      (λ key. ap (text_if (usage_line meter key)) (usage_is address key))
+      ap (λ t. t ++ done_text meter (codes "end"))
+      (ap (λ (f : UsageKey → List ℕ). flat_map f keys) (fun_ext (λ key. ap (text_if (usage_line meter key)) (usage_is address key)))
       ∙ ap (flat_map (λ key. text_if (usage_line meter key) (usage (rows_at address table) key))) (keys_are keys given))
 
   pub totals_are : (keys : List UsageKey) → ((edits : List Edit) → StandsFor edits value → keys ≡ keys_in (rows_after edits))
@@ -50,6 +46,5 @@ module _ (table : Table (List ℕ)) (value : Table Row) (k : Keeps table value) 
   unfolding totals_kept totals_text
   totals_are keys given =
       ap (λ t. t ++ codes "end\n")
-      (flat_map_same (λ key. total_line key (total_at key value)) (λ key. total_line key (total table key)) keys
-      (λ key. ap (total_line key) (total_is key))
+      (ap (λ (f : UsageKey → List ℕ). flat_map f keys) (fun_ext (λ key. ap (total_line key) (total_is key)))
       ∙ ap (flat_map (λ key. total_line key (total table key))) (keys_are keys given))

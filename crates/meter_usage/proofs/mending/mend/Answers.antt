@@ -37,7 +37,7 @@ pub loop-key-preserved : goal.loop-key-preserved
 loop-key-preserved c = (
   tt,
   tt,
-  mending_step c.args.meter.now c.args.place c.args.comes c.args.sums.now.entries c.loop-key.sums.entries c.change_at.new.sums.entries
+  mending_step _ _ c.args.sums.now.entries c.loop-key.sums.entries c.change_at.new.sums.entries
       c.in-Some.key.now c.next.new.self c.loop-key.key-iterator _ _
       c.loop-key.invariant.2 c.in-Some.ensures.steps c.usages-before.ensures.before c.usages-before.ensures.after c.change_at.ensures.here
       c.change_at.ensures.others c.change_at.ensures.stays,
