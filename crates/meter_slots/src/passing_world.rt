@@ -52,6 +52,7 @@ impl PassingMeter {
     ghost use Rattle.meter_slots.specs.World.{fresh_slot};
 
     // A meter to which nothing came yet.
+    #[tactic(auto, unfolding(crate::specs::Journal::readings))]
     fn new(alloc: Global, own: Address, start: MeterStart) -> PassingMeter
         ensures { IsPassing (fresh_slot own start) result }
     {
@@ -116,6 +117,7 @@ fn step_at(meters: &mut Vec<PassingMeter>, place: usize, event: &Event) -> Resul
 }
 
 // Keeps a reading that there may be as the last one of the meter at a place.
+#[tactic(auto, using(crate::proofs::PassingWorlds::kept_set))]
 fn keep_at(meters: &mut Vec<PassingMeter>, place: usize, reading: Option<Reading>)
     requires { place < vec_len meters.old }
     ensures { meters.new.items ≡ kept_at place reading meters.old.items }
@@ -166,6 +168,7 @@ impl PassingWorld {
     }
 
     /// Keeps a reading that there may be as the last one of the meter at a place.
+    #[tactic(auto, using(crate::proofs::PassingWorlds::kept_ordered, crate::proofs::PassingWorlds::kept_past))]
     pub fn keep(&mut self, place: u32, reading: Option<Reading>)
         ensures { self.new ≡ kept_at place reading self.old }
     {
