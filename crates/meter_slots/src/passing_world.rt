@@ -134,6 +134,7 @@ impl PassingWorld {
     ghost use Rattle.meter_slots.specs.World.{fresh_slot, slot_after};
 
     /// A slot for each meter of which this is known, in their order. Their addresses differ.
+    #[tactic(auto, using(crate::proofs::PassingWorlds::fresh_ordered, crate::proofs::Worlds::ordered_fresh))]
     pub fn new(alloc: Global, own: Address, starts: Vec<MeterStart>) -> Result<PassingWorld, Memory>
         requires apart { AreApart (map (λ c. c.address) starts.items) }
         requires few { length starts.items < 2 ^ 32 }
@@ -148,6 +149,7 @@ impl PassingWorld {
 
     /// One step of the slot with this address: its place, what it answers, and the reading that is stored with it, which the caller gives back
     /// by `keep`. Nothing is done where no slot has the address. For want of memory nothing changes.
+    #[tactic(auto, using(crate::proofs::PassingWorlds::strange_served, crate::proofs::PassingWorlds::strange_after))]
     pub fn step(&mut self, address: Address, event: &Event) -> Result<Option<(u32, Served)>, Memory>
         ensures served { IfOk result (λ answer. (slots : List SlotView) (source line : ℕ) → ArePassing slots self.old
             → IsServed slots (step_for source line address event.now) answer) }
