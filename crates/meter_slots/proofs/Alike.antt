@@ -1,5 +1,5 @@
 -- Commissions that differ in their numbers and in the second key alone, and standings that hold the same: no event tells them apart.
-use Rattle.std.proofs.Common.{◌≡◌, ℕ, Bool, List, [], ◌∷◌, ◌++◌, Option, Some, None, Result, Ok, Err, refl, ap, ◌∙◌}
+use Rattle.std.proofs.Common.{◌≡◌, ℕ, Bool, List, [], ◌∷◌, Option, Some, None, Result, Ok, Err, refl, ap, ◌∙◌}
 use Rattle.std.specs.Prelude.{option_map, slice_index}
 use Rattle.std.specs.Result.{result_ok}
 use Rattle.meter_address.specs.declared.address.Address.{Address}
@@ -15,9 +15,9 @@ use Rattle.message_check.specs.Steps.{◌>>=◌}
 use Rattle.message_check.specs.Opening.{Found, opened5, opened7, decrypted5}
 use Rattle.message_check.specs.declared.headers.Layers.{Layers}
 use Rattle.message_check.specs.declared.refusal.Reason.{Reason}
-use Rattle.downlink_maker.specs.Downlink.{encrypted_content, message_bytes, mac_of, telegram_to, downlink}
+use Rattle.downlink_maker.specs.Downlink.{encrypted_content, message_bytes, mac_of, telegram_to}
 use Rattle.meter_slots.specs.declared.entry.Event.{Event}
-use Rattle.meter_slots.specs.declared.entry.Event.TheVariants.{Hear, Tick, Put, Cancel, Rekey}
+use Rattle.meter_slots.specs.declared.entry.Event.TheVariants.{Hear}
 use Rattle.meter_slots.specs.declared.entry.Outcome.{Outcome}
 use Rattle.meter_slots.specs.declared.entry.Outcome.TheVariants.{Stored}
 use Rattle.meter_slots.specs.Hearing.{Content, Whole, Part, content_behind, is_response, message_in, received, brought}

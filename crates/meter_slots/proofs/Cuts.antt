@@ -1,34 +1,24 @@
 -- A slot that goes on where another one ended is the one slot of both journals.
-use Rattle.std.proofs.Common.{◌≡◌, ◌↔◌, ℕ, Bool, List, [], ◌∷◌, ◌++◌, reverse, Option, Some, None, Result, Ok, Err, refl, ap, sym, ◌∙◌, subst, arith}
-use Rattle.std.specs.Prelude.{option_to_list, option_map, slice_index}
-use Rattle.std.specs.Result.{result_ok}
+use Rattle.std.proofs.Common.{◌≡◌, ◌↔◌, ℕ, List, [], ◌∷◌, ◌++◌, reverse, Option, Some, refl, ap, sym, ◌∙◌, subst, arith}
+use Rattle.std.specs.Prelude.{option_to_list, option_map}
 use Rattle.std.proofs.lemmas.List.{reverse-append, append_assoc, append-nil}
 use Rattle.meter_address.specs.declared.address.Address.{Address}
 use Rattle.meter_address.specs.declared.commission.Mode.{Mode}
 use Rattle.meter_address.specs.declared.commission.Mode.TheVariants.{Five, Seven}
-use Rattle.meter_address.specs.Commission.{Commissioned}
-use Rattle.ell_layer.specs.declared.access.Access.{Access}
-use Rattle.command_queue.specs.declared.command.Command.{Command}
-use Rattle.access_window.specs.Orders.{Orders, confirmed, sent_at, after_stored}
-use Rattle.afl_fragments.specs.Held.{Told, Piece, Message, held, assembled}
+use Rattle.access_window.specs.Orders.{Orders}
+use Rattle.afl_fragments.specs.Held.{held}
 use Rattle.afl_fragments.specs.Short.{told_of, cut_down}
 use Rattle.afl_fragments.proofs.Shortening.{cut_holds, held_goes_on}
-use Rattle.message_check.specs.Steps.{◌>>=◌}
-use Rattle.message_check.specs.Opening.{Found, opened5, opened7, decrypted5}
-use Rattle.message_check.specs.declared.headers.Layers.{Layers}
-use Rattle.message_check.specs.declared.refusal.Reason.{Reason}
-use Rattle.downlink_maker.specs.Downlink.{encrypted_content, message_bytes, mac_of, telegram_to, downlink}
+use Rattle.message_check.specs.Opening.{Found}
 use Rattle.meter_slots.specs.declared.entry.Entry.{Entry}
 use Rattle.meter_slots.specs.declared.entry.Event.{Event}
-use Rattle.meter_slots.specs.declared.entry.Event.TheVariants.{Hear, Tick, Put, Cancel, Rekey}
-use Rattle.meter_slots.specs.declared.entry.Outcome.{Outcome}
-use Rattle.meter_slots.specs.declared.entry.Outcome.TheVariants.{Stored}
+use Rattle.meter_slots.specs.declared.entry.Event.TheVariants.{Hear}
 use Rattle.meter_slots.specs.declared.reading.Reading.{Reading}
-use Rattle.meter_slots.specs.Hearing.{Content, Whole, Part, content_behind, is_response, message_in, received, brought}
-use Rattle.meter_slots.specs.Journal.{Start, commission_of, told, told_by, other_after, other_key, rekeyed, opened_in, compared, genuine_in}
-use Rattle.meter_slots.specs.Journal.{genuine, counters, greater, greatest, last_among, last_counter, Standing, stored_or_refused}
-use Rattle.meter_slots.specs.Journal.{judged, verdict, access_of, access_at, orders_after, standing_with, orders, standing, downlink_with}
-use Rattle.meter_slots.specs.Journal.{heard, answer, outcome, IsJudged, Legal, stored_in, stored, reading_of, readings_back, readings}
+use Rattle.meter_slots.specs.Hearing.{received, brought}
+use Rattle.meter_slots.specs.Journal.{Start, commission_of, told, told_by, other_after, other_key, rekeyed}
+use Rattle.meter_slots.specs.Journal.{genuine, counters, greater, last_among, last_counter}
+use Rattle.meter_slots.specs.Journal.{access_at, standing_with, orders, standing}
+use Rattle.meter_slots.specs.Journal.{outcome, IsJudged, Legal, stored, reading_of, readings_back, readings}
 use Rattle.meter_slots.proofs.Alike.{brought_same, genuine_alike, told_alike, access_alike, stored_alike, answer_alike}
 use Rattle.meter_slots.specs.Resuming.{last_of, last_known, resumed, IsSameStanding, resumed_behind, joined, AreLegal, readings_through}
 

@@ -1,5 +1,5 @@
 -- Proof that the counters of downlinks rise.
-use Rattle.std.proofs.Common.{◌≡◌, ℕ, ◌+◌, ◌<◌, ◌≤◌, length, length-append, Bool, true, false, cond, List, [], ◌∷◌, ◌++◌, reverse, Option, Some, None, Result, Ok, Err, refl}
+use Rattle.std.proofs.Common.{◌≡◌, ℕ, ◌+◌, ◌<◌, ◌≤◌, length, length-append, Bool, List, [], ◌∷◌, ◌++◌, reverse, Option, Some, None, Result, Ok, refl}
 use Rattle.std.proofs.Common.{ap, sym, ◌∙◌, arith, subst}
 use Rattle.std.specs.Prelude.{option_map}
 use Rattle.std.specs.List.{cons_option}
@@ -7,14 +7,9 @@ use Rattle.std.proofs.lemmas.Bool.{cond_both}
 use Rattle.std.proofs.lemmas.List.Elements.{filter_map-append}
 use Rattle.std.proofs.lemmas.List.{reverse-reverse, append-nil}
 use Rattle.meter_address.specs.declared.address.Address.{Address}
-use Rattle.meter_address.specs.declared.commission.Mode.{Mode}
-use Rattle.meter_address.specs.declared.commission.Mode.TheVariants.{Five, Seven}
 use Rattle.meter_address.specs.Commission.{Commissioned}
 use Rattle.ell_layer.specs.declared.access.Access.{Access}
 use Rattle.command_queue.specs.declared.command.Command.{Command}
-use Rattle.command_queue.specs.declared.command.NoSuch.{NoSuch}
-use Rattle.command_queue.specs.declared.command.QueueFault.{QueueFault}
-use Rattle.command_queue.specs.declared.command.QueueFault.TheVariants.{Full, IdsSpent}
 use Rattle.command_queue.specs.Pending.{put_answer, take_answer, is_pending}
 use Rattle.access_window.specs.Orders.{Orders, after_cancel, after_tick, confirmed, confirmed_orders, after_confirmed, sent, sent_orders}
 use Rattle.access_window.specs.Orders.{after_sent, after_stored, sent_at}

@@ -1,12 +1,12 @@
 -- Proofs of the laws of journals.
-use Rattle.std.proofs.Common.{◌≡◌, ◌↔◌, ℕ, ◌<◌, max, Bool, true, false, cond, nat_lt, List, [], ◌∷◌, ◌++◌, reverse, map, Option, Some, None}
+use Rattle.std.proofs.Common.{◌≡◌, ◌↔◌, ℕ, ◌<◌, Bool, true, false, cond, nat_lt, List, [], ◌∷◌, ◌++◌, reverse, map, Option, Some, None}
 use Rattle.std.proofs.Common.{Result, Ok, Err, refl, ap, sym, ◌∙◌, arith, subst}
 use Rattle.std.specs.Prelude.{option_to_list, option_map, filter_map}
 use Rattle.std.specs.Result.{result_ok}
 use Rattle.std.specs.List.{cons_option}
 use Rattle.std.proofs.lemmas.List.Elements.{filter_map-append}
 use Rattle.std.proofs.lemmas.Bool.Decides.{nat_tests}
-use Rattle.std.proofs.lemmas.List.{reverse-append, reverse-reverse, append-nil, map-append, append_assoc}
+use Rattle.std.proofs.lemmas.List.{reverse-append, reverse-reverse, append-nil, append_assoc}
 use Rattle.lists.proofs.Places.{map-reverse}
 use Rattle.meter_address.specs.declared.address.Address.{Address}
 use Rattle.meter_address.specs.declared.commission.Mode.{Mode}
@@ -16,7 +16,6 @@ use Rattle.ell_layer.specs.declared.access.Access.{Access}
 use Rattle.command_queue.specs.declared.command.Command.{Command}
 use Rattle.command_queue.specs.declared.command.NoSuch.{NoSuch}
 use Rattle.command_queue.specs.declared.command.QueueFault.{QueueFault}
-use Rattle.command_queue.specs.declared.command.QueueFault.TheVariants.{Full, IdsSpent}
 use Rattle.command_queue.specs.Pending.{put_answer, take_answer, with_command, with_command_by}
 use Rattle.access_window.specs.Orders.{Orders, after_cancel}
 use Rattle.access_window.proofs.Agreement.{cancel_refused}
@@ -32,12 +31,11 @@ use Rattle.meter_slots.specs.declared.entry.Entry.{Entry}
 use Rattle.meter_slots.specs.declared.entry.Event.{Event}
 use Rattle.meter_slots.specs.declared.entry.Event.TheVariants.{Hear, Tick, Put, Cancel, Rekey}
 use Rattle.meter_slots.specs.declared.entry.Outcome.{Outcome}
-use Rattle.meter_slots.specs.declared.entry.Outcome.TheVariants.{Stored, PartKept, Ticked, Queued, Cancelled, Rekeyed, Refused}
 use Rattle.meter_slots.specs.Hearing.{received, brought}
-use Rattle.meter_slots.specs.Journal.{Start, commission_of, Standing, standing, stored_counter, told, other_given, other_after, other_key, rekeyed, opened_in}
+use Rattle.meter_slots.specs.Journal.{Start, commission_of, Standing, standing, stored_counter, told, other_after, other_key, rekeyed, opened_in}
 use Rattle.meter_slots.specs.Journal.{compared, genuine_in, genuine, counters, greater, greatest, last_among, last_counter}
 use Rattle.meter_slots.specs.Journal.{stored_or_refused, judged, verdict, access_at, orders_heard, orders_after, orders, heard, queued}
-use Rattle.meter_slots.specs.Journal.{cancelled, key_answer, answer, outcome, IsJudged, Legal}
+use Rattle.meter_slots.specs.Journal.{cancelled, answer, outcome, IsJudged, Legal}
 use Rattle.meter_slots.specs.Journal.{stored_in, stored, reading_at, reading_of, readings}
 use Rattle.meter_slots.specs.Keeping.{stored_by, last_after}
 use Rattle.meter_slots.specs.World.{Call, judged_journal, journal_of}

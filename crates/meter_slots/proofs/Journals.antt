@@ -1,7 +1,7 @@
 -- What one more entry changes.
 use Rattle.std.proofs.Common.{◌≡◌, ℕ, ◌≤◌, max, Bool, true, false, cond, nat_lt, ◌==◌, List, [], ◌∷◌, ◌++◌, reverse, Option, Some, None}
 use Rattle.std.proofs.Common.{Result, Ok, Err, refl, ap, sym, ◌∙◌, arith, subst}
-use Rattle.std.specs.Prelude.{option_to_list, option_map, slice_index}
+use Rattle.std.specs.Prelude.{option_to_list, option_map}
 use Rattle.std.specs.Option.{ForSome}
 use Rattle.std.specs.Result.{result_ok}
 use Rattle.std.proofs.lemmas.Bool.Decides.{nat_tests}
@@ -12,12 +12,7 @@ use Rattle.meter_address.specs.declared.commission.Mode.{Mode}
 use Rattle.meter_address.specs.declared.commission.Mode.TheVariants.{Five, Seven}
 use Rattle.meter_address.specs.Commission.{Commissioned, most_last}
 use Rattle.ell_layer.specs.declared.access.Access.{Access}
-use Rattle.command_queue.specs.declared.command.Command.{Command}
-use Rattle.command_queue.specs.declared.command.NoSuch.{NoSuch}
-use Rattle.command_queue.specs.declared.command.QueueFault.{QueueFault}
-use Rattle.command_queue.specs.declared.command.QueueFault.TheVariants.{Full, IdsSpent}
-use Rattle.command_queue.specs.Pending.{put_answer, take_answer}
-use Rattle.access_window.specs.Orders.{Orders, confirmed, sent_at, after_stored}
+use Rattle.access_window.specs.Orders.{Orders, confirmed}
 use Rattle.afl_fragments.specs.Held.{Told, Message, StandsFor}
 use Rattle.message_check.specs.Steps.{◌>>=◌}
 use Rattle.message_check.specs.Opening.{Found, Passed, compared5, compared7}
@@ -25,16 +20,15 @@ use Rattle.message_check.specs.declared.refusal.Reason.{Reason}
 use Rattle.message_check.specs.declared.refusal.Reason.TheVariants.{Stale, SameAccess}
 use Rattle.meter_slots.specs.declared.entry.Entry.{Entry}
 use Rattle.meter_slots.specs.declared.entry.Event.{Event}
-use Rattle.meter_slots.specs.declared.entry.Event.TheVariants.{Hear, Tick, Put, Cancel, Rekey}
+use Rattle.meter_slots.specs.declared.entry.Event.TheVariants.{Hear}
 use Rattle.meter_slots.specs.declared.entry.Outcome.{Outcome}
-use Rattle.meter_slots.specs.declared.entry.Outcome.TheVariants.{Stored, PartKept, Ticked, Queued, Cancelled, Rekeyed, Refused}
+use Rattle.meter_slots.specs.declared.entry.Outcome.TheVariants.{Stored}
 use Rattle.meter_slots.specs.declared.reading.Reading.{Reading}
-use Rattle.downlink_maker.specs.Downlink.{encrypted_content, message_bytes, mac_of, telegram_to, downlink}
-use Rattle.meter_slots.specs.Hearing.{is_response, received, brought}
+use Rattle.meter_slots.specs.Hearing.{received, brought}
 use Rattle.meter_slots.specs.Journal.{Start, commission_of, told, told_by, other_after, other_key, rekeyed, opened_in, compared, genuine_in, genuine, counters}
 use Rattle.meter_slots.specs.Journal.{greater, greatest, last_among, last_counter}
 use Rattle.meter_slots.specs.Journal.{Standing, standing, stored_or_refused, judged, verdict, access_at, orders_after, orders}
-use Rattle.meter_slots.specs.Journal.{downlink_with, heard, queued, cancelled, key_answer, answer, outcome}
+use Rattle.meter_slots.specs.Journal.{heard, answer, outcome}
 use Rattle.meter_slots.specs.Journal.{stored, reading_of, readings_back, readings}
 use Rattle.meter_slots.proofs.Alike.{answer_alike}
 use Rattle.meter_slots.specs.Laws.{AreReady, PutsPayload}

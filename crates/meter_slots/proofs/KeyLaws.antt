@@ -8,7 +8,6 @@ use Rattle.tpl_headers.specs.declared.header.Tpl.{Tpl}
 use Rattle.message_check.specs.Keys.{key_of}
 use Rattle.meter_slots.specs.declared.entry.Entry.{Entry}
 use Rattle.meter_slots.specs.declared.entry.Event.{Event}
-use Rattle.meter_slots.specs.declared.entry.Event.TheVariants.{Hear, Tick, Put, Cancel, Rekey}
 use Rattle.meter_slots.specs.Journal.{Start, commission_of, other_after, other_key, rekeyed}
 use Rattle.meter_slots.specs.Laws.{LeavesKeys}
 use Rattle.message_check.proofs.OpeningLaws.{one_key_alone}

@@ -1,23 +1,19 @@
 -- Closes `macs_decide`: bytes that come and that are held make a message of bytes, of which the MAC tells alone whether it is genuine.
-use Rattle.std.proofs.Common.{◌≡◌, ◌↔◌, ℕ, zero, suc, ◌-◌, Bool, true, false, not, cond, List, [], ◌∷◌, ◌++◌, reverse, drop, filter, find}
+use Rattle.std.proofs.Common.{◌≡◌, ◌↔◌, ℕ, zero, suc, ◌-◌, Bool, not, List, [], ◌∷◌, ◌++◌, reverse, drop, find}
 use Rattle.std.proofs.Common.{Option, Some, None, Result, Ok, Err, refl, ap, sym, ◌∙◌, subst}
 use Rattle.std.specs.Prelude.{option_map, ◌==◌}
-use Rattle.std.specs.Result.{result_ok}
 use Rattle.std.specs.List.{All, flat_map}
 use Rattle.std.proofs.lemmas.Bool.{cond_both}
 use Rattle.std.proofs.lemmas.List.{append-nil}
 use Rattle.std.proofs.lemmas.List.Concat.{flat_map-append}
 use Rattle.std.proofs.lemmas.List.Sorted.{All-permutation, IsPermutation-reverse}
-use Rattle.std.proofs.lemmas.List.Elements.{All-nil, All-cons, All-head, All-tail, All-append, All-filter, All-same}
-use Rattle.meter_address.specs.declared.address.Address.{Address}
-use Rattle.meter_address.specs.declared.commission.Mode.{Mode}
+use Rattle.std.proofs.lemmas.List.Elements.{All-nil, All-cons, All-head, All-tail, All-append, All-filter}
 use Rattle.meter_address.specs.declared.commission.Mode.TheVariants.{Seven}
 use Rattle.meter_address.specs.Commission.{Commissioned}
 use Rattle.frame_formats.specs.Crc.{IsBytes}
-use Rattle.frame_formats.proofs.Checked.{bytes-drop, bytes_joined, bytes_same}
+use Rattle.frame_formats.proofs.Checked.{bytes-drop, bytes_joined}
 use Rattle.frame_formats.specs.declared.format.Format.{Format}
 use Rattle.afl_layer.specs.declared.header.Afl.{Afl}
-use Rattle.afl_layer.specs.declared.header.Auth.{Auth}
 use Rattle.afl_layer.specs.Fields.{is_fragment}
 use Rattle.afl_fragments.specs.Fragment.{Fragment}
 use Rattle.afl_fragments.specs.declared.places.HeldPart.{HeldPart}
@@ -25,17 +21,17 @@ use Rattle.afl_fragments.specs.Held.{Told, Piece, Tick, Clear, Message, is_count
 use Rattle.afl_fragments.specs.Held.{last_end, with_more, front, joined, ended_by, assembled}
 use Rattle.message_check.specs.declared.headers.Layers.{Layers}
 use Rattle.message_check.specs.declared.refusal.Reason.{Reason}
-use Rattle.message_check.specs.Opening.{Found, Genuine7}
+use Rattle.message_check.specs.Opening.{Found}
 use Rattle.meter_slots.specs.declared.entry.Entry.{Entry}
 use Rattle.meter_slots.specs.declared.entry.Event.{Event}
 use Rattle.meter_slots.specs.declared.entry.Event.TheVariants.{Hear, Put, Cancel, Rekey}
 use Rattle.meter_slots.specs.declared.entry.Event.TheVariants as events
 use Rattle.meter_slots.specs.declared.entry.Outcome.{Outcome}
 use Rattle.meter_slots.specs.Hearing.{received, brought, auth_in, Content, Whole, Part, content_of, content_behind, message_in}
-use Rattle.meter_slots.specs.Journal.{Start, Legal, commission_of, other_key, rekeyed, stored_counter, told, told_by, told_by_received, told_with, given_up}
-use Rattle.meter_slots.specs.Journal.{genuine, genuine_in, opened_in}
+use Rattle.meter_slots.specs.Journal.{Start, commission_of, other_key, rekeyed, stored_counter, told, told_by, told_by_received, told_with, given_up}
+use Rattle.meter_slots.specs.Journal.{genuine, genuine_in}
 use Rattle.meter_slots.specs.Laws.{IsAbove, last_stored}
-use Rattle.meter_slots.specs.MacLaw.{HearsBytes, EntryHearsBytes, TellsBytes, BringsGenuine, StoresByMac, MacsDecide}
+use Rattle.meter_slots.specs.MacLaw.{HearsBytes, EntryHearsBytes, TellsBytes, BringsGenuine, MacsDecide}
 use Rattle.meter_slots.proofs.JournalLaws.{both_ways, genuine_by_mac, stored_above_last}
 
 -- ---- what is held is bytes

@@ -2,9 +2,7 @@
 use Rattle.std.proofs.Common.{◌≡◌, ℕ, List, [], ◌∷◌, ◌++◌, reverse, Option, Some, None, refl, ap, sym, ◌∙◌, subst}
 use Rattle.std.specs.Prelude.{option_to_list}
 use Rattle.meter_address.specs.declared.address.Address.{Address}
-use Rattle.meter_address.specs.declared.commission.Mode.{Mode}
 use Rattle.meter_address.specs.Commission.{Commissioned}
-use Rattle.access_window.specs.Orders.{Orders}
 use Rattle.afl_fragments.specs.Held.{Told, StandsFor}
 use Rattle.afl_fragments.specs.Short.{cut_down, told_of}
 use Rattle.meter_slots.specs.declared.entry.Entry.{Entry}

@@ -1,22 +1,16 @@
 -- Proof that each downlink that a journal sent carries a payload.
-use Rattle.std.proofs.Common.{◌≡◌, ℕ, ◌+◌, ◌-◌, ◌^◌, ◌<◌, ◌&&◌, Bool, true, false, not, cond, ltb, List, [], ◌∷◌, reverse, Option, Some}
-use Rattle.std.proofs.Common.{None, Result, Ok, Err, refl, sym, arith, subst}
+use Rattle.std.proofs.Common.{◌≡◌, ℕ, ◌+◌, ◌-◌, ◌^◌, ◌<◌, ◌&&◌, Bool, true, not, cond, ltb, List, [], ◌∷◌, reverse, Option, Some}
+use Rattle.std.proofs.Common.{None, Result, Ok, refl, sym, arith, subst}
 use Rattle.std.specs.Prelude.{option_map, option_to_list}
 use Rattle.std.specs.List.{All}
 use Rattle.std.proofs.lemmas.Bool.{and_parts, cond_both, ltb-true}
 use Rattle.std.proofs.lemmas.List.Sorted.{All-permutation, IsPermutation-reverse, IsPermutation-sym}
-use Rattle.std.proofs.lemmas.List.{reverse-reverse}
 use Rattle.std.proofs.lemmas.List.Elements.{All-nil, All-cons, All-head, All-tail, All-append, All-filter, All-push}
 use Rattle.meter_address.specs.declared.address.Address.{Address}
-use Rattle.meter_address.specs.declared.commission.Mode.{Mode}
-use Rattle.meter_address.specs.declared.commission.Mode.TheVariants.{Five, Seven}
 use Rattle.meter_address.specs.Commission.{Commissioned}
 use Rattle.ell_layer.specs.declared.access.Access.{Access}
 use Rattle.command_queue.specs.declared.command.Command.{Command}
-use Rattle.command_queue.specs.declared.command.NoSuch.{NoSuch}
-use Rattle.command_queue.specs.declared.command.QueueFault.{QueueFault}
-use Rattle.command_queue.specs.declared.command.QueueFault.TheVariants.{Full, IdsSpent}
-use Rattle.command_queue.specs.Pending.{Pending, has_id, is_pending, put_answer, take_answer, with_command_by, with_command}
+use Rattle.command_queue.specs.Pending.{Pending, has_id, is_pending}
 use Rattle.command_queue.specs.Pending.{without_command, one_try_more, with_try}
 use Rattle.access_window.proofs.Agreement.{put_both}
 use Rattle.access_window.specs.declared.window.Window.{Window}
@@ -30,9 +24,9 @@ use Rattle.meter_slots.specs.declared.entry.Entry.{Entry}
 use Rattle.meter_slots.specs.declared.entry.Event.{Event}
 use Rattle.meter_slots.specs.declared.entry.Event.TheVariants.{Hear, Tick, Put, Cancel, Rekey}
 use Rattle.meter_slots.specs.declared.entry.Outcome.{Outcome}
-use Rattle.meter_slots.specs.declared.entry.Outcome.TheVariants.{Stored, PartKept, Ticked, Queued, Cancelled, Rekeyed, Refused}
-use Rattle.meter_slots.specs.Journal.{Start, commission_of, Standing, standing, verdict, access_at, orders_heard, orders_after, orders, downlink_with, heard, queued}
-use Rattle.meter_slots.specs.Journal.{cancelled, key_answer, answer, outcome, IsJudged, Legal}
+use Rattle.meter_slots.specs.declared.entry.Outcome.TheVariants.{Stored}
+use Rattle.meter_slots.specs.Journal.{Start, commission_of, Standing, standing, verdict, access_at, orders_heard, orders_after, orders, downlink_with, heard}
+use Rattle.meter_slots.specs.Journal.{answer, outcome, IsJudged, Legal}
 use Rattle.meter_slots.specs.Laws.{downlinks_of, downlinks_in, IsPayload, HasPayload, AreReady, PutsPayload, CarriesPayload}
 use Rattle.meter_slots.proofs.Journals.{PutsIn}
 

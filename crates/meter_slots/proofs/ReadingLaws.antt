@@ -5,7 +5,6 @@ use Rattle.std.specs.Prelude.{filter_map}
 use Rattle.std.specs.List.{cons_option}
 use Rattle.std.specs.Result.{result_ok}
 use Rattle.std.proofs.lemmas.List.{map-append, reverse-reverse}
-use Rattle.std.proofs.lemmas.List.Elements.{filter_map-append}
 use Rattle.meter_address.specs.declared.address.Address.{Address}
 use Rattle.meter_address.specs.declared.commission.Mode.{Mode}
 use Rattle.meter_address.specs.declared.commission.Mode.TheVariants.{Five, Seven}
@@ -14,15 +13,13 @@ use Rattle.afl_fragments.specs.Held.{Message}
 use Rattle.message_check.specs.Steps.{◌>>=◌}
 use Rattle.ell_layer.specs.declared.access.Access.{Access}
 use Rattle.access_window.specs.Orders.{Orders}
-use Rattle.command_queue.specs.Pending.{put_answer, take_answer}
 use Rattle.message_check.specs.Opening.{Found, Passed, access_number_passed, counter_passed, compared5, compared7}
 use Rattle.message_check.specs.declared.refusal.Reason.{Reason}
 use Rattle.meter_slots.specs.declared.entry.Entry.{Entry}
 use Rattle.meter_slots.specs.declared.entry.Event.{Event}
-use Rattle.meter_slots.specs.declared.entry.Event.TheVariants.{Hear, Tick, Put, Cancel, Rekey}
+use Rattle.meter_slots.specs.declared.entry.Event.TheVariants.{Hear}
 use Rattle.frame_formats.specs.declared.format.Format.{Format}
 use Rattle.meter_slots.specs.declared.entry.Outcome.{Outcome}
-use Rattle.meter_slots.specs.declared.entry.Outcome.TheVariants.{Stored, PartKept, Ticked, Queued, Cancelled, Rekeyed, Refused}
 use Rattle.meter_slots.specs.declared.reading.Reading.{Reading}
 use Rattle.meter_slots.specs.Hearing.{received, brought}
 use Rattle.meter_slots.specs.Journal.{Start, commission_of, Standing, standing, told, other_key, rekeyed, opened_in, compared, genuine_in, genuine}

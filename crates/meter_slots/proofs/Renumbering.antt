@@ -1,19 +1,16 @@
 -- The numbers of receivers and lines make no difference to what is answered.
 use mathlib.Core.Path.{fun_ext}
 use Rattle.std.proofs.Common.{◌≡◌, ℕ, List, [], ◌∷◌, ◌++◌, map, reverse, Option, refl, ap, ap₂, sym, ◌∙◌, subst}
-use Rattle.std.specs.Prelude.{option_to_list, option_map}
 use Rattle.lists.proofs.Places.{map-reverse}
 use Rattle.meter_address.specs.declared.address.Address.{Address}
-use Rattle.access_window.specs.Orders.{Orders}
 use Rattle.afl_fragments.specs.Held.{Told}
-use Rattle.message_check.specs.Opening.{Found}
 use Rattle.meter_slots.specs.Hearing.{received, brought}
 use Rattle.meter_slots.specs.declared.entry.Entry.{Entry}
 use Rattle.meter_slots.specs.declared.entry.Event.{Event}
-use Rattle.meter_slots.specs.declared.entry.Event.TheVariants.{Hear, Tick, Put, Cancel, Rekey}
+use Rattle.meter_slots.specs.declared.entry.Event.TheVariants.{Hear}
 use Rattle.meter_slots.specs.declared.entry.Outcome.{Outcome}
 use Rattle.meter_slots.specs.Journal.{Start, commission_of, told, told_by, other_after, other_key, rekeyed, genuine_in, genuine, counters}
-use Rattle.meter_slots.specs.Journal.{last_among, last_counter, access_at, orders_after, standing_with, orders, standing, Standing, answer}
+use Rattle.meter_slots.specs.Journal.{last_counter, access_at, orders_after, orders, standing, Standing, answer}
 use Rattle.meter_slots.specs.Journal.{outcome, IsJudged, Legal, stored, reading_of, readings_back, readings}
 use Rattle.meter_slots.specs.Resuming.{last_of, resumed}
 use Rattle.meter_slots.specs.declared.reading.Reading.{Reading}

@@ -1,9 +1,9 @@
 -- What a slot begins with, and what is known behind its journal.
-use Rattle.std.proofs.Common.{◌≡◌, ℕ, zero, suc, ◌+◌, ◌<◌, List, [], ◌∷◌, ◌++◌, get_or, map, take, Option, Some, refl, ap, sym, ◌∙◌, arith, add-one}
+use Rattle.std.proofs.Common.{◌≡◌, ℕ, zero, suc, ◌+◌, ◌<◌, List, [], ◌∷◌, ◌++◌, get_or, map, take, Option, Some, ap, sym, ◌∙◌, arith, add-one}
 use Rattle.std.specs.Prelude.{◌-◌, length, slice_get, IfSome}
 use Rattle.std.specs.List.{All}
 use Rattle.std.proofs.lemmas.List.{map-append, take_more}
-use Rattle.std.proofs.lemmas.List.Elements.{All-nil, All-cons, All-head, All-tail}
+use Rattle.std.proofs.lemmas.List.Elements.{All-nil, All-cons, All-head, All-tail, All-from_get_or}
 use Rattle.afl_fragments.specs.declared.places.HeldPart.{HeldPart}
 use Rattle.afl_fragments.specs.Held.{Told, StandsFor}
 use Rattle.afl_fragments.specs.Short.{told_of, cut_down}
@@ -45,3 +45,7 @@ pub mapped_more : {A B : Type 0} (f : A → B) (xs : List A) (i : ℕ) (d : A) (
 mapped_more f xs i d ys y inside so one =
     ap (λ t. t ++ y ∷ []) so ∙ (ap (λ z. map f (take i xs) ++ z ∷ []) one
     ∙ (sym (map-append f (take i xs) (get_or xs i d ∷ [])) ∙ ap (map f) (sym (take_more xs i d inside))))
+
+-- a list of which each element is a byte
+pub each_byte : (xs : List ℕ) → ((i : ℕ) → i < length xs → get_or xs i 0 < 256) → All (λ b. b < 256) xs
+each_byte xs below = All-from_get_or (λ (b : ℕ). b < 256) xs 0 below

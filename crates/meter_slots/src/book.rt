@@ -58,6 +58,7 @@ fn note(readings: &mut Vec<Reading>, reading: Option<Reading>)
 }
 
 // What a key of sixteen bytes shows: it is a block.
+#[tactic(auto, using(crate::proofs::Starting::each_byte))]
 fn show_key(key: &[u8])
     requires { length key.now ≡ 16 }
     ensures { IsBlock key.now }

@@ -53,6 +53,7 @@ fn downlink_now(
 }
 
 // What a command shows of its payload.
+#[tactic(auto, using(crate::proofs::Starting::each_byte))]
 fn show_payload(bytes: &[u8])
     requires least { 1 ≤ length bytes.now }
     requires most { length bytes.now ≤ 94 }

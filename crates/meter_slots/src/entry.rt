@@ -33,6 +33,7 @@ pub enum Event {
 }
 
 // What a payload shows of its bytes.
+#[tactic(auto, using(crate::proofs::Starting::each_byte))]
 fn show_payload(bytes: &[u8])
     requires least { 1 ≤ length bytes.now }
     requires most { length bytes.now ≤ 94 }

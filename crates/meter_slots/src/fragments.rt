@@ -22,6 +22,7 @@ pub(crate) fn held_bytes(fragments: &Fragments) -> usize
 }
 
 /// Takes room for the fragment of a telegram with these layers, where it has one.
+#[tactic(auto, using(crate::proofs::NothingHeld::still_nothing))]
 pub(crate) fn take_place(
     alloc: Global,
     fragments: &mut Fragments,

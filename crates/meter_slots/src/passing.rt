@@ -87,6 +87,7 @@ impl PassingSlot {
 
     /// What is known of its meter now, where `last` is the last reading that its steps stored, none where they stored none: the meter's
     /// next slot begins with it.
+    #[tactic(auto, using(crate::proofs::Passages::passing_now, crate::proofs::Passages::passing_known))]
     pub fn known<'a>(&'a self, last: Option<&'a Reading>) -> KnownMeter<'a>
         ensures now { result ≡ known_with self.now (option_copied last.entry) }
         ensures known { (journal : List Entry) → IsAfter journal self.now

@@ -52,6 +52,7 @@ impl PassingMeter {
     ghost use Rattle.meter_slots.specs.World.{fresh_slot};
 
     // A meter to which nothing came yet.
+    #[tactic(auto, unfolding(crate::specs::Journal::readings))]
     fn new(alloc: Global, own: Address, start: MeterStart) -> PassingMeter
         ensures { IsPassing (fresh_slot own start) result }
     {
@@ -116,6 +117,7 @@ fn step_at(meters: &mut Vec<PassingMeter>, place: usize, event: &Event) -> Resul
 }
 
 // Keeps a reading that there may be as the last one of the meter at a place.
+#[tactic(auto, using(crate::proofs::PassingWorlds::kept_set))]
 fn keep_at(meters: &mut Vec<PassingMeter>, place: usize, reading: Option<Reading>)
     requires { place < vec_len meters.old }
     ensures { meters.new.items ≡ kept_at place reading meters.old.items }
@@ -132,6 +134,7 @@ impl PassingWorld {
     ghost use Rattle.meter_slots.specs.World.{fresh_slot, slot_after};
 
     /// A slot for each meter of which this is known, in their order. Their addresses differ.
+    #[tactic(auto, using(crate::proofs::PassingWorlds::fresh_ordered, crate::proofs::Worlds::ordered_fresh))]
     pub fn new(alloc: Global, own: Address, starts: Vec<MeterStart>) -> Result<PassingWorld, Memory>
         requires apart { AreApart (map (λ c. c.address) starts.items) }
         requires few { length starts.items < 2 ^ 32 }
@@ -146,6 +149,7 @@ impl PassingWorld {
 
     /// One step of the slot with this address: its place, what it answers, and the reading that is stored with it, which the caller gives back
     /// by `keep`. Nothing is done where no slot has the address. For want of memory nothing changes.
+    #[tactic(auto, using(crate::proofs::PassingWorlds::strange_served, crate::proofs::PassingWorlds::strange_after))]
     pub fn step(&mut self, address: Address, event: &Event) -> Result<Option<(u32, Served)>, Memory>
         ensures served { IfOk result (λ answer. (slots : List SlotView) (source line : ℕ) → ArePassing slots self.old
             → IsServed slots (step_for source line address event.now) answer) }
@@ -166,6 +170,7 @@ impl PassingWorld {
     }
 
     /// Keeps a reading that there may be as the last one of the meter at a place.
+    #[tactic(auto, using(crate::proofs::PassingWorlds::kept_ordered, crate::proofs::PassingWorlds::kept_past))]
     pub fn keep(&mut self, place: u32, reading: Option<Reading>)
         ensures { self.new ≡ kept_at place reading self.old }
     {

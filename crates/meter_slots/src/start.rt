@@ -158,6 +158,7 @@ impl MeterStart {
 }
 
 /// The addresses of some meters, in their order.
+#[tactic(auto, using(crate::proofs::Starting::mapped_more))]
 pub fn addresses_of(alloc: Global, starts: &[MeterStart]) -> Result<Vec<Address>, Memory>
     ensures { IfOk result (λ addresses. addresses.items ≡ map (λ c. c.address) starts.now) }
 {

@@ -68,6 +68,7 @@ impl World {
     ghost use Rattle.meter_slots.specs.World.{world_of, Lands, has_slot, after_step, AnsweredBy};
 
     /// A slot for each meter of which this is known, in their order. Their addresses differ.
+    #[tactic(auto, using(crate::proofs::Worlds::ordered_fresh, crate::proofs::Worlds::world_fresh))]
     pub fn new(alloc: Global, own: Address, starts: Vec<MeterStart>) -> Result<World, Memory>
         requires apart { AreApart (map (λ c. c.address) starts.items) }
         requires few { length starts.items < 2 ^ 32 }

@@ -1,24 +1,9 @@
-use Rattle.std.proofs.Common.{List, sym, ◌∙◌, ap, subst, map}
+use Rattle.std.proofs.Common.{List, sym, ◌∙◌, ap, subst}
 use Rattle.std.specs.Prelude.{slice_get}
 use Rattle.meter_slots.specs.declared.passing_world.PassingMeter.{PassingMeter}
 use Rattle.meter_slots.specs.PassingWorld.{ArePassing, step_for}
-use Rattle.meter_slots.specs.World.{slot_after}
-use Rattle.meter_slots.proofs.PassingWorlds.{strange_served, strange_after, own_served, own_after, own_ordered, own_others, some_meter}
+use Rattle.meter_slots.proofs.PassingWorlds.{own_served, own_after, own_ordered, own_others, some_meter}
 use Rattle.meter_slots.proofs.passing_world.PassingWorld.step.Goals as goal
-
-pub returns-in-None-clause-served : goal.returns-in-None-clause-served
-returns-in-None-clause-served c slots source line all =
-    let w = c.self.inside in
-    strange_served w.meters.items w.directory (step_for source line c.args.address c.args.event.now) c.self.invariant (sym c.in-None.ensures)
-    slots (subst (ArePassing slots) (sym c.self.view_is) all)
-
-pub returns-in-None-clause-after : goal.returns-in-None-clause-after
-returns-in-None-clause-after c slots source line all =
-    let w = c.self.inside in
-    let s = step_for source line c.args.address c.args.event.now in
-    subst (ArePassing (map (slot_after s) slots)) c.self.view_is
-    (strange_after w.meters.items w.directory s c.self.invariant (sym c.in-None.ensures) slots
-    (subst (ArePassing slots) (sym c.self.view_is) all))
 
 pub invariant_of-self-in-Some : goal.invariant_of-self-in-Some
 invariant_of-self-in-Some c =
