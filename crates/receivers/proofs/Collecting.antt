@@ -32,14 +32,6 @@ use Rattle.receivers.proofs.Sessions.{IsJoinedRoot, parts_of, asked_by, run_part
 -- ---- making the cells
 
 module _ (own : Address) where
-  pub fresh_none : AreFresh own [] [] []
-  fresh_none = record {
-    openings = refl;
-    each_cell = record { as_many = refl; each = λ k c d l. absurd (omega arith) };
-    fresh =
-        λ k d l. absurd (omega arith);
-  }
-
   pub fresh_more : (commissions : List Start) (c : Start) (cells cells' : List (CellShown SlotView))
       (roots roots' : List (Shown SlotView Event Outcome)) (x : CellShown SlotView) (p : Shown SlotView Event Outcome)
       → AreFresh own commissions cells roots → opening_of x.opening ≡ opening own c → IsPassOf x p → IsFirstPass 0 p
