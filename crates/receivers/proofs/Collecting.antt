@@ -2,7 +2,8 @@
 use Rattle.std.proofs.Common.{◌≡◌, ℕ, zero, suc, ◌+◌, ◌<◌, ◌≤◌, List, [], ◌∷◌, ◌++◌, map, take, drop, length, slice_index_or, get_or, refl, sym, ap, ◌∙◌, subst, arith, length-append, append_assoc}
 use Rattle.std.specs.List.{enumerate_from}
 use Rattle.std.proofs.Math.ListN.{get_or-append}
-use Rattle.std.proofs.Math.Seq.{get_or-append_seam}
+use Rattle.std.proofs.Math.Seq.{get_or-append_seam, take-append_seam}
+use Rattle.lists.proofs.Places.{at_seam, head_is, tail_is}
 use Rattle.std.proofs.lemmas.List.{map-append}
 use mathlib.Core.Logic.{dite}
 use native.Mathlib.Decide.{ℕ_discrete}
@@ -30,18 +31,7 @@ use Rattle.receivers.proofs.Sessions.{IsJoinedRoot, parts_of, asked_by, run_part
 
 -- ---- making the cells
 
-seam : {X : Type 0} (xs : List X) (y : X) (k : ℕ) (d : X) → k ≡ length xs → get_or (xs ++ y ∷ []) k d ≡ y
-seam xs y k d e = ap (λ (z : ℕ). get_or (xs ++ y ∷ []) z d) e ∙ get_or-append_seam xs y [] d
-
 module _ (own : Address) where
-  pub fresh_none : AreFresh own [] [] []
-  fresh_none = record {
-    openings = refl;
-    each_cell = record { as_many = refl; each = λ k c d l. absurd (omega arith) };
-    fresh =
-        λ k d l. absurd (omega arith);
-  }
-
   pub fresh_more : (commissions : List Start) (c : Start) (cells cells' : List (CellShown SlotView))
       (roots roots' : List (Shown SlotView Event Outcome)) (x : CellShown SlotView) (p : Shown SlotView Event Outcome)
       → AreFresh own commissions cells roots → opening_of x.opening ≡ opening own c → IsPassOf x p → IsFirstPass 0 p
@@ -56,13 +46,13 @@ module _ (own : Address) where
           as_many = omega arith;
           each = λ k y d l. dite (ℕ_discrete k (length roots))
               (λ e. subst (λ (z : CellShown SlotView × Shown SlotView Event Outcome). IsPassOf z.0 z.1)
-              (λ i. (sym (seam cells x k y (omega arith)) i, sym (seam roots p k d e) i)) of)
+              (λ i. (sym (at_seam cells x k y (omega arith)) i, sym (at_seam roots p k d e) i)) of)
               (λ ne. subst (λ (z : CellShown SlotView × Shown SlotView Event Outcome). IsPassOf z.0 z.1)
               (λ i. (sym (get_or-append cells (x ∷ []) y k (omega arith)) i, sym (get_or-append roots (p ∷ []) d k (omega arith)) i))
               (h.each_cell.each k y d (omega arith)));
         };
         fresh = λ k d l. dite (ℕ_discrete k (length roots))
-            (λ e. subst (IsFirstPass 0) (sym (seam roots p k d e)) new)
+            (λ e. subst (IsFirstPass 0) (sym (at_seam roots p k d e)) new)
             (λ ne. subst (IsFirstPass 0) (sym (get_or-append roots (p ∷ []) d k (omega arith))) (h.fresh k d (omega arith)));
       }))
 
@@ -77,12 +67,6 @@ new_root n p h =
           subst (Each (λ (k : ℕ). (n < k) × (k ≤ n))) (sym h.handed) tt;
     }
 
-pub fresh_roots : {P : Type 0} (own : Address) (commissions : List Start) (cells : List (CellShown SlotView))
-    (roots : List (Shown SlotView Event Outcome)) (strangers : CellShown P) (n : ℕ) (s : Shown P Address Unit)
-    → AreFresh own commissions cells roots → IsPassOf strangers s → IsFirstPass 0 s → AreRoots cells strangers n n roots s
-fresh_roots own commissions cells roots strangers n s h of new =
-    record { each_cell = h.each_cell; strangers_cell = of; each = λ k d l. new_root n _ (h.fresh k d l); stranger = new_root n s new }
-
 -- ---- closing them
 
 pub close_all : {O C R : Type 0} (cells : List (CellShown O)) (roots : List (Shown O C R)) → length roots ≡ length cells
@@ -93,12 +77,6 @@ close_all [] (r ∷ roots) many each = absurd (omega arith)
 close_all (c ∷ cells) [] many each = absurd (omega arith)
 close_all (c ∷ cells) (r ∷ roots) many each =
     (each 0 c r (omega arith), close_all cells roots (omega arith) (λ k x d l. each (suc k) x d (omega arith)))
-
-heads : {A : Type 0} (x y : A) (xs ys : List A) → x ∷ xs ≡ y ∷ ys → x ≡ y
-heads x y xs ys e = cc
-
-tails : {A : Type 0} (x y : A) (xs ys : List A) → x ∷ xs ≡ y ∷ ys → xs ≡ ys
-tails x y xs ys e = cc
 
 module _ (own : Address) (all_addresses : List Address) (ps : List Part) (apart : AreApart all_addresses) (asked : (w : ℕ)
     → map (λ (d : Answered). d.own) (did_from 1 w ps) ≡ own_lines all_addresses (enumerate_from 1 (heard_by w (map heard_in ps)))) where
@@ -119,7 +97,7 @@ module _ (own : Address) (all_addresses : List Address) (ps : List Part) (apart 
   meters_from k front (c ∷ cs) (x ∷ cells) [] books is at openings left joined = absurd left
   meters_from k front (c ∷ cs) (x ∷ cells) (r ∷ roots) [] is at openings left joined = absurd left
   meters_from k front (c ∷ cs) (x ∷ cells) (r ∷ roots) (b ∷ books) is at openings left joined =
-      let opens : opening_of x.opening ≡ opening own c = heads _ _ _ _ openings in
+      let opens : opening_of x.opening ≡ opening own c = head_is _ _ _ _ openings in
       let many = ap length is in let n = length-append front (c.address ∷ map address_of cs) in
       let here : get_or all_addresses k own ≡ c.address = ap (λ (l : List Address). get_or l k own) is
       ∙ (ap (λ (z : ℕ). get_or (front ++ c.address ∷ map address_of cs) z own) (sym at)
@@ -131,7 +109,7 @@ module _ (own : Address) (all_addresses : List Address) (ps : List Part) (apart 
             ∙ root.made_is w) asked,
         meters_from (k + 1) (front ++ c.address ∷ []) cs cells roots books (is
             ∙ sym (append_assoc front (c.address ∷ []) (map address_of cs))) (let m =
-            length-append front (c.address ∷ []) in omega arith) (tails _ _ _ _ openings) left.1
+            length-append front (c.address ∷ []) in omega arith) (tail_is _ _ _ _ openings) left.1
             (λ i y d l. subst (λ (z : ℕ). IsJoinedRoot (slice_index_or cells i y) z ps (slice_index_or roots i d))
             (let e : k + suc i ≡ k + 1 + i = omega arith in e) (joined (suc i) y d (omega arith))),
       )
@@ -155,11 +133,7 @@ module _ (own : Address) (all_addresses : List Address) (ps : List Part) (apart 
 
 -- what `as_mut_slice` gives back
 pub whole : {X : Type 0} (n : ℕ) (xs ys : List X) → length xs ≡ n → length ys ≡ n → take n (xs ++ drop (length xs) ys) ≡ xs
-whole n xs ys e f = ap (λ (m : ℕ). take m (xs ++ drop (length xs) ys)) (sym e) ∙ front xs (drop (length xs) ys)
-  where
-    front : {X : Type 0} (xs zs : List X) → take (length xs) (xs ++ zs) ≡ xs
-    front [] zs = refl
-    front (x ∷ xs) zs = ap (λ l. x ∷ l) (front xs zs)
+whole n xs ys e f = ap (λ (m : ℕ). take m (xs ++ drop (length xs) ys)) (sym e) ∙ take-append_seam xs (drop (length xs) ys)
 
 -- all receivers worked on the cells that were lent, which are these
 pub record HaveRunOn {P : Type 0} (directory : List Address) (cells : List (CellShown SlotView)) (strangers : CellShown P)

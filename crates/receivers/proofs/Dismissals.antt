@@ -63,18 +63,17 @@ module _ {O P : Type 0} where
     };
   }
 
-  pub can_join_last : (cells : List (CellShown O)) (strangers : CellShown P) (left left' : List (Crew O P)) (c : Crew O P)
-      → left ≡ left' ++ c ∷ [] → Each (CanJoin cells strangers) left → Each (CanJoin cells strangers) left' × CanJoin cells strangers c
-  can_join_last cells strangers left left' c e h = each_last (CanJoin cells strangers) left' c (subst (Each (CanJoin cells strangers)) e h)
-
 pub map_last : {W X : Type 0} (f : W → X) (ws ws' : List W) (w : W) → ws ≡ ws' ++ w ∷ [] → map f ws ≡ map f ws' ++ f w ∷ []
 map_last f ws ws' w e = ap (map f) e ∙ map-append f ws' (w ∷ [])
+
+-- the last receiver's passes can be joined, and the others'
+pub can_join_last : {W O P : Type 0} (crew_of : W → Crew O P) (cells : List (CellShown O)) (strangers : CellShown P) (ws ws' : List W) (w : W)
+    → ws ≡ ws' ++ w ∷ [] → Each (CanJoin cells strangers) (map crew_of ws)
+    → Each (CanJoin cells strangers) (map crew_of ws') × CanJoin cells strangers (crew_of w)
+can_join_last crew_of cells strangers ws ws' w e h = each_last (CanJoin cells strangers) (map crew_of ws') (crew_of w)
+    (subst (Each (CanJoin cells strangers)) (map_last crew_of ws ws' w e) h)
 
 pub back_more : {W X : Type 0} (f : W → X) (ws ws' : List W) (w : W) (old new all : List X) → ws ≡ ws' ++ w ∷ [] → new ≡ f w ∷ old
     → map f ws ++ old ≡ all → map f ws' ++ new ≡ all
 back_more f ws ws' w old new all e new_is h = ap (λ l. map f ws' ++ l) new_is
     ∙ (sym (append_assoc (map f ws') (f w ∷ []) old) ∙ (ap (λ l. l ++ old) (sym (map_last f ws ws' w e)) ∙ h))
-
-pub nothing_left : {X : Type 0} (xs : List X) → length xs ≡ 0 → xs ≡ []
-nothing_left [] e = refl
-nothing_left (x ∷ xs) e = absurd (omega arith)

@@ -53,15 +53,6 @@ module _ {O P : Type 0} (cells : List (CellShown O)) (strangers : CellShown P) (
     stranger = still_root least source most s s' next inside r.stranger handed;
   }
 
-  pub is_crew : ArePassesOf cells passes → IsPassOf strangers t → IsSplitOff source s t → IsCrew cells strangers source (crew passes t)
-  is_crew of sof split =
-      record {
-        crew_of = record { passes = of; stranger_pass = sof };
-        fresh = λ k d l. fresh_pass source _ _ (h.given k d l);
-        stranger =
-            fresh_pass source s t split;
-      }
-
 -- one more receiver is taken from the end, and its passes stand before the others'
 module _ {W X O P : Type 0} (cells : List (CellShown O)) (strangers : CellShown P) (crew_of : W → Crew O P) (receiver_of : W
     → X) (w : W) (old new : List W) (new_is : new ≡ w ∷ old) where

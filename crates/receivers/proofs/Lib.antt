@@ -6,12 +6,15 @@ pub mod HeardRuns
 pub mod Hirings
 pub mod Joinings
 pub mod Lone
+pub mod MacSessions
 pub mod Makings
 pub mod Numbers
 pub mod OneSession
 pub mod Onward
 pub mod OrderLaws
+pub mod Picked
 pub mod Runs
+pub mod SaidBytes
 pub mod SessionCuts
 pub mod SessionLines
 pub mod SessionParts
@@ -19,5 +22,3 @@ pub mod Sessions
 pub mod Stacks
 pub mod Tellings
 pub mod Working
-pub mod MacSessions
-pub mod SaidBytes

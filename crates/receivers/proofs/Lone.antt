@@ -2,7 +2,8 @@
 use Rattle.std.proofs.Common.{◌≡◌, ◌≢◌, ◌↔◌, ◌==◌, ◌||◌, ℕ, ◌+◌, List, [], ◌∷◌, ◌++◌, map, length, not, nat_lt, Bool, true, false, cond, Some, None, Result, Err, refl, sym, ap, ◌∙◌, arith}
 use Rattle.std.specs.Prelude.{position}
 use Rattle.std.specs.List.{filter_map, list_any, position_or_len, enumerate_from}
-use Rattle.std.proofs.lemmas.Bool.Decides.{nat_tests}
+use Rattle.std.proofs.lemmas.Bool.{true_from_ne_false}
+use Rattle.lists.proofs.Places.{any_there}
 use Rattle.std.proofs.lemmas.List.Elements.{filter_map-append}
 use Rattle.outer_io.specs.declared.failures.Failed.{Failed}
 use Rattle.meter_address.specs.declared.address.Address.{Address}
@@ -44,18 +45,6 @@ addresses_step s (b ∷ slots) = (λ i. at (is_own s b) i ∷ addresses_step s s
 
 -- ---- classes
 
-any_there : {X : Type 0} (p : X → Bool) (xs : List X) → nat_lt (position_or_len p xs) (length xs) ≡ list_any p xs
-any_there p [] = refl
-any_there {X} p (x ∷ xs) = at (p x) refl (any_there p xs)
-  where
-    at : (b : Bool) → p x ≡ b → nat_lt (position_or_len p xs) (length xs) ≡ list_any p xs
-        → nat_lt (position_or_len p (x ∷ xs)) (length (x ∷ xs)) ≡ list_any p (x ∷ xs)
-    at true is h = ap (λ t. nat_lt (cond (not t) (1 + position_or_len p xs) 0) (length (x ∷ xs))) is
-        ∙ ((let l : nat_lt 0 (length (x ∷ xs)) ≡ true = grind (arith, nat_tests) in l) ∙ ap (λ t. t || list_any p xs) (sym is))
-    at false is h = ap (λ t. nat_lt (cond (not t) (1 + position_or_len p xs) 0) (length (x ∷ xs))) is
-        ∙ ((let l : nat_lt (1 + position_or_len p xs) (length (x ∷ xs)) ≡ nat_lt (position_or_len p xs) (length xs) =
-        grind (arith, nat_tests) in l) ∙ (h ∙ ap (λ t. t || list_any p xs) (sym is)))
-
 class_any : (p : Address → Bool) (xs : List Address) → class_at (position p xs) ≡ cond (list_any p xs) classes.Own classes.Strange
 class_any p xs = by_test (nat_lt (position_or_len p xs) (length xs)) (position_or_len p xs)
     ∙ ap (λ b. cond b classes.Own classes.Strange) (any_there p xs)
@@ -75,17 +64,13 @@ pub step_class : (world : WorldView) (s : Step)
 step_class world s = class_any (λ (a : Address). a.0 == s.address.0) (addresses_in world)
     ∙ ap (λ b. cond b classes.Own classes.Strange) (any_map s.address.0 world.slots)
 
-not_false : (b : Bool) → (b ≡ false → ⊥) → b ≡ true
-not_false true h = refl
-not_false false h = absurd (h refl)
-
 -- the class of a line that landed in a slot, and that of one that didn't
 pub slot_class : (world : WorldView) (s : Step) (landed : Landed) (place : _) (outcome : _) → landed ≡ Slot place outcome
     → (landed ≡ Stranger) ↔ (has_slot world.slots s ≡ false)
     → classes.Own ≡ class_by (addresses_in world) (told.Event s.address s.event)
 slot_class world s landed place outcome is which =
     sym (step_class world s ∙ ap (λ b. cond b classes.Own classes.Strange)
-    (not_false (has_slot world.slots s) (λ none. absurd (let e = which.1 none in cc))))
+    (true_from_ne_false (has_slot world.slots s) (λ none. absurd (let e = which.1 none in cc))))
 
 pub stranger_class : (world : WorldView) (s : Step) (landed : Landed) → landed ≡ Stranger
     → (landed ≡ Stranger) ↔ (has_slot world.slots s ≡ false)

@@ -3,6 +3,7 @@ use Rattle.std.proofs.Common.{◌≡◌, ℕ, zero, suc, ◌+◌, ◌-◌, ◌^�
 use Rattle.std.specs.Prelude.{count_by}
 use Rattle.std.specs.List.{enumerate_from}
 use Rattle.std.proofs.lemmas.List.{map-append, length-map, length-take}
+use Rattle.std.proofs.Math.Seq.{take-append_seam}
 use Rattle.std.proofs.lemmas.List.Sums.{count_by-le-length, fold-append}
 use Rattle.line_reader.specs.Lines.{all_lines}
 use Rattle.outer_io.specs.Faults.{Rose}
@@ -38,11 +39,7 @@ take_less n xs = ap (λ (m : ℕ). take n (take m xs)) (add-one n) ∙ less n xs
     less (suc n) (x ∷ xs) = ap (λ l. x ∷ l) (less n xs)
 
 pub take_front : {X : Type 0} (xs ys : List X) (n : ℕ) → n ≡ length xs → take n (xs ++ ys) ≡ xs
-take_front xs ys n e = ap (λ (m : ℕ). take m (xs ++ ys)) e ∙ front xs ys
-  where
-    front : {X : Type 0} (xs ys : List X) → take (length xs) (xs ++ ys) ≡ xs
-    front [] ys = refl
-    front (x ∷ xs) ys = ap (λ l. x ∷ l) (front xs ys)
+take_front xs ys n e = ap (λ (m : ℕ). take m (xs ++ ys)) e ∙ take-append_seam xs ys
 
 take_taken : {X : Type 0} (n : ℕ) (xs : List X) → take n xs ≡ take (length (take n xs)) xs
 take_taken zero xs = refl
@@ -73,12 +70,6 @@ pub lines_counted : (directory : List Address) (heard : List Told) (n : Counts) 
 unfolding counts_of
 lines_counted directory heard n h = ap (λ (m : Counts). m.lines) h
 
-abbrev made_counts : ℕ → ℕ → ℕ → ℕ → ℕ → Counts
-made_counts l o s u b = record { lines = l; own = o; strangers = s; unframed = u; bad = b }
-
-made : (l l' o o' s s' u u' b b' : ℕ) → l ≡ l' → o ≡ o' → s ≡ s' → u ≡ u' → b ≡ b' → made_counts l o s u b ≡ made_counts l' o' s' u' b'
-made l l' o o' s s' u u' b b' p q r t v = λ i. made_counts (p i) (q i) (r i) (t i) (v i)
-
 class_more : (is : Class → Bool) (directory : List Address) (heard : List Told) (t : Told) (n : ℕ) → n ≡ count_of is directory heard
     → one_if (is (class_by directory t)) n ≡ count_of is directory (heard ++ t ∷ [])
 class_more is directory heard t n h = ap (one_if (is (class_by directory t))) h
@@ -87,12 +78,13 @@ class_more is directory heard t n h = ap (one_if (is (class_by directory t))) h
 pub counted : (directory : List Address) (heard : List Told) (t : Told) (n : Counts) → n ≡ counts_of directory heard
     → with_class n (class_by directory t) ≡ counts_of directory (heard ++ t ∷ [])
 unfolding counts_of
-counted directory heard t n h = made _ _ _ _ _ _ _ _ _ _
-    (ap (λ (m : Counts). m.lines + 1) h ∙ sym (length-append heard (t ∷ [])))
-    (class_more is_own directory heard t n.own (ap (λ (m : Counts). m.own) h))
-    (class_more is_strange directory heard t n.strangers (ap (λ (m : Counts). m.strangers) h))
-    (class_more is_unframed directory heard t n.unframed (ap (λ (m : Counts). m.unframed) h))
-    (class_more is_bad directory heard t n.bad (ap (λ (m : Counts). m.bad) h))
+counted directory heard t n h = λ i. record {
+  lines = (ap (λ (m : Counts). m.lines + 1) h ∙ sym (length-append heard (t ∷ []))) i;
+  own = class_more is_own directory heard t n.own (ap (λ (m : Counts). m.own) h) i;
+  strangers = class_more is_strange directory heard t n.strangers (ap (λ (m : Counts). m.strangers) h) i;
+  unframed = class_more is_unframed directory heard t n.unframed (ap (λ (m : Counts). m.unframed) h) i;
+  bad = class_more is_bad directory heard t n.bad (ap (λ (m : Counts). m.bad) h) i;
+}
 
 pub counted_none : (directory : List Address) → no_counts ≡ counts_of directory []
 unfolding counts_of

@@ -2,7 +2,10 @@
 use Rattle.std.proofs.Common.{◌≡◌, ◌==◌, ℕ, List, [], ◌∷◌, ◌++◌, map, filter, reverse, not, Bool, true, false, cond, Some, None, refl, sym, ap, ◌∙◌, subst, arith, append_assoc, append-nil}
 use Rattle.std.specs.List.{filter_map, cons_option, enumerate_from}
 use Rattle.std.proofs.lemmas.Bool.Decides.{nat_tests}
-use Rattle.std.proofs.lemmas.List.{reverse-append, reverse-reverse, map-append}
+use Rattle.std.proofs.lemmas.List.{reverse-reverse}
+use Rattle.std.proofs.lemmas.Simd.{map-map}
+use Rattle.lists.proofs.Places.{map-reverse}
+use Rattle.receivers.proofs.Picked.{filter-map, picked_if}
 use Rattle.meter_slots.specs.Journal.{Start}
 use Rattle.meter_address.specs.declared.address.Address.{Address}
 use Rattle.meter_slots.specs.declared.entry.Entry.{Entry}
@@ -31,12 +34,6 @@ world_after own cs before (s ∷ steps) =
 
 -- ---- the calls of a journal
 
-map-reverse : {X Y : Type 0} (f : X → Y) (xs : List X) → map f (reverse xs) ≡ reverse (map f xs)
-map-reverse f [] = refl
-map-reverse f (x ∷ xs) =
-    ap (map f) (reverse-append (x ∷ []) xs)
-    ∙ (map-append f (reverse xs) (x ∷ []) ∙ (ap (λ ys. ys ++ f x ∷ []) (map-reverse f xs) ∙ sym (reverse-append (f x ∷ []) (map f xs))))
-
 judged_calls : (c : Start) (own : Address) (calls : List Call) → map call_in (judged_journal c own calls) ≡ calls
 judged_calls c own [] = refl
 judged_calls c own (s ∷ calls) = ap (λ l. s ∷ l) (judged_calls c own calls)
@@ -50,18 +47,15 @@ pair_of k = (k.line, k.event)
 
 pub steps_of_calls : (w : ℕ) (journal : List Entry)
     → steps_by w journal ≡ map pair_of (filter (λ (k : Call). k.source == w) (map call_in journal))
-steps_of_calls w [] = refl
-steps_of_calls w (x ∷ xs) = at (x.source == w) (steps_of_calls w xs)
-  where
-    at : (b : Bool) → steps_by w xs ≡ map pair_of (filter (λ (k : Call). k.source == w) (map call_in xs))
-        → map (λ (e : Entry). (e.line, e.event))
-        (cond b (x ∷ filter (λ (e : Entry). e.source == w) xs) (filter (λ (e : Entry). e.source == w) xs))
-        ≡ map pair_of (cond b (call_in x ∷ filter (λ (k : Call). k.source == w) (map call_in xs))
-        (filter (λ (k : Call). k.source == w) (map call_in xs)))
-    at true h = ap (λ l. (x.line, x.event) ∷ l) h
-    at false h = h
+steps_of_calls w journal =
+    sym (ap (map pair_of) (filter-map (λ (k : Call). k.source == w) call_in journal)
+    ∙ map-map pair_of call_in (filter (λ (x : Entry). x.source == w) journal))
 
 -- ---- a meter's own lines
+
+either_way : {X : Type 0} (b : Bool) (x : X) → cond b x x ≡ x
+either_way true x = refl
+either_way false x = refl
 
 eqb_swap : (a b : ℕ) → (a == b) ≡ (b == a)
 eqb_swap a b = grind (arith, nat_tests)
@@ -69,69 +63,51 @@ eqb_swap a b = grind (arith, nat_tests)
 abbrev calls_by : ℕ → List Step → List (ℕ × Event)
 calls_by w steps = map pair_of (filter (λ (k : Call). k.source == w) (map call_of steps))
 
-own_step : (w source line : ℕ) (address : Address) (event : Event) (mine by : Bool) (rest : List Step) (lines : List (ℕ × Event))
-    → (source == w) ≡ by → calls_by w rest ≡ cond by lines []
-    → calls_by w (cond mine (record { source = source; line = line; address = address; event = event } ∷ rest) rest) ≡ cond by
-    (cons_option (cond mine (Some (line, event)) None) lines) []
-own_step w source line address event true true rest lines e h =
-    ap (λ b. map pair_of
-    (cond b (record { source = source; line = line; event = event } ∷ filter (λ (k : Call). k.source == w) (map call_of rest))
-    (filter (λ (k : Call). k.source == w) (map call_of rest)))) e
-    ∙ ap (λ l. (line, event) ∷ l) h
-own_step w source line address event true false rest lines e h =
-    ap (λ b. map pair_of
-    (cond b (record { source = source; line = line; event = event } ∷ filter (λ (k : Call). k.source == w) (map call_of rest))
-    (filter (λ (k : Call). k.source == w) (map call_of rest)))) e
-    ∙ h
-own_step w source line address event false true rest lines e h = h
-own_step w source line address event false false rest lines e h = h
+own_step : (w source line : ℕ) (address : Address) (event : Event) (mine : Bool) (rest : List Step) (lines : List (ℕ × Event))
+    → calls_by w rest ≡ cond (source == w) lines []
+    → calls_by w (cond mine (record { source = source; line = line; address = address; event = event } ∷ rest) rest)
+    ≡ cond (source == w) (cons_option (cond mine (Some (line, event)) None) lines) []
+own_step w source line address event true rest lines h =
+    picked_if pair_of (source == w) (record { source = source; line = line; event = event })
+    (filter (λ (k : Call). k.source == w) (map call_of rest)) lines h
+own_step w source line address event false rest lines h = h
 
-own_lines : (a : Address) (w source : ℕ) (by : Bool) (ls : List (ℕ × Told)) → (source == w) ≡ by
-    → calls_by w (filter (is_for a) (steps_among source ls)) ≡ cond by (filter_map (λ l. event_at a l.0 l.1) ls) []
+own_lines : (a : Address) (w source : ℕ) (ls : List (ℕ × Told))
+    → calls_by w (filter (is_for a) (steps_among source ls)) ≡ cond (source == w) (filter_map (λ l. event_at a l.0 l.1) ls) []
 unfolding steps_among
-own_lines a w source true [] e = refl
-own_lines a w source false [] e = refl
-own_lines a w source by ((line, told.Event address event) ∷ ls) e =
-    own_step w source line address event (address.0 == a.0) by (filter (is_for a) (steps_among source ls))
-    (filter_map (λ l. event_at a l.0 l.1) ls) e (own_lines a w source by ls e)
-    ∙ ap (λ b. cond by (cons_option (cond b (Some (line, event)) None) (filter_map (λ l. event_at a l.0 l.1) ls)) [])
+own_lines a w source [] = sym (either_way (source == w) [])
+own_lines a w source ((line, told.Event address event) ∷ ls) =
+    own_step w source line address event (address.0 == a.0) (filter (is_for a) (steps_among source ls))
+    (filter_map (λ l. event_at a l.0 l.1) ls) (own_lines a w source ls)
+    ∙ ap (λ b. cond (source == w) (cons_option (cond b (Some (line, event)) None) (filter_map (λ l. event_at a l.0 l.1) ls)) [])
     (eqb_swap address.0 a.0)
-own_lines a w source by ((line, told.Unframed) ∷ ls) e = own_lines a w source by ls e
-own_lines a w source by ((line, told.Bad) ∷ ls) e = own_lines a w source by ls e
+own_lines a w source ((line, told.Unframed) ∷ ls) = own_lines a w source ls
+own_lines a w source ((line, told.Bad) ∷ ls) = own_lines a w source ls
 
 -- ---- the strangers' lines
 
 abbrev note_of : Heard → ℕ × Address
 note_of h = (h.line, h.address)
 
-strange_step : (w source line : ℕ) (address : Address) (event : Event) (mine by : Bool) (rest : List Step) (lines : List (ℕ × Address))
-    → (source == w) ≡ by → notes_by w (map heard_of rest) ≡ cond by lines []
+strange_step : (w source line : ℕ) (address : Address) (event : Event) (mine : Bool) (rest : List Step) (lines : List (ℕ × Address))
+    → notes_by w (map heard_of rest) ≡ cond (source == w) lines []
     → notes_by w (map heard_of (cond (not mine) (record { source = source; line = line; address = address; event = event } ∷ rest) rest))
-    ≡ cond by (cons_option (cond mine None (Some (line, address))) lines) []
-strange_step w source line address event false true rest lines e h =
-    ap (λ b. map note_of
-    (cond b (record { source = source; line = line; address = address } ∷ filter (λ (h : Heard). h.source == w) (map heard_of rest))
-    (filter (λ (h : Heard). h.source == w) (map heard_of rest)))) e
-    ∙ ap (λ l. (line, address) ∷ l) h
-strange_step w source line address event false false rest lines e h =
-    ap (λ b. map note_of
-    (cond b (record { source = source; line = line; address = address } ∷ filter (λ (h : Heard). h.source == w) (map heard_of rest))
-    (filter (λ (h : Heard). h.source == w) (map heard_of rest)))) e
-    ∙ h
-strange_step w source line address event true true rest lines e h = h
-strange_step w source line address event true false rest lines e h = h
+    ≡ cond (source == w) (cons_option (cond mine None (Some (line, address))) lines) []
+strange_step w source line address event true rest lines h = h
+strange_step w source line address event false rest lines h =
+    picked_if note_of (source == w) (record { source = source; line = line; address = address })
+    (filter (λ (h : Heard). h.source == w) (map heard_of rest)) lines h
 
-strange_lines : (cs : List Start) (w source : ℕ) (by : Bool) (ls : List (ℕ × Told)) → (source == w) ≡ by
-    → notes_by w (strangers_of cs (steps_among source ls)) ≡ cond by (filter_map (λ l. stranger_at cs l.0 l.1) ls) []
+strange_lines : (cs : List Start) (w source : ℕ) (ls : List (ℕ × Told))
+    → notes_by w (strangers_of cs (steps_among source ls)) ≡ cond (source == w) (filter_map (λ l. stranger_at cs l.0 l.1) ls) []
 unfolding steps_among
-strange_lines cs w source true [] e = refl
-strange_lines cs w source false [] e = refl
-strange_lines cs w source by ((line, told.Event address event) ∷ ls) e =
-    strange_step w source line address event (is_commissioned cs address) by
-    (filter (λ s. not (is_commissioned cs s.address)) (steps_among source ls)) (filter_map (λ l. stranger_at cs l.0 l.1) ls) e
-    (strange_lines cs w source by ls e)
-strange_lines cs w source by ((line, told.Unframed) ∷ ls) e = strange_lines cs w source by ls e
-strange_lines cs w source by ((line, told.Bad) ∷ ls) e = strange_lines cs w source by ls e
+strange_lines cs w source [] = sym (either_way (source == w) [])
+strange_lines cs w source ((line, told.Event address event) ∷ ls) =
+    strange_step w source line address event (is_commissioned cs address)
+    (filter (λ s. not (is_commissioned cs s.address)) (steps_among source ls)) (filter_map (λ l. stranger_at cs l.0 l.1) ls)
+    (strange_lines cs w source ls)
+strange_lines cs w source ((line, told.Unframed) ∷ ls) = strange_lines cs w source ls
+strange_lines cs w source ((line, told.Bad) ∷ ls) = strange_lines cs w source ls
 
 -- ---- the session
 
@@ -151,7 +127,7 @@ slot_alone own c heard = record {
   lines = λ w.
       steps_of_calls w (journal_of c own (calls_of c.address (steps_of 1 heard)))
       ∙ (ap (λ ks. map pair_of (filter (λ (k : Call). k.source == w) ks)) (journal_calls c own (calls_of c.address (steps_of 1 heard)))
-      ∙ (own_lines c.address w 1 (1 == w) (enumerate_from 1 heard) refl ∙ only_one (lines_for c.address) w heard refl));
+      ∙ (own_lines c.address w 1 (enumerate_from 1 heard) ∙ only_one (lines_for c.address) w heard refl));
 }
 
 slots_alone : (own : Address) (cs : List Start) (heard : List Told)
@@ -164,16 +140,12 @@ pub session_alone : (own : Address) (cs : List Start) (heard : List Told)
 unfolding world_of
 session_alone own cs heard = record {
   meters = slots_alone own cs heard;
-  strangers = λ w. strange_lines cs w 1 (1 == w) (enumerate_from 1 heard) refl ∙ only_one (lines_of_strangers cs) w heard refl;
+  strangers = λ w. strange_lines cs w 1 (enumerate_from 1 heard) ∙ only_one (lines_of_strangers cs) w heard refl;
 }
 
 addresses_alone : (own : Address) (cs : List Start) → addresses_in (world_of own cs []) ≡ map (λ c. c.address) cs
 unfolding world_of
-addresses_alone own cs = at cs
-  where
-    at : (cs : List Start) → map address_of_slot (map (slot_of own []) cs) ≡ map (λ (c : Start). c.address) cs
-    at [] = refl
-    at (c ∷ cs) = ap (λ l. c.address ∷ l) (at cs)
+addresses_alone own cs = map-map address_of_slot (slot_of own []) cs
 
 -- what one receiver heard alone for the meters of some commissions
 pub record IsHeardAlone (own : Address) (cs : List Start) (h : Hearing) (world' : WorldView) (heard : List Told) : Type 0 where

@@ -2,10 +2,11 @@
 use Rattle.std.proofs.Common.{◌≡◌, ℕ, ◌+◌, ◌==◌, ◌||◌, Bool, true, false, cond, List, [], ◌∷◌, ◌++◌, length, map, filter, Option, Some, None, refl, ap, sym, ◌∙◌, arith, subst}
 use Rattle.std.specs.Prelude.{option_map}
 use Rattle.std.specs.List.{filter_map, enumerate_from, cons_option}
-use Rattle.std.proofs.lemmas.Bool.Decides.{nat_tests}
 use Rattle.std.proofs.lemmas.List.{map-append}
 use Rattle.std.proofs.lemmas.List.Elements.{filter-append, filter_map-append}
 use Rattle.lists.specs.Each.{EachWith}
+use Rattle.lists.proofs.Members.{with_fold}
+use Rattle.receivers.proofs.Picked.{cons_map, made_by_source}
 use Rattle.meter_address.specs.declared.address.Address.{Address}
 use Rattle.meter_slots.specs.declared.entry.Entry.{Entry}
 use Rattle.meter_slots.specs.declared.entry.Event.{Event}
@@ -33,10 +34,6 @@ enumerate_on {X} m (x ∷ xs) ys =
 abbrev later_by : {E : Type 0} → ℕ → ℕ × E → ℕ × E
 later_by n p = (n + p.0, p.1)
 
-cons_map : {X Y : Type 0} (f : X → Y) (o : Option X) (xs : List X) → cons_option (option_map f o) (map f xs) ≡ map f (cons_option o xs)
-cons_map f None xs = refl
-cons_map f (Some x) xs = refl
-
 module _ {E : Type 0} (f : ℕ → Told → Option (ℕ × E)) (n : ℕ) (natural : (m : ℕ) (t : Told) → f (n + m) t ≡ option_map (later_by n) (f m t)) where
   later_lines : (m : ℕ) (h : List Told)
       → filter_map (λ l. f l.0 l.1) (enumerate_from (n + m) h) ≡ map (later_by n) (filter_map (λ l. f l.0 l.1) (enumerate_from m h))
@@ -46,7 +43,7 @@ module _ {E : Type 0} (f : ℕ → Told → Option (ℕ × E)) (n : ℕ) (natura
       ap (λ k. cons_option (f (n + m) t) (filter_map (λ l. f l.0 l.1) (enumerate_from k h))) e
       ∙ ap (cons_option (f (n + m) t)) (later_lines (m + 1) h)
       ∙ ap (λ o. cons_option o (map (later_by n) (filter_map (λ l. f l.0 l.1) (enumerate_from (m + 1) h)))) (natural m t)
-      ∙ cons_map (later_by n) (f m t) (filter_map (λ l. f l.0 l.1) (enumerate_from (m + 1) h))
+      ∙ sym (cons_map (later_by n) (f m t) (filter_map (λ l. f l.0 l.1) (enumerate_from (m + 1) h)))
 
 -- the lines of a receiver that heard some and then others
 lines_on : {E : Type 0} (f : ℕ → Told → Option (ℕ × E)) (before after : List Told)
@@ -83,45 +80,17 @@ stranger_later cs n m told.Bad = refl
 
 -- ---- a receiver's part of a journal, and of the strangers' lines
 
-is_number : (a w : ℕ) → (a == w) ≡ true → a ≡ w
-is_number a w h = grind (arith, nat_tests)
-
 module _ (before : List (List Told)) (w : ℕ) where
   abbrev n : ℕ
   n = length (heard_by w before)
 
-  abbrev step : Entry → ℕ × Event
-  step x = (x.line, x.event)
-
-  step_on : (x : Entry) (xs ys : List Entry) (b : Bool) → (x.source == w) ≡ b → map step ys ≡ map (later_by n) (map step xs)
-      → map step (cond b (numbered_on before x ∷ ys) ys) ≡ map (later_by n) (map step (cond b (x ∷ xs) xs))
-  step_on x xs ys true h e =
-      let same : (length (heard_by x.source before) + x.line, x.event) ≡ later_by n (step x) =
-      ap (λ v. (length (heard_by v before) + x.line, x.event)) (is_number x.source w h) in
-      ap (λ (p : ℕ × Event). p ∷ map step ys) same ∙ ap (λ (ps : List (ℕ × Event)). later_by n (step x) ∷ ps) e
-  step_on x xs ys false h e = e
-
   steps_on : (journal : List Entry) → steps_by w (map (numbered_on before) journal) ≡ map (later_by n) (steps_by w journal)
-  steps_on [] = refl
-  steps_on (x ∷ journal) =
-      step_on x (entries_by w journal) (entries_by w (map (numbered_on before) journal)) (x.source == w) refl (steps_on journal)
-
-  abbrev note : Heard → ℕ × Address
-  note h = (h.line, h.address)
-
-  note_on : (x : Heard) (xs ys : List Heard) (b : Bool) → (x.source == w) ≡ b → map note ys ≡ map (later_by n) (map note xs)
-      → map note (cond b (noted_on before x ∷ ys) ys) ≡ map (later_by n) (map note (cond b (x ∷ xs) xs))
-  note_on x xs ys true h e =
-      let same : (length (heard_by x.source before) + x.line, x.address) ≡ later_by n (note x) =
-      ap (λ v. (length (heard_by v before) + x.line, x.address)) (is_number x.source w h) in
-      ap (λ (p : ℕ × Address). p ∷ map note ys) same ∙ ap (λ (ps : List (ℕ × Address)). later_by n (note x) ∷ ps) e
-  note_on x xs ys false h e = e
+  steps_on journal = made_by_source (λ (x : Entry). x.source) (λ (x : Entry). (x.line, x.event)) (numbered_on before)
+      (λ v. later_by (length (heard_by v before))) (λ x. refl) (λ x. refl) w journal
 
   notes_on : (heard : List Heard) → notes_by w (map (noted_on before) heard) ≡ map (later_by n) (notes_by w heard)
-  notes_on [] = refl
-  notes_on (x ∷ heard) =
-      note_on x (filter (λ h. h.source == w) heard) (filter (λ h. h.source == w) (map (noted_on before) heard)) (x.source == w) refl
-      (notes_on heard)
+  notes_on heard = made_by_source (λ (h : Heard). h.source) (λ (h : Heard). (h.line, h.address)) (noted_on before)
+      (λ v. later_by (length (heard_by v before))) (λ h. refl) (λ h. refl) w heard
 
 -- ---- one meter
 
@@ -162,12 +131,10 @@ module _ (own : Address) (before after all : List (List Told)) (on : AreHeardOn 
   -- the same addresses are commissioned
   any_behind : (address : Address) (cs : List Start) (bs : List SlotView) → EachWith (IsMetersSlot own before) cs bs
       → is_commissioned (starts_behind bs) address ≡ is_commissioned cs address
-  any_behind address [] [] first = refl
-  any_behind address [] (b ∷ bs) first = absurd first
-  any_behind address (c ∷ cs) [] first = absurd first
-  any_behind address (c ∷ cs) (b ∷ bs) first =
-      ap (λ (s : Start). (s.address.0 == address.0) || is_commissioned (starts_behind bs) address) first.0.commission_is
-      ∙ ap (λ t. (c.address.0 == address.0) || t) (any_behind address cs bs first.1)
+  any_behind address = with_fold (IsMetersSlot own before) (λ cs bs. is_commissioned (starts_behind bs) address ≡ is_commissioned cs address)
+      refl (λ c b cs bs first _ rest.
+      ap (λ (s : Start). (s.address.0 == address.0) || is_commissioned (starts_behind bs) address) first.commission_is
+      ∙ ap (λ t. (c.address.0 == address.0) || t) rest)
 
   stranger_behind : (cs : List Start) (bs : List SlotView) → EachWith (IsMetersSlot own before) cs bs → (line : ℕ) (t : Told)
       → stranger_at (starts_behind bs) line t ≡ stranger_at cs line t

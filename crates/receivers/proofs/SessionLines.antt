@@ -1,14 +1,17 @@
 -- A receiver's lines at one place, and its part of a journal.
-use Rattle.std.proofs.Common.{◌≡◌, ℕ, zero, suc, ◌+◌, ◌<◌, ◌≤◌, ◌==◌, ◌||◌, not, nat_lt, List, [], ◌∷◌, Bool, true, false, cond, if◌then◌else◌, map, filter, length, get_or, Option, Some, None, refl, ap, sym, subst, ◌∙◌, arith, eq-eqb, ne_eqb}
+use Rattle.std.proofs.Common.{◌≡◌, ℕ, zero, suc, ◌+◌, ◌<◌, ◌≤◌, ◌==◌, ◌||◌, not, nat_lt, List, [], ◌∷◌, Bool, true, false, cond, if◌then◌else◌, map, filter, length, get_or, Option, Some, None, refl, ap, sym, subst, ◌∙◌, arith, eq-eqb, ⊎_elim}
 use Rattle.std.specs.Prelude.{option_map, position}
 use Rattle.std.specs.List.{filter_map, cons_option, list_any, enumerate_from, position_or_len}
-use Rattle.std.proofs.lemmas.Bool.Decides.{nat_tests}
+use Rattle.std.proofs.lemmas.Bool.{both_ways, false_from_ne_true, eqb-true, cases_order}
+use Rattle.std.proofs.lemmas.List.Folds.{list_any_at}
 use Rattle.std.proofs.lemmas.List.Quantifiers.{position-Some}
-use mathlib.Core.Logic.{dite}
-use native.Mathlib.Decide.{ℕ_discrete}
+use Rattle.std.proofs.lemmas.Simd.{map-map}
+use Rattle.lists.proofs.Choices.{none_if}
+use Rattle.lists.proofs.Places.{any_there}
 use Rattle.meter_address.specs.declared.address.Address.{Address}
 use Rattle.meter_slots.specs.declared.entry.Entry.{Entry}
 use Rattle.meter_slots.specs.declared.entry.Event.{Event}
+use Rattle.meter_slots.specs.declared.entry.Outcome.{Outcome}
 use Rattle.meter_slots.specs.Directory.{AreApart}
 use Rattle.meter_slots.specs.Journal.{Start, SlotView, Legal}
 use Rattle.stranger_ring.specs.declared.strangers.Heard.{Heard}
@@ -17,6 +20,7 @@ use Rattle.book_cells.specs.Acts.{acts_by}
 use Rattle.meter_slots.specs.Acting.{Opening, opening_of, act_of, entry_of, IsLegalJournal}
 use Rattle.stranger_ring.specs.Ring.{note_of}
 use Rattle.meter_slots.proofs.Entries.{entries_back}
+use Rattle.receivers.proofs.Picked.{filter-map, cons_map}
 use Rattle.receivers.specs.declared.told.Told.{Told}
 use Rattle.receivers.specs.declared.told.Told.TheVariants as told
 use Rattle.receivers.specs.Classes.{OwnLine, StrangeLine, place_of, own_at, own_by, own_of, own_lines, strange_at, strange_by, strange_of, strange_lines}
@@ -26,26 +30,8 @@ use Rattle.receivers.specs.Session.{heard_by, event_at, lines_for, stranger_at, 
 
 -- ---- places
 
-any_there : {X : Type 0} (p : X → Bool) (xs : List X) → nat_lt (position_or_len p xs) (length xs) ≡ list_any p xs
-any_there p [] = refl
-any_there {X} p (x ∷ xs) = at (p x) refl (any_there p xs)
-  where
-    at : (b : Bool) → p x ≡ b → nat_lt (position_or_len p xs) (length xs) ≡ list_any p xs
-        → nat_lt (position_or_len p (x ∷ xs)) (length (x ∷ xs)) ≡ list_any p (x ∷ xs)
-    at true is h = ap (λ t. nat_lt (cond (not t) (1 + position_or_len p xs) 0) (length (x ∷ xs))) is
-        ∙ ((let l : nat_lt 0 (length (x ∷ xs)) ≡ true = grind (arith, nat_tests) in l) ∙ ap (λ t. t || list_any p xs) (sym is))
-    at false is h = ap (λ t. nat_lt (cond (not t) (1 + position_or_len p xs) 0) (length (x ∷ xs))) is
-        ∙ ((let l : nat_lt (1 + position_or_len p xs) (length (x ∷ xs)) ≡ nat_lt (position_or_len p xs) (length xs) =
-        grind (arith, nat_tests) in l) ∙ (h ∙ ap (λ t. t || list_any p xs) (sym is)))
-
-or_false : (x y : Bool) → (x || y) ≡ false → (x ≡ false) × (y ≡ false)
-or_false true y h = absurd cc
-or_false false y h = (refl, h)
-
 none_at : {X : Type 0} (p : X → Bool) (xs : List X) (i : ℕ) (d : X) → list_any p xs ≡ false → i < length xs → p (get_or xs i d) ≡ false
-none_at p [] i d h within = absurd (omega arith)
-none_at p (x ∷ xs) zero d h within = (or_false _ _ h).0
-none_at p (x ∷ xs) (suc i) d h within = none_at p xs i d (or_false (p x) (list_any p xs) h).1 (omega arith)
+none_at p xs i d h within = false_from_ne_true (p (get_or xs i d)) (λ e. both_ways (list_any p xs) h (list_any_at p xs i d within e))
 
 -- two addresses of a list whose addresses differ
 apart_at : (xs : List Address) (i j : ℕ) (d : Address) → AreApart xs → i < j → j < length xs
@@ -59,44 +45,29 @@ abbrev is_at : ℕ → Option ℕ → Bool
 is_at k None = false
 is_at k (Some j) = j == k
 
-eqb_is : (a b : ℕ) → (a == b) ≡ true → a ≡ b
-eqb_is a b h = grind (arith, nat_tests)
+-- an address stands at one place
+one_place : (xs : List Address) (i j : ℕ) (d : Address) → AreApart xs → i < length xs → j < length xs
+    → (get_or xs i d).0 ≡ (get_or xs j d).0 → i ≡ j
+one_place xs i j d apart inside within same = ⊎_elim (λ e. e)
+    (⊎_elim (λ l. absurd (both_ways _ (apart_at xs i j d apart l within) (eq-eqb _ _ (sym same))))
+    (λ l. absurd (both_ways _ (apart_at xs j i d apart l inside) (eq-eqb _ _ same)))) (cases_order i j)
 
-not_same : (a b n : ℕ) → (a == b) ≡ false → (b == n) ≡ true → (a == n) ≡ false
-not_same a b n h e = grind (arith, nat_tests)
-
-not_same_back : (a b n : ℕ) → (b == a) ≡ false → (b == n) ≡ true → (a == n) ≡ false
-not_same_back a b n h e = grind (arith, nat_tests)
+same_test : (a b : Bool) → (a ≡ true → b ≡ true) → (b ≡ true → a ≡ true) → a ≡ b
+same_test true b there back = sym (there refl)
+same_test false b there back = sym (false_from_ne_true b (λ e. both_ways false refl (back e)))
 
 place_test : (xs : List Address) (k : ℕ) (d : Address) (n : ℕ) → AreApart xs → k < length xs
     → is_at k (position (λ a. a.0 == n) xs) ≡ ((get_or xs k d).0 == n)
 place_test xs k d n apart within = at (position (λ (a : Address). a.0 == n) xs) refl
   where
-    found : (j : ℕ) → ((get_or xs j d).0 == n) ≡ true → j < length xs → (j == k) ≡ ((get_or xs k d).0 == n)
-    found j hit inside = dite (ℕ_discrete j k)
-        (λ e. eq-eqb j k e ∙ sym (ap (λ (i : ℕ). (get_or xs i d).0 == n) (sym e) ∙ hit))
-        (λ ne. ne_eqb j k ne ∙ sym (dite_less j hit inside ne))
-      where
-        dite_less : (j : ℕ) → ((get_or xs j d).0 == n) ≡ true → j < length xs → (j ≡ k → ⊥) → ((get_or xs k d).0 == n) ≡ false
-        dite_less j hit inside ne = by (nat_lt j k) refl
-          where
-            by : (b : Bool) → nat_lt j k ≡ b → ((get_or xs k d).0 == n) ≡ false
-            by true h = let l : j < k =
-                grind (arith, nat_tests) in not_same (get_or xs k d).0 (get_or xs j d).0 n (apart_at xs j k d apart l within) hit
-            by false h = let m : k ≤ j = grind (arith, nat_tests) in
-                let l : k < j = omega arith in not_same_back (get_or xs k d).0 (get_or xs j d).0 n (apart_at xs k j d apart l inside) hit
-
     at : (o : Option ℕ) → position (λ (a : Address). a.0 == n) xs ≡ o
         → is_at k (position (λ (a : Address). a.0 == n) xs) ≡ ((get_or xs k d).0 == n)
-    at None is =
-        ap (is_at k) is
-        ∙ sym (none_at (λ (a : Address). a.0 == n) xs k d (sym (any_there (λ (a : Address). a.0 == n) xs)
-        ∙ none_found (nat_lt (position_or_len (λ (a : Address). a.0 == n) xs) (length xs)) _ is) within)
-      where
-        none_found : (b : Bool) (j : ℕ) → cond b (Some j) None ≡ None → b ≡ false
-        none_found true j h = absurd cc
-        none_found false j h = refl
-    at (Some j) is = let p = position-Some (λ (a : Address). a.0 == n) xs j d is in ap (is_at k) is ∙ found j p.1 p.0
+    at None is = ap (is_at k) is ∙ sym (none_at (λ (a : Address). a.0 == n) xs k d (sym (any_there (λ (a : Address). a.0 == n) xs)
+        ∙ none_if (nat_lt (position_or_len (λ (a : Address). a.0 == n) xs) (length xs)) _ is) within)
+    at (Some j) is = let p = position-Some (λ (a : Address). a.0 == n) xs j d is in
+        ap (is_at k) is ∙ same_test (j == k) ((get_or xs k d).0 == n)
+        (λ e. ap (λ (i : ℕ). (get_or xs i d).0 == n) (sym (eqb-true j k e)) ∙ p.1)
+        (λ e. eq-eqb j k (one_place xs j k d apart p.0 within (eqb-true _ n p.1 ∙ sym (eqb-true _ n e))))
 
 -- ---- lines
 
@@ -154,15 +125,10 @@ pub strange_at_all : (cs : List Start) (ls : List (ℕ × Told))
 unfolding strange_lines
 strange_at_all cs [] = refl
 strange_at_all cs (l ∷ ls) =
-    front (strange_of (map (λ c. c.address) cs) l) (filter_map (strange_of (map (λ c. c.address) cs)) ls)
+    cons_map note_in (strange_of (map (λ c. c.address) cs) l) (filter_map (strange_of (map (λ c. c.address) cs)) ls)
     ∙ ((λ i. cons_option (head l.1 i) (map note_in (filter_map (strange_of (map (λ c. c.address) cs)) ls)))
     ∙ ap (cons_option (stranger_at cs l.0 l.1)) (strange_at_all cs ls))
   where
-    front : (o : Option StrangeLine) (rest : List StrangeLine)
-        → map note_in (cons_option o rest) ≡ cons_option (option_map note_in o) (map note_in rest)
-    front None rest = refl
-    front (Some s) rest = refl
-
     by_test : (address : Address) (b : Bool) (j : ℕ)
         → option_map note_in (strange_at l.0 address (cond b (Some j) None)) ≡ cond b None (Some (l.0, address))
     by_test address true j = refl
@@ -180,56 +146,24 @@ strange_at_all cs (l ∷ ls) =
 
 -- ---- journals
 
-acts_of_entries : (w : ℕ) (journal : List Entry) → acts_by w (map act_of journal) ≡ map act_of (entries_by w journal)
-acts_of_entries w [] = refl
-acts_of_entries w (x ∷ xs) = at (x.source == w) (acts_of_entries w xs)
-  where
-    at : (b : Bool) → acts_by w (map act_of xs) ≡ map act_of (entries_by w xs)
-        → cond b (act_of x ∷ acts_by w (map act_of xs)) (acts_by w (map act_of xs)) ≡ map act_of
-        (cond b (x ∷ entries_by w xs) (entries_by w xs))
-    at true h = ap (λ l. act_of x ∷ l) h
-    at false h = h
-
-entries_of_acts : (w : ℕ) (did : List Answered) → map entry_of (map (act_by w) did) ≡ map (entry_by w) did
-entries_of_acts w [] = refl
-entries_of_acts w (d ∷ did) = ap (λ l. entry_by w d ∷ l) (entries_of_acts w did)
-
-steps_of_entries : (w : ℕ) (did : List Answered)
-    → map (λ (x : Entry). (x.line, x.event)) (map (entry_by w) did) ≡ map step_in (map (λ (d : Answered). d.own) did)
-steps_of_entries w [] = refl
-steps_of_entries w (d ∷ did) = ap (λ l. (d.own.line, d.own.event) ∷ l) (steps_of_entries w did)
-
-own_kept : (k : ℕ) (did : List Answered)
-    → map (λ (d : Answered). d.own) (filter (λ (d : Answered). d.own.place == k) did) ≡ filter (λ (o : OwnLine). o.place == k)
-    (map (λ (d : Answered). d.own) did)
-own_kept k [] = refl
-own_kept k (d ∷ did) = at (d.own.place == k) (own_kept k did)
-  where
-    at : (b : Bool) → map (λ (x : Answered). x.own) (filter (λ (x : Answered). x.own.place == k) did) ≡ filter
-        (λ (o : OwnLine). o.place == k) (map (λ (x : Answered). x.own) did)
-        → map (λ (x : Answered). x.own)
-        (cond b (d ∷ filter (λ (x : Answered). x.own.place == k) did) (filter (λ (x : Answered). x.own.place == k) did))
-        ≡ cond b (d.own ∷ filter (λ (o : OwnLine). o.place == k) (map (λ (x : Answered). x.own) did))
-        (filter (λ (o : OwnLine). o.place == k) (map (λ (x : Answered). x.own) did))
-    at true h = ap (λ l. d.own ∷ l) h
-    at false h = h
-
 -- of a closed cell's journal, the part of a receiver is what that one's own lines were answered at the cell's place
 pub entries_made : (w k : ℕ) (journal : List Entry) (did : List Answered) → acts_by w (map act_of journal) ≡ acts_at w k did
     → entries_by w journal ≡ entries_at w k did
 entries_made w k journal did made =
     sym (entries_back (entries_by w journal))
-    ∙ (ap (map entry_of) (sym (acts_of_entries w journal) ∙ made) ∙ entries_of_acts w (filter (λ (d : Answered). d.own.place == k) did))
+    ∙ (ap (map entry_of) (sym (filter-map (λ (a : Act Event Outcome). a.source == w) act_of journal) ∙ made)
+    ∙ map-map entry_of (act_by w) (filter (λ (d : Answered). d.own.place == k) did))
 
 pub steps_made : (addresses : List Address) (w k : ℕ) (d : Address) (journal : List Entry) (did : List Answered) (heard : List Told)
     → AreApart addresses → k < length addresses
     → acts_by w (map act_of journal) ≡ acts_at w k did → map (λ (x : Answered). x.own) did ≡ own_lines addresses (enumerate_from 1 heard)
     → steps_by w journal ≡ lines_for (get_or addresses k d) heard
 steps_made addresses w k d journal did heard apart within made asked =
+    let mine = filter (λ (x : Answered). x.own.place == k) did in
     ap (map (λ (x : Entry). (x.line, x.event))) (entries_made w k journal did made)
-    ∙ (steps_of_entries w (filter (λ (x : Answered). x.own.place == k) did)
-    ∙ (ap (map step_in) (own_kept k did ∙ ap (filter (λ (o : OwnLine). o.place == k)) asked)
-    ∙ lines_at addresses k d (enumerate_from 1 heard) apart within))
+    ∙ (map-map (λ (x : Entry). (x.line, x.event)) (entry_by w) mine ∙ sym (map-map step_in (λ (x : Answered). x.own) mine)
+    ∙ (ap (map step_in) (sym (filter-map (λ (o : OwnLine). o.place == k) (λ (x : Answered). x.own) did)
+    ∙ ap (filter (λ (o : OwnLine). o.place == k)) asked) ∙ lines_at addresses k d (enumerate_from 1 heard) apart within))
 
 -- a closed cell's slot is its meter's part of the session
 pub meters_part : (own : Address) (all : List (List Told)) (did : ℕ
@@ -249,31 +183,14 @@ meters_part own all did addresses k d c b apart within is opening legal made ask
 
 -- ---- the book of strangers
 
-notes_of_acts : (w : ℕ) (heard : List Heard) → acts_by w (map note_of heard) ≡ map note_of (filter (λ (h : Heard). h.source == w) heard)
-notes_of_acts w [] = refl
-notes_of_acts w (x ∷ xs) = at (x.source == w) (notes_of_acts w xs)
-  where
-    at : (b : Bool) → acts_by w (map note_of xs) ≡ map note_of (filter (λ (h : Heard). h.source == w) xs)
-        → cond b (note_of x ∷ acts_by w (map note_of xs)) (acts_by w (map note_of xs)) ≡ map note_of
-        (cond b (x ∷ filter (λ (h : Heard). h.source == w) xs) (filter (λ (h : Heard). h.source == w) xs))
-    at true h = ap (λ l. note_of x ∷ l) h
-    at false h = h
-
 abbrev pair_of : Act Address Unit → ℕ × Address
 pair_of a = (a.line, a.call)
-
-pairs_of_heard : (heard : List Heard) → map pair_of (map note_of heard) ≡ map (λ (h : Heard). (h.line, h.address)) heard
-pairs_of_heard [] = refl
-pairs_of_heard (h ∷ hs) = ap (λ l. (h.line, h.address) ∷ l) (pairs_of_heard hs)
-
-pairs_of_lines : (w : ℕ) (ls : List StrangeLine) → map pair_of (map (note_by w) ls) ≡ map note_in ls
-pairs_of_lines w [] = refl
-pairs_of_lines w (s ∷ ss) = ap (λ l. (s.line, s.address) ∷ l) (pairs_of_lines w ss)
 
 pub notes_made : (cs : List Start) (w : ℕ) (strangers : List Heard) (heard : List Told)
     → acts_by w (map note_of strangers) ≡ map (note_by w) (strange_lines (map (λ c. c.address) cs) (enumerate_from 1 heard))
     → notes_by w strangers ≡ lines_of_strangers cs heard
 notes_made cs w strangers heard made =
-    sym (pairs_of_heard (filter (λ (h : Heard). h.source == w) strangers))
-    ∙ (ap (map pair_of) (sym (notes_of_acts w strangers) ∙ made)
-    ∙ (pairs_of_lines w (strange_lines (map (λ c. c.address) cs) (enumerate_from 1 heard)) ∙ strange_at_all cs (enumerate_from 1 heard)))
+    sym (map-map pair_of note_of (filter (λ (h : Heard). h.source == w) strangers))
+    ∙ (ap (map pair_of) (sym (filter-map (λ (a : Act Address Unit). a.source == w) note_of strangers) ∙ made)
+    ∙ (map-map pair_of (note_by w) (strange_lines (map (λ c. c.address) cs) (enumerate_from 1 heard))
+    ∙ strange_at_all cs (enumerate_from 1 heard)))

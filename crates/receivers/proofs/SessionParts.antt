@@ -1,8 +1,9 @@
 -- A session of some meters over the lines that are for them.
-use Rattle.std.proofs.Common.{◌≡◌, ℕ, ◌+◌, ◌≤◌, ◌==◌, Bool, true, false, not, cond, List, [], ◌∷◌, ◌++◌, map, filter, Option, Some, None, refl, ap, ap₂, sym, ◌∙◌, arith, subst}
+use Rattle.std.proofs.Common.{◌≡◌, ℕ, ◌+◌, ◌≤◌, ◌==◌, Bool, true, false, not, cond, List, [], ◌∷◌, ◌++◌, map, filter, Option, Some, None, refl, ap, ap₂, sym, ◌∙◌, arith, eq-eqb, ne_eqb}
 use Rattle.std.specs.Prelude.{option_map}
 use Rattle.std.specs.List.{filter_map, enumerate_from, cons_option}
-use Rattle.std.proofs.lemmas.Bool.Decides.{nat_tests}
+use Rattle.std.proofs.lemmas.Bool.{both_ways, eqb-true}
+use Rattle.receivers.proofs.Picked.{cons_map, made_by_source}
 use Rattle.lists.specs.Each.{EachWith}
 use Rattle.meter_address.specs.declared.address.Address.{Address}
 use Rattle.meter_slots.specs.declared.entry.Entry.{Entry}
@@ -20,19 +21,6 @@ use Rattle.receivers.specs.Parts.{slots_in, together, PartsAreOfTheWhole, PartsM
 
 abbrev on : {E : Type 0} → (ℕ → ℕ) → ℕ × E → ℕ × E
 on g p = (g p.0, p.1)
-
-cons_map : {X Y : Type 0} (f : X → Y) (o : Option X) (xs : List X) → map f (cons_option o xs) ≡ cons_option (option_map f o) (map f xs)
-cons_map f None xs = refl
-cons_map f (Some x) xs = refl
-
-unlike : (a b : ℕ) → b + 1 ≤ a → (a == b) ≡ false
-unlike a b h = grind (arith, nat_tests)
-
-alike : (a : ℕ) → (a == a) ≡ true
-alike a = grind (arith, nat_tests)
-
-is_number : (a b : ℕ) → (a == b) ≡ true → a ≡ b
-is_number a b h = grind (arith, nat_tests)
 
 module _ (a : Address) where
   abbrev lines : ℕ → List Told → List (ℕ × Event)
@@ -62,7 +50,7 @@ module _ (a : Address) where
   not_for : (mine : ℕ → Bool) → mine a.0 ≡ true → (m : ℕ) (event : Event) (n : ℕ) → mine n ≡ false → (b : Bool) → (a.0 == n) ≡ b
       → cond {A = Option (ℕ × Event)} b (Some (m, event)) None ≡ None
   not_for mine own m event n other true e =
-      let both : true ≡ false = sym own ∙ ap mine (is_number a.0 n e) ∙ other in absurd cc
+      absurd (both_ways (mine n) other (ap mine (sym (eqb-true a.0 n e)) ∙ own))
   not_for mine own m event n other false e = refl
 
   not_mine : (mine : ℕ → Bool) → mine a.0 ≡ true → (m : ℕ) (t : Told) → is_mine mine t ≡ false → event_at a m t ≡ None
@@ -76,8 +64,9 @@ module _ (a : Address) where
   kept_by true mine own m j t h e later =
       let ks = numbers_from mine (m + 1) h in
       let p = part_of mine h in
-      let first : number_in j (m ∷ ks) j ≡ m = rw (alike j) refl in
-      let same : (n : ℕ) → j + 1 ≤ n → number_in (j + 1) ks n ≡ number_in j (m ∷ ks) n = λ n above. rw (unlike n j above) refl in
+      let first : number_in j (m ∷ ks) j ≡ m = (let here : (j == j) ≡ true = eq-eqb j j refl in rw here refl) in
+      let same : (n : ℕ) → j + 1 ≤ n → number_in (j + 1) ks n ≡ number_in j (m ∷ ks) n = λ n above. (
+      let ne : (n == j) ≡ false = ne_eqb n j (λ e. omega (arith, above, e)) in rw ne refl) in
       let all : lines m (t ∷ h) ≡ map (on (number_in j (m ∷ ks))) (lines j (t ∷ p)) =
       ap₂ (λ (o : Option (ℕ × Event)) (ls : List (ℕ × Event)). cons_option o ls) (event_on (number_in j (m ∷ ks)) j m t first)
       (later (m + 1) (j + 1) ∙ agree (number_in (j + 1) ks) (number_in j (m ∷ ks)) (j + 1) p same)
@@ -100,21 +89,9 @@ module _ (mine : ℕ → Bool) (all : List (List Told)) (w : ℕ) where
   abbrev number : ℕ → ℕ
   number = whole_number mine (heard_by w all)
 
-  abbrev step : Entry → ℕ × Event
-  step x = (x.line, x.event)
-
-  step_in : (x : Entry) (xs ys : List Entry) (b : Bool) → (x.source == w) ≡ b → map step ys ≡ map (on number) (map step xs)
-      → map step (cond b (entry_in mine all x ∷ ys) ys) ≡ map (on number) (map step (cond b (x ∷ xs) xs))
-  step_in x xs ys true h e =
-      let same : (whole_number mine (heard_by x.source all) x.line, x.event) ≡ on number (step x) =
-      ap (λ v. (whole_number mine (heard_by v all) x.line, x.event)) (is_number x.source w h) in
-      ap (λ (p : ℕ × Event). p ∷ map step ys) same ∙ ap (λ (ps : List (ℕ × Event)). on number (step x) ∷ ps) e
-  step_in x xs ys false h e = e
-
   steps_in : (journal : List Entry) → steps_by w (map (entry_in mine all) journal) ≡ map (on number) (steps_by w journal)
-  steps_in [] = refl
-  steps_in (x ∷ journal) =
-      step_in x (entries_by w journal) (entries_by w (map (entry_in mine all) journal)) (x.source == w) refl (steps_in journal)
+  steps_in journal = made_by_source (λ (x : Entry). x.source) (λ (x : Entry). (x.line, x.event)) (entry_in mine all)
+      (λ v. on (whole_number mine (heard_by v all))) (λ x. refl) (λ x. refl) w journal
 
 -- ---- meters
 

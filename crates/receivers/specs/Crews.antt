@@ -53,15 +53,10 @@ module _ {O P : Type 0} (cells : List (CellShown O)) (strangers : CellShown P) w
     pub split : AreSplit c.passes
     pub stranger : c.stranger_pass.is_first ≡ false
 
-module _ {O P : Type 0} where
-  -- what the crews made at a place, the last one's first, and what they noted
-  abbrev pub joined_at : ℕ → Shown O Event Outcome → List (Crew O P) → List (Made Event Outcome)
-  joined_at k d [] = []
-  joined_at k d (c ∷ cs) = joined_at k d cs ++ mine (slice_index_or c.passes k d)
-
-  abbrev pub strangers_joined : List (Crew O P) → List (Made Address Unit)
-  strangers_joined [] = []
-  strangers_joined (c ∷ cs) = strangers_joined cs ++ mine c.stranger_pass
+-- what was made with one pass of each, the last one's first
+abbrev pub joined_by : {X O C R : Type 0} → (X → Shown O C R) → List X → List (Made C R)
+joined_by pass_of [] = []
+joined_by pass_of (x ∷ xs) = joined_by pass_of xs ++ mine (pass_of x)
 
 -- r is p, with these joined
 pub record AllJoined {O C R : Type 0} (more : List (Made C R)) (p r : Shown O C R) : Type 0 where
@@ -75,5 +70,5 @@ pub record HaveAllJoined {O P : Type 0} (crews : List (Crew O P)) (before after 
     (s s' : Shown P Address Unit) : Type 0 where
   pub as_many : length after ≡ length before
   pub each : (k : ℕ) (d : Shown O Event Outcome) → k < length before
-      → AllJoined (joined_at k d crews) (slice_index_or before k d) (slice_index_or after k d)
-  pub stranger : AllJoined (strangers_joined crews) s s'
+      → AllJoined (joined_by (λ c. slice_index_or c.passes k d) crews) (slice_index_or before k d) (slice_index_or after k d)
+  pub stranger : AllJoined (joined_by (λ c. c.stranger_pass) crews) s s'

@@ -5,13 +5,13 @@ ghost use Rattle.book_cells.specs.Acts.{IsPassOf};
 ghost use Rattle.receivers.specs.Passes.{crew, ArePassesOf};
 ghost use Rattle.receivers.specs.Crews.{IsCrew, AreCrews, AreRoots, CanJoin, HaveAllJoined};
 
+use crate::cells::StrangerCell;
 use crate::receiver::Receiver;
 use crate::roots::{join_each, split_each};
 use crate::workers::Worker;
+use book_cells::{Book, BookCell, Pass};
 use meter_slots::{Event, Outcome};
 use outer_io::{Memory, Sink, Source};
-use crate::cells::StrangerCell;
-use book_cells::{Book, BookCell, Pass};
 use std::alloc::Global;
 use stranger_ring::Strangers;
 

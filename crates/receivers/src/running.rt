@@ -6,13 +6,13 @@ ghost use Rattle.receivers.specs.Crews.{AreRoots};
 ghost use Rattle.receivers.specs.Run.{receiver_runs};
 ghost use Rattle.receivers.specs.Running.{HaveRun};
 
+use crate::cells::StrangerCell;
 use crate::crews::{dismiss, hire};
 use crate::receiver::Receiver;
 use crate::workers::work_all;
+use book_cells::{Book, BookCell, Pass};
 use meter_slots::{Directory, Event, Outcome};
 use outer_io::{Memory, Sink, Source};
-use crate::cells::StrangerCell;
-use book_cells::{Book, BookCell, Pass};
 use std::alloc::Global;
 use std::sync::Wait;
 use std::thread::Threads;

@@ -5,14 +5,14 @@ ghost use Rattle.book_cells.specs.Acts.{IsPassOf, IsFirstPass};
 ghost use Rattle.receivers.specs.Run.{receiver_runs};
 ghost use Rattle.receivers.specs.Collected.{address_of, AreFresh, IsCollected};
 
+use crate::cells::{SlotCell, StrangerCell};
 use crate::receiver::Receiver;
 use crate::roots::close_each;
 use crate::running::run_cells;
+use book_cells::{Book, BookCell, Pass};
 use meter_address::Address;
 use meter_slots::{Directory, MeterStart, SlotBook, addresses_of};
 use outer_io::{Memory, Sink, Source};
-use crate::cells::{SlotCell, StrangerCell};
-use book_cells::{Book, BookCell, Pass};
 use std::alloc::Global;
 use std::snapshot::Snapshot;
 use std::sync::Wait;

@@ -4,14 +4,14 @@ ghost use Rattle.book_cells.specs.Acts.{IsPassOf};
 ghost use Rattle.receivers.specs.Passes.{ArePassesOf, HaveAnswered, HasNoted};
 ghost use Rattle.receivers.specs.Works.{answer_by, note_if};
 
+use crate::cells::StrangerCell;
 use crate::class::Class;
 use crate::downlinks::send;
 use crate::slots::{Heard, Slots, silent};
+use book_cells::{Book, BookCell, Pass};
 use meter_address::Address;
 use meter_slots::{Directory, Event, Outcome};
 use outer_io::{Memory, Sink};
-use crate::cells::StrangerCell;
-use book_cells::{Book, BookCell, Pass};
 use std::sync::Wait;
 use stranger_ring::Strangers;
 

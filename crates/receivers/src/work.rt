@@ -1,10 +1,10 @@
 //! A receiver's one run of work.
+use crate::cells::StrangerCell;
 use crate::receiver::Receiver;
 use crate::shared::Shared;
+use book_cells::{Book, BookCell, Pass};
 use meter_slots::{Directory, Ended, Event, Outcome};
 use outer_io::{Sink, Source};
-use crate::cells::StrangerCell;
-use book_cells::{Book, BookCell, Pass};
 use std::sync::Wait;
 use stranger_ring::Strangers;
 

@@ -4,11 +4,11 @@ ghost use Rattle.receivers.specs.Passes.{crew};
 ghost use Rattle.receivers.specs.Run.{receiver_run};
 ghost use Rattle.receivers.specs.Workers.{CanWork, IsDone};
 
+use crate::cells::StrangerCell;
 use crate::receiver::Receiver;
+use book_cells::{Book, BookCell, Pass};
 use meter_slots::{Directory, Event, Outcome};
 use outer_io::{Sink, Source};
-use crate::cells::StrangerCell;
-use book_cells::{Book, BookCell, Pass};
 use std::sync::Wait;
 use std::thread;
 use std::thread::Threads;

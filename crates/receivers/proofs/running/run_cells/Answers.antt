@@ -1,7 +1,7 @@
 use Rattle.std.proofs.Common.{◌≡◌, None, All, subst, sym}
 use Rattle.receivers.specs.Passes.{crew}
 use Rattle.receivers.specs.Receiver.{Receiving}
-use Rattle.receivers.proofs.Dismissals.{nothing_left}
+use Rattle.std.proofs.lemmas.List.{nil_from_length}
 use Rattle.receivers.proofs.Runs.{can_work, can_join, all_back, have_run}
 use Rattle.receivers.proofs.running.run_cells.Goals as goal
 
@@ -23,7 +23,7 @@ returns-in-Ok-clause-run g c =
     have_run (λ w. w.receiver) (λ w. crew w.passes.items w.stranger_pass) c.args.cells.now c.args.strangers.now g.S.Source g.K.Sink
     c.args.directory.now
     c.in_ok-workers.workers.items c.work_all.new.workers.items c.args.receivers.now.items _ _ c.work_all.ensures.as_many
-    c.in_ok-workers.ensures.receivers c.in-Ok.ensures.receivers (nothing_left _ c.in_ok-workers.ensures.empty)
+    c.in_ok-workers.ensures.receivers c.in-Ok.ensures.receivers (nil_from_length _ c.in_ok-workers.ensures.empty)
     _ _ _ _ c.work_all.ensures.each c.in_ok-workers.ensures.roots c.in_ok-workers.ensures.crews c.in-Ok.ensures.joined
 
 pub returns-in-Ok-clause-as_many : goal.returns-in-Ok-clause-as_many
@@ -31,4 +31,4 @@ returns-in-Ok-clause-as_many g c =
     all_back (λ w. w.receiver) (λ w. crew w.passes.items w.stranger_pass) c.args.cells.now c.args.strangers.now g.S.Source g.K.Sink
     c.args.directory.now
     c.in_ok-workers.workers.items c.work_all.new.workers.items c.args.receivers.now.items _ _ c.work_all.ensures.as_many
-    c.in_ok-workers.ensures.receivers c.in-Ok.ensures.receivers (nothing_left _ c.in_ok-workers.ensures.empty)
+    c.in_ok-workers.ensures.receivers c.in-Ok.ensures.receivers (nil_from_length _ c.in_ok-workers.ensures.empty)
