@@ -9,8 +9,11 @@ use Rattle.aes_block.proofs.rounds.inverse_mixed_substituted_word.Goals as goal
 pub returns : goal.returns
 unfolding inverse_mixed_substitute
 returns c =
-    four_read summed (inverse_mixed_substitute 0) (inverse_mixed_substitute 1) (inverse_mixed_substitute 2) (inverse_mixed_substitute 3) c.args.a c.args.b c.args.c c.args.d
+    four_read summed (inverse_mixed_substitute 0) (inverse_mixed_substitute 1) (inverse_mixed_substitute 2) (inverse_mixed_substitute 3)
+    c.args.a c.args.b c.args.c c.args.d
     c.to_be_bytes.ensures c.to_be_bytes-2.ensures c.to_be_bytes-3.ensures c.to_be_bytes-4.ensures
-    c.inverse_mixed_substitution.ensures c.inverse_mixed_substitution-2.ensures c.inverse_mixed_substitution-3.ensures c.inverse_mixed_substitution-4.ensures
+    c.inverse_mixed_substitution.ensures c.inverse_mixed_substitution-2.ensures
+    c.inverse_mixed_substitution-3.ensures c.inverse_mixed_substitution-4.ensures
     ∙ word_of_mixed inverse_mix_polynomial _ _ _ _ AreBytes-inverse_mix_polynomial
-    (inverse_substitute-lt _ (row-lt c.args.a 0)) (inverse_substitute-lt _ (row-lt c.args.b 1)) (inverse_substitute-lt _ (row-lt c.args.c 2)) (inverse_substitute-lt _ (row-lt c.args.d 3))
+    (inverse_substitute-lt _ (row-lt c.args.a 0)) (inverse_substitute-lt _ (row-lt c.args.b 1))
+    (inverse_substitute-lt _ (row-lt c.args.c 2)) (inverse_substitute-lt _ (row-lt c.args.d 3))

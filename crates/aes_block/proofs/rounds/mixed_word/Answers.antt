@@ -13,4 +13,5 @@ returns c =
     c.to_be_bytes.ensures c.to_be_bytes-2.ensures c.to_be_bytes-3.ensures c.to_be_bytes-4.ensures
     c.mixed_substitution.ensures c.mixed_substitution-2.ensures c.mixed_substitution-3.ensures c.mixed_substitution-4.ensures
     ∙ word_of_mixed mix_polynomial _ _ _ _ AreBytes-mix_polynomial
-    (substitute-lt _ (row-lt c.args.a 0)) (substitute-lt _ (row-lt c.args.b 1)) (substitute-lt _ (row-lt c.args.c 2)) (substitute-lt _ (row-lt c.args.d 3))
+    (substitute-lt _ (row-lt c.args.a 0)) (substitute-lt _ (row-lt c.args.b 1))
+    (substitute-lt _ (row-lt c.args.c 2)) (substitute-lt _ (row-lt c.args.d 3))
