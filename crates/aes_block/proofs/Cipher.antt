@@ -85,44 +85,47 @@ unfolding power_of_x
 power_of_x-lt zero = omega arith
 power_of_x-lt (suc n) = product-lt 2 (power_of_x n) (omega arith) (power_of_x-lt n)
 
--- a word of bytes
-abbrev IsWord : List ℕ → Type 0
-IsWord w = (length w ≡ 4) × AreBytes w
+-- a column of bytes
+pub record IsColumn (x : List ℕ) : Type 0 where
+  pub count : length x ≡ 4
+  pub bytes : AreBytes x
 
-IsWord-turned : (n : ℕ) (w : List ℕ) → IsWord w → IsWord (turned_word n w)
-IsWord-turned n w h =
-    let P : ℕ → Type 0 = λ x. x < 256 in
-    at_four (λ w. AreBytes w → IsWord (turned_word n w))
+IsColumn-turned : (n : ℕ) (w : List ℕ) → IsColumn w → IsColumn (turned_word n w)
+IsColumn-turned n w h =
+    at_four (λ w. AreBytes w → IsColumn (turned_word n w))
     (λ a b c d hs.
-    let at : (i : ℕ) → get_or (a ∷ b ∷ c ∷ d ∷ []) i 0 < 256 = byte_at (a ∷ b ∷ c ∷ d ∷ []) hs in (
-      refl,
-      AreBytes-4 _ _ _ _ (xor_of_8 _ _ (substitute-lt b (at 1)) (power_of_x-lt n)) (substitute-lt c (at 2)) (substitute-lt d (at 3))
-          (substitute-lt a (at 0)),
-    ))
-    w h.0 h.1
+    let at : (i : ℕ) → get_or (a ∷ b ∷ c ∷ d ∷ []) i 0 < 256 = byte_at (a ∷ b ∷ c ∷ d ∷ []) hs in record {
+      count = refl;
+      bytes = AreBytes-4 _ _ _ _ (xor_of_8 _ _ (substitute-lt b (at 1)) (power_of_x-lt n)) (substitute-lt c (at 2)) (substitute-lt d (at 3))
+          (substitute-lt a (at 0));
+    })
+    w h.count h.bytes
 
-IsWord-add : (v w : List ℕ) → IsWord v → IsWord w → IsWord (add v w)
-IsWord-add v w hv hw = (omega (arith, length-add v w, hv.0, hw.0), AreBytes-add v w hv.1 hw.1)
+pub IsColumn-add : (v w : List ℕ) → IsColumn v → IsColumn w → IsColumn (add v w)
+IsColumn-add v w hv hw =
+    record { count = omega (arith, length-add v w, hv.count, hw.count); bytes = AreBytes-add v w hv.bytes hw.bytes }
 
-chained_is : (q : ℕ) (k : List ℕ) → length k ≡ 4 * q → (w : List ℕ) → IsWord w → AreBytes k
+chained_is : (q : ℕ) (k : List ℕ) → length k ≡ 4 * q → (w : List ℕ) → IsColumn w → AreBytes k
     → (length (chained w k) ≡ length k) × AreBytes (chained w k)
 chained_is =
     let P : ℕ → Type 0 = λ x. x < 256 in
-    by_columns (λ k. (w : List ℕ) → IsWord w → AreBytes k → (length (chained w k) ≡ length k) × AreBytes (chained w k))
+    by_columns (λ k. (w : List ℕ) → IsColumn w → AreBytes k → (length (chained w k) ≡ length k) × AreBytes (chained w k))
     (λ w hw hk. (refl, All-nil P))
     (λ a b c d k rest w hw hk.
     let v : List ℕ = a ∷ b ∷ c ∷ d ∷ [] in
     let at : (i : ℕ) → get_or (a ∷ b ∷ c ∷ d ∷ k) i 0 < 256 = byte_at (a ∷ b ∷ c ∷ d ∷ k) hk in
-    let sum : IsWord (add v w) = IsWord-add v w (refl, AreBytes-4 a b c d (at 0) (at 1) (at 2) (at 3)) hw in
+    let sum : IsColumn (add v w) =
+    IsColumn-add v w (record { count = refl; bytes = AreBytes-4 a b c d (at 0) (at 1) (at 2) (at 3) }) hw in
     let more = rest (add v w) sum (All-drop P 4 (a ∷ b ∷ c ∷ d ∷ k) hk) in (
-      omega (arith, length-append (add v w) (chained (add v w) k), sum.0, more.0),
-      All-append P (add v w) (chained (add v w) k) sum.1 more.1,
+      omega (arith, length-append (add v w) (chained (add v w) k), sum.count, more.0),
+      All-append P (add v w) (chained (add v w) k) sum.bytes more.1,
     ))
 
 pub IsBlock-next_round_key : (n : ℕ) (k : List ℕ) → IsBlock k → IsBlock (next_round_key n k)
 IsBlock-next_round_key n k h =
-    let last : IsWord (drop 12 k) = (omega (arith, length-drop 12 k, h.count), All-drop (λ x. x < 256) 12 k h.bytes) in
-    let made = chained_is 4 k h.count (turned_word n (drop 12 k)) (IsWord-turned n (drop 12 k) last) h.bytes in
+    let last : IsColumn (drop 12 k) =
+    record { count = omega (arith, length-drop 12 k, h.count); bytes = All-drop (λ x. x < 256) 12 k h.bytes } in
+    let made = chained_is 4 k h.count (turned_word n (drop 12 k)) (IsColumn-turned n (drop 12 k) last) h.bytes in
     record { count = made.0 ∙ h.count; bytes = made.1 }
 
 pub IsBlock-round_key : (key : List ℕ) (n : ℕ) → IsBlock key → IsBlock (round_key key n)

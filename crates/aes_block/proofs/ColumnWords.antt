@@ -3,15 +3,14 @@ use Rattle.std.proofs.Common.{◌≡◌, ℕ, zero, suc, ◌+◌, ◌*◌, ◌^�
 use Rattle.std.proofs.lemmas.Nat.{xor_block, be_bytes_4}
 use Rattle.std.specs.Int.{w32, from_be_bytes, to_be_bytes}
 use lib.Bits.{xor_zero_r}
-use Rattle.aes_block.proofs.Lists.{AreBytes, length-add, AreBytes-add, at_four, four, sixteen}
-use Rattle.aes_block.proofs.Mixing.{length-column_product, column_product_of_sum, AreBytes-4, AreBytes-column_product, AreBytes-mix_polynomial, AreBytes-inverse_mix_polynomial}
+use Rattle.aes_block.proofs.Lists.{AreBytes, at_four, four, sixteen}
+use Rattle.aes_block.proofs.Mixing.{length-column_product, column_product_of_sum, AreBytes-4, AreBytes-column_product}
 use Rattle.aes_block.proofs.Columns.{mixed_block}
-use Rattle.aes_block.proofs.Cipher.{byte_at}
-use Rattle.aes_block.proofs.ByteTables.{substitute-lt, inverse_substitute-lt}
+use Rattle.aes_block.proofs.Cipher.{byte_at, IsColumn, IsColumn-add}
 use Rattle.std.specs.List.{range_with_len}
 use Rattle.aes_block.specs.Field.{substitute, inverse_substitute}
 use Rattle.aes_block.specs.Block.{IsBlock, add, column_product, mix, mix_polynomial, inverse_mix_polynomial, shift_rows, sub_bytes, inverse_shift_rows, inverse_sub_bytes, column}
-use Rattle.aes_block.specs.Words.{word, row, rows, words_of, one_byte, mixed_substitute, inverse_mixed, inverse_mixed_substitute}
+use Rattle.aes_block.specs.Words.{word, row, rows, words_of, one_byte}
 
 -- a word of four bytes
 word-4 : (a b c d : ℕ) → word (a ∷ b ∷ c ∷ d ∷ []) ≡ ((a * 2 ^ 8 + b) * 2 ^ 8 + c) * 2 ^ 8 + d
@@ -31,11 +30,6 @@ word_of_sum a b c d a' b' c' d' hb hc hd hb' hc' hd' =
       xor_block 8 a a' b b' hb hb',
     )
     refl
-
--- a column of bytes
-pub record IsColumn (x : List ℕ) : Type 0 where
-  pub count : length x ≡ 4
-  pub bytes : AreBytes x
 
 pub word-add : (x y : List ℕ) → IsColumn x → IsColumn y → word (add x y) ≡ bit_xor (word x) (word y)
 word-add x y hx hy =
@@ -117,14 +111,12 @@ word_of_mixed m a b c d hm ha hb hc hd =
     let sum : (x y : List ℕ) → IsColumn x → IsColumn y → W (add x y) ≡ bit_xor (W x) (W y) =
     λ x y hx hy. ap word (column_product_of_sum m x y hx.count hy.count)
     ∙ word-add (column_product m x) (column_product m y) (IsColumn-product m x hm hx) (IsColumn-product m y hm hy) in
-    let plus : (x y : List ℕ) → IsColumn x → IsColumn y → IsColumn (add x y) =
-    λ x y hx hy. record { count = omega (arith, length-add x y, hx.count, hy.count); bytes = AreBytes-add x y hx.bytes hy.bytes } in
     let split : add (add (add A B) C) D ≡ a ∷ b ∷ c ∷ d ∷ [] =
     rw (xor_zero_r a, xor_zero_r a, xor_zero_r a, xor_zero_r b, xor_zero_r b, xor_zero_r c) refl in
     sym (
     ap W (sym split)
-    ∙ sum (add (add A B) C) D (plus (add A B) C (plus A B hA hB) hC) hD
-    ∙ ap (λ x. bit_xor x (W D)) (sum (add A B) C (plus A B hA hB) hC)
+    ∙ sum (add (add A B) C) D (IsColumn-add (add A B) C (IsColumn-add A B hA hB) hC) hD
+    ∙ ap (λ x. bit_xor x (W D)) (sum (add A B) C (IsColumn-add A B hA hB) hC)
     ∙ ap (λ x. bit_xor (bit_xor x (W C)) (W D)) (sum A B hA hB)
     )
 
@@ -148,38 +140,13 @@ summed x y z w = bit_xor (bit_xor (bit_xor x y) z) w
 abbrev pub gathered : ℕ → ℕ → ℕ → ℕ → ℕ
 gathered x y z w = from_be_bytes w32 (x ∷ y ∷ z ∷ w ∷ [])
 
-pub mixed_sum : (x y z w : ℕ) → x < 256 → y < 256 → z < 256 → w < 256 →
-    bit_xor (bit_xor (bit_xor (mixed_substitute 0 x) (mixed_substitute 1 y)) (mixed_substitute 2 z)) (mixed_substitute 3 w)
-    ≡ word (column_product mix_polynomial (substitute x ∷ substitute y ∷ substitute z ∷ substitute w ∷ []))
-unfolding mixed_substitute
-mixed_sum x y z w hx hy hz hw =
-    word_of_mixed mix_polynomial (substitute x) (substitute y) (substitute z) (substitute w)
-    AreBytes-mix_polynomial (substitute-lt x hx) (substitute-lt y hy) (substitute-lt z hz) (substitute-lt w hw)
-
-pub inverse_mixed_sum : (x y z w : ℕ) → x < 256 → y < 256 → z < 256 → w < 256 →
-    bit_xor (bit_xor (bit_xor (inverse_mixed 0 x) (inverse_mixed 1 y)) (inverse_mixed 2 z)) (inverse_mixed 3 w)
-    ≡ word (column_product inverse_mix_polynomial (x ∷ y ∷ z ∷ w ∷ []))
-unfolding inverse_mixed
-inverse_mixed_sum x y z w hx hy hz hw =
-    word_of_mixed inverse_mix_polynomial x y z w AreBytes-inverse_mix_polynomial hx hy hz hw
-
-pub inverse_mixed_substitute_sum : (x y z w : ℕ) → x < 256 → y < 256 → z < 256 → w < 256 →
-    bit_xor (bit_xor (bit_xor (inverse_mixed_substitute 0 x) (inverse_mixed_substitute 1 y)) (inverse_mixed_substitute 2 z))
-    (inverse_mixed_substitute 3 w)
-    ≡ word (column_product inverse_mix_polynomial (inverse_substitute x ∷ inverse_substitute y ∷ inverse_substitute z
-    ∷ inverse_substitute w ∷ []))
-unfolding inverse_mixed_substitute
-inverse_mixed_substitute_sum x y z w hx hy hz hw =
-    word_of_mixed inverse_mix_polynomial (inverse_substitute x) (inverse_substitute y) (inverse_substitute z) (inverse_substitute w)
-    AreBytes-inverse_mix_polynomial (inverse_substitute-lt x hx) (inverse_substitute-lt y hy) (inverse_substitute-lt z hz)
-    (inverse_substitute-lt w hw)
-
 -- four bytes through f, row r of them of the r-th of these words
 abbrev rows_in : List ℕ → (ℕ → ℕ) → ℕ → ℕ → ℕ → ℕ → List ℕ
 rows_in s f i j k l = rows f (get_or s i 0) (get_or s j 0) (get_or s k 0) (get_or s l 0)
 
 abbrev rows_by : List ℕ → (ℕ → ℕ) → ℕ → ℕ → ℕ → ℕ → List ℕ
-rows_by b f i j k l = f (get_or (column b i) 0 0) ∷ f (get_or (column b j) 1 0) ∷ f (get_or (column b k) 2 0) ∷ f (get_or (column b l) 3 0) ∷ []
+rows_by b f i j k l =
+    f (get_or (column b i) 0 0) ∷ f (get_or (column b j) 1 0) ∷ f (get_or (column b k) 2 0) ∷ f (get_or (column b l) 3 0) ∷ []
 
 -- what W makes of the four columns whose rows are turned to the left, whose rows are turned to the right, and as they are
 abbrev to_the_left : {A : Type 0} → (List ℕ → A) → ((i j k l : ℕ) → List ℕ) → List A

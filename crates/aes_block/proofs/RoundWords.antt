@@ -5,13 +5,13 @@ use Rattle.std.proofs.lemmas.List.{length-append, get_or_append_left, get_or-app
 use Rattle.std.proofs.lemmas.Nat.{xor_of_8}
 use Rattle.std.specs.List.{flat_map}
 use Rattle.std.specs.Int.{w32, to_be_bytes}
-use Rattle.aes_block.proofs.Lists.{sixteen, length-add, AreBytes-add}
+use Rattle.aes_block.proofs.Lists.{sixteen}
 use Rattle.aes_block.proofs.Mixing.{AreBytes-4}
 use Rattle.aes_block.proofs.ByteTables.{substitute-lt}
-use Rattle.aes_block.proofs.Cipher.{byte_at, power_of_x-lt}
+use Rattle.aes_block.proofs.Cipher.{byte_at, power_of_x-lt, IsColumn, IsColumn-add}
 use Rattle.aes_block.specs.Field.{substitute}
 use Rattle.aes_block.specs.Block.{IsBlock, add, power_of_x, next_round_key, round_key, column}
-use Rattle.aes_block.proofs.ColumnWords.{IsColumn, word-add, IsColumn-column, word_bytes}
+use Rattle.aes_block.proofs.ColumnWords.{word-add, IsColumn-column, word_bytes}
 use Rattle.aes_block.specs.Words.{word, words_of, round_words, first_key, AreExpanded}
 
 -- ---- the next round key
@@ -35,15 +35,13 @@ next_words_are b n h =
       bytes = AreBytes-4 _ _ _ _ (xor_of_8 _ _ (substitute-lt _ (at 13)) (power_of_x-lt n))
           (substitute-lt _ (at 14)) (substitute-lt _ (at 15)) (substitute-lt _ (at 12));
     } in
-    let plus : (x y : List ℕ) → IsColumn x → IsColumn y → IsColumn (add x y) =
-    λ x y hx hy. record { count = omega (arith, length-add x y, hx.count, hy.count); bytes = AreBytes-add x y hx.bytes hy.bytes } in
     let k : (c : ℕ) → IsColumn (column b c) = IsColumn-column b h in
     let v0 : List ℕ = add (column b 0) T in
     let v1 : List ℕ = add (column b 1) v0 in
     let v2 : List ℕ = add (column b 2) v1 in
-    let h0 : IsColumn v0 = plus (column b 0) T (k 0) hT in
-    let h1 : IsColumn v1 = plus (column b 1) v0 (k 1) h0 in
-    let h2 : IsColumn v2 = plus (column b 2) v1 (k 2) h1 in
+    let h0 : IsColumn v0 = IsColumn-add (column b 0) T (k 0) hT in
+    let h1 : IsColumn v1 = IsColumn-add (column b 1) v0 (k 1) h0 in
+    let h2 : IsColumn v2 = IsColumn-add (column b 2) v1 (k 2) h1 in
     let e0 : word v0 ≡ bit_xor (word (column b 0)) (word T) = word-add (column b 0) T (k 0) hT in
     let e1 : word v1 ≡ bit_xor (word (column b 1)) (bit_xor (word (column b 0)) (word T)) =
     word-add (column b 1) v0 (k 1) h0 ∙ ap (bit_xor (word (column b 1))) e0 in

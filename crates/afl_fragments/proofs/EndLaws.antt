@@ -162,10 +162,18 @@ one_told : (a b : Fragment) (after_a after_b before_a before_b : List Told) → 
 one_told a b [] [] before_a before_b e h k = cc
 one_told a b [] (t ∷ after_b) before_a before_b e h k =
     let is : Piece a ≡ t = cc in
-    absurd (cc (ap (is_piece_of a.afl.fid) is, eq-eqb a.afl.fid a.afl.fid refl, (or_parts (is_piece_of a.afl.fid t) (list_any (is_piece_of a.afl.fid) after_b) k).0))
+    absurd (cc (
+      ap (is_piece_of a.afl.fid) is,
+      eq-eqb a.afl.fid a.afl.fid refl,
+      (or_parts (is_piece_of a.afl.fid t) (list_any (is_piece_of a.afl.fid) after_b) k).0,
+    ))
 one_told a b (t ∷ after_a) [] before_a before_b e h k =
     let is : t ≡ Piece b = cc in
-    absurd (cc (ap (is_piece_of b.afl.fid) is, eq-eqb b.afl.fid b.afl.fid refl, (or_parts (is_piece_of b.afl.fid t) (list_any (is_piece_of b.afl.fid) after_a) h).0))
+    absurd (cc (
+      ap (is_piece_of b.afl.fid) is,
+      eq-eqb b.afl.fid b.afl.fid refl,
+      (or_parts (is_piece_of b.afl.fid t) (list_any (is_piece_of b.afl.fid) after_a) h).0,
+    ))
 one_told a b (t ∷ after_a) (u ∷ after_b) before_a before_b e h k =
     let rest : after_a ++ Piece a ∷ before_a ≡ after_b ++ Piece b ∷ before_b = cc in
     one_told a b after_a after_b before_a before_b rest

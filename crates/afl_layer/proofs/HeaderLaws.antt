@@ -269,7 +269,8 @@ again bytes a h =
     let whole : length (afl_bytes h.fcl a) ≡ 4 + length (fields_bytes a) = omega arith in
     ap afl_at h.parts
     ∙ word_at 0x90 (2 + length (fields_bytes a)) _ _ h.fcl (fields_bytes a ++ h.rest) (from_le_bytes-to_le_bytes_2 h.fcl h.word)
-    ∙ judged_ok (2 + length (fields_bytes a)) h.fcl (fields_bytes a ++ h.rest) (ap (λ (n : ℕ). 2 + n) len) (omega (arith, len, length-append (fields_bytes a) h.rest)) places.0 places.1
+    ∙ judged_ok (2 + length (fields_bytes a)) h.fcl (fields_bytes a ++ h.rest) (ap (λ (n : ℕ). 2 + n) len)
+    (omega (arith, len, length-append (fields_bytes a) h.rest)) places.0 places.1
     ∙ ap (λ (x : Afl). let r : Result Afl AflFault = Ok x in r) (again_fields h.fcl a h.rest h.says h.fits (h.len ∙ whole
     ∙ ap (λ (n : ℕ). 4 + n) len))
 

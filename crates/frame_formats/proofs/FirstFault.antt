@@ -105,9 +105,11 @@ cause_found format (l ∷ rest) e all is =
           | inl all_there ↦
               let fits : Fits format l = fits_by format l some.0 no_gap.0
               in let whole : length bytes ≡ whole_len format l = eqb-true _ _ all_there.0
-              in let at = wrong_found 1 (pieces format bytes) e (are_pieces format bytes l all fits whole) (content_err format bytes e all_there.1)
+              in let at =
+              wrong_found 1 (pieces format bytes) e (are_pieces format bytes l all fits whole) (content_err format bytes e all_there.1)
               in let place : 1 + at.before ≡ at.before + 1 = omega arith
-              in same_fault format bytes (faults.Crc (at.before + 1)) e (ap Err (ap faults.Crc (sym place) ∙ sym at.fault)) (l, begins, fits, whole, at.wrong)
+              in same_fault format bytes (faults.Crc (at.before + 1)) e (ap Err (ap faults.Crc (sym place) ∙ sym at.fault))
+              (l, begins, fits, whole, at.wrong)
           | inr other ↦
               same_fault format bytes (faults.Length (whole_len format l) (length bytes)) e other.1
               (l, begins, fits_by format l some.0 no_gap.0, refl, refl, eqb-false _ _ other.0)
@@ -119,7 +121,8 @@ cause_again : (format : Format) (bytes : List ℕ) (e : FrameFault) → IsBytes 
 unfolding decoded
 cause_again format bytes faults.Empty all is = rw is refl
 cause_again format bytes (faults.Short l) all is = rw (is.0.is, not_empty l is.0.rest, lt-ltb l (least format) is.1) refl
-cause_again format bytes (faults.Gap l) all is = let tests = gap_tests format bytes l is in rw (tests.0.is, not_empty l tests.0.rest, tests.1, tests.2) refl
+cause_again format bytes (faults.Gap l) all is =
+    let tests = gap_tests format bytes l is in rw (tests.0.is, not_empty l tests.0.rest, tests.1, tests.2) refl
 cause_again format bytes (faults.Length want have) all is =
     let tests = tests_of format is.0 is.2
     in let other : eqb (length (is.0 ∷ is.1.rest)) (whole_len format is.0) ≡ false =

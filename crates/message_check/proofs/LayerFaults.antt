@@ -161,8 +161,7 @@ fault_found t r fits e =
     elim (bind_err (extension_in (drop 10 t)) _ r e) [
       | inl first ↦
           let f = extension_fault (drop 10 t) r first in
-          let is : IsLayerFault t (faults.Ell f.1.0) = (f.0, f.1.1) in
-          subst (IsLayerFault t) f.1.2 is
+          subst (IsLayerFault t) f.1.2 (f.0, f.1.1)
       | inr ell ↦
           let after : List ℕ = drop (extension_len ell.0) (drop 10 t) in
           let after_is : after ≡ drop (10 + extension_len ell.0) t = drop-drop (extension_len ell.0) 10 t in
@@ -171,8 +170,7 @@ fault_found t r fits e =
           elim (bind_err (fragmentation_in (drop (10 + extension_len ell.0) t)) _ r ell.2) [
             | inl second ↦
                 let f = fragmentation_fault after r fits_after (ap fragmentation_in after_is ∙ second) in
-                let is : IsLayerFault t (faults.Afl f.1.0) = (ell.0, after, extension, f.0, f.1.1) in
-                subst (IsLayerFault t) f.1.2 is
+                subst (IsLayerFault t) f.1.2 (ell.0, after, extension, f.0, f.1.1)
             | inr afl ↦
                 let read : fragmentation_in after ≡ Ok afl.0 = ap fragmentation_in after_is ∙ afl.1 in
                 let rest : List ℕ = drop (fragmentation_len afl.0) after in
@@ -188,8 +186,7 @@ fault_found t r fits e =
                 elim (bind_err (header_in afl.0 (drop (10 + extension_len ell.0 + fragmentation_len afl.0) t)) _ r afl.2) [
                   | inl third ↦
                       let f = header_fault afl.0 rest r (ap (header_in afl.0) rest_is ∙ third) in
-                      let is : IsLayerFault t (faults.Tpl f.1.0) = (ell.0, afl.0, rest, before, f.0, f.1.1) in
-                      subst (IsLayerFault t) f.1.2 is
+                      subst (IsLayerFault t) f.1.2 (ell.0, afl.0, rest, before, f.0, f.1.1)
                   | inr all ↦ absurd (cc all.2)
                 ]
           ]

@@ -68,9 +68,8 @@ extension_found (ci ∷ rest) ell e =
       | inl some ↦
           let made = map_both_ok Some faults.Ell (extension.ell_at bytes) ell some.1 in
           let begins : extension.BeginsWithEll bytes made.0 = extension_laws.is_found bytes (Ok made.0) (sym made.1) in
-          let then : ExtensionThen bytes (Some made.0) (drop made.0.len bytes) =
-          (begins, sym (extension_then_rest bytes (Some made.0) begins.rest (begins, refl))) in
-          subst (λ (x : Option Ell). ExtensionThen bytes x (drop (extension_len x) bytes)) made.2 then
+          subst (λ (x : Option Ell). ExtensionThen bytes x (drop (extension_len x) bytes)) made.2
+          (begins, sym (extension_then_rest bytes (Some made.0) begins.rest (begins, refl)))
       | inr other ↦
           let none : None ≡ ell = cc other.1 in
           subst (λ (x : Option Ell). ExtensionThen bytes x (drop (extension_len x) bytes)) none refl
@@ -88,9 +87,8 @@ fragmentation_found (ci ∷ rest) afl fits e =
           let made = map_both_ok Some faults.Afl (fragmentation.afl_at bytes) afl some.1 in
           let begins : fragmentation.BeginsWithAfl bytes made.0 =
           fragmentation_laws.is_found bytes (Ok made.0) (ap Some (eqb-true ci 0x90 some.0)) fits (sym made.1) in
-          let then : FragmentationThen bytes (Some made.0) (drop made.0.len bytes) =
-          (begins, sym (fragmentation_then_rest bytes (Some made.0) begins.rest (begins, refl))) in
-          subst (λ (x : Option Afl). FragmentationThen bytes x (drop (fragmentation_len x) bytes)) made.2 then
+          subst (λ (x : Option Afl). FragmentationThen bytes x (drop (fragmentation_len x) bytes)) made.2
+          (begins, sym (fragmentation_then_rest bytes (Some made.0) begins.rest (begins, refl)))
       | inr other ↦
           let none : None ≡ afl = cc other.1 in
           subst (λ (x : Option Afl). FragmentationThen bytes x (drop (fragmentation_len x) bytes)) none refl
@@ -105,8 +103,7 @@ header_found afl bytes tpl fits e =
           subst (IsContent bytes afl) none piece.0
       | inr whole ↦
           let made = map_both_ok Some faults.Tpl (transport.tpl_at bytes) tpl whole.1 in
-          let content : IsContent bytes afl (Some made.0) = (whole.0, transport_laws.is_found bytes (Ok made.0) fits (sym made.1)) in
-          subst (IsContent bytes afl) made.2 content
+          subst (IsContent bytes afl) made.2 (whole.0, transport_laws.is_found bytes (Ok made.0) fits (sym made.1))
     ]
 
 layers_made : (t : List ℕ) (ell : Option Ell) (afl : Option Afl) (tpl : Option Tpl) → 10 ≤ length t → IsBytes t

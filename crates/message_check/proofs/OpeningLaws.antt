@@ -1,5 +1,5 @@
 -- What is opened is a checked message or a genuine one, and such a message is opened.
-use Rattle.std.proofs.Common.{◌≡◌, ℕ, ◌-◌, ◌*◌, ◌%◌, ◌<◌, ◌≤◌, Bool, true, false, cond, eqb, List, [], ◌∷◌, ◌++◌, length, take, drop, Option, Some, None, option_map, Result, Ok, Err, refl, sym, ap, ap₂, subst, ◌∙◌, arith, eq-eqb}
+use Rattle.std.proofs.Common.{◌≡◌, ℕ, ◌-◌, ◌*◌, ◌%◌, ◌<◌, ◌≤◌, true, false, eqb, List, [], ◌∷◌, ◌++◌, length, take, drop, Option, Some, None, option_map, Result, Ok, refl, sym, ap, ap₂, subst, ◌∙◌, arith, eq-eqb}
 use Rattle.std.specs.Prelude.{IfSome, unwrap_or}
 use Rattle.std.specs.Str.{bytes_eq}
 use Rattle.std.proofs.lemmas.Bool.{eqb-true, eqb-false, ltb-false, le-ltb}
@@ -20,7 +20,7 @@ use Rattle.tpl_headers.proofs.Headers.{is_found, is_only}
 use Rattle.message_check.specs.declared.signature.Signature.{Signature}
 use Rattle.message_check.specs.declared.refusal.Reason.{Reason}
 use Rattle.message_check.specs.declared.refusal.Reason.TheVariants.{OtherAddress, BadMac, CheckBytes, BadMessage}
-use Rattle.message_check.specs.Keys.{key_id_in, OneKeyAlone}
+use Rattle.message_check.specs.Keys.{OneKeyAlone}
 use Rattle.message_check.specs.Opening.{Found, encrypted_of, rest_of, access_in_configuration, decrypted5, decrypted7, mac_key, cipher_key, mac_of, IsFor, IsSecured, Checked5, Genuine7, Passed, header_in, address_passed, mode_passed, header_for, blocks_passed, some_passed, check_bytes_passed, opened5, part_there, control_passed, signature_of, derivation_in, derivation_passed, mac_passed, opened7, CheckedAreOpened, GenuineAreOpened}
 use Rattle.lists.specs.Steps.{◌>>=◌}
 use Rattle.lists.proofs.Choices.{guard_ok, guard_ok_if}

@@ -15,6 +15,7 @@ pub fn content_stands_at_body()
 {}
 
 /// A meter without a second key has its first one for every message, whatever key id a header names.
+#[tactic(auto, using(crate::proofs::OpeningLaws::one_key_alone))]
 pub fn one_key_is_for_all_messages()
     ensures { OneKeyAlone }
 {}
