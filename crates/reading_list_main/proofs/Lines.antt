@@ -1,7 +1,7 @@
 -- Lines of a report that are listed one after another.
 use Rattle.std.proofs.Common.{◌≡◌, ℕ, ◌<◌, true, cond, List, [], ◌∷◌, ◌++◌, length, Option, Result, Err, refl, sym, ap, ◌∙◌, append_assoc, arith}
 use Rattle.std.specs.Prelude.{nat_lt}
-use Rattle.std.proofs.lemmas.Bool.Decides.{nat_tests}
+use Rattle.std.proofs.lemmas.Bool.{cond-true, lt-ltb}
 use Rattle.plain_text.specs.Parts.{fields_of}
 use Rattle.paper.specs.Pieces.{text_if}
 use Rattle.reading_list_main.specs.declared.said.LineFault.{LineFault}
@@ -24,13 +24,10 @@ lists_said old new number line said found is note_is new_is = record {
   new_is = new_is ∙ ap (lister_after old) (sym is);
 }
 
-long_test : (line : List ℕ) → 8192 < length line → nat_lt 8192 (length line) ≡ true
-long_test line long = grind (arith, nat_tests)
-
 -- a line that is too long can't be read
 pub long_said : (line : List ℕ) → 8192 < length line → said_of line ≡ Err faults.TooLong
 unfolding said_of
-long_said line long = ap (λ test. cond test (Err faults.TooLong) (by_word (fields_of line))) (long_test line long)
+long_said line long = cond-true (nat_lt 8192 (length line)) _ _ (lt-ltb 8192 (length line) long)
 
 -- ---- all lines
 

@@ -1,24 +1,22 @@
 -- The lines of bytes that are read page by page.
-use Rattle.std.proofs.Common.{◌≡◌, ℕ, suc, ◌<◌, ◌≤◌, ◌+◌, inl, inr, Bool, true, false, cond, List, [], ◌∷◌, ◌++◌, length, take, drop, get_or, Option, Some, None, refl, sym, ap, ◌∙◌, subst, append_assoc, arith, eqb-true, ⊎_elim}
+use Rattle.std.proofs.Common.{◌≡◌, ℕ, suc, ◌<◌, ◌≤◌, ◌+◌, ◌==◌, inl, inr, Bool, true, false, cond, List, [], ◌∷◌, ◌++◌, length, take, drop, get_or, Option, Some, None, refl, sym, ap, ◌∙◌, subst, append_assoc, arith, eqb-true, ⊎_elim}
 use Rattle.std.specs.Prelude.{position, min}
-use Rattle.std.specs.Str.Lines.{lines, strip_carriage_return}
-use Rattle.std.proofs.lemmas.Bool.{cases_lt}
+use Rattle.std.specs.List.{slice_split, onto_first}
+use Rattle.std.specs.Str.Lines.{lines, lines_of_parts, strip_carriage_return}
+use Rattle.std.proofs.lemmas.Bool.{cases_lt, false_from_ne_true}
 use Rattle.std.proofs.lemmas.List.{append-nil, length-append, length-take, length-drop, take-append-drop, take-append-le, take-take, take_all, take_at, take_more, get_or-drop}
 use Rattle.std.proofs.lemmas.List.Sums.{sum_by-cons}
+use Rattle.lists.specs.Each.{EachWith}
 use Rattle.memchr.specs.Find.{is_byte, IsLastByte}
 use Rattle.line_reader.specs.Keeps.{IsFinished}
 use Rattle.line_reader.specs.Newlines.{newlines}
-use Rattle.line_reader.proofs.LinesLemmas.{lines_front, lines_alone, finished_more, length-strip}
+use Rattle.line_reader.proofs.LinesLemmas.{lines_front, lines_alone, no_head, finished_more, length-strip}
 use Rattle.line_reader.proofs.NewlineLemmas.{is_newline, newlines-append, newlines-take, newlines-both, no_place, first_place}
 use Rattle.reading_list_main.specs.Said.{said_of}
 use Rattle.reading_list_main.specs.Pages.{IsEnded, EndsAt}
 use Rattle.reading_list_main.proofs.Lines.{long_said}
 
 -- ---- the last newline
-
-is_false : (b : Bool) → ¬ (b ≡ true) → b ≡ false
-is_false true h = absurd (h refl)
-is_false false h = refl
 
 none_at : (xs : List ℕ) → ((k : ℕ) → k < length xs → is_newline (get_or xs k 0) ≡ false) → newlines xs ≡ 0
 none_at [] none = refl
@@ -28,7 +26,7 @@ none_at (x ∷ xs) none =
 pub ends_nowhere : (bytes : List ℕ) → IsLastByte (is_byte 10) bytes None → EndsAt bytes 0
 ends_nowhere bytes h = record {
   ended = inl refl;
-  alone = none_at bytes (λ k within. is_false _ (h k (omega arith) within));
+  alone = none_at bytes (λ k within. false_from_ne_true _ (h k (omega arith) within));
 }
 
 pub ends_behind : (bytes : List ℕ) (place : ℕ) → IsLastByte (is_byte 10) bytes (Some place) → EndsAt bytes (place + 1)
@@ -38,17 +36,10 @@ ends_behind bytes place h =
       ended = inr (take place bytes, take_more bytes place 0 within ∙ ap (λ b. take place bytes ++ b ∷ []) (eqb-true _ _ h.1));
       alone = none_at (drop (place + 1) bytes) (λ k below.
           ap is_newline (get_or-drop (place + 1) bytes k 0)
-          ∙ is_false _ (h.0.after (place + 1 + k) (omega arith) (omega (arith, below, length-drop (place + 1) bytes))));
+          ∙ false_from_ne_true _ (h.0.after (place + 1 + k) (omega arith) (omega (arith, below, length-drop (place + 1) bytes))));
     }
 
 -- ---- bytes whose last line ends with a newline
-
-no_head : (x : ℕ) (xs : List ℕ) → newlines (x ∷ xs) ≡ 0 → (is_newline x ≡ false) × (newlines xs ≡ 0)
-no_head x xs none = by_test (is_newline x) refl (sym (sum_by-cons (λ b. cond (is_newline b) 1 0) x xs) ∙ none)
-  where
-    by_test : (b : Bool) → is_newline x ≡ b → cond (is_newline x) 1 0 + newlines xs ≡ 0 → (is_newline x ≡ false) × (newlines xs ≡ 0)
-    by_test true is none = absurd (let one = ap {B = ℕ} (λ b. cond b 1 0) is in omega arith)
-    by_test false is none = (is, let no = ap {B = ℕ} (λ b. cond b 1 0) is in omega arith)
 
 pub finished_none : IsFinished []
 finished_none = record { follow = λ rest. refl; counted = refl }
@@ -87,31 +78,26 @@ pub record IsSeam (held added front rest : List ℕ) : Type 0 where
   pub front_is : front ≡ held ++ more
   pub added_is : added ≡ (more ++ 10 ∷ []) ++ rest
 
-tail_is : (x y : ℕ) (xs ys : List ℕ) → x ∷ xs ≡ y ∷ ys → (x ≡ y) × (xs ≡ ys)
-tail_is x y xs ys e = (cc, cc)
-
 seam : (held added front rest : List ℕ) → newlines held ≡ 0 → held ++ added ≡ (front ++ 10 ∷ []) ++ rest → IsSeam held added front rest
 seam [] added front rest none e = record { more = front; front_is = refl; added_is = e }
 seam (x ∷ held) added [] rest none e =
     let off = (no_head x held none).0 in
-    let is : x ≡ 10 = (tail_is x 10 (held ++ added) rest e).0 in
+    let is : x ≡ 10 = cc in
     absurd (let on = ap is_newline is in cc)
 seam (x ∷ held) added (y ∷ front) rest none e =
-    let parts = tail_is x y (held ++ added) ((front ++ 10 ∷ []) ++ rest) e in
-    let later = seam held added front rest (no_head x held none).1 parts.1 in
+    let first : x ≡ y = cc in
+    let others : held ++ added ≡ (front ++ 10 ∷ []) ++ rest = cc in
+    let later = seam held added front rest (no_head x held none).1 others in
     record {
       more = later.more;
-      front_is = ap (λ f. y ∷ f) later.front_is ∙ ap (λ h. h ∷ (held ++ later.more)) (sym parts.0);
+      front_is = ap (λ f. y ∷ f) later.front_is ∙ ap (λ h. h ∷ (held ++ later.more)) (sym first);
       added_is = later.added_is;
     }
 
 -- ---- lines that say the same
 
 abbrev pub Alike : List (List ℕ) → List (List ℕ) → Type 0
-Alike [] [] = Unit {0}
-Alike [] (y ∷ ys) = ⊥
-Alike (x ∷ xs) [] = ⊥
-Alike (x ∷ xs) (y ∷ ys) = (said_of x ≡ said_of y) × Alike xs ys
+Alike xs ys = EachWith (λ x y. said_of x ≡ said_of y) xs ys
 
 pub alike_self : (xs : List (List ℕ)) → Alike xs xs
 alike_self [] = tt
@@ -236,27 +222,21 @@ cut_at kept behind added count is none ends = by_end ends.ended
 
 -- ---- how many lines there are
 
-few_lines : (front xs : List ℕ) → newlines front ≡ 0 → length (lines (front ++ xs)) ≤ length front + length xs
-few_lines [] [] none = omega arith
-few_lines (y ∷ front) [] none =
-    let one = ap length (ap lines (append-nil (y ∷ front)) ∙ lines_alone (y ∷ front) none (omega arith)) in
-    omega arith
-few_lines front (x ∷ xs) none = by_test (is_newline x) refl (few_lines [] xs refl) (λ alone. few_lines (front ++ x ∷ []) xs alone)
-  where
-    by_test : (b : Bool) → is_newline x ≡ b → length (lines xs) ≤ 0 + length xs
-        → (newlines (front ++ x ∷ []) ≡ 0 → length (lines ((front ++ x ∷ []) ++ xs)) ≤ length (front ++ x ∷ []) + length xs)
-        → length (lines (front ++ x ∷ xs)) ≤ length front + length (x ∷ xs)
-    by_test true is later more =
-        let cut = ap length (ap (λ b. lines (front ++ b ∷ xs)) (eqb-true _ _ is) ∙ lines_front front xs none) in
-        omega arith
-    by_test false is later more =
-        let same = ap (λ b. length (lines b)) (append_assoc front (x ∷ []) xs) in
-        let len = length-append front (x ∷ []) in
-        let below = more (newlines-both front (x ∷ []) none (ap (λ b. 0 + cond b 1 0) is)) in
-        omega arith
+none_if : (b : Bool) (x : List ℕ) → length (cond b [] (x ∷ [])) ≤ 1
+none_if true x = omega arith
+none_if false x = omega arith
 
 pub lines_few : (bytes : List ℕ) → length (lines bytes) ≤ length bytes
-lines_few bytes = let few : length (lines bytes) ≤ 0 + length bytes = few_lines [] bytes refl in omega arith
+lines_few [] = omega arith
+lines_few (x ∷ bytes) = by_test (is_newline x) (slice_split is_newline bytes) (lines_few bytes)
+  where
+    by_test : (b : Bool) (parts : List (List ℕ)) → length (lines_of_parts parts) ≤ length bytes
+        → length (lines_of_parts (cond b ([] ∷ parts) (onto_first x parts))) ≤ length (x ∷ bytes)
+    by_test true [] few = omega arith
+    by_test true (part ∷ parts) few = omega arith
+    by_test false [] few = omega (arith, none_if (length (x ∷ []) == 0) (x ∷ []))
+    by_test false (part ∷ []) few = omega (arith, none_if (length (x ∷ part) == 0) (x ∷ part))
+    by_test false (part ∷ next ∷ parts) few = omega arith
 
 -- ---- what is kept of a page
 

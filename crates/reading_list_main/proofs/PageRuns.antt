@@ -2,21 +2,23 @@
 use Rattle.std.proofs.Common.{◌≡◌, ℕ, ◌<◌, ◌≤◌, ◌+◌, Bool, true, false, cond, List, [], ◌∷◌, ◌++◌, length, take, drop, Result, Ok, Err, refl, sym, ap, ◌∙◌, subst, append_assoc, append-nil, arith}
 use Rattle.std.specs.Prelude.{IsTrue, IfErr, OnErr}
 use Rattle.std.specs.Str.Lines.{lines}
-use Rattle.std.proofs.lemmas.Bool.Decides.{nat_tests}
-use Rattle.std.proofs.lemmas.List.{length-append, length-take, length-drop, take-append-drop, take-append-le, take_all, take_at}
+use Rattle.std.proofs.lemmas.Bool.{cond-false, le-ltb, lt-ltb}
+use Rattle.std.proofs.lemmas.List.{length-append, length-take, length-drop, nil_from_length, take-append-drop, take-append-le, take_all, take_at}
 use Rattle.std.proofs.Math.Seq.{take-append-add}
+use Rattle.lists.proofs.Members.{with_fold, with_length}
 use Rattle.outer_io.specs.Bytes.{Moves, AppendsFront}
+use Rattle.outer_io.proofs.Fronts.{first as front_first, behind as front_behind}
 use Rattle.outer_io.specs.Shown.{Change, SourceShown, SinkShown}
 use Rattle.paper.specs.Pieces.{text_if}
 use Rattle.line_reader.specs.Keeps.{IsFinished}
 use Rattle.line_reader.specs.Lines.{ended_lines}
 use Rattle.line_reader.specs.Newlines.{newlines}
-use Rattle.line_reader.proofs.NewlineLemmas.{newlines-append}
+use Rattle.line_reader.proofs.LinesLemmas.{ended_alone}
 use Rattle.line_teller.specs.declared.ending.LinesEnd.{LinesEnd}
 use Rattle.line_teller.specs.declared.ending.LinesEnd.TheVariants as ends
 use Rattle.line_teller.specs.Ending.{EndsText, IsNoted, is_whole}
 use Rattle.line_teller.specs.Standing.{Pours}
-use Rattle.line_teller.proofs.Steps.{noted_then, none_noted, poured_then, text_then}
+use Rattle.line_teller.proofs.Steps.{noted_then, none_noted, part_text, poured_then, text_then}
 use Rattle.reading_list_main.specs.declared.lister.Lister.{Lister}
 use Rattle.reading_list_main.specs.Said.{said_of}
 use Rattle.reading_list_main.specs.Notes.{note_text}
@@ -38,37 +40,23 @@ by_err result named end P is same p = subst (λ r. IfErr r P) (sym is) (subst P 
 
 -- ---- lines that say the same, and lines behind others
 
-both_same : (a a' b b' : List ℕ) → a ≡ a' → b ≡ b' → a ++ b ≡ a' ++ b'
-both_same a a' b b' e f = cc
+-- what is listed and noted of lines, and the lister behind them, depend on what they say alone
+record ListedAlike (number : ℕ) (l : Lister) (xs ys : List (List ℕ)) : Type 0 where
+  pub list : listed l xs ≡ listed l ys
+  pub notes : noted number l xs ≡ noted number l ys
+  pub behind : lister_behind l xs ≡ lister_behind l ys
 
-alike_listed : (l : Lister) (xs ys : List (List ℕ)) → Alike xs ys → listed l xs ≡ listed l ys
-alike_listed l [] [] a = refl
-alike_listed l [] (y ∷ ys) a = absurd a
-alike_listed l (x ∷ xs) [] a = absurd a
-alike_listed l (x ∷ xs) (y ∷ ys) a =
-    both_same _ _ _ _ (ap (text_of l) a.0)
-    (alike_listed (lister_after l (said_of x)) xs ys a.1 ∙ ap (λ s. listed (lister_after l s) ys) a.0)
-
-alike_noted : (number : ℕ) (l : Lister) (xs ys : List (List ℕ)) → Alike xs ys → noted number l xs ≡ noted number l ys
-alike_noted number l [] [] a = refl
-alike_noted number l [] (y ∷ ys) a = absurd a
-alike_noted number l (x ∷ xs) [] a = absurd a
-alike_noted number l (x ∷ xs) (y ∷ ys) a =
-    both_same _ _ _ _ (ap (λ s. text_if (note_text number) (note_of l s)) a.0)
-    (alike_noted (number + 1) (lister_after l (said_of x)) xs ys a.1 ∙ ap (λ s. noted (number + 1) (lister_after l s) ys) a.0)
-
-alike_behind : (l : Lister) (xs ys : List (List ℕ)) → Alike xs ys → lister_behind l xs ≡ lister_behind l ys
-alike_behind l [] [] a = refl
-alike_behind l [] (y ∷ ys) a = absurd a
-alike_behind l (x ∷ xs) [] a = absurd a
-alike_behind l (x ∷ xs) (y ∷ ys) a =
-    alike_behind (lister_after l (said_of x)) xs ys a.1 ∙ ap (λ s. lister_behind (lister_after l s) ys) a.0
-
-alike_length : (xs ys : List (List ℕ)) → Alike xs ys → length xs ≡ length ys
-alike_length [] [] a = refl
-alike_length [] (y ∷ ys) a = absurd a
-alike_length (x ∷ xs) [] a = absurd a
-alike_length (x ∷ xs) (y ∷ ys) a = let later = alike_length xs ys a.1 in omega arith
+alike : (number : ℕ) (l : Lister) (xs ys : List (List ℕ)) → Alike xs ys → ListedAlike number l xs ys
+alike number l xs ys a =
+    with_fold (λ x y. said_of x ≡ said_of y) (λ xs ys. (number : ℕ) (l : Lister) → ListedAlike number l xs ys)
+    (λ number l. record { list = refl; notes = refl; behind = refl })
+    (λ x y xs ys same _ later number l.
+    let rest = later (number + 1) (lister_after l (said_of y)) in
+    record {
+      list = rw same (ap (λ t. text_of l (said_of y) ++ t) rest.list);
+      notes = rw same (ap (λ t. text_if (note_text number) (note_of l (said_of y)) ++ t) rest.notes);
+      behind = rw same rest.behind;
+    }) xs ys a number l
 
 pub behind_more : (l : Lister) (xs ys : List (List ℕ)) → lister_behind l (xs ++ ys) ≡ lister_behind (lister_behind l xs) ys
 behind_more l [] ys = refl
@@ -86,8 +74,8 @@ noted_more number n l (x ∷ xs) ys is =
 -- the list of lines, and behind it that of lines that say the same as others, is the list with the others
 listed_joined : (first old : Lister) (xs ls ls' : List (List ℕ)) → old ≡ lister_behind first xs → Alike ls ls'
     → listed first xs ++ listed old ls ≡ listed first (xs ++ ls')
-listed_joined first old xs ls ls' is alike =
-    ap (λ t. listed first xs ++ t) (alike_listed old ls ls' alike ∙ ap (λ l. listed l ls') is) ∙ sym (listed_more first xs ls')
+listed_joined first old xs ls ls' is same =
+    ap (λ t. listed first xs ++ t) ((alike 0 old ls ls' same).list ∙ ap (λ l. listed l ls') is) ∙ sym (listed_more first xs ls')
 
 pub lists_then : (first old new : Lister) (n m : ℕ) (xs ls ls' : List (List ℕ)) (out_tells notes_tell : Bool)
     (list here there list_notes here_notes there_notes : SinkShown) → Alike ls ls'
@@ -97,22 +85,23 @@ pub lists_then : (first old new : Lister) (n m : ℕ) (xs ls ls' : List (List �
     (record { before = here_notes; now = there_notes })
     → ListsLines first new 0 m (xs ++ ls') out_tells (record { before = list; now = there }) notes_tell
     (record { before = list_notes; now = there_notes })
-lists_then first old new n m xs ls ls' out_tells notes_tell list here there list_notes here_notes there_notes alike before later one two =
+lists_then first old new n m xs ls ls' out_tells notes_tell list here there list_notes here_notes there_notes same before later one two =
+    let said = alike (n + 1) old ls ls' same in
     record {
-      new_is = two.new_is ∙ alike_behind old ls ls' alike ∙ ap (λ l. lister_behind l ls') one.new_is ∙ sym (behind_more first xs ls');
+      new_is = two.new_is ∙ said.behind ∙ ap (λ l. lister_behind l ls') one.new_is ∙ sym (behind_more first xs ls');
       counted =
           let a = one.counted in
           let b = two.counted in
-          let c = alike_length ls ls' alike in
+          let c = with_length (λ x y. said_of x ≡ said_of y) ls ls' same in
           let d = length-append xs ls' in
           omega arith;
       written = λ on.
           two.written on ∙ ap (λ w. w ++ listed old ls) (one.written on) ∙ append_assoc list.written (listed first xs) (listed old ls)
-          ∙ ap (λ t. list.written ++ t) (listed_joined first old xs ls ls' one.new_is alike);
+          ∙ ap (λ t. list.written ++ t) (listed_joined first old xs ls ls' one.new_is same);
       noted = λ on.
           let number : n + 1 ≡ 1 + length xs = let a = one.counted in omega arith in
           subst (λ t. IsNoted t (record { before = list_notes; now = there_notes }))
-          (ap (λ t. noted 1 first xs ++ t) (alike_noted (n + 1) old ls ls' alike ∙ ap (λ l. noted (n + 1) l ls') one.new_is)
+          (ap (λ t. noted 1 first xs ++ t) (said.notes ∙ ap (λ l. noted (n + 1) l ls') one.new_is)
           ∙ sym (noted_more 1 (n + 1) first xs ls' number))
           (noted_then list_notes here_notes there_notes (noted 1 first xs) (noted (n + 1) old ls) before later (one.noted on) (two.noted on));
     }
@@ -121,46 +110,16 @@ lists_then first old new n m xs ls ls' out_tells notes_tell list here there list
 front_then : (first old : Lister) (xs ls ls' more : List (List ℕ)) (w0 w1 w2 : List ℕ) → old ≡ lister_behind first xs → Alike ls ls'
     → w1 ≡ w0 ++ listed first xs → AppendsFront (listed old ls) w1 w2
     → AppendsFront (listed first ((xs ++ ls') ++ more)) w0 w2
-front_then first old xs ls ls' more w0 w1 w2 is alike before f =
+front_then first old xs ls ls' more w0 w1 w2 is same before f =
     let x = listed first xs in
     let y = listed old ls in
     let z = listed (lister_behind first (xs ++ ls')) more in
-    let all : listed first ((xs ++ ls') ++ more) ≡ (x ++ y) ++ z =
-    listed_more first (xs ++ ls') more ∙ ap (λ t. t ++ z) (sym (listed_joined first old xs ls ls' is alike)) in
-    let lens = length-append x y in
-    let longer = length-append (x ++ y) z in
-    let within = f.within in
-    subst (λ t. AppendsFront t w0 w2) (sym all) (record {
-      count = length x + f.count;
-      within = omega arith;
-      appended =
-          f.appended ∙ ap (λ w. w ++ take f.count y) before ∙ append_assoc w0 x (take f.count y)
-          ∙ ap (λ t. w0 ++ t) (sym (take-append-add x y f.count) ∙ sym (take-append-le (length x + f.count) (x ++ y) z (omega arith)));
-    })
+    subst (λ t. AppendsFront t w0 w2)
+    (ap (λ t. t ++ z) (listed_joined first old xs ls ls' is same) ∙ sym (listed_more first (xs ++ ls') more))
+    (front_first (x ++ y) z w0 w2 (front_behind x y w0 w1 w2 before f))
 
 -- ---- a page line by line
 
-front_of_more : (a b old new : List ℕ) → AppendsFront a old new → AppendsFront (a ++ b) old new
-front_of_more a b old new front = record {
-  count = front.count;
-  within = omega (arith, front.within, length-append a b);
-  appended = front.appended ∙ ap (λ t. old ++ t) (sym (take-append-le front.count a b front.within));
-}
-
-pub amid_first : (old : Lister) (count : ℕ) (all left : List (List ℕ)) (sheet : List ℕ) (out_tells notes_tell : Bool)
-    (list list_notes : SinkShown) → left ≡ all → sheet ≡ []
-    → IsAmid old old count count all left out_tells (record { before = list; now = list }) sheet notes_tell
-    (record { before = list_notes; now = list_notes })
-amid_first old count all left sheet out_tells notes_tell list list_notes is none = record {
-  front = [];
-  all_are = sym is;
-  now_is = refl;
-  counted = omega arith;
-  poured = λ on. record { gone = []; written_is = sym (append-nil list.written); sheet_is = sym none };
-  noted = λ on. none_noted list_notes;
-}
-
--- how many lines were listed, while others are left and behind the last one
 pub amid_few : (old now : Lister) (count at : ℕ) (all texts left : List (List ℕ)) (line : List ℕ) (out_tells notes_tell : Bool)
     (out notes : Change SinkShown) (sheet : List ℕ) → IsAmid old now count at all texts out_tells out sheet notes_tell notes
     → texts ≡ line ∷ left → at < count + length all
@@ -224,7 +183,7 @@ module _ (old now : Lister) (count at : ℕ) (all : List (List ℕ)) (sheet : Li
       ∙ sym (append_assoc (listed old a.front) (text_of (lister_behind old a.front) (said_of line)) more)
       ∙ ap (λ l. (listed old a.front ++ text_of l (said_of line)) ++ more) (sym a.now_is) in
       subst (λ t. AppendsFront t list.written there.written) (sym all_is)
-      (front_of_more (listed old a.front ++ text_of now (said_of line)) more list.written there.written
+      (front_first (listed old a.front ++ text_of now (said_of line)) more list.written there.written
       (text_then ends.Write list here there (listed old a.front) (text_of now (said_of line)) sheet (a.poured on) front))
 
   all_front : (front texts : List (List ℕ)) → all ≡ front ++ texts → texts ≡ [] → front ≡ all
@@ -263,37 +222,28 @@ module _ (old now : Lister) (count at : ℕ) (all : List (List ℕ)) (sheet : Li
 
 pub not_over : (bytes : List ℕ) → length bytes ≤ 1073741824 → is_over bytes ≡ false
 unfolding is_over
-not_over bytes few = let few' = few in grind (arith, nat_tests)
+not_over bytes few = le-ltb 1073741824 (length bytes) few
 
 over : (bytes : List ℕ) → 1073741824 < length bytes → is_over bytes ≡ true
 unfolding is_over
-over bytes many = let many' = many in grind (arith, nat_tests)
+over bytes many = lt-ltb 1073741824 (length bytes) many
 
 pub all_within : (bytes : List ℕ) → is_over bytes ≡ false → all_lines bytes ≡ lines bytes
 unfolding all_lines
-all_within bytes within = ap (λ b. cond b (whole_lines bytes) (lines bytes)) within
-
-ended_is : (front behind : List ℕ) → IsFinished front → newlines behind ≡ 0 → ended_lines (front ++ behind) ≡ lines front
-ended_is front behind finished alone =
-    let count : newlines (front ++ behind) ≡ length (lines front) =
-    let parts = newlines-append front behind in
-    let own = finished.counted in
-    omega arith in
-    ap (λ l. take (newlines (front ++ behind)) l) (finished.follow behind)
-    ∙ ap (λ n. take n (lines front ++ lines behind)) count ∙ take_at (lines front) (lines behind) (length (lines front)) refl
+all_within bytes within = cond-false (is_over bytes) _ _ within
 
 -- the whole lines of bytes within the limit, and of more behind as many as the limit allows
 whole_short : (front behind : List ℕ) → IsFinished front → newlines behind ≡ 0 → length (front ++ behind) ≤ 1073741824
     → whole_lines (front ++ behind) ≡ lines front
 unfolding whole_lines
 whole_short front behind finished alone few =
-    ap ended_lines (take_all 1073741824 (front ++ behind) few) ∙ ended_is front behind finished alone
+    ap ended_lines (take_all 1073741824 (front ++ behind) few) ∙ ended_alone front behind finished alone
 
 whole_full : (front behind more : List ℕ) → IsFinished front → newlines behind ≡ 0 → length (front ++ behind) ≡ 1073741824
     → whole_lines ((front ++ behind) ++ more) ≡ lines front
 unfolding whole_lines
 whole_full front behind more finished alone full =
-    ap ended_lines (take_at (front ++ behind) more 1073741824 full) ∙ ended_is front behind finished alone
+    ap ended_lines (take_at (front ++ behind) more 1073741824 full) ∙ ended_alone front behind finished alone
 
 -- ---- between two reads
 
@@ -362,7 +312,8 @@ module _ (first old now : Lister) (count bytes : ℕ) (taken kept : List ℕ) (o
     lines = all_lines source.taken;
     lines_are = are end off;
     now_is = λ whole. clash whole;
-    written = λ on. text end off (subst (λ l. AppendsFront (listed first l) list.written there.written) (sym all)
+    written = λ on. part_text end (listed first (all_lines source.taken)) (record { before = list; now = there }) off
+        (subst (λ l. AppendsFront (listed first l) list.written there.written) (sym all)
         (front_then first old (lines s.front) ls ls' more list.written here.written there.written s.listed.new_is alike (s.listed.written on)
         (front on)));
     noted = λ whole on. clash whole;
@@ -377,14 +328,6 @@ module _ (first old now : Lister) (count bytes : ℕ) (taken kept : List ℕ) (o
       are ends.Read is = absurd cc
       are ends.Write is = refl
       are ends.Memory is = refl
-
-      text : (e : LinesEnd) → is_whole e ≡ false → AppendsFront (listed first (all_lines source.taken)) list.written there.written
-          → EndsText e (listed first (all_lines source.taken)) (record { before = list; now = there })
-      text ends.Done is f = absurd cc
-      text ends.Cut is f = absurd cc
-      text ends.Read is f = absurd cc
-      text ends.Write is f = f
-      text ends.Memory is f = f
 
   pub ended_amid : (end : LinesEnd) (source : SourceShown) (added page rest : List ℕ) (bytes' : ℕ) → is_whole end ≡ false
       → IsCut s.behind added page rest → source.taken ≡ taken ++ added → bytes' ≡ bytes + length added → bytes' ≤ 1073741824
@@ -493,11 +436,7 @@ pub last_page : (old new page : List ℕ) (n : ℕ) → n ≡ 0 → length new �
 last_page old new page n none count kept is = is ∙ same_page old new n none count kept
 
 nothing_more : (old new : List ℕ) (n : ℕ) → n ≡ 0 → length new ≡ length old + n → drop (length old) new ≡ []
-nothing_more old new n none count = empty (drop (length old) new) (let len = length-drop (length old) new in omega arith)
-  where
-    empty : (xs : List ℕ) → length xs ≡ 0 → xs ≡ []
-    empty [] e = refl
-    empty (x ∷ xs) e = absurd (omega arith)
+nothing_more old new n none count = nil_from_length (drop (length old) new) (let len = length-drop (length old) new in omega arith)
 
 pub last_taken : (old new taken left taken' left' : List ℕ) (n : ℕ) → n ≡ 0 → length new ≡ length old + n
     → Moves (drop (length old) new) taken left taken' left' → taken' ≡ taken

@@ -1,8 +1,9 @@
 -- What a run comes to, by how its lines ended.
 use Rattle.std.proofs.Common.{◌≡◌, ℕ, ◌+◌, ◌≤◌, ◌⊎◌, ◌||◌, not, Bool, true, false, cond, List, [], ◌++◌, length, take, refl, sym, ap, ◌∙◌, subst, inl, inr, arith}
 use Rattle.std.specs.Prelude.{IsTrue}
-use Rattle.std.proofs.lemmas.List.{append-nil, length-append}
-use Rattle.std.proofs.Math.Seq.{take-append-add}
+use Rattle.std.proofs.lemmas.Bool.{both_ways, cond-false, cond-true}
+use Rattle.std.proofs.lemmas.List.{append-nil}
+use Rattle.outer_io.proofs.Fronts.{behind}
 use Rattle.outer_io.specs.Bytes.{AppendsFront}
 use Rattle.outer_io.specs.Shown.{Change, SinkShown, WriteFailed}
 use Rattle.line_teller.specs.declared.ending.LinesEnd.{LinesEnd}
@@ -20,19 +21,6 @@ use Rattle.reading_list_main.specs.Limits.{is_over, all_lines}
 use Rattle.reading_list_main.specs.Pages.{EndsLines, Ended}
 use Rattle.reading_list_main.specs.Run.{Run, IsRun, IsListed, IsListedSoFar, IsCausedBy, IsUnhindered, lists_all, list_text, report_notes, is_faultless, status_of}
 use Rattle.reading_list_main.specs.Running.{is_read_out, end_notes, ToldLines, IsToldRun}
-
--- ---- notes behind all lines
-
-pub quiet_end : (end : LinesEnd) (l : Lister) (notes : SinkShown) → is_whole end ≡ false
-    → IsNoted (end_notes end l) (record { before = notes; now = notes })
-quiet_end end l notes off =
-    subst (λ t. IsNoted t (record { before = notes; now = notes }))
-    (sym (ap (λ b. cond b (ending_text (not (is_read_out end) || l.whole) l.noted) []) off)) (none_noted notes)
-
-pub whole_end : (end : LinesEnd) (l : Lister) (sink : Change SinkShown) → is_whole end ≡ true
-    → IsNoted (ending_text (not (is_read_out end) || l.whole) l.noted) sink → IsNoted (end_notes end l) sink
-whole_end end l sink on noted =
-    subst (λ t. IsNoted t sink) (sym (ap (λ b. cond b (ending_text (not (is_read_out end) || l.whole) l.noted) []) on)) noted
 
 -- ---- lines that were told
 
@@ -69,12 +57,8 @@ front_behind : (form : Form) (lines all : List (List ℕ)) (before written : Lis
     → AppendsFront (listed (fresh form) lines) before written
     → AppendsFront (list_text form all) [] written
 front_behind form lines all before written is head front =
-    subst (λ ls. AppendsFront (list_text form ls) [] written) is (record {
-      count = length (head_text form) + front.count;
-      within = omega (arith, front.within, length-append (head_text form) (listed (fresh form) lines));
-      appended = front.appended ∙ ap (λ t. t ++ take front.count (listed (fresh form) lines)) head
-          ∙ sym (take-append-add (head_text form) (listed (fresh form) lines) front.count);
-    })
+    subst (λ ls. AppendsFront (list_text form ls) [] written) is
+    (behind (head_text form) (listed (fresh form) lines) [] before written head front)
 
 module _ (run : Run) (head : SinkShown) (later : run.out.before.faults ≤ head.faults) (head_is : IsTrue run.list_tells
     → head.written ≡ head_text run.form)
@@ -98,13 +82,12 @@ module _ (run : Run) (head : SinkShown) (later : run.out.before.faults ≤ head.
   wrote is = rose_then run.out.before.faults head.faults run.out.now.faults later later_out (t.write is)
 
   -- the ending of a run that lists all
-  is_done : (end : LinesEnd) (faultless : Bool) (status : ListStatus) → status ≡ status_of end faultless → IsTrue (lists_all status)
-      → end ≡ ends.Done
-  is_done ends.Done faultless status is on = refl
-  is_done ends.Read faultless status is on = absurd (let off = subst (λ s. IsTrue (lists_all s)) is on in cc)
-  is_done ends.Cut faultless status is on = absurd (let off = subst (λ s. IsTrue (lists_all s)) is on in cc)
-  is_done ends.Write faultless status is on = absurd (let off = subst (λ s. IsTrue (lists_all s)) is on in cc)
-  is_done ends.Memory faultless status is on = absurd (let off = subst (λ s. IsTrue (lists_all s)) is on in cc)
+  is_done : (end : LinesEnd) (faultless : Bool) → IsTrue (lists_all (status_of end faultless)) → end ≡ ends.Done
+  is_done ends.Done faultless on = refl
+  is_done ends.Read faultless on = absurd cc
+  is_done ends.Cut faultless on = absurd cc
+  is_done ends.Write faultless on = absurd cc
+  is_done ends.Memory faultless on = absurd cc
 
   is_listed : t.end ≡ ends.Done → IsTrue run.report_tells → IsListed run
   is_listed done tells =
@@ -155,21 +138,18 @@ module _ (run : Run) (head : SinkShown) (later : run.out.before.faults ≤ head.
   caused_by ends.Write faultless is = wrote is
   caused_by ends.Memory faultless is = tt
 
-  over_clash : {A : Type 0} (b : Bool) → b ≡ true → b ≡ false → A
-  over_clash b on off = let no_way : true ≡ false = sym on ∙ off in absurd cc
-
   complete_by : (end : LinesEnd) (faultless : Bool) → t.end ≡ end → IsTrue run.report_tells → IsUnhindered run
       → IsTrue (lists_all (status_of end faultless)) ⊎ (status_of end faultless ≡ statuses.Memory)
   complete_by ends.Done true is tells u = inl refl
   complete_by ends.Done false is tells u = inl refl
   complete_by ends.Read faultless is tells u = absurd (u.read (t.read is))
-  complete_by ends.Cut faultless is tells u = over_clash (is_over run.report.before.left) (caused_by ends.Cut faultless is tells) u.within
+  complete_by ends.Cut faultless is tells u = absurd (both_ways (is_over run.report.before.left) u.within (caused_by ends.Cut faultless is tells))
   complete_by ends.Write faultless is tells u = absurd (u.written (wrote is))
   complete_by ends.Memory faultless is tells u = inr refl
 
   pub ran : IsRun run
   ran = record {
-    listed = λ on tells. is_listed (is_done t.end t.faultless run.status t.status on) tells;
+    listed = λ on tells. is_listed (is_done t.end t.faultless (subst (λ s. IsTrue (lists_all s)) t.status on)) tells;
     so_far = λ tells on.
         subst (λ s. IsListedSoFar s run.form run.report.now.taken run.out.now.written) (sym t.status)
         (so_far_by t.end t.faultless (t.told tells).lines (t.told tells).lines_are ((t.told tells).listed on) (head_is on));

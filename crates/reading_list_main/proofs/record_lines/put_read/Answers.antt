@@ -10,7 +10,7 @@ pub returns : goal.returns
 unfolding read_members
 returns g c =
     let read = c.full_record_of-record.ensures in
-    pieces_put c.args.form _ _ _ _ _ _ _ _ _ _ _ _ _ _ _ _ _ _ _ _ read.quantity read.unit read.value read.unset c.bytes_at-sent.ensures
+    pieces_put c.args.form read.quantity read.unit read.value read.unset c.bytes_at-sent.ensures
     (c.as_slice-qualifiers.ensures.value ∙ read.qualifiers) read.data_type (ap (λ (u : Unit). u.quantity) c.unit_of-profile.ensures)
     (c.bytes_at-modifiers.ensures
     ∙ ap (λ (u : Unit). bytes_at c.args.bytes.now u.modifiers_at u.modifiers) c.unit_of-profile.ensures)
