@@ -1,11 +1,11 @@
 -- A state under a roster, meter by meter.
-use Rattle.std.proofs.Common.{◌≡◌, ℕ, ◌+◌, ◌≤◌, ◌<◌, ◌==◌, ◌^◌, ◌-◌, max, not, Bool, true, false, cond, List, [], ◌∷◌, ◌++◌, length, map, find, position, slice_get, codes, Option, Some, None, option_copied, refl, sym, ap, ◌∙◌, subst, arith}
+use Rattle.std.proofs.Common.{◌≡◌, ℕ, ◌+◌, ◌≤◌, ◌==◌, ◌^◌, ◌-◌, max, not, Bool, true, false, cond, List, [], ◌∷◌, ◌++◌, length, map, position, slice_get, codes, Option, Some, None, refl, sym, ap, ◌∙◌, subst, arith}
 use Rattle.std.specs.Prelude.{nat_lt}
 use Rattle.std.specs.List.{flat_map, position_or_len}
 use Rattle.std.specs.Option.{ForSome}
 use Rattle.std.proofs.lemmas.Bool.Decides.{nat_tests}
 use Rattle.std.proofs.lemmas.List.{append-nil, length-map}
-use Rattle.std.proofs.lemmas.List.Folds.{find_at}
+use Rattle.std.proofs.lemmas.List.Folds.{find_at, flat_map-map}
 use Rattle.std.proofs.lemmas.Option.{slice_get_past}
 use Rattle.paper.specs.Puts.{Puts}
 use Rattle.paper.proofs.Calls.{four_make}
@@ -16,7 +16,7 @@ use Rattle.meter_address.specs.declared.commission.Mode.TheVariants.{Five, Seven
 use Rattle.meter_address.specs.Commission.{Commissioned, FitsMode, most_last}
 use Rattle.roster_file.specs.Roster.{Enrolled}
 use Rattle.roster_file.specs.Text.{meter_text, own_text}
-use Rattle.meter_slots.specs.Journal.{Start, commission_of, fresh_start, greater}
+use Rattle.meter_slots.specs.Journal.{Start, commission_of, fresh_start}
 use Rattle.state_file.specs.Whole.{Known}
 use Rattle.state_file.specs.Written.{block_text, state_text}
 use Rattle.state_file.specs.Recommissioning.{recommissioned}
@@ -108,15 +108,10 @@ fresh_block starts c none puts =
     is_put (merged_block starts c) (meter_text c)
     (ap (λ (o : Option Start). block_text (with_known o c)) (sym none) ∙ fresh_text c) puts
 
-blocks_are : (starts : List Start) (cs : List Commissioned)
-    → flat_map block_text (map (merged_meter starts) cs) ≡ flat_map (merged_block starts) cs
-blocks_are starts [] = refl
-blocks_are starts (c ∷ cs) = ap (λ (t : List ℕ). merged_block starts c ++ t) (blocks_are starts cs)
-
 text_is : (s : Known) (r : Enrolled) → state_text (merged s r)
     ≡ codes "wmbus-state 1\n" ++ own_text r.own ++ flat_map (merged_block s.starts) r.meters ++ codes "end\n"
 unfolding state_text
-text_is s r = ap (λ (t : List ℕ). codes "wmbus-state 1\n" ++ own_text r.own ++ t ++ codes "end\n") (blocks_are s.starts r.meters)
+text_is s r = ap (λ (t : List ℕ). codes "wmbus-state 1\n" ++ own_text r.own ++ t ++ codes "end\n") (flat_map-map block_text (merged_meter s.starts) r.meters)
 
 pub merged_pieces : {P : Type 0} {takes : P → List ℕ → P → Type 0} {p q r s t : P} (known : Known) (enrolled : Enrolled) (next : Known)
     → merged known enrolled ≡ next → Puts takes p (codes "wmbus-state 1\n") q → Puts takes q (own_text enrolled.own) r

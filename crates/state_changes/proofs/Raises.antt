@@ -1,5 +1,5 @@
 -- A state whose counters are raised, meter by meter.
-use Rattle.std.proofs.Common.{◌≡◌, ℕ, ◌+◌, ◌-◌, ◌^◌, ◌≤◌, min, Bool, true, false, cond, List, [], ◌∷◌, ◌++◌, map, find, codes, Option, Some, None, option_map, refl, sym, ap, ◌∙◌, subst, arith}
+use Rattle.std.proofs.Common.{◌≡◌, ℕ, ◌+◌, ◌-◌, ◌^◌, ◌≤◌, min, Bool, true, false, cond, List, [], ◌∷◌, ◌++◌, map, find, codes, Some, None, option_map, refl, sym, ap, ◌∙◌, arith}
 use Rattle.std.specs.Prelude.{nat_lt}
 use Rattle.std.specs.List.{flat_map}
 use Rattle.std.proofs.lemmas.Bool.Decides.{nat_tests}
@@ -7,7 +7,6 @@ use Rattle.paper.specs.Puts.{Puts}
 use Rattle.paper.proofs.Calls.{four_make}
 use Rattle.paper.proofs.Items.{is_put}
 use Rattle.meter_address.specs.Commission.{Commissioned}
-use Rattle.meter_address.specs.declared.address.Address.{Address}
 use Rattle.roster_file.specs.Text.{own_text}
 use Rattle.meter_slots.specs.Journal.{Start, commission_of}
 use Rattle.meter_slots.specs.Resuming.{reserved}
@@ -41,13 +40,11 @@ fits n c h = at (c.orders.down + n) h
     at : (k : ℕ) → nat_lt (2 ^ 32 - 1) k ≡ false → k ≤ 2 ^ 32 - 1
     at k off = grind (arith, nat_tests)
 
-below : (k : ℕ) → k ≤ 2 ^ 32 - 1 → min k (2 ^ 32 - 1) ≡ k
-below k h = omega (arith, h)
-
 -- such a meter's block is that of the meter with its reserve
 block_is : (n : ℕ) (c : Start) → is_spent n c ≡ false → block_text (reserved n c) ≡ capped_block n c
 block_is n c h =
-    ap (λ (k : ℕ). block_text (recommissioned c (record (commission_of c) { down = k }))) (sym (below (c.orders.down + n) (fits n c h)))
+    let same : min (c.orders.down + n) (2 ^ 32 - 1) ≡ c.orders.down + n = (let fit = fits n c h in omega arith) in
+    ap (λ (k : ℕ). block_text (recommissioned c (record (commission_of c) { down = k }))) (sym same)
 
 blocks_are : (n : ℕ) (cs : List Start) → first_spent n cs ≡ None
     → flat_map block_text (map (reserved n) cs) ≡ flat_map (capped_block n) cs

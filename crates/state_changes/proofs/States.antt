@@ -1,29 +1,25 @@
 -- Changed states are states, and what stays in them.
-use Rattle.std.proofs.Common.{◌≡◌, ℕ, ◌+◌, ◌-◌, ◌^◌, ◌≤◌, ◌<◌, ◌==◌, max, Bool, true, false, cond, List, [], ◌∷◌, length, map, find, Option, Some, None, Ok, refl, sym, ap, ◌∙◌, subst, arith}
+use Rattle.std.proofs.Common.{◌≡◌, ℕ, ◌+◌, ◌^◌, ◌≤◌, ◌<◌, ◌==◌, max, Bool, true, false, cond, List, [], ◌∷◌, map, Option, Some, None, Ok, refl, sym, ap, ap₂, ◌∙◌, subst, arith}
 use Rattle.std.proofs.lemmas.List.{length-map}
+use Rattle.std.proofs.lemmas.Simd.{map-map}
 use Rattle.lists.specs.Each.{Each}
 use Rattle.meter_address.specs.declared.address.Address.{Address}
 use Rattle.meter_address.specs.declared.commission.Mode.{Mode}
-use Rattle.meter_address.specs.declared.commission.Mode.TheVariants.{Five, Seven}
+use Rattle.meter_address.specs.declared.commission.Mode.TheVariants.{Seven}
 use Rattle.meter_address.specs.Address.{AreApart}
 use Rattle.meter_address.specs.Commission.{Commissioned, IsCommission}
 use Rattle.command_queue.specs.declared.command.Command.{Command}
-use Rattle.command_queue.specs.Pending.{Pending, IsSound, IdsRise}
-use Rattle.roster_file.specs.Roster.{Enrolled, roster_of}
-use Rattle.roster_file.specs.Text.{roster_text}
-use Rattle.roster_file.proofs.ReadBack.{written_is_read as roster_is_read}
-use Rattle.roster_file.specs.Enrolled.{IsEnrolled}
-use Rattle.meter_slots.specs.Journal.{Start, commission_of, fresh_start, greater}
+use Rattle.command_queue.specs.Pending.{IsSound, IdsRise}
+use Rattle.meter_slots.specs.Journal.{Start, commission_of}
 use Rattle.meter_slots.specs.Resuming.{reserved}
 use Rattle.state_file.specs.Text.{IsTold}
-use Rattle.state_file.specs.Whole.{Known, fresh_known, state_of}
-use Rattle.state_file.proofs.ReadStates.{read_is_state}
-use Rattle.state_file.proofs.RosterStates.{rosters_are_states}
+use Rattle.state_file.specs.Whole.{Known, state_of}
+use Rattle.state_file.proofs.ReadStates.{fresh_is}
 use Rattle.state_file.specs.Written.{IsStart, IsState, state_text}
 use Rattle.state_file.specs.Recommissioning.{recommissioned}
 use Rattle.state_file.proofs.WholeLength.{written_is_read}
-use Rattle.state_changes.specs.Merging.{greater_of, last_kept, merged_commission, known_among, with_known, merged_meter, merged}
-use Rattle.state_changes.specs.Raising.{raised, is_spent, first_spent}
+use Rattle.state_changes.specs.Merging.{greater_of, last_kept, merged_commission, known_among, with_known, merged_meter}
+use Rattle.state_changes.specs.Raising.{is_spent, first_spent}
 use Rattle.state_changes.specs.Laws.{IsNotBelow, IsMerged, KnownStay, MergedAreStates, RaisedAreStates}
 use Rattle.state_changes.proofs.Merges.{kept_fits}
 use Rattle.state_changes.proofs.Raises.{parts, fits}
@@ -53,26 +49,14 @@ start_under : (m : Start) (c : Commissioned) → m.orders.queue.ids ≤ c.ids �
 start_under m c more commission start =
     record { commission = commission; told = told_under m c more start.told; few = start.few }
 
--- one that is just commissioned: a roster of it is read as a state
-fresh_is_start : (c : Commissioned) → IsCommission c → IsStart (fresh_start c)
-fresh_is_start c commission =
-    let r : Enrolled = record { own = c.address; meters = c ∷ [] } in
-    let back : roster_of (roster_text r) ≡ Ok r =
-    roster_is_read r (record { own = commission.address; few = omega arith; apart = (refl, tt); each = (commission, tt) }) in
-    let state : IsState (fresh_known r) = read_is_state (roster_text r) (fresh_known r) (rosters_are_states (roster_text r) r back) in
-    state.each.0
-
-both_below : (a b most : ℕ) → a < most → b < most → max a b < most
-both_below a b most one two = omega (arith, one, two)
-
 merged_commission_is : (m c : Commissioned) → IsCommission m → IsCommission c → IsCommission (merged_commission m c)
 merged_commission_is m c one two = record {
   address = two.address;
   key = two.key;
   other = two.other;
   fits = kept_fits m.mode c.mode m.other c.other m.last c.last (last_kept m.mode c.mode m.last c.last) one.fits two.fits refl;
-  down = both_below m.down c.down (2 ^ 32) one.down two.down;
-  ids = both_below m.ids c.ids (2 ^ 32) one.ids two.ids;
+  down = omega (arith, one.down, two.down);
+  ids = omega (arith, one.ids, two.ids);
 }
 
 left_max : (a b : ℕ) → a ≤ max a b
@@ -82,7 +66,7 @@ right_max : (a b : ℕ) → b ≤ max a b
 right_max a b = omega arith
 
 with_is_start : (o : Option Start) (c : Commissioned) → ((m : Start) → o ≡ Some m → IsStart m) → IsCommission c → IsStart (with_known o c)
-with_is_start None c known commission = fresh_is_start c commission
+with_is_start None c known commission = fresh_is c commission
 with_is_start (Some m) c known commission =
     let start = known m refl in
     start_under m (merged_commission (commission_of m) c) (left_max m.orders.queue.ids c.ids)
@@ -108,10 +92,8 @@ merged_address (Some m) c = refl
 same_addresses : (starts : List Start) (cs : List Commissioned)
     → map (λ (c : Start). c.address) (map (merged_meter starts) cs) ≡ map (λ (c : Commissioned). c.address) cs
 same_addresses starts [] = refl
-same_addresses starts (c ∷ cs) = cons _ _ _ _ (merged_address (known_among c.address starts) c) (same_addresses starts cs)
-  where
-    cons : (a b : Address) (xs ys : List Address) → a ≡ b → xs ≡ ys → a ∷ xs ≡ b ∷ ys
-    cons a b xs ys e f = cc
+same_addresses starts (c ∷ cs) =
+    ap₂ (λ (a : Address) (xs : List Address). a ∷ xs) (merged_address (known_among c.address starts) c) (same_addresses starts cs)
 
 each_merged : (starts : List Start) (cs : List Commissioned) → Each IsStart starts → Each IsCommission cs
     → Each IsStart (map (merged_meter starts) cs)
@@ -153,15 +135,11 @@ each_raised n [] none each = tt
 each_raised n (c ∷ cs) none each =
     let both = parts n c cs none in (raised_start n c both.0 each.0, each_raised n cs both.1 each.1)
 
-raised_addresses : (n : ℕ) (cs : List Start) → map (λ (c : Start). c.address) (map (reserved n) cs) ≡ map (λ (c : Start). c.address) cs
-raised_addresses n [] = refl
-raised_addresses n (c ∷ cs) = ap (λ (xs : List Address). c.address ∷ xs) (raised_addresses n cs)
-
 pub raised_are_states : RaisedAreStates
 raised_are_states n s state none = record {
   own = state.own;
   few = (let same = length-map s.starts (reserved n) in let few = state.few in omega arith);
-  apart = subst AreApart (sym (raised_addresses n s.starts)) state.apart;
+  apart = subst AreApart (sym (map-map (λ (c : Start). c.address) (reserved n) s.starts)) state.apart;
   each = each_raised n s.starts none state.each;
 }
 

@@ -3,6 +3,7 @@ ghost use Rattle.state_changes.specs.Laws.{KnownStay, MergedAreStates, RaisedAre
 
 /// Of a known meter the mode and the keys are the roster's, its commands, fragments and last reading stay, and no counter of it falls below
 /// that of the state or of the roster.
+#[tactic(auto, using(crate::proofs::States::known_stay))]
 pub fn known_meters_stay()
     ensures { KnownStay }
 {}

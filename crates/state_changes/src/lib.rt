@@ -13,6 +13,6 @@ mod status;
 pub use command_words::{are_merge_words, read_raise};
 pub use loading::{load_merged, load_raised, write_next};
 pub use merging::Merged;
-pub use message::Said;
+pub use message::ChangeMessage;
 pub use raising::Raised;
 pub use status::ChangeStatus;

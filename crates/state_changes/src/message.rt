@@ -6,7 +6,7 @@ use std::fmt;
 
 /// A status, said by the program of this name.
 #[derive(Clone, Copy)]
-pub struct Said {
+pub struct ChangeMessage {
     /// The program's name.
     pub program: &'static str,
     /// How the change ended.
@@ -26,7 +26,7 @@ fn write_spent<W: fmt::Write>(
 }
 
 /// The line for the standard error, without its end.
-impl fmt::Display for Said {
+impl fmt::Display for ChangeMessage {
     fn fmt<W: fmt::Write>(&self, f: &mut fmt::Formatter<W>) -> fmt::Result {
         let program = self.program;
         match self.status {

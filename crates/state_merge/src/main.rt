@@ -13,7 +13,9 @@ ghost use Rattle.state_merge.specs.Exit.{IsRunExit};
 
 use outer_io::{Source, StdSink, StdSource};
 use program_words::{NoWords, cannot_open, command_words, own_text, tell};
-use state_changes::{ChangeStatus, Merged, Said, are_merge_words, load_merged, write_next};
+use state_changes::{
+    ChangeMessage, ChangeStatus, Merged, are_merge_words, load_merged, write_next,
+};
 use std::fs::{File, Files};
 use std::os::unix::fs::OpenOptionsExt;
 use std::process::ExitCode;
@@ -47,7 +49,7 @@ const PRIVATE: u32 = 0o600;
 fn end(rt: &impl Eprint, status: ChangeStatus) -> ExitCode
     ensures { exit_status result ≡ code_of status }
 {
-    let said = Said {
+    let said = ChangeMessage {
         program: "state_merge",
         status,
     };
@@ -133,7 +135,7 @@ fn perform<R: Print + Eprint + Files<File = File> + AllocGlobal>(
 {
     if let Some(own) = own_text(command) {
         let status = ChangeStatus::Write;
-        let said = Said {
+        let said = ChangeMessage {
             program: "state_merge",
             status,
         };

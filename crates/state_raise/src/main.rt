@@ -13,7 +13,7 @@ ghost use Rattle.state_raise.specs.Exit.{IsRunExit};
 
 use outer_io::{Source, StdSink, StdSource};
 use program_words::{NoWords, cannot_open, command_words, own_text, tell};
-use state_changes::{ChangeStatus, Raised, Said, load_raised, read_raise, write_next};
+use state_changes::{ChangeMessage, ChangeStatus, Raised, load_raised, read_raise, write_next};
 use std::fs::{File, Files};
 use std::os::unix::fs::OpenOptionsExt;
 use std::process::ExitCode;
@@ -47,7 +47,7 @@ const PRIVATE: u32 = 0o600;
 fn end(rt: &impl Eprint, status: ChangeStatus) -> ExitCode
     ensures { exit_status result ≡ code_of status }
 {
-    let said = Said {
+    let said = ChangeMessage {
         program: "state_raise",
         status,
     };
@@ -132,7 +132,7 @@ fn perform<R: Print + Eprint + Files<File = File> + AllocGlobal>(
 {
     if let Some(own) = own_text(command) {
         let status = ChangeStatus::Write;
-        let said = Said {
+        let said = ChangeMessage {
             program: "state_raise",
             status,
         };
