@@ -139,4 +139,12 @@ pub highest_is : (meters telegrams : ℕ) → highest meters telegrams ≡ teleg
 unfolding highest
 highest_is meters telegrams =
     let h = counted meters telegrams in
-    omega (arith, sum_of meters telegrams h meters (omega arith), h.strangers, h.whole, h.below, mul-add h.rounds meters 1, mul-one h.rounds)
+    omega (
+      arith,
+      sum_of meters telegrams h meters (omega arith),
+      h.strangers,
+      h.whole,
+      h.below,
+      mul-add h.rounds meters 1,
+      mul-one h.rounds,
+    )

@@ -47,7 +47,8 @@ numbers_left from (suc n) (suc k) at left is_at is_left = numbers_left (from + 1
 
 -- lines that are cut where a group or all of them end
 cut : (meters : List Commissioned) (before n k at left : ℕ) → at ≡ before + k → left + k ≡ n → (k % 4 ≡ 0) ⊎ (left ≡ 0)
-    → texts_heard (lines_behind meters before n) ≡ joined (texts_heard (lines_behind meters before k)) (texts_heard (lines_behind meters at left))
+    → texts_heard (lines_behind meters before n)
+    ≡ joined (texts_heard (lines_behind meters before k)) (texts_heard (lines_behind meters at left))
 cut meters before n k at left is_at is_left end =
     let front : take k (lines_behind meters before n) ≡ lines_behind meters before k =
     take-map-range_with_len (line_at meters) (before + 1) n k (omega arith) in
@@ -64,7 +65,8 @@ abbrev pub IsHeardTo : List Commissioned → (before count made : ℕ) → Texts
 IsHeardTo meters before count made run =
     joined run (texts_heard (lines_behind meters (before + made) (count - made))) ≡ texts_heard (lines_behind meters before count)
 
-pub none_heard : (meters : List Commissioned) (before count made : ℕ) (run : Texts) → made ≡ 0 → run ≡ nothing → IsHeardTo meters before count made run
+pub none_heard : (meters : List Commissioned) (before count made : ℕ) (run : Texts) → made ≡ 0 → run ≡ nothing
+    → IsHeardTo meters before count made run
 unfolding joined
 none_heard meters before count made run none is =
     ap (λ r. joined r (texts_heard (lines_behind meters (before + made) (count - made)))) is

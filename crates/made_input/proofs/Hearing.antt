@@ -53,7 +53,8 @@ groups_then by (a ∷ []) ys whole = absurd (omega arith)
 groups_then by (a ∷ b ∷ []) ys whole = absurd (omega arith)
 groups_then by (a ∷ b ∷ c ∷ []) ys whole = absurd (omega arith)
 groups_then by (a ∷ b ∷ c ∷ d ∷ later) ys whole =
-    ap (λ t. rotated by (a ∷ b ∷ c ∷ d ∷ []) ++ t) (groups_then by later ys (omega arith)) ∙ sym (append_assoc (rotated by (a ∷ b ∷ c ∷ d ∷ [])) _ _)
+    ap (λ t. rotated by (a ∷ b ∷ c ∷ d ∷ []) ++ t) (groups_then by later ys (omega arith))
+    ∙ sym (append_assoc (rotated by (a ∷ b ∷ c ∷ d ∷ [])) _ _)
 
 -- ---- the texts of what is heard are what is heard of the texts
 

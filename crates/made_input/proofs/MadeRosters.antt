@@ -65,7 +65,8 @@ is_commission number place = record {
   ids = omega arith;
 }
 
-each_of_range : {A : Type 0} (P : A → Type 0) (f : ℕ → A) → ((k : ℕ) → P (f k)) → (from count : ℕ) → Each P (map f (range_with_len from count))
+each_of_range : {A : Type 0} (P : A → Type 0) (f : ℕ → A) → ((k : ℕ) → P (f k)) → (from count : ℕ)
+    → Each P (map f (range_with_len from count))
 each_of_range P f h from zero = tt
 each_of_range P f h from (suc n) = (h from, each_of_range P f h (from + 1) n)
 

@@ -117,7 +117,8 @@ heard_lines count telegrams number by few =
     let order = heard_in_another_order by texts in
     let long = length-map-range_with_len text_at 1 telegrams in
     let each : All IsLine texts = All-from_get_or IsLine texts [] (λ i below. subst IsLine
-    (sym (get_or-map-range_with_len text_at 1 telegrams i (1 + i) [] (omega arith) refl)) (telegram_fits count number (1 + i) (omega arith))) in
+    (sym (get_or-map-range_with_len text_at 1 telegrams i (1 + i) [] (omega arith) refl))
+    (telegram_fits count number (1 + i) (omega arith))) in
     subst (λ text. HasLines text (heard by texts)) (ap concat (sym (lines_ended meters by telegrams)))
     (has_lines (heard by texts) (All-permutation IsLine texts (heard by texts) order each)
     (omega (arith, length_permutation texts (heard by texts) order)))

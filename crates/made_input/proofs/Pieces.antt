@@ -14,7 +14,8 @@ seen_from place text = record { taken = take place text; left = drop place text 
 
 module _ {P : Type 0} (bytes : P → List ℕ) (pieces : List P) where
   -- the bytes from a place on are those of its piece and of all behind it
-  from_place : (piece at : ℕ) → drop (place_in_all bytes pieces piece at) (flat_map bytes pieces) ≡ drop at (flat_map bytes (drop piece pieces))
+  from_place : (piece at : ℕ)
+      → drop (place_in_all bytes pieces piece at) (flat_map bytes pieces) ≡ drop at (flat_map bytes (drop piece pieces))
   unfolding place_in_all
   from_place piece at =
       let front : List P = take piece pieces in
@@ -25,7 +26,8 @@ module _ {P : Type 0} (bytes : P → List ℕ) (pieces : List P) where
 
   bytes_of_piece : (piece : ℕ) (d : P) → piece < length pieces → d ≡ get_or pieces piece d → bytes_at bytes pieces piece ≡ bytes d
   bytes_of_piece piece d within is =
-      ap (λ ps. flat_map bytes (take 1 ps)) (drop_more pieces piece d within) ∙ append-nil (bytes (get_or pieces piece d)) ∙ ap bytes (sym is)
+      ap (λ ps. flat_map bytes (take 1 ps)) (drop_more pieces piece d within)
+      ∙ append-nil (bytes (get_or pieces piece d)) ∙ ap bytes (sym is)
 
   -- where a piece is at its end, the next one begins
   pub turned : (piece at start : ℕ) (d : P) → piece < length pieces → d ≡ get_or pieces piece d → at ≡ length (bytes d)
@@ -67,7 +69,8 @@ module _ {P : Type 0} (bytes : P → List ℕ) (pieces : List P) where
       let here : drop start all ≡ rest ++ later = ap (λ m. drop m all) (sym same) ∙ from_place piece at
       ∙ ap (λ ps. drop at (flat_map bytes ps)) (drop_more pieces piece d within)
       ∙ ap (λ p. drop at (bytes p ++ later)) (sym there)
-      ∙ drop-append-le at (bytes d) later (omega (arith, ap length (bytes_of_piece piece d within there))) ∙ ap (λ b. b ++ later) (sym is_rest) in
+      ∙ drop-append-le at (bytes d) later (omega (arith, ap length (bytes_of_piece piece d within there)))
+      ∙ ap (λ b. b ++ later) (sym is_rest) in
       let first : front ≡ take n (drop start all) = is_front ∙ sym (take-append-le n rest later few) ∙ ap (take n) (sym here) in
       rw (bytes_on piece at n, same) (subst (λ (t : Text). Moves front t.taken t.left (take (start + n) all) (drop (start + n) all)) is
       (moves all start n front first))
