@@ -76,14 +76,15 @@ module _ (bytes more : List ℕ) (number : ℕ) (ls : List KeptLine) (line : Kep
       ∙ sym (length-append (big_bytes line.width number) more)
 
   pub each-next : FitsKind line.kind more → Each (IsKept (bytes ++ part)) (ls ++ line ∷ [])
-  each-next fits = each_push (IsKept (bytes ++ part)) ls line (each_map (IsKept bytes) (IsKept (bytes ++ part)) (kept-longer bytes part) ls before) (record {
-    within = let l = length-append bytes part in let p = part-long in omega arith;
-    least = least;
-    most = most;
-    wide = omega arith;
-    fits = subst (λ p. FitsKind line.kind (bytes_in line.width p)) (sym (part-last bytes part line.start line.len begins part-long))
-        (subst (FitsKind line.kind) (sym (bytes-behind line.width number more)) fits);
-  })
+  each-next fits = each_push (IsKept (bytes ++ part)) ls line
+      (each_map (IsKept bytes) (IsKept (bytes ++ part)) (kept-longer bytes part) ls before) (record {
+        within = let l = length-append bytes part in let p = part-long in omega arith;
+        least = least;
+        most = most;
+        wide = omega arith;
+        fits = subst (λ p. FitsKind line.kind (bytes_in line.width p)) (sym (part-last bytes part line.start line.len begins part-long))
+            (subst (FitsKind line.kind) (sym (bytes-behind line.width number more)) fits);
+      })
 
   pub told-next : map (told_kept (bytes ++ part)) (ls ++ line ∷ []) ≡ map (told_kept bytes) ls ++ told_again line.kind number more ∷ []
   told-next =

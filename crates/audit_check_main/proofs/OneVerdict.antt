@@ -95,7 +95,8 @@ one_faulty n p q lines h k = by_order p q (not_earlier n p q lines h k) (not_ear
 -- ---- where a list goes wrong
 
 -- the first pairs of those that are each the next one are so too
-fewer_next : (numbers : ℕ → List ℕ) (order : List (ℕ × ℕ)) (p q : ℕ) → p ≤ q → AreNext numbers (take q order) → AreNext numbers (take p order)
+fewer_next : (numbers : ℕ → List ℕ) (order : List (ℕ × ℕ)) (p q : ℕ) → p ≤ q
+    → AreNext numbers (take q order) → AreNext numbers (take p order)
 fewer_next numbers order p q few next w =
     let rest = drop p (take q order) in
     let cut : take q order ≡ take p order ++ rest =
@@ -240,7 +241,8 @@ module _ (a : Audited) where
   no_state r h k = absurd cc
 
   over_not : (w : ℕ) (r : Known) → Over w → IsReadable a r → ⊥
-  over_not w r h k = none_stops (λ input. is_over input ≡ false) (λ input. is_over input ≡ true) (λ input. is_over input ≡ false) never_both 1 w a.inputs h k.within
+  over_not w r h k =
+      none_stops (λ input. is_over input ≡ false) (λ input. is_over input ≡ true) (λ input. is_over input ≡ false) never_both 1 w a.inputs h k.within
 
   form_not : (line : ℕ) (r r' : Known) → IsReadable a r → IsFirstFaulty (length r.starts) (lines_in a.report) line → IsInForm a r' → ⊥
   form_not line r r' read h k =

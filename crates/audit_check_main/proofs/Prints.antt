@@ -65,7 +65,8 @@ all_left (s ∷ slots) h = All-cons IsLeft s slots h.0 (all_left slots h.1)
 same_addresses : (own : Address) (all : List (List Told)) (cs : List Start) (lists : List (List (ℕ × ℕ))) (slots : List SlotView)
     → AreOrderedSlots own all cs lists slots → map (λ (c : Start). c.address) (map known_now slots) ≡ map (λ (c : Start). c.address) cs
 same_addresses own all cs lists slots so =
-    with_fold (IsMetersSlot own all) (λ cs slots. map (λ (c : Start). c.address) (map known_now slots) ≡ map (λ (c : Start). c.address) cs) refl
+    with_fold (IsMetersSlot own all)
+    (λ cs slots. map (λ (c : Start). c.address) (map known_now slots) ≡ map (λ (c : Start). c.address) cs) refl
     (λ c s cs slots one _ rest. (λ i. (one.commission_is i).address ∷ rest i)) cs slots (meters_slots own all cs lists slots so)
 
 -- what slots leave that can be told is read back

@@ -142,7 +142,8 @@ module _ (above : List (List ℕ)) (old : ListsRead) (line : List ℕ) (so : Sta
   pub after_meter : {s t r : Bool} → IsKind line true s t r
       → StandsFor (line ∷ above) (record { meters = old.meters ++ [] ∷ []; strangers = old.strangers; open_list = opens.Meter })
   after_meter k = after _ k
-      (length-append old.meters ([] ∷ []) ∙ (let e : length old.meters + 1 ≡ suc (length (filter is_meter above)) = let c = so.count in omega arith in e))
+      (length-append old.meters ([] ∷ [])
+      ∙ (let e : length old.meters + 1 ≡ suc (length (filter is_meter above)) = let c = so.count in omega arith in e))
       refl (joined old.open_list)
     where
       pushed : (below : Told) → old.meters ++ below.above ∷ below.meters ≡ onto_last (old.meters ++ [] ∷ []) below.above ++ below.meters
@@ -173,7 +174,8 @@ module _ (above : List (List ℕ)) (old : ListsRead) (line : List ℕ) (so : Sta
 
   -- a line of a list, with the pair that it names
   listed : (pair : ℕ × ℕ) → pair_of line ≡ Some pair → (below : Told)
-      → joined_to old.open_list old (with_steps (pair_in (fields_of line)) below) ≡ joined_to old.open_list old (with_steps (pair ∷ []) below)
+      → joined_to old.open_list old (with_steps (pair_in (fields_of line)) below)
+      ≡ joined_to old.open_list old (with_steps (pair ∷ []) below)
   listed pair names below = ap (λ pairs. joined_to old.open_list old (with_steps pairs below)) (pair_read (fields_of line) pair names)
 
   pub after_step : {r : Bool} (new : ListsRead) → IsKind line false false true r → TakesStep line old new → StandsFor (line ∷ above) new

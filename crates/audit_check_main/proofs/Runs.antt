@@ -70,12 +70,14 @@ module _ (sources_tell sinks_tell : Bool) (words : List (List ℕ)) (state : Cha
 
   pub run_long : are_files words ≡ true → (IsTrue sources_tell → 1073741824 < length report.before.left) → Keeps → IsSilent out
       → IsRun (run_with statuses.LongReport)
-  run_long files long = made statuses.LongReport files long (λ t longer. tt) (λ t f. absurd (let l = long t in let s = f.short in omega arith))
+  run_long files long =
+      made statuses.LongReport files long (λ t longer. tt) (λ t f. absurd (let l = long t in let s = f.short in omega arith))
 
   pub run_read : (w : ℕ) → are_files words ≡ true → IsShort → IsFirst (λ source. IsTrue sources_tell → WasRead source) ReadFailed w inputs
       → Keeps → IsSilent out → IsRun (run_with (statuses.Read w))
   run_read w files short failed = made (statuses.Read w) files failed (λ t long. absurd (let s = short t in omega arith))
-      (λ t f. absurd (none_stops (λ source. IsTrue sources_tell → WasRead source) ReadFailed (λ source. ReadFailed source → ⊥) (λ source no yes. no yes) 1 w
+      (λ t f. absurd (none_stops (λ source. IsTrue sources_tell → WasRead source) ReadFailed
+      (λ source. ReadFailed source → ⊥) (λ source no yes. no yes) 1 w
       inputs failed f.inputs_steady))
 
 -- a text within the limit has fewer than 2^32 lines

@@ -69,7 +69,8 @@ module _ (own : Address) (all : List (List Told)) where
   -- the lists are the orders of the slots, and what stands behind them
   pub slots_orders : (cs : List Start) (lists : List (List (ℕ × ℕ))) (slots : List SlotView)
       → AreOrderedSlots own all cs lists slots → lists ≡ map (λ (s : SlotView). order_of s.journal) slots ++ drop (length cs) lists
-  slots_orders = slots_fold (λ cs lists slots. lists ≡ map (λ (s : SlotView). order_of s.journal) slots ++ drop (length cs) lists) (λ lists. refl)
+  slots_orders = slots_fold
+      (λ cs lists slots. lists ≡ map (λ (s : SlotView). order_of s.journal) slots ++ drop (length cs) lists) (λ lists. refl)
       (λ c order slot cs lists slots one _ rest. (λ i. sym one.in_order i ∷ rest i))
 
   pub as_many_slots : (cs : List Start) (slots : List SlotView) → EachWith (IsMetersSlot own all) cs slots → length slots ≡ length cs

@@ -1,17 +1,18 @@
 -- What the collector wrote is faithful.
-use Rattle.std.proofs.Common.{◌≡◌, ◌⊎◌, ℕ, zero, suc, ◌<◌, ◌≤◌, ◌^◌, ◌||◌, nat_lt, Bool, true, false, cond, IsTrue, List, [], ◌∷◌, ◌++◌, map, length, get_or, Option, Some, None, Result, Ok, Err, inl, inr, refl, sym, ap, ◌∙◌, subst, arith, append-nil, length-append}
+use Rattle.std.proofs.Common.{◌≡◌, ◌⊎◌, ℕ, ◌<◌, ◌≤◌, ◌^◌, false, IsTrue, List, [], ◌∷◌, ◌++◌, map, length, Option, Some, None, Result, Ok, Err, ⊎_elim, inl, inr, refl, sym, ap, ◌∙◌, subst, arith, append-nil, length-append}
 use Rattle.std.specs.Prelude.{IfSome}
 use Rattle.std.specs.List.{Contains}
-use Rattle.std.specs.Str.Lines.{lines}
+use Rattle.std.proofs.lemmas.Bool.{cases_lt, ltb-false, or_parts}
 use Rattle.std.proofs.lemmas.Bool.Decides.{nat_tests}
 use Rattle.std.proofs.lemmas.List.{length-map}
+use Rattle.std.proofs.lemmas.Option.{same_Some}
 use Rattle.lists.specs.Each.{Each, EachWith}
+use Rattle.lists.proofs.Members.{with_fold, with_length}
 use Rattle.outer_io.specs.Shown.{Change, SourceShown}
-use Rattle.line_reader.specs.Lines.{is_over, whole_lines, all_lines}
+use Rattle.line_reader.specs.Lines.{is_over, all_lines}
 use Rattle.meter_address.specs.declared.address.Address.{Address}
-use Rattle.meter_slots.specs.Journal.{Start, SlotView}
+use Rattle.meter_slots.specs.Journal.{SlotView}
 use Rattle.meter_slots.specs.World.{WorldView}
-use Rattle.meter_slots.specs.declared.counts.Ended.{Ended}
 use Rattle.meter_slots.specs.declared.counts.Ended.TheVariants as ends
 use Rattle.receivers.specs.declared.told.Told.{Told}
 use Rattle.receivers.specs.Classes.{counts_of}
@@ -48,8 +49,11 @@ use Rattle.audit_check_main.specs.declared.status.AuditStatus.TheVariants as ans
 use Rattle.audit_check_main.specs.declared.verdict.Cause.{Cause}
 use Rattle.audit_check_main.specs.declared.verdict.Verdict.{Verdict}
 use Rattle.audit_check_main.specs.declared.verdict.Verdict.TheVariants.{Yes, No}
+use Rattle.audit_check_main.proofs.HeardLists.{few_lines}
 use Rattle.audit_check_main.proofs.InForm.{report_in_form}
 use Rattle.audit_check_main.proofs.OneVerdict.{one_verdict}
+use Rattle.audit_check_main.proofs.Steps.{each_at}
+use Rattle.audit_check_main.proofs.Verdicts.{lines_within}
 use Rattle.audit_laws.specs.Laws.{IsAudited, IsNextOf}
 
 -- ---- a receiver that heard an input to its end
@@ -62,13 +66,10 @@ record HeardOut (input : List ℕ) (heard : HeardLines) : Type 0 where
   all : heard.lines ≡ all_lines input
   ended : heard.ended ≡ ends.End
 
-same_end : (o : Option Ended) (e : Ended) → o ≡ Some ends.End → o ≡ Some e → e ≡ ends.End
-same_end o e h k = let same : Some e ≡ Some ends.End = sym k ∙ h in cc
-
 heard_one : (cs : List Address) (run : ReceiverRun) (heard : HeardLines) → run.ended ≡ Some ends.End → collector.EndsSo cs run heard
     → HeardOut (bytes_heard run) heard
 heard_one cs run heard ended so =
-    let at_end : heard.ended ≡ ends.End = same_end run.ended heard.ended ended so.ended in
+    let at_end : heard.ended ≡ ends.End = same_Some heard.ended ends.End (sym so.ended ∙ ended) in
     let lines = subst (λ e. IsEnding e run.source.now.taken run.source.now.left heard.lines) at_end so.lines in
     let whole : run.source.now.taken ≡ bytes_heard run =
     sym (append-nil run.source.now.taken) ∙ (ap (λ l. run.source.now.taken ++ l) (sym lines.nothing_left) ∙ so.first_bytes) in
@@ -76,69 +77,43 @@ heard_one cs run heard ended so =
 
 heard_each : (cs : List Address) (runs : List ReceiverRun) (heard : List HeardLines) → Each (collector.HasEnded ends.End) runs
     → EachWith (collector.EndsSo cs) runs heard → EachWith HeardOut (map bytes_heard runs) heard
-heard_each cs [] [] ended so = tt
-heard_each cs [] (h ∷ heard) ended so = absurd so
-heard_each cs (r ∷ runs) [] ended so = absurd so
-heard_each cs (r ∷ runs) (h ∷ heard) ended so = (heard_one cs r h ended.0 so.0, heard_each cs runs heard ended.1 so.1)
+heard_each cs runs heard ended so = with_fold (collector.EndsSo cs)
+    (λ runs heard. Each (collector.HasEnded ends.End) runs → EachWith HeardOut (map bytes_heard runs) heard) (λ ended. tt)
+    (λ r h runs heard one _ rest ended. (heard_one cs r h ended.0 one, rest ended.1)) runs heard so ended
 
 all_within : (inputs : List (List ℕ)) (heard : List HeardLines) → EachWith HeardOut inputs heard
     → Each (λ input. is_over input ≡ false) inputs
-all_within [] [] h = tt
-all_within [] (x ∷ heard) h = absurd h
-all_within (i ∷ inputs) [] h = absurd h
-all_within (i ∷ inputs) (x ∷ heard) h = (h.0.within, all_within inputs heard h.1)
+all_within = with_fold HeardOut (λ inputs heard. Each (λ input. is_over input ≡ false) inputs) tt (λ i x inputs heard one _ rest. (one.within, rest))
 
 all_told : (inputs : List (List ℕ)) (heard : List HeardLines) → EachWith HeardOut inputs heard → map tellings heard ≡ map told_in inputs
-all_told [] [] h = refl
-all_told [] (x ∷ heard) h = absurd h
-all_told (i ∷ inputs) [] h = absurd h
-all_told (i ∷ inputs) (x ∷ heard) h = (λ k. map told_of (h.0.all k) ∷ all_told inputs heard h.1 k)
+all_told = with_fold HeardOut (λ inputs heard. map tellings heard ≡ map told_in inputs) refl
+    (λ i x inputs heard one _ rest. (λ k. map told_of (one.all k) ∷ rest k))
 
 abbrev end_with : List Address → HeardLines → ReceiverEnd
 end_with cs r = record { counts = counts_of cs (tellings r); ended = r.ended }
 
 all_ends : (cs : List Address) (inputs : List (List ℕ)) (heard : List HeardLines) → EachWith HeardOut inputs heard
     → map (end_with cs) heard ≡ map (heard_out cs) inputs
-all_ends cs [] [] h = refl
-all_ends cs [] (x ∷ heard) h = absurd h
-all_ends cs (i ∷ inputs) [] h = absurd h
-all_ends cs (i ∷ inputs) (x ∷ heard) h =
-    (λ k. record { counts = counts_of cs (map told_of (h.0.all k)); ended = h.0.ended k } ∷ all_ends cs inputs heard h.1 k)
+all_ends cs = with_fold HeardOut (λ inputs heard. map (end_with cs) heard ≡ map (heard_out cs) inputs) refl
+    (λ i x inputs heard one _ rest. (λ k. record { counts = counts_of cs (map told_of (one.all k)); ended = one.ended k } ∷ rest k))
 
 -- ---- limits
 
-neither : (x y : Bool) → (x || y) ≡ false → (x ≡ false) × (y ≡ false)
-neither true y h = absurd cc
-neither false y h = (refl, h)
-
 bytes_within : (input : List ℕ) → is_over input ≡ false → length input ≤ 67108864
 unfolding is_over
-bytes_within input h = let test = (neither (nat_lt 67108864 (length input)) (nat_lt 131072 (length (lines input))) h).0 in
-    grind (arith, nat_tests)
-
-lines_within : (input : List ℕ) → is_over input ≡ false → length (lines input) ≤ 131072
-unfolding is_over
-lines_within input h = let test = (neither (nat_lt 67108864 (length input)) (nat_lt 131072 (length (lines input))) h).1 in
-    grind (arith, nat_tests)
-
-all_of : (input : List ℕ) → is_over input ≡ false → all_lines input ≡ lines input
-unfolding all_lines
-all_of input h = ap (λ b. cond b (whole_lines input) (lines input)) h
+bytes_within input h = ltb-false 67108864 (length input) (or_parts _ _ h).0
 
 few_told : (inputs : List (List ℕ)) → Each (λ input. is_over input ≡ false) inputs
     → Each (λ (heard : List Told). length heard < 2 ^ 32) (map told_in inputs)
 few_told [] h = tt
 few_told (i ∷ inputs) h = (
-  let few = lines_within i h.0 in let long = length-map (all_lines i) told_of in let same = ap length (all_of i h.0) in omega arith,
+  let few = few_lines i h.0 in let long = length-map (all_lines i) told_of in let same = ap length (lines_within i h.0) in omega arith,
   few_told inputs h.1,
 )
 
 is_short : (text : List ℕ) (r : Known) → state_of text ≡ Ok r → length text ≤ 134217728
-is_short text r h = at (nat_lt 134217728 (length text)) refl
-  where
-    at : (b : Bool) → nat_lt 134217728 (length text) ≡ b → length text ≤ 134217728
-    at true test = absurd (let bad = too_long text (grind (arith, nat_tests)) in let good = h in cc)
-    at false test = grind (arith, nat_tests)
+is_short text r h = ⊎_elim (λ test. absurd (let bad = too_long text (grind (arith, nat_tests)) in cc)) (λ few. few)
+    (cases_lt 134217728 (length text))
 
 -- ---- what a session begins from is a state
 
@@ -166,13 +141,6 @@ module _ (state : List ℕ) (inputs : List (List ℕ)) (r : Known) (world : Worl
     few_receivers : length (map told_in inputs) < 2 ^ 32
     few_receivers = let same = length-map inputs told_in in omega arith
 
-    as_many : (cs : List Start) (slots : List SlotView) → EachWith (IsMetersSlot r.own (map told_in inputs)) cs slots
-        → length slots ≤ length cs
-    as_many [] [] h = omega arith
-    as_many [] (b ∷ slots) h = absurd h
-    as_many (c ∷ cs) [] h = absurd h
-    as_many (c ∷ cs) (b ∷ slots) h = let rest = as_many cs slots h.1 in omega arith
-
     readable : IsReadable audited r
     readable = record { state_is = state_is; within = within }
 
@@ -180,7 +148,7 @@ module _ (state : List ℕ) (inputs : List (List ℕ)) (r : Known) (world : Worl
     in_form = record {
       readable = readable;
       in_form = report_in_form (length r.starts) (map (heard_out (map (λ c. c.address) r.starts)) inputs) world.slots world.strangers
-          (as_many r.starts world.slots session.meters)
+          (let same = with_length (IsMetersSlot r.own (map told_in inputs)) r.starts world.slots session.meters in omega arith)
           (slots_counted r.own (map told_in inputs) few_receivers (few_told inputs within) r.starts world.slots session.meters)
           (strangers_counted r.own (map told_in inputs) few_receivers (few_told inputs within) r.starts world session);
     }
@@ -196,26 +164,24 @@ module _ (state : List ℕ) (inputs : List (List ℕ)) (r : Known) (world : Worl
 
 -- ---- what is read
 
-all_read : (most : ℕ) (source : Change SourceShown) (bytes : List ℕ) → IsReadPast most source bytes → length source.before.left ≤ most
-    → bytes ≡ source.before.left
-all_read most source bytes h short =
-    let front = h.moved.front in
-    let long = ap length front ∙ length-append bytes source.now.left in
-    sym (append-nil bytes) ∙ (ap (λ l. bytes ++ l) (sym (h.ended (omega arith))) ∙ sym front)
-
 read_whole : (most : ℕ) (source : Change SourceShown) (bytes : List ℕ) → IsReadPast most source bytes → length bytes ≤ most
     → bytes ≡ source.before.left
 read_whole most source bytes h short =
     sym (append-nil bytes) ∙ (ap (λ l. bytes ++ l) (sym (h.ended short)) ∙ sym h.moved.front)
 
+all_read : (most : ℕ) (source : Change SourceShown) (bytes : List ℕ) → IsReadPast most source bytes → length source.before.left ≤ most
+    → bytes ≡ source.before.left
+all_read most source bytes h short =
+    read_whole most source bytes h (let long = ap length h.moved.front ∙ length-append bytes source.now.left in omega arith)
+
 inputs_read : (sources : List (Change SourceShown)) (read : List (List ℕ)) → EachWith (IsReadPast 67108864) sources read
     → Each (λ input. is_over input ≡ false) (map (λ (s : Change SourceShown). s.before.left) sources)
     → read ≡ map (λ (s : Change SourceShown). s.before.left) sources
-inputs_read [] [] h within = refl
-inputs_read [] (b ∷ read) h within = absurd h
-inputs_read (s ∷ sources) [] h within = absurd h
-inputs_read (s ∷ sources) (b ∷ read) h within =
-    (λ i. all_read 67108864 s b h.0 (bytes_within s.before.left within.0) i ∷ inputs_read sources read h.1 within.1 i)
+inputs_read sources read h within = with_fold (IsReadPast 67108864)
+    (λ sources read. Each (λ input. is_over input ≡ false) (map (λ (s : Change SourceShown). s.before.left) sources)
+    → read ≡ map (λ (s : Change SourceShown). s.before.left) sources)
+    (λ within. refl) (λ s b sources read one _ rest within. (λ i. all_read 67108864 s b one (bytes_within s.before.left within.0) i ∷ rest within.1 i))
+    sources read h within
 
 -- the bytes of the state that is judged, if one is
 abbrev bytes_in : Option (Change SourceShown) → Option (List ℕ)
@@ -229,13 +195,8 @@ next_read None (Some bytes) h short = absurd h
 next_read (Some source) None h short = absurd h
 next_read (Some source) (Some bytes) h short = ap Some (all_read 134217728 source bytes h short)
 
-each_at : {A : Type 0} (P : A → Type 0) (xs : List A) (x : A) → Each P xs → Contains xs x → P x
-each_at P xs x h c = at xs c.0 h c.1 c.2
-  where
-    at : (ys : List _) (k : ℕ) → Each P ys → k < length ys → get_or ys k x ≡ x → P x
-    at [] k h inside is = absurd (omega arith)
-    at (y ∷ ys) zero h inside is = subst P is h.0
-    at (y ∷ ys) (suc k) h inside is = at ys k h.1 (omega arith) is
+each_in : {A : Type 0} (P : A → Type 0) (xs : List A) (x : A) → Each P xs → Contains xs x → P x
+each_in P xs x h c = subst P c.2 (each_at P xs c.0 x c.1 h)
 
 -- ---- the law
 
@@ -274,7 +235,7 @@ module _ (c : collector.Run) (a : audit.Run) (given : IsAudited c a) where
   left_by : (source : Change SourceShown) → IsNextOf c source → IsLeftBy r.own slots source.before.left
   left_by source h = record {
     text_is = h.same_next
-        ∙ each_at (collector.IsWhole headline.heard) c.outputs (record { number = 1; text = next_of forms.State; sink = h.next })
+        ∙ each_in (collector.IsWhole headline.heard) c.outputs (record { number = 1; text = next_of forms.State; sink = h.next })
         (headline.whole given.audit_of.sinks_tell given.done) h.is_output;
     read_back = subst (λ (f : Form). known_of f (next_of f headline.heard) ≡ Ok (left_known f r.own slots)) h.continues
         (headline.left h.sends);
@@ -305,7 +266,7 @@ module _ (c : collector.Run) (a : audit.Run) (given : IsAudited c a) where
   -- the report was written whole
   written : given.audit_of.report.now.written ≡ report_of headline.heard
   written =
-      each_at (collector.IsWhole headline.heard) c.outputs (report_output given.audit_of.report)
+      each_in (collector.IsWhole headline.heard) c.outputs (report_output given.audit_of.report)
       (headline.whole given.audit_of.sinks_tell given.done) given.audit_of.is_output
 
   abbrev audited_bytes : Audited

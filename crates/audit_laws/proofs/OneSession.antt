@@ -1,5 +1,5 @@
 -- A session that was audited, and began from what the session so far left.
-use Rattle.std.proofs.Common.{◌≡◌, ◌∙◌, List, [], ◌∷◌, map, Result, Ok, refl, ap, sym, subst}
+use Rattle.std.proofs.Common.{◌≡◌, ◌∙◌, List, [], ◌∷◌, map, Ok, refl, ap, sym, subst}
 use Rattle.std.specs.Prelude.{IfSome}
 use Rattle.lists.specs.Each.{EachWith}
 use Rattle.meter_address.specs.declared.address.Address.{Address}
@@ -14,13 +14,9 @@ use Rattle.receivers.proofs.SessionCuts.{cut_sessions}
 use Rattle.state_file.specs.Left.{left_state}
 use Rattle.state_file.specs.Whole.{Known, state_of}
 use Rattle.state_file.specs.Written.{state_text}
-use Rattle.state_file.specs.declared.fault.StateFault.{StateFault}
 use Rattle.audit_check_main.specs.Audit.{heard_of}
 use Rattle.audit_check_main.specs.Leaving.{IsLeftBy}
 use Rattle.audit_laws.specs.Laws.{AuditedSessionsAreOne, AuditedSessionsGoOn}
-
-ok_is : (a b : Known) → (let x : Result Known StateFault = Ok a in x) ≡ Ok b → a ≡ b
-ok_is a b h = cc
 
 -- what is known of the meters behind both journals is what is known behind the later one
 known_on : (own : Address) (before after : List (List Told)) (bs ds : List SlotView)
@@ -39,8 +35,7 @@ known_on own before after (b ∷ bs) (d ∷ ds) h =
 pub goes_on : AuditedSessionsGoOn
 goes_on own starts before all world later faithful session begun heard =
     let state : state_of later.state ≡ Ok (left_state own world.slots) = ap state_of begun.text_is ∙ begun.read_back in
-    let same : faithful.known ≡ left_state own world.slots =
-    ok_is faithful.known (left_state own world.slots) (sym faithful.ordered.form.readable.state_is ∙ state) in
+    let read = sym faithful.ordered.form.readable.state_is ∙ state in let same : faithful.known ≡ left_state own world.slots = cc in
     let later_session =
     subst (λ (k : Known). IsSession k.own k.starts (heard_of later) faithful.world) same faithful.ordered.session in
     let left : left_state faithful.known.own faithful.world.slots ≡ left_state own (slots_on before world.slots faithful.world.slots) =

@@ -66,11 +66,14 @@ returns-in-None c =
     refl refl
     (IfOk-weaker c.told_verdict.result
     (λ (v : Verdict). AreOrders c.args.meters.items c.as_slice-in-None.result.now c.args.lists.now
-    → IsStepped c.args.own c.args.meters.items c.as_slice-in-None.result.now c.args.lists.now c.args.report.now (option_copied c.args.next) v)
+    → IsStepped c.args.own c.args.meters.items c.as_slice-in-None.result.now c.args.lists.now c.args.report.now
+    (option_copied c.args.next) v)
     (λ (v : Verdict). (c.as_slice-in-None.result.now ≡ map (heard_input c.args.meters.items) c.args.inputs.now)
-    × IsStepped c.args.own c.args.meters.items c.as_slice-in-None.result.now c.args.lists.now c.args.report.now (option_copied c.args.next) v)
+    × IsStepped c.args.own c.args.meters.items c.as_slice-in-None.result.now c.args.lists.now c.args.report.now
+    (option_copied c.args.next) v)
     (λ v stepped. (heard, stepped orders))
     (told_are c.audit_orders.result c.told_verdict.result
     (λ (v : Verdict). AreOrders c.args.meters.items c.as_slice-in-None.result.now c.args.lists.now
-    → IsStepped c.args.own c.args.meters.items c.as_slice-in-None.result.now c.args.lists.now c.args.report.now (option_copied c.args.next) v)
+    → IsStepped c.args.own c.args.meters.items c.as_slice-in-None.result.now c.args.lists.now c.args.report.now
+    (option_copied c.args.next) v)
     c.told_verdict.ensures c.audit_orders.ensures.stepped)))

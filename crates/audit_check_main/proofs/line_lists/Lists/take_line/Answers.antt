@@ -10,7 +10,8 @@ pub returns-then-is_meter : goal.returns-then-is_meter
 returns-then-is_meter c =
     let kind : IsKind c.args.line.now true _ _ _ =
     record { meter_is = sym c.is_meter.ensures ∙ c.if-is_meter.true; strangers_is = refl; step_is = refl; stranger_is = refl } in record {
-      in_form = on_ok_weaker c.open_meter.result (λ less above so. faulty_meter above c.args.self.now c.args.line.now so c.args.most false kind
+      in_form = on_ok_weaker c.open_meter.result
+          (λ less above so. faulty_meter above c.args.self.now c.args.line.now so c.args.most false kind
           (lt-leb _ _ less)) c.open_meter.ensures.room;
       taken = on_ok_weaker c.open_meter.result (λ same above so. subst (StandsFor (c.args.line.now ∷ above)) (sym same)
           (after_meter above c.args.self.now c.args.line.now so kind)) c.open_meter.ensures.ok;
@@ -55,7 +56,8 @@ returns-then-is_stranger c =
       step_is = sym c.is_step.ensures ∙ c.if-is_step.false;
       stranger_is = sym c.is_stranger.ensures ∙ c.if-is_stranger.true;
     } in record {
-      in_form = on_ok_weaker c.add_stranger.result (λ takes above so. faulty_stranger above c.args.self.now c.args.line.now so c.args.most true
+      in_form = on_ok_weaker c.add_stranger.result
+          (λ takes above so. faulty_stranger above c.args.self.now c.args.line.now so c.args.most true
           kind (stranger_placed _ _ _ takes)) c.add_stranger.ensures.ok;
       taken = on_ok_weaker c.add_stranger.result (λ takes above so. after_stranger above c.args.self.now c.args.line.now so _ kind takes)
           c.add_stranger.ensures.ok;
