@@ -29,4 +29,3 @@ pub use receiver::Receiver;
 pub use session::{Collected, collect};
 pub use told::{Told, tell};
 pub use workers::{Worker, work_all};
-
