@@ -56,7 +56,8 @@ module _ {S : Type 0} (s : sources.Ghosts S) (next : NextText) (old new : TextRe
           lends = λ some. record {
             longest = longest ∙ reading.longest;
             goes_on = done ∙ ap (λ n. not (gives_text (Ok n))) is;
-            counted = λ tells. ap length (more tells) ∙ length_push (given s.taken old.reader) new.text ∙ ap (λ n. n + 1) (reading.counted tells)
+            counted = λ tells. ap length (more tells) ∙ length_push (given s.taken old.reader) new.text
+                ∙ ap (λ n. n + 1) (reading.counted tells)
                 ∙ sym one;
           };
           within = λ none. absurd cc;

@@ -120,13 +120,15 @@ one_place heads a b x y =
     grind (arith, ab, ba)
 
 -- inputs give one line at a place, and leave the same
-one_taking : (place : ℕ) (a b : Timed) (before c d : List (List Timed)) → Takes place a before c → Takes place b before d → (a ≡ b) × (c ≡ d)
+one_taking : (place : ℕ) (a b : Timed) (before c d : List (List Timed)) → Takes place a before c → Takes place b before d
+    → (a ≡ b) × (c ≡ d)
 one_taking place a b [] c d x y = absurd x
 one_taking zero a b (input ∷ inputs) [] d x y = absurd x
 one_taking (suc place) a b (input ∷ inputs) [] d x y = absurd x
 one_taking zero a b (input ∷ inputs) (left ∷ later) [] x y = absurd y
 one_taking (suc place) a b (input ∷ inputs) (left ∷ later) [] x y = absurd y
-one_taking zero a b (input ∷ inputs) (left ∷ later) (left' ∷ later') x y = let e : a ∷ left ≡ b ∷ left' = sym x.0 ∙ y.0 in (cc, cc (x.1, y.1))
+one_taking zero a b (input ∷ inputs) (left ∷ later) (left' ∷ later') x y =
+    let e : a ∷ left ≡ b ∷ left' = sym x.0 ∙ y.0 in (cc, cc (x.1, y.1))
 one_taking (suc place) a b (input ∷ inputs) (left ∷ later) (left' ∷ later') x y =
     let rest = one_taking place a b inputs later later' x.1 y.1 in (rest.0, λ i. (x.0 ∙ sym y.0) i ∷ rest.1 i)
 

@@ -160,7 +160,8 @@ module _ {S : Type 0} (s : sources.Ghosts S) where
 
   pub none_lost : (olds news : List (TextReading S)) → EachWith (GoesOn s) olds news → IsTrue s.tells
       → Each (λ (i : InputShown). LosesNothing i.source) (inputs_shown s olds news)
-  none_lost olds news on tells = with_fold (GoesOn s) (λ olds news. Each (λ (i : InputShown). LosesNothing i.source) (inputs_shown s olds news)) tt
+  none_lost olds news on tells = with_fold (GoesOn s)
+      (λ olds news. Each (λ (i : InputShown). LosesNothing i.source) (inputs_shown s olds news)) tt
       (λ old new olds news one _ rest. (one.bytes tells, rest)) olds news on
 
   pub lines_shown : (olds news : List (TextReading S)) → EachWith (GoesOn s) olds news

@@ -55,7 +55,8 @@ returns-in-Err-clause-goes_on g c = all_then g.S.Source _ _ _ c.lines.invariant.
 
 pub lines-preserved : goal.lines-preserved
 lines-preserved g c = record {
-  few = let same = with_length (GoesOn g.S.Source) c.lines.inputs c.pass_on.new.inputs c.pass_on.ensures.goes_on in omega (arith, same, c.lines.invariant.few);
+  few = let same = with_length (GoesOn g.S.Source) c.lines.inputs c.pass_on.new.inputs c.pass_on.ensures.goes_on in
+      omega (arith, same, c.lines.invariant.few);
   at_heads = c.in_default-pass_on.ensures.at_heads;
   goes_on = all_then g.S.Source _ _ _ c.lines.invariant.goes_on c.pass_on.ensures.goes_on;
   stands = λ tells on.

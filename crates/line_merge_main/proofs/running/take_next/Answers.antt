@@ -5,7 +5,8 @@ use Rattle.line_merge_main.proofs.running.take_next.Goals as goal
 
 pub next_head-requires : goal.next_head-requires
 next_head-requires g c = record {
-  reading = (among g.S.Source c.args.inputs.now c.args.heads.now c.args.place c.args.before _ _ c.requires.at_heads c.requires.place refl).reading;
+  reading = (among g.S.Source c.args.inputs.now c.args.heads.now c.args.place c.args.before _ _ c.requires.at_heads c.requires.place
+      refl).reading;
 }
 
 pub returns-in-Ok-clause-taken : goal.returns-in-Ok-clause-taken
