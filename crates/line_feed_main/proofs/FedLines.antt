@@ -1,9 +1,9 @@
 -- Lines that are fed one after another.
-use Rattle.std.proofs.Common.{◌≡◌, ℕ, ◌+◌, ◌<◌, true, cond, List, [], ◌∷◌, ◌++◌, length, Ok, Err, refl, sym, ap, ◌∙◌, subst, arith}
+use Rattle.std.proofs.Common.{◌≡◌, ℕ, ◌+◌, ◌<◌, true, cond, List, [], ◌∷◌, ◌++◌, length, Ok, Err, refl, sym, ap, ap₂, ◌∙◌, subst, arith}
 use Rattle.std.specs.Prelude.{nat_lt}
-use Rattle.std.proofs.lemmas.Bool.Decides.{nat_tests}
+use Rattle.std.proofs.lemmas.Bool.{cond-true, lt-ltb}
 use Rattle.line_teller.specs.Telling.{AreTold}
-use Rattle.line_feed_main.specs.declared.heard.Heard.{Heard}
+use Rattle.line_feed_main.specs.declared.heard.Reception.{Reception}
 use Rattle.line_feed_main.specs.declared.printings.Printing.{Printing}
 use Rattle.line_feed_main.specs.declared.reasons.NotTaken.{NotTaken}
 use Rattle.line_feed_main.specs.declared.reasons.NotTaken.TheVariants as reasons
@@ -14,7 +14,7 @@ use Rattle.line_feed_main.specs.Feeding.{Fed, IsText, IsReceiverLine, AreFed, no
 -- ---- one line
 
 -- a line that is taken
-pub feeds_taken : (old new : Fed) (number : ℕ) (line text : List ℕ) (heard : Heard) → heard_of old.printing line ≡ Ok heard
+pub feeds_taken : (old new : Fed) (number : ℕ) (line text : List ℕ) (heard : Reception) → heard_of old.printing line ≡ Ok heard
     → IsReceiverLine heard text → new ≡ fed_after old (Ok heard) → FeedsLine old number line text (taken_note old number heard) new
 feeds_taken old new number line text heard is text_is new_is = record {
   text_is = subst (λ said. IsText said text) (sym is) text_is;
@@ -31,17 +31,11 @@ feeds_left_out old new number line reason is new_is = record {
   new_is = new_is ∙ ap (fed_after old) (sym is);
 }
 
-long_test : (line : List ℕ) → 4096 < length line → nat_lt 4096 (length line) ≡ true
-long_test line long = grind (arith, nat_tests)
-
 -- a line that is too long isn't taken
 pub long_heard : (printing : Printing) (line : List ℕ) → 4096 < length line → heard_of printing line ≡ Err reasons.TooLong
-long_heard printing line long = ap (λ test. cond test (Err reasons.TooLong) (heard_in printing line)) (long_test line long)
+long_heard printing line long = cond-true (nat_lt 4096 (length line)) _ _ (lt-ltb 4096 (length line) long)
 
 -- ---- all lines
-
-joined : (a a' b b' : List ℕ) → a ≡ a' → b ≡ b' → a ++ b ≡ a' ++ b'
-joined a a' b b' e f = cc
 
 -- what is told of lines is what is fed and noted of them
 pub record AreFedSo (number : ℕ) (first last : Fed) (lines : List (List ℕ)) (text note : List ℕ) : Type 0 where
@@ -64,6 +58,6 @@ are_fed number first last (line ∷ lines) text note told =
         later_is = subst (λ printing. AreFed printing lines told.later_text) printing_is later.fed;
         joined = told.text_is;
       };
-      note_is = told.note_is ∙ joined _ _ _ _ one.note_is (later.note_is ∙ ap (λ f. noted f (number + 1) lines) one.new_is);
+      note_is = told.note_is ∙ ap₂ (λ (a b : List ℕ). a ++ b) one.note_is (later.note_is ∙ ap (λ f. noted f (number + 1) lines) one.new_is);
       last_is = later.last_is ∙ ap (λ f. fed_behind f lines) one.new_is;
     }

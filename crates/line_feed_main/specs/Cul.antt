@@ -6,7 +6,7 @@ use Rattle.frame_formats.specs.declared.fault.FrameFault.TheVariants as faults
 use Rattle.frame_formats.specs.declared.format.Format.{Format}
 use Rattle.frame_formats.specs.declared.format.Format.TheVariants as formats
 use Rattle.frame_formats.specs.Decoding.{decoded}
-use Rattle.line_feed_main.specs.declared.heard.Heard.{Heard}
+use Rattle.line_feed_main.specs.declared.heard.Reception.{Reception}
 use Rattle.line_feed_main.specs.declared.reasons.NotTaken.{NotTaken}
 use Rattle.line_feed_main.specs.declared.reasons.NotTaken.TheVariants as reasons
 use Rattle.line_feed_main.specs.Digits.{bytes_in}
@@ -30,20 +30,20 @@ or_shorter (Err fault) second = if is_length fault then second else Err fault
 abbrev pub decoded_heard : Format → List ℕ → Result (List ℕ) FrameFault
 decoded_heard format bytes = or_shorter (decoded format bytes) (decoded format (without_quality bytes))
 
-abbrev pub heard_framed : Result (List ℕ) FrameFault → Result Heard NotTaken
+abbrev pub heard_framed : Result (List ℕ) FrameFault → Result Reception NotTaken
 heard_framed (Ok t) = Ok (heard_some_time t)
 heard_framed (Err fault) = Err (reasons.Frame fault)
 
 -- a frame of this format in digits
-unfoldable pub framed : Format → List ℕ → Result Heard NotTaken
+unfoldable pub framed : Format → List ℕ → Result Reception NotTaken
 framed format digits = bytes_in digits >>= λ bytes. heard_framed (decoded_heard format bytes)
 
 -- the frame is of format B behind a `Y`, and else of format A
-abbrev pub behind_letter : List ℕ → Result Heard NotTaken
+abbrev pub behind_letter : List ℕ → Result Reception NotTaken
 behind_letter [] = framed formats.A []
 behind_letter (letter ∷ rest) = if letter == 89 then framed formats.B rest else framed formats.A (letter ∷ rest)
 
 -- a line begins with `b`
-abbrev pub cul_heard : List ℕ → Result Heard NotTaken
+abbrev pub cul_heard : List ℕ → Result Reception NotTaken
 cul_heard [] = Err reasons.Letter
 cul_heard (letter ∷ rest) = if letter == 98 then behind_letter rest else Err reasons.Letter

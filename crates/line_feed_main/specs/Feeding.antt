@@ -4,7 +4,7 @@ use Rattle.std.specs.Prelude.{Result, Ok, Err, is_ok, if◌then◌else◌}
 use Rattle.outer_io.specs.Faults.{next_count}
 use Rattle.paper.specs.Puts.{Puts}
 use Rattle.made_input.specs.Lines.{frame_line}
-use Rattle.line_feed_main.specs.declared.heard.Heard.{Heard}
+use Rattle.line_feed_main.specs.declared.heard.Reception.{Reception}
 use Rattle.line_feed_main.specs.declared.moments.Moment.{Moment}
 use Rattle.line_feed_main.specs.declared.printings.Printing.{Printing}
 use Rattle.line_feed_main.specs.declared.printings.Printing.TheVariants as printings
@@ -31,14 +31,14 @@ IsMoment (Some moment) at = at ≡ moment.seconds
 IsMoment None at = Unit {0}
 
 -- the text is the line of a frame of format A of the telegram, heard at the moment
-pub record IsReceiverLine (heard : Heard) (text : List ℕ) : Type 0 where
+pub record IsReceiverLine (heard : Reception) (text : List ℕ) : Type 0 where
   pub at : ℕ
   pub below : at < 2 ^ 64
   pub moment : IsMoment heard.moment at
   pub text_is : text ≡ frame_line at heard.telegram
 
 -- what is printed for a line
-abbrev pub IsText : Result Heard NotTaken → List ℕ → Type 0
+abbrev pub IsText : Result Reception NotTaken → List ℕ → Type 0
 IsText (Ok heard) text = IsReceiverLine heard text
 IsText (Err reason) text = text ≡ []
 
@@ -54,21 +54,21 @@ is_of_some_zone None = false
 is_of_some_zone (Some moment) = not moment.names_zone
 
 -- a line that is taken names a time without a zone, where its receiver can name one
-abbrev pub lacks_zone : Printing → Result Heard NotTaken → Bool
+abbrev pub lacks_zone : Printing → Result Reception NotTaken → Bool
 lacks_zone printing (Ok heard) = can_name_zone printing && is_of_some_zone heard.moment
 lacks_zone printing (Err reason) = false
 
 -- what is noted of a line that is taken: that it lacks a zone, of the first one that does
-abbrev pub taken_note : Fed → ℕ → Heard → List ℕ
+abbrev pub taken_note : Fed → ℕ → Reception → List ℕ
 taken_note f number heard = if lacks_zone f.printing (Ok heard) && not f.zone_noted then zone_text number else []
 
 -- what is noted of a line
-abbrev pub note_of : Fed → ℕ → Result Heard NotTaken → List ℕ
+abbrev pub note_of : Fed → ℕ → Result Reception NotTaken → List ℕ
 note_of f number (Ok heard) = taken_note f number heard
 note_of f number (Err reason) = note_text number reason
 
 -- the feed behind a line: it is counted among those that were taken, or among the others
-abbrev pub fed_after : Fed → Result Heard NotTaken → Fed
+abbrev pub fed_after : Fed → Result Reception NotTaken → Fed
 fed_after f said = record {
   printing = f.printing;
   zone_noted = lacks_zone f.printing said || f.zone_noted;
@@ -105,7 +105,7 @@ fed_behind f (line ∷ lines) = fed_behind (fed_after f (heard_of f.printing lin
 -- ---- words of private contracts
 
 -- the line of what was heard was put on a paper
-pub record PutsLine {P : Type 0} (takes : P → List ℕ → P → Type 0) (heard : Heard) (old new : P) : Type 0 where
+pub record PutsLine {P : Type 0} (takes : P → List ℕ → P → Type 0) (heard : Reception) (old new : P) : Type 0 where
   pub at : ℕ
   pub below : at < 2 ^ 64
   pub moment : IsMoment heard.moment at

@@ -2,7 +2,7 @@
 use Rattle.std.specs.Prelude.{ℕ, ◌==◌, ◌||◌, not, Bool, List, Result, Ok}
 use Rattle.std.specs.List.{filter}
 use Rattle.lists.specs.Steps.{◌>>=◌}
-use Rattle.line_feed_main.specs.declared.heard.Heard.{Heard}
+use Rattle.line_feed_main.specs.declared.heard.Reception.{Reception}
 use Rattle.line_feed_main.specs.declared.reasons.NotTaken.{NotTaken}
 use Rattle.line_feed_main.specs.Digits.{telegram_in}
 use Rattle.line_feed_main.specs.Heard.{heard_some_time}
@@ -14,9 +14,9 @@ is_mark byte = byte == 124 || byte == 95
 abbrev pub unmarked : List ℕ → List ℕ
 unmarked line = filter (λ b. not (is_mark b)) line
 
-abbrev pub digits_heard : List ℕ → Result Heard NotTaken
+abbrev pub digits_heard : List ℕ → Result Reception NotTaken
 digits_heard digits = telegram_in digits >>= λ t. Ok (heard_some_time t)
 
 -- what is left of a line without its marks is a telegram in digits
-abbrev pub hex_heard : List ℕ → Result Heard NotTaken
+abbrev pub hex_heard : List ℕ → Result Reception NotTaken
 hex_heard line = digits_heard (unmarked line)

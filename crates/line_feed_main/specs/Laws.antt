@@ -7,7 +7,7 @@ use Rattle.frame_formats.specs.Decoding.{frame_a, decoded}
 use Rattle.line_reader.specs.declared.line.Line.TheVariants.{Frame}
 use Rattle.line_reader.specs.Grammar.{line_of}
 use Rattle.made_input.specs.Lines.{frame_text}
-use Rattle.line_feed_main.specs.declared.heard.Heard.{Heard}
+use Rattle.line_feed_main.specs.declared.heard.Reception.{Reception}
 use Rattle.line_feed_main.specs.declared.printings.Printing.{Printing}
 use Rattle.line_feed_main.specs.Lines.{heard_of}
 
@@ -18,7 +18,7 @@ pub record IsWhole (t : List ℕ) : Type 0 where
 
 -- what is heard is a telegram
 abbrev pub TelegramsAreWhole : Type 0
-TelegramsAreWhole = (printing : Printing) (line : List ℕ) (heard : Heard) → heard_of printing line ≡ Ok heard → IsWhole heard.telegram
+TelegramsAreWhole = (printing : Printing) (line : List ℕ) (heard : Reception) → heard_of printing line ≡ Ok heard → IsWhole heard.telegram
 
 -- the text says a frame of format A, heard at this moment, which is decoded to the telegram
 pub record IsReadBack (at : ℕ) (t text : List ℕ) : Type 0 where

@@ -11,7 +11,7 @@ use Rattle.frame_formats.specs.Decoding.{frame_a}
 use Rattle.serde_json.specs.Data.{Data, Num}
 use Rattle.serde_json.specs.Find.{get, as_str, as_number, as_u64, to_float}
 use Rattle.serde_json.specs.Read.{read}
-use Rattle.line_feed_main.specs.declared.heard.Heard.{Heard}
+use Rattle.line_feed_main.specs.declared.heard.Reception.{Reception}
 use Rattle.line_feed_main.specs.declared.moments.Moment.{Moment}
 use Rattle.line_feed_main.specs.declared.reasons.NotTaken.{NotTaken}
 use Rattle.line_feed_main.specs.declared.reasons.NotTaken.TheVariants as reasons
@@ -79,7 +79,7 @@ abbrev pub data_telegram : List ℕ → Result (List ℕ) NotTaken
 data_telegram digits = bytes_in digits >>= telegram_in_data
 
 -- a telegram of wireless M-Bus whose CRCs were right
-unfoldable pub json_heard : Data → Result Heard NotTaken
+unfoldable pub json_heard : Data → Result Reception NotTaken
 json_heard d = do
   known ← passes (has_text (codes "model") (codes "Wireless-MBus") d) reasons.Model
   passed ← passes (has_text (codes "mic") (codes "CRC") d) reasons.Unchecked
@@ -88,9 +88,9 @@ json_heard d = do
   telegram ← data_telegram digits
   Ok (record { telegram = telegram; moment = moment })
 
-abbrev pub read_heard : Option Data → Result Heard NotTaken
+abbrev pub read_heard : Option Data → Result Reception NotTaken
 read_heard None = Err reasons.Json
 read_heard (Some d) = json_heard d
 
-abbrev pub rtl_433_heard : List ℕ → Result Heard NotTaken
+abbrev pub rtl_433_heard : List ℕ → Result Reception NotTaken
 rtl_433_heard line = if is_utf8 line then read_heard (read line) else Err reasons.Json

@@ -2,7 +2,7 @@
 use Rattle.std.specs.Prelude.{ℕ, ◌==◌, ◌&&◌, List, [], ◌∷◌, codes, Result, Ok, Err, if◌then◌else◌}
 use Rattle.lists.specs.Steps.{◌>>=◌}
 use Rattle.plain_text.specs.Parts.{is_word}
-use Rattle.line_feed_main.specs.declared.heard.Heard.{Heard}
+use Rattle.line_feed_main.specs.declared.heard.Reception.{Reception}
 use Rattle.line_feed_main.specs.declared.reasons.NotTaken.{NotTaken}
 use Rattle.line_feed_main.specs.declared.reasons.NotTaken.TheVariants as reasons
 use Rattle.line_feed_main.specs.Columns.{columns_of}
@@ -27,7 +27,7 @@ prefixed (first ∷ letter ∷ digits) = if first == 48 && letter == 120 then Ok
 prefixed text = Err reasons.Prefix
 
 -- the mode, whether the CRCs were right and whether the line code was, the time, two strengths, the meter's number, and the telegram
-unfoldable pub columns_heard : List (List ℕ) → Result Heard NotTaken
+unfoldable pub columns_heard : List (List ℕ) → Result Reception NotTaken
 columns_heard (mode ∷ right ∷ code ∷ time ∷ strength ∷ now ∷ meter ∷ text ∷ []) = do
   known ← known_mode mode
   passed ← checked right
@@ -37,5 +37,5 @@ columns_heard (mode ∷ right ∷ code ∷ time ∷ strength ∷ now ∷ meter �
   Ok (heard_at moment telegram)
 columns_heard columns = Err reasons.Columns
 
-abbrev pub rtl_wmbus_heard : List ℕ → Result Heard NotTaken
+abbrev pub rtl_wmbus_heard : List ℕ → Result Reception NotTaken
 rtl_wmbus_heard line = columns_heard (columns_of line)

@@ -3,7 +3,7 @@ ghost use Rattle.std.specs.Prelude.{◌≡◌, ◌-◌, length, take, Ok, Err, M
 ghost use Rattle.line_feed_main.specs.Cul.{is_length, without_quality, decoded_heard, framed, behind_letter, cul_heard};
 
 use crate::digits::read_bytes;
-use crate::heard::Heard;
+use crate::heard::Reception;
 use crate::reasons::NotTaken;
 use frame_formats::{Format, FrameFault, Telegram, decode};
 
@@ -40,13 +40,13 @@ fn decode_heard(format: Format, bytes: &[u8], telegram: &mut Telegram) -> Result
 }
 
 #[tactic(auto, unfolding(crate::specs::Cul::framed))]
-fn read_framed(format: Format, digits: &[u8]) -> Result<Heard, NotTaken>
+fn read_framed(format: Format, digits: &[u8]) -> Result<Reception, NotTaken>
     ensures { result ≡ framed format digits.now }
 {
     let bytes = read_bytes(digits)?;
     let mut telegram = Telegram::shortest();
     match decode_heard(format, bytes.bytes(), &mut telegram) {
-        Ok(()) => Ok(Heard {
+        Ok(()) => Ok(Reception {
             telegram,
             moment: None,
         }),
@@ -54,7 +54,7 @@ fn read_framed(format: Format, digits: &[u8]) -> Result<Heard, NotTaken>
     }
 }
 
-fn read_behind_letter(text: &[u8]) -> Result<Heard, NotTaken>
+fn read_behind_letter(text: &[u8]) -> Result<Reception, NotTaken>
     ensures { result ≡ behind_letter text.now }
 {
     match text {
@@ -64,7 +64,7 @@ fn read_behind_letter(text: &[u8]) -> Result<Heard, NotTaken>
 }
 
 /// What a line of culfw gives: a frame with its CRCs behind `b`, or one of format B behind `bY`.
-pub(crate) fn read_cul(line: &[u8]) -> Result<Heard, NotTaken>
+pub(crate) fn read_cul(line: &[u8]) -> Result<Reception, NotTaken>
     ensures { result ≡ cul_heard line.now }
 {
     match line {

@@ -6,7 +6,7 @@ ghost use Rattle.line_feed_main.specs.Notes.{zone_text};
 ghost use Rattle.line_feed_main.specs.Feeding.{IsMoment, can_name_zone, is_of_some_zone, lacks_zone};
 
 use crate::clock::Clock;
-use crate::heard::{Heard, Unheard};
+use crate::heard::{Reception, Unheard};
 use crate::lines::read_line;
 use crate::moments::Moment;
 use crate::notes::{put_note, put_zone_note};
@@ -85,7 +85,7 @@ fn is_of_some_zone(moment: Option<Moment>) -> bool
 }
 
 // Whether a line that is taken lacks a zone that its receiver can name.
-fn lacks_zone(printing: Printing, heard: &Heard) -> bool
+fn lacks_zone(printing: Printing, heard: &Reception) -> bool
     ensures { result ≡ lacks_zone printing (Ok heard.now) }
 {
     can_name_zone(printing) && is_of_some_zone(heard.moment)
@@ -137,14 +137,14 @@ impl<C: Clock + Drop> Feed<C> {
     }
 
     // What a line gives.
-    fn read(&self, alloc: Global, line: &[u8]) -> Result<Heard, Unheard>
+    fn read(&self, alloc: Global, line: &[u8]) -> Result<Reception, Unheard>
         ensures { Means result (heard_of self.now.printing line.now) }
     {
         read_line(alloc, self.printing, line)
     }
 
     // Puts the line of a telegram, notes the first that lacks a zone, and counts it.
-    fn take<P: Paper>(&mut self, text: &mut P, note: &mut P, number: u64, heard: &Heard)
+    fn take<P: Paper>(&mut self, text: &mut P, note: &mut P, number: u64, heard: &Reception)
         ensures text { PutsLine P.takes heard.now text.old text.new }
         ensures note { Puts P.takes note.old (taken_note self.old number heard.now) note.new }
         ensures fed { self.new ≡ fed_after self.old (Ok heard.now) }

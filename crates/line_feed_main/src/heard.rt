@@ -5,9 +5,9 @@ use crate::moments::Moment;
 use crate::reasons::NotTaken;
 use frame_formats::Telegram;
 
-/// What a line gives.
+/// A telegram as a receiver printed it, with the moment that its line names.
 #[derive(Drop)]
-pub struct Heard {
+pub struct Reception {
     /// The telegram.
     pub telegram: Telegram,
     /// The moment that the line names.
@@ -24,7 +24,7 @@ pub enum Unheard {
 }
 
 /// The same answer where it took no memory.
-pub(crate) fn said(answer: Result<Heard, NotTaken>) -> Result<Heard, Unheard>
+pub(crate) fn said(answer: Result<Reception, NotTaken>) -> Result<Reception, Unheard>
     ensures { Means result answer }
 {
     match answer {

@@ -4,7 +4,7 @@ ghost use Rattle.line_feed_main.specs.Hex.{is_mark, unmarked, digits_heard, hex_
 ghost use Rattle.line_feed_main.specs.Heard.{Means};
 
 use crate::digits::read_telegram;
-use crate::heard::{Heard, Unheard, said};
+use crate::heard::{Reception, Unheard, said};
 use crate::reasons::NotTaken;
 use std::alloc::Global;
 
@@ -32,18 +32,18 @@ fn unmarked(alloc: Global, line: &[u8]) -> Result<Vec<u8>, Unheard>
 }
 
 // A telegram in digits.
-fn read_digits(digits: &[u8]) -> Result<Heard, NotTaken>
+fn read_digits(digits: &[u8]) -> Result<Reception, NotTaken>
     ensures { result ≡ digits_heard digits.now }
 {
     let telegram = read_telegram(digits)?;
-    Ok(Heard {
+    Ok(Reception {
         telegram,
         moment: None,
     })
 }
 
 /// What a line gives that is a telegram in hexadecimal.
-pub(crate) fn read_hex(alloc: Global, line: &[u8]) -> Result<Heard, Unheard>
+pub(crate) fn read_hex(alloc: Global, line: &[u8]) -> Result<Reception, Unheard>
     ensures { Means result (hex_heard line.now) }
 {
     let digits = unmarked(alloc, line)?;

@@ -23,7 +23,7 @@ mod zones;
 
 pub use clock::Clock;
 pub use feed::Feed;
-pub use heard::{Heard, Unheard};
+pub use heard::{Reception, Unheard};
 pub use laws::{lines_are_read_back, telegrams_are_whole};
 pub use lines::{LINE_MAX, read_line};
 pub use moments::Moment;

@@ -3,7 +3,7 @@ ghost use Rattle.line_feed_main.specs.Heard.{Means};
 ghost use Rattle.line_feed_main.specs.Lines.{heard_of};
 
 use crate::cul::read_cul;
-use crate::heard::{Heard, Unheard, said};
+use crate::heard::{Reception, Unheard, said};
 use crate::hex_lines::read_hex;
 use crate::printings::Printing;
 use crate::reasons::NotTaken;
@@ -15,7 +15,7 @@ use std::alloc::Global;
 pub const LINE_MAX: usize = 4_096;
 
 /// What a line in this format gives, which is given without its end.
-pub fn read_line(alloc: Global, printing: Printing, line: &[u8]) -> Result<Heard, Unheard>
+pub fn read_line(alloc: Global, printing: Printing, line: &[u8]) -> Result<Reception, Unheard>
     ensures { Means result (heard_of printing line.now) }
 {
     if line.len() > LINE_MAX {

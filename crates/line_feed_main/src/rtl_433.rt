@@ -10,14 +10,14 @@ ghost use Rattle.line_feed_main.specs.Rtl433.{member_text, has_text, whole_secon
 ghost use Rattle.line_feed_main.specs.Rtl433.{telegram_in_data, data_telegram, json_heard, read_heard, rtl_433_heard};
 
 use crate::digits::{read_bytes, telegram_of};
-use crate::heard::{Heard, Unheard, said};
+use crate::heard::{Reception, Unheard, said};
 use crate::moments::{Moment, read_moment, since_1970};
 use crate::reasons::NotTaken;
 use frame_formats::{Telegram, encode_a};
+use lists::put;
 use serde_json::Value;
 use std::alloc::Global;
 use std::num::saturating_f64_to_i64;
-use lists::put;
 
 // The text of the member with this name, if it is one.
 fn member_text<'v>(value: &'v Value, name: &str) -> Option<&'v str>
@@ -127,7 +127,7 @@ fn data_telegram(digits: &[u8]) -> Result<Telegram, NotTaken>
 }
 
 #[tactic(auto, unfolding(crate::specs::Rtl433::json_heard))]
-fn read_json(value: &Value) -> Result<Heard, NotTaken>
+fn read_json(value: &Value) -> Result<Reception, NotTaken>
     ensures { result ≡ json_heard (view value.now) }
 {
     if !has_text(value, "model", "Wireless-MBus") {
@@ -141,11 +141,11 @@ fn read_json(value: &Value) -> Result<Heard, NotTaken>
         return Err(NotTaken::Data);
     };
     let telegram = data_telegram(digits.as_bytes())?;
-    Ok(Heard { telegram, moment })
+    Ok(Reception { telegram, moment })
 }
 
 // What a text gives.
-fn read_text(alloc: Global, text: &str) -> Result<Heard, Unheard>
+fn read_text(alloc: Global, text: &str) -> Result<Reception, Unheard>
     ensures { Means result (read_heard (read text.now)) }
 {
     match Value::from_str(alloc, text) {
@@ -161,7 +161,7 @@ fn read_text(alloc: Global, text: &str) -> Result<Heard, Unheard>
 
 /// What a line of rtl_433 gives.
 #[tactic(auto, using(crate::proofs::Json::of_text, crate::proofs::Json::of_no_text))]
-pub(crate) fn read_rtl_433(alloc: Global, line: &[u8]) -> Result<Heard, Unheard>
+pub(crate) fn read_rtl_433(alloc: Global, line: &[u8]) -> Result<Reception, Unheard>
     ensures { Means result (rtl_433_heard line.now) }
 {
     match std::str::from_utf8(line) {

@@ -4,7 +4,7 @@ ghost use Rattle.line_feed_main.specs.RtlWmbus.{known_mode, checked, prefixed, c
 
 use crate::columns::Columns;
 use crate::digits::read_telegram;
-use crate::heard::Heard;
+use crate::heard::Reception;
 use crate::moments::read_moment;
 use crate::reasons::NotTaken;
 
@@ -40,7 +40,7 @@ fn prefixed(text: &[u8]) -> Result<&[u8], NotTaken>
 }
 
 #[tactic(auto, unfolding(crate::specs::RtlWmbus::columns_heard))]
-fn read_columns(mut columns: Columns<'_>) -> Result<Heard, NotTaken>
+fn read_columns(mut columns: Columns<'_>) -> Result<Reception, NotTaken>
     ensures { result ≡ columns_heard columns.entry }
 {
     let (Some(mode), Some(right), Some(_), Some(time)) = (
@@ -65,14 +65,14 @@ fn read_columns(mut columns: Columns<'_>) -> Result<Heard, NotTaken>
     let moment = read_moment(time)?;
     let digits = prefixed(text)?;
     let telegram = read_telegram(digits)?;
-    Ok(Heard {
+    Ok(Reception {
         telegram,
         moment: Some(moment),
     })
 }
 
 /// What a line of rtl_wmbus gives.
-pub(crate) fn read_rtl_wmbus(line: &[u8]) -> Result<Heard, NotTaken>
+pub(crate) fn read_rtl_wmbus(line: &[u8]) -> Result<Reception, NotTaken>
     ensures { result ≡ rtl_wmbus_heard line.now }
 {
     read_columns(Columns::of_line(line))
