@@ -37,11 +37,9 @@ not_read_by_memory (Err end) err = λ is. absurd cc
 -- ---- texts
 
 nothing_text : (end : LinesEnd) (a : SinkShown) → EndsText end [] (record { before = a; now = a })
-nothing_text ends.Done a = sym (append-nil a.written)
-nothing_text ends.Cut a = sym (append-nil a.written)
-nothing_text ends.Read a = sym (append-nil a.written)
 nothing_text ends.Write a = nothing_front [] a.written
 nothing_text ends.Memory a = nothing_front [] a.written
+nothing_text _ a = sym (append-nil a.written)
 
 whole_pours : (w0 w1 text : List ℕ) → w1 ≡ w0 ++ text → PoursMore text w0 [] w1 []
 whole_pours w0 w1 text is = record { gone = text; written_is = is; sheet_is = sym (append-nil text) }
@@ -51,18 +49,15 @@ whole_pours w0 w1 text is = record { gone = text; written_is = is; sheet_is = sy
 -- in the middle of bytes
 stop_end : (end : LinesEnd) (bytes left : List ℕ) (told : List (List ℕ)) → IsTrue (is_stop end) → AreFirst told (lines bytes)
     → (end ≡ ends.Cut → 2 ^ 64 - 1 ≤ length bytes) → EndsStream end bytes left told
-stop_end ends.Done bytes left told on first many = absurd cc
-stop_end ends.Read bytes left told on first many = absurd cc
 stop_end ends.Cut bytes left told on first many = (many refl, first)
 stop_end ends.Write bytes left told on first many = first
 stop_end ends.Memory bytes left told on first many = first
+stop_end _ bytes left told on first many = absurd cc
 
 stop_unwhole : (end : LinesEnd) → is_whole end ≡ false → IsTrue (is_stop end)
-stop_unwhole ends.Done off = absurd cc
-stop_unwhole ends.Read off = absurd cc
-stop_unwhole ends.Cut off = absurd cc
 stop_unwhole ends.Write off = refl
 stop_unwhole ends.Memory off = refl
+stop_unwhole _ off = absurd cc
 
 no_cut : (end : LinesEnd) {A : Type 0} → is_whole end ≡ false → end ≡ ends.Cut → A
 no_cut end off is = let no_way : true ≡ false = ap is_whole (sym is) ∙ off in absurd cc

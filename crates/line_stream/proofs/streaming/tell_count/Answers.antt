@@ -18,7 +18,7 @@ pub returns-clause-some : goal.returns-clause-some
 returns-clause-some g c =
     let nonzero = c.if-count-eq0.false in
     on_ok_weaker c.tell_bytes.result (λ told. some_taken c.args.buffer.now c.args.count c.requires.within (omega arith))
-    c.tell_bytes.ensures.told
+    c.tell_bytes.ensures.no_text
 
 pub returns-clause-ended : goal.returns-clause-ended
 returns-clause-ended g c =
