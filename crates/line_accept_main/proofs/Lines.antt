@@ -1,13 +1,12 @@
 -- Lines that are answered one after another.
-use Rattle.std.proofs.Common.{◌≡◌, ℕ, ◌+◌, ◌<◌, true, cond, List, [], ◌∷◌, ◌++◌, length, codes, Option, Some, None, refl, sym, ap, ap₂, ◌∙◌, arith}
+use Rattle.std.proofs.Common.{◌≡◌, ℕ, ◌+◌, ◌<◌, List, [], ◌∷◌, ◌++◌, length, codes, Some, None, refl, sym, ap, ap₂, ◌∙◌}
 use Rattle.std.specs.Prelude.{nat_lt}
 use Rattle.std.proofs.lemmas.Bool.{cond-true, lt-ltb}
-use Rattle.plain_text.specs.Parts.{fields_of}
 use Rattle.line_teller.specs.Telling.{AreTold}
 use Rattle.sender_fences.specs.declared.fence.Answer.{Answer}
 use Rattle.sender_fences.specs.Senders.{Sender, answer_in, passed_in}
-use Rattle.line_accept_main.specs.Deliveries.{Delivery, delivery_in, delivery_of}
-use Rattle.line_accept_main.specs.Answers.{answer_text, delivery_text, behind_delivery, answers_text, behind_line, behind_lines, AcceptsLine}
+use Rattle.line_accept_main.specs.Deliveries.{Delivery, delivery_of}
+use Rattle.line_accept_main.specs.Answers.{answer_text, delivery_text, behind_delivery, answers_text, behind_lines, AcceptsLine}
 
 -- ---- one line
 

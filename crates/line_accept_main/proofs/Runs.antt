@@ -1,23 +1,20 @@
 -- What a run comes to, by how its lines ended.
-use Rattle.std.proofs.Common.{◌≡◌, ℕ, ◌+◌, ◌≤◌, ◌⊎◌, Bool, true, false, List, [], ◌∷◌, ◌++◌, length, map, take, Result, Ok, Err, refl, sym, ap, ◌∙◌, subst, inl, inr, arith}
+use Rattle.std.proofs.Common.{◌≡◌, ℕ, ◌⊎◌, Bool, true, false, List, [], ◌++◌, map, Ok, Err, refl, sym, ap, ◌∙◌, subst, inl, inr}
 use Rattle.std.specs.Prelude.{IsTrue}
 use Rattle.std.proofs.lemmas.Bool.{both_ways}
 use Rattle.std.proofs.lemmas.List.{append-nil}
 use Rattle.outer_io.proofs.Fronts.{none, first, behind, whole}
 use Rattle.outer_io.specs.Bytes.{AppendsFront}
-use Rattle.outer_io.specs.Shown.{Change, SourceShown, SinkShown, ReadFailed, WriteFailed, LosesNothing, IsReadOut}
-use Rattle.line_reader.specs.Lines.{is_over, all_lines}
+use Rattle.outer_io.specs.Shown.{Change, SourceShown, SinkShown, LosesNothing, IsReadOut}
+use Rattle.line_reader.specs.Lines.{is_over}
 use Rattle.line_teller.specs.declared.ending.LinesEnd.{LinesEnd}
 use Rattle.line_teller.specs.declared.ending.LinesEnd.TheVariants as ends
-use Rattle.line_teller.specs.Ending.{AreFirst, EndsLines, EndsText, Ended, is_whole}
-use Rattle.line_teller.proofs.Steps.{rose_then}
+use Rattle.line_teller.specs.Ending.{EndsText, Ended, is_whole}
 use Rattle.sender_fences.specs.declared.fence.Fence.{Fence}
 use Rattle.sender_fences.specs.Senders.{Sender}
-use Rattle.line_accept_main.specs.declared.fault.SendersFault.{SendersFault}
 use Rattle.line_accept_main.specs.declared.fault.SendersFault.TheVariants.{Line}
 use Rattle.line_accept_main.specs.declared.status.AcceptStatus.{AcceptStatus}
 use Rattle.line_accept_main.specs.declared.status.AcceptStatus.TheVariants as statuses
-use Rattle.line_accept_main.specs.SendersFile.{senders_of}
 use Rattle.line_accept_main.specs.Answers.{answers_text, behind_lines, moved_text, output_text, AcceptsLine}
 use Rattle.line_accept_main.specs.Run.{Run, Answers, Headline, IsCausedBy, IsFaultless, IsRun, IsRefused, IsAnswered, is_complete, status_of, was_answered}
 use Rattle.line_accept_main.proofs.Lines.{are_answered}
@@ -27,28 +24,21 @@ use Rattle.line_accept_main.proofs.Lines.{are_answered}
 -- the text of lines that were not all told
 cut_text : (end : LinesEnd) (text : List ℕ) (out : Change SinkShown) → is_whole end ≡ false → EndsText end text out
     → out.before.written ≡ [] → AppendsFront text [] out.now.written
-cut_text ends.Done text out off t none = absurd cc
-cut_text ends.Cut text out off t none = absurd cc
-cut_text ends.Read text out off t none = absurd cc
 cut_text ends.Write text out off t none = subst (λ before. AppendsFront text before out.now.written) none t
 cut_text ends.Memory text out off t none = subst (λ before. AppendsFront text before out.now.written) none t
+cut_text _ text out off t none = absurd cc
 
 -- that of lines that were
 whole_text : (end : LinesEnd) (text : List ℕ) (out : Change SinkShown) → is_whole end ≡ true → EndsText end text out
     → out.before.written ≡ [] → out.now.written ≡ text
-whole_text ends.Done text out on t none = t ∙ ap (λ before. before ++ text) none
-whole_text ends.Cut text out on t none = t ∙ ap (λ before. before ++ text) none
-whole_text ends.Read text out on t none = t ∙ ap (λ before. before ++ text) none
 whole_text ends.Write text out on t none = absurd cc
 whole_text ends.Memory text out on t none = absurd cc
+whole_text _ text out on t none = t ∙ ap (λ before. before ++ text) none
 
 -- the text is complete where all lines were told
 complete_is : (end : LinesEnd) → is_complete (status_of end) ≡ is_whole end
 complete_is ends.Done = refl
-complete_is ends.Cut = refl
-complete_is ends.Read = refl
-complete_is ends.Write = refl
-complete_is ends.Memory = refl
+complete_is _ = refl
 
 -- no line was taken, for want of memory
 pub none_answered : (senders : List Sender) (deliveries : Change SourceShown) (tells : Bool) (out : Change SinkShown)
@@ -62,9 +52,9 @@ none_answered senders deliveries tells out nothing = record {
   front = λ on. subst (λ now. AppendsFront (output_text senders []) [] now) (sym (nothing on)) (none (output_text senders []) []);
 }
 
-module _ (senders now : List Sender) (fences : List Fence) (deliveries : Change SourceShown) (tells : Bool) (before middle : SinkShown)
-    (end : LinesEnd) (notes_tell : Bool) (notes : Change SinkShown)
-    (e : Ended AcceptsLine senders now end deliveries.now tells (record { before = before; now = middle }) notes_tell notes)
+module _ {senders now : List Sender} {fences : List Fence} {read : SourceShown} {tells : Bool} {before middle : SinkShown}
+    {end : LinesEnd} {notes_tell : Bool} {notes : Change SinkShown}
+    (e : Ended AcceptsLine senders now end read tells (record { before = before; now = middle }) notes_tell notes)
     (fences_are : fences ≡ map (λ (s : Sender). s.fence) senders) (empty : IsTrue tells → before.written ≡ []) where
   abbrev answers : List ℕ
   answers = answers_text senders e.lines
@@ -75,13 +65,14 @@ module _ (senders now : List Sender) (fences : List Fence) (deliveries : Change 
   answered_text : IsTrue tells → EndsText end answers (record { before = before; now = middle })
   answered_text on = subst (λ t. EndsText end t (record { before = before; now = middle })) text_is (e.written on)
 
-  pub cut_answers : is_whole end ≡ false → Answers senders deliveries tells (record { before = before; now = middle }) (status_of end)
-  cut_answers off = record {
+  pub cut_answers : {first_read : SourceShown} {status : AcceptStatus} → status ≡ status_of end → is_whole end ≡ false
+      → Answers senders (record { before = first_read; now = read }) tells (record { before = before; now = middle }) status
+  cut_answers is off = record {
     end = end;
     lines = e.lines;
     ends = e.lines_are;
-    status_is = inl refl;
-    whole = λ on complete. absurd (let no : true ≡ false = sym complete ∙ complete_is end ∙ off in cc);
+    status_is = inl is;
+    whole = λ on complete. absurd (let no : true ≡ false = sym complete ∙ ap is_complete is ∙ complete_is end ∙ off in cc);
     front = λ on.
         first answers (moved_text (map (λ (s : Sender). s.fence) senders) (behind_lines senders e.lines)) [] middle.written
         (cut_text end answers (record { before = before; now = middle }) off (answered_text on) (empty on));
@@ -96,35 +87,36 @@ module _ (senders now : List Sender) (fences : List Fence) (deliveries : Change 
   answers_there : is_whole end ≡ true → IsTrue tells → middle.written ≡ answers
   answers_there on tell = whole_text end answers (record { before = before; now = middle }) on (answered_text tell) (empty tell)
 
-  module _ (after : SinkShown) (on : is_whole end ≡ true) where
-    whole_there : (IsTrue tells → after.written ≡ middle.written ++ moved_text fences now) → IsTrue tells
-        → after.written ≡ output_text senders e.lines
-    whole_there written tell =
-        written tell ∙ ap (λ t. t ++ moved_text fences now) (answers_there on tell) ∙ ap (λ t. answers ++ t) (moved_is on)
+  whole_there : (after : SinkShown) → is_whole end ≡ true → (IsTrue tells → after.written ≡ middle.written ++ moved_text fences now)
+      → IsTrue tells → after.written ≡ output_text senders e.lines
+  whole_there after on written tell =
+      written tell ∙ ap (λ t. t ++ moved_text fences now) (answers_there on tell) ∙ ap (λ t. answers ++ t) (moved_is on)
 
-    pub whole_answers : (IsTrue tells → after.written ≡ middle.written ++ moved_text fences now)
-        → Answers senders deliveries tells (record { before = before; now = after }) (status_of end)
-    whole_answers written = record {
-      end = end;
-      lines = e.lines;
-      ends = e.lines_are;
-      status_is = inl refl;
-      whole = λ tell complete. whole_there written tell;
-      front = λ tell. whole (output_text senders e.lines) [] after.written (whole_there written tell);
-    }
+  pub whole_answers : {first_read : SourceShown} {after : SinkShown} {status : AcceptStatus} → is_whole end ≡ true → status ≡ status_of end
+      → (IsTrue tells → after.written ≡ middle.written ++ moved_text fences now)
+      → Answers senders (record { before = first_read; now = read }) tells (record { before = before; now = after }) status
+  whole_answers {first_read} {after} on is written = record {
+    end = end;
+    lines = e.lines;
+    ends = e.lines_are;
+    status_is = inl is;
+    whole = λ tell complete. whole_there after on written tell;
+    front = λ tell. whole (output_text senders e.lines) [] after.written (whole_there after on written tell);
+  }
 
-    pub unwritten_answers : (IsTrue tells → AppendsFront (moved_text fences now) middle.written after.written)
-        → Answers senders deliveries tells (record { before = before; now = after }) statuses.Write
-    unwritten_answers front = record {
-      end = end;
-      lines = e.lines;
-      ends = e.lines_are;
-      status_is = inr refl;
-      whole = λ tell complete. absurd (let no = complete in cc);
-      front = λ tell.
-          subst (λ t. AppendsFront (answers ++ t) [] after.written) (moved_is on)
-          (behind answers (moved_text fences now) [] middle.written after.written (answers_there on tell) (front tell));
-    }
+  pub unwritten_answers : {first_read : SourceShown} {after : SinkShown} → is_whole end ≡ true
+      → (IsTrue tells → AppendsFront (moved_text fences now) middle.written after.written)
+      → Answers senders (record { before = first_read; now = read }) tells (record { before = before; now = after }) statuses.Write
+  unwritten_answers {first_read} {after} on front = record {
+    end = end;
+    lines = e.lines;
+    ends = e.lines_are;
+    status_is = inr refl;
+    whole = λ tell complete. absurd (let no = complete in cc);
+    front = λ tell.
+        subst (λ t. AppendsFront (answers ++ t) [] after.written) (moved_is on)
+        (behind answers (moved_text fences now) [] middle.written after.written (answers_there on tell) (front tell));
+  }
 
 -- ---- all of it
 
@@ -139,28 +131,22 @@ read_out source kept none = record {
   nothing_left = none;
 }
 
-pub answered_cause : (run : Run) (status : AcceptStatus) → (IsTrue run.sources_tell → run.deliveries.before.taken ≡ [])
+answered_cause : (run : Run) (status : AcceptStatus) → (IsTrue run.sources_tell → run.deliveries.before.taken ≡ [])
     → (IsTrue run.sources_tell → LosesNothing run.deliveries) → IsAnswered run.sources_tell run.deliveries run.out status
     → IsCausedBy run status
 answered_cause run statuses.Done fresh kept h = λ t. read_out run.deliveries (kept t) (h t).0
-answered_cause run statuses.Words fresh kept h = h
 answered_cause run statuses.ReadSenders fresh kept h = absurd h
 answered_cause run (statuses.Senders line cause) fresh kept h = absurd h
-answered_cause run statuses.Read fresh kept h = h
 answered_cause run statuses.Cut fresh kept h = λ t. ap is_over (sym (all_bytes run.deliveries (fresh t) (kept t))) ∙ h t
-answered_cause run statuses.Write fresh kept h = h
 answered_cause run statuses.Memory fresh kept h = tt
+answered_cause run _ fresh kept h = h
 
-pub refused_cause : (run : Run) (status : AcceptStatus) → IsRefused run.sources_tell run.senders status
+refused_cause : (run : Run) (status : AcceptStatus) → IsRefused run.sources_tell run.senders status
     → (was_answered status ≡ false) × IsCausedBy run status
-refused_cause run statuses.Done h = absurd h
-refused_cause run statuses.Words h = absurd h
 refused_cause run statuses.ReadSenders h = (refl, h)
 refused_cause run (statuses.Senders line cause) h = (refl, h)
-refused_cause run statuses.Read h = absurd h
-refused_cause run statuses.Cut h = absurd h
-refused_cause run statuses.Write h = absurd h
 refused_cause run statuses.Memory h = (refl, tt)
+refused_cause run _ h = absurd h
 
 complete_by : (run : Run) → IsTrue run.sources_tell → IsFaultless run → (status : AcceptStatus) → IsCausedBy run status
     → (status ≡ statuses.Done) ⊎ (status ≡ statuses.Memory)
@@ -174,7 +160,7 @@ complete_by run tells f statuses.Cut c = absurd (both_ways (is_over run.deliveri
 complete_by run tells f statuses.Write c = absurd (f.out_steady c)
 complete_by run tells f statuses.Memory c = inr refl
 
-pub run_is : (run : Run) → (IsTrue (was_answered run.status) → IsTrue run.sources_tell → Headline run) → IsCausedBy run run.status
+run_is : (run : Run) → (IsTrue (was_answered run.status) → IsTrue run.sources_tell → Headline run) → IsCausedBy run run.status
     → (IsTrue run.sources_tell → LosesNothing run.senders) → (IsTrue run.sources_tell → LosesNothing run.deliveries) → IsRun run
 run_is run headline caused senders deliveries = record {
   headline = headline;
@@ -183,3 +169,15 @@ run_is run headline caused senders deliveries = record {
   senders_kept = senders;
   deliveries_kept = deliveries;
 }
+
+pub answered_run : (run : Run) → (IsTrue run.sources_tell → Headline run) → (IsTrue run.sources_tell → run.deliveries.before.taken ≡ [])
+    → IsAnswered run.sources_tell run.deliveries run.out run.status → (IsTrue run.sources_tell → LosesNothing run.senders)
+    → (IsTrue run.sources_tell → LosesNothing run.deliveries) → IsRun run
+answered_run run headline fresh h senders deliveries =
+    run_is run (λ on. headline) (answered_cause run run.status fresh deliveries h) senders deliveries
+
+pub refused_run : (run : Run) → IsRefused run.sources_tell run.senders run.status → (IsTrue run.sources_tell → LosesNothing run.senders)
+    → (IsTrue run.sources_tell → LosesNothing run.deliveries) → IsRun run
+refused_run run h senders deliveries =
+    let cause = refused_cause run run.status h in
+    run_is run (λ on tells. absurd (let off = sym cause.0 ∙ on in cc)) cause.1 senders deliveries

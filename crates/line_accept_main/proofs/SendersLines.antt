@@ -1,15 +1,13 @@
 -- The lines of a text of senders, one after another.
-use Rattle.std.proofs.Common.{◌≡◌, ℕ, ◌+◌, ◌<◌, List, [], ◌∷◌, true, false, cond, length, codes, Ok, Err, refl, ap, arith}
+use Rattle.std.proofs.Common.{◌≡◌, ℕ, ◌<◌, List, [], ◌∷◌, true, false, length, codes, Ok, Err, refl}
 use Rattle.std.specs.Prelude.{nat_lt}
-use Rattle.std.specs.Str.Lines.{lines}
 use Rattle.std.proofs.lemmas.Bool.{cond-true, lt-ltb}
 use Rattle.plain_text.specs.Parts.{is_word}
-use Rattle.roster_file.specs.Roster.{entries_from}
 use Rattle.sender_fences.specs.Senders.{Sender}
 use Rattle.line_accept_main.specs.declared.fault.SendersCause.TheVariants as causes
 use Rattle.line_accept_main.specs.declared.fault.SendersFault.{SendersFault}
 use Rattle.line_accept_main.specs.declared.fault.SendersFault.TheVariants.{Line, Memory}
-use Rattle.line_accept_main.specs.SendersFile.{ended, with_line, senders_from, headed, senders_of}
+use Rattle.line_accept_main.specs.SendersFile.{ended, with_line, senders_from, senders_of}
 use Rattle.line_accept_main.specs.Reading.{IsFaultOf}
 
 -- a text with more bytes than senders may have

@@ -1,13 +1,12 @@
 -- A run over senders and what is delivered: what its sources and its sink showed before and after it, and what is promised of it.
 use Rattle.std.specs.Prelude.{ℕ, ◌≡◌, ◌⊎◌, Bool, true, false, List, [], ◌++◌, Ok, Err, IsTrue}
 use Rattle.outer_io.specs.Bytes.{AppendsFront}
-use Rattle.outer_io.specs.Shown.{Change, SourceShown, SinkShown, ReadFailed, WriteFailed, LosesNothing, IsReadOut, IsSilent}
+use Rattle.outer_io.specs.Shown.{Change, SourceShown, SinkShown, ReadFailed, WriteFailed, LosesNothing, IsReadOut}
 use Rattle.line_reader.specs.Lines.{is_over}
 use Rattle.line_teller.specs.declared.ending.LinesEnd.{LinesEnd}
 use Rattle.line_teller.specs.declared.ending.LinesEnd.TheVariants as ends
-use Rattle.line_teller.specs.Ending.{EndsLines, is_whole}
+use Rattle.line_teller.specs.Ending.{EndsLines}
 use Rattle.sender_fences.specs.Senders.{Sender}
-use Rattle.line_accept_main.specs.declared.fault.SendersFault.{SendersFault}
 use Rattle.line_accept_main.specs.declared.fault.SendersFault.TheVariants.{Line}
 use Rattle.line_accept_main.specs.declared.status.AcceptStatus.{AcceptStatus}
 use Rattle.line_accept_main.specs.declared.status.AcceptStatus.TheVariants as statuses

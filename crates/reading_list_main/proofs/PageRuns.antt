@@ -323,11 +323,9 @@ module _ (first old now : Lister) (count bytes : ℕ) (taken kept : List ℕ) (o
       clash whole = let no_way : true ≡ false = sym whole ∙ off in absurd cc
 
       are : (e : LinesEnd) → is_whole e ≡ false → EndsLines e source.taken source.left (all_lines source.taken)
-      are ends.Done is = absurd cc
-      are ends.Cut is = absurd cc
-      are ends.Read is = absurd cc
       are ends.Write is = refl
       are ends.Memory is = refl
+      are _ is = absurd cc
 
   pub ended_amid : (end : LinesEnd) (source : SourceShown) (added page rest : List ℕ) (bytes' : ℕ) → is_whole end ≡ false
       → IsCut s.behind added page rest → source.taken ≡ taken ++ added → bytes' ≡ bytes + length added → bytes' ≤ 1073741824
@@ -419,11 +417,7 @@ ended_stopped first old ends.Cut source count bytes taken left kept out_tells no
       written = λ on. s.listed.written on;
       noted = λ whole on. s.listed.noted on;
     }
-ended_stopped first old ends.Done source count bytes taken left kept out_tells notes_tell list here list_notes here_notes few stops s =
-    absurd stops
-ended_stopped first old ends.Write source count bytes taken left kept out_tells notes_tell list here list_notes here_notes few stops s =
-    absurd stops
-ended_stopped first old ends.Memory source count bytes taken left kept out_tells notes_tell list here list_notes here_notes few stops s =
+ended_stopped first old _ source count bytes taken left kept out_tells notes_tell list here list_notes here_notes few stops s =
     absurd stops
 
 -- ---- a page before a read and after it

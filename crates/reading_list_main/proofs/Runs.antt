@@ -84,10 +84,7 @@ module _ (run : Run) (head : SinkShown) (later : run.out.before.faults ≤ head.
   -- the ending of a run that lists all
   is_done : (end : LinesEnd) (faultless : Bool) → IsTrue (lists_all (status_of end faultless)) → end ≡ ends.Done
   is_done ends.Done faultless on = refl
-  is_done ends.Read faultless on = absurd cc
-  is_done ends.Cut faultless on = absurd cc
-  is_done ends.Write faultless on = absurd cc
-  is_done ends.Memory faultless on = absurd cc
+  is_done _ faultless on = absurd cc
 
   is_listed : t.end ≡ ends.Done → IsTrue run.report_tells → IsListed run
   is_listed done tells =
@@ -123,9 +120,7 @@ module _ (run : Run) (head : SinkShown) (later : run.out.before.faults ≤ head.
   so_far_by ends.Done false lines are text h = text ∙ ap (λ b. b ++ listed (fresh run.form) lines) h ∙ ap (list_text run.form) are.2
   so_far_by ends.Read faultless lines are text h = text ∙ ap (λ b. b ++ listed (fresh run.form) lines) h ∙ ap (list_text run.form) are
   so_far_by ends.Cut faultless lines are text h = text ∙ ap (λ b. b ++ listed (fresh run.form) lines) h ∙ ap (list_text run.form) are.1
-  so_far_by ends.Write faultless lines are text h =
-      front_behind run.form lines (all_lines run.report.now.taken) head.written run.out.now.written are h text
-  so_far_by ends.Memory faultless lines are text h =
+  so_far_by _ faultless lines are text h =
       front_behind run.form lines (all_lines run.report.now.taken) head.written run.out.now.written are h text
 
   caused_by : (end : LinesEnd) (faultless : Bool) → t.end ≡ end → IsCausedBy run (status_of end faultless)

@@ -1,38 +1,30 @@
+-- Up to the first fault each record's line stands behind those before it.
 use Rattle.std.proofs.Common.{◌≡◌, ◌<◌, sym, ap, ◌∙◌, subst, IfSome, Ok, Err, Some, None, arith}
 use Rattle.dif_vif.specs.Spans.{LiesWithin}
 use Rattle.dif_vif.specs.Reading.{next_of}
 use Rattle.reading_list_main.proofs.RecordsPut.{spans_next, no_spans, fault_next, no_fault, line_more, lines_end}
 use Rattle.reading_list_main.proofs.record_lines.put_records.Goals as goal
 
-pub returns-in-Err-clause-text : goal.returns-in-Err-clause-text
-returns-in-Err-clause-text g c =
+pub returns-in-Err : goal.returns-in-Err
+returns-in-Err g c =
     let some : 0 < c.records.left = omega (arith, c.records-test.true) in
     let is : next_of c.args.step.now.payload.items c.records.from ≡ Err c.in-Err.fault =
     ap (λ bytes. next_of bytes c.records.from) (sym c.as_slice.ensures.value) ∙ sym c.in-Err.ensures.exact in
-    c.records.invariant.text _ (lines_end _ c.records.left _ c.records.from _ (spans_next c.records.left _ c.records.from _ some is))
+    record {
+      text = c.records.invariant.text _ (lines_end _ c.records.left _ c.records.from _ (spans_next c.records.left _ c.records.from _ some is));
+      fault = sym (fault_next c.records.left _ c.records.from _ some is) ∙ c.records.invariant.fault;
+    }
 
-pub returns-in-Err-clause-fault : goal.returns-in-Err-clause-fault
-returns-in-Err-clause-fault g c =
-    let some : 0 < c.records.left = omega (arith, c.records-test.true) in
-    let is : next_of c.args.step.now.payload.items c.records.from ≡ Err c.in-Err.fault =
-    ap (λ bytes. next_of bytes c.records.from) (sym c.as_slice.ensures.value) ∙ sym c.in-Err.ensures.exact in
-    sym (fault_next c.records.left _ c.records.from _ some is) ∙ c.records.invariant.fault
-
-pub returns-in-Ok-None-clause-text : goal.returns-in-Ok-None-clause-text
-returns-in-Ok-None-clause-text g c =
+pub returns-in-Ok-None : goal.returns-in-Ok-None
+returns-in-Ok-None g c =
     let some : 0 < c.records.left = omega (arith, c.records-test.true) in
     let is : next_of c.args.step.now.payload.items c.records.from ≡ Ok None =
     ap (λ bytes. next_of bytes c.records.from) (sym c.as_slice.ensures.value) ∙ sym c.in-Ok-None.ensures.exact
     ∙ ap Ok c.in-Ok-None.field-0-is in
-    c.records.invariant.text _ (lines_end _ c.records.left _ c.records.from _ (spans_next c.records.left _ c.records.from _ some is))
-
-pub returns-in-Ok-None-clause-fault : goal.returns-in-Ok-None-clause-fault
-returns-in-Ok-None-clause-fault g c =
-    let some : 0 < c.records.left = omega (arith, c.records-test.true) in
-    let is : next_of c.args.step.now.payload.items c.records.from ≡ Ok None =
-    ap (λ bytes. next_of bytes c.records.from) (sym c.as_slice.ensures.value) ∙ sym c.in-Ok-None.ensures.exact
-    ∙ ap Ok c.in-Ok-None.field-0-is in
-    sym (fault_next c.records.left _ c.records.from _ some is) ∙ c.records.invariant.fault
+    record {
+      text = c.records.invariant.text _ (lines_end _ c.records.left _ c.records.from _ (spans_next c.records.left _ c.records.from _ some is));
+      fault = sym (fault_next c.records.left _ c.records.from _ some is) ∙ c.records.invariant.fault;
+    }
 
 pub records-preserved : goal.records-preserved
 records-preserved g c =
@@ -51,12 +43,10 @@ records-preserved g c =
           (line_more _ c.records.left _ c.records.from c.in-Ok-Some.span _ some is c.put_record.ensures later);
     }
 
-pub returns-clause-text : goal.returns-clause-text
-returns-clause-text g c =
+pub returns : goal.returns
+returns g c =
     let none : c.records.left ≡ 0 = omega (arith, c.records-test.false) in
-    c.records.invariant.text _ (lines_end _ c.records.left _ c.records.from _ (no_spans c.records.left _ c.records.from none))
-
-pub returns-clause-fault : goal.returns-clause-fault
-returns-clause-fault g c =
-    let none : c.records.left ≡ 0 = omega (arith, c.records-test.false) in
-    sym (no_fault c.records.left _ c.records.from none) ∙ c.records.invariant.fault
+    record {
+      text = c.records.invariant.text _ (lines_end _ c.records.left _ c.records.from _ (no_spans c.records.left _ c.records.from none));
+      fault = sym (no_fault c.records.left _ c.records.from none) ∙ c.records.invariant.fault;
+    }
