@@ -93,7 +93,7 @@ fn gated<'g>(
 }
 
 // Whether an act on a cell was made.
-fn is_made<R: Wait>(rt: &R, cell: &BookCell<Gated<'_>>, pass: &mut Pass<Gated<'_>>) -> bool
+fn is_made<'g, R: Wait>(rt: &R, cell: &BookCell<Gated<'g>>, pass: &mut Pass<Gated<'g>>) -> bool
     requires { IsPassOf cell.now pass.old }
 {
     cell.step(rt, pass, 1, 7).is_ok()
