@@ -75,7 +75,7 @@ impl Book for Gated<'_> {
 }
 
 // A cell over a book behind this gate, with its pass.
-fn gated<'g>(
+fn enclosed<'g>(
     rt: &impl Abort,
     alloc: Global,
     gate: &'g Gate,
@@ -102,8 +102,8 @@ fn is_made<'g, R: Wait>(rt: &R, cell: &BookCell<Gated<'g>>, pass: &mut Pass<Gate
 #[test]
 fn acts_on_two_cells_are_made_at_the_same_time(rt: HostRuntime) {
     let gate = Gate::new(1_000_000_000);
-    let (first, mut first_pass) = gated(&rt, rt.alloc(), &gate);
-    let (second, mut second_pass) = gated(&rt, rt.alloc(), &gate);
+    let (first, mut first_pass) = enclosed(&rt, rt.alloc(), &gate);
+    let (second, mut second_pass) = enclosed(&rt, rt.alloc(), &gate);
     let made = join(
         &rt,
         || is_made(&rt, &first, &mut first_pass),
@@ -115,6 +115,6 @@ fn acts_on_two_cells_are_made_at_the_same_time(rt: HostRuntime) {
 #[test]
 fn an_act_for_which_no_other_begins_is_turned_away(rt: HostRuntime) {
     let gate = Gate::new(1_000);
-    let (cell, mut pass) = gated(&rt, rt.alloc(), &gate);
+    let (cell, mut pass) = enclosed(&rt, rt.alloc(), &gate);
     assert!(rt; !is_made(&rt, &cell, &mut pass));
 }
