@@ -16,7 +16,7 @@ use address_list_main::{LINE_MAX, list_addresses};
 use line_reader::TextReader;
 use line_teller::LinesEnd;
 use outer_io::{Sink, Source, StdSink, StdSource};
-use program_words::{NoWords, OwnText, cannot_open, command_words, own_text, tell};
+use program_words::{NoWords, OwnText, command_words, open_to_read, own_text, tell};
 use status::{Said, Stopped};
 use std::fs::{File, Files};
 use std::process::ExitCode;
@@ -105,10 +105,7 @@ fn open_lines<R: Eprint + Files<File = File>>(
     if name == "-" {
         return Ok(standard);
     }
-    match File::open(rt, name) {
-        Ok(file) => Ok(StdSource::file(file)),
-        Err(_unopened) => Err(cannot_open(rt, "address_list", name)),
-    }
+    open_to_read(rt, "address_list", name)
 }
 
 // Does what the words behind the program's name ask for.

@@ -16,7 +16,7 @@ mod status;
 use input_check_main::{Stop, check_inputs};
 use line_reader::Lines;
 use outer_io::{Sink, Source, StdSink, StdSource};
-use program_words::{NoWords, OwnText, cannot_open, command_words, own_text, tell};
+use program_words::{NoWords, OwnText, command_words, open_to_read, own_text, tell};
 use status::CheckStatus;
 use std::fs::{File, Files};
 use std::process::ExitCode;
@@ -91,16 +91,6 @@ fn check<R: Eprint + AllocGlobal, S: Source, K: Sink>(
     end(rt, status_of(checked))
 }
 
-// Opens a file, or ends with status 11, and names it.
-fn open<R: Eprint + Files<File = File>>(rt: &R, name: &str) -> Result<StdSource, ExitCode>
-    ensures unopened { IfErr result (λ ended. exit_status ended ≡ 11) }
-{
-    match File::open(rt, name) {
-        Ok(file) => Ok(StdSource::file(file)),
-        Err(_unopened) => Err(cannot_open(rt, "input_check", name)),
-    }
-}
-
 // Opens the files of receivers, in their order.
 fn open_receivers<R: Eprint + Files<File = File> + AllocGlobal>(
     rt: &R,
@@ -112,7 +102,7 @@ fn open_receivers<R: Eprint + Files<File = File> + AllocGlobal>(
 {
     let mut receivers = Vec::new(rt.alloc());
     for name in names {
-        let source = match open(rt, name.as_str()) {
+        let source = match open_to_read(rt, "input_check", name.as_str()) {
             Ok(source) => source,
             Err(ended) => return Err(ended),
         };
@@ -140,7 +130,7 @@ fn perform<R: Print + Eprint + Files<File = File> + AllocGlobal>(
     let [state, receivers @ ..] = command else {
         return end(rt, CheckStatus::Words);
     };
-    let mut state = match open(rt, state.as_str()) {
+    let mut state = match open_to_read(rt, "input_check", state.as_str()) {
         Ok(state) => state,
         Err(ended) => return ended,
     };

@@ -13,7 +13,7 @@ ghost use Rattle.line_accept.specs.Exit.{IsRunExit};
 use line_accept_main::{AcceptStatus, LINE_MAX, accept_run};
 use line_reader::TextReader;
 use outer_io::{Sink, Source, StdSink, StdSource};
-use program_words::{NoWords, Numbered, cannot_open, command_words, own_text, tell};
+use program_words::{NoWords, Numbered, command_words, open_to_read, own_text, tell};
 use std::fs::{File, Files};
 use std::process::ExitCode;
 
@@ -89,17 +89,6 @@ fn answer<R: Eprint + AllocGlobal, S: Source, K: Sink>(
     end(rt, status)
 }
 
-// Opens the file of the senders, or ends with status 11.
-fn open_senders<R: Eprint + Files<File = File>>(rt: &R, name: &str) -> Result<File, ExitCode>
-    ensures unopened { IfErr result (λ ended. exit_status ended ≡ 11) }
-    ensures exit { IfErr result (λ ended. IsRunExit (exit_status ended)) }
-{
-    match File::open(rt, name) {
-        Ok(file) => Ok(file),
-        Err(_unopened) => Err(cannot_open(rt, "line_accept", name)),
-    }
-}
-
 // Does what the words behind the program's name ask for.
 fn perform<R: Print + Eprint + Files<File = File> + AllocGlobal>(
     rt: &R,
@@ -118,12 +107,12 @@ fn perform<R: Print + Eprint + Files<File = File> + AllocGlobal>(
     let [senders] = command else {
         return end(rt, AcceptStatus::Words);
     };
-    let file = match open_senders(rt, senders.as_str()) {
-        Ok(file) => file,
+    let mut senders = match open_to_read(rt, "line_accept", senders.as_str()) {
+        Ok(senders) => senders,
         Err(ended) => return ended,
     };
     let mut deliveries = TextReader::new(input, LINE_MAX);
-    answer(rt, &mut StdSource::file(file), &mut deliveries, &mut out)
+    answer(rt, &mut senders, &mut deliveries, &mut out)
 }
 
 // What it means that the words can't be had.

@@ -20,7 +20,7 @@ use asked::{Asked, STANDARD_INPUT, merge_asked};
 use line_merge_main::{LINE_LONGEST, MergeStatus, merge_lines};
 use line_reader::TextReader;
 use outer_io::{Sink, Source, StdSink, StdSource};
-use program_words::{NoWords, OwnText, cannot_open, command_words, own_text, tell};
+use program_words::{NoWords, OwnText, command_words, open_to_read, own_text, tell};
 use status_words::{Said, Stopped};
 use std::fs::{File, Files};
 use std::process::ExitCode;
@@ -123,10 +123,7 @@ fn open_input<R: Eprint + Files<File = File>>(
     if name == STANDARD_INPUT {
         return Ok(standard.take().unwrap_or(StdSource::nothing()));
     }
-    match File::open(rt, name) {
-        Ok(file) => Ok(StdSource::file(file)),
-        Err(_unopened) => Err(cannot_open(rt, "line_merge", name)),
-    }
+    open_to_read(rt, "line_merge", name)
 }
 
 // Opens the inputs of these names, in their order.

@@ -15,7 +15,7 @@ mod status_words;
 
 use error_sink::ErrorSink;
 use outer_io::{Sink, Source, StdSink, StdSource};
-use program_words::{NoWords, OwnText, cannot_open, command_words, own_text, tell};
+use program_words::{NoWords, OwnText, command_words, open_to_read, own_text, tell};
 use reading_list_main::{Form, ListStatus, list_report};
 use status_words::{Said, Stopped};
 use std::fs::{File, Files};
@@ -123,17 +123,6 @@ fn list<R: Eprint + AllocGlobal, S: Source, K: Sink, E: Sink>(
     end(rt, status)
 }
 
-// Opens the report of this name, or ends with status 11.
-fn open_report<R: Eprint + Files<File = File>>(rt: &R, name: &str) -> Result<File, ExitCode>
-    ensures unopened { IfErr result (λ ended. exit_status ended ≡ 11) }
-    ensures exit { IfErr result (λ ended. IsRunExit (exit_status ended)) }
-{
-    match File::open(rt, name) {
-        Ok(file) => Ok(file),
-        Err(_unopened) => Err(cannot_open(rt, "reading_list", name)),
-    }
-}
-
 // Does what the words behind the program's name ask for.
 fn perform<R: Print + Eprint + Files<File = File> + AllocGlobal>(
     rt: &R,
@@ -153,12 +142,10 @@ fn perform<R: Print + Eprint + Files<File = File> + AllocGlobal>(
     let (Some(_), [.., name]) = (form_asked(command), command) else {
         return end_faulty(rt);
     };
-    let file = match open_report(rt, name.as_str()) {
-        Ok(file) => file,
-        Err(ended) => return ended,
-    };
-    let mut report = StdSource::file(file);
-    list(rt, command, &mut report, &mut out, &mut notes)
+    match open_to_read(rt, "reading_list", name.as_str()) {
+        Ok(mut report) => list(rt, command, &mut report, &mut out, &mut notes),
+        Err(ended) => ended,
+    }
 }
 
 // Ends where the words can't be had.

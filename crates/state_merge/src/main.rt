@@ -11,13 +11,12 @@ ghost use Rattle.state_changes.specs.declared.status.ChangeStatus.{ChangeStatus}
 ghost use Rattle.program_words.specs.OwnTexts.{asks_for_text, IsTold};
 ghost use Rattle.state_merge.specs.Exit.{IsRunExit};
 
-use outer_io::{Source, StdSink, StdSource};
-use program_words::{NoWords, cannot_open, command_words, own_text, tell};
+use outer_io::Source;
+use program_words::{NoWords, command_words, open_to_read, open_to_write, own_text, tell};
 use state_changes::{
     ChangeMessage, ChangeStatus, Merged, are_merge_words, load_merged, write_next,
 };
 use std::fs::{File, Files};
-use std::os::unix::fs::OpenOptionsExt;
 use std::process::ExitCode;
 
 const HELP: &str = "state_merge: a state with the meters and keys of a roster
@@ -42,6 +41,8 @@ docs/state_merge.1 is the man page.
 
 const VERSION: &str = "state_merge 0.1.0\n";
 
+const PROGRAM: &str = "state_merge";
+
 /// A state has keys: where its file is new its owner alone may read it.
 const PRIVATE: u32 = 0o600;
 
@@ -50,36 +51,10 @@ fn end(rt: &impl Eprint, status: ChangeStatus) -> ExitCode
     ensures { exit_status result ≡ code_of status }
 {
     let said = ChangeMessage {
-        program: "state_merge",
+        program: PROGRAM,
         status,
     };
     program_words::end(rt, status.code(), said)
-}
-
-// The file of this name, to be read, or status 11.
-fn open_to_read<R: Eprint + Files<File = File>>(rt: &R, name: &str) -> Result<StdSource, ExitCode>
-    ensures { IfErr result (λ ended. IsRunExit (exit_status ended)) }
-{
-    match File::open(rt, name) {
-        Ok(file) => Ok(StdSource::file(file)),
-        Err(_) => Err(cannot_open(rt, "state_merge", name)),
-    }
-}
-
-// The file of this name, made empty, to be written, or status 11.
-fn open_to_write<R: Eprint + Files<File = File>>(rt: &R, name: &str) -> Result<StdSink, ExitCode>
-    ensures { IfErr result (λ ended. IsRunExit (exit_status ended)) }
-{
-    let mut options = File::options();
-    options
-        .write(true)
-        .create(true)
-        .truncate(true)
-        .mode(PRIVATE);
-    match options.open(rt, name) {
-        Ok(file) => Ok(StdSink::file(file)),
-        Err(_) => Err(cannot_open(rt, "state_merge", name)),
-    }
 }
 
 // The state of one source under the roster of another, or the status that says why there is none.
@@ -105,8 +80,8 @@ fn merge<R: Eprint + Files<File = File> + AllocGlobal>(
 ) -> Result<Merged, ExitCode>
     ensures { IfErr result (λ ended. IsRunExit (exit_status ended)) }
 {
-    let mut state = open_to_read(rt, state)?;
-    let mut roster = open_to_read(rt, roster)?;
+    let mut state = open_to_read(rt, PROGRAM, state)?;
+    let mut roster = open_to_read(rt, PROGRAM, roster)?;
     load(rt, &mut state, &mut roster)
 }
 
@@ -114,7 +89,7 @@ fn merge<R: Eprint + Files<File = File> + AllocGlobal>(
 fn write_to<R: Eprint + Files<File = File>>(rt: &R, next: &Merged, name: &str) -> ExitCode
     ensures { IsRunExit (exit_status result) }
 {
-    let mut sink = match open_to_write(rt, name) {
+    let mut sink = match open_to_write(rt, PROGRAM, name, PRIVATE) {
         Ok(sink) => sink,
         Err(ended) => return ended,
     };
@@ -136,7 +111,7 @@ fn perform<R: Print + Eprint + Files<File = File> + AllocGlobal>(
     if let Some(own) = own_text(command) {
         let status = ChangeStatus::Write;
         let said = ChangeMessage {
-            program: "state_merge",
+            program: PROGRAM,
             status,
         };
         return tell(rt, own.text(HELP, VERSION), status.code(), said);

@@ -11,11 +11,10 @@ ghost use Rattle.state_changes.specs.declared.status.ChangeStatus.{ChangeStatus}
 ghost use Rattle.program_words.specs.OwnTexts.{asks_for_text, IsTold};
 ghost use Rattle.state_raise.specs.Exit.{IsRunExit};
 
-use outer_io::{Source, StdSink, StdSource};
-use program_words::{NoWords, cannot_open, command_words, own_text, tell};
+use outer_io::Source;
+use program_words::{NoWords, command_words, open_to_read, open_to_write, own_text, tell};
 use state_changes::{ChangeMessage, ChangeStatus, Raised, load_raised, read_raise, write_next};
 use std::fs::{File, Files};
-use std::os::unix::fs::OpenOptionsExt;
 use std::process::ExitCode;
 
 const HELP: &str = "state_raise: a state whose downlink counters are raised
@@ -40,6 +39,8 @@ docs/state_raise.1 is the man page.
 
 const VERSION: &str = "state_raise 0.1.0\n";
 
+const PROGRAM: &str = "state_raise";
+
 /// A state has keys: where its file is new its owner alone may read it.
 const PRIVATE: u32 = 0o600;
 
@@ -48,36 +49,10 @@ fn end(rt: &impl Eprint, status: ChangeStatus) -> ExitCode
     ensures { exit_status result ≡ code_of status }
 {
     let said = ChangeMessage {
-        program: "state_raise",
+        program: PROGRAM,
         status,
     };
     program_words::end(rt, status.code(), said)
-}
-
-// The file of this name, to be read, or status 11.
-fn open_to_read<R: Eprint + Files<File = File>>(rt: &R, name: &str) -> Result<StdSource, ExitCode>
-    ensures { IfErr result (λ ended. IsRunExit (exit_status ended)) }
-{
-    match File::open(rt, name) {
-        Ok(file) => Ok(StdSource::file(file)),
-        Err(_) => Err(cannot_open(rt, "state_raise", name)),
-    }
-}
-
-// The file of this name, made empty, to be written, or status 11.
-fn open_to_write<R: Eprint + Files<File = File>>(rt: &R, name: &str) -> Result<StdSink, ExitCode>
-    ensures { IfErr result (λ ended. IsRunExit (exit_status ended)) }
-{
-    let mut options = File::options();
-    options
-        .write(true)
-        .create(true)
-        .truncate(true)
-        .mode(PRIVATE);
-    match options.open(rt, name) {
-        Ok(file) => Ok(StdSink::file(file)),
-        Err(_) => Err(cannot_open(rt, "state_raise", name)),
-    }
 }
 
 // The state of a source, raised, or the status that says why there is none.
@@ -103,7 +78,7 @@ fn raise<R: Eprint + Files<File = File> + AllocGlobal>(
 ) -> Result<Raised, ExitCode>
     ensures { IfErr result (λ ended. IsRunExit (exit_status ended)) }
 {
-    let mut state = open_to_read(rt, state)?;
+    let mut state = open_to_read(rt, PROGRAM, state)?;
     load(rt, &mut state, by)
 }
 
@@ -111,7 +86,7 @@ fn raise<R: Eprint + Files<File = File> + AllocGlobal>(
 fn write_to<R: Eprint + Files<File = File>>(rt: &R, next: &Raised, name: &str) -> ExitCode
     ensures { IsRunExit (exit_status result) }
 {
-    let mut sink = match open_to_write(rt, name) {
+    let mut sink = match open_to_write(rt, PROGRAM, name, PRIVATE) {
         Ok(sink) => sink,
         Err(ended) => return ended,
     };
@@ -133,7 +108,7 @@ fn perform<R: Print + Eprint + Files<File = File> + AllocGlobal>(
     if let Some(own) = own_text(command) {
         let status = ChangeStatus::Write;
         let said = ChangeMessage {
-            program: "state_raise",
+            program: PROGRAM,
             status,
         };
         return tell(rt, own.text(HELP, VERSION), status.code(), said);

@@ -12,10 +12,11 @@ use crate::session::end;
 use crate::watched::WatchedSource;
 use collector_main::{Plan, Receiver, Status, StepsPlan};
 use outer_io::{StdSink, StdSource};
-use program_words::cannot_open;
+use program_words::{open_to_read, open_to_write};
 use std::fs::{File, Files};
-use std::os::unix::fs::OpenOptionsExt;
 use std::process::ExitCode;
+
+const PROGRAM: &str = "wmbus";
 
 /// Permissions of a new file, and those of one that only its owner may read.
 const PLAIN: u32 = 0o666;
@@ -42,36 +43,6 @@ pub(crate) struct StepsFiles {
     pub(crate) receiver: StdSource,
     // How many bytes of what is told may wait.
     pub(crate) room: usize,
-}
-
-// The file of this name, to be read.
-fn open_to_read<R: Eprint + Files<File = File>>(rt: &R, name: &str) -> Result<StdSource, ExitCode>
-    ensures { IfErr result (λ code. IsUnopened (exit_status code)) }
-{
-    match File::open(rt, name) {
-        Ok(file) => Ok(StdSource::file(file)),
-        Err(_) => Err(cannot_open(rt, "wmbus", name)),
-    }
-}
-
-// The file of this name, made empty, to be written; where it is new it gets these permissions.
-fn open_to_write<R: Eprint + Files<File = File>>(
-    rt: &R,
-    name: &str,
-    permissions: u32,
-) -> Result<StdSink, ExitCode>
-    ensures { IfErr result (λ code. IsUnopened (exit_status code)) }
-{
-    let mut options = File::options();
-    options
-        .write(true)
-        .create(true)
-        .truncate(true)
-        .mode(permissions);
-    match options.open(rt, name) {
-        Ok(file) => Ok(StdSink::file(file)),
-        Err(_) => Err(cannot_open(rt, "wmbus", name)),
-    }
 }
 
 // Files that take numbers of standard streams with which the program was started closed. A file that was opened before and these take all of
@@ -137,8 +108,13 @@ fn add_receivers<'r, R: Eprint + Files<File = File>>(
     let [rx, tx, later @ ..] = names else {
         return Ok(());
     };
-    let rx = watched(rt, receivers, open_to_read(rt, rx.as_str())?, several);
-    let tx = open_to_write(rt, tx.as_str(), PLAIN)?;
+    let rx = watched(
+        rt,
+        receivers,
+        open_to_read(rt, PROGRAM, rx.as_str())?,
+        several,
+    );
+    let tx = open_to_write(rt, PROGRAM, tx.as_str(), PLAIN)?;
     add_receiver(rt, receivers, rx, tx)?;
     add_receivers(rt, receivers, later, several)
 }
@@ -153,8 +129,8 @@ fn open_hear<'r, R: Eprint + Files<File = File> + AllocGlobal>(
     ensures count { IfOk result (λ files. vec_len files.receivers ≡ 1) }
     ensures unopened { IfErr result (λ code. IsUnopened (exit_status code)) }
 {
-    let beginning = WatchedSource::silent(rt, open_to_read(rt, beginning)?);
-    let rx = WatchedSource::silent(rt, open_to_read(rt, rx)?);
+    let beginning = WatchedSource::silent(rt, open_to_read(rt, PROGRAM, beginning)?);
+    let rx = WatchedSource::silent(rt, open_to_read(rt, PROGRAM, rx)?);
     let mut receivers = Vec::new(rt.alloc());
     add_receiver(rt, &mut receivers, rx, StdSink::nothing())?;
     Ok(Opened {
@@ -178,10 +154,10 @@ fn open_receivers<'r, R: Eprint + Files<File = File> + AllocGlobal>(
     ensures count { IfOk result (λ files. vec_len files.receivers ≡ length names.now / 2) }
     ensures unopened { IfErr result (λ code. IsUnopened (exit_status code)) }
 {
-    let beginning = WatchedSource::silent(rt, open_to_read(rt, beginning)?);
+    let beginning = WatchedSource::silent(rt, open_to_read(rt, PROGRAM, beginning)?);
     let _streams = taken_streams(rt);
-    let next = open_to_write(rt, next, PRIVATE)?;
-    let readings = open_to_write(rt, readings, PLAIN)?;
+    let next = open_to_write(rt, PROGRAM, next, PRIVATE)?;
+    let readings = open_to_write(rt, PROGRAM, readings, PLAIN)?;
     let mut receivers = Vec::new(rt.alloc());
     add_receivers(rt, &mut receivers, names, names.len() > 2)?;
     Ok(Opened {
@@ -278,15 +254,15 @@ fn open_steps<R: Eprint + Files<File = File>>(
 ) -> Result<StepsFiles, ExitCode>
     ensures { IfErr result (λ code. IsUnopened (exit_status code)) }
 {
-    let beginning = open_to_read(rt, state)?;
+    let beginning = open_to_read(rt, PROGRAM, state)?;
     let _streams = taken_streams(rt);
     let next = if plan.leaves_next {
-        open_to_write(rt, next, PRIVATE)?
+        open_to_write(rt, PROGRAM, next, PRIVATE)?
     } else {
         StdSink::nothing()
     };
     let receiver = if plan.hears_file {
-        open_to_read(rt, rx)?
+        open_to_read(rt, PROGRAM, rx)?
     } else {
         input
     };
