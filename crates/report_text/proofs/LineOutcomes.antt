@@ -12,12 +12,10 @@ use Rattle.tpl_headers.specs.declared.header.TplFault.TheVariants as tpl
 use Rattle.message_check.specs.declared.refusal.LayerFault.{LayerFault}
 use Rattle.message_check.specs.declared.refusal.LayerFault.TheVariants.{Ell, Afl, Tpl}
 use Rattle.message_check.specs.declared.refusal.Reason.{Reason}
-use Rattle.message_check.specs.declared.refusal.Reason.TheVariants.{NotUplink, BadLayers, PartInMode5, TooManyParts, BadMessage}
-use Rattle.message_check.specs.declared.refusal.Reason.TheVariants.{OtherAddress, Mode, NoAuth, Kdf, ShortBlocks, Unchecked, BadMac}
-use Rattle.message_check.specs.declared.refusal.Reason.TheVariants.{Stale, CheckBytes, SameAccess, QueueFull, IdsSpent, NoSuch}
-use Rattle.message_check.specs.declared.refusal.Reason.TheVariants.{KeyInMode5}
+use Rattle.message_check.specs.declared.refusal.Reason.TheVariants.{NotUplink, BadLayers, TooManyParts, BadMessage, OtherAddress, Mode, Kdf}
+use Rattle.message_check.specs.declared.refusal.Reason.TheVariants.{ShortBlocks, Stale, CheckBytes, SameAccess, NoSuch}
 use Rattle.meter_slots.specs.declared.entry.Outcome.{Outcome}
-use Rattle.meter_slots.specs.declared.entry.Outcome.TheVariants.{Stored, PartKept, Ticked, Queued, Cancelled, Rekeyed, Refused}
+use Rattle.meter_slots.specs.declared.entry.Outcome.TheVariants.{Stored, Ticked, Queued, Cancelled, Refused}
 use Rattle.meter_slots.specs.declared.reading.Reading.{Reading}
 use Rattle.layer_text.specs.Faults.{ell_fault_text, afl_fault_text, tpl_fault_text, named_fault_text, layer_fault_text}
 use Rattle.report_text.specs.Outcomes.{bad_layers_text, reason_text, reading_text, stored_text, refused_text, ticked_text, outcome_text}
@@ -54,23 +52,17 @@ bad_layers fault = literal (codes "layers ") refl ⌢ layer_fault fault
 reason_is : (reason : Reason) → IsWithout 10 (reason_text reason)
 reason_is (NotUplink c) = worded_bytes (literal (codes "uplink ") refl) (c ∷ [])
 reason_is (BadLayers fault) = bad_layers fault
-reason_is PartInMode5 = literal (codes "part5") refl
 reason_is (TooManyParts fid) = worded_number (literal (codes "parts ") refl) fid
 reason_is (BadMessage fault) = named_fault (codes "message") fault (literal (codes "message") refl)
 reason_is (OtherAddress a) = worded_bytes (literal (codes "other ") refl) (bytes_of a)
 reason_is (Mode found wanted) = worded_two (literal (codes "mode ") refl) found wanted
-reason_is NoAuth = literal (codes "noauth") refl
 reason_is (Kdf found) = worded_number (literal (codes "kdf ") refl) found
 reason_is (ShortBlocks want have) = worded_two (literal (codes "blocks ") refl) want have
-reason_is Unchecked = literal (codes "unchecked") refl
-reason_is BadMac = literal (codes "mac") refl
 reason_is (Stale got last) = worded_two (literal (codes "stale ") refl) got last
 reason_is (CheckBytes two) = worded_bytes (literal (codes "check ") refl) two
 reason_is (SameAccess acc) = worded_number (literal (codes "access ") refl) acc
-reason_is QueueFull = literal (codes "queue") refl
-reason_is IdsSpent = literal (codes "ids") refl
 reason_is (NoSuch id) = worded_number (literal (codes "nosuch ") refl) id
-reason_is KeyInMode5 = literal (codes "key5") refl
+reason_is _ = record { passed = refl }
 
 reading_is : (r : Reading) → IsWithout 10 (reading_text r)
 unfolding reading_text
@@ -92,9 +84,8 @@ ticked_is expired = literal (codes "ticked") refl ⌢ worded_if (literal (codes 
 
 pub outcome_is : (reading : Option Reading) (outcome : Outcome) → IsWithout 10 (outcome_text reading outcome)
 outcome_is reading (Stored counter confirmed sent) = stored_is counter reading confirmed (option_map (λ s. s.down) sent)
-outcome_is reading PartKept = literal (codes "part") refl
 outcome_is reading (Ticked expired) = ticked_is expired
 outcome_is reading (Queued id) = worded_number (literal (codes "queued ") refl) id
 outcome_is reading (Cancelled id) = worded_number (literal (codes "cancelled ") refl) id
-outcome_is reading Rekeyed = literal (codes "rekeyed") refl
 outcome_is reading (Refused reason) = refused_is reason
+outcome_is reading _ = record { passed = refl }

@@ -1,54 +1,65 @@
 -- Pieces of text hold no newline.
-use Rattle.std.proofs.Common.{◌≡◌, ℕ, zero, suc, ◌+◌, ◌/◌, ◌%◌, ◌<◌, ◌==◌, nat_lt, Bool, true, false, cond, ◌&&◌, List, [], ◌∷◌, ℤ, pos}
-use Rattle.std.proofs.Common.{negsuc, Option, Some, None, refl, arith}
+use Rattle.std.proofs.Common.{◌≡◌, ℕ, zero, suc, ◌+◌, ◌/◌, ◌%◌, ◌<◌, ◌==◌, nat_lt, Bool, true, false, cond, ◌&&◌, not, List, [], ◌∷◌, get_or}
+use Rattle.std.proofs.Common.{Option, Some, None, ap, refl, arith}
 use Rattle.std.specs.Prelude.{codes}
 use Rattle.std.specs.List.{list_all}
-use Rattle.std.specs.Fmt.{decimal, signed_decimal, digits, digits_onto, digit_glyph}
-use Rattle.std.proofs.lemmas.Bool.{and_from, cond_both}
+use Rattle.std.specs.Fmt.{decimal, digits, digits_onto, digit_glyph}
+use Rattle.std.proofs.lemmas.Bool.{and_parts, and_from, cond_both, ltb-false, ne_eqb}
 use Rattle.hex.specs.Hex.{encode_with, encode_lower, lower_digits}
 use Rattle.meter_address.specs.declared.address.Address.{Address}
 use Rattle.meter_address.specs.Letters.{letters_of, letters_of_number, manufacturer_of, is_letter}
 use Rattle.record_text.specs.Values.{hex_text}
 use Rattle.paper.specs.Pieces.{optional_text, labelled, labelled_two, labelled_if, labelled_bytes, text_if}
 use Rattle.layer_text.specs.Letters.{letters_text}
-use Rattle.report_text.proofs.LineWalks.{IsWithout, ◌⌢◌, literal, differs, byte_differs, found_differs}
+use Rattle.report_text.proofs.LineWalks.{Passing, IsWithout, ◌⌢◌, literal, differs}
 
 -- ---- numbers
 
-glyph_differs : (s d : ℕ) → s < 48 → differs s (digit_glyph false d) ≡ true
-glyph_differs s d low =
-    cond_both (nat_lt d 10) (48 + d) (87 + d) (λ c. differs s c ≡ true) (λ _. byte_differs s (48 + d) (omega arith))
-    (λ _. byte_differs s (87 + d) (omega arith))
+digits_pass : {test : ℕ → Bool} → ((d : ℕ) → d < 10 → test (48 + d) ≡ true) → (k n : ℕ) (behind : List ℕ) → Passing test behind
+    → Passing test (digits_onto k 10 false n behind)
+digits_pass digit zero n behind h = h
+digits_pass {test} digit (suc k) n behind h =
+    let one : List ℕ = digit_glyph false (n % 10) ∷ behind in
+    let glyph : test (digit_glyph false (n % 10)) ≡ true =
+    cond_both (nat_lt (n % 10) 10) (48 + n % 10) (87 + n % 10) (λ b. test b ≡ true) (λ _. digit (n % 10) (omega arith))
+    (λ past. absurd (omega (arith, ltb-false (n % 10) 10 past))) in
+    let more : Passing test one = record { passed = and_from _ _ glyph h.passed } in
+    cond_both (n / 10 == 0) one (digits_onto k 10 false (n / 10) one) (Passing test) (λ _. more)
+    (λ _. digits_pass digit k (n / 10) one more)
 
-digits_differ : (s : ℕ) → s < 48 → (k base n : ℕ) (behind : List ℕ) → list_all (differs s) behind ≡ true
-    → list_all (differs s) (digits_onto k base false n behind) ≡ true
-digits_differ s low zero base n behind h = h
-digits_differ s low (suc k) base n behind h =
-    let one : List ℕ = digit_glyph false (n % base) ∷ behind in
-    let more : list_all (differs s) one ≡ true = and_from _ _ (glyph_differs s (n % base) low) h in
-    cond_both (n / base == 0) one (digits_onto k base false (n / base) one) (λ t. list_all (differs s) t ≡ true) (λ _. more)
-    (λ _. digits_differ s low k base (n / base) one more)
+-- a number, where all digits pass
+pub decimal_passes : {test : ℕ → Bool} → ((d : ℕ) → d < 10 → test (48 + d) ≡ true) → (n : ℕ) → Passing test (decimal n)
+unfolding digits
+decimal_passes digit n = digits_pass digit 64 n [] (literal [] refl)
+
+byte_differs : (s b : ℕ) → (b ≡ s → ⊥) → differs s b ≡ true
+byte_differs s b h = ap not (ne_eqb b s h)
 
 -- digits stand behind the newline and the space among the codes
 pub number : {s : ℕ} (n : ℕ) → s < 48 → IsWithout s (decimal n)
-unfolding digits
-number {s} n low = record { passed = digits_differ s low 64 10 n [] refl }
-
-pub signed : (z : ℤ) → IsWithout 10 (signed_decimal z)
-signed (pos n) = number n (omega arith)
-signed (negsuc n) = record { passed = (number {s = 10} (suc n) (omega arith)).passed }
+number {s} n low = decimal_passes (λ d few. byte_differs s (48 + d) (omega arith)) n
 
 -- ---- hexadecimal
 
-hex_differs : (s : ℕ) (table bytes : List ℕ) → list_all (differs s) table ≡ true → differs s 0 ≡ true
-    → list_all (differs s) (encode_with table bytes) ≡ true
+-- both digits of a byte pass
+abbrev pub DigitsPass : (ℕ → Bool) → ℕ → Type 0
+DigitsPass test b = (test (get_or lower_digits (b / 16) 0) ≡ true) × (test (get_or lower_digits (b % 16) 0) ≡ true)
+
+pub hex_passes : {test : ℕ → Bool} (bytes : List ℕ) → ((i : ℕ) → DigitsPass test (get_or bytes i 0)) → Passing test (encode_lower bytes)
 unfolding encode_with
-hex_differs s table [] h k = refl
-hex_differs s table (b ∷ bytes) h k =
-    and_from _ _ (found_differs s table (b / 16) h k) (and_from _ _ (found_differs s table (b % 16) h k) (hex_differs s table bytes h k))
+hex_passes [] h = literal [] refl
+hex_passes (b ∷ bytes) h =
+    record { passed = and_from _ _ (h 0).0 (and_from _ _ (h 0).1 (hex_passes bytes (λ i. h (suc i))).passed) }
+
+-- a byte of a table, or zero, which stands for those past its end
+found_differs : (s : ℕ) (table : List ℕ) (i : ℕ) → list_all (differs s) table ≡ true → differs s 0 ≡ true
+    → differs s (get_or table i 0) ≡ true
+found_differs s [] i h k = k
+found_differs s (x ∷ xs) zero h k = (and_parts _ _ h).0
+found_differs s (x ∷ xs) (suc i) h k = found_differs s xs i (and_parts _ _ h).1 k
 
 pub hex : (bytes : List ℕ) → IsWithout 10 (encode_lower bytes)
-hex bytes = record { passed = hex_differs 10 lower_digits bytes refl refl }
+hex bytes = hex_passes bytes (λ i. (found_differs 10 lower_digits _ refl refl, found_differs 10 lower_digits _ refl refl))
 
 pub hex_or_dash : (bytes : List ℕ) → IsWithout 10 (hex_text bytes)
 hex_or_dash [] = literal (codes "-") refl

@@ -1,6 +1,5 @@
 -- The lines of records, which belong to no list of steps.
-use Rattle.std.proofs.Common.{ℕ, ℤ, zero, suc, Bool, true, false, cond, List, [], ◌∷◌, Option, Some, None, Result, Ok}
-use Rattle.std.proofs.Common.{Err, refl}
+use Rattle.std.proofs.Common.{ℕ, ℤ, zero, suc, Bool, true, false, cond, List, [], ◌∷◌, Option, Some, None, Result, Ok, Err, refl}
 use Rattle.std.specs.Prelude.{codes}
 use Rattle.dif_vif.specs.declared.fault.RecordFault.{RecordFault}
 use Rattle.dif_vif.specs.declared.fault.RecordFault.TheVariants.{Truncated, TooManyExtensions, Lvar, Selection, Special}
@@ -16,8 +15,8 @@ use Rattle.record_text.specs.RecordText.{more_text, next_text, listed, records_t
 use Rattle.unit_text.specs.Pieces.{register_text, unit_text}
 use Rattle.report_text.proofs.LineWalks.{IsWithout, ◌⌢◌, literal, Others, no_others, ◌⨟◌, one_other}
 use Rattle.paper.specs.Pieces.{labelled_bytes}
-use Rattle.report_text.proofs.LinePieces.{signed, hex_or_dash, worded_number, worded_bytes}
-use Rattle.report_text.proofs.PlainTexts.{in_line, function_plain, quantity_plain, name_plain, value_plain}
+use Rattle.report_text.proofs.LinePieces.{hex_or_dash, worded_number, worded_bytes}
+use Rattle.report_text.proofs.PlainTexts.{in_line, signed_plain, function_plain, quantity_plain, name_plain, value_plain}
 
 -- ---- lines
 
@@ -35,7 +34,7 @@ unit_is : (quantity : Quantity) (name : UnitName) (exponent : ℤ) → IsWithout
 unfolding unit_text
 unit_is quantity name exponent =
     literal (codes " ") refl ⌢ in_line (quantity_plain quantity) ⌢ literal (codes " ") refl ⌢ in_line (name_plain name)
-    ⌢ literal (codes " ") refl ⌢ signed exponent
+    ⌢ literal (codes " ") refl ⌢ in_line (signed_plain exponent)
 
 data_is : (modifiers : List ℕ) (v : Value) (sent : List ℕ) → IsWithout 10 (data_text modifiers v sent)
 unfolding data_text
@@ -48,14 +47,13 @@ unfolding record_line
 record_others bytes span =
     let u = unit bytes span in
     one_other _ (literal (codes "record ") refl ⌢ place_is span ⌢ unit_is u.quantity u.name u.exponent
-    ⌢ data_is (bytes_at bytes u.modifiers_at u.modifiers) (value bytes span) (bytes_at bytes span.data_at span.data_len))
-    (record { meter = refl; strangers = refl; step = refl; stranger = refl })
+    ⌢ data_is (bytes_at bytes u.modifiers_at u.modifiers) (value bytes span) (bytes_at bytes span.data_at span.data_len)) (search)
 
 maker_others : (bytes : List ℕ) (span : RecordSpan) → Others (maker_line bytes span)
 unfolding maker_line labelled_bytes
 maker_others bytes span =
     one_other _ (worded_bytes (literal (codes "maker ") refl) (span.dif ∷ []) ⌢ literal (codes " ") refl ⌢ hex_or_dash
-    (bytes_at bytes span.data_at span.data_len)) (record { meter = refl; strangers = refl; step = refl; stranger = refl })
+    (bytes_at bytes span.data_at span.data_len)) (search)
 
 one_of : (maker : Bool) {a b : List ℕ} → Others a → Others b → Others (cond maker a b)
 one_of true x y = x
@@ -74,17 +72,16 @@ fault_is (Special dif) = worded_bytes (literal (codes "special ") refl) (dif ∷
 fault_others : (fault : RecordFault) → Others (fault_line fault)
 unfolding fault_line
 fault_others fault =
-    one_other _ (literal (codes "fault ") refl ⌢ fault_is fault) (record { meter = refl; strangers = refl; step = refl; stranger = refl })
+    one_other _ (literal (codes "fault ") refl ⌢ fault_is fault) (search)
 
 -- ---- listings
 
 more_line : Others (codes "more\n")
-more_line = one_other (codes "more") (literal (codes "more") refl) (record { meter = refl; strangers = refl; step = refl; stranger = refl })
+more_line = one_other (codes "more") (literal (codes "more") refl) (search)
 
 more_others : (next : Result (Option RecordSpan) RecordFault) → Others (more_text next)
 more_others (Ok None) = no_others
-more_others (Ok (Some span)) = more_line
-more_others (Err fault) = more_line
+more_others _ = more_line
 
 next_others : (rest : ℕ → List ℕ) → ((from : ℕ) → Others (rest from))
     → (payload : List ℕ) (next : Result (Option RecordSpan) RecordFault) → Others (next_text rest payload next)

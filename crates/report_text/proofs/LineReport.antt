@@ -57,8 +57,7 @@ counts_is n =
 pub receiver_others : (r : ℕ × ReceiverEnd) → Others (receiver_text r)
 unfolding receiver_text labelled
 receiver_others r = one_other _
-    (worded_number (literal (codes "receiver ") refl) r.0 ⌢ counts_is r.1.counts ⌢ literal (codes " ") refl ⌢ ended_is r.1.ended)
-    (record { meter = refl; strangers = refl; step = refl; stranger = refl })
+    (worded_number (literal (codes "receiver ") refl) r.0 ⌢ counts_is r.1.counts ⌢ literal (codes " ") refl ⌢ ended_is r.1.ended) (search)
 
 -- ---- a meter
 
@@ -107,8 +106,7 @@ last_others kept = if_others (λ r. records_text r.payload) (λ r. records_other
 
 pending_others : (c : Command) → Others (pending_text c)
 unfolding pending_text labelled_two
-pending_others c = one_other _ (worded_two (literal (codes "pending ") refl) c.id c.tries)
-    (record { meter = refl; strangers = refl; step = refl; stranger = refl })
+pending_others c = one_other _ (worded_two (literal (codes "pending ") refl) c.id c.tries) (search)
 
 -- what stands behind a journal's steps
 pub behind_steps : (kept : List Reading) (commands : List Command) → Others (last_text kept ++ flat_map pending_text commands)
@@ -164,8 +162,7 @@ all_strangers_tell (h ∷ heard) small = stranger_tells h small.0 ⨾ all_strang
 
 ring_others : (a : Address) → Others (ring_text a)
 unfolding ring_text labelled_bytes
-ring_others a = one_other _ (worded_bytes (literal (codes "ring ") refl) (bytes_of a))
-    (record { meter = refl; strangers = refl; step = refl; stranger = refl })
+ring_others a = one_other _ (worded_bytes (literal (codes "ring ") refl) (bytes_of a)) (search)
 
 pub rings_others : (heard : List Heard) → Others (flat_map ring_text (ring_of heard))
 rings_others heard = all_others ring_text ring_others (ring_of heard)
@@ -179,12 +176,11 @@ strangers_tell heard small = strangers_line (length heard) ⨾ all_strangers_tel
 
 pub head_others : (ends : List ReceiverEnd) → Others (codes "wmbus-report 1\n" ++ flat_map receiver_text (enumerate_from 1 ends))
 head_others ends =
-    one_other (codes "wmbus-report 1") (literal (codes "wmbus-report 1") refl)
-    (record { meter = refl; strangers = refl; step = refl; stranger = refl })
+    one_other (codes "wmbus-report 1") (literal (codes "wmbus-report 1") refl) (search)
     ⨟ all_others receiver_text receiver_others (enumerate_from 1 ends)
 
 pub end_others : Others (codes "end\n")
-end_others = one_other (codes "end") (literal (codes "end") refl) (record { meter = refl; strangers = refl; step = refl; stranger = refl })
+end_others = one_other (codes "end") (literal (codes "end") refl) (search)
 
 abbrev no_lines : Told
 no_lines = record { above = []; meters = []; strangers = [] }

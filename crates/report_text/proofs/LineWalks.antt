@@ -1,38 +1,34 @@
 -- Going through the lines of a text, piece by piece.
-use Rattle.std.proofs.Common.{◌≡◌, ℕ, zero, suc, ◌==◌, Bool, true, false, cond, ◌||◌, not, List, [], ◌∷◌, ◌++◌, get_or, ap, sym, ◌∙◌, refl, append_assoc}
+use Rattle.std.proofs.Common.{◌≡◌, ℕ, ◌==◌, Bool, true, false, cond, ◌||◌, not, List, [], ◌∷◌, ◌++◌, ap, sym, ◌∙◌, refl, append_assoc}
 use Rattle.std.specs.Prelude.{codes}
 use Rattle.std.specs.List.{list_all, slice_split, onto_first}
-use Rattle.std.proofs.lemmas.Bool.{and_parts, and_from, not-true, eq-eqb, ne_eqb}
+use Rattle.std.proofs.lemmas.Bool.{and_parts, and_from, not-true, eq-eqb}
 use Rattle.std.proofs.lemmas.List.Folds.{list_all-append}
 use Rattle.std.proofs.lemmas.List.Splits.{slice_split-cons_yes, slice_split-cons_no}
 use Rattle.lists.specs.Each.{Each}
+use Rattle.lists.proofs.Members.{each_append}
 use Rattle.plain_text.specs.Parts.{fields_of}
 use Rattle.report_text.specs.Orders.{Told, lines_in, told, with_line, begins, pair_in, meter_heading, strangers_heading, with_steps}
 
--- ---- texts without a separator
+-- ---- texts of which each byte passes a test
 
+pub record Passing (test : ℕ → Bool) (text : List ℕ) : Type 0 where
+  pub passed : list_all test text ≡ true
+
+infixl 40 ◌⌢◌
+pub ◌⌢◌ : {test : ℕ → Bool} {a b : List ℕ} → Passing test a → Passing test b → Passing test (a ++ b)
+◌⌢◌ {test} {a} {b} x y = record { passed = list_all-append test a b ∙ and_from _ _ x.passed y.passed }
+
+-- a text whose bytes are known
+pub literal : {test : ℕ → Bool} (text : List ℕ) → list_all test text ≡ true → Passing test text
+literal text h = record { passed = h }
+
+-- texts without a separator
 abbrev pub differs : ℕ → ℕ → Bool
 differs separator b = not (b == separator)
 
-pub record IsWithout (separator : ℕ) (text : List ℕ) : Type 0 where
-  pub passed : list_all (differs separator) text ≡ true
-
-infixl 40 ◌⌢◌
-pub ◌⌢◌ : {s : ℕ} {a b : List ℕ} → IsWithout s a → IsWithout s b → IsWithout s (a ++ b)
-◌⌢◌ {s} {a} {b} x y = record { passed = list_all-append (differs s) a b ∙ and_from _ _ x.passed y.passed }
-
-pub literal : {s : ℕ} (text : List ℕ) → list_all (differs s) text ≡ true → IsWithout s text
-literal text h = record { passed = h }
-
-pub byte_differs : (s b : ℕ) → (b ≡ s → ⊥) → differs s b ≡ true
-byte_differs s b h = ap not (ne_eqb b s h)
-
--- a byte of a table, or zero, which stands for those past its end
-pub found_differs : (s : ℕ) (table : List ℕ) (i : ℕ) → list_all (differs s) table ≡ true → differs s 0 ≡ true
-    → differs s (get_or table i 0) ≡ true
-found_differs s [] i h k = k
-found_differs s (x ∷ xs) zero h k = (and_parts _ _ h).0
-found_differs s (x ∷ xs) (suc i) h k = found_differs s xs i (and_parts _ _ h).1 k
+abbrev pub IsWithout : ℕ → List ℕ → Type 0
+IsWithout separator text = Passing (differs separator) text
 
 -- ---- cuts
 
@@ -84,12 +80,20 @@ same_turn g e x = record { at = λ rest. x.at rest ∙ e (told (lines_in rest)) 
 pub first_line : (line : List ℕ) → IsWithout 10 line → (rest : List ℕ) → lines_in (line ++ codes "\n" ++ rest) ≡ line ∷ lines_in rest
 first_line line h rest = ap lines_in (append_assoc line (codes "\n") rest) ∙ cut_first 10 line rest h.passed
 
+-- what kind of line this is, by what it begins with
+pub record IsKind (line : List ℕ) (meter strangers step stranger : Bool) : Type 0 where
+  pub meter_is : begins (codes "meter ") line ≡ meter
+  pub strangers_is : begins (codes "strangers ") line ≡ strangers
+  pub step_is : begins (codes "step ") line ≡ step
+  pub stranger_is : begins (codes "stranger ") line ≡ stranger
+
+pub kind_of : {line : List ℕ} {m s t r : Bool} → begins (codes "meter ") line ≡ m → begins (codes "strangers ") line ≡ s
+    → begins (codes "step ") line ≡ t → begins (codes "stranger ") line ≡ r → IsKind line m s t r
+kind_of m s t r = record { meter_is = m; strangers_is = s; step_is = t; stranger_is = r }
+
 -- a line that opens no list and stands in none
-pub record IsOther (line : List ℕ) : Type 0 where
-  pub meter : begins (codes "meter ") line ≡ false
-  pub strangers : begins (codes "strangers ") line ≡ false
-  pub step : begins (codes "step ") line ≡ false
-  pub stranger : begins (codes "stranger ") line ≡ false
+abbrev pub IsOther : List ℕ → Type 0
+IsOther line = IsKind line false false false false
 
 -- a text of whole lines, each of which is such a one
 pub record Others (text : List ℕ) : Type 0 where
@@ -103,28 +107,27 @@ no_others = record { lines = []; cut = λ rest. refl; each = tt }
 pub one_other : (line : List ℕ) → IsWithout 10 line → IsOther line → Others (line ++ codes "\n")
 one_other line h other = record { lines = line ∷ []; cut = first_line line h; each = (other, tt) }
 
-each_both : (xs ys : List (List ℕ)) → Each IsOther xs → Each IsOther ys → Each IsOther (xs ++ ys)
-each_both [] ys h k = k
-each_both (x ∷ xs) ys h k = (h.0, each_both xs ys h.1 k)
-
 infixl 30 ◌⨟◌
 pub ◌⨟◌ : {a b : List ℕ} → Others a → Others b → Others (a ++ b)
 ◌⨟◌ {a} {b} x y = record {
   lines = x.lines ++ y.lines;
   cut = λ rest. ap lines_in (append_assoc a b rest) ∙ x.cut (b ++ rest) ∙ ap (λ l. x.lines ++ l) (y.cut rest)
       ∙ sym (append_assoc x.lines y.lines (lines_in rest));
-  each = each_both x.lines y.lines x.each y.each;
+  each = each_append IsOther x.lines y.lines x.each y.each;
 }
 
-with_other : (line : List ℕ) (below : Told) → IsOther line → with_line line below ≡ below
+-- what a line of a kind tells, above what the lines below tell
+abbrev pub told_by : (meter strangers listed : Bool) → List ℕ → Told → Told
+told_by meter strangers listed line below = cond meter (meter_heading below) (cond strangers (strangers_heading below)
+    (cond listed (with_steps (pair_in (fields_of line)) below) below))
+
+pub told_is : {m s t r : Bool} (line : List ℕ) → IsKind line m s t r → (below : Told) → with_line line below ≡ told_by m s (t || r) line below
 unfolding with_line
-with_other line below o =
-    λ i. cond (o.meter i) (meter_heading below) (cond (o.strangers i) (strangers_heading below)
-    (cond (o.step i || o.stranger i) (with_steps (pair_in (fields_of line)) below) below))
+told_is line k below = λ i. told_by (k.meter_is i) (k.strangers_is i) (k.step_is i || k.stranger_is i) line below
 
 told_others : (lines : List (List ℕ)) → Each IsOther lines → (below : List (List ℕ)) → told (lines ++ below) ≡ told below
 told_others [] h below = refl
-told_others (line ∷ lines) h below = with_other line (told (lines ++ below)) h.0 ∙ told_others lines h.1 below
+told_others (line ∷ lines) h below = told_is line h.0 (told (lines ++ below)) ∙ told_others lines h.1 below
 
 -- they change no list of steps
 pub others_pass : {text : List ℕ} → Others text → Passes text

@@ -1,6 +1,5 @@
 -- How the listing of a payload's records ends, found record by record.
-use Rattle.std.proofs.Common.{◌≡◌, ℕ, zero, suc, ◌-◌, ◌<◌, ◌≤◌, ◌==◌, length, List, [], ◌∷◌, Bool, true, false, Option, Some, None}
-use Rattle.std.proofs.Common.{Result, Ok}
+use Rattle.std.proofs.Common.{◌≡◌, ℕ, zero, suc, ◌-◌, ◌<◌, ◌≤◌, ◌==◌, length, List, [], ◌∷◌, Bool, true, false, Option, Some, Result, Ok}
 use Rattle.std.proofs.Common.{sym, ap, ◌∙◌, refl, arith}
 use Rattle.std.proofs.lemmas.Bool.Decides.{nat_tests}
 use Rattle.dif_vif.specs.declared.fault.RecordFault.{RecordFault}
@@ -34,46 +33,34 @@ end_from f n payload from =
     let spans = spans_from n payload from in
     f (length spans == n) (next_of payload (place_behind from spans))
 
-one_less : (k n : ℕ) → (suc k == suc n) ≡ (k == n)
-one_less k n = grind (arith, nat_tests)
-
-none_is_few : (n : ℕ) → 0 < n → (0 == n) ≡ false
+pub none_is_few : (n : ℕ) → 0 < n → (0 == n) ≡ false
 none_is_few n some = grind (arith, nat_tests)
 
-none_is_all : (n : ℕ) → n ≡ 0 → (0 == n) ≡ true
+pub none_is_all : (n : ℕ) → n ≡ 0 → (0 == n) ≡ true
 none_is_all n none = grind (arith, nat_tests)
 
--- behind a record that is listed, the end is the same
-pub end_next : {X : Type 0} (f : Bool → Result (Option RecordSpan) RecordFault → X) (n : ℕ) (payload : List ℕ) (from : ℕ)
-    (span : RecordSpan) → next_of payload from ≡ Ok (Some span) → end_from f (suc n) payload from ≡ end_from f n payload span.end
-end_next f n payload from span is =
-    let rest = spans_from n payload span.end in
-    ap (λ found. f (length found == suc n) (next_of payload (place_behind from found))) (spans_next n payload from span is)
-    ∙ ap (λ full. f full (next_of payload (place_behind span.end rest))) (one_less (length rest) n)
+module _ {X : Type 0} (f : Bool → Result (Option RecordSpan) RecordFault → X) where
+  -- behind a record that is listed, the end is the same
+  pub end_next : (n : ℕ) (payload : List ℕ) (from : ℕ) (span : RecordSpan) → next_of payload from ≡ Ok (Some span)
+      → end_from f (suc n) payload from ≡ end_from f n payload span.end
+  end_next n payload from span is =
+      let rest = spans_from n payload span.end in
+      let one_less : (suc (length rest) == suc n) ≡ (length rest == n) = grind (arith, nat_tests) in
+      ap (λ found. f (length found == suc n) (next_of payload (place_behind from found))) (spans_next n payload from span is)
+      ∙ ap (λ full. f full (next_of payload (place_behind span.end rest))) one_less
 
-end_behind : {X : Type 0} (f : Bool → Result (Option RecordSpan) RecordFault → X) (left : ℕ) (payload : List ℕ) (from : ℕ)
-    (span : RecordSpan) → 0 < left → next_of payload from ≡ Ok (Some span)
-    → end_from f left payload from ≡ end_from f (left - 1) payload span.end
-end_behind f zero payload from span some is = absurd (omega arith)
-end_behind f (suc n) payload from span some is =
-    let one : n ≡ suc n - 1 = omega arith in
-    end_next f n payload from span is ∙ ap (λ m. end_from f m payload span.end) one
+  pub end_behind : (left : ℕ) (payload : List ℕ) (from : ℕ) (span : RecordSpan) → 0 < left → next_of payload from ≡ Ok (Some span)
+      → end_from f left payload from ≡ end_from f (left - 1) payload span.end
+  end_behind zero payload from span some is = absurd (omega arith)
+  end_behind (suc n) payload from span some is =
+      let one : n ≡ suc n - 1 = omega arith in
+      end_next n payload from span is ∙ ap (λ m. end_from f m payload span.end) one
 
-no_span : {X : Type 0} (f : Bool → Result (Option RecordSpan) RecordFault → X) (n : ℕ) (payload : List ℕ) (from : ℕ) (full : Bool)
-    → spans_from n payload from ≡ [] → (0 == n) ≡ full → end_from f n payload from ≡ f full (next_of payload from)
-no_span f n payload from full none is =
-    ap (λ found. f (length found == n) (next_of payload (place_behind from found))) none ∙ ap (λ b. f b (next_of payload from)) is
-
--- no record is left
-pub end_early : {X : Type 0} (f : Bool → Result (Option RecordSpan) RecordFault → X) (n : ℕ) (payload : List ℕ) (from : ℕ)
-    (next : Result (Option RecordSpan) RecordFault) → 0 < n → spans_from n payload from ≡ [] → next_of payload from ≡ next
-    → end_from f n payload from ≡ f false next
-end_early f n payload from next some none is = no_span f n payload from false none (none_is_few n some) ∙ ap (f false) is
-
--- as many are listed as may be
-end_full : {X : Type 0} (f : Bool → Result (Option RecordSpan) RecordFault → X) (n : ℕ) (payload : List ℕ) (from : ℕ) → n ≡ 0
-    → end_from f n payload from ≡ f true (next_of payload from)
-end_full f n payload from none = no_span f n payload from true (spans_full n payload from none) (none_is_all n none)
+  -- no record is left, or as many are listed as may be
+  pub end_here : (n : ℕ) (payload : List ℕ) (from : ℕ) (full : Bool) (next : Result (Option RecordSpan) RecordFault)
+      → spans_from n payload from ≡ [] → (0 == n) ≡ full → next_of payload from ≡ next → end_from f n payload from ≡ f full next
+  end_here n payload from full next none is found =
+      ap (λ spans. f (length spans == n) (next_of payload (place_behind from spans))) none ∙ (λ i. f (is i) (found i))
 
 -- So many records at most are left, from this place on.
 pub record IsOnTheWay (payload : List ℕ) (from left : ℕ) : Type 0 where
@@ -98,18 +85,11 @@ pub record IsEnd (payload : List ℕ) (fault : Option RecordFault) (more : Bool)
   pub fault_is : fault ≡ end_from fault_behind 256 payload 0
   pub more_is : more ≡ end_from more_behind 256 payload 0
 
--- no record is left
-pub is_early : (payload : List ℕ) (from left : ℕ) (next : Result (Option RecordSpan) RecordFault) → IsOnTheWay payload from left → 0 < left
-    → spans_from left payload from ≡ [] → next_of payload from ≡ next → IsEnd payload (fault_behind false next) (more_behind false next)
-is_early payload from left next h some none is = record {
-  fault_is = sym (h.fault ∙ end_early fault_behind left payload from next some none is);
-  more_is = sym (h.more ∙ end_early more_behind left payload from next some none is);
-}
-
--- as many are listed as may be
-pub is_full_end : (payload : List ℕ) (from left : ℕ) → IsOnTheWay payload from left → left ≡ 0
-    → IsEnd payload None (more_behind true (next_of payload from))
-is_full_end payload from left h none = record {
-  fault_is = sym (h.fault ∙ end_full fault_behind left payload from none);
-  more_is = sym (h.more ∙ end_full more_behind left payload from none);
+-- no record is left, or as many are listed as may be
+pub is_end : (payload : List ℕ) (from left : ℕ) (full : Bool) (next : Result (Option RecordSpan) RecordFault) → IsOnTheWay payload from left
+    → spans_from left payload from ≡ [] → (0 == left) ≡ full → next_of payload from ≡ next
+    → IsEnd payload (fault_behind full next) (more_behind full next)
+is_end payload from left full next h none is found = record {
+  fault_is = sym (h.fault ∙ end_here fault_behind left payload from full next none is found);
+  more_is = sym (h.more ∙ end_here more_behind left payload from full next none is found);
 }

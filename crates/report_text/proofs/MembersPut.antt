@@ -18,9 +18,9 @@ pub record PutsMembers {P : Type 0} (takes : P → List ℕ → P → Type 0) (o
     (new : P) : Type 0 where
   pub puts : Puts takes old (front ++ members_text later ms) new
 
-pub no_more : {P : Type 0} {takes : P → List ℕ → P → Type 0} {p q : P} {later : Bool} (front : List ℕ)
-    → Puts takes p (front ++ 125 ∷ []) q → PutsMembers takes p front later no_members q
-no_more front last = record { puts = last }
+pub no_more : {P : Type 0} {takes : P → List ℕ → P → Type 0} {p q : P} {front : List ℕ} {later : Bool} → Puts takes p (front ++ 125 ∷ []) q
+    → PutsMembers takes p front later no_members q
+no_more last = record { puts = last }
 
 grouped : (front comma name colon rest : List ℕ)
     → front ++ (comma ++ (name ++ (colon ++ rest))) ≡ (front ++ (comma ++ (name ++ colon))) ++ rest
@@ -29,20 +29,20 @@ grouped front comma name colon rest =
     ∙ ap (λ t. comma ++ t) (append_assoc name colon rest)))
 
 -- a member: its name with its colon, and then its value
-pub and_member : {P : Type 0} {takes : P → List ℕ → P → Type 0} {p q r s : P} {d : Data} {ms : Members} (front : List ℕ) (later : Bool)
+pub and_member : {P : Type 0} {takes : P → List ℕ → P → Type 0} {p q r s : P} {d : Data} {ms : Members} {front : List ℕ} {later : Bool}
     (name : List ℕ) → Puts takes p (front ++ (comma_if later ++ (quoted name ++ 58 ∷ []))) q → Puts takes q (compact_text d) r
     → PutsMembers takes r [] true ms s → PutsMembers takes p front later (member name d ms) s
-and_member {d} {ms} front later name word value rest = record {
+and_member {d} {ms} {front} {later} name word value rest = record {
   puts = is_put _ _ (grouped front (comma_if later) (quoted name) (58 ∷ []) (compact_text d ++ members_text true ms))
       (then word (then value rest.puts));
 }
 
 -- a member whose value is a string, of which the closing quote is left to what comes next
-pub and_text : {P : Type 0} {takes : P → List ℕ → P → Type 0} {p q r s : P} {text : List ℕ} {ms : Members} (front : List ℕ)
-    (later : Bool) (name : List ℕ) → Puts takes p (front ++ (comma_if later ++ (quoted name ++ 58 ∷ 34 ∷ []))) q
+pub and_text : {P : Type 0} {takes : P → List ℕ → P → Type 0} {p q r s : P} {text : List ℕ} {ms : Members} {front : List ℕ}
+    {later : Bool} (name : List ℕ) → Puts takes p (front ++ (comma_if later ++ (quoted name ++ 58 ∷ 34 ∷ []))) q
     → Puts takes q (escape text) r → PutsMembers takes r (34 ∷ []) true ms s
     → PutsMembers takes p front later (member name (string text) ms) s
-and_text {text} {ms} front later name word value rest = record {
+and_text {text} {ms} {front} {later} name word value rest = record {
   puts = is_put _ _
       (ap (λ t. front ++ (comma_if later ++ (quoted name ++ 58 ∷ 34 ∷ t))) (append_assoc (escape text) (34 ∷ []) (members_text true ms))
       ∙ grouped front (comma_if later) (quoted name) (58 ∷ 34 ∷ []) (escape text ++ 34 ∷ members_text true ms))
@@ -50,11 +50,11 @@ and_text {text} {ms} front later name word value rest = record {
 }
 
 -- a member whose text is known, which is put with what comes next
-pub and_known : {P : Type 0} {takes : P → List ℕ → P → Type 0} {p q : P} {ms : Members} (front : List ℕ) (later : Bool)
+pub and_known : {P : Type 0} {takes : P → List ℕ → P → Type 0} {p q : P} {ms : Members} {front : List ℕ} {later : Bool}
     (name : List ℕ) (d : Data)
     → PutsMembers takes p (front ++ (comma_if later ++ (quoted name ++ 58 ∷ compact_text d))) true ms q
     → PutsMembers takes p front later (member name d ms) q
-and_known {ms} front later name d rest = record {
+and_known {ms} {front} {later} name d rest = record {
   puts = is_put _ _ (grouped front (comma_if later) (quoted name) (58 ∷ compact_text d) (members_text true ms)) rest.puts;
 }
 

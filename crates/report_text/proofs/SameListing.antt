@@ -1,7 +1,6 @@
 -- The report lists the records that the JSON tells.
 use Rattle.std.proofs.Common.{◌≡◌, ℕ, zero, suc, List, [], ◌∷◌, ◌++◌, Bool, true, false, Option, Some, None, Result, Ok, Err, sym}
-use Rattle.std.proofs.Common.{ap, ◌∙◌, refl}
-use Rattle.std.proofs.Common.{append_assoc, arith}
+use Rattle.std.proofs.Common.{ap, ◌∙◌, refl, append_assoc, arith}
 use Rattle.std.specs.Prelude.{codes, if◌then◌else◌}
 use Rattle.std.specs.List.{flat_map}
 use Rattle.std.proofs.lemmas.List.{append-nil}
@@ -15,7 +14,7 @@ use Rattle.record_text.specs.Lines.{span_line, fault_line}
 use Rattle.record_text.specs.RecordText.{more_text, next_text, listed}
 use Rattle.report_text.specs.Readings.{fault_behind, more_behind}
 use Rattle.report_text.specs.ReadingsLaw.{JsonListsTheReport}
-use Rattle.report_text.proofs.ListedEnds.{spans_next, end_from, end_next, end_early}
+use Rattle.report_text.proofs.ListedEnds.{spans_next, none_is_few, end_from, end_next, end_here}
 
 -- the lines behind the records, where this comes behind them
 abbrev last_lines : Bool → Result (Option RecordSpan) RecordFault → List ℕ
@@ -27,15 +26,15 @@ told_from n payload from = flat_map (span_line payload) (spans_from n payload fr
 
 at_most : (next : Result (Option RecordSpan) RecordFault) → more_text next ≡ last_lines true next
 at_most (Ok None) = refl
-at_most (Ok (Some span)) = refl
-at_most (Err fault) = refl
+at_most _ = refl
 
 nothing_more : (n : ℕ) (payload : List ℕ) (from : ℕ) (next : Result (Option RecordSpan) RecordFault) → next_of payload from ≡ next
     → spans_from (suc n) payload from ≡ [] → next_text (listed n payload) payload next ≡ last_lines false next
     → listed (suc n) payload from ≡ told_from (suc n) payload from
 unfolding listed
 nothing_more n payload from next is none text =
-    ap (next_text (listed n payload) payload) is ∙ text ∙ sym (end_early last_lines (suc n) payload from next (omega arith) none is)
+    ap (next_text (listed n payload) payload) is ∙ text
+    ∙ sym (end_here last_lines (suc n) payload from false next none (none_is_few (suc n) (omega arith)) is)
     ∙ ap (λ spans. flat_map (span_line payload) spans ++ end_from last_lines (suc n) payload from) (sym none)
 
 one_more : (n : ℕ) (payload : List ℕ) (from : ℕ) (span : RecordSpan) → next_of payload from ≡ Ok (Some span)

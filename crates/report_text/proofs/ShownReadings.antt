@@ -1,7 +1,6 @@
 -- The tree of the last readings is shown by its text, and read back.
 use Rattle.std.proofs.Common.{◌≡◌, ℕ, zero, suc, ◌+◌, ◌-◌, ◌%◌, ◌^◌, ◌<◌, ◌≤◌, ◌==◌, true, ◌&&◌, List, [], ◌∷◌, length, map, ℤ, pos}
-use Rattle.std.proofs.Common.{negsuc, neg_ℤ, ◌≤ℤ◌}
-use Rattle.std.proofs.Common.{Option, Some, None, Result, Ok, Err, inl, inr, sym, ap, subst, refl, arith}
+use Rattle.std.proofs.Common.{negsuc, neg_ℤ, ◌≤ℤ◌, Option, Some, Result, Ok, inl, inr, sym, ap, subst, refl, arith}
 use Rattle.std.specs.Prelude.{nat_le, int_le, slice_index, IfSome}
 use Rattle.std.specs.List.{AllByRecursion, list_all}
 use Rattle.std.proofs.lemmas.Bool.{and_parts, cond_both, leb-true}
@@ -127,11 +126,10 @@ AreRecords payload spans = AllByRecursion (λ span. IsShown 1 (span_tree payload
 next_shown : (payload : List ℕ) (from : ℕ) (rest : ℕ → List RecordSpan) → from ≤ length payload
     → ((place : ℕ) → place ≤ length payload → AreRecords payload (rest place))
     → (next : Result (Option RecordSpan) RecordFault) → next_of payload from ≡ next → AreRecords payload (next_spans rest next)
-next_shown payload from rest inside later (Ok None) is = tt
-next_shown payload from rest inside later (Err fault) is = tt
 next_shown payload from rest inside later (Ok (Some span)) is =
     let found = next_found payload from (Some span) inside is in
     (span_shown payload span found.1, later span.end (LiesWithin-from_span payload span found.1).within)
+next_shown payload from rest inside later _ is = tt
 
 spans_shown : (n : ℕ) (payload : List ℕ) (from : ℕ) → from ≤ length payload → AreRecords payload (spans_from n payload from)
 unfolding spans_from

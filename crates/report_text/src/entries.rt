@@ -128,6 +128,7 @@ fn put_items<P: Paper>(paper: &mut P, payload: &[u8])
 }
 
 /// Puts the records of a payload that are listed, as an array of JSON: 256 at most, up to the first fault.
+#[tactic(auto, using(paper::proofs::Calls::two_make))]
 pub fn put_entries<P: Paper>(paper: &mut P, payload: &[u8])
     ensures { Puts P.takes paper.old (compact_text (list_tree (map (span_tree payload.now) (listed payload.now)))) paper.new }
 {

@@ -99,6 +99,7 @@ struct Parts<'p, 's> {
     parts: &'p [MeterPart<'s>],
 }
 
+#[tactic(auto, using(paper::proofs::Items::one_item))]
 fn put_parts<P: Paper>(paper: &mut P, parts: &[MeterPart<'_>])
     ensures { Puts P.takes paper.old (flat_map (λ part. part) parts.now) paper.new }
 {

@@ -117,6 +117,7 @@ fn put_items<P: Paper>(paper: &mut P, slots: &[SlotBook])
     put_text(paper, "]");
 }
 
+#[tactic(auto, unfolding(json::specs::Print::escape_byte), using(paper::proofs::Calls::three_make))]
 fn put_tree<P: Paper>(paper: &mut P, slots: &[SlotBook])
     ensures { Puts P.takes paper.old (compact_text (readings_tree slots.now)) paper.new }
 {

@@ -155,7 +155,7 @@ fn put_command_if<P: Paper>(paper: &mut P, command: Option<&Command>)
 }
 
 /// Puts the commands that wait.
-#[tactic(auto, using(paper::proofs::Calls::none))]
+#[tactic(auto, using(paper::proofs::Calls::none, paper::proofs::Items::one_more))]
 pub fn put_pending<P: Paper>(paper: &mut P, queue: &Queue)
     ensures { Puts P.takes paper.old (flat_map pending_text queue.now.commands) paper.new }
 {
@@ -238,7 +238,7 @@ pub fn put_meter<P: Paper>(paper: &mut P, slot: &SlotBook)
     put_journal(paper, slot.readings(), slot.journal(), slot.queue());
 }
 
-#[tactic(auto, using(paper::proofs::Calls::none, paper::proofs::Calls::then))]
+#[tactic(auto, using(paper::proofs::Calls::none, paper::proofs::Items::one_item))]
 fn put_meters<P: Paper>(paper: &mut P, slots: &[SlotBook])
     ensures { Puts P.takes paper.old (flat_map meter_text slots.now) paper.new }
 {
@@ -260,7 +260,7 @@ fn put_stranger<P: Paper>(paper: &mut P, stranger: &Heard)
     put_text(paper, "\n");
 }
 
-#[tactic(auto, using(paper::proofs::Calls::none, paper::proofs::Calls::then))]
+#[tactic(auto, using(paper::proofs::Calls::none, paper::proofs::Items::one_at))]
 fn put_heard<P: Paper>(paper: &mut P, heard: &[Heard])
     ensures { Puts P.takes paper.old (flat_map stranger_text heard.now) paper.new }
 {
@@ -287,7 +287,7 @@ fn put_address_if<P: Paper>(paper: &mut P, address: Option<Address>)
     }
 }
 
-#[tactic(auto, using(paper::proofs::Calls::none))]
+#[tactic(auto, using(paper::proofs::Calls::none, paper::proofs::Items::one_more))]
 fn put_ring<P: Paper>(paper: &mut P, strangers: &Strangers)
     ensures { Puts P.takes paper.old (flat_map ring_text (ring_of strangers.now)) paper.new }
 {

@@ -1,4 +1,3 @@
-use Rattle.std.proofs.Common.{[], ◌∷◌, true, false}
 use Rattle.std.specs.Prelude.{codes}
 use Rattle.json.specs.Print.{escape_byte}
 use Rattle.report_text.specs.Readings.{members, maker_members}
@@ -9,6 +8,6 @@ pub returns : goal.returns
 unfolding escape_byte
 returns g c =
     object_put (members (maker_members c.args.payload.now c.args.span.now))
-    (and_text (123 ∷ []) false (codes "maker") c.put_text.ensures c.put_digits.ensures
-    (and_text (34 ∷ []) true (codes "raw") c.put_text-2.ensures c.put_part.ensures
-    (no_more (34 ∷ []) c.put_text-3.ensures)))
+    (and_text (codes "maker") c.put_text.ensures c.put_digits.ensures
+    (and_text (codes "raw") c.put_text-2.ensures c.put_part.ensures
+    (no_more c.put_text-3.ensures)))

@@ -1,4 +1,4 @@
-use Rattle.std.proofs.Common.{[], ◌∷◌, true, false, refl}
+use Rattle.std.proofs.Common.{refl}
 use Rattle.std.specs.Prelude.{codes}
 use Rattle.json.specs.Print.{escape_byte}
 use Rattle.report_text.specs.Readings.{members, record_members}
@@ -11,17 +11,17 @@ unfolding escape_byte
 returns g c =
     let u = c.args.unit in
     object_put (members (record_members c.args.payload.now c.args.span.now u c.args.value))
-    (and_member (123 ∷ []) false (codes "exponent") c.put_text.ensures c.put_exponent.ensures
-    (and_text [] true (codes "function") c.put_text-2.ensures
+    (and_member (codes "exponent") c.put_text.ensures c.put_exponent.ensures
+    (and_text (codes "function") c.put_text-2.ensures
     (inside (function_plain c.args.span.now.function) c.function_word.ensures c.put_text-3.ensures)
-    (and_text (34 ∷ []) true (codes "modifiers") c.put_text-4.ensures c.put_part.ensures
-    (and_text (34 ∷ []) true (codes "quantity") c.put_text-5.ensures
+    (and_text (codes "modifiers") c.put_text-4.ensures c.put_part.ensures
+    (and_text (codes "quantity") c.put_text-5.ensures
     (inside (quantity_plain u.quantity) c.quantity_word.ensures c.put_text-6.ensures)
-    (and_text (34 ∷ []) true (codes "raw") c.put_text-7.ensures c.put_part-2.ensures
-    (and_member (34 ∷ []) true (codes "storage") c.put_text-8.ensures c.put_number.ensures
-    (and_member [] true (codes "subunit") c.put_text-9.ensures c.put_number-2.ensures
-    (and_member [] true (codes "tariff") c.put_text-10.ensures c.put_number-3.ensures
-    (and_text [] true (codes "unit") c.put_text-11.ensures
+    (and_text (codes "raw") c.put_text-7.ensures c.put_part-2.ensures
+    (and_member (codes "storage") c.put_text-8.ensures c.put_number.ensures
+    (and_member (codes "subunit") c.put_text-9.ensures c.put_number-2.ensures
+    (and_member (codes "tariff") c.put_text-10.ensures c.put_number-3.ensures
+    (and_text (codes "unit") c.put_text-11.ensures
     (inside (name_plain u.name) c.name_word.ensures c.put_text-12.ensures)
-    (and_text (34 ∷ []) true (codes "value") c.put_text-13.ensures (inside (value_plain c.args.value) refl c.put_value.ensures)
-    (no_more (34 ∷ []) c.put_text-14.ensures)))))))))))
+    (and_text (codes "value") c.put_text-13.ensures (inside (value_plain c.args.value) refl c.put_value.ensures)
+    (no_more c.put_text-14.ensures)))))))))))

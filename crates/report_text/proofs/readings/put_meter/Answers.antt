@@ -1,4 +1,4 @@
-use Rattle.std.proofs.Common.{[], ◌∷◌, true, false, sym, ap, option_map, option_copied}
+use Rattle.std.proofs.Common.{sym, ap, option_map, option_copied}
 use Rattle.std.specs.Prelude.{codes}
 use Rattle.hex.specs.Hex.{encode_lower}
 use Rattle.json.specs.Print.{escape_byte, escape}
@@ -18,11 +18,11 @@ returns g c =
     (sym c.ending_of-ending.ensures.fault)) c.put_fault.ensures in
     let more = is_put _ _ (ap (λ b. compact_text (boolean b)) (sym c.ending_of-ending.ensures.more)) c.put_truth.ensures in
     object_put (members (meter_members c.args.address c.args.mode (option_copied c.args.last) c.args.payload.now))
-    (and_text (123 ∷ []) false (codes "address") c.put_text.ensures address
-    (and_member (34 ∷ []) true (codes "at") c.put_text-2.ensures c.put_at.ensures
-    (and_member [] true (codes "counter") c.put_text-3.ensures c.put_counter.ensures
-    (and_member [] true (codes "fault") c.put_text-4.ensures fault
-    (and_member [] true (codes "mode") c.put_text-5.ensures c.put_mode.ensures
-    (and_member [] true (codes "more") c.put_text-6.ensures more
-    (and_member [] true (codes "records") c.put_text-7.ensures c.put_entries.ensures
-    (no_more [] c.put_text-8.ensures))))))))
+    (and_text (codes "address") c.put_text.ensures address
+    (and_member (codes "at") c.put_text-2.ensures c.put_at.ensures
+    (and_member (codes "counter") c.put_text-3.ensures c.put_counter.ensures
+    (and_member (codes "fault") c.put_text-4.ensures fault
+    (and_member (codes "mode") c.put_text-5.ensures c.put_mode.ensures
+    (and_member (codes "more") c.put_text-6.ensures more
+    (and_member (codes "records") c.put_text-7.ensures c.put_entries.ensures
+    (no_more c.put_text-8.ensures))))))))
