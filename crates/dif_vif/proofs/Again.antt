@@ -1,9 +1,6 @@
 -- What is spelled so is read, whatever follows it.
-use Rattle.std.proofs.Common.{◌≡◌, ℕ, zero, suc, ◌%◌, ◌≤◌, true, false, eqb, ltb, List, [], ◌∷◌, ◌++◌, length, Option, Some, None, Ok, is_some, refl, sym, ap, ◌∙◌, inl, inr, append_assoc, add-one, arith}
-use Rattle.std.specs.Prelude.{unwrap_or}
-use Rattle.std.specs.Option.{option_to_list}
+use Rattle.std.proofs.Common.{◌≡◌, ℕ, zero, suc, ◌%◌, ◌≤◌, true, false, eqb, ltb, List, [], ◌∷◌, ◌++◌, length, Option, Some, None, Ok, is_some, refl, sym, ap, ◌∙◌, inl, inr, append_assoc, add-one, arith, unwrap_or, option_to_list, take_at, drop_at, length-append}
 use Rattle.std.proofs.lemmas.Bool.{le-ltb, eq-eqb, ne_eqb, cond-false}
-use Rattle.std.proofs.lemmas.List.{take_at, drop_at, length-append}
 use Rattle.dif_vif.specs.Spelling.{Dib, Vib, DataRecord, IsChain, IsPlainText, IsRecord, field_width, lvar_width, data_width, dib_spelling, vib_spelling, contents_spelling, spelling}
 use Rattle.dif_vif.specs.Stops.{IsDib, IsVib}
 use Rattle.dif_vif.specs.Reading.{byte_at, bytes_at, chain_len, chain_at, dif_at, dib_at, text_at, vib_at, lvar_at, contents_at, record_at}

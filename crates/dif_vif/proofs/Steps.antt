@@ -1,6 +1,5 @@
 -- What a reading of several steps answers, by what each step does, and what a test on the way said.
-use Rattle.std.proofs.Common.{◌≡◌, ℕ, ◌<◌, true, eqb, ◌||◌, Option, Some, None, Result, Ok, Err, refl, is_some, inl, inr}
-use Rattle.std.specs.Prelude.{unwrap_or, MatchResult}
+use Rattle.std.proofs.Common.{◌≡◌, ℕ, ◌<◌, true, eqb, ◌||◌, Option, Some, None, Result, Ok, Err, refl, is_some, inl, inr, unwrap_or, MatchResult}
 use Rattle.std.proofs.lemmas.Bool.{agree_below_at, ne_eqb, or_from, or_cases, both_ways}
 use Rattle.lists.specs.Steps.{◌>>=◌}
 use Rattle.dif_vif.specs.declared.fault.RecordFault.{RecordFault}
