@@ -165,10 +165,8 @@ run_in (suc left) bytes from all =
               ordered = omega (arith, r.fillers.ordered);
               within = r.fillers.within;
               fillers = λ place low high.
-                  elim (cases_eq place from) [
-                    | inl here ↦ rw here (slice_get-get_or bytes from 0 lt ∙ ap (λ (b : ℕ). Some b) filler)
-                    | inr later ↦ r.fillers.fillers place (omega arith) high
-                  ];
+                  ⊎_elim (λ here. rw here (slice_get-get_or bytes from 0 lt ∙ ap (λ (b : ℕ). Some b) filler))
+                  (λ later. r.fillers.fillers place (omega arith) high) (cases_eq place from);
             };
             ends = r.ends;
           }
