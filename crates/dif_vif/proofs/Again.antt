@@ -1,9 +1,6 @@
 -- What is spelled so is read, whatever follows it.
-use Rattle.std.proofs.Common.{◌≡◌, ℕ, zero, suc, ◌%◌, ◌≤◌, true, false, eqb, ltb, List, [], ◌∷◌, ◌++◌, length, Option, Some, None, Ok, is_some, refl, sym, ap, ◌∙◌, inl, inr, append_assoc, add-one, arith}
-use Rattle.std.specs.Prelude.{unwrap_or}
-use Rattle.std.specs.Option.{option_to_list}
+use Rattle.std.proofs.Common.{⊎_elim, ◌≡◌, ℕ, zero, suc, ◌%◌, ◌≤◌, true, false, eqb, ltb, List, [], ◌∷◌, ◌++◌, length, Option, Some, None, Ok, is_some, refl, sym, ap, ◌∙◌, append_assoc, add-one, arith, unwrap_or, option_to_list, take_at, drop_at, length-append}
 use Rattle.std.proofs.lemmas.Bool.{le-ltb, eq-eqb, ne_eqb, cond-false}
-use Rattle.std.proofs.lemmas.List.{take_at, drop_at, length-append}
 use Rattle.dif_vif.specs.Spelling.{Dib, Vib, DataRecord, IsChain, IsPlainText, IsRecord, field_width, lvar_width, data_width, dib_spelling, vib_spelling, contents_spelling, spelling}
 use Rattle.dif_vif.specs.Stops.{IsDib, IsVib}
 use Rattle.dif_vif.specs.Reading.{byte_at, bytes_at, chain_len, chain_at, dif_at, dib_at, text_at, vib_at, lvar_at, contents_at, record_at}
@@ -93,10 +90,8 @@ lvar_again start dif None width rest wide =
     let not_13 : dif % 16 ≡ 13 → ⊥ = λ field. (let none : field_width 13 ≡ Some width = ap field_width (sym field) ∙ wide in cc) in
     rw (ne_eqb (dif % 16) 13 not_13) refl
 lvar_again start dif (Some lvar) width rest wide =
-    elim (chosen (eqb (dif % 16) 13) (lvar_width lvar) None (Some width) wide) [
-      | inl h ↦ let known : is_some (lvar_width lvar) ≡ true = ap is_some h.1 in rw (h.0, byte_again start lvar rest, known) refl
-      | inr h ↦ absurd (let none = h.1 in cc)
-    ]
+    ⊎_elim (λ h. let known : is_some (lvar_width lvar) ≡ true = ap is_some h.1 in rw (h.0, byte_again start lvar rest, known) refl)
+    (λ h. absurd (let none = h.1 in cc)) (chosen (eqb (dif % 16) 13) (lvar_width lvar) None (Some width) wide)
 
 contents_again : (start : ℕ) (r : DataRecord) (rest : List ℕ) → IsRecord r
     → contents_at start r.dib.dif (contents_spelling r.contents ++ rest) ≡ Ok (r.contents, rest)

@@ -1,5 +1,5 @@
 -- Numbers by their digits: how large they are, and one digit more.
-use Rattle.std.proofs.Common.{◌≡◌, ℕ, suc, ◌+◌, ◌-◌, ◌*◌, ◌/◌, ◌%◌, ◌^◌, ◌<◌, ◌≤◌, List, [], ◌∷◌, ◌++◌, reverse, length, get_or, drop, map, refl, ap, ◌∙◌, inl, inr, arith}
+use Rattle.std.proofs.Common.{⊎_elim, ◌≡◌, ℕ, suc, ◌+◌, ◌-◌, ◌*◌, ◌/◌, ◌%◌, ◌^◌, ◌<◌, ◌≤◌, List, [], ◌∷◌, ◌++◌, reverse, length, get_or, drop, map, refl, ap, ◌∙◌, arith}
 use Rattle.std.proofs.Math.Nat.{pow-le-pow_right, pow-le-pow_left, pow-zero, pow-succ', mul-le-mul_left}
 use Rattle.std.proofs.lemmas.Bool.{cases_lt}
 use Rattle.std.proofs.lemmas.List.{drop_more, reverse-append, length-drop, length-map, get_or-map, get_or_past}
@@ -29,18 +29,13 @@ drop-before xs left some within =
     let back : left - 1 + 1 ≡ left = omega arith in
     drop_more xs (left - 1) 0 (omega arith) ∙ ap (λ (k : ℕ). get_or xs (left - 1) 0 ∷ drop k xs) back
 
-pub low_first-step : (base : ℕ) (xs : List ℕ) (left number : ℕ) → 0 < left → left ≤ length xs → number ≡ low_first base (drop left xs)
-    → number * base + get_or xs (left - 1) 0 ≡ low_first base (drop (left - 1) xs)
-low_first-step base xs left number some within is = rw (drop-before xs left some within, ← is) (omega arith)
-
 -- ---- the digits of extensions
 
 digit_below : (base lowest : ℕ) (xs : List ℕ) → 0 < base → (i : ℕ) → get_or (map (λ x. x / lowest % base) xs) i 0 < base
 digit_below base lowest xs some i =
-    elim (cases_lt i (length xs)) [
-      | inl lt ↦ rw (get_or-map (λ x. x / lowest % base) xs i 0 0 lt) (omega arith)
-      | inr le ↦ rw (get_or_past (map (λ x. x / lowest % base) xs) i 0 (omega (arith, length-map xs (λ x. x / lowest % base)))) some
-    ]
+    ⊎_elim (λ lt. rw (get_or-map (λ x. x / lowest % base) xs i 0 0 lt) (omega arith))
+    (λ le. rw (get_or_past (map (λ x. x / lowest % base) xs) i 0 (omega (arith, length-map xs (λ x. x / lowest % base)))) some)
+    (cases_lt i (length xs))
 
 -- the number of the digits from a place on, of at most ten
 pub number_bound : (base lowest : ℕ) (xs : List ℕ) (left number : ℕ) → 0 < base → length xs ≤ 10

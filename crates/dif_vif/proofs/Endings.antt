@@ -1,6 +1,5 @@
 -- A fault is told exactly where its cause stands behind the fillers, and just where no span begins.
-use Rattle.std.proofs.Common.{◌≡◌, ℕ, ◌≤◌, false, length, get_or, drop, List, Option, Some, Result, Ok, Err, refl, sym, ap, subst, ◌∙◌}
-use Rattle.std.specs.Prelude.{IsErr}
+use Rattle.std.proofs.Common.{◌≡◌, ℕ, ◌≤◌, false, length, get_or, drop, List, Option, Some, Result, Ok, Err, refl, sym, ap, subst, ◌∙◌, IsErr}
 use Rattle.dif_vif.specs.declared.fault.RecordFault.{RecordFault}
 use Rattle.dif_vif.specs.declared.span.RecordSpan.{RecordSpan}
 use Rattle.lists.specs.Steps.{◌>>=◌}

@@ -9,3 +9,4 @@ pub mod Endings
 pub mod Listings
 pub mod Listed
 pub mod Lowest
+pub mod Left

@@ -2,22 +2,10 @@
 use Rattle.std.proofs.Common.{◌≡◌, ℕ, zero, suc, ◌-◌, ◌<◌, ◌≤◌, List, [], ◌∷◌, length, Option, Some, None, Result, Ok, Err, refl, sym, ap, ◌∙◌, arith}
 use Rattle.dif_vif.specs.declared.fault.RecordFault.{RecordFault}
 use Rattle.dif_vif.specs.declared.span.RecordSpan.{RecordSpan}
-use Rattle.dif_vif.specs.Spans.{IsNext, LiesWithin}
 use Rattle.dif_vif.specs.Reading.{next_of}
 use Rattle.dif_vif.specs.Listing.{IsListing, next_spans, spans_from}
 use Rattle.dif_vif.proofs.Spans.{next_of-end, next_found, LiesWithin-from_span}
 use Rattle.dif_vif.proofs.Listings.{ending_is, next_is}
-
--- how a span that comes next lies
-record Places (bytes : List ℕ) (from : ℕ) (span : RecordSpan) : Type 0 where
-  onward : from < span.end
-  within : span.end ≤ length bytes
-
-lies : (bytes : List ℕ) (from : ℕ) (span : RecordSpan) → from ≤ length bytes → next_of bytes from ≡ Ok (Some span) → Places bytes from span
-lies bytes from span le e =
-    let next : IsNext bytes from (Some span) = next_found bytes from (Some span) le e in
-    let at : LiesWithin bytes span = LiesWithin-from_span bytes span next.1 in
-    record { onward = omega (arith, next.0.ordered, at.begins, at.ends); within = at.within }
 
 -- nothing, or a fault, ends the spans
 pub spans_done : (n : ℕ) (bytes : List ℕ) (from : ℕ) → next_of bytes from ≡ Ok None → spans_from n bytes from ≡ []
@@ -37,8 +25,9 @@ same_by : (n m : ℕ) (bytes : List ℕ) (from : ℕ) (next : Result (Option Rec
     → ((at : ℕ) → at ≤ length bytes → from < at → spans_from n bytes at ≡ spans_from m bytes at)
     → next_spans (spans_from n bytes) next ≡ next_spans (spans_from m bytes) next
 same_by n m bytes from (Ok (Some span)) le e same =
-    let at = lies bytes from span le e in
-    ap (λ spans. span ∷ spans) (same span.end at.within at.onward)
+    let next = next_found bytes from (Some span) le e in
+    let at = LiesWithin-from_span bytes span next.1 in
+    ap (λ spans. span ∷ spans) (same span.end at.within (omega (arith, next.0.ordered, at.begins, at.ends)))
 same_by n m bytes from (Ok None) le e same = refl
 same_by n m bytes from (Err fault) le e same = refl
 
@@ -67,13 +56,13 @@ unfolding spans_from
 listed_from n bytes from [] None le few l = spans_done n bytes from (ending_is bytes from None l)
 listed_from n bytes from [] (Some fault) le few l = spans_stopped n bytes from fault (ending_is bytes from (Some fault) l)
 listed_from zero bytes from (span ∷ spans) ending le few l =
-    let at = lies bytes from span le (next_is bytes from span l.0) in
-    absurd (omega (arith, at.onward, at.within))
+    let at = LiesWithin-from_span bytes span l.0.1 in
+    absurd (omega (arith, l.0.0.ordered, at.begins, at.ends, at.within))
 listed_from (suc n) bytes from (span ∷ spans) ending le few l =
-    let e : next_of bytes from ≡ Ok (Some span) = next_is bytes from span l.0 in
-    let at = lies bytes from span le e in
-    ap (next_spans (spans_from n bytes)) e
-    ∙ ap (λ others. span ∷ others) (listed_from n bytes span.end spans ending at.within (omega (arith, at.onward)) l.1)
+    let at = LiesWithin-from_span bytes span l.0.1 in
+    ap (next_spans (spans_from n bytes)) (next_is bytes from span l.0)
+    ∙ ap (λ others. span ∷ others)
+    (listed_from n bytes span.end spans ending at.within (omega (arith, l.0.0.ordered, at.begins, at.ends)) l.1)
 
 pub listed : (bytes : List ℕ) (spans : List RecordSpan) (ending : Option RecordFault) → IsListing bytes 0 spans ending
     → spans_from (length bytes) bytes 0 ≡ spans

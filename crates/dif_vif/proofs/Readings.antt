@@ -1,9 +1,6 @@
 -- Each part that is read is spelled so, and each fault shows its cause: how far the bytes are spelled, and what stands there.
-use Rattle.std.proofs.Common.{◌≡◌, ℕ, ◌-◌, ◌%◌, ◌<◌, ◌≤◌, true, false, eqb, ltb, List, [], ◌∷◌, ◌++◌, length, take, Option, Some, None, Ok, is_some, ◌⊎◌, refl, sym, ap, subst, ◌∙◌, inl, inr, append_assoc, add-one, arith}
-use Rattle.std.specs.Prelude.{unwrap_or}
-use Rattle.std.specs.Option.{option_to_list}
+use Rattle.std.proofs.Common.{◌≡◌, ℕ, ◌-◌, ◌%◌, ◌<◌, ◌≤◌, true, false, eqb, ltb, List, [], ◌∷◌, ◌++◌, length, take, Option, Some, None, Ok, is_some, ◌⊎◌, refl, sym, ap, subst, ◌∙◌, inl, inr, append_assoc, add-one, arith, unwrap_or, option_to_list, take-append-drop, length-take, length-append, append-nil}
 use Rattle.std.proofs.lemmas.Bool.{ltb-true, ltb-false, eqb-true, eqb-false, cond_both}
-use Rattle.std.proofs.lemmas.List.{take-append-drop, length-take, length-append, append-nil}
 use Rattle.dif_vif.specs.declared.fault.RecordFault.{RecordFault}
 use Rattle.dif_vif.specs.declared.fault.RecordFault.TheVariants.{Truncated, TooManyExtensions}
 use Rattle.dif_vif.specs.Spelling.{Dib, Vib, DataRecord, IsChain, IsPlainText, IsRecord, lvar_width, data_width, dib_spelling, vib_spelling, contents_spelling, spelling}

@@ -1,7 +1,5 @@
 -- What is answered at a place stands there, what stands there is answered, and a fault shows its cause.
-use Rattle.std.proofs.Common.{◌≡◌, ℕ, zero, suc, ◌+◌, ◌-◌, ◌%◌, ◌<◌, ◌≤◌, true, false, eqb, List, [], ◌∷◌, ◌++◌, length, get_or, drop, Option, Some, None, Result, Ok, Err, ◌⊎◌, refl, sym, ap, subst, ◌∙◌, inl, inr, arith}
-use Rattle.std.specs.Prelude.{IfOk, IfSome, IsErr, slice_get}
-use Rattle.std.specs.Option.{option_to_list}
+use Rattle.std.proofs.Common.{⊎_elim, ◌≡◌, ℕ, zero, suc, ◌+◌, ◌-◌, ◌%◌, ◌<◌, ◌≤◌, true, false, eqb, List, [], ◌∷◌, ◌++◌, length, get_or, drop, Option, Some, None, Result, Ok, Err, ◌⊎◌, refl, sym, ap, subst, ◌∙◌, inl, inr, arith, IfOk, IfSome, IsErr, slice_get, option_to_list}
 use Rattle.std.proofs.lemmas.Bool.{cases_Bool, cases_eq, cases_lt, eqb-true, eq-eqb, ne_eqb, or_cases, or_from, both_ways}
 use Rattle.std.proofs.lemmas.List.{drop_more, drop_all, length-drop, length-append}
 use Rattle.std.proofs.lemmas.Option.{slice_get-get_or, slice_get_within, get_or_from_slice_get}
@@ -30,10 +28,7 @@ first_is bytes start r rest lt spelled = let first = rest_at bytes start lt in c
 
 within_from : (bytes : List ℕ) (start first : ℕ) (rest : List ℕ) → drop start bytes ≡ first ∷ rest → start < length bytes
 within_from bytes start first rest e =
-    elim (cases_lt start (length bytes)) [
-      | inl lt ↦ lt
-      | inr le ↦ absurd (let none = drop_all start bytes le in cc)
-    ]
+    ⊎_elim (λ lt. lt) (λ le. absurd (let none = drop_all start bytes le in cc)) (cases_lt start (length bytes))
 
 -- where a span stands there is a byte
 pub span_within : (bytes : List ℕ) (span : RecordSpan) → IsSpanOf bytes span → span.start < length bytes
@@ -47,19 +42,13 @@ span_not_filler bytes span (inl s) filler =
     first_of s.found s.is_record (omega (arith, first, filler))
 span_not_filler bytes span (inr s) filler =
     let first = get_or_from_slice_get bytes span.start span.dif 0 s.stands in
-    elim s.dif [
-      | inl a ↦ omega (arith, first, filler)
-      | inr a ↦ omega (arith, first, filler)
-    ]
+    ⊎_elim (λ a. omega (arith, first, filler)) (λ a. omega (arith, first, filler)) s.dif
 
 -- ---- the span at a place
 
 is_maker : (dif : ℕ) → begins_maker dif ≡ true → (dif ≡ 0x0f) ⊎ (dif ≡ 0x1f)
 is_maker dif e =
-    elim (or_cases (eqb dif 0x0f) (eqb dif 0x1f) e) [
-      | inl a ↦ inl (eqb-true _ _ a)
-      | inr a ↦ inr (eqb-true _ _ a)
-    ]
+    ⊎_elim (λ a. inl (eqb-true _ _ a)) (λ a. inr (eqb-true _ _ a)) (or_cases (eqb dif 0x0f) (eqb dif 0x1f) e)
 
 maker_is : (dif : ℕ) → ((dif ≡ 0x0f) ⊎ (dif ≡ 0x1f)) → begins_maker dif ≡ true
 maker_is dif (inl a) = rw a refl
@@ -176,10 +165,8 @@ run_in (suc left) bytes from all =
               ordered = omega (arith, r.fillers.ordered);
               within = r.fillers.within;
               fillers = λ place low high.
-                  elim (cases_eq place from) [
-                    | inl here ↦ rw here (slice_get-get_or bytes from 0 lt ∙ ap (λ (b : ℕ). Some b) filler)
-                    | inr later ↦ r.fillers.fillers place (omega arith) high
-                  ];
+                  ⊎_elim (λ here. rw here (slice_get-get_or bytes from 0 lt ∙ ap (λ (b : ℕ). Some b) filler))
+                  (λ later. r.fillers.fillers place (omega arith) high) (cases_eq place from);
             };
             ends = r.ends;
           }

@@ -1,6 +1,5 @@
 -- What a reading of several steps answers, by what each step does, and what a test on the way said.
-use Rattle.std.proofs.Common.{◌≡◌, ℕ, ◌<◌, true, eqb, ◌||◌, Option, Some, None, Result, Ok, Err, refl, is_some, inl, inr}
-use Rattle.std.specs.Prelude.{unwrap_or, MatchResult}
+use Rattle.std.proofs.Common.{⊎_elim, ◌≡◌, ℕ, ◌<◌, true, eqb, ◌||◌, Option, Some, None, Result, Ok, Err, refl, is_some, unwrap_or, MatchResult}
 use Rattle.std.proofs.lemmas.Bool.{agree_below_at, ne_eqb, or_from, or_cases, both_ways}
 use Rattle.lists.specs.Steps.{◌>>=◌}
 use Rattle.dif_vif.specs.declared.fault.RecordFault.{RecordFault}
@@ -34,7 +33,5 @@ field_some field lt not_8 not_13 not_15 =
     let not_any =
     or_from (eqb field 8) (eqb field 13 || eqb field 15) (ne_eqb field 8 not_8)
     (or_from (eqb field 13) (eqb field 15) (ne_eqb field 13 not_13) (ne_eqb field 15 not_15)) in
-    elim (or_cases (is_some (field_width field)) (eqb field 8 || (eqb field 13 || eqb field 15)) width_or_not) [
-      | inl some ↦ some
-      | inr any ↦ absurd (both_ways (eqb field 8 || (eqb field 13 || eqb field 15)) not_any any)
-    ]
+    ⊎_elim (λ some. some) (λ any. absurd (both_ways (eqb field 8 || (eqb field 13 || eqb field 15)) not_any any))
+    (or_cases (is_some (field_width field)) (eqb field 8 || (eqb field 13 || eqb field 15)) width_or_not)

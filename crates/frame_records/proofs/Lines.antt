@@ -1,8 +1,6 @@
 -- What is told of lines is what is shown of them.
-use Rattle.std.proofs.Common.{ℕ, ◌≡◌, ◌+◌, ◌<◌, true, cond, List, [], ◌∷◌, ◌++◌, length, sym, ap, ◌∙◌, arith}
-use Rattle.std.specs.Prelude.{nat_lt, Result, Err}
+use Rattle.std.proofs.Common.{ℕ, ◌≡◌, ◌+◌, ◌<◌, true, cond, List, [], ◌∷◌, ◌++◌, length, sym, ap, ◌∙◌, arith, nat_lt, Result, Err, append-nil}
 use Rattle.std.proofs.lemmas.Bool.Decides.{nat_tests}
-use Rattle.std.proofs.lemmas.List.{append-nil}
 use Rattle.meter_address.specs.Commission.{Commissioned}
 use Rattle.plain_text.specs.Parts.{fields_of}
 use Rattle.line_reader.specs.Grammar.{line_of, by_word}

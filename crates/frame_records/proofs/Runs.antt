@@ -1,7 +1,5 @@
 -- What a run comes to, by how its roster was loaded and how its lines ended.
-use Rattle.std.proofs.Common.{Bool, true, false, inl, inr, ◌≡◌, ◌++◌, ℕ, refl, sym, ap, ◌∙◌, subst}
-use Rattle.std.specs.Prelude.{IsTrue, Ok, Err}
-use Rattle.std.proofs.lemmas.List.{append-nil}
+use Rattle.std.proofs.Common.{Bool, true, false, inl, inr, ◌≡◌, ◌++◌, ℕ, refl, sym, ap, ◌∙◌, subst, IsTrue, Ok, Err, append-nil}
 use Rattle.outer_io.specs.Shown.{Change, SinkShown, ReadFailed, WriteFailed, LosesNothing}
 use Rattle.line_reader.specs.Lines.{is_over, all_lines}
 use Rattle.line_teller.specs.declared.ending.LinesEnd.{LinesEnd}
@@ -21,18 +19,21 @@ use Rattle.frame_records.proofs.Lines.{are_shown}
 
 -- ---- lines that are shown
 
-lines_shown : (s : Showing) (first now : Opener) (notes_tell : Bool) (notes : Change SinkShown) → first.roster.meters ≡ s.meters
-    → Ended ShowsLine first now s.end s.frames.now s.out_tells s.out notes_tell notes → AreShown s
-lines_shown s first now notes_tell notes same e = record {
-  lines = e.lines;
-  lines_are = e.lines_are;
-  written = λ on.
-      subst (λ t. EndsText s.end t s.out)
-      (are_shown 1 first e.last e.lines e.text e.note e.told ∙ ap (λ ms. shown_from ms 1 e.lines) same) (e.written on);
-}
+module _ (s : Showing) (first now : Opener) (notes_tell : Bool) (notes : Change SinkShown) (same : first.roster.meters ≡ s.meters)
+    (ended : IsTrue s.source_tells → Ended ShowsLine first now s.end s.frames.now s.out_tells s.out notes_tell notes)
+    (read : s.end ≡ ends.Read → ReadFailed s.frames) (write : s.end ≡ ends.Write → WriteFailed s.out)
+    (kept : IsTrue s.source_tells → LosesNothing s.frames) where
+  shown : IsTrue s.source_tells → AreShown s
+  shown tells =
+      let e = ended tells in
+      record {
+        lines = e.lines;
+        lines_are = e.lines_are;
+        written = λ on.
+            subst (λ t. EndsText s.end t s.out)
+            (are_shown 1 first e.last e.lines e.text e.note e.told ∙ ap (λ ms. shown_from ms 1 e.lines) same) (e.written on);
+      }
 
-module _ (s : Showing) (shown : IsTrue s.source_tells → AreShown s) (read : s.end ≡ ends.Read → ReadFailed s.frames)
-    (write : s.end ≡ ends.Write → WriteFailed s.out) (kept : IsTrue s.source_tells → LosesNothing s.frames) where
   all_done : s.end ≡ ends.Done → IsTrue s.source_tells → IsDone s
   all_done is tells =
       let so = shown tells in
@@ -57,15 +58,8 @@ module _ (s : Showing) (shown : IsTrue s.source_tells → AreShown s) (read : s.
   caused_by ends.Cut is = cut is
   caused_by ends.Memory is = tt
 
-  showing_is : IsShowing s
-  showing_is = record { shown = shown; done = all_done; caused = caused_by s.end refl; no_loss = kept }
-
-pub showing : (s : Showing) (first now : Opener) (notes_tell : Bool) (notes : Change SinkShown) → first.roster.meters ≡ s.meters
-    → (IsTrue s.source_tells → Ended ShowsLine first now s.end s.frames.now s.out_tells s.out notes_tell notes)
-    → (s.end ≡ ends.Read → ReadFailed s.frames) → (s.end ≡ ends.Write → WriteFailed s.out)
-    → (IsTrue s.source_tells → LosesNothing s.frames) → IsShowing s
-showing s first now notes_tell notes same ended read write kept =
-    showing_is s (λ tells. lines_shown s first now notes_tell notes same (ended tells)) read write kept
+  pub showing : IsShowing s
+  showing = record { shown = shown; done = all_done; caused = caused_by s.end refl; no_loss = kept }
 
 -- ---- the whole run
 

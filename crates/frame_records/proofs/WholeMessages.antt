@@ -1,6 +1,5 @@
 -- What is found in a telegram with a whole message is what that message says by itself.
-use Rattle.std.proofs.Common.{◌≡◌, ℕ, List, [], Option, Some, None, refl, ap, ◌∙◌}
-use Rattle.std.specs.Prelude.{Result, Ok, Err}
+use Rattle.std.proofs.Common.{◌≡◌, ℕ, List, [], Option, Some, None, refl, ap, ◌∙◌, Result, Ok, Err}
 use Rattle.lists.specs.Steps.{◌>>=◌}
 use Rattle.meter_address.specs.Commission.{Commissioned}
 use Rattle.meter_address.specs.declared.commission.Mode.{Mode}

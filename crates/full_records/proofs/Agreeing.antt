@@ -1,7 +1,6 @@
 -- What the profile says of a record, and what the whole standard says of it.
-use Rattle.std.proofs.Common.{◌≡◌, ℕ, ◌+◌, ◌-◌, ◌*◌, ◌%◌, ◌≤◌, Bool, true, false, eqb, leb, ltb, ◌&&◌, cond, List, [], ◌∷◌, length, take, Option, Some, None, refl, sym, ap, subst, ◌∙◌, arith}
-use Rattle.std.specs.Prelude.{ℤ, slice_index}
-use Rattle.std.proofs.lemmas.Bool.{leb-true, le-leb, and_parts, and_from, cond-true, cond-false, eqb-true, eq-eqb, ne_eqb}
+use Rattle.std.proofs.Common.{◌≡◌, ℕ, ◌+◌, ◌-◌, ◌*◌, ◌%◌, ◌≤◌, Bool, true, false, eqb, leb, ltb, ◌&&◌, cond, List, [], ◌∷◌, length, take, Option, Some, None, refl, sym, ap, subst, ◌∙◌, arith, ℤ, slice_index}
+use Rattle.std.proofs.lemmas.Bool.{leb-true, le-leb, and_parts, and_from, cond_both, cond-true, cond-false, eqb-true, eq-eqb, ne_eqb}
 use Rattle.std.proofs.lemmas.Option.{same_Some, none-some}
 use Rattle.dif_vif.specs.Numbers.{low_first}
 use Rattle.dif_vif.specs.Spelling.{data_width, field_width}
@@ -45,15 +44,11 @@ unread_by false exponent = tt
 pub unread_agrees : (sent : List ℕ) (exponent : ℤ) → Agrees (profile_unread sent) exponent (unread sent)
 unread_agrees sent exponent = unread_by (eqb (length sent) 0) exponent
 
-other_by : (none : Bool) (exponent : ℤ) (v : FullValue) → (none ≡ true → v ≡ values.Nothing)
-    → Agrees (cond none profile.None profile.Raw) exponent v
-other_by true exponent v e = e refl
-other_by false exponent v e = tt
-
 -- what the profile leaves raw may be read
 other_agrees : (sent : List ℕ) (exponent : ℤ) (v : FullValue) → (length sent ≡ 0 → v ≡ values.Nothing)
     → Agrees (profile_unread sent) exponent v
-other_agrees sent exponent v e = other_by (eqb (length sent) 0) exponent v (λ none. e (eqb-true (length sent) 0 none))
+other_agrees sent exponent v e =
+    cond_both (eqb (length sent) 0) profile.None profile.Raw (λ p. Agrees p exponent v) (λ none. e (eqb-true (length sent) 0 none)) (λ _. tt)
 
 -- ---- numbers
 
@@ -191,15 +186,10 @@ days_in word from hundreds year month day y m d is =
     (ap (field 15 1 12) (sym m) ∙ field_is 15 1 12 month (λ e. omega (arith, e, is.month_to)) is.month_from is.month_to)
     (ap (field 0 1 31) (sym d) ∙ field_is 0 1 31 day (λ e. omega (arith, e, is.day_from)) is.day_from is.day_to)
 
-day_by : (test : Bool) (word year month day : ℕ) (exponent : ℤ) → is_day year month day ≡ test
-    → year ≡ bits word 5 3 + 8 * bits word 12 4 → month ≡ bits word 8 4 → day ≡ bits word 0 5
-    → Agrees (cond test (profile.Day (year_of 0 year) month day) profile.Raw) exponent (found values.Day (day_in word 0 0))
-day_by true word year month day exponent is y m d =
-    ap (found values.Day) (days_in word 0 0 year month day y m d (day_parts year month day is))
-day_by false word year month day exponent is y m d = tt
-
 day_agrees : (word : ℕ) (exponent : ℤ) → Agrees (profile_day word) exponent (found values.Day (day_in word 0 0))
-day_agrees word exponent = day_by _ word _ _ _ exponent refl refl refl refl
+day_agrees word exponent =
+    cond_both _ _ _ (λ p. Agrees p exponent (found values.Day (day_in word 0 0)))
+    (λ is. ap (found values.Day) (days_in word 0 0 _ _ _ refl refl refl (day_parts _ _ _ is))) (λ _. tt)
 
 rest_of : (a : Option Day) (b c : Option (Option ℕ)) (day : Day) (h m : Option ℕ) (invalid summer : Bool) → a ≡ Some day → b ≡ Some h → c ≡ Some m
     → (a >>= (λ day. b >>= (λ hour. c >>= (λ minute. Some (record { day = day; hour = hour; minute = minute; invalid = invalid; summer = summer })))))

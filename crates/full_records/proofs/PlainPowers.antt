@@ -1,7 +1,5 @@
 -- The power of ten of a value before any qualifier is that of its unit, or 0.
-use Rattle.std.proofs.Common.{◌≡◌, ℕ, ◌≤◌, Bool, eqb, leb, cond, List, length, Option, Some, None, arith}
-use Rattle.std.specs.Prelude.{ℤ, pos, negsuc, unsigned_abs, FitsSigned}
-use Rattle.std.specs.Int.{w8}
+use Rattle.std.proofs.Common.{◌≡◌, ℕ, ◌≤◌, Bool, eqb, leb, cond, List, length, Option, Some, None, arith, ℤ, pos, negsuc, unsigned_abs, FitsSigned, w8}
 use Rattle.std.proofs.lemmas.Bool.{cond_both}
 use Rattle.dif_vif.specs.Numbers.{low_first}
 use Rattle.record_values.specs.declared.values.Value.{Value}

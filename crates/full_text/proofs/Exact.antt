@@ -1,11 +1,9 @@
 -- The decimal text of a number is that number.
-use Rattle.std.proofs.Common.{◌≡◌, ℕ, zero, suc, ◌+◌, ◌-◌, ◌*◌, ◌^◌, ◌<◌, ◌≤◌, ◌==◌, true, false, cond, List, [], ◌∷◌, ◌++◌, length, take, drop, ℤ, refl, sym, ap, subst, ◌∙◌, inl, inr, append_assoc, arith}
-use Rattle.std.specs.Prelude.{unsigned_abs, int_lt, pos, negsuc, codes, nat_lt}
-use Rattle.std.specs.Fmt.{decimal}
+use Rattle.std.proofs.Common.{◌≡◌, ℕ, zero, suc, ◌+◌, ◌-◌, ◌*◌, ◌^◌, ◌<◌, ◌≤◌, ◌==◌, true, false, cond, List, [], ◌∷◌, ◌++◌, length, take, drop, ℤ, refl, sym, ap, subst, ◌∙◌, inl, inr, append_assoc, arith, unsigned_abs, int_lt, pos, negsuc, codes, nat_lt, decimal}
 use Rattle.std.specs.Char.{digit_value}
 use Rattle.std.specs.Str.Parse.{digits_value, digits_value_after}
 use Rattle.std.proofs.Math.Nat.{mul_assoc, pow-succ', zero-mul}
-use Rattle.std.proofs.lemmas.Bool.{cases_Bool, ltb-true, ltb-false}
+use Rattle.std.proofs.lemmas.Bool.{cases_Bool, cond_both, ltb-true, ltb-false}
 use Rattle.std.proofs.lemmas.Bool.Decides.{nat_tests}
 use Rattle.std.proofs.lemmas.Fmt.{decimal_is_IsNumeral_wide}
 use Rattle.std.proofs.lemmas.List.{append-nil, length-append, length-take, length-drop, length-replicate, take-append-drop}
@@ -84,10 +82,9 @@ outside n k digits value some few =
 pointed_parts : (n k : ℕ) → n < 10 ^ 64 → 0 < k → Parts (pointed (decimal n) k) n k
 unfolding pointed
 pointed_parts n k small some =
-    elim (cases_Bool (nat_lt k (length (decimal n)))) [
-      | inl is ↦ rw is (inside n k (decimal n) (numeral n small) some (ltb-true k (length (decimal n)) is))
-      | inr is ↦ rw is (outside n k (decimal n) (numeral n small) (some_digits n small) (ltb-false k (length (decimal n)) is))
-    ]
+    cond_both (nat_lt k (length (decimal n))) _ _ (λ t. Parts t n k)
+    (λ is. inside n k (decimal n) (numeral n small) some (ltb-true k (length (decimal n)) is))
+    (λ is. outside n k (decimal n) (numeral n small) (some_digits n small) (ltb-false k (length (decimal n)) is))
 
 lengthened_parts : (n k : ℕ) → n < 10 ^ 64 → Parts (lengthened n k) (n * 10 ^ k) 0
 unfolding lengthened

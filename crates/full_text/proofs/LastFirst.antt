@@ -1,7 +1,5 @@
 -- Bytes that are put one after another, the last one first.
-use Rattle.std.proofs.Common.{◌≡◌, ℕ, ◌+◌, ◌-◌, ◌<◌, ◌≤◌, get_or, List, [], ◌∷◌, ◌++◌, length, take, ap, ◌∙◌, arith}
-use Rattle.std.specs.Prelude.{reverse}
-use Rattle.std.specs.List.{flat_map}
+use Rattle.std.proofs.Common.{◌≡◌, ℕ, ◌+◌, ◌-◌, ◌<◌, ◌≤◌, get_or, List, [], ◌∷◌, ◌++◌, length, take, ap, ◌∙◌, arith, reverse, flat_map}
 use Rattle.std.proofs.lemmas.List.{reverse-append, take_more}
 use Rattle.paper.specs.Puts.{Puts}
 use Rattle.paper.proofs.Calls.{none, two_make}

@@ -1,6 +1,5 @@
 -- Zeros that are put one after another.
-use Rattle.std.proofs.Common.{◌≡◌, ℕ, zero, suc, ◌-◌, ◌<◌, List, ◌∷◌, ap, arith}
-use Rattle.std.specs.Prelude.{codes}
+use Rattle.std.proofs.Common.{◌≡◌, ℕ, zero, suc, ◌-◌, ◌<◌, List, ◌∷◌, ap, arith, codes}
 use Rattle.paper.specs.Puts.{Puts}
 use Rattle.paper.proofs.Calls.{none, two_make}
 use Rattle.paper.proofs.Items.{is_put}

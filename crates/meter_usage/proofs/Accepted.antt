@@ -1,10 +1,9 @@
 -- A value that stands for edits, and one edit more.
-use Rattle.std.proofs.Common.{◌≡◌, ℕ, List, [], ◌∷◌, ◌++◌, length, Option, Some, None, Err, inr, refl, sym, ap, subst, arith, ◌∙◌, ◌^◌, ◌≤◌, ◌==◌, ◌&&◌, if◌then◌else◌}
+use Rattle.std.proofs.Common.{◌≡◌, ℕ, List, [], ◌∷◌, ◌++◌, length, Option, Some, None, Err, inr, refl, sym, ap, subst, arith, ◌∙◌, ◌^◌, ◌≤◌, ◌==◌, ◌&&◌, if◌then◌else◌, nat_lt}
 use Rattle.std.proofs.lemmas.List.{length-map}
 use Rattle.std.proofs.lemmas.Option.{same_Some}
 use Rattle.std.proofs.lemmas.List.Sums.{fold-append}
 use Rattle.meter_address.specs.declared.address.Address.{Address}
-use Rattle.std.specs.Prelude.{nat_lt}
 use Rattle.meter_usage.specs.declared.fault.TotalsFault.{TotalsFault}
 use Rattle.meter_usage.specs.declared.fault.TotalsFault.TheVariants.{Meters, Rows, NoSuch}
 use Rattle.meter_usage.specs.declared.key.UsageKey.{UsageKey}

@@ -1,6 +1,5 @@
 -- Each meter of a table that edits leave stands there once, and the total is over all of them.
-use Rattle.std.proofs.Common.{◌≡◌, ℕ, false, List, [], ◌∷◌, length, Option, Some, None, ℤ, refl, ap, ◌∙◌, add-one, arith}
-use Rattle.std.specs.Prelude.{fold}
+use Rattle.std.proofs.Common.{◌≡◌, ℕ, false, List, [], ◌∷◌, length, Option, Some, None, ℤ, refl, ap, ◌∙◌, add-one, arith, fold}
 use Rattle.std.specs.List.{cons_option, AllByRecursion}
 use Rattle.std.specs.Map.{remove_entry}
 use Rattle.std.proofs.lemmas.Bool.{cond_both}

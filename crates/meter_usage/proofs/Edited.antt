@@ -1,11 +1,10 @@
 -- What is kept stays kept when a row is added or removed.
-use Rattle.std.proofs.Common.{◌≡◌, ℕ, zero, suc, ◌+◌, ◌^◌, ◌<◌, ◌≤◌, Bool, true, false, List, [], ◌∷◌, ◌++◌, map, length, get_or, remove, Option, Some, None, Result, Ok, Err, OnOk, OnErr, is_some, ℤ, refl, sym, ap, ◌∙◌, subst, inl, inr, arith}
+use Rattle.std.proofs.Common.{◌≡◌, ℕ, zero, suc, ◌+◌, ◌^◌, ◌<◌, ◌≤◌, Bool, true, false, List, [], ◌∷◌, ◌++◌, map, length, get_or, remove, Option, Some, None, Result, Ok, Err, OnOk, OnErr, is_some, ℤ, refl, sym, ap, ◌∙◌, subst, inl, inr, arith, slice_set}
 use Rattle.std.proofs.lemmas.Bool.{cases_Bool, cond_both}
 use Rattle.std.proofs.lemmas.List.{length-append, length-map, length-set, get_or-set_same}
 use Rattle.std.proofs.lemmas.Map.Keys.{any_passes_from_place}
 use Rattle.std.proofs.lemmas.Option.{slice_get-get_or}
 use Rattle.std.proofs.Math.Seq.{get_or-append_seam}
-use Rattle.std.specs.Prelude.{slice_set}
 use Rattle.std.specs.Map.{remove_entry}
 use Rattle.std.proofs.lemmas.List.{map-append, map-set}
 use Rattle.indexmap.specs.IndexMap.{insert_entry}
@@ -72,53 +71,6 @@ removed_stands new old a place e table is =
 
 -- ---- what is kept
 
-pub kept_sums : (table : Table Row) (old new : List (UsageKey × Sum)) → IsKept table old → ((q : UsageKey) → sum_at q new ≡ sum_at q old)
-    → IsKept table new
-kept_sums table old new k e =
-    record { payloads = k.payloads; rows = k.rows; few = k.few; totals = λ q. e q ∙ k.totals q }
-
-pub kept_table : (table other : Table Row) (sums : List (UsageKey × Sum)) → other ≡ table → IsKept table sums → IsKept other sums
-kept_table table other sums e k = subst (λ t. IsKept t sums) (sym e) k
-
-module _ (a : Address) (table other : Table Row) (old new : List (UsageKey × Sum)) (k : IsKept table old) where
-  kept_changed : (rows : List Row) (payloads : Table (List ℕ)) → (rows_at a table ≡ [] → length table < 4096)
-      → other ≡ with_rows table a rows → other ≡ kept payloads → ((q : UsageKey) → sum_at q new ≡ total_at q other) → IsKept other new
-  kept_changed rows payloads room e is totals = record {
-    payloads = payloads;
-    rows = is;
-    few = subst (λ t. length t ≤ 4096) (sym e) (few_with a table rows (rows_at a table) refl k.few room);
-    totals = totals;
-  }
-
-  pub kept_added : (payload : List ℕ) → (rows_at a table ≡ [] → length table < 4096) → other ≡ added table a (row_of payload)
-      → ((q : UsageKey) → sum_at q new ≡ total_at q other) → IsKept other new
-  kept_added payload room e totals = kept_changed _ _ room e (added_stands other table a payload e k.payloads k.rows) totals
-
-  module _ (place : ℕ) (lt : place < length (rows_at a table)) where
-    has_rows : rows_at a table ≡ [] → length table < 4096
-    has_rows none = absurd (omega (arith, lt, ap length none))
-
-    pub kept_replaced : (payload : List ℕ) → other ≡ replaced table a place (row_of payload)
-        → ((q : UsageKey) → sum_at q new ≡ total_at q other) → IsKept other new
-    kept_replaced payload e totals =
-        kept_changed _ _ has_rows e (replaced_stands other table a place payload e k.payloads k.rows) totals
-
-    pub kept_removed : other ≡ removed table a place
-        → ((q : UsageKey) → sum_at q new ≡ total_at q (removed table a place)) → IsKept other new
-    kept_removed e totals =
-        kept_changed _ _ has_rows e (removed_stands other table a place e k.payloads k.rows) (λ q. totals q ∙ ap (total_at q) (sym e))
-
--- ---- the sums fit, and those of a row that stands there are kept
-
-pub length_kept : (table : Table (List ℕ)) → length (kept table) ≡ length table
-length_kept table = length-map table (λ (meter : Address × List (List ℕ)). (meter.0, map row_of meter.1))
-
-pub kept_fits : (table : Table Row) (old new : List (UsageKey × Sum)) → IsKept table old → ((q : UsageKey) → sum_at q new ≡ sum_at q old)
-    → (q : UsageKey) → IsFitting (2 ^ 100) (sum_at q new)
-kept_fits table old new k e q =
-    let few : length k.payloads ≤ 8192 = omega (arith, k.few, ap length k.rows, length_kept k.payloads) in
-    subst (IsFitting (2 ^ 100)) (sym (e q ∙ k.totals q ∙ ap (total_at q) k.rows)) (total_fits q k.payloads few)
-
 counted_some : (u : Option ℤ) (rest : Sum) → is_some u ≡ true → with_usage u rest ≡ no_sum → ⊥
 counted_some None rest e is = absurd cc
 counted_some (Some v) rest e is = omega (arith, ap (λ (s : Sum). s.meters) is)
@@ -127,19 +79,59 @@ has_by : (q : UsageKey) (sums : List (UsageKey × Sum)) (b : Bool) → has_sum q
 has_by q sums true e other = refl
 has_by q sums false e other = absurd (other (sum_none q sums e))
 
-pub kept_there : (a : Address) (table : Table Row) (old new : List (UsageKey × Sum)) (place : ℕ) → IsKept table old
-    → ((q : UsageKey) → sum_at q new ≡ sum_at q old) → place < length (rows_at a table)
-    → (q : UsageKey) (d : Row) → is_some (amount_at q (get_or (rows_at a table) place d)) ≡ true → has_sum q new ≡ true
-kept_there a table old new place k same_sums lt q d e =
-    has_by q new (has_sum q new) refl (λ none. counted_some (usage_at q (rows_at a table)) (total_at q (remove_entry (same a) table))
-    (usage_some (amount_at q) (rows_at a table)
-    ∙ any_passes_from_place (λ row. is_some (amount_at q row)) (rows_at a table) place (get_or (rows_at a table) place d)
-    (slice_get-get_or (rows_at a table) place d lt) e) (sym (same_sums q ∙ k.totals q ∙ total_split q a table) ∙ none))
+pub length_kept : (table : Table (List ℕ)) → length (kept table) ≡ length table
+length_kept table = length-map table (λ (meter : Address × List (List ℕ)). (meter.0, map row_of meter.1))
 
--- the sums before the row of an address goes
-pub kept_before : (a : Address) (table : Table Row) (old new : List (UsageKey × Sum)) → IsKept table old
-    → ((q : UsageKey) → sum_at q new ≡ sum_at q old) → (q : UsageKey) → sum_at q new ≡ total_at q (with_rows table a (rows_at a table))
-kept_before a table old new k same_sums q = same_sums q ∙ k.totals q ∙ sym (total_same q a table)
+module _ {table : Table Row} {old : List (UsageKey × Sum)} (k : IsKept table old) (new : List (UsageKey × Sum)) where
+  module _ (same_sums : (q : UsageKey) → sum_at q new ≡ sum_at q old) where
+    pub kept_sums : IsKept table new
+    kept_sums = record { payloads = k.payloads; rows = k.rows; few = k.few; totals = λ q. same_sums q ∙ k.totals q }
+
+    pub kept_fits : (q : UsageKey) → IsFitting (2 ^ 100) (sum_at q new)
+    kept_fits q =
+        let few : length k.payloads ≤ 8192 = omega (arith, k.few, ap length k.rows, length_kept k.payloads) in
+        subst (IsFitting (2 ^ 100)) (sym (same_sums q ∙ k.totals q ∙ ap (total_at q) k.rows)) (total_fits q k.payloads few)
+
+    -- the sums of a row that stands there are kept
+    pub kept_there : (a : Address) (place : ℕ) → place < length (rows_at a table) → (q : UsageKey) (d : Row)
+        → is_some (amount_at q (get_or (rows_at a table) place d)) ≡ true → has_sum q new ≡ true
+    kept_there a place lt q d e =
+        has_by q new (has_sum q new) refl (λ none. counted_some (usage_at q (rows_at a table)) (total_at q (remove_entry (same a) table))
+        (usage_some (amount_at q) (rows_at a table)
+        ∙ any_passes_from_place (λ row. is_some (amount_at q row)) (rows_at a table) place (get_or (rows_at a table) place d)
+        (slice_get-get_or (rows_at a table) place d lt) e) (sym (same_sums q ∙ k.totals q ∙ total_split q a table) ∙ none))
+
+    -- the sums before the row of an address goes
+    pub kept_before : (a : Address) (q : UsageKey) → sum_at q new ≡ total_at q (with_rows table a (rows_at a table))
+    kept_before a q = same_sums q ∙ k.totals q ∙ sym (total_same q a table)
+
+  module _ (a : Address) (other : Table Row) where
+    kept_changed : (rows : List Row) (payloads : Table (List ℕ)) → (rows_at a table ≡ [] → length table < 4096)
+        → other ≡ with_rows table a rows → other ≡ kept payloads → ((q : UsageKey) → sum_at q new ≡ total_at q other) → IsKept other new
+    kept_changed rows payloads room e is totals = record {
+      payloads = payloads;
+      rows = is;
+      few = subst (λ t. length t ≤ 4096) (sym e) (few_with a table rows (rows_at a table) refl k.few room);
+      totals = totals;
+    }
+
+    pub kept_added : (payload : List ℕ) → (rows_at a table ≡ [] → length table < 4096) → other ≡ added table a (row_of payload)
+        → ((q : UsageKey) → sum_at q new ≡ total_at q other) → IsKept other new
+    kept_added payload room e totals = kept_changed _ _ room e (added_stands other table a payload e k.payloads k.rows) totals
+
+    module _ (place : ℕ) (lt : place < length (rows_at a table)) where
+      has_rows : rows_at a table ≡ [] → length table < 4096
+      has_rows none = absurd (omega (arith, lt, ap length none))
+
+      pub kept_replaced : (payload : List ℕ) → other ≡ replaced table a place (row_of payload)
+          → ((q : UsageKey) → sum_at q new ≡ total_at q other) → IsKept other new
+      kept_replaced payload e totals =
+          kept_changed _ _ has_rows e (replaced_stands other table a place payload e k.payloads k.rows) totals
+
+      pub kept_removed : other ≡ removed table a place
+          → ((q : UsageKey) → sum_at q new ≡ total_at q (removed table a place)) → IsKept other new
+      kept_removed e totals =
+          kept_changed _ _ has_rows e (removed_stands other table a place e k.payloads k.rows) (λ q. totals q ∙ ap (total_at q) (sym e))
 
 -- ---- a row that was put
 
@@ -167,9 +159,9 @@ remove_end [] row = refl
 remove_end (x ∷ xs) row = ap (λ z. x ∷ z) (remove_end xs row)
 
 -- behind the others
-pub added_row : (a : Address) (table other : Table Row) (row : Row) (place : ℕ) → other ≡ added table a row
+pub added_row : (a : Address) (table : Table Row) (row : Row) {other : Table Row} {place : ℕ} → other ≡ added table a row
     → place ≡ length (rows_at a table) → HasRow a table other row place (rows_at a table)
-added_row a table other row place e at =
+added_row a table row {other} {place} e at =
     let rows = rows_at a table in
     has_row a table other row place rows (rows ++ row ∷ []) e (append_some rows row) (omega (arith, at, length-append rows (row ∷ [])))
     (λ d. ap (λ n. get_or (rows ++ row ∷ []) n d) at ∙ get_or-append_seam rows row [] d)
@@ -181,19 +173,18 @@ remove_set (x ∷ xs) zero row lt = refl
 remove_set (x ∷ xs) (suc i) row lt = ap (λ z. x ∷ z) (remove_set xs i row (omega arith))
 
 -- in the place of another
-pub replaced_row : (a : Address) (table other : Table Row) (row : Row) (place : ℕ) → place < length (rows_at a table)
+pub replaced_row : (a : Address) (table : Table Row) (row : Row) (place : ℕ) {other : Table Row} → place < length (rows_at a table)
     → other ≡ replaced table a place row → HasRow a table other row place (remove (rows_at a table) place)
-replaced_row a table other row place lt e =
+replaced_row a table row place {other} lt e =
     let rows = rows_at a table in
     has_row a table other row place (remove rows place) (slice_set rows place row) e (set_some rows place row lt)
     (omega (arith, lt, length-set rows place row)) (λ d. get_or-set_same rows place row d lt) (remove_set rows place row lt)
 
 -- the sums fit while a row is gone
-pub gone_fits : (a : Address) (table : Table Row) (place : ℕ) (old now : List (UsageKey × Sum)) → IsKept table old
+pub gone_fits : (a : Address) {table : Table Row} (place : ℕ) {old : List (UsageKey × Sum)} (now : List (UsageKey × Sum)) → IsKept table old
     → place < length (rows_at a table)
     → ((q : UsageKey) → sum_at q now ≡ total_at q (removed table a place)) → (q : UsageKey) → IsFitting (2 ^ 100) (sum_at q now)
-gone_fits a table place old now k lt totals =
-    kept_fits (removed table a place) now now (kept_removed a table (removed table a place) old now k place lt refl totals) (λ q. refl)
+gone_fits a place now k lt totals = kept_fits (kept_removed k now a _ place lt refl totals) now (λ q. refl)
 
 -- an edit that was made, or wasn't
 pub by_result : {T E A B C : Type 0} (r : Result T E) → OnOk r A → OnErr r B → (A → C) → (B → C) → C

@@ -1,7 +1,5 @@
 -- Lists of entries: what holds of each stays so when one is put, set or removed, and what is found then.
-use Rattle.std.proofs.Common.{Bool, List, [], ◌∷◌}
-use Rattle.std.specs.declared.cmp.Ordering.{Ordering}
-use Rattle.std.specs.declared.cmp.Ordering.TheVariants.{Less, Equal, Greater}
+use Rattle.std.proofs.Common.{Bool, List, [], ◌∷◌, Ordering, Less, Equal, Greater}
 use Rattle.std.specs.Ordering.{match_ordering}
 use Rattle.std.specs.List.{AllByRecursion}
 use Rattle.std.specs.Map.{remove_entry, set_value}

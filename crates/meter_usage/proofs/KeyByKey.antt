@@ -1,8 +1,5 @@
 -- Sums that are mended key by key.
-use Rattle.std.proofs.Common.{◌≡◌, ℕ, ◌<◌, Bool, true, false, cond, ◌||◌, List, [], ◌∷◌, length, get_or, remove, Option, Some, None, is_some, ℤ, refl, sym, ap, ◌∙◌, subst, inl, inr}
-use Rattle.std.specs.declared.cmp.Ordering.TheVariants.{Less}
-use Rattle.std.specs.Ordering.{is_eq}
-use Rattle.std.specs.Option.{unwrap_or}
+use Rattle.std.proofs.Common.{⊎_elim, ◌≡◌, ℕ, ◌<◌, Bool, true, false, cond, ◌||◌, List, [], ◌∷◌, length, get_or, remove, Option, Some, None, is_some, ℤ, refl, sym, ap, ◌∙◌, subst, Less, is_eq, unwrap_or}
 use Rattle.std.specs.List.{AllByRecursion}
 use Rattle.std.specs.List.Sorted.{IsStrictlySortedBy}
 use Rattle.std.specs.Map.{keys_of}
@@ -63,20 +60,15 @@ has_first k left = ap (λ o. is_eq o || is_among k left) (tied_itself key_cmp_to
 -- what holds of a key, and of every other one
 pub at_key : (P : UsageKey → Type 0) (k q : UsageKey) → P k → (is_eq (key_cmp k q) ≡ false → P q) → P q
 at_key P k q here others =
-    elim (cases_Bool (is_eq (key_cmp k q))) [
-      | inl same ↦ subst P (same_by_test k q same) here
-      | inr other ↦ others other
-    ]
+    ⊎_elim (λ same. subst P (same_by_test k q same) here) (λ other. others other) (cases_Bool (is_eq (key_cmp k q)))
 
 -- the first key is none of the later ones
 pub apart_in : (k q : UsageKey) (left : List UsageKey) → AllByRecursion (λ y. key_cmp k y ≡ Less) left → is_among q left ≡ true
     → is_eq (key_cmp k q) ≡ false
 apart_in k q [] below has = absurd cc
 apart_in k q (y ∷ ys) below has =
-    elim (or_cases (is_at (key_cmp q) y) (is_among q ys) has) [
-      | inl here ↦ ap is_eq (ap (key_cmp k) (same_by_test q y here) ∙ below.0)
-      | inr later ↦ apart_in k q ys below.1 later
-    ]
+    ⊎_elim (λ here. ap is_eq (ap (key_cmp k) (same_by_test q y here) ∙ below.0)) (λ later. apart_in k q ys below.1 later)
+    (or_cases (is_at (key_cmp q) y) (is_among q ys) has)
 
 -- and what is neither the first nor a later one is none of both
 pub no_key : (k q : UsageKey) (left : List UsageKey) → is_eq (key_cmp k q) ≡ false → is_among q left ≡ false → is_among q (k ∷ left) ≡ false
@@ -85,26 +77,33 @@ no_key k q left other misses = or_from _ _ ((eq_by_cmp_equiv key_cmp_total).symm
 sum_same : (q : UsageKey) (a b : List (UsageKey × Sum)) → find_sum q a ≡ find_sum q b → sum_at q a ≡ sum_at q b
 sum_same q a b e = ap (λ o. unwrap_or o no_sum) e
 
-pub mending_step : (before after : UsageKey → Option ℤ) (old now new : List (UsageKey × Sum)) (k : UsageKey) (left keys : List UsageKey)
-    (u v : Option ℤ) → IsMending before after old now keys → keys ≡ k ∷ left → u ≡ before k → v ≡ after k
-    → ((rest : Sum) → sum_at k now ≡ with_usage u rest → sum_at k new ≡ with_usage v rest)
-    → ((q : UsageKey) → is_eq (key_cmp k q) ≡ false → find_sum q new ≡ find_sum q now) → has_sum k new ≡ true
-    → IsMending before after old new left
-mending_step before after old now new k left keys u v mending e is_u is_v here others put =
-    let m : IsMending before after old now (k ∷ left) = subst (IsMending before after old now) e mending in
-    record {
-      ordered = sorted_tail key_cmp k left m.ordered;
-      there = λ q has. m.there q (or_right _ _ has);
-      waiting = λ q has. others q (apart_in k q left (sorted_head key_cmp k left m.ordered) has) ∙ m.waiting q (or_right _ _ has);
-      mended = λ q rest misses.
-          at_key (λ p. sum_at p old ≡ with_usage (before p) rest → sum_at p new ≡ with_usage (after p) rest) k q
-          (λ is. here rest (sum_same k now old (m.waiting k (has_first k left)) ∙ is ∙ ap (λ o. with_usage o rest) (sym is_u))
-          ∙ ap (λ o. with_usage o rest) is_v)
-          (λ other is. sum_same q new now (others q other) ∙ m.mended q rest (no_key k q left other misses) is);
-      stays = λ q.
-          at_key (λ p. has_sum p old ≡ true → has_sum p new ≡ true) k q (λ _. put)
-          (λ other has. ap is_some (others q other) ∙ m.stays q has);
-    }
+module _ {before after : UsageKey → Option ℤ} {old now : List (UsageKey × Sum)} {k : UsageKey} {left keys : List UsageKey}
+    (mending : IsMending before after old now keys) (e : keys ≡ k ∷ left) where
+  m : IsMending before after old now (k ∷ left)
+  m = subst (IsMending before after old now) e mending
+
+  pub mending_step : (new : List (UsageKey × Sum)) {u v : Option ℤ} → u ≡ before k → v ≡ after k
+      → ((rest : Sum) → sum_at k now ≡ with_usage u rest → sum_at k new ≡ with_usage v rest)
+      → ((q : UsageKey) → is_eq (key_cmp k q) ≡ false → find_sum q new ≡ find_sum q now) → has_sum k new ≡ true
+      → IsMending before after old new left
+  mending_step new is_u is_v here others put = record {
+    ordered = sorted_tail key_cmp k left m.ordered;
+    there = λ q has. m.there q (or_right _ _ has);
+    waiting = λ q has. others q (apart_in k q left (sorted_head key_cmp k left m.ordered) has) ∙ m.waiting q (or_right _ _ has);
+    mended = λ q rest misses.
+        at_key (λ p. sum_at p old ≡ with_usage (before p) rest → sum_at p new ≡ with_usage (after p) rest) k q
+        (λ is. here rest (sum_same k now old (m.waiting k (has_first k left)) ∙ is ∙ ap (λ o. with_usage o rest) (sym is_u))
+        ∙ ap (λ o. with_usage o rest) is_v)
+        (λ other is. sum_same q new now (others q other) ∙ m.mended q rest (no_key k q left other misses) is);
+    stays = λ q.
+        at_key (λ p. has_sum p old ≡ true → has_sum p new ≡ true) k q (λ _. put)
+        (λ other has. ap is_some (others q other) ∙ m.stays q has);
+  }
+
+  pub next_waits : (has_sum k now ≡ true) × (sum_at k now ≡ sum_at k old)
+  next_waits =
+      let waits = m.waiting k (has_first k left) in
+      (ap is_some waits ∙ m.there k (has_first k left), sum_same k now old waits)
 
 -- ---- the row that comes or goes
 
@@ -121,12 +120,6 @@ used_before rows place comes q = usage_at q (side comes (remove rows place) rows
 abbrev pub used_after : List Row → ℕ → Bool → UsageKey → Option ℤ
 used_after rows place comes q = usage_at q (side comes rows (remove rows place))
 
-pub next_waits : (before after : UsageKey → Option ℤ) (old now : List (UsageKey × Sum)) (k : UsageKey) (left keys : List UsageKey)
-    → IsMending before after old now keys → keys ≡ k ∷ left → (has_sum k now ≡ true) × (sum_at k now ≡ sum_at k old)
-next_waits before after old now k left keys m e =
-    let has : is_among k keys ≡ true = ap (is_among k) e ∙ has_first k left in
-    (ap is_some (m.waiting k has) ∙ m.there k has, sum_same k now old (m.waiting k has))
-
 -- Room is made: no sum changes, and of the row's keys only those that are left may have none.
 pub record IsMakingRoom (row : Row) (old now : List (UsageKey × Sum)) (left : List UsageKey) : Type 0 where
   pub same : (q : UsageKey) → sum_at q now ≡ sum_at q old
@@ -136,11 +129,10 @@ pub room_starts : (row : Row) (old : List (UsageKey × Sum)) (left : List UsageK
 room_starts row old left e =
     record { same = λ q. refl; there = λ q has misses. absurd (both (sym has ∙ has_amount q row ∙ ap (is_among q) (sym e) ∙ misses)) }
 
-pub room_step : (row : Row) (k : UsageKey) (left keys : List UsageKey) (old now new : List (UsageKey × Sum)) → IsMakingRoom row old now keys
-    → keys ≡ k ∷ left
-    → ((q : UsageKey) → sum_at q new ≡ sum_at q now) → ((q : UsageKey) → has_sum q now ≡ true → has_sum q new ≡ true) → has_sum k new ≡ true
-    → IsMakingRoom row old new left
-room_step row k left keys old now new m e same stays here =
+pub room_step : {row : Row} (k : UsageKey) {left keys : List UsageKey} {old now : List (UsageKey × Sum)} (new : List (UsageKey × Sum))
+    → IsMakingRoom row old now keys → keys ≡ k ∷ left → ((q : UsageKey) → sum_at q new ≡ sum_at q now)
+    → ((q : UsageKey) → has_sum q now ≡ true → has_sum q new ≡ true) → has_sum k new ≡ true → IsMakingRoom row old new left
+room_step {row} k {left} {keys} {old} {now} new m e same stays here =
     let m' : IsMakingRoom row old now (k ∷ left) = subst (IsMakingRoom row old now) e m in
     record {
       same = λ q. same q ∙ m.same q;

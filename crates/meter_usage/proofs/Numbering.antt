@@ -1,7 +1,5 @@
 -- Rows whose numbers rise, and the amounts of a key that they have.
-use Rattle.std.proofs.Common.{◌≡◌, ℕ, suc, ◌+◌, ◌<◌, List, [], ◌∷◌, ◌++◌, append_assoc, append-nil, map, length, get_or, take, drop, remove, Option, Some, None, ℤ, refl, sym, ap, ◌∙◌, subst, arith}
-use Rattle.std.specs.Prelude.{slice_set}
-use Rattle.std.specs.declared.cmp.Ordering.TheVariants.{Less, Greater}
+use Rattle.std.proofs.Common.{◌≡◌, ℕ, suc, ◌+◌, ◌<◌, List, [], ◌∷◌, ◌++◌, append_assoc, append-nil, map, length, get_or, take, drop, remove, Option, Some, None, ℤ, refl, sym, ap, ◌∙◌, subst, arith, slice_set, Less, Greater}
 use Rattle.std.specs.Ordering.{nat_cmp, ordering_reverse}
 use Rattle.std.specs.Option.{option_map, option_or}
 use Rattle.std.specs.List.{AllByRecursion, cons_option}
@@ -105,15 +103,6 @@ used_series q rows =
 
 -- ---- one row among the others
 
--- a place among the amounts is one among the rows
-pub place_within : (rows : List NumberedRow) (all : List Row) (i : ℕ) → amounts_of rows ≡ all → i < length all → i < length rows
-place_within rows all i e lt =
-    subst (λ n. i < n) (length-map rows (λ (r : NumberedRow). r.amounts)) (subst (λ rs. i < length rs) (sym e) lt)
-
-split_row : (rows : List NumberedRow) (i : ℕ) (row : NumberedRow) → i < length rows → row ≡ get_or rows i row
-    → rows ≡ take i rows ++ row ∷ drop (suc i) rows
-split_row rows i row lt e = split_at rows i row lt ∙ ap (λ r. take i rows ++ r ∷ drop (suc i) rows) (sym e)
-
 numbers_parted : (front back : List NumberedRow) (row : NumberedRow) (next : ℕ)
     → numbers (front ++ row ∷ back) ++ next ∷ [] ≡ numbers front ++ row.number ∷ (numbers back ++ next ∷ [])
 numbers_parted front back row next =
@@ -129,7 +118,7 @@ empty_indexed rows index e f = record {
   all = λ q. ap (indexed q) f ∙ ap (series q) (sym e);
 }
 
-module _ (rows : List NumberedRow) (next : ℕ) (old : List (UsageKey × Numbered)) (k : IsIndexed rows next old) where
+module _ {rows : List NumberedRow} {next : ℕ} {old : List (UsageKey × Numbered)} (k : IsIndexed rows next old) where
   series_below : (q : UsageKey) → AreBelow next (series q rows)
   series_below q = all_series (λ m. nat_cmp next m ≡ Greater) q rows (rising_around (numbers rows) [] next k.rising).below
 
@@ -157,7 +146,11 @@ module _ (rows : List NumberedRow) (next : ℕ) (old : List (UsageKey × Numbere
             ∙ sym (filter_map-append _ rows (new ∷ []));
       }
 
-  module _ (i : ℕ) (row : NumberedRow) (lt : i < length rows) (e : row ≡ get_or rows i row) where
+  module _ {all : List Row} (shown : amounts_of rows ≡ all) (i : ℕ) (within : i < length all) {row : NumberedRow}
+      (e : row ≡ get_or rows i row) where
+    lt : i < length rows
+    lt = subst (λ n. i < n) (length-map rows (λ (r : NumberedRow). r.amounts)) (subst (λ rs. i < length rs) (sym shown) within)
+
     abbrev front : List NumberedRow
     front = take i rows
 
@@ -165,7 +158,7 @@ module _ (rows : List NumberedRow) (next : ℕ) (old : List (UsageKey × Numbere
     back = drop (suc i) rows
 
     split : rows ≡ front ++ row ∷ back
-    split = split_row rows i row lt e
+    split = split_at rows i row lt ∙ ap (λ r. front ++ r ∷ back) (sym e)
 
     rises : IsStrictlySortedBy nat_cmp (numbers front ++ row.number ∷ (numbers back ++ next ∷ []))
     rises = subst (IsStrictlySortedBy nat_cmp) (ap (λ rs. numbers rs ++ next ∷ []) split ∙ numbers_parted front back row next) k.rising
@@ -216,9 +209,10 @@ module _ (rows : List NumberedRow) (next : ℕ) (old : List (UsageKey × Numbere
     }
 
     -- what was used by the other rows
-    pub used_without : (q : UsageKey) → used (without row.number (indexed q old)) ≡ usage_at q (remove (amounts_of rows) i)
+    pub used_without : (q : UsageKey) → used (without row.number (indexed q old)) ≡ usage_at q (remove all i)
     used_without q =
-        ap used (gone q) ∙ used_series q (remove rows i) ∙ ap (usage_at q) (map-remove (λ (r : NumberedRow). r.amounts) rows i)
+        ap used (gone q) ∙ used_series q (remove rows i)
+        ∙ ap (usage_at q) (map-remove (λ (r : NumberedRow). r.amounts) rows i ∙ ap (λ rs. remove rs i) shown)
 
   -- what was used by all
   pub used_all : (q : UsageKey) → used (indexed q old) ≡ usage_at q (amounts_of rows)

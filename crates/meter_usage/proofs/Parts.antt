@@ -1,24 +1,16 @@
 -- Amounts parted at a number: what stands there comes, changes and goes.
-use Rattle.std.proofs.Common.{◌≡◌, ◌⊎◌, inl, inr, ℕ, cond, [], ◌∷◌, ◌++◌, Option, Some, None, is_some, ℤ, refl, sym, ap, ◌∙◌}
-use Rattle.std.specs.declared.cmp.Ordering.TheVariants.{Less, Greater}
-use Rattle.std.specs.Ordering.{nat_cmp}
-use Rattle.std.specs.Option.{option_map}
+use Rattle.std.proofs.Common.{◌≡◌, ◌⊎◌, inl, inr, ℕ, cond, [], ◌∷◌, ◌++◌, Option, Some, None, is_some, ℤ, refl, sym, ap, ◌∙◌, arith, Less, Greater, nat_cmp, option_map}
 use Rattle.std.specs.List.{AllByRecursion, cons_option}
 use Rattle.std.specs.Map.{lookup, set_value}
 use Rattle.std.specs.BTreeMap.{is_at, insert_entry}
-use Rattle.std.proofs.lemmas.Bool.{cases_Bool}
-use Rattle.std.proofs.lemmas.Option.{none-some}
+use Rattle.std.proofs.lemmas.Bool.Decides.{nat_tests}
 use Rattle.std.proofs.lemmas.Cmp.{tied_itself, nat_cmp_total}
 use Rattle.meter_usage.specs.Indexed.{Numbered, without, with_put, with_set, with_amount, parted, StandsAt}
 
 -- where none stands, none is set
 pub set_absent : (n : ℕ) (es : Numbered) (v : ℤ) → lookup (is_at (nat_cmp n)) es ≡ None → set_value (is_at (nat_cmp n)) es v ≡ es
 set_absent n [] v misses = refl
-set_absent n (e ∷ es) v misses =
-    elim (cases_Bool (is_at (nat_cmp n) e.0)) [
-      | inl here ↦ absurd (none-some e.1 (sym (rw here at misses)))
-      | inr other ↦ rw other (ap (λ z. e ∷ z) (set_absent n es v (rw other at misses)))
-    ]
+set_absent n (e ∷ es) v misses = let rest = set_absent n es v in grind (arith, nat_tests)
 
 module _ (n : ℕ) where
   abbrev pub AreBelow : Numbered → Type 0
@@ -95,24 +87,24 @@ module _ (n : ℕ) where
     set_away None = sym (without_parted front None back b a)
     set_away (Some u) = refl
 
-  module _ (x : Option ℤ) (es : Numbered) (s : StandsAt n x es) where
-    -- what was put, and then set where there was an amount before
-    pub changed : (y : Option ℤ) (mid new : Numbered) → mid ≡ with_put n y es → new ≡ cond (is_some x) (with_set n y mid) mid
-        → new ≡ with_amount n y es
-    changed y mid new put is =
-        is ∙ ap (λ m. cond (is_some x) (with_set n y m) m) (put ∙ ap (with_put n y) s.parts)
-        ∙ put_then_set s.front s.back s.below s.above x y ∙ ap (with_amount n y) (sym s.parts)
+module _ {n : ℕ} {x : Option ℤ} {es : Numbered} (s : StandsAt n x es) where
+  -- what was put, and then set where there was an amount before
+  pub changed : (y : Option ℤ) {mid new : Numbered} → mid ≡ with_put n y es → new ≡ cond (is_some x) (with_set n y mid) mid
+      → new ≡ with_amount n y es
+  changed y put is =
+      is ∙ ap (λ m. cond (is_some x) (with_set n y m) m) (put ∙ ap (with_put n y) s.parts)
+      ∙ put_then_set n s.front s.back s.below s.above x y ∙ ap (with_amount n y) (sym s.parts)
 
-    -- what was put, or was not, and then set back
-    pub restored : (y : Option ℤ) (mid new : Numbered) → (mid ≡ es) ⊎ (mid ≡ with_put n y es)
-        → new ≡ cond (is_some y) (with_set n x mid) mid → new ≡ es
-    restored y mid new (inl same) is =
-        is ∙ ap (λ m. cond (is_some y) (with_set n x m) m) (same ∙ s.parts) ∙ set_back s.front s.back s.below s.above x y ∙ sym s.parts
-    restored y mid new (inr put) is =
-        is ∙ ap (λ m. cond (is_some y) (with_set n x m) m) (put ∙ ap (with_put n y) s.parts)
-        ∙ put_then_back s.front s.back s.below s.above x y ∙ sym s.parts
+  -- what was put, or was not, and then set back
+  pub restored : (y : Option ℤ) {mid new : Numbered} → (mid ≡ es) ⊎ (mid ≡ with_put n y es)
+      → new ≡ cond (is_some y) (with_set n x mid) mid → new ≡ es
+  restored y (inl same) is =
+      is ∙ ap (λ m. cond (is_some y) (with_set n x m) m) (same ∙ s.parts) ∙ set_back n s.front s.back s.below s.above x y ∙ sym s.parts
+  restored y (inr put) is =
+      is ∙ ap (λ m. cond (is_some y) (with_set n x m) m) (put ∙ ap (with_put n y) s.parts)
+      ∙ put_then_back n s.front s.back s.below s.above x y ∙ sym s.parts
 
-    -- what was taken away where there was an amount
-    pub gone : (new : Numbered) → new ≡ cond (is_some x) (without n es) es → new ≡ without n es
-    gone new is =
-        is ∙ ap (λ m. cond (is_some x) (without n m) m) s.parts ∙ set_away s.front s.back s.below s.above x ∙ ap (without n) (sym s.parts)
+  -- what was taken away where there was an amount
+  pub gone : {new : Numbered} → new ≡ cond (is_some x) (without n es) es → new ≡ without n es
+  gone is =
+      is ∙ ap (λ m. cond (is_some x) (without n m) m) s.parts ∙ set_away n s.front s.back s.below s.above x ∙ ap (without n) (sym s.parts)

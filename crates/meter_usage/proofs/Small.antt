@@ -1,7 +1,5 @@
 -- Amounts are small.
-use Rattle.std.proofs.Common.{◌≡◌, ℕ, ◌^◌, Bool, true, List, [], ◌∷◌, fold, Option, Some, None, IfSome, is_some, ℤ, pos, neg_ℤ, ◌==◌, arith}
-use Rattle.std.specs.Prelude.{int_lt}
-use Rattle.std.specs.declared.cmp.Ordering.{Ordering}
+use Rattle.std.proofs.Common.{◌≡◌, ℕ, ◌^◌, Bool, true, List, [], ◌∷◌, fold, Option, Some, None, IfSome, is_some, ℤ, pos, neg_ℤ, ◌==◌, arith, int_lt, Ordering}
 use Rattle.std.proofs.lemmas.Bool.{and_parts, cond_both}
 use Rattle.std.specs.List.{filter_map, cons_option}
 use Rattle.std.specs.Option.{option_map, option_or}

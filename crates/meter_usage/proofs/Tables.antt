@@ -1,13 +1,9 @@
 -- Tables of rows, and their totals, under an edit of one address's rows.
-use Rattle.std.proofs.Common.{◌≡◌, ℕ, suc, ◌+◌, ◌*◌, ◌^◌, ◌<◌, ◌≤◌, true, List, [], ◌∷◌, ◌++◌, map, length, remove, Option, Some, None, IfSome, ℤ, pos, neg_ℤ, ◌+ℤ◌, ◌≤ℤ◌, refl, sym, ap, ◌∙◌, inl, inr, arith}
-use Rattle.std.specs.Prelude.{slice_set}
-use Rattle.std.specs.Option.{unwrap_or, option_map}
+use Rattle.std.proofs.Common.{◌≡◌, ℕ, suc, ◌+◌, ◌*◌, ◌^◌, ◌<◌, ◌≤◌, true, List, [], ◌∷◌, ◌++◌, map, length, remove, Option, Some, None, IfSome, ℤ, pos, neg_ℤ, ◌+ℤ◌, ◌≤ℤ◌, refl, sym, ap, ◌∙◌, arith, slice_set, unwrap_or, option_map, length-append, length-set}
 use Rattle.std.specs.Map.{lookup, remove_entry, set_value}
 use Rattle.std.specs.BTreeMap.{is_at}
-use Rattle.std.proofs.lemmas.Bool.{cases_Bool}
 use Rattle.std.proofs.lemmas.Bool.Decides.{nat_tests}
 use Rattle.std.proofs.lemmas.Int.{ints}
-use Rattle.std.proofs.lemmas.List.{length-append, length-set}
 use Rattle.std.proofs.lemmas.List.Edits.{length-remove}
 use Rattle.std.proofs.lemmas.Map.Made.{lookup-map_values}
 use Rattle.indexmap.specs.IndexMap.{insert_entry}
@@ -30,14 +26,10 @@ module _ {X : Type 0} (a : Address) where
   set_is_insert : (table : Table X) (rows new : List X) → lookup (same a) table ≡ Some rows
       → set_value (same a) table new ≡ insert_entry same table a new
   set_is_insert [] rows new is = absurd cc
-  set_is_insert (e ∷ es) rows new is =
-      elim (cases_Bool (same a e.0)) [
-        | inl here ↦ rw here refl
-        | inr other ↦ rw other (ap (λ z. e ∷ z) (set_is_insert es rows new (rw other at is)))
-      ]
+  set_is_insert (e ∷ es) rows new is = let rest = set_is_insert es rows new in grind (arith, nat_tests)
 
   -- writing rows that are some is having them
-  set_is_with : (table : Table X) (rows new : List X) → lookup (same a) table ≡ Some rows → (new ≡ [] → ⊥)
+  pub set_is_with : (table : Table X) (rows new : List X) → lookup (same a) table ≡ Some rows → (new ≡ [] → ⊥)
       → set_value (same a) table new ≡ with_rows table a new
   set_is_with table rows [] is some = absurd (some refl)
   set_is_with table rows (x ∷ xs) is some = set_is_insert table rows (x ∷ xs) is
@@ -45,11 +37,7 @@ module _ {X : Type 0} (a : Address) where
   pub removed_inserted : (table : Table X) (new : List X)
       → remove_entry (same a) (insert_entry same table a new) ≡ remove_entry (same a) table
   removed_inserted [] new = rw (same_itself a) refl
-  removed_inserted (e ∷ es) new =
-      elim (cases_Bool (same a e.0)) [
-        | inl here ↦ rw (here, here) refl
-        | inr other ↦ rw (other, other) (ap (λ z. e ∷ z) (removed_inserted es new))
-      ]
+  removed_inserted (e ∷ es) new = let rest = removed_inserted es new in grind (arith, nat_tests)
 
   pub removed_with : (table : Table X) (new : List X) → (new ≡ [] → ⊥)
       → remove_entry (same a) (with_rows table a new) ≡ remove_entry (same a) table
@@ -58,11 +46,7 @@ module _ {X : Type 0} (a : Address) where
 
   found_inserted : (table : Table X) (new : List X) → lookup (same a) (insert_entry same table a new) ≡ Some new
   found_inserted [] new = rw (same_itself a) refl
-  found_inserted (e ∷ es) new =
-      elim (cases_Bool (same a e.0)) [
-        | inl here ↦ rw (here, here) refl
-        | inr other ↦ rw (other, other) (found_inserted es new)
-      ]
+  found_inserted (e ∷ es) new = let rest = found_inserted es new in grind (arith, nat_tests)
 
   pub rows_with : (table : Table X) (new : List X) → (new ≡ [] → ⊥) → rows_at a (with_rows table a new) ≡ new
   rows_with table [] some = absurd (some refl)
@@ -94,20 +78,12 @@ kept_rows a table = ap (λ o. unwrap_or o []) (lookup-map_values (map row_of) (s
 
 kept_removed : (a : Address) (table : Table (List ℕ)) → remove_entry (same a) (kept table) ≡ kept (remove_entry (same a) table)
 kept_removed a [] = refl
-kept_removed a (e ∷ es) =
-    elim (cases_Bool (same a e.0)) [
-      | inl here ↦ rw here refl
-      | inr other ↦ rw other (ap (λ z. (e.0, map row_of e.1) ∷ z) (kept_removed a es))
-    ]
+kept_removed a (e ∷ es) = let rest = kept_removed a es in grind (arith, nat_tests)
 
 kept_inserted : (a : Address) (table : Table (List ℕ)) (new : List (List ℕ))
     → insert_entry same (kept table) a (map row_of new) ≡ kept (insert_entry same table a new)
 kept_inserted a [] new = refl
-kept_inserted a (e ∷ es) new =
-    elim (cases_Bool (same a e.0)) [
-      | inl here ↦ rw here refl
-      | inr other ↦ rw other (ap (λ z. (e.0, map row_of e.1) ∷ z) (kept_inserted a es new))
-    ]
+kept_inserted a (e ∷ es) new = let rest = kept_inserted a es new in grind (arith, nat_tests)
 
 pub kept_with : (a : Address) (table : Table (List ℕ)) (new : List (List ℕ))
     → with_rows (kept table) a (map row_of new) ≡ kept (with_rows table a new)
@@ -132,11 +108,9 @@ module _ (q : UsageKey) (a : Address) where
       → total_at q table ≡ with_usage (usage_at q (rows_at a table)) (total_at q (remove_entry (same a) table))
   total_split [] = refl
   total_split (e ∷ es) =
-      elim (cases_Bool (same a e.0)) [
-        | inl here ↦ rw here refl
-        | inr other ↦ rw other (ap (with_usage (usage_at q e.1)) (total_split es)
-            ∙ swap_usage (usage_at q e.1) (usage_at q (rows_at a es)) (total_at q (remove_entry (same a) es)))
-      ]
+      let rest = total_split es in
+      let swapped = swap_usage (usage_at q e.1) (usage_at q (rows_at a es)) (total_at q (remove_entry (same a) es)) in
+      grind (arith, nat_tests)
 
   pub total_with : (table : Table Row) (rows : List Row)
       → total_at q (with_rows table a rows) ≡ with_usage (usage_at q rows) (total_at q (remove_entry (same a) table))

@@ -1,16 +1,11 @@
 -- The first and the last of amounts, as an iterator takes them.
-use Rattle.std.proofs.Common.{◌≡◌, ℕ, Bool, true, false, List, [], ◌∷◌, ◌++◌, Option, Some, None, ℤ, refl, sym, ap, ◌∙◌, subst, inl, inr}
-use Rattle.std.specs.declared.cmp.Ordering.{Ordering}
-use Rattle.std.specs.declared.cmp.Ordering.TheVariants.{Less, Equal, Greater}
-use Rattle.std.specs.Ordering.{is_eq, nat_cmp}
-use Rattle.std.specs.Option.{option_map, unwrap_or}
+use Rattle.std.proofs.Common.{◌≡◌, ℕ, Bool, true, false, List, [], ◌∷◌, ◌++◌, Option, Some, None, ℤ, refl, sym, ap, ◌∙◌, subst, arith, Greater, nat_cmp, option_map, unwrap_or}
 use Rattle.std.specs.List.{AllByRecursion}
 use Rattle.std.specs.List.Sorted.{IsStrictlySortedBy}
 use Rattle.std.specs.Map.{keys_of}
 use Rattle.std.specs.Map.Iter.{TakesLast}
 use Rattle.std.specs.BTreeMap.{is_at}
-use Rattle.std.proofs.lemmas.Bool.{cases_Bool}
-use Rattle.std.proofs.lemmas.Cmp.{ranked}
+use Rattle.std.proofs.lemmas.Bool.Decides.{nat_tests}
 use Rattle.std.proofs.lemmas.List.{map-append}
 use Rattle.meter_usage.specs.Usage.{last}
 use Rattle.meter_usage.specs.Indexed.{Numbered, without}
@@ -18,10 +13,8 @@ use Rattle.meter_usage.proofs.Ends.{last-append}
 use Rattle.meter_usage.proofs.Parts.{without_parted}
 use Rattle.meter_usage.proofs.Numbering.{rising_around}
 
-same_by : (n k : ℕ) (o : Ordering) → o ≡ nat_cmp n k → is_eq o ≡ true → n ≡ k
-same_by n k Less e same = absurd cc
-same_by n k Equal e same = ranked n k Equal e
-same_by n k Greater e same = absurd cc
+same_at : (n k : ℕ) → is_at (nat_cmp n) k ≡ true → n ≡ k
+same_at n k same = grind (arith, nat_tests, same)
 
 pub all_keys : {K X : Type 0} (P : K → Type 0) (es : List (K × X)) → AllByRecursion P (keys_of es) → AllByRecursion (λ e. P e.0) es
 all_keys P [] a = tt
@@ -30,11 +23,7 @@ all_keys P (e ∷ es) a = (a.0, all_keys P es a.1)
 keeps_last : (n : ℕ) (rest : Numbered) (e : ℕ × ℤ) → is_at (nat_cmp n) e.0 ≡ false
     → without n (rest ++ e ∷ []) ≡ without n rest ++ e ∷ []
 keeps_last n [] e other = rw other refl
-keeps_last n (f ∷ fs) e other =
-    elim (cases_Bool (is_at (nat_cmp n) f.0)) [
-      | inl here ↦ rw here refl
-      | inr apart ↦ rw apart (ap (λ z. f ∷ z) (keeps_last n fs e other))
-    ]
+keeps_last n (f ∷ fs) e other = let rest = keeps_last n fs e other in grind (arith, nat_tests)
 
 last_one : (rest : Numbered) (e : ℕ × ℤ) → last (λ e. Some e.1) (rest ++ e ∷ []) ≡ Some e.1
 last_one rest e = last-append (λ e. Some e.1) rest (e ∷ [])
@@ -67,7 +56,7 @@ module _ {A : Type 0} (shows : A → ℕ × ℤ) where
   last_there n es rest None rising t there = absurd cc
   last_there n es rest (Some a) rising t there =
       let gone = last_gone n rest (shows a) (subst (λ x. IsStrictlySortedBy nat_cmp (keys_of x)) t rising)
-      (same_by n (shows a).0 (nat_cmp n (shows a).0) refl there) in
+      (same_at n (shows a).0 there) in
       sym (ap (λ x. last (λ e. Some e.1) (without n x)) t ∙ ap (last (λ e. Some e.1)) gone ∙ last-append (λ e. Some e.1) rest [])
 
   -- it doesn't, and stays the last

@@ -1,18 +1,18 @@
 -- Edits that change nothing.
-use Rattle.std.proofs.Common.{◌≡◌, ℕ, List, [], ◌∷◌, ◌++◌, length, remove, slice_get, Option, Some, None, refl, sym, ap, ◌∙◌, inl, inr, arith}
-use Rattle.std.specs.Prelude.{slice_set}
-use Rattle.std.specs.Option.{unwrap_or}
+use Rattle.std.proofs.Common.{◌≡◌, ℕ, List, [], ◌∷◌, ◌++◌, length, remove, slice_get, Option, Some, None, refl, sym, ap, ◌∙◌, arith, slice_set, unwrap_or}
 use Rattle.std.specs.List.{AllByRecursion}
 use Rattle.std.specs.Map.{lookup, remove_entry}
-use Rattle.std.proofs.lemmas.Bool.{cases_Bool, cond_both}
+use Rattle.std.proofs.lemmas.Bool.{cond_both}
+use Rattle.std.proofs.lemmas.Bool.Decides.{nat_tests}
 use Rattle.std.proofs.lemmas.List.{set-get_or}
 use Rattle.std.proofs.lemmas.List.Sums.{fold-append}
-use Rattle.std.proofs.lemmas.Option.{get_or_from_slice_get, slice_get_within, same_Some, none-some}
+use Rattle.std.proofs.lemmas.Map.Steps.{set_value_same}
+use Rattle.std.proofs.lemmas.Option.{get_or_from_slice_get, slice_get_within, same_Some}
 use Rattle.indexmap.specs.IndexMap.{insert_entry}
 use Rattle.meter_address.specs.declared.address.Address.{Address}
 use Rattle.meter_usage.specs.Table.{Table, same, rows_at, with_rows}
 use Rattle.meter_usage.specs.Edits.{Edit, addition, replacement, removal, edited, rows_after}
-use Rattle.meter_usage.proofs.Tables.{same_itself, rows_with, removed_with, append_some}
+use Rattle.meter_usage.proofs.Tables.{same_itself, set_is_with, rows_with, removed_with, append_some}
 use Rattle.meter_usage.proofs.Edited.{remove_end}
 use Rattle.meter_usage.proofs.Entries.{each_removed, each_put}
 use Rattle.meter_usage.proofs.EachMeter.{after_edits}
@@ -47,23 +47,10 @@ absent a edits is =
 
 -- ---- writing what is there
 
-insert_same : (a : Address) (table : Table (List ℕ)) (rows : Payloads) → lookup (same a) table ≡ Some rows
-    → insert_entry same table a rows ≡ table
-insert_same a [] rows is = absurd cc
-insert_same a (e ∷ es) rows is =
-    elim (cases_Bool (same a e.0)) [
-      | inl here ↦ rw here (ap (λ r. (e.0, r) ∷ es) (sym (same_Some e.1 rows (rw here at is))))
-      | inr other ↦ rw other (ap (λ t. e ∷ t) (insert_same a es rows (rw other at is)))
-    ]
-
 insert_again : (a : Address) (table : Table (List ℕ)) (rows new : Payloads)
     → insert_entry same (insert_entry same table a rows) a new ≡ insert_entry same table a new
 insert_again a [] rows new = rw (same_itself a) refl
-insert_again a (e ∷ es) rows new =
-    elim (cases_Bool (same a e.0)) [
-      | inl here ↦ rw (here, here) refl
-      | inr other ↦ rw (other, other) (ap (λ t. e ∷ t) (insert_again a es rows new))
-    ]
+insert_again a (e ∷ es) rows new = let rest = insert_again a es rows new in grind (arith, nat_tests)
 
 some_by : (o : Option Payloads) (rows : Payloads) → (rows ≡ [] → ⊥) → unwrap_or o [] ≡ rows → o ≡ Some rows
 some_by None rows some is = absurd (some (sym is))
@@ -71,8 +58,9 @@ some_by (Some found) rows some is = ap Some is
 
 with_same : (a : Address) (table : Table (List ℕ)) (rows : Payloads) → (rows ≡ [] → ⊥) → rows_at a table ≡ rows
     → with_rows table a rows ≡ table
-with_same a table [] some is = absurd (some refl)
-with_same a table (r ∷ rs) some is = insert_same a table (r ∷ rs) (some_by (lookup (same a) table) (r ∷ rs) some is)
+with_same a table rows some is =
+    let found = some_by (lookup (same a) table) rows some is in
+    sym (set_is_with a table rows rows found some) ∙ set_value_same (same a) table rows found
 
 -- ---- a row that is replaced by itself
 
@@ -90,11 +78,7 @@ replaced_itself edits a place p is =
 
 remove_absent : (a : Address) (table : Table (List ℕ)) → lookup (same a) table ≡ None → remove_entry (same a) table ≡ table
 remove_absent a [] is = refl
-remove_absent a (e ∷ es) is =
-    elim (cases_Bool (same a e.0)) [
-      | inl here ↦ absurd (none-some e.1 (sym (rw here at is)))
-      | inr other ↦ rw other (ap (λ t. e ∷ t) (remove_absent a es (rw other at is)))
-    ]
+remove_absent a (e ∷ es) is = let rest = remove_absent a es in grind (arith, nat_tests)
 
 put_back : (a : Address) (edits : List Edit) (p : List ℕ) (rows : Payloads) → rows_at a (rows_after edits) ≡ rows
     → with_rows (with_rows (rows_after edits) a (rows ++ p ∷ [])) a rows ≡ rows_after edits

@@ -1,12 +1,9 @@
 -- The keys that are used.
-use Rattle.std.proofs.Common.{◌≡◌, Bool, true, false, cond, ◌||◌, List, [], ◌∷◌, map, Some, Result, Ok, Err, IfOk, refl, sym, ap, ◌∙◌}
-use Rattle.std.specs.Prelude.{filter, nat_lt}
-use Rattle.std.specs.Option.{unwrap_or}
+use Rattle.std.proofs.Common.{◌≡◌, Bool, true, false, cond, ◌||◌, List, [], ◌∷◌, map, Some, Result, Ok, Err, IfOk, refl, sym, ap, ◌∙◌, filter, nat_lt, unwrap_or, Less}
 use Rattle.std.specs.List.{AllByRecursion}
 use Rattle.std.specs.List.Sorted.{IsStrictlySortedBy}
 use Rattle.std.specs.Map.{keys_of}
 use Rattle.std.specs.BTreeMap.{is_at}
-use Rattle.std.specs.declared.cmp.Ordering.TheVariants.{Less}
 use Rattle.std.proofs.lemmas.Bool.{or_parts, or_from, cond_both}
 use Rattle.std.proofs.lemmas.Map.Keys.{sorted_head, sorted_tail}
 use Rattle.meter_usage.specs.declared.key.UsageKey.{UsageKey}

@@ -1,7 +1,5 @@
 -- An index whose amounts change key by key.
-use Rattle.std.proofs.Common.{◌≡◌, ◌⊎◌, inl, inr, true, false, cond, List, [], ◌∷◌, Some, None, is_some, refl, sym, ap, ◌∙◌, subst}
-use Rattle.std.specs.Ordering.{is_eq}
-use Rattle.std.specs.Option.{unwrap_or}
+use Rattle.std.proofs.Common.{⊎_elim, ◌≡◌, ◌⊎◌, inl, inr, true, false, cond, List, [], ◌∷◌, Some, None, is_some, refl, sym, ap, ◌∙◌, subst, is_eq, unwrap_or}
 use Rattle.std.specs.List.Sorted.{IsStrictlySortedBy}
 use Rattle.std.specs.Map.{keys_of, lookup}
 use Rattle.std.specs.BTreeMap.{is_at}
@@ -33,9 +31,8 @@ changing_starts row change old left e ordered same = subst (IsChanging row chang
   changed = λ q misses. sym (same q (indexed q old) (none_by (amount_at q row) (has_amount q row ∙ misses)));
 })
 
-module _ (row : Row) (change : UsageKey → Numbered → Numbered) (old now : List (UsageKey × Numbered)) (k : UsageKey)
-    (left keys : List UsageKey)
-    (c : IsChanging row change old now keys) (e : keys ≡ k ∷ left) where
+module _ {row : Row} {change : UsageKey → Numbered → Numbered} {old now : List (UsageKey × Numbered)} {k : UsageKey}
+    {left keys : List UsageKey} (c : IsChanging row change old now keys) (e : keys ≡ k ∷ left) where
   stands : IsChanging row change old now (k ∷ left)
   stands = subst (IsChanging row change old now) e c
 
@@ -62,10 +59,8 @@ module _ (row : Row) (change : UsageKey → Numbered → Numbered) (old now : Li
       pub changing_stopped : (q : UsageKey) → (indexed q new ≡ indexed q old) ⊎ (indexed q new ≡ change q (indexed q old))
       changing_stopped q =
           let same : indexed q new ≡ indexed q now = at_key (λ p. indexed p new ≡ indexed p now) k q here (others q) in
-          elim (cases_Bool (is_among q (k ∷ left))) [
-            | inl has ↦ inl (same ∙ stands.waiting q has)
-            | inr misses ↦ inr (same ∙ stands.changed q misses)
-          ]
+          ⊎_elim (λ has. inl (same ∙ stands.waiting q has)) (λ misses. inr (same ∙ stands.changed q misses))
+          (cases_Bool (is_among q (k ∷ left)))
 
 -- a key without amounts is forgotten
 pub tidied : (k q : UsageKey) (old new : List (UsageKey × Numbered)) → lookup (is_at (key_cmp k)) old ≡ Some []

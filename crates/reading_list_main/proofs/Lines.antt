@@ -1,14 +1,12 @@
 -- Lines of a report that are listed one after another.
-use Rattle.std.proofs.Common.{◌≡◌, ℕ, ◌<◌, true, cond, List, [], ◌∷◌, ◌++◌, length, Option, Result, Err, refl, sym, ap, ◌∙◌, append_assoc, arith}
-use Rattle.std.specs.Prelude.{nat_lt}
+use Rattle.std.proofs.Common.{◌≡◌, ℕ, ◌<◌, true, List, [], ◌∷◌, ◌++◌, length, Option, Result, Err, refl, sym, ap, ◌∙◌, append_assoc, nat_lt}
 use Rattle.std.proofs.lemmas.Bool.{cond-true, lt-ltb}
-use Rattle.plain_text.specs.Parts.{fields_of}
 use Rattle.paper.specs.Pieces.{text_if}
 use Rattle.reading_list_main.specs.declared.said.LineFault.{LineFault}
 use Rattle.reading_list_main.specs.declared.said.LineFault.TheVariants as faults
 use Rattle.reading_list_main.specs.declared.notes.LineNote.{LineNote}
 use Rattle.reading_list_main.specs.declared.lister.Lister.{Lister}
-use Rattle.reading_list_main.specs.Said.{Said, by_word, said_of}
+use Rattle.reading_list_main.specs.Said.{Said, said_of}
 use Rattle.reading_list_main.specs.Notes.{note_text}
 use Rattle.reading_list_main.specs.Listing.{text_of, note_of, lister_after, listed, lister_behind, ListsLine}
 

@@ -1,10 +1,8 @@
 -- Pages that are listed one after another.
-use Rattle.std.proofs.Common.{◌≡◌, ℕ, ◌<◌, ◌≤◌, ◌+◌, Bool, true, false, cond, List, [], ◌∷◌, ◌++◌, length, take, drop, Result, Ok, Err, refl, sym, ap, ◌∙◌, subst, append_assoc, append-nil, arith}
-use Rattle.std.specs.Prelude.{IsTrue, IfErr, OnErr}
+use Rattle.std.proofs.Common.{◌≡◌, ℕ, ◌<◌, ◌≤◌, ◌+◌, Bool, true, false, List, [], ◌∷◌, ◌++◌, length, take, drop, Result, Ok, Err, refl, sym, ap, ◌∙◌, subst, append_assoc, append-nil, arith, IsTrue, IfErr, OnErr}
 use Rattle.std.specs.Str.Lines.{lines}
 use Rattle.std.proofs.lemmas.Bool.{cond-false, le-ltb, lt-ltb}
-use Rattle.std.proofs.lemmas.List.{length-append, length-take, length-drop, nil_from_length, take-append-drop, take-append-le, take_all, take_at}
-use Rattle.std.proofs.Math.Seq.{take-append-add}
+use Rattle.std.proofs.lemmas.List.{length-append, length-take, length-drop, nil_from_length, take-append-drop, take_all, take_at}
 use Rattle.lists.proofs.Members.{with_fold, with_length}
 use Rattle.outer_io.specs.Bytes.{Moves, AppendsFront}
 use Rattle.outer_io.proofs.Fronts.{first as front_first, behind as front_behind}
@@ -17,8 +15,7 @@ use Rattle.line_reader.proofs.LinesLemmas.{ended_alone}
 use Rattle.line_teller.specs.declared.ending.LinesEnd.{LinesEnd}
 use Rattle.line_teller.specs.declared.ending.LinesEnd.TheVariants as ends
 use Rattle.line_teller.specs.Ending.{EndsText, IsNoted, is_whole}
-use Rattle.line_teller.specs.Standing.{Pours}
-use Rattle.line_teller.proofs.Steps.{noted_then, none_noted, part_text, poured_then, text_then}
+use Rattle.line_teller.proofs.Steps.{noted_then, part_text, poured_then, text_then}
 use Rattle.reading_list_main.specs.declared.lister.Lister.{Lister}
 use Rattle.reading_list_main.specs.Said.{said_of}
 use Rattle.reading_list_main.specs.Notes.{note_text}
@@ -26,7 +23,7 @@ use Rattle.reading_list_main.specs.Listing.{text_of, note_of, lister_after, list
 use Rattle.reading_list_main.specs.Limits.{is_over, whole_lines, all_lines}
 use Rattle.reading_list_main.specs.Pages.{EndsAt, EndsLines, Ended, StopsReading, ListsOne, ListsLines, IsAmid, Stands}
 use Rattle.reading_list_main.proofs.Lines.{listed_more}
-use Rattle.reading_list_main.proofs.PageLines.{Alike, IsCut, cut_at, finished_both, finished_none, kept_alike}
+use Rattle.reading_list_main.proofs.PageLines.{Alike, IsCut, cut_at, finished_both, kept_alike}
 
 -- ---- answers
 
@@ -71,152 +68,54 @@ noted_more number n l (x ∷ xs) ys is =
     ∙ sym (append_assoc (text_if (note_text number) (note_of l (said_of x))) (noted (number + 1) (lister_after l (said_of x)) xs)
     (noted n (lister_behind (lister_after l (said_of x)) xs) ys))
 
--- the list of lines, and behind it that of lines that say the same as others, is the list with the others
-listed_joined : (first old : Lister) (xs ls ls' : List (List ℕ)) → old ≡ lister_behind first xs → Alike ls ls'
-    → listed first xs ++ listed old ls ≡ listed first (xs ++ ls')
-listed_joined first old xs ls ls' is same =
-    ap (λ t. listed first xs ++ t) ((alike 0 old ls ls' same).list ∙ ap (λ l. listed l ls') is) ∙ sym (listed_more first xs ls')
+-- ---- two changes of a sink, one behind the other
 
-pub lists_then : (first old new : Lister) (n m : ℕ) (xs ls ls' : List (List ℕ)) (out_tells notes_tell : Bool)
-    (list here there list_notes here_notes there_notes : SinkShown) → Alike ls ls'
-    → list_notes.faults ≤ here_notes.faults → here_notes.faults ≤ there_notes.faults
-    → ListsLines first old 0 n xs out_tells (record { before = list; now = here }) notes_tell (record { before = list_notes; now = here_notes })
-    → ListsLines old new n m ls out_tells (record { before = here; now = there }) notes_tell
-    (record { before = here_notes; now = there_notes })
-    → ListsLines first new 0 m (xs ++ ls') out_tells (record { before = list; now = there }) notes_tell
-    (record { before = list_notes; now = there_notes })
-lists_then first old new n m xs ls ls' out_tells notes_tell list here there list_notes here_notes there_notes same before later one two =
-    let said = alike (n + 1) old ls ls' same in
-    record {
-      new_is = two.new_is ∙ said.behind ∙ ap (λ l. lister_behind l ls') one.new_is ∙ sym (behind_more first xs ls');
-      counted =
-          let a = one.counted in
-          let b = two.counted in
-          let c = with_length (λ x y. said_of x ≡ said_of y) ls ls' same in
-          let d = length-append xs ls' in
-          omega arith;
-      written = λ on.
-          two.written on ∙ ap (λ w. w ++ listed old ls) (one.written on) ∙ append_assoc list.written (listed first xs) (listed old ls)
-          ∙ ap (λ t. list.written ++ t) (listed_joined first old xs ls ls' one.new_is same);
-      noted = λ on.
-          let number : n + 1 ≡ 1 + length xs = let a = one.counted in omega arith in
-          subst (λ t. IsNoted t (record { before = list_notes; now = there_notes }))
-          (ap (λ t. noted 1 first xs ++ t) (said.notes ∙ ap (λ l. noted (n + 1) l ls') one.new_is)
-          ∙ sym (noted_more 1 (n + 1) first xs ls' number))
-          (noted_then list_notes here_notes there_notes (noted 1 first xs) (noted (n + 1) old ls) before later (one.noted on) (two.noted on));
-    }
+-- what it shows before the first and behind the second
+abbrev pub through : Change SinkShown → SinkShown → Change SinkShown
+through shown there = record { before = shown.before; now = there }
 
--- a front of the list of lines that say the same
-front_then : (first old : Lister) (xs ls ls' more : List (List ℕ)) (w0 w1 w2 : List ℕ) → old ≡ lister_behind first xs → Alike ls ls'
-    → w1 ≡ w0 ++ listed first xs → AppendsFront (listed old ls) w1 w2
-    → AppendsFront (listed first ((xs ++ ls') ++ more)) w0 w2
-front_then first old xs ls ls' more w0 w1 w2 is same before f =
-    let x = listed first xs in
-    let y = listed old ls in
-    let z = listed (lister_behind first (xs ++ ls')) more in
-    subst (λ t. AppendsFront t w0 w2)
-    (ap (λ t. t ++ z) (listed_joined first old xs ls ls' is same) ∙ sym (listed_more first (xs ++ ls') more))
-    (front_first (x ++ y) z w0 w2 (front_behind x y w0 w1 w2 before f))
+-- the second alone
+abbrev pub onward : Change SinkShown → SinkShown → Change SinkShown
+onward shown there = record { before = shown.now; now = there }
 
 -- ---- a page line by line
 
-pub amid_few : (old now : Lister) (count at : ℕ) (all texts left : List (List ℕ)) (line : List ℕ) (out_tells notes_tell : Bool)
-    (out notes : Change SinkShown) (sheet : List ℕ) → IsAmid old now count at all texts out_tells out sheet notes_tell notes
-    → texts ≡ line ∷ left → at < count + length all
-amid_few old now count at all texts left line out_tells notes_tell out notes sheet a e =
-    let so_far = a.counted in
-    let whole = ap length (a.all_are ∙ ap (λ l. a.front ++ l) e) ∙ length-append a.front (line ∷ left) in
-    omega arith
+module _ {old now : Lister} {count at : ℕ} {all texts : List (List ℕ)} {out_tells notes_tell : Bool} {out notes : Change SinkShown}
+    {sheet : List ℕ} (a : IsAmid old now count at all texts out_tells out sheet notes_tell notes) where
+  pub amid_len : at + length texts ≡ count + length all
+  amid_len = omega (arith, a.counted, ap length a.all_are, length-append a.front texts)
 
-pub amid_count : (old now : Lister) (count at : ℕ) (all texts : List (List ℕ)) (out_tells notes_tell : Bool) (out notes : Change SinkShown)
-    (sheet : List ℕ) → IsAmid old now count at all texts out_tells out sheet notes_tell notes → texts ≡ [] → at ≡ count + length all
-amid_count old now count at all texts out_tells notes_tell out notes sheet a e =
-    let so_far = a.counted in
-    let whole = ap length (a.all_are ∙ ap (λ l. a.front ++ l) e) ∙ length-append a.front [] in
-    omega arith
-
-module _ (old now : Lister) (count at : ℕ) (all : List (List ℕ)) (sheet : List ℕ) (out_tells notes_tell : Bool)
-    (list here there list_notes here_notes there_notes : SinkShown) where
-  pub amid_next : (new : Lister) (line : List ℕ) (texts left : List (List ℕ)) (sheet' : List ℕ) → list_notes.faults ≤ here_notes.faults
-      → here_notes.faults ≤ there_notes.faults
-      → IsAmid old now count at all texts out_tells (record { before = list; now = here }) sheet notes_tell
-      (record { before = list_notes; now = here_notes })
-      → texts ≡ line ∷ left
-      → ListsOne now new (at + 1) line out_tells (record { before = here; now = there }) sheet sheet' notes_tell
-      (record { before = here_notes; now = there_notes })
-      → IsAmid old new count (at + 1) all left out_tells (record { before = list; now = there }) sheet' notes_tell
-      (record { before = list_notes; now = there_notes })
-  amid_next new line texts left sheet' before later a e one = record {
+  pub amid_next : {new : Lister} (line : List ℕ) {left : List (List ℕ)} {sheet' : List ℕ} (there there_notes : SinkShown)
+      → notes.before.faults ≤ notes.now.faults → notes.now.faults ≤ there_notes.faults → texts ≡ line ∷ left
+      → ListsOne now new (at + 1) line out_tells (onward out there) sheet sheet' notes_tell (onward notes there_notes)
+      → IsAmid old new count (at + 1) all left out_tells (through out there) sheet' notes_tell (through notes there_notes)
+  amid_next line {left} {sheet'} there there_notes before later e one = record {
     front = a.front ++ line ∷ [];
     all_are = a.all_are ∙ ap (λ l. a.front ++ l) e ∙ sym (append_assoc a.front (line ∷ []) left);
     now_is = one.new_is ∙ ap (λ l. lister_after l (said_of line)) a.now_is ∙ sym (behind_more old a.front (line ∷ []));
-    counted = let so_far = a.counted in let more = length-append a.front (line ∷ []) in omega arith;
+    counted = omega (arith, a.counted, length-append a.front (line ∷ []));
     poured = λ on.
-        subst (λ t. Pours list.written t there.written sheet')
-        (ap (λ l. listed old a.front ++ text_of l (said_of line)) a.now_is
-        ∙ ap (λ t. listed old a.front ++ t) (sym (append-nil (text_of (lister_behind old a.front) (said_of line))))
-        ∙ sym (listed_more old a.front (line ∷ [])))
-        (poured_then list.written here.written there.written (listed old a.front) (text_of now (said_of line)) sheet sheet' (a.poured on)
-        (one.poured on));
+        rw (listed_more old a.front (line ∷ []), append-nil, ← a.now_is)
+        (poured_then out.before.written out.now.written there.written (listed old a.front) (text_of now (said_of line)) sheet sheet'
+        (a.poured on) (one.poured on));
     noted = λ on.
-        let number : at + 1 ≡ (count + 1) + length a.front = let so_far = a.counted in omega arith in
-        subst (λ t. IsNoted t (record { before = list_notes; now = there_notes }))
-        (ap (λ l. noted (count + 1) old a.front ++ text_if (note_text (at + 1)) (note_of l (said_of line))) a.now_is
-        ∙ ap (λ t. noted (count + 1) old a.front ++ t)
-        (sym (append-nil (text_if (note_text (at + 1)) (note_of (lister_behind old a.front) (said_of line)))))
-        ∙ sym (noted_more (count + 1) (at + 1) old a.front (line ∷ []) number))
-        (noted_then list_notes here_notes there_notes (noted (count + 1) old a.front)
+        let number : at + 1 ≡ (count + 1) + length a.front = omega (arith, a.counted) in
+        rw (noted_more (count + 1) (at + 1) old a.front (line ∷ []) number, append-nil, ← a.now_is)
+        (noted_then notes.before notes.now there_notes (noted (count + 1) old a.front)
         (text_if (note_text (at + 1)) (note_of now (said_of line))) before later (a.noted on) (one.noted on));
   }
 
   -- a front of the list of all lines
-  pub amid_part : (line : List ℕ) (texts left : List (List ℕ)) → IsTrue out_tells
-      → IsAmid old now count at all texts out_tells (record { before = list; now = here }) sheet notes_tell
-      (record { before = list_notes; now = here_notes })
-      → texts ≡ line ∷ left
-      → AppendsFront (sheet ++ text_of now (said_of line)) here.written there.written
-      → AppendsFront (listed old all) list.written there.written
-  amid_part line texts left on a e front =
-      let more = listed (lister_after (lister_behind old a.front) (said_of line)) left in
-      let all_is : listed old all ≡ (listed old a.front ++ text_of now (said_of line)) ++ more =
-      ap (listed old) (a.all_are ∙ ap (λ l. a.front ++ l) e) ∙ listed_more old a.front (line ∷ left)
-      ∙ sym (append_assoc (listed old a.front) (text_of (lister_behind old a.front) (said_of line)) more)
-      ∙ ap (λ l. (listed old a.front ++ text_of l (said_of line)) ++ more) (sym a.now_is) in
-      subst (λ t. AppendsFront t list.written there.written) (sym all_is)
-      (front_first (listed old a.front ++ text_of now (said_of line)) more list.written there.written
-      (text_then ends.Write list here there (listed old a.front) (text_of now (said_of line)) sheet (a.poured on) front))
-
-  all_front : (front texts : List (List ℕ)) → all ≡ front ++ texts → texts ≡ [] → front ≡ all
-  all_front front texts is e = sym (append-nil front) ∙ sym (is ∙ ap (λ l. front ++ l) e)
-
-  pub amid_rest : (texts : List (List ℕ)) → IsTrue out_tells
-      → IsAmid old now count at all texts out_tells (record { before = list; now = here }) sheet notes_tell
-      (record { before = list_notes; now = here_notes })
-      → texts ≡ [] → AppendsFront sheet here.written there.written → AppendsFront (listed old all) list.written there.written
-  amid_rest texts on a e front =
-      subst (λ t. AppendsFront t list.written there.written) (append-nil (listed old a.front) ∙ ap (listed old) (all_front a.front texts a.all_are e))
-      (text_then ends.Write list here there (listed old a.front) [] sheet (a.poured on)
-      (subst (λ t. AppendsFront t here.written there.written) (sym (append-nil sheet)) front))
-
-  pub amid_last : (texts : List (List ℕ)) (sheet' : List ℕ)
-      → IsAmid old now count at all texts out_tells (record { before = list; now = here }) sheet notes_tell
-      (record { before = list_notes; now = here_notes })
-      → texts ≡ [] → sheet' ≡ [] → (IsTrue out_tells → Pours here.written sheet there.written sheet')
-      → ListsLines old now count at all out_tells (record { before = list; now = there }) notes_tell
-      (record { before = list_notes; now = here_notes })
-  amid_last texts sheet' a e none poured =
-      let is = all_front a.front texts a.all_are e in
-      record {
-        new_is = a.now_is ∙ ap (lister_behind old) is;
-        counted = a.counted ∙ ap (λ l. count + length l) is;
-        written = λ on.
-            let p = poured on in
-            let all_gone : sheet ++ [] ≡ p.gone = append-nil sheet ∙ p.sheet_is ∙ ap (λ t. p.gone ++ t) none ∙ append-nil p.gone in
-            text_then ends.Done list here there (listed old a.front) [] sheet (a.poured on)
-            (p.written_is ∙ ap (λ t. here.written ++ t) (sym all_gone))
-            ∙ ap (λ t. list.written ++ t) (append-nil (listed old a.front) ∙ ap (listed old) is);
-        noted = λ on. subst (λ l. IsNoted (noted (count + 1) old l) (record { before = list_notes; now = here_notes })) is (a.noted on);
-      }
+  pub amid_front : (text more waits : List ℕ) (there : SinkShown) → IsTrue out_tells → listed now texts ≡ text ++ more → waits ≡ sheet ++ text
+      → AppendsFront waits out.now.written there.written → AppendsFront (listed old all) out.before.written there.written
+  amid_front text more waits there on is waits_are front =
+      let first = listed old a.front in
+      subst (λ t. AppendsFront t out.before.written there.written)
+      (append_assoc first text more ∙ ap (λ t. first ++ t) (sym is ∙ ap (λ l. listed l texts) a.now_is)
+      ∙ sym (ap (listed old) a.all_are ∙ listed_more old a.front texts))
+      (front_first (first ++ text) more out.before.written there.written
+      (text_then ends.Write out.before out.now there first text sheet (a.poured on)
+      (subst (λ t. AppendsFront t out.now.written there.written) waits_are front)))
 
 -- ---- the limit
 
@@ -247,75 +146,85 @@ whole_full front behind more finished alone full =
 
 -- ---- between two reads
 
-pub stands_first : (first : Lister) (taken kept : List ℕ) (out_tells notes_tell : Bool) (list list_notes : SinkShown) → taken ≡ []
-    → kept ≡ [] → Stands first first 0 taken kept 0 out_tells (record { before = list; now = list }) notes_tell
-    (record { before = list_notes; now = list_notes })
-stands_first first taken kept out_tells notes_tell list list_notes none nothing = record {
-  front = [];
-  behind = [];
-  taken_is = none;
-  counted = ap length none;
-  finished = finished_none;
-  alone = refl;
-  kept_is = nothing;
-  listed = record {
-    new_is = refl;
-    counted = refl;
-    written = λ on. sym (append-nil list.written);
-    noted = λ on. none_noted list_notes;
-  };
+-- what a report's lines end with where all of them are listed
+ended_whole : {first now : Lister} {n : ℕ} {out_tells notes_tell : Bool} {out notes : Change SinkShown} (end : LinesEnd) (source : SourceShown)
+    (all : List (List ℕ)) → ListsLines first now 0 n all out_tells out notes_tell notes → EndsLines end source.taken source.left all
+    → (IsTrue out_tells → EndsText end (listed first all) out) → Ended first now end source out_tells out notes_tell notes
+ended_whole end source all told are written = record {
+  lines = all;
+  lines_are = are;
+  now_is = λ whole. told.new_is;
+  written = written;
+  noted = λ whole on. told.noted on;
 }
 
-module _ (first old now : Lister) (count bytes : ℕ) (taken kept : List ℕ) (out_tells notes_tell : Bool)
-    (list here there list_notes here_notes there_notes : SinkShown)
-    (before : list_notes.faults ≤ here_notes.faults) (later : here_notes.faults ≤ there_notes.faults)
-    (s : Stands first old count taken kept bytes out_tells (record { before = list; now = here }) notes_tell
-    (record { before = list_notes; now = here_notes })) where
-  taken_then : (added page rest taken' : List ℕ) (cut : IsCut s.behind added page rest) → taken' ≡ taken ++ added
-      → taken' ≡ (s.front ++ cut.front) ++ cut.open_bytes
-  taken_then added page rest taken' cut is =
-      is ∙ ap (λ t. t ++ added) s.taken_is ∙ append_assoc s.front s.behind added ∙ ap (λ t. s.front ++ t) cut.all
-      ∙ sym (append_assoc s.front cut.front cut.open_bytes)
+module _ {first old : Lister} {count bytes : ℕ} {taken kept : List ℕ} {out_tells notes_tell : Bool} {out notes : Change SinkShown}
+    (s : Stands first old count taken kept bytes out_tells out notes_tell notes) where
+  -- no more is read
+  pub ended_stopped : (end : LinesEnd) (source : SourceShown) (left : List ℕ) → bytes ≤ 1073741824
+      → StopsReading end bytes taken left source.taken source.left → Ended first old end source out_tells out notes_tell notes
+  ended_stopped ends.Read source left few stops =
+      ended_whole ends.Read source (lines s.front) s.listed
+      (sym (ap whole_lines (stops.back ∙ append-nil taken ∙ s.taken_is)
+      ∙ whole_short s.front s.behind s.finished s.alone (omega (arith, s.counted, ap length s.taken_is)))) (λ on. s.listed.written on)
+  ended_stopped ends.Cut source left few stops =
+      let added = stops.1.0 in
+      let moves = stops.1.1.1 in
+      let more = ap length moves.back ∙ length-append taken added in
+      let all = length-append source.taken source.left in
+      ended_whole ends.Cut source (lines s.front) s.listed (
+        over (source.taken ++ source.left) (omega (arith, stops.0, stops.1.1.0, s.counted)),
+        sym (ap whole_lines (moves.back ∙ ap (λ t. t ++ added) s.taken_is)
+            ∙ whole_full s.front s.behind added s.finished s.alone (omega (arith, stops.0, s.counted, ap length s.taken_is))),
+      ) (λ on. s.listed.written on)
+  ended_stopped _ source left few stops = absurd stops
 
-  pub stands_then : (added page rest taken' kept' : List ℕ) (count' bytes' : ℕ) → IsCut s.behind added page rest → kept' ≡ take 8194 rest
-      → taken' ≡ taken ++ added
-      → bytes' ≡ bytes + length added
-      → ListsLines old now count count' (lines page) out_tells (record { before = here; now = there }) notes_tell
-      (record { before = here_notes; now = there_notes })
-      → Stands first now count' taken' kept' bytes' out_tells (record { before = list; now = there }) notes_tell
-      (record { before = list_notes; now = there_notes })
-  stands_then added page rest taken' kept' count' bytes' cut keeps is more two = record {
-    front = s.front ++ cut.front;
-    behind = cut.open_bytes;
-    taken_is = taken_then added page rest taken' cut is;
-    counted =
-        let len = ap length is ∙ length-append taken added in
-        let own = s.counted in
-        omega arith;
-    finished = finished_both s.front cut.front s.finished cut.finished;
-    alone = cut.alone;
-    kept_is = keeps ∙ cut.kept;
-    listed =
-        subst (λ l. ListsLines first now 0 count' l out_tells (record { before = list; now = there }) notes_tell
-        (record { before = list_notes; now = there_notes })) (sym (s.finished.follow cut.front))
-        (lists_then first old now count count' (lines s.front) (lines page) (lines cut.front) out_tells notes_tell list here there
-        list_notes here_notes there_notes cut.alike before later s.listed two);
-  }
+  -- lines that say the same as others, behind those that are listed
+  listed_joined : (ls ls' : List (List ℕ)) → Alike ls ls'
+      → listed first (lines s.front) ++ listed old ls ≡ listed first (lines s.front ++ ls')
+  listed_joined ls ls' same =
+      ap (λ t. listed first (lines s.front) ++ t) ((alike 0 old ls ls' same).list ∙ ap (λ l. listed l ls') s.listed.new_is)
+      ∙ sym (listed_more first (lines s.front) ls')
+
+  lists_then : {now : Lister} (count' : ℕ) (ls ls' : List (List ℕ)) (there there_notes : SinkShown)
+      → notes.before.faults ≤ notes.now.faults → notes.now.faults ≤ there_notes.faults → Alike ls ls'
+      → ListsLines old now count count' ls out_tells (onward out there) notes_tell (onward notes there_notes)
+      → ListsLines first now 0 count' (lines s.front ++ ls') out_tells (through out there) notes_tell (through notes there_notes)
+  lists_then count' ls ls' there there_notes before later same two =
+      let one = s.listed in
+      let xs = lines s.front in
+      let said = alike (count + 1) old ls ls' same in
+      record {
+        new_is = two.new_is ∙ said.behind ∙ ap (λ l. lister_behind l ls') one.new_is ∙ sym (behind_more first xs ls');
+        counted = omega (arith, one.counted, two.counted, with_length (λ x y. said_of x ≡ said_of y) ls ls' same, length-append xs ls');
+        written = λ on.
+            two.written on ∙ ap (λ w. w ++ listed old ls) (one.written on)
+            ∙ append_assoc out.before.written (listed first xs) (listed old ls)
+            ∙ ap (λ t. out.before.written ++ t) (listed_joined ls ls' same);
+        noted = λ on.
+            let number : count + 1 ≡ 1 + length xs = omega (arith, one.counted) in
+            subst (λ t. IsNoted t (through notes there_notes))
+            (ap (λ t. noted 1 first xs ++ t) (said.notes ∙ ap (λ l. noted (count + 1) l ls') one.new_is)
+            ∙ sym (noted_more 1 (count + 1) first xs ls' number))
+            (noted_then notes.before notes.now there_notes (noted 1 first xs) (noted (count + 1) old ls) before later (one.noted on) (two.noted on));
+      }
 
   -- the lines end with a front of the list
-  part_listed : (end : LinesEnd) (source : SourceShown) (ls ls' more : List (List ℕ)) → is_whole end ≡ false → Alike ls ls'
-      → all_lines source.taken ≡ (lines s.front ++ ls') ++ more
-      → (IsTrue out_tells → AppendsFront (listed old ls) here.written there.written)
-      → Ended first now end source out_tells (record { before = list; now = there }) notes_tell
-      (record { before = list_notes; now = there_notes })
-  part_listed end source ls ls' more off alike all front = record {
+  part_listed : {now : Lister} (end : LinesEnd) (source : SourceShown) (there there_notes : SinkShown) (ls ls' more : List (List ℕ))
+      → is_whole end ≡ false → Alike ls ls' → all_lines source.taken ≡ (lines s.front ++ ls') ++ more
+      → (IsTrue out_tells → AppendsFront (listed old ls) out.now.written there.written)
+      → Ended first now end source out_tells (through out there) notes_tell (through notes there_notes)
+  part_listed end source there there_notes ls ls' more off alike all front = record {
     lines = all_lines source.taken;
     lines_are = are end off;
     now_is = λ whole. clash whole;
-    written = λ on. part_text end (listed first (all_lines source.taken)) (record { before = list; now = there }) off
-        (subst (λ l. AppendsFront (listed first l) list.written there.written) (sym all)
-        (front_then first old (lines s.front) ls ls' more list.written here.written there.written s.listed.new_is alike (s.listed.written on)
-        (front on)));
+    written = λ on. part_text end (listed first (all_lines source.taken)) (through out there) off
+        (subst (λ t. AppendsFront t out.before.written there.written)
+        (ap (λ t. t ++ listed (lister_behind first (lines s.front ++ ls')) more) (listed_joined ls ls' alike)
+        ∙ sym (listed_more first (lines s.front ++ ls') more) ∙ ap (listed first) (sym all))
+        (front_first (listed first (lines s.front) ++ listed old ls) (listed (lister_behind first (lines s.front ++ ls')) more) out.before.written
+        there.written (front_behind (listed first (lines s.front)) (listed old ls) out.before.written out.now.written there.written
+        (s.listed.written on) (front on))));
     noted = λ whole on. clash whole;
   }
     where
@@ -327,19 +236,6 @@ module _ (first old now : Lister) (count bytes : ℕ) (taken kept : List ℕ) (o
       are ends.Memory is = refl
       are _ is = absurd cc
 
-  pub ended_amid : (end : LinesEnd) (source : SourceShown) (added page rest : List ℕ) (bytes' : ℕ) → is_whole end ≡ false
-      → IsCut s.behind added page rest → source.taken ≡ taken ++ added → bytes' ≡ bytes + length added → bytes' ≤ 1073741824
-      → (IsTrue out_tells → AppendsFront (listed old (lines page)) here.written there.written)
-      → Ended first now end source out_tells (record { before = list; now = there }) notes_tell
-      (record { before = list_notes; now = there_notes })
-  ended_amid end source added page rest bytes' off cut is more few front =
-      let len = ap length is ∙ length-append taken added in
-      let own = s.counted in
-      let finished = finished_both s.front cut.front s.finished cut.finished in
-      part_listed end source (lines page) (lines cut.front) (lines cut.open_bytes) off cut.alike
-      (all_within source.taken (not_over source.taken (omega arith)) ∙ ap lines (taken_then added page rest source.taken cut is)
-      ∙ finished.follow cut.open_bytes ∙ ap (λ l. l ++ lines cut.open_bytes) (s.finished.follow cut.front)) front
-
   -- the last page
   last_alike : (page : List ℕ) → page ≡ kept → Alike (lines page) (lines s.behind)
   last_alike page is =
@@ -348,110 +244,87 @@ module _ (first old now : Lister) (count bytes : ℕ) (taken kept : List ℕ) (o
 
   last_lines : bytes ≤ 1073741824 → (taken' : List ℕ) → taken' ≡ taken → (is_over taken' ≡ false) × (all_lines taken' ≡ lines s.front ++ lines s.behind)
   last_lines few taken' is =
-      let own = s.counted in
-      let len = ap length is in
-      let within = not_over taken' (omega arith) in
+      let within = not_over taken' (omega (arith, few, s.counted, ap length is)) in
       (within, all_within taken' within ∙ ap lines (is ∙ s.taken_is) ∙ s.finished.follow s.behind)
 
-  pub ended_part : (end : LinesEnd) (source : SourceShown) (page : List ℕ) → is_whole end ≡ false → page ≡ kept → source.taken ≡ taken
-      → bytes ≤ 1073741824 → (IsTrue out_tells → AppendsFront (listed old (lines page)) here.written there.written)
-      → Ended first now end source out_tells (record { before = list; now = there }) notes_tell
-      (record { before = list_notes; now = there_notes })
-  ended_part end source page off same is few front =
-      part_listed end source (lines page) (lines s.behind) [] off (last_alike page same)
-      ((last_lines few source.taken is).1 ∙ sym (append-nil (lines s.front ++ lines s.behind))) front
+  pub ended_part : {now : Lister} (end : LinesEnd) (source : SourceShown) (page : List ℕ) (there there_notes : SinkShown) → is_whole end ≡ false
+      → page ≡ kept → source.taken ≡ taken → bytes ≤ 1073741824
+      → (IsTrue out_tells → AppendsFront (listed old (lines page)) out.now.written there.written)
+      → Ended first now end source out_tells (through out there) notes_tell (through notes there_notes)
+  ended_part end source page there there_notes off same is few =
+      part_listed end source there there_notes (lines page) (lines s.behind) [] off (last_alike page same)
+      ((last_lines few source.taken is).1 ∙ sym (append-nil (lines s.front ++ lines s.behind)))
 
-  pub ended_done : (source : SourceShown) (count' : ℕ) (page : List ℕ) → page ≡ kept → source.taken ≡ taken → source.left ≡ []
-      → bytes ≤ 1073741824 → ListsLines old now count count' (lines page) out_tells (record { before = here; now = there }) notes_tell
-      (record { before = here_notes; now = there_notes })
-      → Ended first now ends.Done source out_tells (record { before = list; now = there }) notes_tell
-      (record { before = list_notes; now = there_notes })
-  ended_done source count' page same is nothing few two =
+  pub ended_done : {now : Lister} (source : SourceShown) (count' : ℕ) (page : List ℕ) (there there_notes : SinkShown)
+      → notes.before.faults ≤ notes.now.faults → notes.now.faults ≤ there_notes.faults
+      → page ≡ kept → source.taken ≡ taken → source.left ≡ [] → bytes ≤ 1073741824
+      → ListsLines old now count count' (lines page) out_tells (onward out there) notes_tell (onward notes there_notes)
+      → Ended first now ends.Done source out_tells (through out there) notes_tell (through notes there_notes)
+  ended_done source count' page there there_notes before later same is nothing few two =
       let all = last_lines few source.taken is in
-      let told = lists_then first old now count count' (lines s.front) (lines page) (lines s.behind) out_tells notes_tell list here there
-      list_notes here_notes there_notes (last_alike page same) before later s.listed two in
-      record {
-        lines = lines s.front ++ lines s.behind;
-        lines_are = (nothing, all.0, sym all.1);
-        now_is = λ whole. told.new_is;
-        written = λ on. told.written on;
-        noted = λ whole on. told.noted on;
-      }
+      let told = lists_then count' (lines page) (lines s.behind) there there_notes before later (last_alike page same) two in
+      ended_whole ends.Done source (lines s.front ++ lines s.behind) told (nothing, all.0, sym all.1) (λ on. told.written on)
 
--- no more is read
-pub ended_stopped : (first old : Lister) (end : LinesEnd) (source : SourceShown) (count bytes : ℕ) (taken left kept : List ℕ)
-    (out_tells notes_tell : Bool)
-    (list here list_notes here_notes : SinkShown) → bytes ≤ 1073741824 → StopsReading end bytes taken left source.taken source.left
-    → Stands first old count taken kept bytes out_tells (record { before = list; now = here }) notes_tell
-    (record { before = list_notes; now = here_notes })
-    → Ended first old end source out_tells (record { before = list; now = here }) notes_tell
-    (record { before = list_notes; now = here_notes })
-ended_stopped first old ends.Read source count bytes taken left kept out_tells notes_tell list here list_notes here_notes few stops s =
-    let same : source.taken ≡ s.front ++ s.behind = stops.back ∙ append-nil taken ∙ s.taken_is in
-    let len = ap length s.taken_is in
-    let own = s.counted in
-    record {
-      lines = lines s.front;
-      lines_are = sym (ap whole_lines same ∙ whole_short s.front s.behind s.finished s.alone (omega arith));
-      now_is = λ whole. s.listed.new_is;
-      written = λ on. s.listed.written on;
-      noted = λ whole on. s.listed.noted on;
+  -- more was read, and cut behind its last newline
+  pub cut_of_page : (new seen shown whole : List ℕ) (end : ℕ) → take (length kept) new ≡ kept → seen ≡ new → shown ≡ new
+      → whole ≡ take end shown → EndsAt seen end → IsCut s.behind (drop (length kept) new) whole (drop end new)
+  cut_of_page new seen shown whole end same seen_is shown_is whole_is ends =
+      let all : new ≡ kept ++ drop (length kept) new =
+      sym (take-append-drop (length kept) new) ∙ ap (λ k. k ++ drop (length kept) new) same in
+      let cut = cut_at kept s.behind (drop (length kept) new) end s.kept_is s.alone (subst (λ b. EndsAt b end) (seen_is ∙ all) ends) in
+      rw (whole_is, shown_is) (subst (λ b. IsCut s.behind (drop (length kept) new) (take end b) (drop end b)) (sym all) cut)
+
+  module _ {added page rest : List ℕ} (cut : IsCut s.behind added page rest) (taken' : List ℕ) (is : taken' ≡ taken ++ added)
+      (there there_notes : SinkShown) where
+    taken_then : taken' ≡ (s.front ++ cut.front) ++ cut.open_bytes
+    taken_then =
+        is ∙ ap (λ t. t ++ added) s.taken_is ∙ append_assoc s.front s.behind added ∙ ap (λ t. s.front ++ t) cut.all
+        ∙ sym (append_assoc s.front cut.front cut.open_bytes)
+
+    taken_len : length taken' ≡ bytes + length added
+    taken_len = omega (arith, s.counted, ap length is, length-append taken added)
+
+    finished : IsFinished (s.front ++ cut.front)
+    finished = finished_both s.front cut.front s.finished cut.finished
+
+    pub stands_then : {now : Lister} (kept' : List ℕ) (count' bytes' : ℕ) → notes.before.faults ≤ notes.now.faults
+        → notes.now.faults ≤ there_notes.faults → kept' ≡ take 8194 rest → bytes' ≡ bytes + length added
+        → ListsLines old now count count' (lines page) out_tells (onward out there) notes_tell (onward notes there_notes)
+        → Stands first now count' taken' kept' bytes' out_tells (through out there) notes_tell (through notes there_notes)
+    stands_then {now} kept' count' bytes' before later keeps more two = record {
+      front = s.front ++ cut.front;
+      behind = cut.open_bytes;
+      taken_is = taken_then;
+      counted = taken_len ∙ sym more;
+      finished = finished;
+      alone = cut.alone;
+      kept_is = keeps ∙ cut.kept;
+      listed =
+          subst (λ l. ListsLines first now 0 count' l out_tells (through out there) notes_tell (through notes there_notes))
+          (sym (s.finished.follow cut.front))
+          (lists_then count' (lines page) (lines cut.front) there there_notes before later cut.alike two);
     }
-ended_stopped first old ends.Cut source count bytes taken left kept out_tells notes_tell list here list_notes here_notes few stops s =
-    let added = stops.1.0 in
-    let moves = stops.1.1.1 in
-    let some = stops.1.1.0 in
-    let least = stops.0 in
-    let same : source.taken ≡ (s.front ++ s.behind) ++ added = moves.back ∙ ap (λ t. t ++ added) s.taken_is in
-    let len = ap length s.taken_is in
-    let own = s.counted in
-    let more = ap length moves.back ∙ length-append taken added in
-    let all = length-append source.taken source.left in
-    record {
-      lines = lines s.front;
-      lines_are = (
-        over (source.taken ++ source.left) (omega arith),
-        sym (ap whole_lines same ∙ whole_full s.front s.behind added s.finished s.alone (omega arith)),
-      );
-      now_is = λ whole. s.listed.new_is;
-      written = λ on. s.listed.written on;
-      noted = λ whole on. s.listed.noted on;
-    }
-ended_stopped first old _ source count bytes taken left kept out_tells notes_tell list here list_notes here_notes few stops s =
-    absurd stops
+
+    pub ended_amid : {now : Lister} (end : LinesEnd) (source : SourceShown) (bytes' : ℕ) → source.taken ≡ taken' → is_whole end ≡ false
+        → bytes' ≡ bytes + length added → bytes' ≤ 1073741824
+        → (IsTrue out_tells → AppendsFront (listed old (lines page)) out.now.written there.written)
+        → Ended first now end source out_tells (through out there) notes_tell (through notes there_notes)
+    ended_amid end source bytes' same off more few =
+        part_listed end source there there_notes (lines page) (lines cut.front) (lines cut.open_bytes) off cut.alike
+        (ap all_lines same ∙ all_within taken' (not_over taken' (omega (arith, taken_len, more, few))) ∙ ap lines taken_then
+        ∙ finished.follow cut.open_bytes ∙ ap (λ l. l ++ lines cut.open_bytes) (s.finished.follow cut.front))
 
 -- ---- a page before a read and after it
 
 -- nothing more was read
-same_page : (old new : List ℕ) (n : ℕ) → n ≡ 0 → length new ≡ length old + n → take (length old) new ≡ old → new ≡ old
-same_page old new n none count kept = sym (take_all (length old) new (omega arith)) ∙ kept
-
-pub last_page : (old new page : List ℕ) (n : ℕ) → n ≡ 0 → length new ≡ length old + n → take (length old) new ≡ old → page ≡ new → page ≡ old
-last_page old new page n none count kept is = is ∙ same_page old new n none count kept
-
-nothing_more : (old new : List ℕ) (n : ℕ) → n ≡ 0 → length new ≡ length old + n → drop (length old) new ≡ []
-nothing_more old new n none count = nil_from_length (drop (length old) new) (let len = length-drop (length old) new in omega arith)
-
-pub last_taken : (old new taken left taken' left' : List ℕ) (n : ℕ) → n ≡ 0 → length new ≡ length old + n
-    → Moves (drop (length old) new) taken left taken' left' → taken' ≡ taken
-last_taken old new taken left taken' left' n none count moves =
-    moves.back ∙ ap (λ b. taken ++ b) (nothing_more old new n none count) ∙ append-nil taken
-
-pub last_left : (old new taken left taken' left' : List ℕ) (n : ℕ) → n ≡ 0 → length new ≡ length old + n
-    → Moves (drop (length old) new) taken left taken' left' → left ≡ [] → left' ≡ []
-last_left old new taken left taken' left' n none count moves nothing =
-    ap (λ b. b ++ left') (sym (nothing_more old new n none count)) ∙ sym moves.front ∙ nothing
-
--- more was read, and cut behind its last newline
-pub cut_of_page : (old new seen shown whole behind : List ℕ) (count : ℕ) → take (length old) new ≡ old → seen ≡ new → shown ≡ new
-    → whole ≡ take count shown → EndsAt seen count → old ≡ take 8194 behind → newlines behind ≡ 0
-    → IsCut behind (drop (length old) new) whole (drop count new)
-cut_of_page old new seen shown whole behind count kept seen_is shown_is whole_is ends is alone =
-    let all : new ≡ old ++ drop (length old) new =
-    sym (take-append-drop (length old) new) ∙ ap (λ k. k ++ drop (length old) new) kept in
-    let cut = cut_at old behind (drop (length old) new) count is alone (subst (λ b. EndsAt b count) (seen_is ∙ all) ends) in
-    subst (λ b. IsCut behind (drop (length old) new) b (drop count new)) (sym (whole_is ∙ ap (take count) shown_is))
-    (subst (λ b. IsCut behind (drop (length old) new) (take count b) (drop count b)) (sym all) cut)
+pub nothing_read : (old new taken left taken' left' : List ℕ) (n : ℕ) → n ≡ 0 → length new ≡ length old + n → take (length old) new ≡ old
+    → Moves (drop (length old) new) taken left taken' left' → (new ≡ old) × (taken' ≡ taken) × (left' ≡ left)
+nothing_read old new taken left taken' left' n none count kept moves =
+    let nothing : drop (length old) new ≡ [] = nil_from_length _ (let len = length-drop (length old) new in omega arith) in (
+      sym (take_all (length old) new (omega arith)) ∙ kept,
+      moves.back ∙ ap (λ b. taken ++ b) nothing ∙ append-nil taken,
+      sym (moves.front ∙ ap (λ b. b ++ left') nothing),
+    )
 
 pub more_bytes : (old new : List ℕ) (bytes n : ℕ) → length new ≡ length old + n → bytes + n ≡ bytes + length (drop (length old) new)
 more_bytes old new bytes n count = let len = length-drop (length old) new in omega arith

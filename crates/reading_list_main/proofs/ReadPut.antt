@@ -1,5 +1,5 @@
 -- What a record says, put piece by piece.
-use Rattle.std.proofs.Common.{◌≡◌, ℕ, ◌++◌, Bool, List, ap, sym, ◌∙◌, refl}
+use Rattle.std.proofs.Common.{◌≡◌, ℕ, ◌++◌, Bool, List, refl}
 use Rattle.record_values.specs.declared.units.Quantity.{Quantity}
 use Rattle.full_records.specs.declared.quantities.FullQuantity.{FullQuantity}
 use Rattle.full_records.specs.declared.quantities.FullUnitName.{FullUnitName}

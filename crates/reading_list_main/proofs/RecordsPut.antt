@@ -1,10 +1,11 @@
 -- Records whose lines are put one after another, up to the first fault.
-use Rattle.std.proofs.Common.{◌≡◌, ℕ, zero, suc, ◌+◌, ◌-◌, ◌<◌, List, [], Option, Some, None, Result, Ok, ap, ◌∙◌, refl, arith}
+use Rattle.std.proofs.Common.{◌≡◌, ℕ, ◌+◌, ◌-◌, ◌<◌, List, [], Option, Some, Result, Ok, ap, refl}
 use Rattle.std.specs.List.{flat_map, enumerate_from}
 use Rattle.dif_vif.specs.declared.fault.RecordFault.{RecordFault}
 use Rattle.dif_vif.specs.declared.span.RecordSpan.{RecordSpan}
 use Rattle.dif_vif.specs.Reading.{next_of}
 use Rattle.dif_vif.specs.Listing.{next_spans, spans_from}
+use Rattle.dif_vif.proofs.Left.{next_left}
 use Rattle.paper.specs.Puts.{Puts}
 use Rattle.paper.proofs.Calls.{none, then}
 use Rattle.paper.proofs.Items.{is_put}
@@ -14,28 +15,12 @@ use Rattle.reading_list_main.specs.RecordLines.{next_fault, fault_from}
 pub spans_next : (n : ℕ) (payload : List ℕ) (from : ℕ) (next : Result (Option RecordSpan) RecordFault) → 0 < n → next_of payload from ≡ next
     → spans_from n payload from ≡ next_spans (spans_from (n - 1) payload) next
 unfolding spans_from
-spans_next zero payload from next some is = absurd (omega arith)
-spans_next (suc n) payload from next some is =
-    let one : n ≡ suc n - 1 = omega arith in
-    ap (next_spans (spans_from n payload)) is ∙ ap (λ m. next_spans (spans_from m payload) next) one
-
-pub no_spans : (n : ℕ) (payload : List ℕ) (from : ℕ) → n ≡ 0 → spans_from n payload from ≡ []
-unfolding spans_from
-no_spans zero payload from none = refl
-no_spans (suc n) payload from none = absurd (omega arith)
+spans_next n payload from = next_left (λ m. spans_from m payload from) (λ m. next_spans (spans_from m payload)) payload from (λ m. refl) n
 
 pub fault_next : (n : ℕ) (payload : List ℕ) (from : ℕ) (next : Result (Option RecordSpan) RecordFault) → 0 < n → next_of payload from ≡ next
     → fault_from n payload from ≡ next_fault (fault_from (n - 1) payload) next
 unfolding fault_from
-fault_next zero payload from next some is = absurd (omega arith)
-fault_next (suc n) payload from next some is =
-    let one : n ≡ suc n - 1 = omega arith in
-    ap (next_fault (fault_from n payload)) is ∙ ap (λ m. next_fault (fault_from m payload) next) one
-
-pub no_fault : (n : ℕ) (payload : List ℕ) (from : ℕ) → n ≡ 0 → fault_from n payload from ≡ None
-unfolding fault_from
-no_fault zero payload from none = refl
-no_fault (suc n) payload from none = absurd (omega arith)
+fault_next n payload from = next_left (λ m. fault_from m payload from) (λ m. next_fault (fault_from m payload)) payload from (λ m. refl) n
 
 -- a line is put
 pub line_more : {P : Type 0} {takes : P → List ℕ → P → Type 0} {p q r : P} (line : ℕ × RecordSpan → List ℕ) (n : ℕ) (payload : List ℕ)

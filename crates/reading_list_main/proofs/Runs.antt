@@ -1,18 +1,15 @@
 -- What a run comes to, by how its lines ended.
-use Rattle.std.proofs.Common.{◌≡◌, ℕ, ◌+◌, ◌≤◌, ◌⊎◌, ◌||◌, not, Bool, true, false, cond, List, [], ◌++◌, length, take, refl, sym, ap, ◌∙◌, subst, inl, inr, arith}
-use Rattle.std.specs.Prelude.{IsTrue}
-use Rattle.std.proofs.lemmas.Bool.{both_ways, cond-false, cond-true}
-use Rattle.std.proofs.lemmas.List.{append-nil}
+use Rattle.std.proofs.Common.{◌≡◌, ℕ, ◌+◌, ◌≤◌, ◌⊎◌, ◌||◌, not, Bool, true, false, cond, List, [], ◌++◌, refl, sym, ap, ◌∙◌, subst, inl, inr, IsTrue, append-nil}
+use Rattle.std.proofs.lemmas.Bool.{both_ways}
 use Rattle.outer_io.proofs.Fronts.{behind}
 use Rattle.outer_io.specs.Bytes.{AppendsFront}
-use Rattle.outer_io.specs.Shown.{Change, SinkShown, WriteFailed}
+use Rattle.outer_io.specs.Shown.{SinkShown, WriteFailed}
 use Rattle.line_teller.specs.declared.ending.LinesEnd.{LinesEnd}
 use Rattle.line_teller.specs.declared.ending.LinesEnd.TheVariants as ends
 use Rattle.line_teller.specs.Ending.{EndsText, IsNoted, is_whole}
-use Rattle.line_teller.proofs.Steps.{noted_then, none_noted, rose_then}
+use Rattle.line_teller.proofs.Steps.{noted_then, rose_then}
 use Rattle.reading_list_main.specs.declared.forms.Form.{Form}
 use Rattle.reading_list_main.specs.declared.lister.Lister.{Lister}
-use Rattle.reading_list_main.specs.declared.status.ListStatus.{ListStatus}
 use Rattle.reading_list_main.specs.declared.status.ListStatus.TheVariants as statuses
 use Rattle.reading_list_main.specs.RecordLines.{head_text}
 use Rattle.reading_list_main.specs.Notes.{ending_text}
@@ -62,17 +59,7 @@ front_behind form lines all before written is head front =
 
 module _ (run : Run) (head : SinkShown) (later : run.out.before.faults ≤ head.faults) (head_is : IsTrue run.list_tells
     → head.written ≡ head_text run.form)
-    (t : IsToldRun (record {
-      form = run.form;
-      report_tells = run.report_tells;
-      list_tells = run.list_tells;
-      notes_tell = run.notes_tell;
-      report = run.report;
-      out = record { before = head; now = run.out.now };
-      notes = run.notes;
-      status = run.status;
-    }))
-    (later_out : head.faults ≤ run.out.now.faults)
+    (t : IsToldRun (record run { out = record { before = head; now = run.out.now } })) (later_out : head.faults ≤ run.out.now.faults)
     (untaken : IsTrue run.report_tells → run.report.before.taken ≡ []) (unnoted : IsTrue run.notes_tell
     → run.notes.before.written ≡ []) where
   all_bytes : IsTrue run.report_tells → run.report.now.taken ++ run.report.now.left ≡ run.report.before.left

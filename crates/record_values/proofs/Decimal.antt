@@ -1,8 +1,7 @@
 -- The decimal digits of bytes, and the number of some of them.
-use Rattle.std.proofs.Common.{◌≡◌, ℕ, zero, suc, ◌*◌, ◌/◌, ◌%◌, ◌^◌, ◌<◌, ◌≤◌, Bool, true, leb, List, [], ◌∷◌, length, get_or, take, drop, refl, arith}
+use Rattle.std.proofs.Common.{◌≡◌, ℕ, zero, suc, ◌*◌, ◌/◌, ◌%◌, ◌^◌, ◌<◌, ◌≤◌, Bool, true, leb, List, [], ◌∷◌, length, get_or, take, drop, refl, arith, length-take, length-drop, take_all}
 use Rattle.std.specs.List.{list_all}
 use Rattle.std.proofs.lemmas.Bool.{leb-true, and_parts}
-use Rattle.std.proofs.lemmas.List.{length-take, length-drop, take_all}
 use Rattle.dif_vif.specs.Numbers.{low_first}
 use Rattle.dif_vif.proofs.Digits.{low_first-few}
 use Rattle.record_values.specs.Values.{digits_of}

@@ -1,7 +1,6 @@
 -- Whole numbers of at most fifteen bytes.
-use Rattle.std.proofs.Common.{◌≡◌, ℕ, ◌+◌, ◌^◌, ◌<◌, ◌≤◌, List, length, get_or, drop, arith}
+use Rattle.std.proofs.Common.{◌≡◌, ℕ, ◌+◌, ◌^◌, ◌<◌, ◌≤◌, List, length, get_or, drop, arith, length-drop, get_or-drop}
 use Rattle.std.proofs.Math.Nat.{pow-le-pow_right}
-use Rattle.std.proofs.lemmas.List.{length-drop, get_or-drop}
 use Rattle.dif_vif.specs.Numbers.{low_first}
 use Rattle.dif_vif.proofs.Digits.{low_first-below, low_first-few}
 

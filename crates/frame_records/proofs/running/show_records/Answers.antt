@@ -1,5 +1,4 @@
-use Rattle.std.proofs.Common.{refl, ap}
-use Rattle.std.specs.Prelude.{Err}
+use Rattle.std.proofs.Common.{refl, ap, Err}
 use Rattle.frame_records.proofs.Runs.{shown_run, unloaded_run}
 use Rattle.frame_records.proofs.running.show_records.Goals as goal
 

@@ -1,5 +1,4 @@
-use Rattle.std.proofs.Common.{◌≡◌, ◌≤◌, ◌+◌, ◌*◌, drop}
-use Rattle.std.specs.Prelude.{unsigned_abs}
+use Rattle.std.proofs.Common.{◌≡◌, ◌≤◌, ◌+◌, ◌*◌, drop, unsigned_abs}
 use Rattle.full_records.specs.Powers.{power_in, value_after}
 use Rattle.full_records.proofs.powers.value_after.Given as goal
 

@@ -1,5 +1,4 @@
-use Rattle.std.proofs.Common.{drop, sym, ◌∙◌, arith}
-use Rattle.std.proofs.lemmas.List.{length-take, length-drop}
+use Rattle.std.proofs.Common.{drop, sym, ◌∙◌, arith, length-take, length-drop}
 use Rattle.dif_vif.proofs.Spans.{LiesWithin-from_span}
 use Rattle.full_records.proofs.Places.{vife_of_code}
 use Rattle.full_records.proofs.records.further_vifes.Goals as goal

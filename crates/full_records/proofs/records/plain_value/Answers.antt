@@ -1,5 +1,4 @@
-use Rattle.std.proofs.Common.{arith}
-use Rattle.std.specs.Int.{w8}
+use Rattle.std.proofs.Common.{arith, w8}
 use Rattle.std.proofs.lemmas.Int.{to_z-of_z}
 use Rattle.dif_vif.proofs.Spans.{LiesWithin-from_span}
 use Rattle.full_records.proofs.Plain.{width_of_data}

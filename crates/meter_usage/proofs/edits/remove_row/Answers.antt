@@ -4,19 +4,15 @@ use Rattle.meter_usage.proofs.edits.remove_row.Goals as goal
 
 pub mend_at-requires-clause-there : goal.mend_at-requires-clause-there
 mend_at-requires-clause-there c =
-    kept_there c.args.address c.args.meters.now.entries c.args.sums.now.entries c.args.sums.now.entries c.args.place c.requires.kept
-    (λ q. refl) c.requires.place
+    kept_there c.requires.kept c.args.sums.now.entries (λ q. refl) c.args.address c.args.place c.requires.place
 
 pub mend_at-requires-clause-fitting : goal.mend_at-requires-clause-fitting
-mend_at-requires-clause-fitting c =
-    kept_fits c.args.meters.now.entries c.args.sums.now.entries c.args.sums.now.entries c.requires.kept (λ q. refl)
+mend_at-requires-clause-fitting c = kept_fits c.requires.kept c.args.sums.now.entries (λ q. refl)
 
 pub mend_at-requires-clause-totals : goal.mend_at-requires-clause-totals
-mend_at-requires-clause-totals c =
-    kept_before c.args.address c.args.meters.now.entries c.args.sums.now.entries c.args.sums.now.entries c.requires.kept (λ q. refl)
+mend_at-requires-clause-totals c = kept_before c.requires.kept c.args.sums.now.entries (λ q. refl) c.args.address
 
 pub returns-clause-kept : goal.returns-clause-kept
 returns-clause-kept c =
-    kept_removed c.args.address c.args.meters.now.entries c.take.new.meters.entries c.args.sums.now.entries
-    c.mend_at.new.sums.entries c.requires.kept c.args.place c.requires.place
+    kept_removed c.requires.kept c.mend_at.new.sums.entries c.args.address c.take.new.meters.entries c.args.place c.requires.place
     c.take.ensures c.mend_at.ensures.totals

@@ -1,5 +1,4 @@
-use Rattle.std.proofs.Common.{ap}
-use Rattle.std.specs.List.{filter_map}
+use Rattle.std.proofs.Common.{ap, filter_map}
 use Rattle.dif_vif.proofs.Listed.{listed}
 use Rattle.meter_usage.specs.Amounts.{given, amount_at}
 use Rattle.meter_usage.proofs.laws.amounts_are_of_the_listing.Goals as goal

@@ -14,7 +14,6 @@ pub loop-key-preserved : goal.loop-key-preserved
 loop-key-preserved c = (
   tt,
   tt,
-  room_step c.args.row.now c.in-Some.key.now c.next.new.self c.loop-key.key-iterator c.args.sums.now.entries c.loop-key.sums.entries
-      c.room_at.new.sums.entries
-      c.loop-key.invariant.2 c.in-Some.ensures.steps c.room_at.ensures.same c.room_at.ensures.stays c.in_ok-room_at.ensures.here,
+  room_step c.in-Some.key.now c.room_at.new.sums.entries c.loop-key.invariant.2 c.in-Some.ensures.steps c.room_at.ensures.same
+      c.room_at.ensures.stays c.in_ok-room_at.ensures.here,
 )

@@ -18,18 +18,18 @@ loop-key-init c =
     (tt, tt, subst (λ ks. IsMending before after sums sums ks) (sym keys) start)
 
 pub change_at-requires-clause-there : goal.change_at-requires-clause-there
-change_at-requires-clause-there c = (next_waits _ _ _ _ _ _ _ c.loop-key.invariant.2 c.in-Some.ensures.steps).0
+change_at-requires-clause-there c = (next_waits c.loop-key.invariant.2 c.in-Some.ensures.steps).0
 
 pub change_at-requires-clause-fitting : goal.change_at-requires-clause-fitting
 change_at-requires-clause-fitting c =
-    subst (IsFitting (2 ^ 100)) (sym (next_waits _ _ _ _ _ _ _ c.loop-key.invariant.2 c.in-Some.ensures.steps).1)
+    subst (IsFitting (2 ^ 100)) (sym (next_waits c.loop-key.invariant.2 c.in-Some.ensures.steps).1)
     (c.requires.fitting c.in-Some.key.now)
 
 pub change_at-requires-clause-counted : goal.change_at-requires-clause-counted
 change_at-requires-clause-counted c =
     let counted = c.requires.counted c.in-Some.key.now in (
       counted.0,
-      (next_waits _ _ _ _ _ _ _ c.loop-key.invariant.2 c.in-Some.ensures.steps).1 ∙ counted.1
+      (next_waits c.loop-key.invariant.2 c.in-Some.ensures.steps).1 ∙ counted.1
           ∙ ap (λ o. with_usage o counted.0) (sym c.usages-before.ensures.before),
     )
 
@@ -37,8 +37,6 @@ pub loop-key-preserved : goal.loop-key-preserved
 loop-key-preserved c = (
   tt,
   tt,
-  mending_step _ _ c.args.sums.now.entries c.loop-key.sums.entries c.change_at.new.sums.entries
-      c.in-Some.key.now c.next.new.self c.loop-key.key-iterator _ _
-      c.loop-key.invariant.2 c.in-Some.ensures.steps c.usages-before.ensures.before c.usages-before.ensures.after c.change_at.ensures.here
-      c.change_at.ensures.others c.change_at.ensures.stays,
+  mending_step c.loop-key.invariant.2 c.in-Some.ensures.steps c.change_at.new.sums.entries c.usages-before.ensures.before
+      c.usages-before.ensures.after c.change_at.ensures.here c.change_at.ensures.others c.change_at.ensures.stays,
 )

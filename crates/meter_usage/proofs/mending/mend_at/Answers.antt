@@ -1,5 +1,4 @@
-use Rattle.std.proofs.Common.{◌≡◌, [], sym, ap, ◌∙◌, remove}
-use Rattle.std.specs.Option.{unwrap_or}
+use Rattle.std.proofs.Common.{◌≡◌, [], sym, ap, ◌∙◌, remove, unwrap_or}
 use Rattle.std.specs.Map.{remove_entry}
 use Rattle.meter_usage.specs.Usage.{side, usage_at}
 use Rattle.meter_usage.specs.Sums.{with_usage, total_at}

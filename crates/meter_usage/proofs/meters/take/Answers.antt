@@ -1,6 +1,5 @@
-use Rattle.std.proofs.Common.{sym, ap, ◌∙◌, ◌<◌, [], length, remove, subst}
+use Rattle.std.proofs.Common.{sym, ap, ◌∙◌, ◌<◌, [], length, remove, subst, unwrap_or}
 use Rattle.std.specs.Map.{set_value}
-use Rattle.std.specs.Option.{unwrap_or}
 use Rattle.meter_usage.specs.Table.{same}
 use Rattle.meter_usage.proofs.Tables.{written_as, remove_some}
 use Rattle.meter_usage.proofs.meters.take.Goals as goal

@@ -1,8 +1,10 @@
 -- Up to the first fault each record's line stands behind those before it.
 use Rattle.std.proofs.Common.{◌≡◌, ◌<◌, sym, ap, ◌∙◌, subst, IfSome, Ok, Err, Some, None, arith}
 use Rattle.dif_vif.specs.Spans.{LiesWithin}
+use Rattle.dif_vif.specs.Listing.{spans_from}
 use Rattle.dif_vif.specs.Reading.{next_of}
-use Rattle.reading_list_main.proofs.RecordsPut.{spans_next, no_spans, fault_next, no_fault, line_more, lines_end}
+use Rattle.reading_list_main.specs.RecordLines.{fault_from}
+use Rattle.reading_list_main.proofs.RecordsPut.{spans_next, fault_next, line_more, lines_end}
 use Rattle.reading_list_main.proofs.record_lines.put_records.Goals as goal
 
 pub returns-in-Err : goal.returns-in-Err
@@ -44,9 +46,11 @@ records-preserved g c =
     }
 
 pub returns : goal.returns
+unfolding spans_from fault_from
 returns g c =
     let none : c.records.left ≡ 0 = omega (arith, c.records-test.false) in
     record {
-      text = c.records.invariant.text _ (lines_end _ c.records.left _ c.records.from _ (no_spans c.records.left _ c.records.from none));
-      fault = sym (no_fault c.records.left _ c.records.from none) ∙ c.records.invariant.fault;
+      text = c.records.invariant.text _
+          (lines_end _ c.records.left _ c.records.from _ (ap (λ n. spans_from n c.args.step.now.payload.items c.records.from) none));
+      fault = sym (ap (λ n. fault_from n c.args.step.now.payload.items c.records.from) none) ∙ c.records.invariant.fault;
     }

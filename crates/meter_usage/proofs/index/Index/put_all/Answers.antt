@@ -19,15 +19,11 @@ pub loop-key-preserved : goal.loop-key-preserved
 loop-key-preserved c = (
   tt,
   tt,
-  changing_goes_on c.args.row.now (λ q es. with_put c.args.number (amount_at q c.args.row.now) es) c.args.self.now c.loop-key.self
-      c.in-Some.key.now c.next.new.self c.loop-key.key-iterator c.loop-key.invariant.2 c.in-Some.ensures.steps
-      c.put.new.self c.put.ensures.others
+  changing_goes_on c.loop-key.invariant.2 c.in-Some.ensures.steps c.put.new.self c.put.ensures.others
       (c.in_ok-put.ensures.ok ∙ ap (λ o. with_put c.args.number o (indexed c.in-Some.key.now c.loop-key.self)) c.amount.ensures.is),
 )
 
 pub returns-in_err-put-clause-err : goal.returns-in_err-put-clause-err
 returns-in_err-put-clause-err c =
     err_of c.from_residual.result
-    (changing_stopped c.args.row.now (λ q es. with_put c.args.number (amount_at q c.args.row.now) es) c.args.self.now c.loop-key.self
-    c.in-Some.key.now c.next.new.self c.loop-key.key-iterator c.loop-key.invariant.2 c.in-Some.ensures.steps
-    c.put.new.self c.put.ensures.others c.in_err-put.ensures.err)
+    (changing_stopped c.loop-key.invariant.2 c.in-Some.ensures.steps c.put.new.self c.put.ensures.others c.in_err-put.ensures.err)

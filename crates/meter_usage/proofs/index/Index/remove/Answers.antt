@@ -6,6 +6,5 @@ use Rattle.meter_usage.proofs.index.Index.remove.Goals as goal
 
 pub returns : goal.returns
 returns c = λ q.
-    gone c.args.number (amount_at q c.args.row.now) (indexed q c.args.self.now) (c.requires q) (indexed q c.set_all-3.new.self)
-    (c.set_all-3.ensures q ∙ ap (λ row. cond (is_some (amount_at q c.args.row.now))
+    gone (c.requires q) (c.set_all-3.ensures q ∙ ap (λ row. cond (is_some (amount_at q c.args.row.now))
     (with_set c.args.number (amount_at q row) (indexed q c.args.self.now)) (indexed q c.args.self.now)) c.nothing.ensures)

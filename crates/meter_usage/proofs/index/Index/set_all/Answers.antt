@@ -21,12 +21,8 @@ loop-key-preserved c =
     let now = indexed key c.loop-key.self in (
       tt,
       tt,
-      changing_goes_on c.args.keys.now
-          (λ q es. cond (is_some (amount_at q c.args.keys.now)) (with_set c.args.number (amount_at q c.args.row.now) es) es)
-          c.args.self.now c.loop-key.self key c.next.new.self c.loop-key.key-iterator c.loop-key.invariant.2 c.in-Some.ensures.steps
-          c.tidy.new.self (λ q e. c.tidy.ensures q ∙ c.set.ensures.others q e)
+      changing_goes_on c.loop-key.invariant.2 c.in-Some.ensures.steps c.tidy.new.self (λ q e. c.tidy.ensures q ∙ c.set.ensures.others q e)
           (c.tidy.ensures key ∙ c.set.ensures.here ∙ ap (λ o. with_set c.args.number o now) c.amount.ensures.is
           ∙ sym (ap (λ b. cond b (with_set c.args.number (amount_at key c.args.row.now) now) now)
-          (next_there c.args.keys.now _ c.args.self.now c.loop-key.self key c.next.new.self c.loop-key.key-iterator
-          c.loop-key.invariant.2 c.in-Some.ensures.steps))),
+          (next_there c.loop-key.invariant.2 c.in-Some.ensures.steps))),
     )

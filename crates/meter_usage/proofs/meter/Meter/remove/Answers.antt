@@ -2,20 +2,16 @@ use Rattle.std.proofs.Common.{map, remove, sym, ap, ◌∙◌, subst}
 use Rattle.indexmap.proofs.SetLemmas.{map-remove}
 use Rattle.meter_usage.specs.declared.rows.NumberedRow.{NumberedRow}
 use Rattle.meter_usage.specs.Indexed.{IsIndexed}
-use Rattle.meter_usage.proofs.Numbering.{place_within, place_stands, removed_indexed}
+use Rattle.meter_usage.proofs.Numbering.{place_stands, removed_indexed}
 use Rattle.meter_usage.proofs.meter.Meter.remove.Goals as goal
 
 pub remove-requires : goal.remove-requires
-remove-requires c =
-    place_stands c.self.inside.rows.items c.self.inside.next c.self.inside.index c.self.invariant c.args.place c.remove-gone.result
-    (place_within c.self.inside.rows.items c.args.self.now c.args.place c.self.view_is c.requires) c.remove-gone.ensures.value
+remove-requires c = place_stands c.self.invariant c.self.view_is c.args.place c.requires c.remove-gone.ensures.value
 
 pub invariant_of-self : goal.invariant_of-self
 invariant_of-self c =
     subst (λ rows. IsIndexed rows c.self.inside.next c.remove.new.self) (sym c.remove-gone.ensures.items)
-    (removed_indexed c.self.inside.rows.items c.self.inside.next c.self.inside.index c.self.invariant c.args.place c.remove-gone.result
-    (place_within c.self.inside.rows.items c.args.self.now c.args.place c.self.view_is c.requires) c.remove-gone.ensures.value
-    c.remove.new.self c.remove.ensures)
+    (removed_indexed c.self.invariant c.self.view_is c.args.place c.requires c.remove-gone.ensures.value c.remove.new.self c.remove.ensures)
 
 pub returns : goal.returns
 returns c =

@@ -1,20 +1,16 @@
-use Rattle.std.proofs.Common.{ap, ◌∙◌}
-use Rattle.std.specs.Prelude.{slice_set}
+use Rattle.std.proofs.Common.{ap, ◌∙◌, slice_set}
 use Rattle.std.proofs.lemmas.List.{map-set}
 use Rattle.meter_usage.specs.declared.rows.NumberedRow.{NumberedRow}
-use Rattle.meter_usage.proofs.Numbering.{place_within, place_stands, set_indexed}
+use Rattle.meter_usage.proofs.Numbering.{place_stands, set_indexed}
 use Rattle.meter_usage.proofs.meter.Meter.replace.Goals as goal
 
 pub change-requires : goal.change-requires
-change-requires c =
-    place_stands c.self.inside.rows.items c.self.inside.next c.self.inside.index c.self.invariant c.args.place c.index-old.result.now
-    (place_within c.self.inside.rows.items c.args.self.now c.args.place c.self.view_is c.requires) c.index-old.ensures
+change-requires c = place_stands c.self.invariant c.self.view_is c.args.place c.requires c.index-old.ensures
 
 pub invariant_of-self-2 : goal.invariant_of-self-2
 invariant_of-self-2 c =
-    set_indexed c.self.inside.rows.items c.self.inside.next c.self.inside.index c.self.invariant c.args.place c.index-old.result.now
-    (place_within c.self.inside.rows.items c.args.self.now c.args.place c.self.view_is c.requires) c.index-old.ensures
-    c.args.row c.change.new.self c.in_ok-change.ensures.ok
+    set_indexed c.self.invariant c.self.view_is c.args.place c.requires c.index-old.ensures c.args.row c.change.new.self
+    c.in_ok-change.ensures.ok
 
 pub returns-clause-ok : goal.returns-clause-ok
 returns-clause-ok c =

@@ -5,5 +5,4 @@ use Rattle.meter_usage.proofs.meter.Meter.usage.Goals as goal
 
 pub returns-clause-is : goal.returns-clause-is
 returns-clause-is c =
-    c.usage.ensures.is ∙ used_all c.self.inside.rows.items c.self.inside.next c.self.inside.index c.self.invariant c.args.key.now
-    ∙ ap (usage_at c.args.key.now) c.self.view_is
+    c.usage.ensures.is ∙ used_all c.self.invariant c.args.key.now ∙ ap (usage_at c.args.key.now) c.self.view_is

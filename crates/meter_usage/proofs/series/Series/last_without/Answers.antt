@@ -1,5 +1,4 @@
-use Rattle.std.proofs.Common.{◌^◌, Some, IfSome, sym, ap, ◌∙◌, subst}
-use Rattle.std.specs.Ordering.{nat_cmp}
+use Rattle.std.proofs.Common.{◌^◌, Some, IfSome, sym, ap, ◌∙◌, subst, nat_cmp}
 use Rattle.std.specs.List.Sorted.{IsStrictlySortedBy}
 use Rattle.std.specs.Map.{keys_of}
 use Rattle.std.specs.Map.Iter.{deref_pair}

@@ -1,5 +1,4 @@
-use Rattle.std.proofs.Common.{ℕ, ℤ, sym, ap, ◌∙◌, subst}
-use Rattle.std.specs.Ordering.{nat_cmp}
+use Rattle.std.proofs.Common.{ℕ, ℤ, sym, ap, ◌∙◌, subst, nat_cmp}
 use Rattle.std.specs.Map.{set_value}
 use Rattle.std.specs.BTreeMap.{BTreeMap, is_at}
 use Rattle.std.proofs.lemmas.Int.{to_z-of_z}

@@ -1,5 +1,4 @@
-use Rattle.std.proofs.Common.{sym, subst}
-use Rattle.std.specs.Ordering.{nat_cmp}
+use Rattle.std.proofs.Common.{sym, subst, nat_cmp}
 use Rattle.std.specs.BTreeMap.{is_at}
 use Rattle.meter_usage.specs.Amounts.{AreSmall}
 use Rattle.meter_usage.proofs.Small.{remove_small}

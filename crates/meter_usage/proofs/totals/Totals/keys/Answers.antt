@@ -1,6 +1,5 @@
 -- The keys whose sums count a meter are in order, and they are those of the rows' amounts.
-use Rattle.std.proofs.Common.{sym, ap, ◌∙◌}
-use Rattle.std.specs.Prelude.{nat_lt}
+use Rattle.std.proofs.Common.{sym, ap, ◌∙◌, nat_lt}
 use Rattle.meter_usage.specs.declared.sums.Sum.{Sum}
 use Rattle.meter_usage.specs.Sums.{total_at}
 use Rattle.meter_usage.specs.Edits.{rows_after}

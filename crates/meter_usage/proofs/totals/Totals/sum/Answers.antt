@@ -1,5 +1,4 @@
-use Rattle.std.proofs.Common.{◌≡◌, ◌^◌, ap, sym, subst}
-use Rattle.std.specs.Option.{unwrap_or}
+use Rattle.std.proofs.Common.{◌≡◌, ◌^◌, ap, sym, subst, unwrap_or}
 use Rattle.meter_usage.specs.declared.sums.Sum.{Sum}
 use Rattle.meter_usage.specs.Amounts.{IsWithin}
 use Rattle.meter_usage.specs.Sums.{no_sum, sum_at}
