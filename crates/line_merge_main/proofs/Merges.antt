@@ -22,12 +22,10 @@ taking : (line : Timed) (P : ℕ → (before after : List (List Timed)) → Type
     → ((place : ℕ) (input : List Timed) (before after : List (List Timed)) → P place before after
     → P (suc place) (input ∷ before) (input ∷ after))
     → (place : ℕ) (before after : List (List Timed)) → Takes place line before after → P place before after
-taking line P here there place [] after t = absurd t
-taking line P here there zero (input ∷ inputs) [] t = absurd t
-taking line P here there (suc place) (input ∷ inputs) [] t = absurd t
 taking line P here there zero (input ∷ inputs) (left ∷ later) t = rw (t.0, t.1) (here left inputs)
 taking line P here there (suc place) (input ∷ inputs) (left ∷ later) t =
     rw t.0 (there place input inputs later (taking line P here there place inputs later t.1))
+taking line P here there _ _ _ t = absurd t
 
 taken_here : (place : ℕ) (line : Timed) (before after : List (List Timed)) → Takes place line before after
     → input_at before place ≡ line ∷ input_at after place
@@ -36,14 +34,12 @@ taken_here place line = taking line (λ place before after. input_at before plac
 
 taken_there : (place other : ℕ) (line : Timed) (before after : List (List Timed)) → Takes place line before after
     → (place ≡ other → ⊥) → input_at before other ≡ input_at after other
-taken_there place other line [] after t unlike = absurd t
-taken_there zero other line (input ∷ inputs) [] t unlike = absurd t
-taken_there (suc place) other line (input ∷ inputs) [] t unlike = absurd t
 taken_there zero zero line (input ∷ inputs) (left ∷ later) t unlike = absurd (unlike refl)
 taken_there zero (suc other) line (input ∷ inputs) (left ∷ later) t unlike = ap (λ xs. input_at xs other) (sym t.1)
 taken_there (suc place) zero line (input ∷ inputs) (left ∷ later) t unlike = sym t.0
 taken_there (suc place) (suc other) line (input ∷ inputs) (left ∷ later) t unlike =
     taken_there place other line inputs later t.1 (λ e. unlike (ap suc e))
+taken_there _ other line _ _ t unlike = absurd t
 
 keep_by : (b : Bool) (m : Merged) (merged : List Merged) (before after : List (List Timed)) (place : ℕ) → (m.place == place) ≡ b
     → Takes m.place m.line before after → lines_from place merged ≡ input_at after place
@@ -122,15 +118,12 @@ one_place heads a b x y =
 -- inputs give one line at a place, and leave the same
 one_taking : (place : ℕ) (a b : Timed) (before c d : List (List Timed)) → Takes place a before c → Takes place b before d
     → (a ≡ b) × (c ≡ d)
-one_taking place a b [] c d x y = absurd x
-one_taking zero a b (input ∷ inputs) [] d x y = absurd x
-one_taking (suc place) a b (input ∷ inputs) [] d x y = absurd x
-one_taking zero a b (input ∷ inputs) (left ∷ later) [] x y = absurd y
-one_taking (suc place) a b (input ∷ inputs) (left ∷ later) [] x y = absurd y
 one_taking zero a b (input ∷ inputs) (left ∷ later) (left' ∷ later') x y =
     let e : a ∷ left ≡ b ∷ left' = sym x.0 ∙ y.0 in (cc, cc (x.1, y.1))
 one_taking (suc place) a b (input ∷ inputs) (left ∷ later) (left' ∷ later') x y =
     let rest = one_taking place a b inputs later later' x.1 y.1 in (rest.0, λ i. (x.0 ∙ sym y.0) i ∷ rest.1 i)
+one_taking _ a b (input ∷ inputs) (left ∷ later) [] x y = absurd y
+one_taking _ a b _ _ _ x y = absurd x
 
 -- two merges, or beginnings of merges, of the same inputs begin with the same line, and leave the same
 record IsOneStep (m n : Merged) (after after' : List (List Timed)) : Type 0 where

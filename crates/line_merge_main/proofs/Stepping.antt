@@ -1,10 +1,10 @@
 -- Lines that are passed on, one after another, and what a merge comes to.
-use Rattle.std.proofs.Common.{ℕ, ◌≡◌, ◌+◌, ◌≤◌, Bool, true, false, List, [], ◌∷◌, ◌++◌, length, take, get_or, slice_set, Option, Err, arith, refl, sym, ap, subst, ◌∙◌, append_assoc, inl, inr}
+use Rattle.std.proofs.Common.{ℕ, ◌≡◌, ◌+◌, ◌≤◌, Bool, true, false, List, [], ◌∷◌, ◌++◌, get_or, slice_set, Option, Err, refl, sym, ap, subst, ◌∙◌, append_assoc, inl, inr}
 use Rattle.std.specs.Prelude.{IsTrue}
-use Rattle.std.proofs.lemmas.List.{append-nil, length-append}
-use Rattle.std.proofs.Math.Seq.{take-append-add}
+use Rattle.std.proofs.lemmas.List.{append-nil}
 use Rattle.outer_io.specs.declared.sources.Source as sources
 use Rattle.outer_io.specs.Bytes.{AppendsFront}
+use Rattle.outer_io.proofs.Fronts.{behind, both}
 use Rattle.lists.specs.Each.{Each, EachWith}
 use Rattle.outer_io.specs.Shown.{Change, SinkShown, LosesNothing}
 use Rattle.line_reader.specs.Reader.{TextReading}
@@ -63,8 +63,7 @@ stands_more numbered place inputs left after before now next stands least passes
     record {
       merged = stands.merged ++ m ∷ [];
       merges = merges_more inputs left after stands.merged m stands.merges least passes.takes;
-      written = passes.written ∙ ap (λ t. t ++ merged_text numbered m) stands.written
-          ∙ append_assoc before (merge_text numbered stands.merged) (merged_text numbered m)
+      written = both (merge_text numbered stands.merged) (merged_text numbered m) before now next stands.written passes.written
           ∙ ap (λ t. before ++ t) (sym (text_more numbered stands.merged m));
     }
 
@@ -75,19 +74,12 @@ pub merged_in_part : (numbered : Bool) (place : ℕ) (inputs left : List (List T
     → IsMergedInPart numbered inputs before next
 merged_in_part numbered place inputs left before now next stands least part =
     let m : Merged = record { place = place; line = part.line } in
-    let text = merge_text numbered stands.merged in
-    let more = merged_text numbered m in
     record {
       merged = stands.merged ++ m ∷ [];
       left = part.after;
       merges = merges_more inputs left part.after stands.merged m stands.merges least part.takes;
-      written = subst (λ t. AppendsFront t before next) (sym (text_more numbered stands.merged m)) (record {
-        count = length text + part.written.count;
-        within = omega (arith, part.written.within, length-append text more);
-        appended = part.written.appended ∙ ap (λ t. t ++ take part.written.count more) stands.written
-            ∙ append_assoc before text (take part.written.count more)
-            ∙ ap (λ t. before ++ t) (sym (take-append-add text more part.written.count));
-      });
+      written = subst (λ t. AppendsFront t before next) (sym (text_more numbered stands.merged m))
+          (behind (merge_text numbered stands.merged) (merged_text numbered m) before now next stands.written part.written);
     }
 
 pub written_by : (status : MergeStatus) (numbered : Bool) (place : ℕ) (inputs left after : List (List Timed)) (before now next : List ℕ)
@@ -139,8 +131,7 @@ complete_by run statuses.Write ended on free = absurd (free.written ended)
 
 caused_by : (run : Run) (status : MergeStatus) → IsEnded run.inputs_tell run.inputs run.out status → IsCausedBy run status
 caused_by run statuses.Done ended = ended
-caused_by run (statuses.Input faulty) ended = ended
-caused_by run statuses.Write ended = ended
+caused_by run _ ended = ended
 
 pub ran : (run : Run) → (IsTrue run.inputs_tell → IsTrue run.out_tells
     → IsWritten run.status run.numbered (lines_of run) run.out.before.written run.out.now.written)

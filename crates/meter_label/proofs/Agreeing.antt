@@ -17,9 +17,7 @@ use Rattle.meter_label.specs.Label.{IsLabelOf, IsFit, is_capital, number_of, lab
 chosen : {A : Type 0} (a b c : Bool) (x y : A) → (if a && b && c then Some x else None) ≡ Some y → (a ≡ true) × (b ≡ true) × (c ≡ true)
     × (x ≡ y)
 chosen true true true x y e = (refl, refl, refl, cc)
-chosen true true false x y e = absurd cc
-chosen true false c x y e = absurd cc
-chosen false b c x y e = absurd cc
+chosen _ _ _ x y e = absurd cc
 
 letter_of : (n : ℕ) → is_letter n ≡ true → (1 ≤ n) × (n ≤ 26)
 letter_of n e = grind (arith, nat_tests)
@@ -70,9 +68,6 @@ letters_only m letters are =
 
 number_found : (letters : List ℕ) (n : ℕ) → number_of letters ≡ Some n → AreLetters letters n
 unfolding number_of
-number_found [] n e = absurd cc
-number_found (a ∷ []) n e = absurd cc
-number_found (a ∷ b ∷ []) n e = absurd cc
 number_found (a ∷ b ∷ c ∷ []) n e =
     let test = chosen (is_capital a) (is_capital b) (is_capital c) _ n e in record {
       first = a;
@@ -82,7 +77,7 @@ number_found (a ∷ b ∷ c ∷ []) n e =
       text = refl;
       number = sym test.3;
     }
-number_found (a ∷ b ∷ c ∷ d ∷ rest) n e = absurd cc
+number_found _ n e = absurd cc
 
 number_only : (letters : List ℕ) (n : ℕ) → AreLetters letters n → number_of letters ≡ Some n
 unfolding number_of
@@ -164,12 +159,8 @@ record Four (xs : List ℕ) : Type 0 where
   cells : xs ≡ a ∷ b ∷ c ∷ d ∷ []
 
 four_is : (xs : List ℕ) → length xs ≡ 4 → Four xs
-four_is [] len = absurd (omega arith)
-four_is (a ∷ []) len = absurd (omega arith)
-four_is (a ∷ b ∷ []) len = absurd (omega arith)
-four_is (a ∷ b ∷ c ∷ []) len = absurd (omega arith)
 four_is (a ∷ b ∷ c ∷ d ∷ []) len = record { a = a; b = b; c = c; d = d; cells = refl }
-four_is (a ∷ b ∷ c ∷ d ∷ e ∷ xs) len = absurd (omega arith)
+four_is _ len = absurd (omega arith)
 
 -- M is a number of two bytes
 small : (letters : List ℕ) (n : ℕ) → AreLetters letters n → n < 65536

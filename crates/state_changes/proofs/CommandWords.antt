@@ -5,19 +5,13 @@ use Rattle.state_changes.specs.CommandWords.{are_merge_words, raise_in}
 
 merge_three : (words : List (List ℕ)) → are_merge_words words ≡ true → length words ≡ 3
 unfolding are_merge_words
-merge_three [] h = absurd cc
-merge_three (a ∷ []) h = absurd cc
-merge_three (a ∷ b ∷ []) h = absurd cc
 merge_three (a ∷ b ∷ c ∷ []) h = refl
-merge_three (a ∷ b ∷ c ∷ d ∷ more) h = absurd cc
+merge_three _ h = absurd cc
 
 raise_three : (words : List (List ℕ)) (n : ℕ) → raise_in words ≡ Some n → length words ≡ 3
 unfolding raise_in
-raise_three [] n h = absurd cc
-raise_three (a ∷ []) n h = absurd cc
-raise_three (a ∷ b ∷ []) n h = absurd cc
 raise_three (a ∷ b ∷ c ∷ []) n h = refl
-raise_three (a ∷ b ∷ c ∷ d ∷ more) n h = absurd cc
+raise_three _ n h = absurd cc
 
 pub three_of : {A : Type 0} (words : List A) (f : A → List ℕ) → are_merge_words (map f words) ≡ true → length words ≡ 3
 three_of words f h = sym (length-map words f) ∙ merge_three (map f words) h

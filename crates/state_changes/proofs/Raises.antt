@@ -1,8 +1,7 @@
 -- A state whose counters are raised, meter by meter.
-use Rattle.std.proofs.Common.{◌≡◌, ℕ, ◌+◌, ◌-◌, ◌^◌, ◌≤◌, min, Bool, true, false, cond, List, [], ◌∷◌, ◌++◌, map, find, codes, Some, None, option_map, refl, sym, ap, ◌∙◌, arith}
-use Rattle.std.specs.Prelude.{nat_lt}
+use Rattle.std.proofs.Common.{◌≡◌, ℕ, ◌+◌, ◌-◌, ◌^◌, ◌≤◌, min, Bool, true, false, cond, List, [], ◌∷◌, ◌++◌, map, find, codes, Some, None, option_map, refl, sym, ap, ap₂, ◌∙◌, arith}
 use Rattle.std.specs.List.{flat_map}
-use Rattle.std.proofs.lemmas.Bool.Decides.{nat_tests}
+use Rattle.std.proofs.lemmas.Bool.{ltb-false}
 use Rattle.paper.specs.Puts.{Puts}
 use Rattle.paper.proofs.Calls.{four_make}
 use Rattle.paper.proofs.Items.{is_put}
@@ -35,10 +34,7 @@ pub parts : (n : ℕ) (c : Start) (cs : List Start) → first_spent n (c ∷ cs)
 parts n c cs none = parts_by (is_spent n c) n c cs refl none
 
 pub fits : (n : ℕ) (c : Start) → is_spent n c ≡ false → c.orders.down + n ≤ 2 ^ 32 - 1
-fits n c h = at (c.orders.down + n) h
-  where
-    at : (k : ℕ) → nat_lt (2 ^ 32 - 1) k ≡ false → k ≤ 2 ^ 32 - 1
-    at k off = grind (arith, nat_tests)
+fits n c h = ltb-false (2 ^ 32 - 1) (c.orders.down + n) h
 
 -- such a meter's block is that of the meter with its reserve
 block_is : (n : ℕ) (c : Start) → is_spent n c ≡ false → block_text (reserved n c) ≡ capped_block n c
@@ -51,8 +47,7 @@ blocks_are : (n : ℕ) (cs : List Start) → first_spent n cs ≡ None
 blocks_are n [] none = refl
 blocks_are n (c ∷ cs) none =
     let both = parts n c cs none in
-    ap (λ (t : List ℕ). block_text (reserved n c) ++ t) (blocks_are n cs both.1)
-    ∙ ap (λ (t : List ℕ). t ++ flat_map (capped_block n) cs) (block_is n c both.0)
+    ap₂ ◌++◌ (block_is n c both.0) (blocks_are n cs both.1)
 
 text_is : (n : ℕ) (s : Known) → first_spent n s.starts ≡ None → state_text (raised n s)
     ≡ codes "wmbus-state 1\n" ++ own_text s.own ++ flat_map (capped_block n) s.starts ++ codes "end\n"

@@ -1,8 +1,10 @@
 -- Changed states are states, and what stays in them.
-use Rattle.std.proofs.Common.{◌≡◌, ℕ, ◌+◌, ◌^◌, ◌≤◌, ◌<◌, ◌==◌, max, Bool, true, false, cond, List, [], ◌∷◌, map, Option, Some, None, Ok, refl, sym, ap, ap₂, ◌∙◌, subst, arith}
+use Rattle.std.proofs.Common.{◌≡◌, ℕ, ◌+◌, ◌^◌, ◌≤◌, ◌<◌, ◌==◌, max, Bool, true, false, cond, List, [], ◌∷◌, map, Option, Some, None, Ok, refl, sym, ap, ap₂, ◌∙◌, subst, inl, inr, arith}
 use Rattle.std.proofs.lemmas.List.{length-map}
 use Rattle.std.proofs.lemmas.Simd.{map-map}
+use Rattle.std.proofs.lemmas.Option.{same_Some}
 use Rattle.lists.specs.Each.{Each}
+use Rattle.lists.proofs.Choices.{chosen}
 use Rattle.meter_address.specs.declared.address.Address.{Address}
 use Rattle.meter_address.specs.declared.commission.Mode.{Mode}
 use Rattle.meter_address.specs.declared.commission.Mode.TheVariants.{Seven}
@@ -15,6 +17,7 @@ use Rattle.meter_slots.specs.Resuming.{reserved}
 use Rattle.state_file.specs.Text.{IsTold}
 use Rattle.state_file.specs.Whole.{Known, state_of}
 use Rattle.state_file.proofs.ReadStates.{fresh_is}
+use Rattle.state_file.proofs.Telling.{each_made}
 use Rattle.state_file.specs.Written.{IsStart, IsState, state_text}
 use Rattle.state_file.specs.Recommissioning.{recommissioned}
 use Rattle.state_file.proofs.WholeLength.{written_is_read}
@@ -73,15 +76,12 @@ with_is_start (Some m) c known commission =
     (merged_commission_is (commission_of m) c start.commission commission) start
 
 -- the meter that is found is one of them
-found_by : (b : Bool) (a : Address) (x : Start) (xs : List Start) (m : Start) → (x.address.0 == a.0) ≡ b → IsStart x
-    → (known_among a xs ≡ Some m → IsStart m) → cond b (Some x) (known_among a xs) ≡ Some m → IsStart m
-found_by true a x xs m is start later found = let same : x ≡ m = cc in subst IsStart same start
-found_by false a x xs m is start later found = later found
-
 found_is_start : (a : Address) (xs : List Start) (m : Start) → Each IsStart xs → known_among a xs ≡ Some m → IsStart m
 found_is_start a [] m each found = absurd (let no : None ≡ Some m = found in cc)
-found_is_start a (x ∷ xs) m each found =
-    found_by (x.address.0 == a.0) a x xs m refl each.0 (found_is_start a xs m each.1) found
+found_is_start a (x ∷ xs) m each found = elim (chosen (x.address.0 == a.0) (Some x) (known_among a xs) (Some m) found) [
+  | inl here ↦ subst IsStart (same_Some x m here.1) each.0
+  | inr later ↦ found_is_start a xs m each.1 later.1
+]
 
 -- ---- all meters
 
@@ -95,20 +95,14 @@ same_addresses starts [] = refl
 same_addresses starts (c ∷ cs) =
     ap₂ (λ (a : Address) (xs : List Address). a ∷ xs) (merged_address (known_among c.address starts) c) (same_addresses starts cs)
 
-each_merged : (starts : List Start) (cs : List Commissioned) → Each IsStart starts → Each IsCommission cs
-    → Each IsStart (map (merged_meter starts) cs)
-each_merged starts [] known each = tt
-each_merged starts (c ∷ cs) known each = (
-  with_is_start (known_among c.address starts) c (λ m found. found_is_start c.address starts m known found) each.0,
-  each_merged starts cs known each.1,
-)
-
 pub merged_are_states : MergedAreStates
 merged_are_states s r state roster = record {
   own = roster.own;
   few = (let same = length-map r.meters (merged_meter s.starts) in let few = roster.few in omega arith);
   apart = subst AreApart (sym (same_addresses s.starts r.meters)) roster.apart;
-  each = each_merged s.starts r.meters state.each roster.each;
+  each = each_made IsCommission IsStart (merged_meter s.starts)
+      (λ c is. with_is_start (known_among c.address s.starts) c (λ m found. found_is_start c.address s.starts m state.each found) is)
+      r.meters roster.each;
 }
 
 -- ---- raised counters

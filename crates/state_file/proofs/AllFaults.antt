@@ -21,6 +21,11 @@ use Rattle.state_file.specs.Faults.{refused, before, left_by, going_on, behind_e
 
 -- ---- the first one
 
+first_if : {A : Type 0} (b : Bool) (fs gs : List StateFault) (r s : Result A StateFault) → first_of fs ≡ refused r → first_of gs ≡ refused s
+    → first_of (cond b fs gs) ≡ refused (cond b r s)
+first_if true fs gs r s one other = one
+first_if false fs gs r s one other = other
+
 first_behind : (starts : List Start) (entries : List (ℕ × List ℕ)) → first_of (map behind_end entries) ≡ refused (ended starts entries)
 first_behind starts [] = refl
 first_behind starts (e ∷ entries) = refl
@@ -28,18 +33,14 @@ first_behind starts (e ∷ entries) = refl
 first_in : (p : Progress) (entries : List (ℕ × List ℕ)) (end : ℕ) → first_of (faults_in p entries end) ≡ refused (starts_of p entries end)
 unfolding faults_in starts_of
 first_in p [] end = refl
-first_in p (e ∷ entries) end = by_end (λ q. first_in q entries end) (is_word e.1 (codes "end")) (at_line e.0 (read_more p e.1))
+first_in p (e ∷ entries) end =
+    first_if (is_word e.1 (codes "end")) _ _ _ _ (first_behind (all_of p) entries)
+    (by_line (λ q. first_in q entries end) (at_line e.0 (read_more p e.1)))
   where
     by_line : ((q : Progress) → first_of (faults_in q entries end) ≡ refused (starts_of q entries end)) → (r : Result Progress StateFault)
         → first_of (going_on r (left_by p e.1) (λ q. faults_in q entries end)) ≡ refused (r >>= λ q. starts_of q entries end)
     by_line later (Ok q) = later q
     by_line later (Err fault) = refl
-
-    by_end : ((q : Progress) → first_of (faults_in q entries end) ≡ refused (starts_of q entries end)) → (b : Bool) (r : Result Progress StateFault)
-        → first_of (cond b (map behind_end entries) (going_on r (left_by p e.1) (λ q. faults_in q entries end)))
-        ≡ refused (cond b (ended (all_of p) entries) (r >>= λ q. starts_of q entries end))
-    by_end later true r = first_behind (all_of p) entries
-    by_end later false r = by_line later r
 
 refused-with_own : (own : Address) (r : Result (List Start) StateFault) → refused (with_own own r) ≡ refused r
 refused-with_own own (Ok starts) = refl
@@ -59,11 +60,8 @@ first_headed : (entries : List (ℕ × List ℕ)) (end : ℕ) (faults : List Sta
     → first_of faults ≡ refused otherwise → first_of (faults_headed entries end faults) ≡ refused (headed entries end otherwise)
 unfolding faults_headed headed
 first_headed [] end faults otherwise same = same
-first_headed (e ∷ entries) end faults otherwise same = by_head (is_word e.1 (codes "wmbus-state 1"))
-  where
-    by_head : (b : Bool) → first_of (cond b (faults_owned entries end) faults) ≡ refused (cond b (owned entries end) otherwise)
-    by_head true = first_owned entries end
-    by_head false = same
+first_headed (e ∷ entries) end faults otherwise same =
+    first_if (is_word e.1 (codes "wmbus-state 1")) _ _ _ _ (first_owned entries end) same
 
 -- a roster's first fault
 abbrev fault_some : Option RosterFault → Option StateFault
@@ -84,17 +82,10 @@ first_as_roster bytes =
 
 pub first_fault_refuses : (bytes : List ℕ) → first_of (state_faults_of bytes) ≡ refused (state_of bytes)
 unfolding state_faults_of state_of
-first_fault_refuses bytes = by_length (nat_lt 134217728 (length bytes))
-  where
-    by_length : (b : Bool)
-        → first_of (cond b (Roster 0 roster.TooLong ∷ [])
-        (faults_headed (entries_from 1 (lines bytes)) (length (lines bytes) + 1) (map by_fault (rosters.faults_of bytes))))
-        ≡ refused (cond b (Err (Roster 0 roster.TooLong))
-        (headed (entries_from 1 (lines bytes)) (length (lines bytes) + 1) (of_roster (roster_of bytes))))
-    by_length true = refl
-    by_length false =
-        first_headed (entries_from 1 (lines bytes)) (length (lines bytes) + 1) (map by_fault (rosters.faults_of bytes))
-        (of_roster (roster_of bytes)) (first_as_roster bytes)
+first_fault_refuses bytes =
+    first_if (nat_lt 134217728 (length bytes)) _ _ _ _ refl
+    (first_headed (entries_from 1 (lines bytes)) (length (lines bytes) + 1) (map by_fault (rosters.faults_of bytes)) (of_roster (roster_of bytes))
+    (first_as_roster bytes))
 
 -- ---- a text that hasn't the head of a state
 

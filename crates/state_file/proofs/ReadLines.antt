@@ -5,6 +5,7 @@ use Rattle.std.specs.Result.{result_ok}
 use Rattle.std.proofs.lemmas.Bool.{and_parts, cond-true, eqb-true, leb-true}
 use Rattle.std.proofs.lemmas.Bool.Decides.{nat_tests}
 use Rattle.std.proofs.lemmas.List.{drop_at}
+use Rattle.std.proofs.lemmas.Option.{same_Some}
 use Rattle.hex.specs.Hex.{decode_of, IsBytes}
 use Rattle.hex.specs.declared.error.FromHexError.{FromHexError}
 use Rattle.hex.proofs.HexLemmas.{decode_of-ok}
@@ -44,30 +45,24 @@ pub record Stays (c d : Start) : Type 0 where
   pub same : d.address ≡ c.address
 
 -- what is read of hexadecimal digits are bytes
-decoded : (text bytes : List ℕ) → result_ok (decode_of text) ≡ Some bytes → IsBytes bytes
-decoded text bytes h = by_answer (decode_of text) refl h
-  where
-    by_answer : (d : Result (List ℕ) FromHexError) → decode_of text ≡ d → result_ok d ≡ Some bytes → IsBytes bytes
-    by_answer (Ok read) is given = let same : read ≡ bytes = cc in subst IsBytes same (decode_of-ok text read is).3
-    by_answer (Err e) is given = absurd cc
+decoded : (text bytes : List ℕ) (d : Result (List ℕ) FromHexError) → decode_of text ≡ d → result_ok d ≡ Some bytes → IsBytes bytes
+decoded text bytes (Ok read) is h = let same : read ≡ bytes = cc in subst IsBytes same (decode_of-ok text read is).3
+decoded text bytes (Err e) is h = absurd cc
 
 -- ---- a reading
 
 bytes_fit : (text bytes : List ℕ) → bytes_in text ≡ Some bytes → IsBytes bytes
-bytes_fit text bytes h = by_dash (is_word text (codes "-")) h
-  where
-    by_dash : (b : Bool) → cond b (Some []) (result_ok (decode_of text)) ≡ Some bytes → IsBytes bytes
-    by_dash true given = let none : [] ≡ bytes = cc in subst IsBytes none (λ i. omega arith)
-    by_dash false given = decoded text bytes given
+bytes_fit text bytes h = elim (chosen (is_word text (codes "-")) (Some []) (result_ok (decode_of text)) (Some bytes) h) [
+  | inl none ↦ subst IsBytes (same_Some _ _ none.1) (λ i. omega arith)
+  | inr given ↦ decoded text bytes (decode_of text) refl given.1
+]
 
-payload_fits : (text payload : List ℕ) → payload_in text (bytes_in text) ≡ Some payload → IsBytes payload × (length payload ≤ 4096)
-payload_fits text payload h = by_bytes (bytes_in text) refl h
-  where
-    by_bytes : (o : Option (List ℕ)) → bytes_in text ≡ o → payload_in text o ≡ Some payload → IsBytes payload × (length payload ≤ 4096)
-    by_bytes None is given = absurd cc
-    by_bytes (Some bytes) is given =
-        let test = some_if (nat_le (length bytes) 4096) bytes payload given in
-        subst (λ xs. IsBytes xs × (length xs ≤ 4096)) test.1 (bytes_fit text bytes is, leb-true (length bytes) 4096 test.0)
+payload_fits : (text payload : List ℕ) (o : Option (List ℕ)) → bytes_in text ≡ o → payload_in text o ≡ Some payload
+    → IsBytes payload × (length payload ≤ 4096)
+payload_fits text payload None is h = absurd cc
+payload_fits text payload (Some bytes) is h =
+    let test = some_if (nat_le (length bytes) 4096) bytes payload h in
+    subst (λ xs. IsBytes xs × (length xs ≤ 4096)) test.1 (bytes_fit text bytes is, leb-true (length bytes) 4096 test.0)
 
 reading_fits : (fields : List (List ℕ)) → Gives IsSpeltReading (reading_of fields)
 unfolding reading_of
@@ -80,7 +75,7 @@ reading_fits (a ∷ n ∷ p ∷ []) =
     gives_field IsSpeltReading (payload_in p (bytes_in p)) causes.Payload _ (λ payload is_payload.
     let at_within = number_within (2 ^ 64 - 1) a at is_at in
     let counter_within = number_within (2 ^ 32 - 1) n counter is_counter in
-    let fits = payload_fits p payload is_payload in
+    let fits = payload_fits p payload (bytes_in p) refl is_payload in
     gives_ok IsSpeltReading (record { at = at; counter = counter; payload = payload })
     (record { at = omega arith; counter = omega arith; bytes = fits.0; most = fits.1 }))))
 reading_fits (a ∷ n ∷ p ∷ q ∷ more) = gives_err IsSpeltReading _
@@ -164,7 +159,7 @@ fragment_fits bytes part is h =
 fragment_in_fits : (text : List ℕ) (part : Fragment) (o : Option (List ℕ)) → result_ok (decode_of text) ≡ o → fragment_in o ≡ Some part
     → IsSpeltPart part
 fragment_in_fits text part None read h = absurd cc
-fragment_in_fits text part (Some bytes) read h = fragment_fits bytes part (decoded text bytes read) h
+fragment_in_fits text part (Some bytes) read h = fragment_fits bytes part (decoded text bytes (decode_of text) refl read) h
 
 part_fits : (fields : List (List ℕ)) → Gives IsSpeltPart (part_of fields)
 unfolding part_of
@@ -203,15 +198,13 @@ tick_leaves c (f ∷ fields) is = gives_err (Stays c) _
 abbrev IsSaid : List ℕ → Type 0
 IsSaid bytes = IsBytes bytes × (1 ≤ length bytes) × (length bytes ≤ 94)
 
-said_fits : (text payload : List ℕ) → command_bytes (result_ok (decode_of text)) ≡ Some payload → IsSaid payload
-said_fits text payload h = by_bytes (result_ok (decode_of text)) refl h
-  where
-    by_bytes : (o : Option (List ℕ)) → result_ok (decode_of text) ≡ o → command_bytes o ≡ Some payload → IsSaid payload
-    by_bytes None is given = absurd cc
-    by_bytes (Some bytes) is given =
-        let test = some_if (nat_le 1 (length bytes) && nat_le (length bytes) 94) bytes payload given in
-        let tests = and_parts (nat_le 1 (length bytes)) (nat_le (length bytes) 94) test.0 in
-        subst IsSaid test.1 (decoded text bytes is, leb-true 1 (length bytes) tests.0, leb-true (length bytes) 94 tests.1)
+said_fits : (text payload : List ℕ) (o : Option (List ℕ)) → result_ok (decode_of text) ≡ o → command_bytes o ≡ Some payload → IsSaid payload
+said_fits text payload None is h = absurd cc
+said_fits text payload (Some bytes) is h =
+    let test = some_if (nat_le 1 (length bytes) && nat_le (length bytes) 94) bytes payload h in
+    let tests = and_parts (nat_le 1 (length bytes)) (nat_le (length bytes) 94) test.0 in
+    subst IsSaid test.1
+    (decoded text bytes (decode_of text) refl is, leb-true 1 (length bytes) tests.0, leb-true (length bytes) 94 tests.1)
 
 command_fits : (fields : List (List ℕ)) → Gives IsSpeltCommand (command_of fields)
 unfolding command_of
@@ -223,7 +216,7 @@ command_fits (i ∷ t ∷ p ∷ []) =
     gives_field IsSpeltCommand (number_of 3 t) causes.Tries _ (λ tries is_tries.
     gives_field IsSpeltCommand (command_bytes (result_ok (decode_of p))) causes.Payload _ (λ payload is_payload.
     let id_within = number_within (2 ^ 32 - 1) i id is_id in
-    let fits = said_fits p payload is_payload in
+    let fits = said_fits p payload (result_ok (decode_of p)) refl is_payload in
     gives_ok IsSpeltCommand (record { id = id; tries = tries; payload = payload })
     (record { id = omega arith; tries = number_within 3 t tries is_tries; least = fits.1; most = fits.2; bytes = fits.0 }))))
 command_fits (i ∷ t ∷ p ∷ q ∷ more) = gives_err IsSpeltCommand _

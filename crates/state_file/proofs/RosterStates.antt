@@ -29,13 +29,10 @@ headed_roster : (entries : List (ℕ × List ℕ)) (end : ℕ) (r : Enrolled) (o
     → roster_headed entries end ≡ Ok r → headed entries end otherwise ≡ otherwise
 unfolding roster_headed headed
 headed_roster [] end r otherwise h = refl
-headed_roster (e ∷ entries) end r otherwise h = at (is_word e.1 (codes "wmbus-state 1")) refl
-  where
-    at : (b : Bool) → is_word e.1 (codes "wmbus-state 1") ≡ b → cond b (owned entries end) otherwise ≡ otherwise
-    at true is =
-        let bad = ap (λ o. at_line e.0 (ok_or o roster.Head) >>= λ version. roster_owned version entries end) (no_roster_head e.1 is) in
-        absurd (let good = h in cc)
-    at false is = refl
+headed_roster (e ∷ entries) end r otherwise h = cond-false _ _ _ (false_from_ne_true _ (λ is.
+    let bad = ap (λ o. at_line e.0 (ok_or o roster.Head) >>= λ version. roster_owned version entries end) (no_roster_head e.1 is) in
+    let good = h in
+    cc))
 
 -- ---- the whole
 

@@ -167,16 +167,16 @@ command_step w cs i word o named is before one =
     one_more ended_text (commands_lines w cs) i (slice_get (commands_lines w cs) i) refl before
     (is_put _ _ (command_at w cs i ∙ ap (command_if (word_at w i)) (sym is) ∙ ap (λ x. command_if x o) (sym named)) one)
 
-lines_len : (w : Window) (cs : List Command) → length (commands_lines w cs) ≡ length cs
-lines_len w [] = refl
-lines_len Idle (c ∷ cs) = let same = length-map cs (λ d. line_with (codes "command") (command_fields d)) in omega arith
-lines_len (Waiting id) (c ∷ cs) = let same = length-map cs (λ d. line_with (codes "command") (command_fields d)) in omega arith
+pub commands_count : (w : Window) (cs : List Command) → length (commands_lines w cs) ≡ length cs
+commands_count w [] = refl
+commands_count Idle (c ∷ cs) = let same = length-map cs (λ d. line_with (codes "command") (command_fields d)) in omega arith
+commands_count (Waiting id) (c ∷ cs) = let same = length-map cs (λ d. line_with (codes "command") (command_fields d)) in omega arith
 
 pub commands_end : {P : Type 0} {takes : P → List ℕ → P → Type 0} {p q : P} (w : Window) (cs : List Command) (i : ℕ) → length cs ≤ i
     → Puts takes p (flat_map ended_text (take i (commands_lines w cs))) q → Puts takes p (commands_text w cs) q
 unfolding commands_text
 commands_end w cs i all puts =
-    is_put (commands_text w cs) _ (ap (flat_map ended_text) (sym (take_all i (commands_lines w cs) (let same = lines_len w cs in omega arith)))) puts
+    is_put (commands_text w cs) _ (ap (flat_map ended_text) (sym (take_all i (commands_lines w cs) (let same = commands_count w cs in omega arith)))) puts
 
 -- ---- a meter
 

@@ -12,7 +12,7 @@ use Rattle.lists.specs.Each.{Each}
 use Rattle.lists.proofs.Members.{each_append}
 use Rattle.lists.proofs.StepLaws.{bind_ok}
 use Rattle.plain_text.specs.Parts.{fields_of, is_word}
-use Rattle.meter_address.specs.Address.{AreApart, text_of}
+use Rattle.meter_address.specs.Address.{text_of}
 use Rattle.meter_address.specs.Commission.{Commissioned}
 use Rattle.afl_fragments.specs.Held.{Told, Piece, Tick, Clear}
 use Rattle.command_queue.specs.declared.command.Command.{Command}
@@ -28,6 +28,7 @@ use Rattle.roster_file.proofs.ReadBack.{meter_back, meter_counts, meter_line, me
 use Rattle.roster_file.proofs.Apart.{new_behind, room_before}
 use Rattle.roster_file.proofs.Words.{IsWord, IsPrinted, fields_joined, joined_printed, ended_line}
 use Rattle.state_file.specs.declared.fault.StateFault.{StateFault}
+use Rattle.state_file.specs.Rooms.{HasRoom}
 use Rattle.state_file.specs.State.{with_line, with_lines}
 use Rattle.state_file.specs.Text.{line_with, bytes_text, spelt, reading_line, reading_lines, mark_line, command_fields, commands_lines, start_lines, bare}
 use Rattle.state_file.specs.Text.{IsSpeltReading, IsSpeltMark, IsSpeltCommand, IsTold}
@@ -81,21 +82,21 @@ readings_below : (c : Start) (o : Option Reading) → IfSome o IsSpeltReading �
 readings_below c None is = tt
 readings_below c (Some r) is = (reading_below r is, tt)
 
-later_below : (ds : List Command) → Each IsSpeltCommand ds → Each IsBelow (map (λ d. line_with (codes "command") (command_fields d)) ds)
-later_below = each_made IsSpeltCommand IsBelow (λ d. line_with (codes "command") (command_fields d)) command_below
-
-commands_below : (w : Window) (ds : List Command) → Each IsSpeltCommand ds → Each IsBelow (commands_lines w ds)
-commands_below Idle [] each = tt
-commands_below (Waiting id) [] each = tt
-commands_below Idle (d ∷ ds) each = (command_below d each.0, later_below ds each.1)
-commands_below (Waiting id) (d ∷ ds) each = (waits_below d each.0, later_below ds each.1)
+-- what holds of each line of a command holds of all these lines
+pub commands_each : (P : List ℕ → Type 0)
+    → ((d : Command) → IsSpeltCommand d → P (line_with (codes "waits") (command_fields d)) × P (line_with (codes "command") (command_fields d)))
+    → (w : Window) (ds : List Command) → Each IsSpeltCommand ds → Each P (commands_lines w ds)
+commands_each P one w [] each = tt
+commands_each P one Idle (d ∷ ds) each = each_made IsSpeltCommand P (λ e. line_with (codes "command") (command_fields e)) (λ e is. (one e is).1) (d ∷ ds) each
+commands_each P one (Waiting id) (d ∷ ds) each =
+    ((one d each.0).0, each_made IsSpeltCommand P (λ e. line_with (codes "command") (command_fields e)) (λ e is. (one e is).1) ds each.1)
 
 start_below : (c : Start) → IsTold c → Each IsBelow (start_lines c)
 start_below c is =
     each_append IsBelow (reading_lines c.reading ++ map mark_line (reverse c.told)) (commands_lines c.orders.window c.orders.queue.commands)
     (each_append IsBelow (reading_lines c.reading) (map mark_line (reverse c.told)) (readings_below c c.reading is.reading)
     (each_made IsSpeltMark IsBelow mark_line mark_below (reverse c.told) (each_reverse c.told is.marks)))
-    (commands_below c.orders.window c.orders.queue.commands is.commands)
+    (commands_each IsBelow (λ d spelt. (waits_below d spelt, command_below d spelt)) c.orders.window c.orders.queue.commands is.commands)
 
 -- ---- reading them one after another
 
@@ -134,12 +135,11 @@ below_read before c e (line ∷ ls) rest end answer each read later n =
 
 -- ---- a meter's line
 
-enlisted_behind : (before : List Start) (c : Start) (after : List Start)
-    → AreApart (map (λ m. m.address) (before ++ c ∷ after)) → length (before ++ c ∷ after) ≤ 4096
+enlisted_behind : (before : List Start) (c : Start) (after : List Start) → HasRoom (before ++ c ∷ after)
     → enlisted before (commission_of c) ≡ Ok (at_meter before (bare c))
-enlisted_behind before c after apart few =
-    cond-false _ _ _ (new_behind (λ c. c.address) before c after apart)
-    ∙ cond-false _ _ _ (room_before (λ c. c.address) before c after few)
+enlisted_behind before c after room =
+    cond-false _ _ _ (new_behind (λ c. c.address) before c after room.apart)
+    ∙ cond-false _ _ _ (room_before (λ c. c.address) before c after room.few)
 
 opening_read : (p q : Progress) (line : List ℕ) (c : Commissioned) → opens_meter (fields_of line) ≡ true → meter_of Two line ≡ Ok c
     → enlisted (all_of p) c ≡ Ok q → read_more p line ≡ Ok q
@@ -147,13 +147,12 @@ unfolding read_more
 opening_read p q line c opens is more = rw (opens, is, more) refl
 
 opened_read : (p : Progress) (before : List Start) (c : Start) (after : List Start) → all_of p ≡ before → IsStart c
-    → AreApart (map (λ m. m.address) (before ++ c ∷ after)) → length (before ++ c ∷ after) ≤ 4096
-    → read_more p (meter_line (commission_of c)) ≡ Ok (at_meter before (bare c))
-opened_read p before c after all is apart few =
+    → HasRoom (before ++ c ∷ after) → read_more p (meter_line (commission_of c)) ≡ Ok (at_meter before (bare c))
+opened_read p before c after all is room =
     let k = commission_of c in
     opening_read p (at_meter before (bare c)) (meter_line k) k
     (ap opens_meter (fields_joined (codes "meter") (behind_meter k) meter_word (meter_words k is.commission)))
-    (meter_back k is.commission) (ap (λ cs. enlisted cs k) all ∙ enlisted_behind before c after apart few)
+    (meter_back k is.commission) (ap (λ cs. enlisted cs k) all ∙ enlisted_behind before c after room)
 
 abbrev block_lines : Start → List (List ℕ)
 block_lines c = meter_line (commission_of c) ∷ start_lines c
@@ -165,11 +164,10 @@ unfolding starts_of
 end_read n p end =
     ap (λ es. starts_of p es end) (counted n (codes "end") [] refl ∙ ap (λ es. (n, codes "end") ∷ es) (none_left (n + 1)))
 
-meters_back : (p : Progress) (before after : List Start) (end : ℕ) → all_of p ≡ before → AreApart (map (λ m. m.address) (before ++ after))
-    → length (before ++ after) ≤ 4096 → Each IsStart after
+meters_back : (p : Progress) (before after : List Start) (end : ℕ) → all_of p ≡ before → HasRoom (before ++ after) → Each IsStart after
     → (n : ℕ) → starts_of p (entries_from n (flat_map block_lines after ++ codes "end" ∷ [])) end ≡ Ok (before ++ after)
-meters_back p before [] end all apart few each n = end_read n p end ∙ ap Ok (all ∙ sym (append-nil before))
-meters_back p before (c ∷ after) end all apart few each n =
+meters_back p before [] end all room each n = end_read n p end ∙ ap Ok (all ∙ sym (append-nil before))
+meters_back p before (c ∷ after) end all room each n =
     let k = commission_of c in
     let rest = flat_map block_lines after ++ codes "end" ∷ [] in
     let same : (before ++ c ∷ []) ++ after ≡ before ++ c ∷ after = append_assoc before (c ∷ []) after in
@@ -178,9 +176,9 @@ meters_back p before (c ∷ after) end all apart few each n =
     ap (λ ls. starts_of p (entries_from n ls) end) lines_of
     ∙ ap (λ es. starts_of p es end) (meter_counts k n (start_lines c ++ rest))
     ∙ one_read n p (at_meter before (bare c)) (meter_line k) (entries_from (n + 1) (start_lines c ++ rest)) end refl
-    (opened_read p before c after all each.0 apart few)
+    (opened_read p before c after all each.0 room)
     ∙ below_read before (bare c) c (start_lines c) rest end (Ok (before ++ c ∷ after)) (start_below c each.0.told) (lines_back c each.0.told)
-    (λ m. meters_back (at_meter before c) (before ++ c ∷ []) after end refl (rw same apart) (rw same few) each.1 m ∙ ap Ok same)
+    (λ m. meters_back (at_meter before c) (before ++ c ∷ []) after end refl (rw same room) each.1 m ∙ ap Ok same)
     (n + 1)
 
 -- ---- the lines of the text
@@ -234,7 +232,7 @@ state_lines s is =
 owned_back : (s : Known) (n end : ℕ) → IsState s
     → owned ((n, own_line s.own) ∷ entries_from (n + 1) (flat_map block_lines s.starts ++ codes "end" ∷ [])) end ≡ Ok s
 unfolding owned
-owned_back s n end is = rw (own_back s.own is.own, meters_back no_meters [] s.starts end refl is.apart is.few is.each (n + 1)) refl
+owned_back s n end is = rw (own_back s.own is.own, meters_back no_meters [] s.starts end refl (record { few = is.few; apart = is.apart }) is.each (n + 1)) refl
 
 headed_back : (s : Known) (end : ℕ) (otherwise : Result Known StateFault) → IsState s
     → headed (entries_from 1 (head_line ∷ own_line s.own ∷ (flat_map block_lines s.starts ++ codes "end" ∷ []))) end otherwise ≡ Ok s

@@ -5,7 +5,7 @@ use Rattle.std.specs.List.{flat_map}
 use Rattle.std.specs.Fmt.{decimal}
 use Rattle.std.proofs.lemmas.Fmt.{length-decimal-le}
 use Rattle.std.proofs.lemmas.Grind.{flat_map-append}
-use Rattle.std.proofs.lemmas.List.{length-reverse}
+use Rattle.std.proofs.lemmas.List.{length-map, length-reverse}
 use Rattle.hex.specs.Hex.{encode_lower, lower_digits}
 use Rattle.hex.proofs.HexLemmas.{length-encode_with}
 use Rattle.lists.specs.Each.{Each}
@@ -16,8 +16,6 @@ use Rattle.afl_layer.proofs.FieldLaws.{length-one, length-two, length-four, leng
 use Rattle.afl_fragments.specs.Fragment.{Fragment}
 use Rattle.afl_fragments.specs.Held.{Told, Piece, Tick, Clear}
 use Rattle.command_queue.specs.declared.command.Command.{Command}
-use Rattle.access_window.specs.declared.window.Window.{Window}
-use Rattle.access_window.specs.declared.window.Window.TheVariants.{Idle, Waiting}
 use Rattle.meter_slots.specs.declared.reading.Reading.{Reading}
 use Rattle.meter_slots.specs.Journal.{Start, commission_of}
 use Rattle.roster_file.specs.Text.{own_text, meter_text}
@@ -27,7 +25,9 @@ use Rattle.state_file.specs.Text.{IsSpeltReading, IsSpeltPart, IsSpeltMark, IsSp
 use Rattle.state_file.specs.Whole.{Known}
 use Rattle.state_file.specs.Written.{ended_text, block_text, state_text, IsStart, IsState, WrittenAreRead}
 use Rattle.state_file.proofs.ReadBack.{each_reverse}
-use Rattle.state_file.proofs.WholeBack.{read_where_short}
+use Rattle.state_file.proofs.StatePieces.{commands_count}
+use Rattle.state_file.proofs.Telling.{each_made}
+use Rattle.state_file.proofs.WholeBack.{commands_each, read_where_short}
 
 -- ---- lines
 
@@ -82,7 +82,7 @@ reading_len r is =
     let payload = bytes_len r.payload is.most in
     omega arith
 
-command_len : (word : List ℕ) (d : Command) → length word ≤ 7 → IsSpeltCommand d → length (line_with word (command_fields d)) ≤ 220
+command_len : (word : List ℕ) (d : Command) → length word ≤ 7 → IsSpeltCommand d → length (line_with word (command_fields d)) ≤ 531
 command_len word d short is =
     let all = words_len word (command_fields d) in
     let id = number_len d.id is.id in
@@ -104,38 +104,17 @@ readings_len : (o : Option Reading) → IfSome o IsSpeltReading → length (flat
 readings_len None is = omega arith
 readings_len (Some r) is = let one = ended_len (reading_line r) [] in let most = reading_len r is in omega arith
 
-marks_len : (ms : List Told) → Each IsSpeltMark ms → length (flat_map ended_text (map mark_line ms)) ≤ 532 * length ms
-marks_len [] each = omega arith
-marks_len (m ∷ ms) each =
-    let one = ended_len (mark_line m) (flat_map ended_text (map mark_line ms)) in
-    let most = mark_len m each.0 in
-    let rest = marks_len ms each.1 in
-    omega arith
-
-later_len : (ds : List Command) → Each IsSpeltCommand ds
-    → length (flat_map ended_text (map (λ d. line_with (codes "command") (command_fields d)) ds)) ≤ 221 * length ds
-later_len [] each = omega arith
-later_len (d ∷ ds) each =
-    let one = ended_len (line_with (codes "command") (command_fields d))
-    (flat_map ended_text (map (λ d. line_with (codes "command") (command_fields d)) ds)) in
-    let most = command_len (codes "command") d (omega arith) each.0 in
-    let rest = later_len ds each.1 in
-    omega arith
-
-commands_len : (w : Window) (ds : List Command) → Each IsSpeltCommand ds → length (flat_map ended_text (commands_lines w ds)) ≤ 221 * length ds
-commands_len Idle [] each = omega arith
-commands_len (Waiting id) [] each = omega arith
-commands_len Idle (d ∷ ds) each = later_len (d ∷ ds) each
-commands_len (Waiting id) (d ∷ ds) each =
-    let one = ended_len (line_with (codes "waits") (command_fields d))
-    (flat_map ended_text (map (λ d. line_with (codes "command") (command_fields d)) ds)) in
-    let most = command_len (codes "waits") d (omega arith) each.0 in
-    let rest = later_len ds each.1 in
+lines_len : (ls : List (List ℕ)) → Each (λ l. length l ≤ 531) ls → length (flat_map ended_text ls) ≤ 532 * length ls
+lines_len [] each = omega arith
+lines_len (l ∷ ls) each =
+    let one = ended_len l (flat_map ended_text ls) in
+    let most = each.0 in
+    let rest = lines_len ls each.1 in
     omega arith
 
 -- ---- meters
 
-block_len : (c : Start) → IsStart c → length (block_text c) ≤ 19300
+block_len : (c : Start) → IsStart c → length (block_text c) ≤ 21800
 unfolding block_text
 block_len c is =
     let marks = map mark_line (reverse c.told) in
@@ -145,14 +124,18 @@ block_len c is =
     let one = texts_split (reading_lines c.reading ++ marks) commands in
     let two = texts_split (reading_lines c.reading) marks in
     let read = readings_len c.reading is.told.reading in
-    let told = marks_len (reverse c.told) (each_reverse c.told is.told.marks) in
-    let same = length-reverse c.told in
+    let told = lines_len marks (each_made IsSpeltMark _ mark_line mark_len (reverse c.told) (each_reverse c.told is.told.marks)) in
+    let same = length-map (reverse c.told) mark_line in
+    let turned = length-reverse c.told in
     let few = is.few in
-    let put = commands_len c.orders.window c.orders.queue.commands is.told.commands in
+    let put = lines_len commands (commands_each (λ l. length l ≤ 531)
+    (λ d spelt. (command_len (codes "waits") d (omega arith) spelt, command_len (codes "command") d (omega arith) spelt))
+    c.orders.window c.orders.queue.commands is.told.commands) in
+    let as_many = commands_count c.orders.window c.orders.queue.commands in
     let eight = is.told.sound.few in
     omega arith
 
-blocks_len : (cs : List Start) → Each IsStart cs → length (flat_map block_text cs) ≤ 19300 * length cs
+blocks_len : (cs : List Start) → Each IsStart cs → length (flat_map block_text cs) ≤ 21800 * length cs
 blocks_len [] each = omega arith
 blocks_len (c ∷ cs) each =
     let one = block_len c each.0 in
@@ -160,7 +143,7 @@ blocks_len (c ∷ cs) each =
     let all = length-append (block_text c) (flat_map block_text cs) in
     omega arith
 
--- 79 million bytes at most
+-- 90 million bytes at most
 state_len : (s : Known) → IsState s → length (state_text s) ≤ 134217728
 unfolding state_text
 state_len s is =

@@ -1,6 +1,7 @@
 -- The texts behind all lines, piece by piece.
 use Rattle.std.proofs.Common.{◌≡◌, ℕ, List, [], ◌∷◌, ◌++◌, map, codes, refl, ap}
 use Rattle.std.specs.List.{flat_map}
+use Rattle.std.proofs.lemmas.List.Folds.{flat_map-map}
 use Rattle.paper.specs.Puts.{Puts}
 use Rattle.paper.proofs.Calls.{four_make}
 use Rattle.meter_address.specs.declared.address.Address.{Address}
@@ -10,14 +11,10 @@ use Rattle.roster_file.specs.Text.{own_text}
 use Rattle.state_file.specs.Written.{block_text, state_text}
 use Rattle.steps_main.specs.Ending.{known_of, meter_block}
 
-blocks_are : (ms : List PassingMeter) → flat_map block_text (map known_by ms) ≡ flat_map meter_block ms
-blocks_are [] = refl
-blocks_are (m ∷ ms) = ap (λ t. meter_block m ++ t) (blocks_are ms)
-
 state_is : (own : Address) (ms : List PassingMeter)
     → state_text (known_of own ms) ≡ codes "wmbus-state 1\n" ++ own_text own ++ flat_map meter_block ms ++ codes "end\n"
 unfolding state_text
-state_is own ms = ap (λ t. codes "wmbus-state 1\n" ++ own_text own ++ t ++ codes "end\n") (blocks_are ms)
+state_is own ms = ap (λ t. codes "wmbus-state 1\n" ++ own_text own ++ t ++ codes "end\n") (flat_map-map block_text known_by ms)
 
 pub state_pieces : {P : Type 0} {takes : P → List ℕ → P → Type 0} {p q r s t : P} (own : Address) (ms : List PassingMeter)
     → Puts takes p (codes "wmbus-state 1\n") q → Puts takes q (own_text own) r → Puts takes r (flat_map meter_block ms) s

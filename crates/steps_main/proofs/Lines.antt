@@ -1,5 +1,5 @@
 -- Lines that are told one after another.
-use Rattle.std.proofs.Common.{◌≡◌, ℕ, ◌+◌, ◌-◌, ◌<◌, ◌^◌, List, [], ◌∷◌, ◌++◌, map, length, refl, sym, ap, ◌∙◌, subst, arith, append_assoc, length-append}
+use Rattle.std.proofs.Common.{◌≡◌, ℕ, ◌+◌, ◌-◌, ◌<◌, ◌^◌, List, [], ◌∷◌, ◌++◌, map, length, refl, sym, ap, ap₂, ◌∙◌, subst, arith, append_assoc, length-append}
 use Rattle.std.proofs.lemmas.List.{append-nil}
 use Rattle.line_teller.specs.Telling.{AreTold}
 use Rattle.meter_address.specs.declared.address.Address.{Address}
@@ -111,16 +111,13 @@ pub record IsTold (known : Known) (before : List Told) (n : ℕ) (line text : Li
   pub text_is : text ≡ line_told known before n line
   pub stands : StandsBehind known (before ++ told_of line ∷ []) new
 
-few_before : (n : ℕ) (before : List Told) → n ≡ 1 + length before → n < 2 ^ 32 → length before < 2 ^ 32 - 1
-few_before n before is few = omega arith
-
 line_so : (known : Known) (apart : AreApart (directory known)) (saying : SaidIsTold) (before : List Told) (n : ℕ) → n ≡ 1 + length before
     → (old new : Stepper) (line text note : List ℕ) → StandsBehind known before old → TellsLine old n line text note new
     → IsTold known before n line text new
 line_so known apart saying before n is old new line text note stands told =
     let one = said_so known apart before n is (said_of line) old.world new.world told.class text stands.meters told.told in
     let same : told_in (said_of line) ≡ told_of line = saying line in
-    let few = are_few (directory known) before old.counts stands.counts (few_before n before is told.few) in
+    let few = are_few (directory known) before old.counts stands.counts (let small = told.few in omega arith) in
     let counts_are : new.counts ≡ counts_of (directory known) (before ++ told_in (said_of line) ∷ []) =
     told.counted few ∙ ap (with_class old.counts) one.class_of
     ∙ counted (directory known) before (told_in (said_of line)) old.counts stands.counts in record {
@@ -130,15 +127,9 @@ line_so known apart saying before n is old new line text note stands told =
 
 -- ---- all lines
 
-joined : (a a' b b' : List ℕ) → a ≡ a' → b ≡ b' → a ++ b ≡ a' ++ b'
-joined a a' b b' e f = cc
-
 pub record AreSo (known : Known) (before : List Told) (n : ℕ) (lines : List (List ℕ)) (text : List ℕ) (last : Stepper) : Type 0 where
   pub text_is : text ≡ lines_told known before n lines
   pub stands : StandsBehind known (before ++ map told_of lines) last
-
-next_number : (n : ℕ) (before : List Told) (t : Told) → n ≡ 1 + length before → n + 1 ≡ 1 + length (before ++ t ∷ [])
-next_number n before t is = omega (arith, length-append before (t ∷ []))
 
 pub lines_so : (known : Known) (apart : AreApart (directory known)) (saying : SaidIsTold) (n : ℕ) (before : List Told) → n ≡ 1 + length before
     → (first last : Stepper) (lines : List (List ℕ)) (text note : List ℕ) → StandsBehind known before first
@@ -150,8 +141,8 @@ lines_so known apart saying n before is first last [] text note stands told = re
 }
 lines_so known apart saying n before is first last (line ∷ lines) text note stands told =
     let one = line_so known apart saying before n is first told.next line told.first_text told.first_note stands told.told in
-    let later = lines_so known apart saying (n + 1) (before ++ told_of line ∷ []) (next_number n before (told_of line) is) told.next last lines
+    let later = lines_so known apart saying (n + 1) (before ++ told_of line ∷ []) (omega (arith, length-append before (told_of line ∷ []))) told.next last lines
     told.later_text told.later_note one.stands told.later in record {
-      text_is = told.text_is ∙ joined _ _ _ _ one.text_is later.text_is;
+      text_is = told.text_is ∙ ap₂ ◌++◌ one.text_is later.text_is;
       stands = subst (λ heard. StandsBehind known heard last) (append_assoc before (told_of line ∷ []) (map told_of lines)) later.stands;
     }

@@ -1,9 +1,12 @@
 -- The meter of an address, by the slots behind some lines.
-use Rattle.std.proofs.Common.{◌≡◌, ◌==◌, ◌||◌, ℕ, zero, suc, Bool, true, false, cond, List, [], ◌∷◌, ◌++◌, map, reverse, Option, Some, None, refl, sym, ap, ◌∙◌, arith}
+use Rattle.std.proofs.Common.{◌≡◌, ◌==◌, ◌||◌, ℕ, zero, suc, Bool, true, false, cond, List, [], ◌∷◌, ◌++◌, map, reverse, Option, Some, None, refl, sym, ap, ◌∙◌, inl, inr}
 use Rattle.std.specs.Prelude.{slice_get, option_to_list}
 use Rattle.std.specs.List.{list_any}
-use Rattle.std.proofs.lemmas.Bool.Decides.{nat_tests}
+use Rattle.std.proofs.lemmas.Bool.{eq-eqb, eqb-true, false_from_ne_true, or_parts}
 use Rattle.std.proofs.lemmas.List.{append_cancel_left, reverse-append}
+use Rattle.std.proofs.lemmas.Option.{same_Some}
+use Rattle.std.proofs.lemmas.Simd.{map-map}
+use Rattle.lists.proofs.Choices.{chosen}
 use Rattle.meter_address.specs.declared.address.Address.{Address}
 use Rattle.meter_address.specs.Address.{AreApart}
 use Rattle.meter_slots.specs.declared.entry.Entry.{Entry}
@@ -24,16 +27,6 @@ use Rattle.step_text.specs.Lines.{step_line}
 use Rattle.steps_main.specs.Steps.{reading_by, served_by, start_for, event_told}
 use Rattle.steps_main.specs.Telling.{answer_told, answer_class}
 
-or_false : (x y : Bool) → (x || y) ≡ false → (x ≡ false) × (y ≡ false)
-or_false true y h = absurd cc
-or_false false y h = (refl, h)
-
-same_number : (a b : ℕ) → a ≡ b → (a == b) ≡ true
-same_number a b h = grind (arith, nat_tests)
-
-some_is : {A : Type 0} (x y : A) → Some x ≡ Some y → x ≡ y
-some_is x y e = cc
-
 abbrev address_of : Start → Address
 address_of c = c.address
 
@@ -46,31 +39,21 @@ is_there n starts = list_any (λ a. a.0 == n) (map address_of starts)
 none_for : (starts : List Start) (a : Address) → is_there a.0 starts ≡ false → start_for starts a ≡ None
 none_for [] a none = refl
 none_for (c ∷ starts) a none =
-    let parts = or_false (c.address.0 == a.0) (is_there a.0 starts) none in
+    let parts = or_parts (c.address.0 == a.0) (is_there a.0 starts) none in
     ap (λ b. cond b (Some c) (start_for starts a)) parts.0 ∙ none_for starts a parts.1
 
 there_for : (starts : List Start) (a : Address) (c : Start) → start_for starts a ≡ Some c → is_there a.0 starts ≡ true
 there_for [] a c found = absurd cc
-there_for (d ∷ starts) a c found = by (d.address.0 == a.0) refl (there_for starts a c)
-  where
-    by : (b : Bool) → (d.address.0 == a.0) ≡ b → (start_for starts a ≡ Some c → is_there a.0 starts ≡ true)
-        → is_there a.0 (d ∷ starts) ≡ true
-    by true is later = ap (λ b. b || is_there a.0 starts) is
-    by false is later =
-        ap (λ b. b || is_there a.0 starts) is
-        ∙ later (sym (ap (λ b. cond b (Some d) (start_for starts a)) is) ∙ found)
+there_for (d ∷ starts) a c found = elim (chosen (d.address.0 == a.0) (Some d) (start_for starts a) (Some c) found) [
+  | inl here ↦ ap (λ b. b || is_there a.0 starts) here.0
+  | inr later ↦ ap (λ b. b || is_there a.0 starts) later.0 ∙ there_for starts a c later.1
+]
 
 other_first : (c : Start) (starts : List Start) (n : ℕ) → is_there c.address.0 starts ≡ false → is_there n starts ≡ true
     → (c.address.0 == n) ≡ false
-other_first c starts n none some = by (c.address.0 == n) refl
-  where
-    same : (c.address.0 == n) ≡ true → c.address.0 ≡ n
-    same is = grind (arith, nat_tests)
-
-    by : (b : Bool) → (c.address.0 == n) ≡ b → (c.address.0 == n) ≡ false
-    by true is =
-        absurd (let clash : false ≡ true = sym none ∙ ap (λ m. is_there m starts) (same is) ∙ some in cc)
-    by false is = is
+other_first c starts n none some =
+    false_from_ne_true _ (λ same.
+    let clash : false ≡ true = sym none ∙ ap (λ m. is_there m starts) (eqb-true c.address.0 n same) ∙ some in cc)
 
 -- the slot at a place is that of the meter with its address
 pub record IsOf (own : Address) (steps : List Step) (starts : List Start) (a : Address) (b : SlotView) : Type 0 where
@@ -83,10 +66,10 @@ slot_for : (own : Address) (steps : List Step) (starts : List Start) (a : Addres
     → slice_get (map (slot_of own steps) starts) place ≡ Some b → b.start.address.0 ≡ a.0 → IsOf own steps starts a b
 slot_for own steps [] a place b apart at is = absurd cc
 slot_for own steps (c ∷ starts) a zero b apart at is =
-    let same : slot_of own steps c ≡ b = some_is _ _ at in record {
+    let same : slot_of own steps c ≡ b = same_Some _ _ at in record {
       start = c;
       found = ap (λ t. cond t (Some c) (start_for starts a))
-          (same_number c.address.0 a.0 (ap (λ (s : SlotView). s.start.address.0) same ∙ is));
+          (eq-eqb c.address.0 a.0 (ap (λ (s : SlotView). s.start.address.0) same ∙ is));
       is = sym same;
     }
 slot_for own steps (c ∷ starts) a (suc place) b apart at is =
@@ -117,18 +100,10 @@ reading_is b s r e =
     append_cancel_left (readings_back b.start (reverse b.journal)) added (option_to_list r) (sym more ∙ e) in
     sym (ap (λ rs. slice_get rs 0) same ∙ first_of r)
 
-served_is : (served again : Served) → served.outcome ≡ again.outcome → served.reading ≡ again.reading → served ≡ again
-served_is served again o r = λ i. record { outcome = o i; reading = r i }
-
 has_slot_there : (own : Address) (steps : List Step) (starts : List Start) (s : Step)
     → has_slot (map (slot_of own steps) starts) s ≡ is_there s.address.0 starts
 has_slot_there own steps [] s = refl
 has_slot_there own steps (c ∷ starts) s = ap (λ t. (c.address.0 == s.address.0) || t) (has_slot_there own steps starts s)
-
-addresses_are : (own : Address) (steps : List Step) (starts : List Start)
-    → map (λ (b : SlotView). b.start.address) (map (slot_of own steps) starts) ≡ map address_of starts
-addresses_are own steps [] = refl
-addresses_are own steps (c ∷ starts) = ap (λ addresses. c.address ∷ addresses) (addresses_are own steps starts)
 
 module _ (own : Address) (starts : List Start) (before : List Told) (n : ℕ) (a : Address) (e : Event)
     (apart : AreApart (map address_of starts)) where
@@ -150,14 +125,14 @@ module _ (own : Address) (starts : List Start) (before : List Told) (n : ℕ) (a
   answer_is (Some (place, given)) (b, at, address, outcome, read) =
       let of = slot_for own steps starts a place b apart at address in
       let same : given ≡ served_by b e =
-      served_is given (served_by b e) outcome (reading_is b step given.reading read) in
+      (λ i. record { outcome = outcome i; reading = reading_is b step given.reading read i }) in
       ap (step_line n a e) (same ∙ ap (λ (s : SlotView). served_by s e) of.is)
       ∙ ap (event_told own before n a e) (sym of.found)
 
   class_there : (b : Bool) → has_slot slots step ≡ b
       → class_by (map address_of starts) (told.Event a e) ≡ cond b classes.Own classes.Strange
   class_there b is =
-      ap (λ d. class_by d (told.Event a e)) (sym (addresses_are own steps starts))
+      ap (λ d. class_by d (told.Event a e)) (sym (map-map (λ (b : SlotView). b.start.address) (slot_of own steps) starts))
       ∙ step_class (record { slots = slots; strangers = [] }) step ∙ ap (λ t. cond t classes.Own classes.Strange) is
 
   -- the class of its line is by whether there is such a meter

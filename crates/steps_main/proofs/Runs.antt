@@ -1,11 +1,10 @@
 -- A run by how its lines ended, and by what became of the texts behind them.
-use Rattle.std.proofs.Common.{◌≡◌, ◌≤◌, ◌+◌, ◌⊎◌, ℕ, Bool, true, false, List, [], ◌++◌, map, length, take, Result, Ok, Err, refl, sym, ap, ◌∙◌, subst, append_assoc, length-append, inl, inr, ⊎_elim, arith}
+use Rattle.std.proofs.Common.{◌≡◌, ◌≤◌, ◌⊎◌, ℕ, Bool, true, false, List, [], ◌++◌, map, Result, Ok, Err, refl, sym, ap, ◌∙◌, subst, inl, inr}
 use Rattle.std.specs.Prelude.{IsTrue}
-use Rattle.std.proofs.lemmas.List.{take-append-le}
-use Rattle.std.proofs.Math.Seq.{take-append-add}
 use Rattle.outer_io.specs.Bytes.{AppendsFront}
 use Rattle.outer_io.specs.Faults.{Rose}
-use Rattle.outer_io.specs.Shown.{Change, SinkShown, ReadFailed, WriteFailed, LosesNothing, IsReadOut}
+use Rattle.outer_io.specs.Shown.{Change, SinkShown, ReadFailed, LosesNothing, IsReadOut, IsSilent}
+use Rattle.outer_io.proofs.Fronts.{behind, both, first}
 use Rattle.frame_formats.specs.declared.fault.FrameFault.{FrameFault}
 use Rattle.line_reader.specs.declared.line.BadLine.{BadLine}
 use Rattle.line_reader.specs.declared.line.Line.{Line}
@@ -21,7 +20,7 @@ use Rattle.meter_slots.specs.Telling.{event_of_line}
 use Rattle.meter_slots.proofs.PassingWorlds.{passing_is_known}
 use Rattle.receivers.specs.Alone.{steps_among}
 use Rattle.receivers.specs.Told.{told_by_event, told_by_reading, told_of}
-use Rattle.receivers.proofs.Numbers.{counted_none}
+use Rattle.receivers.proofs.Numbers.{counted_none, rose_since}
 use Rattle.receivers.proofs.OneSession.{session_alone}
 use Rattle.state_file.specs.Rooms.{HasRoom}
 use Rattle.state_file.specs.Whole.{Known, state_of}
@@ -33,7 +32,7 @@ use Rattle.steps_main.specs.declared.status.StepsStatus.{StepsStatus}
 use Rattle.steps_main.specs.declared.status.StepsStatus.TheVariants as statuses
 use Rattle.steps_main.specs.declared.telling.Stepper.{Stepper}
 use Rattle.steps_main.specs.Beginning.{IsRefusal}
-use Rattle.steps_main.specs.Ending.{known_of, end_text, Finish, FinishesUntold, Finishes}
+use Rattle.steps_main.specs.Ending.{known_of, end_text, Finish, Finishes}
 use Rattle.steps_main.specs.Run.{Run, HasWhole, HasFront, IsWhole, IsWritten, Headline, IsStill, IsCausedBy, IsFaultless, IsRun}
 use Rattle.steps_main.specs.Statuses.{status_of, IsDone, IsRefused, IsUnread, was_heard, fault_status}
 use Rattle.steps_main.specs.Steps.{Heard, tellings, lines_told, end_told, next_known, next_text}
@@ -58,143 +57,84 @@ saying text = by_reading (line_of text)
 -- ---- a run that ends before a line is read
 
 module _ (run : Run) where
-  unheard : (status : StepsStatus) → IsRefusal run.sources_tell run.beginning status → IsTrue (was_heard status) → ⊥
-  unheard statuses.Done refusal heard = refusal
-  unheard statuses.ReadState refusal heard = cc
-  unheard (statuses.Roster line why) refusal heard = cc
-  unheard (statuses.State line why) refusal heard = cc
-  unheard statuses.Read refusal heard = refusal
-  unheard statuses.Cut refusal heard = refusal
-  unheard statuses.WriteNext refusal heard = refusal
-  unheard statuses.WriteSteps refusal heard = refusal
-  unheard statuses.Memory refusal heard = cc
+  -- a status with its cause, where nothing stands in the way
+  done_by : (status : StepsStatus) → IsCausedBy run status → IsTrue run.sources_tell → IsFaultless run → IsDone status
+  done_by statuses.Done cause tells free = inl refl
+  done_by statuses.ReadState cause tells free = absurd (free.beginning_steady cause)
+  done_by (statuses.Roster line why) cause tells free = absurd (let clash = sym free.known_is ∙ cause tells in cc)
+  done_by (statuses.State line why) cause tells free = absurd (let clash = sym free.known_is ∙ cause tells in cc)
+  done_by statuses.Read cause tells free = absurd (free.receiver_steady cause)
+  done_by statuses.Cut cause tells free = absurd (let clash : true ≡ false = sym (cause tells) ∙ free.within in cc)
+  done_by statuses.WriteNext cause tells free = absurd (free.next_steady cause)
+  done_by statuses.WriteSteps cause tells free = absurd (free.out_steady cause)
+  done_by statuses.Memory cause tells free = inr refl
 
-  refusal_caused : (status : StepsStatus) → IsRefusal run.sources_tell run.beginning status → IsCausedBy run status
-  refusal_caused statuses.Done refusal = tt
-  refusal_caused statuses.ReadState refusal = refusal
-  refusal_caused (statuses.Roster line why) refusal = refusal
-  refusal_caused (statuses.State line why) refusal = refusal
-  refusal_caused statuses.Read refusal = absurd refusal
-  refusal_caused statuses.Cut refusal = absurd refusal
-  refusal_caused statuses.WriteNext refusal = absurd refusal
-  refusal_caused statuses.WriteSteps refusal = absurd refusal
-  refusal_caused statuses.Memory refusal = tt
+  -- what a refusal says of its status
+  record Refused (status : StepsStatus) : Type 0 where
+    unheard : IsTrue (was_heard status) → ⊥
+    caused : IsCausedBy run status
+    first : IsTrue run.sources_tell → (fault : StateFault) → state_of run.beginning.before.left ≡ Err fault → IsRefused fault status
 
   same_fault : (fault again : StateFault) → state_of run.beginning.before.left ≡ Err fault → state_of run.beginning.before.left ≡ Err again
       → fault_status again ≡ fault_status fault
   same_fault fault again one other = let is : again ≡ fault = cc in ap fault_status is
 
-  first_fault : (status : StepsStatus) → IsRefusal run.sources_tell run.beginning status → IsTrue run.sources_tell → (fault : StateFault)
-      → state_of run.beginning.before.left ≡ Err fault → IsRefused fault status
-  first_fault statuses.Done refusal tells fault faulty = absurd refusal
-  first_fault statuses.ReadState refusal tells fault faulty = inr (inl refl)
-  first_fault (statuses.Roster line why) refusal tells fault faulty =
-      inl (same_fault fault (faults.Roster line why) faulty (refusal tells))
-  first_fault (statuses.State line why) refusal tells fault faulty =
-      inl (same_fault fault (faults.Line line why) faulty (refusal tells))
-  first_fault statuses.Read refusal tells fault faulty = absurd refusal
-  first_fault statuses.Cut refusal tells fault faulty = absurd refusal
-  first_fault statuses.WriteNext refusal tells fault faulty = absurd refusal
-  first_fault statuses.WriteSteps refusal tells fault faulty = absurd refusal
-  first_fault statuses.Memory refusal tells fault faulty = inr (inr refl)
-
-  refusal_done : (status : StepsStatus) → IsRefusal run.sources_tell run.beginning status → IsTrue run.sources_tell → IsFaultless run
-      → IsDone status
-  refusal_done statuses.Done refusal tells free = inl refl
-  refusal_done statuses.ReadState refusal tells free = absurd (free.beginning_steady refusal)
-  refusal_done (statuses.Roster line why) refusal tells free = absurd (let clash = sym free.known_is ∙ refusal tells in cc)
-  refusal_done (statuses.State line why) refusal tells free = absurd (let clash = sym free.known_is ∙ refusal tells in cc)
-  refusal_done statuses.Read refusal tells free = absurd refusal
-  refusal_done statuses.Cut refusal tells free = absurd refusal
-  refusal_done statuses.WriteNext refusal tells free = absurd refusal
-  refusal_done statuses.WriteSteps refusal tells free = absurd refusal
-  refusal_done statuses.Memory refusal tells free = inr refl
+  refusal_is : (status : StepsStatus) → IsRefusal run.sources_tell run.beginning status → Refused status
+  refusal_is statuses.ReadState refusal =
+      record { unheard = λ heard. cc; caused = refusal; first = λ tells fault faulty. inr (inl refl) }
+  refusal_is (statuses.Roster line why) refusal = record {
+    unheard = λ heard. cc;
+    caused = refusal;
+    first = λ tells fault faulty. inl (same_fault fault (faults.Roster line why) faulty (refusal tells));
+  }
+  refusal_is (statuses.State line why) refusal = record {
+    unheard = λ heard. cc;
+    caused = refusal;
+    first = λ tells fault faulty. inl (same_fault fault (faults.Line line why) faulty (refusal tells));
+  }
+  refusal_is statuses.Memory refusal = record { unheard = λ heard. cc; caused = tt; first = λ tells fault faulty. inr (inr refl) }
+  refusal_is _ refusal = absurd refusal
 
   pub refused_run : IsRefusal run.sources_tell run.beginning run.status → run.next.now ≡ run.next.before
       → run.out.now ≡ run.out.before → (IsTrue run.sources_tell → LosesNothing run.beginning)
       → run.receiver.now ≡ run.receiver.before → IsRun run
   refused_run refusal next out kept same =
+      let refused = refusal_is run.status refusal in
       let still : IsStill run = record {
         next = ap (λ (s : SinkShown). s.written) next;
         out = ap (λ (s : SinkShown). s.written) out;
       } in record {
-        headline = λ was tells. absurd (unheard run.status refusal was);
+        headline = λ was tells. absurd (refused.unheard was);
         unmade = λ memory tells. inl still;
         still = λ unread. still;
-        caused = refusal_caused run.status refusal;
-        refused = λ tells fault faulty. first_fault run.status refusal tells fault faulty;
-        complete = λ tells free. refusal_done run.status refusal tells free;
+        caused = refused.caused;
+        refused = refused.first;
+        complete = done_by run.status refused.caused;
         no_loss = λ tells. (kept tells, ap (λ s. s.taken ++ s.left) same);
       }
-
--- ---- texts behind one another
-
-front_of_more : (text more before now : List ℕ) → AppendsFront text before now → AppendsFront (text ++ more) before now
-front_of_more text more before now front = record {
-  count = front.count;
-  within = omega (arith, front.within, length-append text more);
-  appended = front.appended ∙ ap (λ t. before ++ t) (sym (take-append-le front.count text more front.within));
-}
-
-front_behind : (text more before mid now : List ℕ) → mid ≡ before ++ text → AppendsFront more mid now → AppendsFront (text ++ more) before now
-front_behind text more before mid now whole front = record {
-  count = length text + front.count;
-  within = omega (arith, front.within, length-append text more);
-  appended = front.appended ∙ ap (λ t. t ++ take front.count more) whole ∙ append_assoc before text (take front.count more)
-      ∙ ap (λ t. before ++ t) (sym (take-append-add text more front.count));
-}
-
-whole_behind : (text more before mid now : List ℕ) → mid ≡ before ++ text → now ≡ mid ++ more → now ≡ before ++ (text ++ more)
-whole_behind text more before mid now one two = two ∙ ap (λ t. t ++ more) one ∙ append_assoc before text more
-
-rose_before : (before mid now : ℕ) → before ≤ mid → Rose mid now → Rose before now
-rose_before before mid now later rose = ⊎_elim (λ more. inl (omega arith)) (λ most. inr most) rose
 
 -- ---- ends
 
 whole_text : (end : LinesEnd) (text : List ℕ) (sink : Change SinkShown) → IsTrue (is_whole end) → EndsText end text sink → HasWhole text sink
-whole_text ends.Done text sink whole ends = ends
-whole_text ends.Cut text sink whole ends = ends
-whole_text ends.Read text sink whole ends = ends
 whole_text ends.Write text sink whole ends = absurd cc
 whole_text ends.Memory text sink whole ends = absurd cc
+whole_text _ text sink whole ends = ends
 
 written_whole : (end : LinesEnd) (h : Heard) (run : Run) → IsTrue (is_whole end) → IsWhole h run → IsWritten (status_of end) h run
-written_whole ends.Done h run whole w = w
-written_whole ends.Cut h run whole w = w
-written_whole ends.Read h run whole w = w
 written_whole ends.Write h run whole w = absurd cc
 written_whole ends.Memory h run whole w = absurd cc
+written_whole _ h run whole w = w
 
-written_short : (end : LinesEnd) (h : Heard) (run : Run) (mid : SinkShown) (text : List ℕ) → is_whole end ≡ false
-    → text ≡ lines_told h.known [] 1 h.lines
-    → (IsTrue run.out_tells → EndsText end text (record { before = run.out.before; now = mid }))
-    → run.next.now ≡ run.next.before → run.out.now ≡ mid → IsWritten (status_of end) h run
-written_short ends.Done h run mid text short is front next out = absurd cc
-written_short ends.Cut h run mid text short is front next out = absurd cc
-written_short ends.Read h run mid text short is front next out = absurd cc
-written_short ends.Write h run mid text short is front next out = record {
-  next = λ tells. inl (ap (λ (s : SinkShown). s.written) next);
-  out = λ tells.
-      front_of_more (lines_told h.known [] 1 h.lines) (end_told h) run.out.before.written run.out.now.written
-      (subst (λ now. AppendsFront (lines_told h.known [] 1 h.lines) run.out.before.written now)
-      (sym (ap (λ (s : SinkShown). s.written) out))
-      (subst (λ t. AppendsFront t run.out.before.written mid.written) is (front tells)));
-}
-written_short ends.Memory h run mid text short is front next out = record {
-  next = λ tells. ap (λ (s : SinkShown). s.written) next;
-  out = λ tells.
-      subst (λ now. AppendsFront (lines_told h.known [] 1 h.lines) run.out.before.written now)
-      (sym (ap (λ (s : SinkShown). s.written) out))
-      (subst (λ t. AppendsFront t run.out.before.written mid.written) is (front tells));
-}
+written_short : (end : LinesEnd) (h : Heard) (run : Run) → is_whole end ≡ false → (IsTrue run.next_tells → IsSilent run.next)
+    → (IsTrue run.out_tells → EndsText end (lines_told h.known [] 1 h.lines) run.out) → IsWritten (status_of end) h run
+written_short ends.Write h run short next out =
+    record { next = λ tells. inl (next tells); out = λ tells. first (lines_told h.known [] 1 h.lines) (end_told h) _ _ (out tells) }
+written_short ends.Memory h run short next out = record { next = next; out = out }
+written_short _ h run short next out = absurd cc
 
 read_by : (end : LinesEnd) → IsUnread (status_of end) → ⊥
 read_by ends.Done unread = unread
-read_by ends.Cut unread = unread
-read_by ends.Read unread = unread
-read_by ends.Write unread = unread
-read_by ends.Memory unread = unread
+read_by _ unread = unread
 
 -- once lines were read, no status says that none was
 pub unread_never : (f : Finish) → Finishes f → IsUnread f.status → ⊥
@@ -205,46 +145,46 @@ unread_never f (inr (inr (inr g))) unread = read_by f.end (subst IsUnread g.stat
 
 -- ---- a run whose lines were told
 
-module _ (run : Run) (known : Known) (first now : Stepper) (end : LinesEnd) (mid : SinkShown) (notes_tell : Bool) (notes : Change SinkShown)
-    (found : IsTrue run.sources_tell → state_of run.beginning.before.left ≡ Ok known)
+abbrev finish_of : Run → Address → Stepper → LinesEnd → SinkShown → Finish
+finish_of run own now end mid = record {
+  end = end;
+  left = state_text (known_of own now.world);
+  ending = end_text now end;
+  next_tells = run.next_tells;
+  next = run.next;
+  out_tells = run.out_tells;
+  out = record { before = mid; now = run.out.now };
+  status = run.status;
+}
+
+module _ (run : Run) (state : Known) (own : Address) (starts : List Start) (first_teller now : Stepper) (end : LinesEnd) (mid : SinkShown)
+    (notes_tell : Bool) (notes : Change SinkShown) (own_is : own ≡ state.own) (starts_are : starts ≡ state.starts)
+    (state_found : IsTrue run.sources_tell → state_of run.beginning.before.left ≡ Ok state)
     (begun : IsTrue run.sources_tell → IsReadOut run.beginning)
     (kept : IsTrue run.sources_tell → LosesNothing run.beginning)
-    (room : HasRoom known.starts) (fresh : IsFresh known.own known.starts first)
-    (ended : IsTrue run.sources_tell → Ended TellsLine first now end run.receiver.now run.out_tells
+    (state_room : HasRoom state.starts) (fresh : IsFresh own starts first_teller)
+    (ended : IsTrue run.sources_tell → Ended TellsLine first_teller now end run.receiver.now run.out_tells
     (record { before = run.out.before; now = mid }) notes_tell notes)
     (read : end ≡ ends.Read → ReadFailed run.receiver)
     (write : end ≡ ends.Write → Rose run.out.before.faults mid.faults)
     (later : run.out.before.faults ≤ mid.faults)
     (receiver_kept : IsTrue run.sources_tell → LosesNothing run.receiver)
-    (readable : HasRoom (known_of known.own now.world).starts
-    → state_of (state_text (known_of known.own now.world)) ≡ Ok (known_of known.own now.world))
-    (finishes : Finishes (record {
-      end = end;
-      left = state_text (known_of known.own now.world);
-      ending = end_text now end;
-      next_tells = run.next_tells;
-      next = run.next;
-      out_tells = run.out_tells;
-      out = record { before = mid; now = run.out.now };
-      status = run.status;
-    })) where
-  abbrev finish : Finish
-  finish = record {
-    end = end;
-    left = state_text (known_of known.own now.world);
-    ending = end_text now end;
-    next_tells = run.next_tells;
-    next = run.next;
-    out_tells = run.out_tells;
-    out = record { before = mid; now = run.out.now };
-    status = run.status;
-  }
+    (readable : HasRoom (known_of own now.world).starts → state_of (state_text (known_of own now.world)) ≡ Ok (known_of own now.world))
+    (finishes : Finishes (finish_of run own now end mid)) where
+  abbrev known : Known
+  known = record { own = own; starts = starts }
 
-  stands_first : StandsBehind known [] first
+  found : IsTrue run.sources_tell → state_of run.beginning.before.left ≡ Ok known
+  found tells = state_found tells ∙ (λ i. Ok (record { own = sym own_is i; starts = sym starts_are i }))
+
+  room : HasRoom starts
+  room = subst HasRoom (sym starts_are) state_room
+
+  stands_first : StandsBehind known [] first_teller
   unfolding steps_among
   stands_first = record {
     meters = fresh.meters;
-    counts = fresh.counts ∙ counted_none (map (λ (c : Start). c.address) known.starts);
+    counts = fresh.counts ∙ counted_none (map (λ (c : Start). c.address) starts);
   }
 
   module _ (tells : IsTrue run.sources_tell) where
@@ -252,13 +192,13 @@ module _ (run : Run) (known : Known) (first now : Stepper) (end : LinesEnd) (mid
     heard = record { known = known; lines = (ended tells).lines; end = end }
 
     so : AreSo known [] 1 (ended tells).lines (ended tells).text (ended tells).last
-    so = lines_so known room.apart saying 1 [] refl first (ended tells).last (ended tells).lines (ended tells).text (ended tells).note
+    so = lines_so known room.apart saying 1 [] refl first_teller (ended tells).last (ended tells).lines (ended tells).text (ended tells).note
         stands_first (ended tells).told
 
     stands : IsTrue (is_whole end) → StandsBehind known (tellings heard) now
     stands whole = subst (StandsBehind known (tellings heard)) ((ended tells).last_is whole) so.stands
 
-    left : IsTrue (is_whole end) → known_of known.own now.world ≡ next_known heard
+    left : IsTrue (is_whole end) → known_of own now.world ≡ next_known heard
     left whole = left_is passing_is_known heard now (stands whole)
 
     ending : IsTrue (is_whole end) → end_text now end ≡ end_told heard
@@ -274,12 +214,12 @@ module _ (run : Run) (known : Known) (first now : Stepper) (end : LinesEnd) (mid
         whole_text end (ended tells).text (record { before = run.out.before; now = mid }) whole ((ended tells).written on)
         ∙ ap (λ t. run.out.before.written ++ t) so.text_is
 
-    written_by : Finishes finish → IsWritten run.status heard run
+    written_by : Finishes (finish_of run own now end mid) → IsWritten run.status heard run
     written_by (inl f) = subst (λ s. IsWritten s heard run) (sym f.status_is) (written_whole end heard run f.whole (record {
       ended = f.status_is;
       next = λ on. subst (λ (k : Known). HasWhole (state_text k) run.next) (left f.whole) (f.next on);
       out = λ on.
-          whole_behind (lines_told known [] 1 (ended tells).lines) (end_told heard) run.out.before.written mid.written run.out.now.written
+          both (lines_told known [] 1 (ended tells).lines) (end_told heard) run.out.before.written mid.written run.out.now.written
           (told f.whole on) (f.out on ∙ ap (λ t. mid.written ++ t) (ending f.whole));
     }))
     written_by (inr (inl f)) = subst (λ s. IsWritten s heard run) (sym f.status_is) (record {
@@ -290,11 +230,13 @@ module _ (run : Run) (known : Known) (first now : Stepper) (end : LinesEnd) (mid
     written_by (inr (inr (inl f))) = subst (λ s. IsWritten s heard run) (sym f.status_is) (record {
       next = λ on. inr (f.whole, subst (λ (k : Known). HasWhole (state_text k) run.next) (left f.whole) (f.next on));
       out = λ on.
-          front_behind (lines_told known [] 1 (ended tells).lines) (end_told heard) run.out.before.written mid.written run.out.now.written
+          behind (lines_told known [] 1 (ended tells).lines) (end_told heard) run.out.before.written mid.written run.out.now.written
           (told f.whole on) (subst (λ t. AppendsFront t mid.written run.out.now.written) (ending f.whole) (f.out on));
     })
     written_by (inr (inr (inr f))) = subst (λ s. IsWritten s heard run) (sym f.status_is)
-        (written_short end heard run mid (ended tells).text f.short so.text_is (λ on. (ended tells).written on) f.next f.out)
+        (written_short end heard run f.short (λ on. ap (λ (s : SinkShown). s.written) f.next) (λ on.
+        subst (λ (o : SinkShown). EndsText end (lines_told known [] 1 (ended tells).lines) (record { before = run.out.before; now = o })) (sym f.out)
+        (subst (λ t. EndsText end t (record { before = run.out.before; now = mid })) so.text_is ((ended tells).written on))))
 
     headline : Headline run
     headline = record {
@@ -302,7 +244,7 @@ module _ (run : Run) (known : Known) (first now : Stepper) (end : LinesEnd) (mid
       begun = begun tells;
       known_is = found tells;
       lines = (ended tells).lines_are;
-      session = session_alone known.own known.starts (tellings heard);
+      session = session_alone own starts (tellings heard);
       left = read_back;
       written = written_by finishes;
     }
@@ -320,74 +262,19 @@ module _ (run : Run) (known : Known) (first now : Stepper) (end : LinesEnd) (mid
   cause_of ends.Write is (inr whole) = absurd cc
   cause_of ends.Memory is same = tt
 
-  caused_by : Finishes finish → IsCausedBy run run.status
+  caused_by : Finishes (finish_of run own now end mid) → IsCausedBy run run.status
   caused_by (inl f) = subst (IsCausedBy run) (sym f.status_is) (cause_of end refl (inr f.whole))
   caused_by (inr (inl f)) = subst (IsCausedBy run) (sym f.status_is) f.failed
-  caused_by (inr (inr (inl f))) = subst (IsCausedBy run) (sym f.status_is)
-      (rose_before run.out.before.faults mid.faults run.out.now.faults later f.failed)
+  caused_by (inr (inr (inl f))) = subst (IsCausedBy run) (sym f.status_is) (rose_since _ _ _ later f.failed)
   caused_by (inr (inr (inr f))) = subst (IsCausedBy run) (sym f.status_is) (cause_of end refl (inl f.out))
-
-  done_by : (e : LinesEnd) → IsCausedBy run (status_of e) → IsTrue run.sources_tell → IsFaultless run → IsDone (status_of e)
-  done_by ends.Done cause tells free = inl refl
-  done_by ends.Cut cause tells free = absurd (let clash : true ≡ false = sym (cause tells) ∙ free.within in cc)
-  done_by ends.Read cause tells free = absurd (free.receiver_steady cause)
-  done_by ends.Write cause tells free = absurd (free.out_steady cause)
-  done_by ends.Memory cause tells free = inr refl
-
-  complete_by : Finishes finish → IsTrue run.sources_tell → IsFaultless run → IsDone run.status
-  complete_by (inl f) tells free = subst IsDone (sym f.status_is) (done_by end (cause_of end refl (inr f.whole)) tells free)
-  complete_by (inr (inl f)) tells free = absurd (free.next_steady f.failed)
-  complete_by (inr (inr (inl f))) tells free = absurd (free.out_steady (caused_untold f))
-    where
-      caused_untold : FinishesUntold finish → WriteFailed run.out
-      caused_untold g = rose_before run.out.before.faults mid.faults run.out.now.faults later g.failed
-  complete_by (inr (inr (inr f))) tells free = subst IsDone (sym f.status_is) (done_by end (cause_of end refl (inl f.out)) tells free)
 
   pub told_run : IsRun run
   told_run = record {
     headline = λ was tells. headline tells;
     unmade = λ memory tells. inr (headline tells);
-    still = λ unread. absurd (unread_never finish finishes unread);
+    still = λ unread. absurd (unread_never (finish_of run own now end mid) finishes unread);
     caused = caused_by finishes;
     refused = λ tells fault faulty. absurd (let clash = sym (found tells) ∙ faulty in cc);
-    complete = λ tells free. complete_by finishes tells free;
+    complete = done_by run run.status (caused_by finishes);
     no_loss = λ tells. (kept tells, receiver_kept tells);
   }
-
-pub told_run_by : (run : Run) (known : Known) (own : Address) (starts : List Start) (first now : Stepper) (end : LinesEnd) (mid : SinkShown)
-    (notes_tell : Bool) (notes : Change SinkShown) → own ≡ known.own → starts ≡ known.starts
-    → (IsTrue run.sources_tell → state_of run.beginning.before.left ≡ Ok known)
-    → (IsTrue run.sources_tell → IsReadOut run.beginning) → (IsTrue run.sources_tell → LosesNothing run.beginning)
-    → HasRoom known.starts → IsFresh own starts first
-    → (IsTrue run.sources_tell → Ended TellsLine first now end run.receiver.now run.out_tells
-    (record { before = run.out.before; now = mid }) notes_tell notes)
-    → (end ≡ ends.Read → ReadFailed run.receiver) → (end ≡ ends.Write → Rose run.out.before.faults mid.faults)
-    → run.out.before.faults ≤ mid.faults → (IsTrue run.sources_tell → LosesNothing run.receiver)
-    → (HasRoom (known_of own now.world).starts → state_of (state_text (known_of own now.world)) ≡ Ok (known_of own now.world))
-    → Finishes (record {
-      end = end;
-      left = state_text (known_of own now.world);
-      ending = end_text now end;
-      next_tells = run.next_tells;
-      next = run.next;
-      out_tells = run.out_tells;
-      out = record { before = mid; now = run.out.now };
-      status = run.status;
-    }) → IsRun run
-told_run_by run known own starts first now end mid notes_tell notes own_is starts_is found begun kept room fresh ended read write later
-    receiver_kept readable finishes =
-    told_run run known first now end mid notes_tell notes found begun kept room
-    (subst (λ a. IsFresh a known.starts first) own_is (subst (λ cs. IsFresh own cs first) starts_is fresh))
-    ended read write later receiver_kept
-    (subst (λ a. HasRoom (known_of a now.world).starts → state_of (state_text (known_of a now.world)) ≡ Ok (known_of a now.world)) own_is
-    readable)
-    (subst (λ a. Finishes (record {
-      end = end;
-      left = state_text (known_of a now.world);
-      ending = end_text now end;
-      next_tells = run.next_tells;
-      next = run.next;
-      out_tells = run.out_tells;
-      out = record { before = mid; now = run.out.now };
-      status = run.status;
-    })) own_is finishes)

@@ -16,11 +16,3 @@ wrote_by tells text sink (Err failed) ok err cause = (cause, err)
 pub unwritten : (tells : Bool) (text : List ℕ) (sink : Change SinkShown) (result : Result (Unit {0}) Failed) (failed : Failed)
     → result ≡ Err failed → Wrote tells text sink result → WriteFailed sink × (IsTrue tells → AppendsFront text sink.before.written sink.now.written)
 unwritten tells text sink result failed is wrote = subst (Wrote tells text sink) is wrote
-
-pub whole_written : (tells : Bool) (text : List ℕ) (sink : Change SinkShown) (result : Result (Unit {0}) Failed) (done : Unit {0})
-    → result ≡ Ok done → Wrote tells text sink result → IsTrue tells → sink.now.written ≡ sink.before.written ++ text
-whole_written tells text sink result done is wrote = subst (Wrote tells text sink) is wrote
-
--- a flag that says what another one does
-pub flag_is : (flag : Bool) (said : Bool) (b : Bool) → said ≡ flag → said ≡ b → flag ≡ b
-flag_is flag said b is on = sym is ∙ on

@@ -1,12 +1,12 @@
-use Rattle.std.proofs.Common.{inl, inr, refl}
-use Rattle.steps_main.proofs.Wrote.{unwritten, flag_is}
+use Rattle.std.proofs.Common.{inl, inr, refl, sym, ◌∙◌}
+use Rattle.steps_main.proofs.Wrote.{unwritten}
 use Rattle.steps_main.proofs.running.finish.Goals as goal
 
 pub returns-in-Err-clause-finishes : goal.returns-in-Err-clause-finishes
 returns-in-Err-clause-finishes g c =
     let wrote = unwritten _ _ _ _ _ c.in-Err.is c.write_left.ensures.wrote in
     inr (inl (record {
-      whole = flag_is _ _ _ c.is_whole.ensures c.if-not-is_whole.false;
+      whole = sym c.is_whole.ensures ∙ c.if-not-is_whole.false;
       status_is = refl;
       failed = wrote.0;
       next = wrote.1;
