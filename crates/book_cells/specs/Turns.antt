@@ -114,16 +114,13 @@ module _ {O C R : Type 0} (o : O) (g : Course C R) where
 
 -- the stage of a pass whose ticket is out
 abbrev pub IsOut : ℕ → Stage → Type 0
-IsOut t Spent = ⊥
-IsOut t Idle = ⊥
 IsOut t (Waiting n) = n ≡ t
 IsOut t (Holding n) = n ≡ t
+IsOut t stage = ⊥
 
 abbrev pub IsThere : Stage → Type 0
 IsThere Spent = ⊥
-IsThere Idle = Unit {0}
-IsThere (Waiting n) = Unit {0}
-IsThere (Holding n) = Unit {0}
+IsThere stage = Unit {0}
 
 -- all acts are what some pass sees, which was not taken in by another
 abbrev pub IsLongest : {O C R : Type 0} → List (Act C R) → List (Known O C R) → Type 0
