@@ -132,9 +132,8 @@ module _ {B O C R : Type 0} where
   drew st m found m' = (t : ℕ) × (wrapped t ≡ found) × (m' ≡ (at_stage m.0 (Waiting t), m.1))
 
   abbrev pub LeftAt : (B → List (Act C R)) → Known O C R → List (ℕ × Option (Kept B)) → Me (Option (Kept B)) (Known O C R) → Type 0
-  LeftAt acts_of v [] m' = Unit {0}
-  LeftAt acts_of v ((i, None) ∷ xs) m' = Unit {0}
   LeftAt acts_of v ((i, Some k) ∷ xs) m' = m' ≡ (back_with v (acts_of k.book.value), xs)
+  LeftAt acts_of v _ m' = Unit {0}
 
   -- the book went home
   abbrev pub left : (B → List (Act C R)) → Step (Option (Kept B)) → Me (Option (Kept B)) (Known O C R) → ℕ

@@ -11,9 +11,8 @@ use Rattle.cbc_cmac.specs.Mac.{chain, zeros, before_last, first_subkey, masked, 
 -- adding zeros changes nothing
 add_zeros : (n : ℕ) (x : List ℕ) → length x ≡ n → add (replicate n 0) x ≡ x
 add_zeros zero [] h = refl
-add_zeros zero (b ∷ x) h = absurd (omega arith)
-add_zeros (suc n) [] h = absurd (omega arith)
 add_zeros (suc n) (b ∷ x) h = ap₂ (λ (c : ℕ) (cs : List ℕ). c ∷ cs) (xor_zero_l b) (add_zeros n x (omega arith))
+add_zeros _ _ h = absurd (omega arith)
 
 none_before : (key block : List ℕ) (n : ℕ) → n ≡ 0 → chain key zeros (first_blocks n block) ≡ zeros
 unfolding chain

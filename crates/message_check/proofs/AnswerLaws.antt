@@ -58,8 +58,7 @@ done said m old left end (Err r) (Err q) stands len is kept emptied opened refus
       same_len = tt;
       emptied = emptied;
     }
-done said m old left end (Ok o) (Err q) stands len is kept emptied opened refused within front = absurd (cc is)
-done said m old left end (Err r) (Ok p) stands len is kept emptied opened refused within front = absurd (cc is)
+done said m old left end _ _ stands len is kept emptied opened refused within front = absurd (cc is)
 
 opens : (said : List ℕ → Result Found Reason) (old end : List ℕ) (answer : Result Opened Reason) (Means : Found → Type 0)
     (Causes : Reason → Type 0) → Done said old end answer → ((f : Found) → said old ≡ Ok f → Means f)
