@@ -111,10 +111,8 @@ first_sent : (b : Bool) (w : Window) (ids : ℕ) (cs : List Command) (d : ℕ)
     (λ c. IsOldestAfterTry (sent_orders (orders_of (record { ids = ids; commands = cs }) w d) (cond b (oldest_where_idle w cs) None)).queue
     c)
 unfolding with_try
-first_sent false w ids cs d = tt
-first_sent true (Waiting id) ids cs d = tt
-first_sent true Idle ids [] d = tt
 first_sent true Idle ids (c ∷ cs) d = refl
+first_sent _ _ ids _ d = tt
 
 -- the command that is sent stands first
 pub sent_first : (k : Orders) (access : Access) → IfSome (sent k access) (λ c. IsOldestAfterTry (after_sent k access).queue c)

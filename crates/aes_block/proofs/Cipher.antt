@@ -6,7 +6,7 @@ use Rattle.std.proofs.lemmas.List.Elements.{All-nil, All-cons, All-head, All-tai
 use Rattle.std.proofs.lemmas.Nat.{xor_of_8}
 use Rattle.std.specs.List.{range_with_len}
 use Rattle.aes_block.proofs.Lists.{AreBytes, add-add, length-add, AreBytes-add, at_four, sixteen}
-use Rattle.aes_block.proofs.Mixing.{by_columns, length-mix, AreBytes-mix, AreBytes-4, AreBytes-mix_polynomial, AreBytes-inverse_mix_polynomial, inverse_mix-mix, mix-inverse_mix}
+use Rattle.aes_block.proofs.Mixing.{by_columns, length-mix, AreBytes-mix, AreBytes-map, AreBytes-4, AreBytes-mix_polynomial, AreBytes-inverse_mix_polynomial, inverse_mix-mix, mix-inverse_mix}
 use Rattle.aes_block.proofs.ByteTables.{substitute-lt, inverse_substitute-lt, inverse_substitute-substitute, substitute-inverse_substitute}
 use Rattle.aes_block.proofs.Elements.{product-lt}
 use Rattle.aes_block.specs.Field.{substitute, inverse_substitute}
@@ -14,12 +14,6 @@ use Rattle.aes_block.specs.Block.{IsBlock, add, sub_bytes, inverse_sub_bytes, el
 use Rattle.aes_block.specs.Laws.{EachStepIsUndone, DecryptionUndoesEncryption}
 
 -- ---- what keeps a block a block
-AreBytes-map : (f : ℕ → ℕ) → ((x : ℕ) → x < 256 → f x < 256) → (xs : List ℕ) → AreBytes xs → AreBytes (map f xs)
-AreBytes-map f low [] h = All-nil (λ x. x < 256)
-AreBytes-map f low (x ∷ xs) h =
-    let P : ℕ → Type 0 = λ x. x < 256 in
-    All-cons P (f x) (map f xs) (low x (All-head P x xs h)) (AreBytes-map f low xs (All-tail P x xs h))
-
 AreBytes-made : (f : ℕ → ℕ) → ((x : ℕ) → f x < 256) → (xs : List ℕ) → AreBytes (map f xs)
 AreBytes-made f low [] = All-nil (λ x. x < 256)
 AreBytes-made f low (x ∷ xs) = All-cons (λ x. x < 256) (f x) (map f xs) (low x) (AreBytes-made f low xs)

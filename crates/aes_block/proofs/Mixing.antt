@@ -1,9 +1,8 @@
 -- The inverse mixing undoes the mixing, and the mixing the inverse.
-use Rattle.std.proofs.Common.{◌≡◌, ℕ, zero, suc, ◌*◌, ◌<◌, ◌&&◌, ◌++◌, Bool, true, List, [], ◌∷◌, length, map, refl, sym, ap, ap₂, ◌∙◌, bit_xor, arith}
+use Rattle.std.proofs.Common.{◌≡◌, ℕ, suc, ◌*◌, ◌<◌, ◌&&◌, ◌++◌, Bool, true, List, [], ◌∷◌, length, map, refl, sym, ap, ap₂, ◌∙◌, bit_xor, arith}
 use Rattle.std.proofs.lemmas.Bool.{and_parts}
 use Rattle.std.proofs.lemmas.List.{length-append}
 use Rattle.std.proofs.lemmas.List.Elements.{All-nil, All-cons, All-head, All-tail, All-append}
-use Rattle.std.specs.List.{All}
 use lib.Bits.{xor_zero_r}
 use Rattle.aes_block.proofs.Bytes.{holds_below, at_each_below}
 use Rattle.aes_block.proofs.Sums.{product_of_sum}
@@ -99,24 +98,22 @@ mix_polynomial_undoes = refl
 
 -- ---- whole blocks
 
-AreBytes-product : (k : ℕ) (xs : List ℕ) → k < 256 → AreBytes xs → AreBytes (map (product k) xs)
-AreBytes-product k [] hk h = All-nil (λ x. x < 256)
-AreBytes-product k (x ∷ xs) hk h =
+pub AreBytes-map : (f : ℕ → ℕ) → ((x : ℕ) → x < 256 → f x < 256) → (xs : List ℕ) → AreBytes xs → AreBytes (map f xs)
+AreBytes-map f low [] h = All-nil (λ x. x < 256)
+AreBytes-map f low (x ∷ xs) h =
     let P : ℕ → Type 0 = λ x. x < 256 in
-    All-cons P (product k x) (map (product k) xs) (product-lt k x hk (All-head P x xs h)) (AreBytes-product k xs hk (All-tail P x xs h))
-
-pub All-4 : (P : ℕ → Type 0) (a b c d : ℕ) → P a → P b → P c → P d → All P (a ∷ b ∷ c ∷ d ∷ [])
-All-4 P a b c d ha hb hc hd =
-    All-cons P a (b ∷ c ∷ d ∷ []) ha (All-cons P b (c ∷ d ∷ []) hb (All-cons P c (d ∷ []) hc (All-cons P d [] hd (All-nil P))))
+    All-cons P (f x) (map f xs) (low x (All-head P x xs h)) (AreBytes-map f low xs (All-tail P x xs h))
 
 pub AreBytes-4 : (a b c d : ℕ) → a < 256 → b < 256 → c < 256 → d < 256 → AreBytes (a ∷ b ∷ c ∷ d ∷ [])
-AreBytes-4 = All-4 (λ x. x < 256)
+AreBytes-4 a b c d ha hb hc hd =
+    let P : ℕ → Type 0 = λ x. x < 256 in
+    All-cons P a (b ∷ c ∷ d ∷ []) ha (All-cons P b (c ∷ d ∷ []) hb (All-cons P c (d ∷ []) hc (All-cons P d [] hd (All-nil P))))
 
 pub AreBytes-mix_polynomial : AreBytes mix_polynomial
-AreBytes-mix_polynomial = All-4 (λ x. x < 256) 2 1 1 3 (omega arith) (omega arith) (omega arith) (omega arith)
+AreBytes-mix_polynomial = AreBytes-4 2 1 1 3 (omega arith) (omega arith) (omega arith) (omega arith)
 
 pub AreBytes-inverse_mix_polynomial : AreBytes inverse_mix_polynomial
-AreBytes-inverse_mix_polynomial = All-4 (λ x. x < 256) 14 9 13 11 (omega arith) (omega arith) (omega arith) (omega arith)
+AreBytes-inverse_mix_polynomial = AreBytes-4 14 9 13 11 (omega arith) (omega arith) (omega arith) (omega arith)
 
 pub AreBytes-column_product : (m : List ℕ) (a b c d : ℕ) → AreBytes m → a < 256 → b < 256 → c < 256 → d < 256
     → AreBytes (column_product m (a ∷ b ∷ c ∷ d ∷ []))
@@ -125,7 +122,7 @@ AreBytes-column_product [] a b c d hm ha hb hc hd = AreBytes-4 0 0 0 0 (omega ar
 AreBytes-column_product (k ∷ m) a b c d hm ha hb hc hd =
     let Q : ℕ → Type 0 = λ x. x < 256 in
     AreBytes-add (map (product k) (a ∷ b ∷ c ∷ d ∷ [])) (column_product m (d ∷ a ∷ b ∷ c ∷ []))
-    (AreBytes-product k (a ∷ b ∷ c ∷ d ∷ []) (All-head Q k m hm) (AreBytes-4 a b c d ha hb hc hd))
+    (AreBytes-map (product k) (λ x. product-lt k x (All-head Q k m hm)) (a ∷ b ∷ c ∷ d ∷ []) (AreBytes-4 a b c d ha hb hc hd))
     (AreBytes-column_product m d a b c (All-tail Q k m hm) hd ha hb hc)
 
 mix_append : (m x y : List ℕ) → length x ≡ 4 → mix m (x ++ y) ≡ column_product m x ++ mix m y
@@ -168,11 +165,8 @@ mix_of_sum m x y hx hy =
 pub by_columns : (P : List ℕ → Type 0) → P [] → ((a b c d : ℕ) (s : List ℕ) → P s → P (a ∷ b ∷ c ∷ d ∷ s)) → (q : ℕ) (s : List ℕ)
     → length s ≡ 4 * q → P s
 by_columns P none more q [] h = none
-by_columns P none more q (a ∷ []) h = absurd (omega arith)
-by_columns P none more q (a ∷ b ∷ []) h = absurd (omega arith)
-by_columns P none more q (a ∷ b ∷ c ∷ []) h = absurd (omega arith)
-by_columns P none more zero (a ∷ b ∷ c ∷ d ∷ s) h = absurd (omega arith)
 by_columns P none more (suc q) (a ∷ b ∷ c ∷ d ∷ s) h = more a b c d s (by_columns P none more q s (omega arith))
+by_columns P none more q s h = absurd (omega arith)
 
 -- the same of columns of bytes
 by_byte_columns : (P : List ℕ → Type 0) → P []

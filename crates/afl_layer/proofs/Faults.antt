@@ -1,10 +1,10 @@
 -- Each fault is the first of the bytes, and bytes with a fault give it.
-use Rattle.std.proofs.Common.{◌≡◌, ℕ, ◌+◌, ◌<◌, ◌↔◌, false, cond, not, eqb, ltb, List, [], ◌∷◌, ◌++◌, length, Some, Result, Ok, Err, refl, sym, ap, subst, ◌∙◌, eq-eqb, arith, inl, inr}
+use Rattle.std.proofs.Common.{◌≡◌, ℕ, ◌+◌, ◌<◌, ◌↔◌, Bool, true, false, cond, not, eqb, ltb, List, [], ◌∷◌, ◌++◌, length, Some, Result, Ok, Err, refl, sym, ap, subst, ◌∙◌, eq-eqb, arith, inl, inr}
 use Rattle.std.specs.Prelude.{slice_get}
 use Rattle.std.specs.Int.{w16, from_le_bytes}
 use Rattle.std.proofs.lemmas.Bool.{eqb-true, eqb-false, false_from_ne_true, ltb-true, ltb-false, lt-ltb, le-ltb}
 use Rattle.std.proofs.lemmas.Nat.{le_bytes_2, from_le_bytes-to_le_bytes_2}
-use Rattle.lists.proofs.Choices.{chosen, not_true, not_false}
+use Rattle.lists.proofs.Choices.{not_true, not_false}
 use Rattle.afl_layer.specs.declared.header.Afl.{Afl}
 use Rattle.afl_layer.specs.declared.header.AflFault.{AflFault}
 use Rattle.afl_layer.specs.declared.header.AflFault.TheVariants.{Truncated, AflLength, FieldPlace, FidZero}
@@ -16,8 +16,11 @@ use Rattle.afl_layer.proofs.HeaderLaws.{two_bytes, judged, word_at}
 abbrev no_header : AflFault → Result Afl AflFault
 no_header f = Err f
 
-same_fault : (bytes : List ℕ) (d f : AflFault) → no_header d ≡ no_header f → IsAflFault bytes d → IsAflFault bytes f
-same_fault bytes d f e h = let is : d ≡ f = cc in subst (IsAflFault bytes) is h
+-- a test that refuses, or what stands behind it
+of_test : (bytes : List ℕ) (b : Bool) (d f : AflFault) (r : Result Afl AflFault) → cond b (Err d) r ≡ Err f → (b ≡ true → IsAflFault bytes d)
+    → (b ≡ false → r ≡ Err f → IsAflFault bytes f) → IsAflFault bytes f
+of_test bytes true d f r e here behind = let is : d ≡ f = cc in subst (IsAflFault bytes) is (here refl)
+of_test bytes false d f r e here behind = behind refl e
 
 -- ---- what is refused has its fault
 
@@ -27,26 +30,14 @@ judged_fault : (bytes : List ℕ) (said fcl : ℕ) (rest : List ℕ) (f : AflFau
 unfolding judged
 judged_fault bytes said fcl rest f begins len e =
     let counted : ℕ = 2 + fields_len fcl in
-    elim (chosen (not (eqb said counted)) _ _ _ e) [
-      | inl other ↦
-          same_fault bytes (AflLength said counted) f other.1 (fcl, rest, begins, refl, eqb-false _ _ (not_true _ other.0))
-      | inr counts ↦
-          let begins_so = subst (λ (x : ℕ). BeginsWithFcl bytes x fcl rest) (eqb-true _ _ (not_false _ counts.0)) begins in
-          elim (chosen (ltb (length rest) (fields_len fcl)) _ _ _ counts.1) [
-            | inl few ↦
-                same_fault bytes (Truncated (4 + length rest)) f few.1 (inr (fcl, rest, begins_so, ltb-true _ _ few.0), sym len)
-            | inr enough ↦
-                let has : HasFields bytes fcl = record { rest = rest; begins = begins_so; enough = ltb-false _ _ enough.0 } in
-                elim (chosen (misplaces fcl) _ _ _ enough.1) [
-                  | inl misplaced ↦ same_fault bytes (FieldPlace fcl) f misplaced.1 (has, misplaced.0)
-                  | inr placed ↦
-                      elim (chosen (uncounts fcl) _ _ _ placed.1) [
-                        | inl unnumbered ↦ same_fault bytes FidZero f unnumbered.1 (fcl, has, placed.0, unnumbered.0)
-                        | inr numbered ↦ absurd (cc numbered.1)
-                      ]
-                ]
-          ]
-    ]
+    of_test bytes (not (eqb said counted)) _ f _ e (λ other. (fcl, rest, begins, refl, eqb-false _ _ (not_true _ other)))
+    (λ counts e1.
+    let begins_so = subst (λ (x : ℕ). BeginsWithFcl bytes x fcl rest) (eqb-true _ _ (not_false _ counts)) begins in
+    of_test bytes (ltb (length rest) (fields_len fcl)) _ f _ e1 (λ few. (inr (fcl, rest, begins_so, ltb-true _ _ few), sym len))
+    (λ enough e2.
+    let has : HasFields bytes fcl = record { rest = rest; begins = begins_so; enough = ltb-false _ _ enough } in
+    of_test bytes (misplaces fcl) _ f _ e2 (λ misplaced. (has, misplaced))
+    (λ placed e3. of_test bytes (uncounts fcl) _ f _ e3 (λ unnumbered. (fcl, has, placed, unnumbered)) (λ _ passed. absurd (cc passed)))))
 
 short_fault : (bytes : List ℕ) (f : AflFault) → length bytes < 4 → Truncated (length bytes) ≡ f → IsAflFault bytes f
 short_fault bytes f few same =
@@ -64,13 +55,10 @@ begins_at ci said low high rest is_afl l h =
 
 fault_found : (bytes : List ℕ) (f : AflFault) → slice_get bytes 0 ≡ Some 0x90 → IsBytes bytes → afl_at bytes ≡ Err f → IsAflFault bytes f
 unfolding afl_at judged
-fault_found [] f ci fits e = short_fault [] f (omega arith) cc
-fault_found (a ∷ []) f ci fits e = short_fault (a ∷ []) f (omega arith) cc
-fault_found (a ∷ b ∷ []) f ci fits e = short_fault (a ∷ b ∷ []) f (omega arith) cc
-fault_found (a ∷ b ∷ c ∷ []) f ci fits e = short_fault (a ∷ b ∷ c ∷ []) f (omega arith) cc
 fault_found (a ∷ said ∷ low ∷ high ∷ rest) f ci fits e =
     let is_afl : a ≡ 0x90 = cc in
     judged_fault (a ∷ said ∷ low ∷ high ∷ rest) said _ rest f (begins_at a said low high rest is_afl (fits 2) (fits 3)) (omega arith) e
+fault_found bytes f ci fits e = short_fault bytes f (omega arith) (cc)
 
 -- ---- a fault gives its refusal
 
@@ -79,11 +67,8 @@ judged_at bytes said fcl rest h = ap afl_at h.parts ∙ word_at 0x90 said _ _ fc
 
 few_at : (bytes : List ℕ) → length bytes < 4 → afl_at bytes ≡ Err (Truncated (length bytes))
 unfolding afl_at
-few_at [] few = refl
-few_at (a ∷ []) few = refl
-few_at (a ∷ b ∷ []) few = refl
-few_at (a ∷ b ∷ c ∷ []) few = refl
 few_at (a ∷ b ∷ c ∷ d ∷ rest) few = absurd (omega (arith, few))
+few_at bytes few = refl
 
 -- where AFLL counts the fields, and they are there
 with_fields : (bytes : List ℕ) (fcl : ℕ) (h : HasFields bytes fcl)

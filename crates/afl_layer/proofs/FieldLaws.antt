@@ -42,25 +42,21 @@ one_is false bytes enough = record { text_is = refl; named_is = refl }
 pub two_is : (named : Bool) (bytes : List ℕ) → IsBytes bytes → where_so named 2 ≤ length bytes
     → IsField (to_le_bytes w16) named (take (where_so named 2) bytes) (two_in (take (where_so named 2) bytes))
     × IfSome (two_in (take (where_so named 2) bytes)) (λ n. n < 2 ^ 16)
-two_is true [] fits enough = absurd (omega arith)
-two_is true (a ∷ []) fits enough = absurd (omega arith)
 two_is true (a ∷ b ∷ bytes) fits enough = (
   record { text_is = le_bytes_2 (a ∷ b ∷ []) _ refl (IsBytes-take 2 (a ∷ b ∷ bytes) fits) refl; named_is = refl },
   omega (arith, fits 0, fits 1),
 )
+two_is true bytes fits enough = absurd (omega arith)
 two_is false bytes fits enough = (record { text_is = refl; named_is = refl }, tt)
 
 pub four_is : (named : Bool) (bytes : List ℕ) → IsBytes bytes → where_so named 4 ≤ length bytes
     → IsField (to_le_bytes w32) named (take (where_so named 4) bytes) (four_in (take (where_so named 4) bytes))
     × IfSome (four_in (take (where_so named 4) bytes)) (λ n. n < 2 ^ 32)
-four_is true [] fits enough = absurd (omega arith)
-four_is true (a ∷ []) fits enough = absurd (omega arith)
-four_is true (a ∷ b ∷ []) fits enough = absurd (omega arith)
-four_is true (a ∷ b ∷ c ∷ []) fits enough = absurd (omega arith)
 four_is true (a ∷ b ∷ c ∷ d ∷ bytes) fits enough = (
   record { text_is = le_bytes_4 (a ∷ b ∷ c ∷ d ∷ []) _ refl (IsBytes-take 4 (a ∷ b ∷ c ∷ d ∷ bytes) fits) refl; named_is = refl },
   omega (arith, fits 0, fits 1, fits 2, fits 3),
 )
+four_is true bytes fits enough = absurd (omega arith)
 four_is false bytes fits enough = (record { text_is = refl; named_is = refl }, tt)
 
 abbrev pub itself : List ℕ → List ℕ

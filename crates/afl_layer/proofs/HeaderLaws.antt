@@ -3,14 +3,14 @@ use Rattle.std.proofs.Common.{◌≡◌, ℕ, zero, suc, ◌+◌, ◌<◌, ◌�
 use Rattle.std.specs.Prelude.{IfOk, slice_get}
 use Rattle.std.specs.Int.{w16, w32, to_le_bytes, from_le_bytes}
 use Rattle.std.proofs.lemmas.Bool.{eqb-true, ltb-false, le-ltb}
-use Rattle.std.proofs.lemmas.List.{take_at, drop_at, take-append-drop, length-append, length-take, length-drop}
+use Rattle.std.proofs.lemmas.List.{take_at, drop_at, take-append-drop, length-append, length-drop}
 use Rattle.std.proofs.lemmas.Nat.{le_bytes_2, from_le_bytes-to_le_bytes_2}
 use Rattle.lists.proofs.Choices.{guard_ok, not_false}
 use Rattle.afl_layer.specs.declared.header.Afl.{Afl}
 use Rattle.afl_layer.specs.declared.header.AflFault.{AflFault}
 use Rattle.afl_layer.specs.declared.header.AflFault.TheVariants.{Truncated, AflLength, FieldPlace, FidZero}
 use Rattle.afl_layer.specs.Fields.{has_more, names_mcl, names_ki, names_mcr, names_mac, names_ml, fid_of, where_so, fields_len, field_bytes, fields_bytes, one_byte, is_misplaced, is_uncounted}
-use Rattle.afl_layer.specs.Header.{afl_bytes, Says, Fits, IsPlaced, BeginsWithAfl, byte_in, two_in, four_in, all_in, fields_at, misplaces, uncounts, afl_at}
+use Rattle.afl_layer.specs.Header.{afl_bytes, Says, Fits, BeginsWithAfl, byte_in, two_in, four_in, all_in, fields_at, misplaces, uncounts, afl_at}
 use Rattle.afl_layer.proofs.FieldLaws.{IsBytes, IsBytes-drop, itself, one_is, two_is, four_is, eight_is, length-one, length-two, length-four, length-eight, one_again, two_again, four_again, eight_again}
 
 -- ---- the fields behind one another
@@ -48,6 +48,18 @@ cut_in_five bytes m k r c l =
       take-append-drop m bytes,
     ) refl)
 
+pub length-fields_bytes : (fcl : ℕ) (a : Afl) → Says fcl a → Fits a → length (fields_bytes a) ≡ fields_len fcl
+unfolding fields_len
+length-fields_bytes fcl a says fits =
+    let mcl = length-one a.mcl ∙ ap (λ (b : Bool). where_so b 1) says.mcl in
+    let ki = length-two a.ki ∙ ap (λ (b : Bool). where_so b 2) says.ki in
+    let mcr = length-four a.mcr ∙ ap (λ (b : Bool). where_so b 4) says.mcr in
+    let mac = length-eight a.mac fits.mac ∙ ap (λ (b : Bool). where_so b 8) says.mac in
+    let ml = length-two a.ml ∙ ap (λ (b : Bool). where_so b 2) says.ml in
+    length-five (field_bytes one_byte a.mcl) (field_bytes (to_le_bytes w16) a.ki) (field_bytes (to_le_bytes w32) a.mcr)
+    (field_bytes itself a.mac) (field_bytes (to_le_bytes w16) a.ml)
+    ∙ rw (mcl, ki, mcr, mac, ml) refl
+
 -- the fields that are read are spelled so
 pub record TakesFields (fcl : ℕ) (bytes : List ℕ) (a : Afl) : Type 0 where
   pub rest : List ℕ
@@ -82,26 +94,22 @@ fields_take fcl bytes fits enough =
     let mac = eight_is (names_mac fcl) after_mcr (omega arith) in
     let ml = two_is (names_ml fcl) after_mac fits_ml (omega arith) in
     let text = five_same _ _ _ _ _ _ _ _ _ _ mcl.text_is ki.0.text_is mcr.0.text_is mac.0.text_is ml.0.text_is in
-    let len = length-five (take m bytes) (take k after_mcl) (take r after_ki) (take c after_mcr) (take l after_mac) in
-    let len_m = length-take m bytes in
-    let len_k = length-take k after_mcl in
-    let len_r = length-take r after_ki in
-    let len_c = length-take c after_mcr in
-    let len_l = length-take l after_mac in
+    let says : Says fcl (fields_at fcl bytes) = record {
+      more = refl;
+      fid = refl;
+      mcl = mcl.named_is;
+      ki = ki.0.named_is;
+      mcr = mcr.0.named_is;
+      mac = mac.0.named_is;
+      ml = ml.0.named_is;
+    } in
+    let filled : Fits (fields_at fcl bytes) = record { fid = omega arith; ki = ki.1; mcr = mcr.1; mac = mac.1; ml = ml.1 } in
     record {
       rest = drop l after_mac;
       parts = cut_in_five bytes m k r c l ∙ ap (λ (x : List ℕ). x ++ drop l after_mac) (sym text);
-      len = ap length text ∙ len ∙ omega arith;
-      says = record {
-        more = refl;
-        fid = refl;
-        mcl = mcl.named_is;
-        ki = ki.0.named_is;
-        mcr = mcr.0.named_is;
-        mac = mac.0.named_is;
-        ml = ml.0.named_is;
-      };
-      fits = record { fid = omega arith; ki = ki.1; mcr = mcr.1; mac = mac.1; ml = ml.1 };
+      len = length-fields_bytes fcl (fields_at fcl bytes) says filled;
+      says = says;
+      fits = filled;
     }
 
 -- ---- what is read is spelled so
@@ -111,14 +119,13 @@ two_bytes low high l h zero = l
 two_bytes low high l h (suc zero) = h
 two_bytes low high l h (suc (suc i)) = omega arith
 
-placed_by : (fcl : ℕ) (a : Afl) → Says fcl a → misplaces fcl ≡ false → uncounts fcl ≡ false → IsPlaced a
+-- FCL's places are those of the header that it says
+places_are : (fcl : ℕ) (a : Afl) → Says fcl a
+    → (misplaces fcl ≡ is_misplaced a.more a.fid (is_some a.mcl) (is_some a.ki) (is_some a.mcr) (is_some a.mac) (is_some a.ml))
+    × (uncounts fcl ≡ is_uncounted a.more a.fid)
 unfolding misplaces uncounts
-placed_by fcl a says fields fid =
-    let same : is_misplaced a.more a.fid (is_some a.mcl) (is_some a.ki) (is_some a.mcr) (is_some a.mac) (is_some a.ml)
-    ≡ is_misplaced (has_more fcl) (fid_of fcl) (names_mcl fcl) (names_ki fcl) (names_mcr fcl) (names_mac fcl) (names_ml fcl) =
-    rw (says.more, says.fid, says.mcl, says.ki, says.mcr, says.mac, says.ml) refl in
-    let counted : is_uncounted a.more a.fid ≡ is_uncounted (has_more fcl) (fid_of fcl) = rw (says.more, says.fid) refl in
-    record { fields = same ∙ fields; fid = counted ∙ fid }
+places_are fcl a says =
+    (rw (says.more, says.fid, says.mcl, says.ki, says.mcr, says.mac, says.ml) refl, rw (says.more, says.fid) refl)
 
 len_is : (fcl : ℕ) (rest : List ℕ) → length (fields_bytes (fields_at fcl rest)) ≡ fields_len fcl
     → (fields_at fcl rest).len ≡ length (afl_bytes fcl (fields_at fcl rest))
@@ -141,6 +148,7 @@ takes_at ci said low high rest a is_afl fits e =
     let said_is : said ≡ 2 + length (fields_bytes (fields_at fcl rest)) =
     eqb-true _ _ (not_false _ counted.0) ∙ ap (λ (n : ℕ). 2 + n) (sym fields.len) in
     let text : List ℕ = fields_bytes (fields_at fcl rest) in
+    let places = places_are fcl (fields_at fcl rest) fields.says in
     let made : BeginsWithAfl (ci ∷ said ∷ low ∷ high ∷ rest) (fields_at fcl rest) = record {
       fcl = fcl;
       rest = fields.rest;
@@ -151,18 +159,15 @@ takes_at ci said low high rest a is_afl fits e =
           ∙ ap (λ (x : List ℕ). 0x90 ∷ (2 + length text) ∷ ((x ++ text) ++ fields.rest)) (sym word);
       says = fields.says;
       fits = fields.fits;
-      placed = placed_by fcl (fields_at fcl rest) fields.says placed.0 numbered.0;
+      placed = record { fields = sym places.0 ∙ placed.0; fid = sym places.1 ∙ numbered.0 };
       len = len_is fcl rest fields.len;
     } in
     subst (BeginsWithAfl (ci ∷ said ∷ low ∷ high ∷ rest)) same made
 
 pub takes : (bytes : List ℕ) (a : Afl) → slice_get bytes 0 ≡ Some 0x90 → IsBytes bytes → afl_at bytes ≡ Ok a → BeginsWithAfl bytes a
 unfolding afl_at
-takes [] a ci fits e = absurd cc
-takes (b ∷ []) a ci fits e = absurd cc
-takes (b ∷ c ∷ []) a ci fits e = absurd cc
-takes (b ∷ c ∷ d ∷ []) a ci fits e = absurd cc
 takes (b ∷ c ∷ d ∷ f ∷ rest) a ci fits e = let is_afl : b ≡ 0x90 = cc in takes_at b c d f rest a is_afl fits e
+takes bytes a ci fits e = absurd cc
 
 -- ---- what is spelled so is read
 
@@ -241,36 +246,16 @@ again_fields fcl a rest says fits len =
       ← len,
     ) refl
 
-pub length-fields_bytes : (fcl : ℕ) (a : Afl) → Says fcl a → Fits a → length (fields_bytes a) ≡ fields_len fcl
-unfolding fields_len
-length-fields_bytes fcl a says fits =
-    let mcl = length-one a.mcl ∙ ap (λ (b : Bool). where_so b 1) says.mcl in
-    let ki = length-two a.ki ∙ ap (λ (b : Bool). where_so b 2) says.ki in
-    let mcr = length-four a.mcr ∙ ap (λ (b : Bool). where_so b 4) says.mcr in
-    let mac = length-eight a.mac fits.mac ∙ ap (λ (b : Bool). where_so b 8) says.mac in
-    let ml = length-two a.ml ∙ ap (λ (b : Bool). where_so b 2) says.ml in
-    length-five (field_bytes one_byte a.mcl) (field_bytes (to_le_bytes w16) a.ki) (field_bytes (to_le_bytes w32) a.mcr)
-    (field_bytes itself a.mac) (field_bytes (to_le_bytes w16) a.ml)
-    ∙ rw (mcl, ki, mcr, mac, ml) refl
-
--- FCL's places are those of the header that it says
-placed_of : (fcl : ℕ) (a : Afl) → Says fcl a → IsPlaced a → (misplaces fcl ≡ false) × (uncounts fcl ≡ false)
-unfolding misplaces uncounts
-placed_of fcl a says placed = (
-  rw (← says.more, ← says.fid, ← says.mcl, ← says.ki, ← says.mcr, ← says.mac, ← says.ml) placed.fields,
-  rw (← says.more, ← says.fid) placed.fid,
-)
-
 -- a spelt header is read, whatever follows it
 pub again : (bytes : List ℕ) (a : Afl) → BeginsWithAfl bytes a → afl_at bytes ≡ Ok a
 again bytes a h =
     let len = length-fields_bytes h.fcl a h.says h.fits in
-    let places = placed_of h.fcl a h.says h.placed in
+    let places = places_are h.fcl a h.says in
     let whole : length (afl_bytes h.fcl a) ≡ 4 + length (fields_bytes a) = omega arith in
     ap afl_at h.parts
     ∙ word_at 0x90 (2 + length (fields_bytes a)) _ _ h.fcl (fields_bytes a ++ h.rest) (from_le_bytes-to_le_bytes_2 h.fcl h.word)
     ∙ judged_ok (2 + length (fields_bytes a)) h.fcl (fields_bytes a ++ h.rest) (ap (λ (n : ℕ). 2 + n) len)
-    (omega (arith, len, length-append (fields_bytes a) h.rest)) places.0 places.1
+    (omega (arith, len, length-append (fields_bytes a) h.rest)) (places.0 ∙ h.placed.fields) (places.1 ∙ h.placed.fid)
     ∙ ap (λ (x : Afl). let r : Result Afl AflFault = Ok x in r) (again_fields h.fcl a h.rest h.says h.fits (h.len ∙ whole
     ∙ ap (λ (n : ℕ). 4 + n) len))
 

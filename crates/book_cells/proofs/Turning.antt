@@ -1,5 +1,5 @@
 -- Each step of a cell keeps its rule.
-use Rattle.std.proofs.Common.{◌≡◌, ◌≢◌, ℕ, ◌+◌, ◌-◌, ◌%◌, ◌^◌, ◌<◌, ◌≤◌, ⊎_elim, Bool, true, false, List, [], ◌∷◌, ◌++◌, length, get_or, set, refl, sym, ap, ◌∙◌, subst, arith, Option, Some, None, length-set, cond, eqb, eq-eqb, ne_eqb, ◌||◌, if◌then◌else◌, ◌==◌}
+use Rattle.std.proofs.Common.{◌≡◌, ◌≢◌, ℕ, ◌+◌, ◌-◌, ◌%◌, ◌^◌, ◌<◌, ◌≤◌, ⊎_elim, Bool, true, false, List, [], ◌∷◌, ◌++◌, length, get_or, set, refl, sym, ap, ◌∙◌, subst, arith, Option, Some, length-set, cond, eqb, eq-eqb, ne_eqb, ◌||◌, ◌==◌}
 use Rattle.std.proofs.Math.Nat.{mod-add-mod}
 use Rattle.std.proofs.lemmas.Bool.{both_ways, eqb-true, or_from, cond-true, cond-false, cond_both, false_from_ne_true}
 use mathlib.Core.Option.{Option as Maybe, some, none}
@@ -25,10 +25,9 @@ use Rattle.lists.proofs.Places.{head_is}
 use Rattle.book_cells.proofs.Rows.{at_inside, at_one, at_end, starts_further, starts_itself, no_more, only_one, acts_by_own, acts_by_other, drop_seen, among_more, among_less, among_last, among_each, longer_starts, longer_left, longer_right, either_way}
 
 abbrev stage_number : Stage → ℕ
-stage_number Spent = 0
-stage_number Idle = 0
 stage_number (Waiting n) = n
 stage_number (Holding n) = n
+stage_number stage = 0
 
 pub front_of : {S : Type 0} (l : List (ℕ × S)) (x : S) (ys : List (ℕ × S)) → l ≡ (0, x) ∷ ys → l ≡ (0, x) ∷ rest l
 front_of {S} l x ys e = e ∙ ap (λ (z : List (ℕ × S)). (0, x) ∷ rest z) (sym e)
@@ -85,10 +84,9 @@ module _ {B O C R : Type 0} (opening_of : B → O) (acts_of : B → List (Deed C
 
   -- a pass whose ticket is out
   ticketed : (g : Co) (seat t : ℕ) (v : V) (st : Stage) → IsOut t st → Knows b0 g seat v st → Live g seat v × Ticket g t v
-  ticketed g seat t v Spent out k = absurd out
-  ticketed g seat t v Idle out k = absurd out
   ticketed g seat t v (Waiting n) out k = (k.0, subst (λ (z : ℕ). Ticket g z v) out k.1)
   ticketed g seat t v (Holding n) out k = (k.0, subst (λ (z : ℕ). Ticket g z v) out k.1)
+  ticketed g seat t v st out k = absurd out
 
   -- a number is at one seat
   one_seat : (g : Co) (i j : ℕ) (v u : V) → Live g i v → Live g j u → v.number ≡ u.number → i ≡ j
@@ -99,10 +97,9 @@ module _ {B O C R : Type 0} (opening_of : B → O) (acts_of : B → List (Deed C
   one_holder g i j t v u l m a b = one_seat g i j v u l m (sym a.drew ∙ b.drew)
 
   one_number : (t n : ℕ) (st : Stage) → IsOut t st → IsOut n st → t ≡ n
-  one_number t n Spent a b = absurd a
-  one_number t n Idle a b = absurd a
   one_number t n (Waiting k) a b = sym a ∙ b
   one_number t n (Holding k) a b = sym a ∙ b
+  one_number t n st a b = absurd a
 
   -- fewer tickets are out than there are numbers
   pub few : (g : Co) (s : St) → Ok g s → g.drawn ≤ g.served + 2 ^ 32
@@ -197,36 +194,25 @@ module _ {B O C R : Type 0} (opening_of : B → O) (acts_of : B → List (Deed C
       let stays : (n k : ℕ) → HasTicket g.served t g.drawer n k → HasTicket g.served (t + 1) drawer' n k = λ n k h. let b = h.before in
       record { after = h.after; before = omega arith; drew = cond-false (eqb n t) me.0.number (g.drawer n) (ne_eqb n t (λ e. omega arith)) ∙ h.drew } in
       let kept_at : (j : ℕ) (d : V) (n : ℕ) → get_elem? s.views j ≡ some d → IsOut n d.stage → get_elem? (set s.views id w) j ≡ some d =
-      λ j d n here out. set_elsewhere s.views id w j d (not_idle s.views id j me.0 d n at idle here out) here in (
-        w,
-        keeps,
-        tt,
-        (
-          g',
-          record {
-            words = words_after s.words t g.served r.words;
-            ordered = omega arith;
-            queue = λ n lo hi. dite (ℕ_discrete n t)
-                (λ e. (id, w, set_here s.views id w (at_inside s.views id me.0 at), sym (cond-true (eqb n t) me.0.number (g.drawer n) (eq-eqb n t e)), sym e))
-                (λ ne. let q = r.queue n lo (omega arith) in
-                (q.0, q.1, kept_at q.0 q.1 n q.2 q.4, q.3 ∙ sym (cond-false (eqb n t) me.0.number (g.drawer n) (ne_eqb n t ne)), q.4));
-            seats = seats_stay (λ j d. Knows b0 g' j d d.stage) s.views id w (
-              relive g g' id me.0 me.0.seen me.0.handed (Waiting t) live.prefix (λ m h. h) live.is_root live,
-              record {
-                after = ordered;
-                before = omega arith;
-                drew = cond-true (eqb t t) me.0.number (g.drawer t) (eq-eqb t t refl);
-              },
-            )
-                (λ j d ne there. knows_on g g' j d (λ l. l) (λ n _ h. stays n d.number h) (λ n _ _ h. h) d.stage (r.seats j d there));
-            longest = longest_stays g.log s.views id me.0 w at tt refl r.longest;
-            is_legal = r.is_legal;
-            no_others = r.no_others;
-            placed = placed_on g.log g.served s.views (set s.views id w) s.homes kept_at g.is_out r.placed;
-          },
-        ),
-        (t, ap (λ (l : List ℕ). get_or l 0 0) (sym r.words), refl),
-      )
+      λ j d n here out. set_elsewhere s.views id w j d (not_idle s.views id j me.0 d n at idle here out) here in
+      let next : Ok g' (stepped s 0 ((get_or s.words 0 0 + 1) % 2 ^ 64) id me.1 w keeps) = record {
+        words = words_after s.words t g.served r.words;
+        ordered = omega arith;
+        queue = λ n lo hi. dite (ℕ_discrete n t)
+            (λ e. (id, w, set_here s.views id w (at_inside s.views id me.0 at), sym (cond-true (eqb n t) me.0.number (g.drawer n) (eq-eqb n t e)), sym e))
+            (λ ne. let q = r.queue n lo (omega arith) in
+            (q.0, q.1, kept_at q.0 q.1 n q.2 q.4, q.3 ∙ sym (cond-false (eqb n t) me.0.number (g.drawer n) (ne_eqb n t ne)), q.4));
+        seats = seats_stay (λ j d. Knows b0 g' j d d.stage) s.views id w (
+          relive g g' id me.0 me.0.seen me.0.handed (Waiting t) live.prefix (λ m h. h) live.is_root live,
+          record { after = ordered; before = omega arith; drew = cond-true (eqb t t) me.0.number (g.drawer t) (eq-eqb t t refl) },
+        )
+            (λ j d ne there. knows_on g g' j d (λ l. l) (λ n _ h. stays n d.number h) (λ n _ _ h. h) d.stage (r.seats j d there));
+        longest = longest_stays g.log s.views id me.0 w at tt refl r.longest;
+        is_legal = r.is_legal;
+        no_others = r.no_others;
+        placed = placed_on g.log g.served s.views (set s.views id w) s.homes kept_at g.is_out r.placed;
+      } in
+      (w, keeps, tt, (g', next), (t, ap (λ (l : List ℕ). get_or l 0 0) (sym r.words), refl))
 
   -- where a pass waits for the ticket that is served, the book is at home
   at_home : (g : Co) (s : St) (r : Ok g s) (id : ℕ) (v : V) (t : ℕ) → get_elem? s.views id ≡ some v → v.stage ≡ Waiting t → t ≡ g.served
@@ -255,55 +241,40 @@ module _ {B O C R : Type 0} (opening_of : B → O) (acts_of : B → List (Deed C
       let w : V = with_book me.0 g.log t in
       let known = subst (Knows b0 g id me.0) waits (r.seats id me.0 at) in let live = known.0 in let ticket = known.1 in
       let g' : Co = record g { is_out = true } in
-      let found : get_or s.words 1 0 ≡ wrapped g.served = ap (λ (l : List ℕ). get_or l 1 0) r.words in (
+      let here = set_here s.views id w (at_inside s.views id me.0 at) in
+      let found : get_or s.words 1 0 ≡ wrapped g.served = ap (λ (l : List ℕ). get_or l 1 0) r.words in
+      let next : Ok g' (stepped s 1 (get_or s.words 1 0) id me.1 w (takes 0 (Some k))) = record {
+        words = set-get_or s.words 1 0 ∙ r.words;
+        ordered = r.ordered;
+        queue = λ n lo hi. let q = r.queue n lo hi in dite (ℕ_discrete q.0 id)
+            (λ e. let same : q.1 ≡ me.0 = at_one s.views q.0 id q.1 me.0 e q.2 at in
+            (id, w, here, ap (λ (v : V). v.number) (sym same) ∙ q.3, subst (IsOut n) (ap (λ (v : V). v.stage) same ∙ waits) q.4))
+            (λ ne. (q.0, q.1, set_elsewhere s.views id w q.0 q.1 ne q.2, q.3, q.4));
+        seats = seats_stay (λ j d. Knows b0 g' j d d.stage) s.views id w (
+          relive g g' id me.0 g.log me.0.handed (Holding t) (starts_itself g.log) (λ m h. h) live.is_root live,
+          ticket,
+          record { now = now; sees_all = refl; out = refl },
+        )
+            (λ j d ne there. knows_on g g' j d (λ l. l) (λ n _ h. h) (λ n _ _ h. absurd (both_ways g.is_out home.0 h.out)) d.stage
+            (r.seats j d there));
+        longest = (id, w, here, tt, refl);
+        is_legal = r.is_legal;
+        no_others = r.no_others;
+        placed = (ap (λ (l : List (Maybe S)). set l 0 none) home.1.1, (id, w, here, ap Holding now));
+      } in
+      let turn : (t' : ℕ) → t ≡ t' → IsTurn opening_of acts_of legal me.0 w t' k = λ t' same. record {
+        known = ap (with_book me.0 g.log) same;
+        goes_on = live.prefix;
+        is_legal = subst (λ (x : O). legal x g.log) (sym stands.opening_is) r.is_legal;
+        opening_is = (b0, live.opening_is, sym stands.opening_is);
+        stands = record { opening_is = refl; acts_are = stands.acts_are; turns_are = stands.turns_are ∙ ap wrapped (sym now ∙ same) };
+      } in (
         w,
         takes 0 (Some k),
         ap (λ (l : List (Maybe S)). get_elem? l 0) home.1.1,
-        (
-          g',
-          record {
-            words = set-get_or s.words 1 0 ∙ r.words;
-            ordered = r.ordered;
-            queue = λ n lo hi. let q = r.queue n lo hi in dite (ℕ_discrete q.0 id)
-                (λ e. let same : q.1 ≡ me.0 = at_one s.views q.0 id q.1 me.0 e q.2 at in (
-                  id,
-                  w,
-                  set_here s.views id w (at_inside s.views id me.0 at),
-                  ap (λ (v : V). v.number) (sym same)
-                      ∙ q.3,
-                  subst (IsOut n) (ap (λ (v : V). v.stage) same ∙ waits) q.4,
-                ))
-                (λ ne. (q.0, q.1, set_elsewhere s.views id w q.0 q.1 ne q.2, q.3, q.4));
-            seats = seats_stay (λ j d. Knows b0 g' j d d.stage) s.views id w (
-              relive g g' id me.0 g.log me.0.handed (Holding t) (starts_itself g.log) (λ m h. h) live.is_root live,
-              ticket,
-              record { now = now; sees_all = refl; out = refl },
-            )
-                (λ j d ne there. knows_on g g' j d (λ l. l) (λ n _ h. h) (λ n _ _ h. absurd (both_ways g.is_out home.0 h.out)) d.stage
-                (r.seats j d there));
-            longest = (id, w, set_here s.views id w (at_inside s.views id me.0 at), tt, refl);
-            is_legal = r.is_legal;
-            no_others = r.no_others;
-            placed = (
-              ap (λ (l : List (Maybe S)). set l 0 none) home.1.1,
-              (id, w, set_here s.views id w (at_inside s.views id me.0 at), ap Holding now),
-            );
-          },
-        ),
-        λ t' waits'. let same : t ≡ t' = ap stage_number (sym waits ∙ waits') in (
-          λ is. (
-            k,
-            record {
-              known = ap (with_book me.0 g.log) same;
-              goes_on = live.prefix;
-              is_legal = subst (λ (x : O). legal x g.log) (sym stands.opening_is) r.is_legal;
-              opening_is = (b0, live.opening_is, sym stands.opening_is);
-              stands = record { opening_is = refl; acts_are = stands.acts_are; turns_are = stands.turns_are ∙ ap wrapped (sym now ∙ same) };
-            },
-            refl,
-          ),
-          λ isnt. absurd (isnt (ap wrapped (sym same ∙ now) ∙ sym found)),
-        ),
+        (g', next),
+        λ t' waits'. let same : t ≡ t' = ap stage_number (sym waits ∙ waits') in
+            (λ is. (k, turn t' same, refl), λ isnt. absurd (isnt (ap wrapped (sym same ∙ now) ∙ sym found))),
       )
 
   -- Kind 2, where another ticket is served: nothing is new.
@@ -334,31 +305,25 @@ module _ {B O C R : Type 0} (opening_of : B → O) (acts_of : B → List (Deed C
   out_there g s r e = (subst (λ (b : Bool). IsPlaced opening_of acts_of o g.log g.served s.views b s.homes) e r.placed).0
 
   -- Kind 5: the book goes home, with the acts of `fresh` more.
-  pub leaves : (slots id : ℕ) (v : V) (t : ℕ) (k : Kept B) (fresh : List (Deed C R)) → v.stage ≡ Holding t
-      → acts_of k.book.value ≡ v.seen ++ fresh → Each (λ (e : Deed C R). e.source ≡ v.number) fresh
-      → ((b : B) × (v.opening ≡ b ∷ []) × (opening_of b ≡ opening_of k.book.value)) → legal (opening_of k.book.value) (acts_of k.book.value)
-      → wrapped (length (acts_of k.book.value) + k.idle) ≡ wrapped (t + 1)
+  leaves : (slots id : ℕ) (v : V) (t : ℕ) (k : Kept B) (fresh : List (Deed C R)) → GoesHome opening_of acts_of legal v t fresh k
       → Allows Rule slots id (v, (0, Some k) ∷ []) 1 (λ n. (n + 1) % 2 ^ 64) (left acts_of (step slots 1 1 0 none) (v, (0, Some k) ∷ []))
-  leaves slots id v t k fresh holds added mine opens is_legal turns s held long at small =
+  leaves slots id v t k fresh h s held long at small =
       let g : Co = held.0 in let r : Ok g s = held.1 in
-      let known = subst (Knows b0 g id v) holds (r.seats id v at) in let live = known.0 in let ticket = known.1 in let turn = known.2 in
+      let known = subst (Knows b0 g id v) h.holds (r.seats id v at) in let live = known.0 in let ticket = known.1 in let turn = known.2 in
       let now : t ≡ g.served = turn.now in
       let log' : List (Deed C R) = acts_of k.book.value in let w : V = back_with v log' in
-      let grown : log' ≡ g.log ++ fresh = added ∙ ap (λ (l : List (Deed C R)). l ++ fresh) turn.sees_all in
+      let grown : log' ≡ g.log ++ fresh = h.added ∙ ap (λ (l : List (Deed C R)). l ++ fresh) turn.sees_all in
+      let opens = h.opening_is in
       let is_o : opening_of k.book.value ≡ o = sym opens.2 ∙ ap opening_of (head_is opens.0 b0 [] [] (sym opens.1 ∙ live.opening_is)) in
       let g' : Co = record g { served = g.served + 1; log = log'; is_out = false } in
       let before = ticket.before in
       let ticket_now : Ticket g g.served v = subst (λ (z : ℕ). Ticket g z v) now ticket in
       let further : (seen : List (Deed C R)) → StartsWith g.log seen → StartsWith log' seen =
-      λ seen h. subst (λ (l : List (Deed C R)). StartsWith l seen) (sym grown) (starts_further g.log seen fresh h) in
+      λ seen p. subst (λ (l : List (Deed C R)). StartsWith l seen) (sym grown) (starts_further g.log seen fresh p) in
       let owned : (j : ℕ) (m : Made C R) → m.number ≢ v.number → IsOwned g.seat_of g.numbers g.log j m
-      → IsOwned g.seat_of g.numbers log' j m = λ j m other h.
-      record {
-        seat_is = h.seat_is;
-        acts_are = acts_by_other v.number m.number g.log fresh log' m.acts grown mine other h.acts_are;
-        in_use = h.in_use;
-        small = h.small;
-      } in
+      → IsOwned g.seat_of g.numbers log' j m = λ j m other q.
+      let acts = acts_by_other v.number m.number g.log fresh log' m.acts grown h.mine other q.acts_are in
+      record { seat_is = q.seat_is; acts_are = acts; in_use = q.in_use; small = q.small } in
       let apart : (j : ℕ) (m : Made C R) → j ≢ id → IsOwned g.seat_of g.numbers g.log j m → m.number ≢ v.number =
       λ j m ne h e. ne (sym h.seat_is ∙ (ap g.seat_of e ∙ live.own.seat_is)) in
       let others : (j : ℕ) (d : V) → j ≢ id → Live g j d → Live g' j d = λ j d ne l.
@@ -368,62 +333,51 @@ module _ {B O C R : Type 0} (opening_of : B → O) (acts_of : B → List (Deed C
       dite (ℕ_discrete n g.served) (λ e. absurd (other e)) (λ e. omega arith) in
       let know : (j : ℕ) (d : V) → j ≢ id → (st : Stage) → Knows b0 g j d st → Knows b0 g' j d st = λ j d ne.
       knows_on g g' j d (others j d ne) (λ n l h. record { after = later j n d ne l h; before = h.before; drew = h.drew })
-      (λ n l h k. let a = later j n d ne l h in let b = k.now in absurd (omega arith)) in (
-        w,
-        gives,
-        tt,
-        (
-          g',
-          record {
-            words = words_served s.words g.drawn g.served r.words;
-            ordered = omega arith;
-            queue = λ n lo hi. let q = r.queue n (omega arith) hi in
-                let ne : q.0 ≢ id = λ e. let same : q.1 ≡ v = at_one s.views q.0 id q.1 v e q.2 at in
-                let is : t ≡ n = subst (IsOut n) (ap (λ (v : V). v.stage) same ∙ holds) q.4 in omega arith in
-                (q.0, q.1, set_elsewhere s.views id w q.0 q.1 ne q.2, q.3, q.4);
-            seats = seats_stay (λ j d. Knows b0 g' j d d.stage) s.views id w
-                record {
-                  opening_is = live.opening_is;
-                  prefix = starts_itself log';
-                  own = record {
-                    seat_is = live.own.seat_is;
-                    acts_are = acts_by_own v.number g.log fresh log' v.own grown mine live.own.acts_are
-                        ∙ ap (λ (l : List (Deed C R)). v.own ++ l) (sym (drop_seen v.seen fresh log' added));
-                    in_use = live.own.in_use;
-                    small = live.own.small;
-                  };
-                  joined =
-                      each_both (λ (m : Made C R). m.number ≢ v.number) (IsOwned g.seat_of g.numbers g.log id)
-                      (IsOwned g.seat_of g.numbers log' id) (λ m other h. owned id m other h) v.joined live.apart live.joined;
-                  apart = live.apart;
-                  is_root = live.is_root;
-                }
-                (λ j d ne there. know j d ne d.stage (r.seats j d there));
-            longest = (id, w, set_here s.views id w (at_inside s.views id v at), tt, refl);
-            is_legal = subst (λ (x : O). legal x log') is_o is_legal;
-            no_others = λ n not. let other : n ≢ v.number = λ e.
-                both_ways (is_among n g.numbers) not (ap (λ (z : ℕ). is_among z g.numbers) e ∙ live.own.in_use) in
-                acts_by_other v.number n g.log fresh log' [] grown mine other (r.no_others n not);
-            placed = (
-              k,
-              ap (λ (l : List (Maybe S)). set l 0 (some (Some k))) (out_there g s r turn.out),
-              record {
-                opening_is = is_o;
-                acts_are = refl;
-                turns_are = turns ∙ ap (λ (n : ℕ). wrapped (n + 1)) now;
-              },
-            );
-          },
-        ),
-        refl,
-      )
+      (λ n l h k. let a = later j n d ne l h in let b = k.now in absurd (omega arith)) in
+      let next : Ok g' (stepped s 1 ((get_or s.words 1 0 + 1) % 2 ^ 64) id ((0, Some k) ∷ []) w gives) = record {
+        words = words_served s.words g.drawn g.served r.words;
+        ordered = omega arith;
+        queue = λ n lo hi. let q = r.queue n (omega arith) hi in
+            let ne : q.0 ≢ id = λ e. let same : q.1 ≡ v = at_one s.views q.0 id q.1 v e q.2 at in
+            let is : t ≡ n = subst (IsOut n) (ap (λ (v : V). v.stage) same ∙ h.holds) q.4 in omega arith in
+            (q.0, q.1, set_elsewhere s.views id w q.0 q.1 ne q.2, q.3, q.4);
+        seats = seats_stay (λ j d. Knows b0 g' j d d.stage) s.views id w
+            record {
+              opening_is = live.opening_is;
+              prefix = starts_itself log';
+              own = record {
+                seat_is = live.own.seat_is;
+                acts_are = acts_by_own v.number g.log fresh log' v.own grown h.mine live.own.acts_are
+                    ∙ ap (λ (l : List (Deed C R)). v.own ++ l) (sym (drop_seen v.seen fresh log' h.added));
+                in_use = live.own.in_use;
+                small = live.own.small;
+              };
+              joined =
+                  each_both (λ (m : Made C R). m.number ≢ v.number) (IsOwned g.seat_of g.numbers g.log id)
+                  (IsOwned g.seat_of g.numbers log' id) (owned id) v.joined live.apart live.joined;
+              apart = live.apart;
+              is_root = live.is_root;
+            }
+            (λ j d ne there. know j d ne d.stage (r.seats j d there));
+        longest = (id, w, set_here s.views id w (at_inside s.views id v at), tt, refl);
+        is_legal = subst (λ (x : O). legal x log') is_o h.is_legal;
+        no_others = λ n not. let other : n ≢ v.number = λ e.
+            both_ways (is_among n g.numbers) not (ap (λ (z : ℕ). is_among z g.numbers) e ∙ live.own.in_use) in
+            acts_by_other v.number n g.log fresh log' [] grown h.mine other (r.no_others n not);
+        placed = (
+          k,
+          ap (λ (l : List (Maybe S)). set l 0 (some (Some k))) (out_there g s r turn.out),
+          record { opening_is = is_o; acts_are = refl; turns_are = h.turns ∙ ap (λ (n : ℕ). wrapped (n + 1)) now },
+        );
+      } in
+      (w, gives, tt, (g', next), refl)
 
   pub leaves_from : (slots id : ℕ) (m : Me S V) (v : V) (t : ℕ) (fresh : List (Deed C R)) (k : Kept B) → m ≡ (v, (0, Some k) ∷ [])
       → GoesHome opening_of acts_of legal v t fresh k
       → Allows Rule slots id m 1 (λ n. (n + 1) % 2 ^ 64) (left acts_of (step slots 1 1 0 none) m)
   leaves_from slots id m v t fresh k e h =
       subst (λ (z : Me S V). Allows Rule slots id z 1 (λ n. (n + 1) % 2 ^ 64) (left acts_of (step slots 1 1 0 none) z)) (sym e)
-      (leaves slots id v t k fresh h.holds h.added h.mine h.opening_is h.is_legal h.turns)
+      (leaves slots id v t k fresh h)
 
   -- The cell at its making.
   pub begins : (k : Kept B) (number : ℕ) → number < 2 ^ 32 → opening_of k.book.value ≡ o → acts_of k.book.value ≡ [] → k.idle ≡ 0
@@ -439,20 +393,19 @@ module _ {B O C R : Type 0} (opening_of : B → O) (acts_of : B → List (Deed C
         joined = tt;
         apart = tt;
         is_root = λ _. (refl, refl);
-      } in (
-        g,
-        record {
-          words = refl;
-          ordered = omega arith;
-          queue = λ t lo hi. absurd (omega arith);
-          seats = λ j d there. let e =
-              only_one v d j there in subst (λ (x : ℕ × V). Knows b0 g x.0 x.1 x.1.stage) (λ i. (sym e.0 i, e.1 i)) live;
-          longest = (0, v, refl, tt, refl);
-          is_legal = fine;
-          no_others = λ n not. refl;
-          placed = (k, refl, record { opening_is = is_o; acts_are = empty; turns_are = ap (λ (n : ℕ). wrapped (0 + n)) idle });
-        },
-      )
+      } in
+      let first : Ok g (opening (0 ∷ 0 ∷ []) (Some k ∷ []) v) = record {
+        words = refl;
+        ordered = omega arith;
+        queue = λ t lo hi. absurd (omega arith);
+        seats = λ j d there. let e =
+            only_one v d j there in subst (λ (x : ℕ × V). Knows b0 g x.0 x.1 x.1.stage) (λ i. (sym e.0 i, e.1 i)) live;
+        longest = (0, v, refl, tt, refl);
+        is_legal = fine;
+        no_others = λ n not. refl;
+        placed = (k, refl, record { opening_is = is_o; acts_are = empty; turns_are = ap (λ (n : ℕ). wrapped (0 + n)) idle });
+      } in
+      (g, first)
 
   -- Kind 6: a pass is split off.
   pub splits : (id : ℕ) (v : V) (number : ℕ) → v.stage ≡ Idle → v.is_first ≡ true → is_among number (v.number ∷ v.handed) ≡ false
@@ -469,12 +422,9 @@ module _ {B O C R : Type 0} (opening_of : B → O) (acts_of : B → List (Deed C
       let owned : (j : ℕ) (m : Made C R) → IsOwned g.seat_of g.numbers g.log j m → IsOwned seat_of' numbers' g.log j m = λ j m h.
       let other : m.number ≢ number = λ e.
       both_ways (is_among number g.numbers) free (ap (λ (z : ℕ). is_among z g.numbers) (sym e) ∙ h.in_use) in
-      record {
-        seat_is = cond-false (eqb m.number number) new (g.seat_of m.number) (ne_eqb m.number number other) ∙ h.seat_is;
-        acts_are = h.acts_are;
-        in_use = among_more m.number g.numbers (number ∷ []) h.in_use;
-        small = h.small;
-      } in
+      let seat = cond-false (eqb m.number number) new (g.seat_of m.number) (ne_eqb m.number number other) ∙ h.seat_is in
+      let used = among_more m.number g.numbers (number ∷ []) h.in_use in
+      record { seat_is = seat; acts_are = h.acts_are; in_use = used; small = h.small } in
       let others : (j : ℕ) (d : V) → j ≢ id → Live g j d → Live g' j d = λ j d ne l.
       relive g g' j d d.seen d.handed d.stage l.prefix (owned j) (λ f. absurd (ne ((l.is_root f).0 ∙ sym root.0))) l in
       let mine : Live g' id w = relive g g' id v v.seen w.handed v.stage live.prefix (owned id)
@@ -498,22 +448,21 @@ module _ {B O C R : Type 0} (opening_of : B → O) (acts_of : B → List (Deed C
       (λ j d ne there. knows_on g g' j d (others j d ne) (λ n _ h. h) (λ n _ _ h. h) d.stage (r.seats j d there)) in
       let kept_at : (j : ℕ) (d : V) (n : ℕ) → get_elem? s.views j ≡ some d → IsOut n d.stage
       → get_elem? (set s.views id w ++ u ∷ []) j ≡ some d = λ j d n there out.
-      at_longer (set s.views id w) (u ∷ []) j d (set_elsewhere s.views id w j d (not_idle s.views id j v d n at idle there out) there) in (
-        g',
-        record {
-          words = r.words;
-          ordered = r.ordered;
-          queue = λ n lo hi. let q = r.queue n lo hi in (q.0, q.1, kept_at q.0 q.1 n q.2 q.4, q.3, q.4);
-          seats = λ j d there. ⊎_elim (still j d) (λ (t : (j ≡ length (set s.views id w)) × (u ≡ d)). let here : j ≡ new =
-              t.0 ∙ length-set s.views id w in
-              subst (λ (x : ℕ × V). K x.0 x.1) (λ i. (sym here i, t.1 i)) theirs) (at_end (set s.views id w) u d j there);
-          longest = let h = longest_stays g.log s.views id v w at (subst IsThere (sym idle) tt) refl r.longest in
-              (h.0, h.1, at_longer (set s.views id w) (u ∷ []) h.0 h.1 h.2, h.3, h.4);
-          is_legal = r.is_legal;
-          no_others = λ n not. r.no_others n (among_less n g.numbers (number ∷ []) not);
-          placed = placed_on g.log g.served s.views (set s.views id w ++ u ∷ []) s.homes kept_at g.is_out r.placed;
-        },
-      )
+      at_longer (set s.views id w) (u ∷ []) j d (set_elsewhere s.views id w j d (not_idle s.views id j v d n at idle there out) there) in
+      let next : Ok g' (record { words = s.words; homes = s.homes; views = set s.views id w ++ u ∷ [] }) = record {
+        words = r.words;
+        ordered = r.ordered;
+        queue = λ n lo hi. let q = r.queue n lo hi in (q.0, q.1, kept_at q.0 q.1 n q.2 q.4, q.3, q.4);
+        seats = λ j d there. ⊎_elim (still j d) (λ (t : (j ≡ length (set s.views id w)) × (u ≡ d)). let here : j ≡ new =
+            t.0 ∙ length-set s.views id w in
+            subst (λ (x : ℕ × V). K x.0 x.1) (λ i. (sym here i, t.1 i)) theirs) (at_end (set s.views id w) u d j there);
+        longest = let h = longest_stays g.log s.views id v w at (subst IsThere (sym idle) tt) refl r.longest in
+            (h.0, h.1, at_longer (set s.views id w) (u ∷ []) h.0 h.1 h.2, h.3, h.4);
+        is_legal = r.is_legal;
+        no_others = λ n not. r.no_others n (among_less n g.numbers (number ∷ []) not);
+        placed = placed_on g.log g.served s.views (set s.views id w ++ u ∷ []) s.homes kept_at g.is_out r.placed;
+      } in
+      (g', next)
 
   -- Kinds 7 and 8: a pass takes another in, which is spent.
   pub joins : (id : ℕ) (v : V) (other : ℕ) (u : V) → v.stage ≡ Idle → u.stage ≡ Idle → u.is_first ≡ false
@@ -528,38 +477,26 @@ module _ {B O C R : Type 0} (opening_of : B → O) (acts_of : B → List (Deed C
       let g' : Co = record g { seat_of = seat_of' } in
       let stays : (j : ℕ) (m : Made C R) → j ≢ other → IsOwned g.seat_of g.numbers g.log j m → IsOwned seat_of' g.numbers g.log j m =
       λ j m ne h.
-      record {
-        seat_is = cond-false (eqb (g.seat_of m.number) other) id (g.seat_of m.number) (ne_eqb (g.seat_of m.number) other (λ e. ne (sym h.seat_is ∙ e)))
-            ∙ h.seat_is;
-        acts_are = h.acts_are;
-        in_use = h.in_use;
-        small = h.small;
-      } in
+      let elsewhere = ne_eqb (g.seat_of m.number) other (λ e. ne (sym h.seat_is ∙ e)) in
+      let seat = cond-false (eqb (g.seat_of m.number) other) id (g.seat_of m.number) elsewhere ∙ h.seat_is in
+      record { seat_is = seat; acts_are = h.acts_are; in_use = h.in_use; small = h.small } in
       let comes_over : (m : Made C R) → IsOwned g.seat_of g.numbers g.log other m → IsOwned seat_of' g.numbers g.log id m = λ m h.
-      record {
-        seat_is = cond-true (eqb (g.seat_of m.number) other) id (g.seat_of m.number) (eq-eqb (g.seat_of m.number) other h.seat_is);
-        acts_are = h.acts_are;
-        in_use = h.in_use;
-        small = h.small;
-      } in
+      let seat = cond-true (eqb (g.seat_of m.number) other) id (g.seat_of m.number) (eq-eqb (g.seat_of m.number) other h.seat_is) in
+      record { seat_is = seat; acts_are = h.acts_are; in_use = h.in_use; small = h.small } in
       let others : (j : ℕ) (d : V) → j ≢ other → Live g j d → Live g' j d = λ j d ne l.
       relive g g' j d d.seen d.handed d.stage l.prefix (λ m h. stays j m ne h) l.is_root l in
       let kept = others id v (λ e. differ (sym e)) live in
       let apart_from : (m : Made C R) → IsOwned g.seat_of g.numbers g.log other m → m.number ≢ v.number =
       λ m h e. differ (sym h.seat_is ∙ (ap g.seat_of e ∙ live.own.seat_is)) in
+      let theirs : Made C R → Type 0 = IsOwned g.seat_of g.numbers g.log other in
       let mine : Live g' id w = record {
         opening_is = kept.opening_is;
         prefix = longer_starts g.log v.seen u.seen live.prefix live'.prefix;
         own = kept.own;
-        joined = each_append (IsOwned seat_of' g.numbers g.log id) v.joined (own_and_joined u) kept.joined (
-          comes_over (made u.number u.own) live'.own,
-          each_map (IsOwned g.seat_of g.numbers g.log other) (IsOwned seat_of' g.numbers g.log id) comes_over u.joined live'.joined,
-        );
-        apart = each_append (λ (m : Made C R). m.number ≢ v.number) v.joined (own_and_joined u) live.apart (
-          apart_from (made u.number u.own) live'.own,
-          each_map (IsOwned g.seat_of g.numbers g.log other)
-              (λ (m : Made C R). m.number ≢ v.number) apart_from u.joined live'.joined,
-        );
+        joined = each_append (IsOwned seat_of' g.numbers g.log id) v.joined (own_and_joined u) kept.joined
+            (each_map theirs (IsOwned seat_of' g.numbers g.log id) comes_over (own_and_joined u) (live'.own, live'.joined));
+        apart = each_append (λ (m : Made C R). m.number ≢ v.number) v.joined (own_and_joined u) live.apart
+            (each_map theirs (λ (m : Made C R). m.number ≢ v.number) apart_from (own_and_joined u) (live'.own, live'.joined));
         is_root = live.is_root;
       } in
       let K : ℕ → V → Type 0 = λ j d. Knows b0 g' j d d.stage in
@@ -567,13 +504,9 @@ module _ {B O C R : Type 0} (opening_of : B → O) (acts_of : B → List (Deed C
       → get_elem? (set (set s.views id w) other z) j ≡ some d = λ j d n here out.
       set_elsewhere (set s.views id w) other z j d (not_idle s.views other j u d n at' idle' here out)
       (set_elsewhere s.views id w j d (not_idle s.views id j v d n at idle here out) here) in
-      let new_one : longer v.seen u.seen ≡ g.log → IsLongest g.log (set (set s.views id w) other z) = λ e. (
-        id,
-        w,
-        set_elsewhere (set s.views id w) other z id w (λ e. differ (sym e)) (set_here s.views id w (at_inside s.views id v at)),
-        subst IsThere (sym idle) tt,
-        e,
-      ) in
+      let here = set_elsewhere (set s.views id w) other z id w (λ e. differ (sym e)) (set_here s.views id w (at_inside s.views id v at)) in
+      let new_one : longer v.seen u.seen ≡ g.log → IsLongest g.log (set (set s.views id w) other z) =
+      λ e. (id, w, here, subst IsThere (sym idle) tt, e) in
       let h = r.longest in
       let longest : IsLongest g.log (set (set s.views id w) other z) = dite (ℕ_discrete h.0 id)
       (λ e. let is : h.1 ≡ v = at_one s.views h.0 id h.1 v e h.2 at in
@@ -581,21 +514,20 @@ module _ {B O C R : Type 0} (opening_of : B → O) (acts_of : B → List (Deed C
       (λ ne. dite (ℕ_discrete h.0 other)
       (λ e. let is : h.1 ≡ u = at_one s.views h.0 other h.1 u e h.2 at' in
       new_one (longer_right g.log v.seen u.seen (ap (λ (x : V). x.seen) (sym is) ∙ h.4) live.prefix))
-      (λ ne'. (h.0, h.1, set_elsewhere (set s.views id w) other z h.0 h.1 ne' (set_elsewhere s.views id w h.0 h.1 ne h.2), h.3, h.4))) in (
-        g',
-        record {
-          words = r.words;
-          ordered = r.ordered;
-          queue = λ n lo hi. let q = r.queue n lo hi in (q.0, q.1, kept_at q.0 q.1 n q.2 q.4, q.3, q.4);
-          seats = seats_stay K (set s.views id w) other z tt (λ j d ne here. seats_stay (λ j d. j ≢ other → K j d) s.views id w
-              (λ _. subst (Knows b0 g' id w) (sym idle) mine)
-              (λ j d _ here ne. knows_on g g' j d (others j d ne) (λ n _ h. h) (λ n _ _ h. h) d.stage (r.seats j d here)) j d here ne);
-          longest = longest;
-          is_legal = r.is_legal;
-          no_others = r.no_others;
-          placed = placed_on g.log g.served s.views (set (set s.views id w) other z) s.homes kept_at g.is_out r.placed;
-        },
-      )
+      (λ ne'. (h.0, h.1, set_elsewhere (set s.views id w) other z h.0 h.1 ne' (set_elsewhere s.views id w h.0 h.1 ne h.2), h.3, h.4))) in
+      let next : Ok g' (record { words = s.words; homes = s.homes; views = set (set s.views id w) other z }) = record {
+        words = r.words;
+        ordered = r.ordered;
+        queue = λ n lo hi. let q = r.queue n lo hi in (q.0, q.1, kept_at q.0 q.1 n q.2 q.4, q.3, q.4);
+        seats = seats_stay K (set s.views id w) other z tt (λ j d ne here. seats_stay (λ j d. j ≢ other → K j d) s.views id w
+            (λ _. subst (Knows b0 g' id w) (sym idle) mine)
+            (λ j d _ here ne. knows_on g g' j d (others j d ne) (λ n _ h. h) (λ n _ _ h. h) d.stage (r.seats j d here)) j d here ne);
+        longest = longest;
+        is_legal = r.is_legal;
+        no_others = r.no_others;
+        placed = placed_on g.log g.served s.views (set (set s.views id w) other z) s.homes kept_at g.is_out r.placed;
+      } in
+      (g', next)
 
   of_sources : (P : ℕ → Type 0) (Q : Made C R → Type 0) → ((m : Made C R) → Q m → P m.number) → (ms : List (Made C R)) → Each Q ms
       → Each P (sources ms)
@@ -632,16 +564,13 @@ module _ {B O C R : Type 0} (opening_of : B → O) (acts_of : B → List (Deed C
       (λ e. r.no_others n (false_from_ne_true (is_among n g.numbers) (λ h. both_ways (is_among n (sources ms)) e (in_mine n h)))) in
       elim g.is_out as (λ b. IsPlaced opening_of acts_of o g.log g.served s.views b s.homes
       → (k : Kept B) × (s.homes ≡ some (Some k) ∷ []) × IsClosed v.seen (own_and_joined v) k.book.value) [
-        | false ↦ λ p. (
-          p.0,
-          p.1,
-          record {
-            opening_is = p.2.opening_is;
-            is_legal = subst (λ (l : List (Deed C R)). legal o l) (sym p.2.acts_are) r.is_legal;
-            seen = subst (λ (l : List (Deed C R)). StartsWith l v.seen) (sym p.2.acts_are) live.prefix;
-            acts = λ n. ap (acts_by n) p.2.acts_are ∙ acts n;
-          },
-        )
+        | false ↦ λ p. let closed : IsClosed v.seen ms p.0.book.value = record {
+          opening_is = p.2.opening_is;
+          is_legal = subst (λ (l : List (Deed C R)). legal o l) (sym p.2.acts_are) r.is_legal;
+          seen = subst (λ (l : List (Deed C R)). StartsWith l v.seen) (sym p.2.acts_are) live.prefix;
+          acts = λ n. ap (acts_by n) p.2.acts_are ∙ acts n;
+        } in
+            (p.0, p.1, closed)
         | true ↦ λ p. let u : V = p.1.1 in let there = p.1.2 in
             let theirs = ticketed g p.1.0 g.served u u.stage (subst (IsOut g.served) (sym p.1.3) refl) (r.seats p.1.0 u there) in
             let seats : p.1.0 ≡ id = sym theirs.0.own.seat_is

@@ -1,5 +1,5 @@
 -- The CMAC of a message of one whole block.
-use Rattle.std.proofs.Common.{◌≡◌, ℕ, zero, suc, ◌+◌, ◌-◌, ◌*◌, ◌/◌, List, [], ◌∷◌, length, drop, replicate, refl, sym, ap, ap₂, ◌∙◌, arith}
+use Rattle.std.proofs.Common.{◌≡◌, ℕ, zero, suc, ◌-◌, ◌*◌, List, [], ◌∷◌, length, drop, replicate, refl, sym, ap, ap₂, ◌∙◌, arith}
 use lib.Bits.{xor_zero_l}
 use Rattle.aes_block.specs.Block.{add, encrypt}
 use Rattle.aes_block.proofs.Lists.{length-add}
@@ -11,9 +11,8 @@ use Rattle.cbc_cmac.specs.Mac.{chain, zeros, before_last, first_subkey, masked, 
 -- adding zeros changes nothing
 add_zeros : (n : ℕ) (x : List ℕ) → length x ≡ n → add (replicate n 0) x ≡ x
 add_zeros zero [] h = refl
-add_zeros zero (b ∷ x) h = absurd (omega arith)
-add_zeros (suc n) [] h = absurd (omega arith)
 add_zeros (suc n) (b ∷ x) h = ap₂ (λ (c : ℕ) (cs : List ℕ). c ∷ cs) (xor_zero_l b) (add_zeros n x (omega arith))
+add_zeros _ _ h = absurd (omega arith)
 
 none_before : (key block : List ℕ) (n : ℕ) → n ≡ 0 → chain key zeros (first_blocks n block) ≡ zeros
 unfolding chain

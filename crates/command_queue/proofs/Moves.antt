@@ -114,10 +114,9 @@ between_at n (c ∷ cs) last (suc i) d h lt =
 
 pairs_at : (n : ℕ) (cs : List Command) (last i j : ℕ) (d : Command) → IdsRise n cs last → i < j → j < length cs
     → (get_or cs i d).id < (get_or cs j d).id
-pairs_at n [] last i j d h lt within = absurd (omega arith)
-pairs_at n (c ∷ cs) last i zero d h lt within = absurd (omega arith)
 pairs_at n (c ∷ cs) last zero (suc j) d h lt within = (between_at c.id cs last j d h.1 (omega arith)).0
 pairs_at n (c ∷ cs) last (suc i) (suc j) d h lt within = pairs_at c.id cs last i j d h.1 (omega arith) (omega arith)
+pairs_at n _ last i _ d h lt within = absurd (omega arith)
 
 pub ids_lower : (q : Pending) → IsSound q → AllPairs (λ c d. c.id < d.id) q.commands
 ids_lower q s i j d lt within = pairs_at 0 q.commands q.ids i j d s.rising lt within
@@ -129,9 +128,8 @@ ids_given q s i d lt = (between_at 0 q.commands q.ids i d s.rising lt).1
 newest_at : (n : ℕ) (cs : List Command) (i : ℕ) (c : Command) → length cs ≡ suc i → Some c ≡ slice_get cs i → c.id ≡ newest_id n cs
 newest_at n [] i c long h = cc
 newest_at n (d ∷ []) zero c long h = let same : c ≡ d = cc in ap (λ (x : Command). x.id) same
-newest_at n (d ∷ []) (suc i) c long h = absurd (omega arith)
-newest_at n (d ∷ e ∷ cs) zero c long h = absurd (omega arith)
 newest_at n (d ∷ e ∷ cs) (suc i) c long h = newest_at d.id (e ∷ cs) i c (omega arith) h
+newest_at n _ _ c long h = absurd (omega arith)
 
 pub newest_last : (n : ℕ) (cs : List Command) (c : Command) → Some c ≡ slice_get cs (length cs - 1) → c.id ≡ newest_id n cs
 newest_last n [] c h = cc

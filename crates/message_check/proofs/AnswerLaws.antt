@@ -8,35 +8,21 @@ use Rattle.meter_address.specs.Commission.{Commissioned}
 use Rattle.afl_layer.specs.declared.header.Auth.{Auth}
 use Rattle.message_check.specs.declared.opening.Opened.{Opened}
 use Rattle.message_check.specs.declared.refusal.Reason.{Reason}
-use Rattle.message_check.specs.Opening.{Found, Checked5, Genuine7, access_number_passed, counter_passed, opened5, compared5, opened5_after, opened7, compared7, opened7_after}
+use Rattle.message_check.specs.Opening.{Found, Passed, Checked5, Genuine7, access_number_passed, counter_passed, opened5, compared5, opened5_after, opened7, compared7, opened7_after}
 use Rattle.message_check.specs.Opened.{found_in, Says, Opens}
 use Rattle.message_check.specs.Refusals.{Refusal5, Refusal7}
+use Rattle.lists.specs.Steps.{◌>>=◌}
 use Rattle.lists.proofs.StepLaws.{bind_ok}
-use Rattle.message_check.proofs.OpeningLaws.{checked_are_opened, genuine_are_opened}
+use Rattle.message_check.proofs.OpeningLaws.{found, checked_are_opened, genuine_are_opened}
 use Rattle.message_check.proofs.RefusalLaws.{refused_exactly5}
 use Rattle.message_check.proofs.RefusalLaws7.{refused_exactly7}
 
 -- what is found after another was found without it
-compared5_is : (last : Option ℕ) (x f : Found) → compared5 last x ≡ Ok f → x ≡ f
-unfolding compared5
-compared5_is last x f e = let passed = bind_ok (access_number_passed last x.counter) _ f e in cc passed.2
-
-compared7_is : (last : Option ℕ) (x f : Found) → compared7 last x ≡ Ok f → x ≡ f
-unfolding compared7
-compared7_is last x f e = let passed = bind_ok (counter_passed last x.counter) _ f e in cc passed.2
-
-checked : (last : Option ℕ) (c : Commissioned) (m : List ℕ) (f : Found) → IsBytes m → opened5_after last c m ≡ Ok f → Checked5 c m f
-unfolding opened5_after
-checked last c m f fits e =
-    let opened = bind_ok (opened5 c m) (compared5 last) f e in
-    subst (Checked5 c m) (compared5_is last opened.0 f opened.2) ((checked_are_opened c m opened.0 fits).0 opened.1)
-
-genuine : (last : Option ℕ) (c : Commissioned) (auth : Auth) (m : List ℕ) (f : Found) → IsBytes m → opened7_after last c auth m ≡ Ok f
-    → Genuine7 c auth m f
-unfolding opened7_after
-genuine last c auth m f fits e =
-    let opened = bind_ok (opened7 c auth m) (compared7 last) f e in
-    subst (Genuine7 c auth m) (compared7_is last opened.0 f opened.2) ((genuine_are_opened c auth m opened.0 fits).0 opened.1)
+after : (opened : Result Found Reason) (passes : Found → Passed) (f : Found) → (opened >>= (λ x. passes x >>= (λ _. found x))) ≡ Ok f
+    → opened ≡ Ok f
+after opened passes f e =
+    let x = bind_ok opened _ f e in
+    let passed = bind_ok (passes x.0) _ f x.2 in x.1 ∙ passed.2
 
 -- the bytes of a message, or a buffer that held them, became these, and the answer is what is said of it
 pub record Done (said : List ℕ → Result Found Reason) (old new : List ℕ) (answer : Result Opened Reason) : Type 0 where
@@ -72,8 +58,7 @@ done said m old left end (Err r) (Err q) stands len is kept emptied opened refus
       same_len = tt;
       emptied = emptied;
     }
-done said m old left end (Ok o) (Err q) stands len is kept emptied opened refused within front = absurd (cc is)
-done said m old left end (Err r) (Ok p) stands len is kept emptied opened refused within front = absurd (cc is)
+done said m old left end _ _ stands len is kept emptied opened refused within front = absurd (cc is)
 
 opens : (said : List ℕ → Result Found Reason) (old end : List ℕ) (answer : Result Opened Reason) (Means : Found → Type 0)
     (Causes : Reason → Type 0) → Done said old end answer → ((f : Found) → said old ≡ Ok f → Means f)
@@ -102,12 +87,16 @@ opens said old end (Err x) Means Causes d meant caused = record {
 
 pub opens5 : (last : Option ℕ) (c : Commissioned) (old end : List ℕ) (answer : Result Opened Reason) → IsBytes old
     → Done (opened5_after last c) old end answer → Opens old end answer (Checked5 c old) (Refusal5 last c old)
+unfolding opened5_after compared5
 opens5 last c old end answer fits d =
-    opens (opened5_after last c) old end answer (Checked5 c old) (Refusal5 last c old) d (λ f. checked last c old f fits)
+    opens (opened5_after last c) old end answer (Checked5 c old) (Refusal5 last c old) d
+    (λ f e. (checked_are_opened c old f fits).0 (after (opened5 c old) (λ x. access_number_passed last x.counter) f e))
     (λ r. refused_exactly5 last c old r fits)
 
 pub opens7 : (last : Option ℕ) (c : Commissioned) (auth : Auth) (old end : List ℕ) (answer : Result Opened Reason) → IsBytes old
     → Done (opened7_after last c auth) old end answer → Opens old end answer (Genuine7 c auth old) (Refusal7 last c auth old)
+unfolding opened7_after compared7
 opens7 last c auth old end answer fits d =
     opens (opened7_after last c auth) old end answer (Genuine7 c auth old) (Refusal7 last c auth old) d
-    (λ f. genuine last c auth old f fits) (λ r. refused_exactly7 last c auth old r fits)
+    (λ f e. (genuine_are_opened c auth old f fits).0 (after (opened7 c auth old) (λ x. counter_passed last x.counter) f e))
+    (λ r. refused_exactly7 last c auth old r fits)

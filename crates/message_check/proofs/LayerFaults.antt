@@ -24,7 +24,8 @@ use Rattle.message_check.specs.declared.headers.Layers.{Layers}
 use Rattle.message_check.specs.declared.refusal.LayerFault.{LayerFault}
 use Rattle.message_check.specs.declared.refusal.LayerFault.TheVariants as faults
 use Rattle.message_check.specs.Layers.{has_piece, ExtensionThen, FragmentationThen, HasExtensionCi, HasFragmentationCi, IsBefore, IsLayerFault, extension_len, fragmentation_len, extension_in, fragmentation_in, header_in, layers_of}
-use Rattle.lists.proofs.StepLaws.{bind_err, map_both_ok, map_both_err}
+use Rattle.lists.proofs.StepLaws.{map_both_ok, map_both_err}
+use Rattle.message_check.proofs.Causes.{of_steps, of_last}
 use Rattle.message_check.proofs.LayerLaws.{extension_then_rest, fragmentation_then_rest, extension_found, fragmentation_found, extension_some, fragmentation_some, extension_again}
 
 -- ---- the extension of the link layer
@@ -158,39 +159,34 @@ behind_both t ell afl after rest first second =
 fault_found : (t : List ℕ) (r : LayerFault) → IsBytes t → layers_of t ≡ Err r → IsLayerFault t r
 unfolding layers_of
 fault_found t r fits e =
-    elim (bind_err (extension_in (drop 10 t)) _ r e) [
-      | inl first ↦
-          let f = extension_fault (drop 10 t) r first in
-          subst (IsLayerFault t) f.1.2 (f.0, f.1.1)
-      | inr ell ↦
-          let after : List ℕ = drop (extension_len ell.0) (drop 10 t) in
-          let after_is : after ≡ drop (10 + extension_len ell.0) t = drop-drop (extension_len ell.0) 10 t in
-          let fits_after = IsBytes-drop (extension_len ell.0) (drop 10 t) (IsBytes-drop 10 t fits) in
-          let extension = extension_found (drop 10 t) ell.0 ell.1 in
-          elim (bind_err (fragmentation_in (drop (10 + extension_len ell.0) t)) _ r ell.2) [
-            | inl second ↦
-                let f = fragmentation_fault after r fits_after (ap fragmentation_in after_is ∙ second) in
-                subst (IsLayerFault t) f.1.2 (ell.0, after, extension, f.0, f.1.1)
-            | inr afl ↦
-                let read : fragmentation_in after ≡ Ok afl.0 = ap fragmentation_in after_is ∙ afl.1 in
-                let rest : List ℕ = drop (fragmentation_len afl.0) after in
-                let rest_is : rest ≡ drop (10 + extension_len ell.0 + fragmentation_len afl.0) t =
-                ap (drop (fragmentation_len afl.0)) after_is ∙ drop-drop (fragmentation_len afl.0) (10 + extension_len ell.0) t in
-                let before : IsBefore t ell.0 afl.0 rest = record {
-                  after_extension = after;
-                  extension = extension;
-                  no_extension = no_extension (drop 10 t) ell.0 ell.1;
-                  fragmentation = fragmentation_found after afl.0 fits_after read;
-                  no_fragmentation = no_fragmentation after afl.0 read;
-                } in
-                elim (bind_err (header_in afl.0 (drop (10 + extension_len ell.0 + fragmentation_len afl.0) t)) _ r afl.2) [
-                  | inl third ↦
-                      let f = header_fault afl.0 rest r (ap (header_in afl.0) rest_is ∙ third) in
-                      subst (IsLayerFault t) f.1.2 (ell.0, afl.0, rest, before, f.0, f.1.1)
-                  | inr all ↦ absurd (cc all.2)
-                ]
-          ]
-    ]
+    let P : LayerFault → Type 0 = IsLayerFault t in
+    of_steps P (extension_in (drop 10 t)) _ r e
+    (λ d first. let f = extension_fault (drop 10 t) d first in subst P f.1.2 (f.0, f.1.1))
+    (λ ell read e1.
+    let after : List ℕ = drop (extension_len ell) (drop 10 t) in
+    let after_is : after ≡ drop (10 + extension_len ell) t = drop-drop (extension_len ell) 10 t in
+    let fits_after = IsBytes-drop (extension_len ell) (drop 10 t) (IsBytes-drop 10 t fits) in
+    let extension = extension_found (drop 10 t) ell read in
+    of_steps P (fragmentation_in (drop (10 + extension_len ell) t)) _ r e1
+    (λ d second.
+    let f = fragmentation_fault after d fits_after (ap fragmentation_in after_is ∙ second) in
+    subst P f.1.2 (ell, after, extension, f.0, f.1.1))
+    (λ afl read1 e2.
+    let read2 : fragmentation_in after ≡ Ok afl = ap fragmentation_in after_is ∙ read1 in
+    let rest : List ℕ = drop (fragmentation_len afl) after in
+    let rest_is : rest ≡ drop (10 + extension_len ell + fragmentation_len afl) t =
+    ap (drop (fragmentation_len afl)) after_is ∙ drop-drop (fragmentation_len afl) (10 + extension_len ell) t in
+    let before : IsBefore t ell afl rest = record {
+      after_extension = after;
+      extension = extension;
+      no_extension = no_extension (drop 10 t) ell read;
+      fragmentation = fragmentation_found after afl fits_after read2;
+      no_fragmentation = no_fragmentation after afl read2;
+    } in
+    of_last P (header_in afl (drop (10 + extension_len ell + fragmentation_len afl) t)) _ r e2
+    (λ d third.
+    let f = header_fault afl rest d (ap (header_in afl) rest_is ∙ third) in
+    subst P f.1.2 (ell, afl, rest, before, f.0, f.1.1))))
 
 fault_again : (t : List ℕ) (r : LayerFault) → IsBytes t → IsLayerFault t r → layers_of t ≡ Err r
 unfolding layers_of

@@ -3,4 +3,5 @@ pub mod OpeningLaws
 pub mod RefusalLaws
 pub mod RefusalLaws7
 mod AnswerLaws
+mod Causes
 mod LayerFaults

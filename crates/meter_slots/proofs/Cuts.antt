@@ -38,11 +38,11 @@ behind c earlier reading = record {
 -- ---- what both journals come to
 
 last_floor : (mode : Mode) (xs ys : List ℕ) → last_among mode (xs ++ option_to_list (last_among mode ys)) ≡ last_among mode (xs ++ ys)
+last_floor Seven [] ys = grind arith
+last_floor Seven (x ∷ xs) ys = ap (greater x) (last_floor Seven xs ys)
 last_floor Five [] [] = refl
 last_floor Five [] (y ∷ ys) = refl
 last_floor Five (x ∷ xs) ys = refl
-last_floor Seven [] ys = grind arith
-last_floor Seven (x ∷ xs) ys = ap (greater x) (last_floor Seven xs ys)
 
 module _ (c : Start) (earlier : List Entry) (reading : Option Reading) where
   abbrev next : Start

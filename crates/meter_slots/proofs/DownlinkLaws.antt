@@ -66,10 +66,6 @@ cancel_down : (k : Orders) (id : ℕ) → (after_cancel k id).down ≡ k.down
 unfolding after_cancel
 cancel_down k id = cond_both (is_pending id k.queue) _ k (λ (j : Orders). j.down ≡ k.down) (λ _. refl) (λ _. refl)
 
-tick_down : (k : Orders) → (after_tick k).down ≡ k.down
-unfolding after_tick
-tick_down k = refl
-
 -- ---- an entry
 
 answer_counts : (c : Start) (own : Address) (earlier : List Entry) (event : Event)
@@ -77,9 +73,10 @@ answer_counts : (c : Start) (own : Address) (earlier : List Entry) (event : Even
     (orders_after (orders c earlier) (access_at (commission_of c) (standing c earlier) event) event
     (answer (commission_of c) own (standing c earlier) event)).down
     (sent_counter (answer (commission_of c) own (standing c earlier) event))
+unfolding after_tick
 answer_counts c own earlier (Hear format at t) =
     heard_counts own (commission_of c) (orders c earlier) _ _ (verdict (commission_of c) (standing c earlier) t)
-answer_counts c own earlier Tick = tick_down (orders c earlier)
+answer_counts c own earlier Tick = refl
 answer_counts c own earlier (Put payload) =
     let none : sent_counter (queued (put_answer (orders c earlier).queue)) ≡ None = grind arith in nothing_sent _ _ _ none refl
 answer_counts c own earlier (Cancel id) =
@@ -150,9 +147,6 @@ IsRising-below : (low high : ℕ) (ns : List ℕ) → low ≤ high → IsRising 
 IsRising-below low high [] below r = tt
 IsRising-below low high (n ∷ ns) below r = let above : high < n = r.0 in (omega arith, r.1)
 
-sent_counters-append : (xs ys : List Entry) → sent_counters (xs ++ ys) ≡ sent_counters xs ++ sent_counters ys
-sent_counters-append xs ys = filter_map-append (λ (y : Entry). sent_counter y.outcome) xs ys
-
 pub reserved_rise : (down : ℕ) (own : Address) (sessions : List Session) → AreReserved down own sessions
     → IsRising (Some down) (sent_counters (joined (journals_of sessions)))
 reserved_rise down own [] h = tt
@@ -160,7 +154,7 @@ reserved_rise down own (s ∷ later) h =
     let r = rises_behind s.start own s.journal h.1.0 in
     let rest = reserved_rise (resumed s.start s.journal).orders.down own later h.1.1 in
     IsRising-below down s.start.orders.down _ h.0
-    (subst (IsRising (Some s.start.orders.down)) (sym (sent_counters-append s.journal (joined (journals_of later))))
+    (subst (IsRising (Some s.start.orders.down)) (sym (filter_map-append (λ (y : Entry). sent_counter y.outcome) s.journal (joined (journals_of later))))
     (IsRising-join (Some s.start.orders.down) (sent_counters s.journal) _ r.rises
     (subst (λ (f : Option ℕ). IsRising f (sent_counters (joined (journals_of later)))) (sym r.ends) rest)))
 

@@ -24,7 +24,7 @@ use Rattle.message_check.specs.declared.refusal.Reason.{Reason}
 use Rattle.message_check.specs.Opening.{Found}
 use Rattle.meter_slots.specs.declared.entry.Entry.{Entry}
 use Rattle.meter_slots.specs.declared.entry.Event.{Event}
-use Rattle.meter_slots.specs.declared.entry.Event.TheVariants.{Hear, Put, Cancel, Rekey}
+use Rattle.meter_slots.specs.declared.entry.Event.TheVariants.{Hear}
 use Rattle.meter_slots.specs.declared.entry.Event.TheVariants as events
 use Rattle.meter_slots.specs.declared.entry.Outcome.{Outcome}
 use Rattle.meter_slots.specs.Hearing.{received, brought, auth_in, Content, Whole, Part, content_of, content_behind, message_in}
@@ -82,10 +82,9 @@ more_bytes parts part front_is part_is =
     (bytes_joined (flat_map (λ p. p.bytes) parts) part.bytes front_is part_is)
 
 with_more_bytes : (o : Option (List Fragment)) (h : Option HeldPart) → PiecesOfBytes o → OfBytes h → PiecesOfBytes (with_more o h)
-with_more_bytes None h front_is bytes = tt
-with_more_bytes (Some parts) None front_is bytes = tt
 with_more_bytes (Some parts) (Some h) front_is bytes =
     cond_both h.part.afl.more (Some (parts ++ h.part ∷ [])) None PiecesOfBytes (λ _. more_bytes parts h.part front_is bytes) (λ _. tt)
+with_more_bytes _ _ front_is bytes = tt
 
 front_bytes : (n : ℕ) (hs : List HeldPart) → All HasBytes hs → PiecesOfBytes (front n hs)
 front_bytes zero hs all = tt

@@ -32,29 +32,25 @@ module _ (v : Passing) (own : Address) (c : Start) (k k' : Kept) (event : Event)
       (reads : (t : List Told) → StandsFor k.parts t
       → option_to_list reading ≡ reading_of event (stored k.commission (standing_for k t) event))
       (moves : (t : List Told) → StandsFor k.parts t → Moves k k' t event given) where
+    abbrev pub entry : ℕ → ℕ → Entry
+    entry source line = record { source = source; line = line; event = event; outcome = given }
+
     keeps : (journal : List Entry) (source line : ℕ) → IsAfter journal v
-        → Keeps c own (journal ++ record { source = source; line = line; event = event; outcome = given } ∷ []) k'
-        (readings c journal ++ option_to_list reading)
+        → Keeps c own (journal ++ entry source line ∷ []) k' (readings c journal ++ option_to_list reading)
     keeps journal source line h =
-        kept_after c own journal k (readings c journal) (record { source = source; line = line; event = event; outcome = given }) k'
-        (option_to_list reading) (subst (IsAfter journal) (sym view_is) h) puts (judged journal h) fits reads moves
+        kept_after c own journal k (readings c journal) (entry source line) k' (option_to_list reading)
+        (subst (IsAfter journal) (sym view_is) h) puts (judged journal h) fits reads moves
 
     pub passing_after : (journal : List Entry) (source line : ℕ) → IsAfter journal v
-        → Keeps c own (journal ++ record { source = source; line = line; event = event; outcome = given } ∷ []) k'
-        (readings c (journal ++ record { source = source; line = line; event = event; outcome = given } ∷ []))
+        → Keeps c own (journal ++ entry source line ∷ []) k' (readings c (journal ++ entry source line ∷ []))
     passing_after journal source line h =
-        let kept = keeps journal source line h in
-        subst (Keeps c own (journal ++ record { source = source; line = line; event = event; outcome = given } ∷ []) k') kept.readings_are
-        kept
+        let kept = keeps journal source line h in subst (Keeps c own (journal ++ entry source line ∷ []) k') kept.readings_are kept
 
     pub passing_reading : (journal : List Entry) (source line : ℕ) → IsAfter journal v
-        → readings v.start (journal ++ record { source = source; line = line; event = event; outcome = given } ∷ [])
-        ≡ readings v.start journal ++ option_to_list reading
+        → readings v.start (journal ++ entry source line ∷ []) ≡ readings v.start journal ++ option_to_list reading
     passing_reading journal source line h =
-        let kept = keeps journal source line h in
-        subst (λ (w : Passing). readings w.start
-        (journal ++ record { source = source; line = line; event = event; outcome = given } ∷ [])
-        ≡ readings w.start journal ++ option_to_list reading) view_is (sym kept.readings_are)
+        subst (λ (w : Passing). readings w.start (journal ++ entry source line ∷ []) ≡ readings w.start journal ++ option_to_list reading)
+        view_is (sym (keeps journal source line h).readings_are)
 
 -- ---- what is known of its meter
 

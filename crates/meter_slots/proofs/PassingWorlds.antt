@@ -25,9 +25,9 @@ use Rattle.meter_slots.proofs.Worlds.{none_found, found_at, after_strange, after
 
 last_more : (before : Option Reading) (rs : List Reading) (reading : Option Reading)
     → last_of before (rs ++ option_to_list reading) ≡ later_of (last_of before rs) reading
+last_more before (x ∷ rs) reading = last_more (Some x) rs reading
 last_more before [] None = refl
 last_more before [] (Some r) = refl
-last_more before (x ∷ rs) reading = last_more (Some x) rs reading
 
 some_steps : (journal : List Entry) (x : Entry) → has_steps (journal ++ x ∷ []) ≡ true
 some_steps [] x = refl
@@ -85,16 +85,14 @@ passing_at (y ∷ bs) (x ∷ ms) (suc place) b d all within = passing_at bs ms p
 passing_set : (bs : List SlotView) (ms : List PassingMeter) (place : ℕ) (b : SlotView) (m : PassingMeter) → ArePassing bs ms
     → IsPassing b m → ArePassing (set bs place b) (set ms place m)
 passing_set [] [] place b m all p = tt
-passing_set [] (x ∷ ms) place b m all p = absurd all
-passing_set (y ∷ bs) [] place b m all p = absurd all
 passing_set (y ∷ bs) (x ∷ ms) zero b m all p = (p, all.1)
 passing_set (y ∷ bs) (x ∷ ms) (suc place) b m all p = (all.0, passing_set bs ms place b m all.1 p)
+passing_set _ _ place b m all p = absurd all
 
 kept_in : (ms : List PassingMeter) (place : ℕ) (m : PassingMeter) (reading : Option Reading)
     → kept_at place reading (set ms place m) ≡ set ms place (after_reading reading m)
-kept_in [] place m reading = refl
-kept_in (x ∷ ms) zero m reading = refl
 kept_in (x ∷ ms) (suc place) m reading = ap (λ xs. x ∷ xs) (kept_in ms place m reading)
+kept_in _ _ m reading = refl
 
 -- ---- a reading that is kept
 
@@ -110,9 +108,8 @@ kept_past (x ∷ ms) zero reading past = absurd (omega arith)
 kept_past (x ∷ ms) (suc place) reading past = ap (λ xs. x ∷ xs) (kept_past ms place reading (omega arith))
 
 kept_views : (ms : List PassingMeter) (place : ℕ) (reading : Option Reading) → map fresh_view (kept_at place reading ms) ≡ map fresh_view ms
-kept_views [] place reading = refl
-kept_views (x ∷ ms) zero reading = refl
 kept_views (x ∷ ms) (suc place) reading = ap (λ xs. fresh_view x ∷ xs) (kept_views ms place reading)
+kept_views _ _ reading = refl
 
 pub kept_ordered : (ms : List PassingMeter) (directory : List Address) (place : ℕ) (reading : Option Reading) → AreOrdered ms directory
     → AreOrdered (kept_at place reading ms) directory
@@ -192,11 +189,9 @@ module _ (ms : List PassingMeter) (directory : List Address) (s : Step) (ordered
     }
 
     get_else : (xs : List PassingMeter) (i j : ℕ) (x : PassingMeter) → (j ≡ i → ⊥) → slice_get (set xs i x) j ≡ slice_get xs j
-    get_else [] i j x off = refl
     get_else (y ∷ xs) zero zero x off = absurd (off refl)
-    get_else (y ∷ xs) zero (suc j) x off = refl
-    get_else (y ∷ xs) (suc i) zero x off = refl
     get_else (y ∷ xs) (suc i) (suc j) x off = get_else xs i j x (λ e. off (ap suc e))
+    get_else _ _ _ x off = refl
 
     pub own_others : LeavesOthers ms news (Some (place, served))
     own_others i off = ap (λ xs. slice_get xs i) h.news_are ∙ get_else ms place i h.new off

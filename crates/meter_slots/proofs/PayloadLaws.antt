@@ -14,7 +14,7 @@ use Rattle.command_queue.specs.Pending.{Pending, has_id, is_pending}
 use Rattle.command_queue.specs.Pending.{without_command, one_try_more, with_try}
 use Rattle.access_window.proofs.Agreement.{put_both}
 use Rattle.access_window.specs.declared.window.Window.{Window}
-use Rattle.access_window.specs.declared.window.Window.TheVariants.{Idle, Waiting}
+use Rattle.access_window.specs.declared.window.Window.TheVariants.{Idle}
 use Rattle.access_window.specs.Orders.{Orders, after_put, after_cancel, window_without, queue_less, expired, after_tick, confirmed}
 use Rattle.access_window.specs.Orders.{confirmed_orders, after_confirmed}
 use Rattle.access_window.specs.Orders.{is_open, oldest_where_idle, sent, sent_orders, after_sent, sent_at, after_stored}
@@ -98,9 +98,8 @@ if_some : (b : Bool) (o : Option Command) (c : Command) → cond b o None ≡ So
 if_some b o c h = grind arith
 
 oldest_payload : (w : Window) (cs : List Command) (c : Command) → All HasPayload cs → oldest_where_idle w cs ≡ Some c → HasPayload c
-oldest_payload (Waiting id) cs c h e = absurd cc
-oldest_payload Idle [] c h e = absurd cc
 oldest_payload Idle (oldest ∷ others) c h e = let same : oldest ≡ c = cc in subst HasPayload same (All-head HasPayload oldest others h)
+oldest_payload _ _ c h e = absurd cc
 
 sent_payload : (k : Orders) (access : Access) (c : Command) → AreReady k → sent k access ≡ Some c → HasPayload c × (k.down < 2 ^ 32 - 1)
 unfolding sent

@@ -1,17 +1,16 @@
 -- Places of addresses in a list.
-use Rattle.std.proofs.Common.{◌≡◌, ℕ, zero, suc, ◌+◌, ◌<◌, ◌==◌, ◌||◌, List, [], ◌∷◌, ◌++◌, false, cond, length, take, get_or}
+use Rattle.std.proofs.Common.{◌≡◌, ℕ, zero, suc, ◌+◌, ◌<◌, ◌==◌, ◌||◌, List, [], ◌∷◌, ◌++◌, Bool, false, cond, length, take, get_or}
 use Rattle.std.proofs.Common.{refl, ap, sym, ◌∙◌, arith}
 use Rattle.std.specs.List.{list_any}
-use Rattle.std.proofs.lemmas.Bool.{or_parts}
+use Rattle.std.proofs.lemmas.Bool.{both_ways, false_from_ne_true}
+use Rattle.std.proofs.lemmas.List.Folds.{list_any_at}
 use Rattle.std.proofs.lemmas.List.{take_more}
 use Rattle.meter_address.specs.declared.address.Address.{Address}
 use Rattle.meter_slots.specs.Directory.{AreApart}
 
-none_at : (n : ℕ) (xs : List Address) (i : ℕ) (d : Address) → list_any (λ b. b.0 == n) xs ≡ false → i < length xs
-    → ((get_or xs i d).0 == n) ≡ false
-none_at n [] i d h within = absurd (omega arith)
-none_at n (x ∷ xs) zero d h within = (or_parts _ _ h).0
-none_at n (x ∷ xs) (suc i) d h within = none_at n xs i d (or_parts (x.0 == n) (list_any (λ b. b.0 == n) xs) h).1 (omega arith)
+-- where none passes the test, that at a place doesn't
+pub none_at : {X : Type 0} (p : X → Bool) (xs : List X) (i : ℕ) (d : X) → list_any p xs ≡ false → i < length xs → p (get_or xs i d) ≡ false
+none_at p xs i d h within = false_from_ne_true (p (get_or xs i d)) (λ e. both_ways (list_any p xs) h (list_any_at p xs i d within e))
 
 -- an address is none of those in front of it
 new_at : (xs : List Address) (i : ℕ) (d : Address) → AreApart xs → i < length xs
@@ -19,7 +18,7 @@ new_at : (xs : List Address) (i : ℕ) (d : Address) → AreApart xs → i < len
 new_at [] i d apart within = absurd (omega arith)
 new_at (x ∷ xs) zero d apart within = refl
 new_at (x ∷ xs) (suc i) d apart within =
-    ap (λ t. t || list_any (λ b. (get_or xs i d).0 == b.0) (take i xs)) (none_at x.0 xs i d apart.0 (omega arith))
+    ap (λ t. t || list_any (λ b. (get_or xs i d).0 == b.0) (take i xs)) (none_at (λ (b : Address). b.0 == x.0) xs i d apart.0 (omega arith))
     ∙ new_at xs i d apart.1 (omega arith)
 
 pub next_key : (xs keys new : List Address) (i : ℕ) (d : Address) → AreApart xs → i < length xs → keys ≡ take i xs

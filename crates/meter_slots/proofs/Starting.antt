@@ -28,9 +28,8 @@ last_at : (before : Option Reading) (rs : List Reading) (i : ℕ) (r : Reading) 
     → last_of before rs ≡ Some r
 last_at before [] i r long h = absurd cc
 last_at before (x ∷ []) zero r long h = sym h
-last_at before (x ∷ []) (suc i) r long h = absurd (omega arith)
-last_at before (x ∷ y ∷ rs) zero r long h = absurd (omega arith)
 last_at before (x ∷ y ∷ rs) (suc i) r long h = last_at (Some x) (y ∷ rs) i r (omega arith) h
+last_at before _ _ r long h = absurd (omega arith)
 
 pub last_of-last : (before : Option Reading) (rs : List Reading) (r : Reading) → Some r ≡ slice_get rs (length rs - 1)
     → last_of before rs ≡ Some r

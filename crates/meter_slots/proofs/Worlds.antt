@@ -3,13 +3,14 @@ use Rattle.std.proofs.Common.{◌≡◌, ◌↔◌, ℕ, zero, suc, ◌<◌, ◌
 use Rattle.std.proofs.Common.{get_or, set, reverse, map, filter, Some, None, refl, ap, sym, ◌∙◌, arith, subst}
 use Rattle.std.specs.Prelude.{Option, position, slice_get, option_map}
 use Rattle.lists.proofs.Choices.{none_if}
-use Rattle.std.proofs.lemmas.Bool.{true≢false, cond_both, eq-eqb, eqb-true, not-true, or_parts, or_right}
+use Rattle.std.proofs.lemmas.Bool.{true≢false, cond_both, eq-eqb, eqb-true, not-true, or_parts}
 use Rattle.std.proofs.lemmas.Option.{slice_get-get_or, slice_get-map}
 use Rattle.std.specs.List.{list_any, position_or_len, All}
 use Rattle.std.proofs.lemmas.Bool.Decides.{nat_tests}
 use Rattle.std.proofs.lemmas.List.{reverse-append, reverse-reverse, map-append, append-nil, length-map}
 use Rattle.std.proofs.Math.ListN.{get_or-map}
-use Rattle.std.proofs.lemmas.List.Elements.{filter-append, All-map}
+use Rattle.std.proofs.lemmas.List.Elements.{filter-append, All-map, All-from_get_or}
+use Rattle.std.proofs.lemmas.List.Folds.{list_any_at, list_any_none}
 use Rattle.std.proofs.lemmas.List.Quantifiers.{position-Some}
 use Rattle.std.proofs.lemmas.List.Sums.{prefix_len_passes}
 use Rattle.meter_address.specs.declared.address.Address.{Address}
@@ -26,8 +27,9 @@ use Rattle.meter_slots.specs.World.{Call, call_of, judged_journal, journal_of, i
 use Rattle.meter_slots.specs.World.{strangers_of, WorldView, world_of, Lands, fresh_slot, outcome_at, stepped_slot, has_slot, slot_after}
 use Rattle.meter_slots.specs.World.{strangers_after, after_step, AnsweredBy, address_of_slot, IsOrdered}
 use Rattle.meter_slots.proofs.JournalLaws.{journal_of_legal}
+use Rattle.meter_slots.proofs.Places.{none_at}
 
-eqb_swap : (a b : ℕ) → (a == b) ≡ (b == a)
+pub eqb_swap : (a b : ℕ) → (a == b) ≡ (b == a)
 eqb_swap a b = grind (arith, nat_tests)
 
 -- ---- the slot of a meter after one more step
@@ -76,7 +78,7 @@ slots-push own (c ∷ cs) steps s =
 abbrev Lacks : ℕ → List SlotView → Type 0
 Lacks n bs = list_any (has_number n) bs ≡ false
 
-any-map : {X Y : Type 0} (p : Y → Bool) (f : X → Y) (xs : List X) → list_any p (map f xs) ≡ list_any (λ x. p (f x)) xs
+pub any-map : {X Y : Type 0} (p : Y → Bool) (f : X → Y) (xs : List X) → list_any p (map f xs) ≡ list_any (λ x. p (f x)) xs
 any-map p f [] = refl
 any-map p f (x ∷ xs) = ap (λ t. p (f x) || t) (any-map p f xs)
 
@@ -85,12 +87,6 @@ stepped_lacks s [] h = refl
 stepped_lacks s (b ∷ bs) h =
     let parts = or_parts (has_number s.address.0 b) (list_any (has_number s.address.0) bs) h in
     ap (λ t. cond t (stepped_slot s b) b ∷ map (slot_after s) bs) parts.0 ∙ ap (λ xs. b ∷ xs) (stepped_lacks s bs parts.1)
-
-lacks_at : (n : ℕ) (bs : List SlotView) (place : ℕ) (d : SlotView) → Lacks n bs → place < length bs
-    → has_number n (get_or bs place d) ≡ false
-lacks_at n [] place d h l = absurd (omega arith)
-lacks_at n (b ∷ bs) zero d h l = (or_parts (has_number n b) (list_any (has_number n) bs) h).0
-lacks_at n (b ∷ bs) (suc place) d h l = lacks_at n bs place d (or_parts (has_number n b) (list_any (has_number n) bs) h).1 (omega arith)
 
 other_number : (x b s : ℕ) → (x == b) ≡ false → x ≡ s → (b == s) ≡ false
 other_number x b s h e = grind (arith, nat_tests)
@@ -107,13 +103,13 @@ set_stepped (b ∷ bs) (suc place) s d a h e =
     let lacks : Lacks b.start.address.0 bs = sym (any-map (λ (a : Address). a.0 == b.start.address.0) address_of_slot bs) ∙ a.0 in
     let differs =
     other_number (get_or bs place d).start.address.0 b.start.address.0 s.address.0
-    (lacks_at b.start.address.0 bs place d lacks (omega arith)) e in
+    (none_at (has_number b.start.address.0) bs place d lacks (omega arith)) e in
     ap (λ bs'. b ∷ bs') (set_stepped bs place s d a.1 (omega arith) e)
     ∙ ap (λ t. cond t (stepped_slot s b) b ∷ map (slot_after s) bs) (sym differs)
 
 -- ---- the addresses stay
 
-addresses_stay : (s : Step) (bs : List SlotView) → map address_of_slot (map (slot_after s) bs) ≡ map address_of_slot bs
+pub addresses_stay : (s : Step) (bs : List SlotView) → map address_of_slot (map (slot_after s) bs) ≡ map address_of_slot bs
 addresses_stay s [] = refl
 addresses_stay s (b ∷ bs) =
     ap (λ a. a ∷ map address_of_slot (map (slot_after s) bs)) (cond_both (has_number s.address.0 b) (stepped_slot s b) b
@@ -122,19 +118,14 @@ addresses_stay s (b ∷ bs) =
 
 -- ---- the place that the directory gives
 
-none_any : (p : Address → Bool) (xs : List Address) (d : Address) → ((k : ℕ) → k < length xs → p (get_or xs k d) ≡ false)
-    → list_any p xs ≡ false
-none_any p [] d h = refl
-none_any p (x ∷ xs) d h = ap (λ t. t || list_any p xs) (h 0 (omega arith)) ∙ none_any p xs d (λ k l. h (suc k) (omega arith))
-
 pub none_found : (bs : List SlotView) (directory : List Address) (n : ℕ) → IsOrdered bs directory
     → position (λ a. a.0 == n) directory ≡ None → Lacks n bs
 none_found bs directory n ordered h =
     let p : Address → Bool = λ a. a.0 == n in
     let past : length directory ≤ position_or_len p directory = let test = none_if _ _ h in grind (arith, nat_tests) in
     let none : list_any p directory ≡ false =
-    none_any p directory (record { 0 = 0 }) (λ k within. not-true _
-    (prefix_len_passes (λ a. not (p a)) directory k (record { 0 = 0 }) (omega arith))) in
+    list_any_none p directory (All-from_get_or (λ a. p a ≡ false) directory (record { 0 = 0 })
+    (λ k within. not-true _ (prefix_len_passes (λ a. not (p a)) directory k (record { 0 = 0 }) (omega arith)))) in
     sym (any-map p address_of_slot bs) ∙ ap (list_any p) (sym ordered.places) ∙ none
 
 pub found_at : (bs : List SlotView) (directory : List Address) (n place : ℕ) (d : SlotView) → IsOrdered bs directory
@@ -171,13 +162,6 @@ ordered_fresh own cs apart = record { places = same cs; apart = apart }
 
 -- ---- strangers
 
-any_at : (n : ℕ) (bs : List SlotView) (place : ℕ) (d : SlotView) → place < length bs → (get_or bs place d).start.address.0 ≡ n
-    → list_any (has_number n) bs ≡ true
-any_at n [] place d h e = absurd (omega arith)
-any_at n (b ∷ bs) zero d h e = ap (λ t. t || list_any (has_number n) bs) (eq-eqb b.start.address.0 n e)
-any_at n (b ∷ bs) (suc place) d h e = ap (λ t. has_number n b || t) (any_at n bs place d (omega arith) e)
-    ∙ or_right (has_number n b) true refl
-
 strangers-push : (cs : List Start) (steps : List Step) (s : Step) (t : Bool) → is_commissioned cs s.address ≡ t
     → strangers_of cs (steps ++ s ∷ []) ≡ strangers_of cs steps ++ cond t [] (heard_of s ∷ [])
 strangers-push cs steps s t h =
@@ -208,7 +192,7 @@ pub after_own : (s : Step) (w : WorldView) (place : ℕ) (d : SlotView) → AreA
 after_own s w place d a h same =
     ap (λ bs. record { slots = bs; strangers = w.strangers }) (set_stepped w.slots place s d a h same)
     ∙ ap (λ t. record { slots = map (slot_after s) w.slots; strangers = cond t w.strangers (w.strangers ++ heard_of s ∷ []) })
-    (sym (any_at s.address.0 w.slots place d h same))
+    (sym (list_any_at (has_number s.address.0) w.slots place d h (eq-eqb _ _ same)))
 
 -- the world of some steps and one more is that of these steps after this one
 pub after_push : (own : Address) (cs : List Start) (steps : List Step) (s : Step)
@@ -262,7 +246,7 @@ stranger_strange bs s h = (λ e. h, λ n. refl)
 pub stranger_own : (bs : List SlotView) (s : Step) (place : ℕ) (d : SlotView) (given : Outcome) → place < length bs
     → (get_or bs place d).start.address.0 ≡ s.address.0 → (Slot place given ≡ Stranger) ↔ (has_slot bs s ≡ false)
 stranger_own bs s place d given l a =
-    let found = any_at s.address.0 bs place d l a in
+    let found = list_any_at (has_number s.address.0) bs place d l (eq-eqb _ _ a) in
     (λ e. cc, λ n. absurd (true≢false (sym found ∙ n)))
 
 -- some slot, where a read of a list asks for a default

@@ -19,7 +19,7 @@ use Rattle.receivers.specs.Classes.{own_lines}
 use Rattle.receivers.specs.Passes.{Answered, Crew, ArePassesOf}
 use Rattle.receivers.specs.Roots.{CanClose, CanCloseAll, AreLeft}
 use Rattle.stranger_ring.specs.declared.strangers.Heard.{Heard}
-use Rattle.receivers.specs.Crews.{IsRoot, AreRoots}
+use Rattle.receivers.specs.Crews.{IsRoot}
 use Rattle.lists.specs.Each.{Each, EachWith}
 use Rattle.receivers.specs.Run.{ReceiverRun}
 use Rattle.receivers.specs.Running.{AreDone, HaveRun}
@@ -73,10 +73,9 @@ pub close_all : {O C R : Type 0} (cells : List (CellShown O)) (roots : List (Sho
     → ((k : ℕ) (c : CellShown O) (d : Shown O C R) → k < length cells → CanClose (slice_index_or cells k c) (slice_index_or roots k d))
     → CanCloseAll cells roots
 close_all [] [] many each = tt
-close_all [] (r ∷ roots) many each = absurd (omega arith)
-close_all (c ∷ cells) [] many each = absurd (omega arith)
 close_all (c ∷ cells) (r ∷ roots) many each =
     (each 0 c r (omega arith), close_all cells roots (omega arith) (λ k x d l. each (suc k) x d (omega arith)))
+close_all _ _ many each = absurd (omega arith)
 
 module _ (own : Address) (all_addresses : List Address) (ps : List Part) (apart : AreApart all_addresses) (asked : (w : ℕ)
     → map (λ (d : Answered). d.own) (did_from 1 w ps) ≡ own_lines all_addresses (enumerate_from 1 (heard_by w (map heard_in ps)))) where
@@ -90,12 +89,8 @@ module _ (own : Address) (all_addresses : List Address) (ps : List Part) (apart 
       → IsJoinedRoot (slice_index_or cells i c) (k + i) ps (slice_index_or roots i d))
       → EachWith (IsMetersSlot own (map heard_in ps)) cs books
   meters_from k front [] [] [] [] is at openings left joined = tt
-  meters_from k front [] [] [] (b ∷ books) is at openings left joined = absurd left
-  meters_from k front [] [] (r ∷ roots) books is at openings left joined = absurd left
   meters_from k front [] (x ∷ cells) roots books is at openings left joined = absurd cc
   meters_from k front (c ∷ cs) [] roots books is at openings left joined = absurd cc
-  meters_from k front (c ∷ cs) (x ∷ cells) [] books is at openings left joined = absurd left
-  meters_from k front (c ∷ cs) (x ∷ cells) (r ∷ roots) [] is at openings left joined = absurd left
   meters_from k front (c ∷ cs) (x ∷ cells) (r ∷ roots) (b ∷ books) is at openings left joined =
       let opens : opening_of x.opening ≡ opening own c = head_is _ _ _ _ openings in
       let many = ap length is in let n = length-append front (c.address ∷ map address_of cs) in
@@ -113,6 +108,7 @@ module _ (own : Address) (all_addresses : List Address) (ps : List Part) (apart 
             (λ i y d l. subst (λ (z : ℕ). IsJoinedRoot (slice_index_or cells i y) z ps (slice_index_or roots i d))
             (let e : k + suc i ≡ k + 1 + i = omega arith in e) (joined (suc i) y d (omega arith))),
       )
+  meters_from k front _ _ _ _ is at openings left joined = absurd left
 
   pub answers_from : (w k : ℕ) (cells : List (CellShown SlotView)) (roots : List (Shown SlotView Event Outcome)) (books : List SlotView)
       → Left cells roots books

@@ -14,10 +14,9 @@ use Rattle.receivers.specs.Works.{Part, HasRun}
 module _ (directory : List Address) where
   abbrev heard_lines : (runs : List ReceiverRun) (parts : List Part) → EachWith (HasRun directory) runs parts → List HeardLines
   heard_lines [] [] h = []
-  heard_lines [] (p ∷ parts) h = absurd h
-  heard_lines (run ∷ runs) [] h = absurd h
   heard_lines (run ∷ runs) (p ∷ parts) h =
       record { lines = lines_of (hearing_of run h.0.how); ended = h.0.how } ∷ heard_lines runs parts h.1
+  heard_lines _ _ h = absurd h
 
   has_taken : (run : ReceiverRun) (p : Part) (h : HasRun directory run p) → IsKnown run
       → HasTaken directory run (record { lines = lines_of (hearing_of run h.how); ended = h.how })
@@ -33,22 +32,19 @@ module _ (directory : List Address) where
   all_taken : (runs : List ReceiverRun) (parts : List Part) (h : EachWith (HasRun directory) runs parts) → Each IsKnown runs
       → EachWith (HasTaken directory) runs (heard_lines runs parts h)
   all_taken [] [] h known = tt
-  all_taken [] (p ∷ parts) h known = absurd h
-  all_taken (run ∷ runs) [] h known = absurd h
   all_taken (run ∷ runs) (p ∷ parts) h known = (has_taken run p h.0 known.0, all_taken runs parts h.1 known.1)
+  all_taken _ _ h known = absurd h
 
   all_told : (runs : List ReceiverRun) (parts : List Part) (h : EachWith (HasRun directory) runs parts) → Each IsKnown runs
       → map heard_in parts ≡ map tellings (heard_lines runs parts h)
   all_told [] [] h known = refl
-  all_told [] (p ∷ parts) h known = absurd h
-  all_told (run ∷ runs) [] h known = absurd h
   all_told (run ∷ runs) (p ∷ parts) h known = λ i. h.0.has_heard.lines known.0 i ∷ all_told runs parts h.1 known.1 i
+  all_told _ _ h known = absurd h
 
   all_sent : (runs : List ReceiverRun) (parts : List Part) → EachWith (HasRun directory) runs parts → EachWith SendsAnswers runs parts
   all_sent [] [] h = tt
-  all_sent [] (p ∷ parts) h = absurd h
-  all_sent (run ∷ runs) [] h = absurd h
   all_sent (run ∷ runs) (p ∷ parts) h = (record { how = h.0.how; ended = h.0.ended; sent = h.0.has_sent }, all_sent runs parts h.1)
+  all_sent _ _ h = absurd h
 
 -- a session that was collected, where all sources are known, is one of the lines taken
 pub heard_session : (own : Address) (commissions : List Start) (runs : List ReceiverRun) (world : WorldView) → Each IsKnown runs

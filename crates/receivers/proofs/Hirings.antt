@@ -7,7 +7,7 @@ use Rattle.meter_slots.specs.declared.entry.Outcome.{Outcome}
 use Rattle.lists.specs.Each.{Each}
 use Rattle.book_cells.specs.Acts.{Shown, CellShown, IsPassOf, is_among, HasHanded, IsSplitOff}
 use Rattle.lists.proofs.Members.{each_map, each_append}
-use Rattle.receivers.specs.Passes.{Crew, crew, ArePassesOf}
+use Rattle.receivers.specs.Passes.{Crew, ArePassesOf}
 use Rattle.receivers.specs.Roots.{CanHand, Handing}
 use Rattle.receivers.specs.Crews.{IsFreshPass, IsRoot, IsCrew, AreCrews, AreRoots}
 

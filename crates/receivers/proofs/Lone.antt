@@ -1,5 +1,5 @@
 -- A receiver that is heard alone: one line, and lines one after another.
-use Rattle.std.proofs.Common.{◌≡◌, ◌≢◌, ◌↔◌, ◌==◌, ◌||◌, ℕ, ◌+◌, List, [], ◌∷◌, ◌++◌, map, length, not, nat_lt, Bool, true, false, cond, Some, None, Result, Err, refl, sym, ap, ◌∙◌, arith}
+use Rattle.std.proofs.Common.{◌≡◌, ◌≢◌, ◌↔◌, ◌==◌, ℕ, ◌+◌, List, [], ◌∷◌, ◌++◌, length, nat_lt, Bool, true, false, cond, Some, None, Result, Err, refl, sym, ap, ◌∙◌}
 use Rattle.std.specs.Prelude.{position}
 use Rattle.std.specs.List.{filter_map, list_any, position_or_len, enumerate_from}
 use Rattle.std.proofs.lemmas.Bool.{true_from_ne_false}
@@ -13,8 +13,7 @@ use Rattle.meter_slots.specs.declared.entry.Event.{Event}
 use Rattle.meter_slots.specs.declared.step.Landed.{Landed}
 use Rattle.meter_slots.specs.declared.step.Landed.TheVariants.{Slot, Stranger}
 use Rattle.meter_slots.specs.declared.step.Step.{Step}
-use Rattle.meter_slots.specs.Journal.{SlotView}
-use Rattle.meter_slots.specs.World.{WorldView, address_of_slot, is_own, has_slot, slot_after, stepped_slot}
+use Rattle.meter_slots.specs.World.{WorldView, address_of_slot, has_slot}
 use Rattle.receivers.specs.declared.class.Class.TheVariants as classes
 use Rattle.receivers.specs.declared.told.Told.{Told}
 use Rattle.receivers.specs.declared.told.Told.TheVariants as told
@@ -22,6 +21,7 @@ use Rattle.receivers.specs.Alone.{step_by, steps_among, steps_of, after_steps, a
 use Rattle.receivers.specs.Classes.{class_at, class_by}
 use Rattle.receivers.specs.Run.{Hearing}
 use Rattle.receivers.specs.Slots.{Hears, HearsAll, HearsTo, HasHeardFor}
+use Rattle.meter_slots.proofs.Worlds.{any-map}
 use Rattle.receivers.proofs.Numbers.{numbered}
 
 -- ---- steps
@@ -35,14 +35,6 @@ steps_more source heard t line number =
     ∙ ap (λ (k : ℕ). filter_map (λ (l : ℕ × Told). step_by source l.0 l.1) (enumerate_from 1 heard) ++ filter_map
     (λ (l : ℕ × Told). step_by source l.0 l.1) ((k, t) ∷ [])) (sym number))
 
-pub addresses_step : (s : Step) (slots : List SlotView) → map address_of_slot (map (slot_after s) slots) ≡ map address_of_slot slots
-addresses_step s [] = refl
-addresses_step s (b ∷ slots) = (λ i. at (is_own s b) i ∷ addresses_step s slots i)
-  where
-    at : (t : Bool) → address_of_slot (cond t (stepped_slot s b) b) ≡ address_of_slot b
-    at true = refl
-    at false = refl
-
 -- ---- classes
 
 class_any : (p : Address → Bool) (xs : List Address) → class_at (position p xs) ≡ cond (list_any p xs) classes.Own classes.Strange
@@ -53,16 +45,11 @@ class_any p xs = by_test (nat_lt (position_or_len p xs) (length xs)) (position_o
     by_test true j = refl
     by_test false j = refl
 
-any_map : (n : ℕ) (slots : List SlotView)
-    → list_any (λ (a : Address). a.0 == n) (map address_of_slot slots) ≡ list_any (λ (b : SlotView). b.start.address.0 == n) slots
-any_map n [] = refl
-any_map n (b ∷ slots) = ap (λ t. (b.start.address.0 == n) || t) (any_map n slots)
-
 -- the class of a step's line, by whether some slot has its address
 pub step_class : (world : WorldView) (s : Step)
     → class_by (addresses_in world) (told.Event s.address s.event) ≡ cond (has_slot world.slots s) classes.Own classes.Strange
 step_class world s = class_any (λ (a : Address). a.0 == s.address.0) (addresses_in world)
-    ∙ ap (λ b. cond b classes.Own classes.Strange) (any_map s.address.0 world.slots)
+    ∙ ap (λ b. cond b classes.Own classes.Strange) (any-map (λ (a : Address). a.0 == s.address.0) address_of_slot world.slots)
 
 -- the class of a line that landed in a slot, and that of one that didn't
 pub slot_class : (world : WorldView) (s : Step) (landed : Landed) (place : _) (outcome : _) → landed ≡ Slot place outcome
@@ -92,16 +79,13 @@ module _ {A K : Type 0} (world_in : A → WorldView) (source : ℕ) where
   all_alone [] x z e = (ap (λ (p : A × K). world_in p.0) e, ap (λ (p : A × K). p.1) e)
   all_alone ((line, told.Event address event) ∷ lines) x z h = let r = all_alone lines h.0 z h.2 in
       (r.0 ∙ ap (λ (w : WorldView). after_steps w (steps_among source lines)) h.1.world_is, r.1 ∙ h.1.tx_is)
-  all_alone ((line, told.Unframed) ∷ lines) x z h = let r = all_alone lines h.0 z h.2 in
-      (r.0 ∙ ap (λ (p : A × K). after_steps (world_in p.0) (steps_among source lines)) h.1.1, r.1 ∙ ap (λ (p : A × K). p.1) h.1.1)
-  all_alone ((line, told.Bad) ∷ lines) x z h = let r = all_alone lines h.0 z h.2 in
+  all_alone ((line, t) ∷ lines) x z h = let r = all_alone lines h.0 z h.2 in
       (r.0 ∙ ap (λ (p : A × K). after_steps (world_in p.0) (steps_among source lines)) h.1.1, r.1 ∙ ap (λ (p : A × K). p.1) h.1.1)
 
   -- all that gives a downlink is written, since nothing is
   none_unsent : (line : ℕ) (t : Told) (fault : Failed) (y z : A × K) → Hears Makes line t (Err fault) y z → ⊥
   none_unsent line (told.Event address event) fault y z h = let e = h.none_sent in absurd cc
-  none_unsent line told.Unframed fault y z h = let e = h.0 in absurd cc
-  none_unsent line told.Bad fault y z h = let e = h.0 in absurd cc
+  none_unsent line _ fault y z h = let e = h.0 in absurd cc
 
   -- what lines that were heard alone leave, and the sink
   pub record LeavesAlone (how : Ended) (heard : List Told) (x z : A × K) : Type 0 where
@@ -110,15 +94,11 @@ module _ {A K : Type 0} (world_in : A → WorldView) (source : ℕ) where
     pub never : how ≢ ends.TxFault
 
   pub leaves_alone : (how : Ended) (heard : List Told) (x z : A × K) → HearsTo Makes Waits how heard x z → LeavesAlone how heard x z
-  leaves_alone ends.End heard x z h = let r = all_alone (enumerate_from 1 heard) x z h in
-      record { world_is = r.0; tx_is = r.1; never = λ is. absurd cc }
-  leaves_alone ends.Cut heard x z h = let r = all_alone (enumerate_from 1 heard) x z h in
-      record { world_is = r.0; tx_is = r.1; never = λ is. absurd cc }
-  leaves_alone ends.ReadFault heard x z h = let r = all_alone (enumerate_from 1 heard) x z h in
-      record { world_is = r.0; tx_is = r.1; never = λ is. absurd cc }
   leaves_alone ends.Memory heard x z h = let r = all_alone (enumerate_from 1 heard) x h.0 h.1 in
       record { world_is = h.2.0 ∙ r.0; tx_is = h.2.1 ∙ r.1; never = λ is. absurd cc }
   leaves_alone ends.TxFault heard x z h = absurd (none_unsent (1 + length h.sent) h.last h.fault h.between z h.unsent)
+  leaves_alone how heard x z h = let r = all_alone (enumerate_from 1 heard) x z h in
+      record { world_is = r.0; tx_is = r.1; never = λ is. absurd cc }
 
   pub has_heard_alone : (h : Hearing) (x z : A × K) → HasHeardFor Makes Waits (addresses_in (world_in x.0)) h x z
       → HasHeardAlone source h (world_in x.0) (world_in z.0)

@@ -1,5 +1,5 @@
 -- Closes `macs_decide_over_all_receivers`: each entry of a meter's journal is one of its receivers' lines, and these are bytes.
-use Rattle.std.proofs.Common.{◌≡◌, ℕ, ◌+◌, ◌==◌, Bool, true, false, cond, List, [], ◌∷◌, ◌++◌, map, filter, filter_map, Option, Some, None, refl, sym, subst}
+use Rattle.std.proofs.Common.{◌≡◌, ℕ, ◌+◌, ◌==◌, Bool, true, false, cond, List, [], ◌∷◌, ◌++◌, map, filter, filter_map, Some, None, refl, subst}
 use Rattle.std.specs.List.{All, enumerate_from, cons_option}
 use Rattle.std.proofs.lemmas.Bool.{eq-eqb}
 use Rattle.std.proofs.lemmas.List.Elements.{All-nil, All-cons, All-head, All-tail, All-same}
@@ -27,8 +27,7 @@ own_line false line event rest bytes all = all
 line_hears : (a : Address) (line : ℕ) (t : Told) (rest : List (ℕ × Event)) → SaysBytes t → All LineHears rest
     → All LineHears (cons_option (event_at a line t) rest)
 line_hears a line (told.Event address event) rest bytes all = own_line (a.0 == address.0) line event rest bytes all
-line_hears a line told.Unframed rest bytes all = all
-line_hears a line told.Bad rest bytes all = all
+line_hears a line _ rest bytes all = all
 
 lines_hear : (a : Address) (n : ℕ) (heard : List Told) → All SaysBytes heard
     → All LineHears (filter_map (λ l. event_at a l.0 l.1) (enumerate_from n heard))

@@ -1,5 +1,5 @@
 -- Numbered lines, their counts, and what was heard so far.
-use Rattle.std.proofs.Common.{◌≡◌, ℕ, zero, suc, ◌+◌, ◌-◌, ◌^◌, ◌<◌, ◌≤◌, List, [], ◌∷◌, ◌++◌, map, length, take, Bool, true, false, cond, IsTrue, inl, inr, ⊎_elim, refl, sym, ap, ◌∙◌, subst, arith, length-append, add-zero, add-one}
+use Rattle.std.proofs.Common.{◌≡◌, ℕ, suc, ◌+◌, ◌-◌, ◌^◌, ◌<◌, ◌≤◌, List, [], ◌∷◌, ◌++◌, map, length, take, Bool, true, false, cond, IsTrue, inl, inr, ⊎_elim, refl, sym, ap, ◌∙◌, subst, arith, length-append, add-zero, add-one}
 use Rattle.std.specs.Prelude.{count_by}
 use Rattle.std.specs.List.{enumerate_from}
 use Rattle.std.proofs.lemmas.List.{map-append, length-map, length-take}
@@ -22,11 +22,15 @@ use Rattle.receivers.specs.Told.{told_of}
 
 -- ---- numbers
 
+pub enumerate_on : {X : Type 0} (m : ℕ) (xs ys : List X) → enumerate_from m (xs ++ ys) ≡ enumerate_from m xs ++ enumerate_from (m + length xs) ys
+enumerate_on m [] ys = let e : m ≡ m + 0 = omega arith in ap (λ k. enumerate_from k ys) e
+enumerate_on {X} m (x ∷ xs) ys =
+    let e : (m + 1) + length xs ≡ m + length (x ∷ xs) = omega arith in
+    ap (λ (ls : List (ℕ × X)). (m, x) ∷ ls)
+    (enumerate_on (m + 1) xs ys ∙ ap (λ k. enumerate_from (m + 1) xs ++ enumerate_from k ys) e)
+
 pub numbered : {X : Type 0} (n : ℕ) (xs : List X) (x : X) → enumerate_from n (xs ++ x ∷ []) ≡ enumerate_from n xs ++ (n + length xs, x) ∷ []
-numbered n [] x = ap (λ m. (m, x) ∷ []) (sym (add-zero n))
-numbered n (y ∷ xs) x =
-    ap (λ rest. (n, y) ∷ rest) (numbered (n + 1) xs x
-    ∙ (let same : n + 1 + length xs ≡ n + length (y ∷ xs) = omega arith in ap (λ m. enumerate_from (n + 1) xs ++ (m, x) ∷ []) same))
+numbered n xs x = enumerate_on n xs (x ∷ [])
 
 -- ---- first ones of a list
 
@@ -34,17 +38,15 @@ pub take_less : {X : Type 0} (n : ℕ) (xs : List X) → take n (take (n + 1) xs
 take_less n xs = ap (λ (m : ℕ). take n (take m xs)) (add-one n) ∙ less n xs
   where
     less : {X : Type 0} (n : ℕ) (xs : List X) → take n (take (suc n) xs) ≡ take n xs
-    less zero xs = refl
-    less (suc n) [] = refl
     less (suc n) (x ∷ xs) = ap (λ l. x ∷ l) (less n xs)
+    less _ _ = refl
 
 pub take_front : {X : Type 0} (xs ys : List X) (n : ℕ) → n ≡ length xs → take n (xs ++ ys) ≡ xs
 take_front xs ys n e = ap (λ (m : ℕ). take m (xs ++ ys)) e ∙ take-append_seam xs ys
 
 take_taken : {X : Type 0} (n : ℕ) (xs : List X) → take n xs ≡ take (length (take n xs)) xs
-take_taken zero xs = refl
-take_taken (suc n) [] = refl
 take_taken (suc n) (x ∷ xs) = ap (λ l. x ∷ l) (take_taken n xs)
+take_taken _ _ = refl
 
 -- ---- counts
 

@@ -1,7 +1,6 @@
 -- A receiver that is heard alone, in a world before any step, makes a session of just its lines.
-use Rattle.std.proofs.Common.{◌≡◌, ◌==◌, ℕ, List, [], ◌∷◌, ◌++◌, map, filter, reverse, not, Bool, true, false, cond, Some, None, refl, sym, ap, ◌∙◌, subst, arith, append_assoc, append-nil}
+use Rattle.std.proofs.Common.{◌≡◌, ◌==◌, ℕ, List, [], ◌∷◌, ◌++◌, map, filter, reverse, not, Bool, true, false, cond, Some, None, refl, sym, ap, ◌∙◌, subst, append_assoc, append-nil}
 use Rattle.std.specs.List.{filter_map, cons_option, enumerate_from}
-use Rattle.std.proofs.lemmas.Bool.Decides.{nat_tests}
 use Rattle.std.proofs.lemmas.List.{reverse-reverse}
 use Rattle.std.proofs.lemmas.Simd.{map-map}
 use Rattle.lists.proofs.Places.{map-reverse}
@@ -14,7 +13,7 @@ use Rattle.meter_slots.specs.declared.step.Step.{Step}
 use Rattle.meter_slots.specs.Laws.{call_in}
 use Rattle.meter_slots.specs.World.{Call, call_of, judged_journal, journal_of, is_for, calls_of, slot_of, heard_of, strangers_of, is_commissioned, WorldView, world_of, address_of_slot}
 use Rattle.meter_slots.proofs.JournalLaws.{journal_of_legal}
-use Rattle.meter_slots.proofs.Worlds.{after_push}
+use Rattle.meter_slots.proofs.Worlds.{eqb_swap, after_push}
 use Rattle.stranger_ring.specs.declared.strangers.Heard.{Heard}
 use Rattle.receivers.specs.declared.told.Told.{Told}
 use Rattle.receivers.specs.declared.told.Told.TheVariants as told
@@ -57,9 +56,6 @@ either_way : {X : Type 0} (b : Bool) (x : X) → cond b x x ≡ x
 either_way true x = refl
 either_way false x = refl
 
-eqb_swap : (a b : ℕ) → (a == b) ≡ (b == a)
-eqb_swap a b = grind (arith, nat_tests)
-
 abbrev calls_by : ℕ → List Step → List (ℕ × Event)
 calls_by w steps = map pair_of (filter (λ (k : Call). k.source == w) (map call_of steps))
 
@@ -81,8 +77,7 @@ own_lines a w source ((line, told.Event address event) ∷ ls) =
     (filter_map (λ l. event_at a l.0 l.1) ls) (own_lines a w source ls)
     ∙ ap (λ b. cond (source == w) (cons_option (cond b (Some (line, event)) None) (filter_map (λ l. event_at a l.0 l.1) ls)) [])
     (eqb_swap address.0 a.0)
-own_lines a w source ((line, told.Unframed) ∷ ls) = own_lines a w source ls
-own_lines a w source ((line, told.Bad) ∷ ls) = own_lines a w source ls
+own_lines a w source ((line, _) ∷ ls) = own_lines a w source ls
 
 -- ---- the strangers' lines
 
@@ -106,8 +101,7 @@ strange_lines cs w source ((line, told.Event address event) ∷ ls) =
     strange_step w source line address event (is_commissioned cs address)
     (filter (λ s. not (is_commissioned cs s.address)) (steps_among source ls)) (filter_map (λ l. stranger_at cs l.0 l.1) ls)
     (strange_lines cs w source ls)
-strange_lines cs w source ((line, told.Unframed) ∷ ls) = strange_lines cs w source ls
-strange_lines cs w source ((line, told.Bad) ∷ ls) = strange_lines cs w source ls
+strange_lines cs w source ((line, _) ∷ ls) = strange_lines cs w source ls
 
 -- ---- the session
 

@@ -66,8 +66,6 @@ module _ {X : Type 0} (makes : ℕ → Address → Event → Result Unit Failed 
 
   pub hears_to : (waits : X → X → Type 0) (how : Ended) (heard : List Told) (x z : X) → (how ≢ ends.TxFault) × (how ≢ ends.Memory)
       → HearsAll makes (enumerate_from 1 heard) x z → HearsTo makes waits how heard x z
-  hears_to waits ends.End heard x z never h = h
-  hears_to waits ends.Cut heard x z never h = h
-  hears_to waits ends.ReadFault heard x z never h = h
   hears_to waits ends.TxFault heard x z never h = absurd (never.0 refl)
   hears_to waits ends.Memory heard x z never h = absurd (never.1 refl)
+  hears_to waits _ heard x z never h = h

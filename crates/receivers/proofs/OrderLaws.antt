@@ -42,8 +42,6 @@ module _ {E : Type 0} where
   -- an order, and what each receiver has, fix the list
   one_list : (xs ys : List (ℕ × ℕ × E)) → in_order_of xs ≡ in_order_of ys → ((w : ℕ) → by_one w xs ≡ by_one w ys) → xs ≡ ys
   one_list [] [] same parts = refl
-  one_list [] (y ∷ ys) same parts = absurd cc
-  one_list (x ∷ xs) [] same parts = absurd cc
   one_list (x ∷ xs) (y ∷ ys) same parts =
       let pair : (x.0, x.1) ≡ (y.0, y.1) = head_is _ _ _ _ same in
       let source : x.0 ≡ y.0 = ap (λ (p : ℕ × ℕ). p.0) pair in
@@ -58,6 +56,7 @@ module _ {E : Type 0} where
       rest_of w true e source =
           tail_is _ _ _ _ (sym (first_by w x xs true e) ∙ (parts w ∙ first_by w y ys true (ap (λ s. s == w) (sym source) ∙ e)))
       rest_of w false e source = sym (first_by w x xs false e) ∙ (parts w ∙ first_by w y ys false (ap (λ s. s == w) (sym source) ∙ e))
+  one_list _ _ same parts = absurd cc
 
   -- what all receivers have, but of w this rest
   abbrev with_rest : (ℕ → List (ℕ × E)) → ℕ → List (ℕ × E) → ℕ → List (ℕ × E)

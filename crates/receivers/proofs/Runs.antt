@@ -33,9 +33,8 @@ module _ {W S K O P : Type 0} (receiver_of : W → Receiving S K) (crew_of : W
         → AreDone directory cells strangers (receiver_runs s t (map receiver_of ws) (map receiver_of ws')) (map crew_of ws)
         (map crew_of ws')
     are_done [] [] many each = tt
-    are_done [] (w' ∷ ws') many each = absurd (omega arith)
-    are_done (w ∷ ws) [] many each = absurd (omega arith)
     are_done (w ∷ ws) (w' ∷ ws') many each = (each 0 w (omega arith), are_done ws ws' (omega arith) (λ i d l. each (suc i) d (omega arith)))
+    are_done _ _ many each = absurd (omega arith)
 
     can_join_one : (n : ℕ) (w w' : W) → IsCrew cells strangers n (crew_of w) → Done w w' → CanJoin cells strangers (crew_of w')
     can_join_one n w w' fresh done = let works = done.worked.works in let many = works.answered.as_many in record {
@@ -48,12 +47,11 @@ module _ {W S K O P : Type 0} (receiver_of : W → Receiving S K) (crew_of : W
         → ((i : ℕ) (d : W) → i < length ws → Done (slice_index_or ws i d) (slice_index_or ws' i d))
         → AreCrews cells strangers n (map crew_of ws) → Each (CanJoin cells strangers) (map crew_of ws')
     can_join n [] [] many each crews = tt
-    can_join n [] (w' ∷ ws') many each crews = absurd (omega arith)
-    can_join n (w ∷ ws) [] many each crews = absurd (omega arith)
     can_join n (w ∷ ws) (w' ∷ ws') many each crews = (
       can_join_one n w w' crews.0 (each 0 w (omega arith)),
       can_join (n + 1) ws ws' (omega arith) (λ i d l. each (suc i) d (omega arith)) crews.1,
     )
+    can_join n _ _ many each crews = absurd (omega arith)
 
     runs_many : (olds news : List (Receiving S K)) → length news ≡ length olds → length (receiver_runs s t olds news) ≡ length olds
     runs_many [] news many = refl

@@ -1,6 +1,6 @@
 -- Closes `lines_say_bytes`: hexadecimal digits say bytes, and so does the telegram of a frame of these.
-use Rattle.std.proofs.Common.{◌≡◌, ℕ, Bool, true, false, cond, List, [], ◌∷◌, length, Option, Some, None, Result, Ok, Err, refl, subst}
-use Rattle.std.specs.Prelude.{◌-◌, ◌^◌, ◌&&◌, nat_le, nat_lt, codes}
+use Rattle.std.proofs.Common.{◌≡◌, ℕ, Bool, true, false, cond, List, [], ◌∷◌, length, Result, Ok, Err, refl}
+use Rattle.std.specs.Prelude.{◌-◌, ◌^◌, nat_lt, codes}
 use Rattle.std.specs.Option.{ok_or}
 use Rattle.std.specs.Result.{result_ok}
 use Rattle.hex.specs.Hex.{decode_of}
@@ -24,18 +24,13 @@ use Rattle.line_reader.specs.declared.line.BadLine.TheVariants as bads
 use Rattle.line_reader.specs.declared.line.Line.{Line}
 use Rattle.line_reader.specs.declared.line.Line.TheVariants as lines
 use Rattle.line_reader.specs.Grammar.{bytes_of, frame_line, tick_line, payload_of, put_line, cancel_line, key_line, by_word, line_of}
-use Rattle.message_check.specs.Target.{target_of}
-use Rattle.meter_slots.specs.declared.entry.Event.{Event}
-use Rattle.meter_slots.specs.Telling.{heard_in, event_of_line}
+use Rattle.meter_slots.specs.Telling.{heard_in}
 use Rattle.receivers.specs.Told.{told_by_event, told_by, told_by_reading, told_of}
 use Rattle.receivers.specs.MacLaw.{SaysBytes, LinesSayBytes}
 
 abbrev HasBytes : Line → Type 0
 HasBytes (lines.Frame format at bytes) = IsBytes bytes
-HasBytes (lines.Tick address) = Unit {0}
-HasBytes (lines.Put address payload) = Unit {0}
-HasBytes (lines.Cancel address id) = Unit {0}
-HasBytes (lines.Key address key) = Unit {0}
+HasBytes _ = Unit {0}
 
 abbrev Holds : {A : Type 0} → (A → Type 0) → Result A BadLine → Type 0
 Holds P (Ok x) = P x
@@ -67,51 +62,35 @@ digits_say digits (Err e) bad is = tt
 
 frame_says : (format : Format) (fields : List (List ℕ)) → Holds HasBytes (frame_line format fields)
 unfolding frame_line
-frame_says format [] = tt
-frame_says format (moment ∷ []) = tt
 frame_says format (moment ∷ digits ∷ []) =
-    by_any HasBytes (ok_or (number_of (2 ^ 64 - 1) moment) bads.Number)
-    (λ at. ok_or (bytes_of digits) bads.Hex >>= λ bytes. Ok (lines.Frame format at bytes))
-    (λ at. by_bind IsBytes HasBytes (ok_or (bytes_of digits) bads.Hex) (λ bytes. Ok (lines.Frame format at bytes))
-    (digits_say digits (decode_of digits) bads.Hex refl) (λ bytes all. all))
-frame_says format (moment ∷ digits ∷ more ∷ fields) = tt
+    by_any HasBytes (ok_or (number_of (2 ^ 64 - 1) moment) bads.Number) _
+    (λ at. by_bind IsBytes HasBytes (ok_or (bytes_of digits) bads.Hex) _ (digits_say digits (decode_of digits) bads.Hex refl) (λ bytes all. all))
+frame_says format _ = tt
 
 tick_says : (fields : List (List ℕ)) → Holds HasBytes (tick_line fields)
 unfolding tick_line
-tick_says [] = tt
 tick_says (text ∷ []) = by_any HasBytes (ok_or (address_of text) bads.Address) (λ address. Ok (lines.Tick address)) (λ address. tt)
-tick_says (text ∷ more ∷ fields) = tt
+tick_says _ = tt
 
 put_says : (fields : List (List ℕ)) → Holds HasBytes (put_line fields)
 unfolding put_line
-put_says [] = tt
-put_says (text ∷ []) = tt
 put_says (text ∷ digits ∷ []) =
-    by_any HasBytes (ok_or (address_of text) bads.Address)
-    (λ address. ok_or (bytes_of digits) bads.Hex >>= λ bytes. payload_of bytes >>= λ payload. Ok (lines.Put address payload))
-    (λ address. by_any HasBytes (ok_or (bytes_of digits) bads.Hex) (λ bytes. payload_of bytes >>= λ payload. Ok (lines.Put address payload))
-    (λ bytes. by_any HasBytes (payload_of bytes) (λ payload. Ok (lines.Put address payload)) (λ payload. tt)))
-put_says (text ∷ digits ∷ more ∷ fields) = tt
+    by_any HasBytes (ok_or (address_of text) bads.Address) _
+    (λ address. by_any HasBytes (ok_or (bytes_of digits) bads.Hex) _ (λ bytes. by_any HasBytes (payload_of bytes) _ (λ payload. tt)))
+put_says _ = tt
 
 cancel_says : (fields : List (List ℕ)) → Holds HasBytes (cancel_line fields)
 unfolding cancel_line
-cancel_says [] = tt
-cancel_says (text ∷ []) = tt
 cancel_says (text ∷ number ∷ []) =
-    by_any HasBytes (ok_or (number_of (2 ^ 32 - 1) number) bads.Number)
-    (λ id. ok_or (address_of text) bads.Address >>= λ address. Ok (lines.Cancel address id))
-    (λ id. by_any HasBytes (ok_or (address_of text) bads.Address) (λ address. Ok (lines.Cancel address id)) (λ address. tt))
-cancel_says (text ∷ number ∷ more ∷ fields) = tt
+    by_any HasBytes (ok_or (number_of (2 ^ 32 - 1) number) bads.Number) _
+    (λ id. by_any HasBytes (ok_or (address_of text) bads.Address) _ (λ address. tt))
+cancel_says _ = tt
 
 key_says : (fields : List (List ℕ)) → Holds HasBytes (key_line fields)
 unfolding key_line
-key_says [] = tt
-key_says (text ∷ []) = tt
 key_says (text ∷ digits ∷ []) =
-    by_any HasBytes (ok_or (address_of text) bads.Address)
-    (λ address. ok_or (key_of digits) bads.Key >>= λ key. Ok (lines.Key address key))
-    (λ address. by_any HasBytes (ok_or (key_of digits) bads.Key) (λ key. Ok (lines.Key address key)) (λ key. tt))
-key_says (text ∷ digits ∷ more ∷ fields) = tt
+    by_any HasBytes (ok_or (address_of text) bads.Address) _ (λ address. by_any HasBytes (ok_or (key_of digits) bads.Key) _ (λ key. tt))
+key_says _ = tt
 
 word_says : (fields : List (List ℕ)) → Holds HasBytes (by_word fields)
 unfolding by_word
@@ -137,10 +116,7 @@ telegram_says format at bytes (Err fault) all is = tt
 
 event_says : (line : Line) → HasBytes line → SaysBytes (told_by line)
 event_says (lines.Frame format at bytes) all = telegram_says format at bytes (decoded format bytes) all refl
-event_says (lines.Tick address) all = tt
-event_says (lines.Put address payload) all = tt
-event_says (lines.Cancel address id) all = tt
-event_says (lines.Key address key) all = tt
+event_says _ all = tt
 
 reading_says : (r : Result Line BadLine) → Holds HasBytes r → SaysBytes (told_by_reading r)
 reading_says (Ok line) all = event_says line all

@@ -6,6 +6,7 @@ use Rattle.std.proofs.lemmas.List.{map-append}
 use Rattle.std.proofs.lemmas.List.Elements.{filter-append, filter_map-append}
 use Rattle.lists.specs.Each.{EachWith}
 use Rattle.lists.proofs.Members.{with_fold}
+use Rattle.receivers.proofs.Numbers.{enumerate_on}
 use Rattle.receivers.proofs.Picked.{cons_map, made_by_source}
 use Rattle.meter_address.specs.declared.address.Address.{Address}
 use Rattle.meter_slots.specs.declared.entry.Entry.{Entry}
@@ -23,13 +24,6 @@ use Rattle.receivers.specs.Session.{IsMetersSlot, IsSession}
 use Rattle.receivers.specs.Cuts.{AreHeardOn, starts_behind, numbered_on, noted_on, slot_on, slots_on, world_on, CutSessionsAreOne}
 
 -- ---- numbered lines
-
-enumerate_on : {X : Type 0} (m : ℕ) (xs ys : List X) → enumerate_from m (xs ++ ys) ≡ enumerate_from m xs ++ enumerate_from (m + length xs) ys
-enumerate_on m [] ys = let e : m ≡ m + 0 = omega arith in ap (λ k. enumerate_from k ys) e
-enumerate_on {X} m (x ∷ xs) ys =
-    let e : (m + 1) + length xs ≡ m + length (x ∷ xs) = omega arith in
-    ap (λ (ls : List (ℕ × X)). (m, x) ∷ ls)
-    (enumerate_on (m + 1) xs ys ∙ ap (λ k. enumerate_from (m + 1) xs ++ enumerate_from k ys) e)
 
 abbrev later_by : {E : Type 0} → ℕ → ℕ × E → ℕ × E
 later_by n p = (n + p.0, p.1)
@@ -65,8 +59,7 @@ event_if n m event false = refl
 
 event_later : (a : Address) (n m : ℕ) (t : Told) → event_at a (n + m) t ≡ option_map (later_by n) (event_at a m t)
 event_later a n m (told.Event address event) = event_if n m event (a.0 == address.0)
-event_later a n m told.Unframed = refl
-event_later a n m told.Bad = refl
+event_later a n m _ = refl
 
 stranger_if : (n m : ℕ) (address : Address) (b : Bool)
     → cond b None (Some (n + m, address)) ≡ option_map (later_by n) (cond b None (Some (m, address)))
@@ -75,8 +68,7 @@ stranger_if n m address false = refl
 
 stranger_later : (cs : List Start) (n m : ℕ) (t : Told) → stranger_at cs (n + m) t ≡ option_map (later_by n) (stranger_at cs m t)
 stranger_later cs n m (told.Event address event) = stranger_if n m address (is_commissioned cs address)
-stranger_later cs n m told.Unframed = refl
-stranger_later cs n m told.Bad = refl
+stranger_later cs n m _ = refl
 
 -- ---- a receiver's part of a journal, and of the strangers' lines
 
@@ -122,11 +114,10 @@ module _ (own : Address) (before after all : List (List Told)) (on : AreHeardOn 
   slots_cut : (cs : List Start) (bs ds : List SlotView) → EachWith (IsMetersSlot own before) cs bs
       → EachWith (IsMetersSlot own after) (starts_behind bs) ds → EachWith (IsMetersSlot own all) cs (slots_on before bs ds)
   slots_cut [] [] [] first second = tt
-  slots_cut [] [] (d ∷ ds) first second = absurd second
   slots_cut [] (b ∷ bs) ds first second = absurd first
   slots_cut (c ∷ cs) [] ds first second = absurd first
-  slots_cut (c ∷ cs) (b ∷ bs) [] first second = absurd second
   slots_cut (c ∷ cs) (b ∷ bs) (d ∷ ds) first second = (slot_cut c b d first.0 second.0, slots_cut cs bs ds first.1 second.1)
+  slots_cut _ _ _ first second = absurd second
 
   -- the same addresses are commissioned
   any_behind : (address : Address) (cs : List Start) (bs : List SlotView) → EachWith (IsMetersSlot own before) cs bs
@@ -140,8 +131,7 @@ module _ (own : Address) (before after all : List (List Told)) (on : AreHeardOn 
       → stranger_at (starts_behind bs) line t ≡ stranger_at cs line t
   stranger_behind cs bs first line (told.Event address event) =
       ap (λ b. cond b None (Some (line, address))) (any_behind address cs bs first)
-  stranger_behind cs bs first line told.Unframed = refl
-  stranger_behind cs bs first line told.Bad = refl
+  stranger_behind cs bs first line _ = refl
 
   filter_same : {X Y : Type 0} (f g : X → Option Y) → ((x : X) → f x ≡ g x) → (xs : List X) → filter_map f xs ≡ filter_map g xs
   filter_same f g e [] = refl

@@ -1,9 +1,8 @@
 -- A receiver's lines at one place, and its part of a journal.
-use Rattle.std.proofs.Common.{◌≡◌, ℕ, zero, suc, ◌+◌, ◌<◌, ◌≤◌, ◌==◌, ◌||◌, not, nat_lt, List, [], ◌∷◌, Bool, true, false, cond, if◌then◌else◌, map, filter, length, get_or, Option, Some, None, refl, ap, sym, subst, ◌∙◌, arith, eq-eqb, ⊎_elim}
+use Rattle.std.proofs.Common.{◌≡◌, ℕ, zero, suc, ◌<◌, ◌==◌, nat_lt, List, [], ◌∷◌, Bool, true, false, cond, if◌then◌else◌, map, filter, length, get_or, Option, Some, None, refl, ap, sym, subst, ◌∙◌, arith, eq-eqb, ⊎_elim}
 use Rattle.std.specs.Prelude.{option_map, position}
-use Rattle.std.specs.List.{filter_map, cons_option, list_any, enumerate_from, position_or_len}
+use Rattle.std.specs.List.{filter_map, cons_option, enumerate_from, position_or_len}
 use Rattle.std.proofs.lemmas.Bool.{both_ways, false_from_ne_true, eqb-true, cases_order}
-use Rattle.std.proofs.lemmas.List.Folds.{list_any_at}
 use Rattle.std.proofs.lemmas.List.Quantifiers.{position-Some}
 use Rattle.std.proofs.lemmas.Simd.{map-map}
 use Rattle.lists.proofs.Choices.{none_if}
@@ -20,6 +19,8 @@ use Rattle.book_cells.specs.Acts.{acts_by}
 use Rattle.meter_slots.specs.Acting.{Opening, opening_of, act_of, entry_of, IsLegalJournal}
 use Rattle.stranger_ring.specs.Ring.{note_of}
 use Rattle.meter_slots.proofs.Entries.{entries_back}
+use Rattle.meter_slots.proofs.Places.{none_at}
+use Rattle.meter_slots.proofs.Worlds.{any-map}
 use Rattle.receivers.proofs.Picked.{filter-map, cons_map}
 use Rattle.receivers.specs.declared.told.Told.{Told}
 use Rattle.receivers.specs.declared.told.Told.TheVariants as told
@@ -30,16 +31,12 @@ use Rattle.receivers.specs.Session.{heard_by, event_at, lines_for, stranger_at, 
 
 -- ---- places
 
-none_at : {X : Type 0} (p : X → Bool) (xs : List X) (i : ℕ) (d : X) → list_any p xs ≡ false → i < length xs → p (get_or xs i d) ≡ false
-none_at p xs i d h within = false_from_ne_true (p (get_or xs i d)) (λ e. both_ways (list_any p xs) h (list_any_at p xs i d within e))
-
 -- two addresses of a list whose addresses differ
 apart_at : (xs : List Address) (i j : ℕ) (d : Address) → AreApart xs → i < j → j < length xs
     → ((get_or xs j d).0 == (get_or xs i d).0) ≡ false
-apart_at [] i j d apart less within = absurd (omega arith)
-apart_at (x ∷ xs) i zero d apart less within = absurd (omega arith)
 apart_at (x ∷ xs) zero (suc j) d apart less within = none_at (λ (b : Address). b.0 == x.0) xs j d apart.0 (omega arith)
 apart_at (x ∷ xs) (suc i) (suc j) d apart less within = apart_at xs i j d apart.1 (omega arith) (omega arith)
+apart_at _ i _ d apart less within = absurd (omega arith)
 
 abbrev is_at : ℕ → Option ℕ → Bool
 is_at k None = false
@@ -107,18 +104,12 @@ lines_at addresses k d (l ∷ ls) apart within =
     head : (t : Told) → kept k (own_by addresses l.0 t) ≡ event_at (get_or addresses k d) l.0 t
     head (told.Event address event) = kept_at k l.0 event (place_of addresses address)
         ∙ ap (λ b. cond b (Some (l.0, event)) None) (place_test addresses k d address.0 apart within)
-    head told.Unframed = refl
-    head told.Bad = refl
+    head _ = refl
 
 -- ---- strangers' lines
 
 abbrev note_in : StrangeLine → ℕ × Address
 note_in s = (s.line, s.address)
-
-any_map : (n : ℕ) (cs : List Start)
-    → list_any (λ (a : Address). a.0 == n) (map (λ c. c.address) cs) ≡ list_any (λ (c : Start). c.address.0 == n) cs
-any_map n [] = refl
-any_map n (c ∷ cs) = ap (λ t. (c.address.0 == n) || t) (any_map n cs)
 
 pub strange_at_all : (cs : List Start) (ls : List (ℕ × Told))
     → map note_in (strange_lines (map (λ c. c.address) cs) ls) ≡ filter_map (λ l. stranger_at cs l.0 l.1) ls
@@ -140,9 +131,8 @@ strange_at_all cs (l ∷ ls) =
         (length (map (λ (c : Start). c.address) cs)))
         (position_or_len (λ (a : Address). a.0 == address.0) (map (λ c. c.address) cs))
         ∙ ap (λ b. cond b None (Some (l.0, address))) (any_there (λ (a : Address). a.0 == address.0) (map (λ c. c.address) cs)
-        ∙ any_map address.0 cs)
-    head told.Unframed = refl
-    head told.Bad = refl
+        ∙ any-map (λ (a : Address). a.0 == address.0) (λ (c : Start). c.address) cs)
+    head _ = refl
 
 -- ---- journals
 

@@ -1,5 +1,5 @@
 -- A session of some meters over the lines that are for them.
-use Rattle.std.proofs.Common.{◌≡◌, ℕ, ◌+◌, ◌≤◌, ◌==◌, Bool, true, false, not, cond, List, [], ◌∷◌, ◌++◌, map, filter, Option, Some, None, refl, ap, ap₂, sym, ◌∙◌, arith, eq-eqb, ne_eqb}
+use Rattle.std.proofs.Common.{◌≡◌, ℕ, ◌+◌, ◌≤◌, ◌==◌, Bool, true, false, not, cond, List, [], ◌∷◌, map, Option, Some, None, refl, ap, ap₂, sym, ◌∙◌, arith, eq-eqb, ne_eqb}
 use Rattle.std.specs.Prelude.{option_map}
 use Rattle.std.specs.List.{filter_map, enumerate_from, cons_option}
 use Rattle.std.proofs.lemmas.Bool.{both_ways, eqb-true}
@@ -9,11 +9,10 @@ use Rattle.meter_address.specs.declared.address.Address.{Address}
 use Rattle.meter_slots.specs.declared.entry.Entry.{Entry}
 use Rattle.meter_slots.specs.declared.entry.Event.{Event}
 use Rattle.meter_slots.specs.Journal.{Start, SlotView}
-use Rattle.meter_slots.specs.World.{WorldView}
 use Rattle.meter_slots.proofs.Renumbering.{legal_renumbered, resumed_renumbered}
 use Rattle.receivers.specs.declared.told.Told.{Told}
 use Rattle.receivers.specs.declared.told.Told.TheVariants as told
-use Rattle.receivers.specs.Session.{heard_by, event_at, lines_for, entries_by, steps_by, IsMetersSlot, IsSession}
+use Rattle.receivers.specs.Session.{heard_by, event_at, lines_for, steps_by, IsMetersSlot}
 use Rattle.receivers.specs.Parts.{is_mine, part_of, numbers_from, number_in, whole_number, ArePart, is_in, starts_in, entry_in, slot_in}
 use Rattle.receivers.specs.Parts.{slots_in, together, PartsAreOfTheWhole, PartsMakeTheWhole, PartsLeaveTheSame}
 
@@ -33,8 +32,7 @@ module _ (a : Address) where
 
   event_on : (g : ℕ → ℕ) (j m : ℕ) (t : Told) → g j ≡ m → event_at a m t ≡ option_map (on g) (event_at a j t)
   event_on g j m (told.Event address event) e = on_if g j m event (a.0 == address.0) e
-  event_on g j m told.Unframed e = refl
-  event_on g j m told.Bad e = refl
+  event_on g j m _ e = refl
 
   -- lines from a number on are told alike by numberings that agree from there on
   agree : (f g : ℕ → ℕ) (j : ℕ) (h : List Told) → ((n : ℕ) → j ≤ n → f n ≡ g n) → map (on f) (lines j h) ≡ map (on g) (lines j h)
@@ -55,8 +53,7 @@ module _ (a : Address) where
 
   not_mine : (mine : ℕ → Bool) → mine a.0 ≡ true → (m : ℕ) (t : Told) → is_mine mine t ≡ false → event_at a m t ≡ None
   not_mine mine own m (told.Event address event) e = not_for mine own m event address.0 e (a.0 == address.0) refl
-  not_mine mine own m told.Unframed e = refl
-  not_mine mine own m told.Bad e = refl
+  not_mine mine own m _ e = refl
 
   kept_by : (b : Bool) (mine : ℕ → Bool) → mine a.0 ≡ true → (m j : ℕ) (t : Told) (h : List Told) → is_mine mine t ≡ b
       → ((k i : ℕ) → lines k h ≡ map (on (number_in i (numbers_from mine k h))) (lines i (part_of mine h)))

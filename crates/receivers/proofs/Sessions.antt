@@ -1,5 +1,5 @@
 -- From a run of all receivers to the journals of the closed cells.
-use Rattle.std.proofs.Common.{◌≡◌, ℕ, zero, suc, ◌+◌, ◌<◌, ◌==◌, Bool, true, false, cond, if◌then◌else◌, List, [], ◌∷◌, ◌++◌, map, length, slice_index_or, refl, sym, ap, ◌∙◌, subst, arith}
+use Rattle.std.proofs.Common.{◌≡◌, ℕ, ◌+◌, ◌<◌, ◌==◌, Bool, true, false, cond, if◌then◌else◌, List, [], ◌∷◌, ◌++◌, map, length, slice_index_or, refl, sym, ap, ◌∙◌, subst, arith}
 use Rattle.std.specs.List.{enumerate_from}
 use Rattle.meter_address.specs.declared.address.Address.{Address}
 use Rattle.meter_slots.specs.declared.entry.Event.{Event}
@@ -40,8 +40,7 @@ pub record IsPart {O P : Type 0} (directory : List Address) (cells : List (CellS
 abbrev pub AreParts : {O P : Type 0} → List Address → List (CellShown O) → ℕ → List (Crew O P) → List Part → Type 0
 AreParts directory cells n [] [] = Unit {0}
 AreParts directory cells n (c ∷ cs) (p ∷ ps) = IsPart directory cells n c p × AreParts directory cells (n + 1) cs ps
-AreParts directory cells n [] (p ∷ ps) = ⊥
-AreParts directory cells n (c ∷ cs) [] = ⊥
+AreParts directory cells n _ _ = ⊥
 
 mine_is : {O C R : Type 0} (n : ℕ) (acts : List (Act C R)) (p q : Shown O C R) → q.number ≡ p.number → q.own ≡ p.own ++ acts
     → q.joined ≡ p.joined → p.number ≡ n → p.own ≡ [] → p.joined ≡ [] → mine q ≡ made n acts ∷ []
@@ -101,9 +100,8 @@ module _ {O P Q C R : Type 0} (directory : List Address) (cells : List (CellShow
   joined_is : (n : ℕ) (crews : List (Crew O P)) (ps : List Part) → AreParts directory cells n crews ps
       → joined_by pass_of crews ≡ stack f n ps
   joined_is n [] [] h = refl
-  joined_is n [] (p ∷ ps) h = absurd h
-  joined_is n (c ∷ cs) [] h = absurd h
   joined_is n (c ∷ cs) (p ∷ ps) h = λ i. joined_is (n + 1) cs ps h.1 i ++ made_is n c p h.0 i
+  joined_is n _ _ h = absurd h
 
 pub asked_by : {O P : Type 0} (directory : List Address) (cells : List (CellShown O)) (n w : ℕ) (crews : List (Crew O P)) (ps : List Part)
     → AreParts directory cells n crews ps
@@ -111,8 +109,6 @@ pub asked_by : {O P : Type 0} (directory : List Address) (cells : List (CellShow
     (enumerate_from 1 (heard_from n w (map (λ (p : Part). p.heard) ps)))
 unfolding own_lines
 asked_by directory cells n w [] [] h = refl
-asked_by directory cells n w [] (p ∷ ps) h = absurd h
-asked_by directory cells n w (c ∷ cs) [] h = absurd h
 asked_by directory cells n w (c ∷ cs) (p ∷ ps) h = at (n == w) (asked_by directory cells (n + 1) w cs ps h.1)
   where
     at : (b : Bool) → map (λ (d : Answered). d.own) (did_from (n + 1) w ps) ≡ own_lines directory
@@ -121,6 +117,7 @@ asked_by directory cells n w (c ∷ cs) (p ∷ ps) h = at (n == w) (asked_by dir
         (enumerate_from 1 (cond b p.heard (heard_from (n + 1) w (map (λ (q : Part). q.heard) ps))))
     at true go = h.0.asked
     at false go = go
+asked_by directory cells n w _ _ h = absurd h
 
 -- a root with all joined: its cell can be closed, and with each number these acts were made
 pub record IsJoined {O C R : Type 0} (c : CellShown O) (acts : ℕ → List (Act C R)) (r : Shown O C R) : Type 0 where

@@ -62,17 +62,13 @@ its_line directory line (told.Event address event) x e = at (place_of directory 
     at None h = absurd cc
     at (Some place) h = let y : OwnLine = record { place = place; line = line; event = event } in
         let same : x ≡ y = cc in ap (λ (z : OwnLine). z.line) same
-its_line directory line told.Unframed x e = absurd cc
-its_line directory line told.Bad x e = absurd cc
+its_line directory line _ x e = absurd cc
 
 -- all downlinks were written
 sent_all : (how : Ended) (run : ReceiverRun) (p : Part) → how ≢ ends.TxFault
     → (IsTrue run.tx_tells → run.tx.now.written ≡ run.tx.before.written ++ tx_text p.did) → HasSent how run p
-sent_all ends.End run p not sent = sent
-sent_all ends.Cut run p not sent = sent
-sent_all ends.ReadFault run p not sent = sent
 sent_all ends.TxFault run p not sent = absurd (not refl)
-sent_all ends.Memory run p not sent = sent
+sent_all _ run p not sent = sent
 
 -- no further step was made, and nothing written
 works_still : {O P : Type 0} (directory : List Address) (heard : List Told) (did : List Answered) (a b c : Crew O P)
@@ -116,15 +112,8 @@ module _ {A K O P : Type 0} (directory : List Address) (tells : Bool) (crew_in :
     sent = λ t. r.sent t ∙ (ap (λ (l : List ℕ). l ++ tx_text r.did) (s.sent_so t) ∙ tx_more (shown x.1).written s.did r.did);
     later = omega (arith, s.tx_later, r.later);
   }
-  all_served ((line, told.Unframed) ∷ lines) x z h = let r = all_served lines h.0 z h.2 in
-      subst (λ (p : A × K). HaveServed ((line, told.Unframed) ∷ lines) p z) h.1.1 (record {
-        did = r.did;
-        works = record { asked = r.works.asked; answered = r.works.answered; noted = r.works.noted };
-        sent = r.sent;
-        later = r.later;
-      })
-  all_served ((line, told.Bad) ∷ lines) x z h = let r = all_served lines h.0 z h.2 in
-      subst (λ (p : A × K). HaveServed ((line, told.Bad) ∷ lines) p z) h.1.1 (record {
+  all_served ((line, t) ∷ lines) x z h = let r = all_served lines h.0 z h.2 in
+      subst (λ (p : A × K). HaveServed ((line, t) ∷ lines) p z) h.1.1 (record {
         did = r.did;
         works = record { asked = r.works.asked; answered = r.works.answered; noted = r.works.noted };
         sent = r.sent;
@@ -192,17 +181,14 @@ module _ {A K O P : Type 0} (directory : List Address) (tells : Bool) (crew_in :
           tx_fault = λ _. rose_since (shown x.1).faults (shown y.1).faults (shown z.1).faults r.later s.tx_fault;
           tx_later = omega (arith, r.later, s.tx_later);
         }
-    last_unsent sent told.Unframed fault x y z r s = let e = s.0 in absurd cc
-    last_unsent sent told.Bad fault x y z r s = let e = s.0 in absurd cc
+    last_unsent sent _ fault x y z r s = let e = s.0 in absurd cc
 
     served_to : (how : Ended) (heard : List Told) (x z : A × K) → HearsTo Makes Waits how heard x z → HaveServedTo how heard x z
-    served_to ends.End heard x z h = all_sent ends.End heard x z (λ is. absurd cc) (all_served (enumerate_from 1 heard) x z h)
-    served_to ends.Cut heard x z h = all_sent ends.Cut heard x z (λ is. absurd cc) (all_served (enumerate_from 1 heard) x z h)
-    served_to ends.ReadFault heard x z h = all_sent ends.ReadFault heard x z (λ is. absurd cc) (all_served (enumerate_from 1 heard) x z h)
     served_to ends.Memory heard x z h = all_sent ends.Memory heard x z (λ is. absurd cc)
         (still_served heard x h.0 z (all_served (enumerate_from 1 heard) x h.0 h.1) h.2)
     served_to ends.TxFault heard x z h = subst (λ (l : List Told). HaveServedTo ends.TxFault l x z) (sym h.heard_is)
         (last_unsent h.sent h.last h.fault x h.between z (all_served (enumerate_from 1 h.sent) x h.between h.all_sent) h.unsent)
+    served_to how heard x z h = all_sent how heard x z (λ is. absurd cc) (all_served (enumerate_from 1 heard) x z h)
 
     -- what a receiver did on cells, by what it heard for them
     pub has_worked : (how : Ended) (x z : A × K) → ended ≡ Some how

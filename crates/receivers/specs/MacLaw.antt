@@ -14,8 +14,7 @@ use Rattle.receivers.specs.Session.{IsMetersSlot}
 -- what a line tells is bytes
 abbrev pub SaysBytes : Told → Type 0
 SaysBytes (told.Event address event) = HearsBytes event
-SaysBytes told.Unframed = Unit {0}
-SaysBytes told.Bad = Unit {0}
+SaysBytes _ = Unit {0}
 
 abbrev pub AllSayBytes : List Told → Type 0
 AllSayBytes heard = All SaysBytes heard

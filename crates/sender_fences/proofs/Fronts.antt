@@ -110,16 +110,10 @@ module _ (epoch : ℕ) (whole : List (List ℕ)) where
 
 -- ---- many senders
 
-same_name : (a b : List ℕ) → a ≡ b → bytes_eq a b ≡ true
-same_name a b h = (bytes_eq-Decides a b).1 h
-
-is_same_name : (a b : List ℕ) → bytes_eq a b ≡ true → a ≡ b
-is_same_name a b h = (bytes_eq-Decides a b).0 h
-
 -- a name that isn't another one isn't what that one is
 apart : (who name other : List ℕ) → bytes_eq who name ≡ false → bytes_eq who other ≡ true → bytes_eq name other ≡ false
 apart who name other h e = false_from_ne_true (bytes_eq name other) (λ is.
-    let no : false ≡ true = sym h ∙ same_name who name (is_same_name who other e ∙ sym (is_same_name name other is)) in cc)
+    let no : false ≡ true = sym h ∙ (bytes_eq-Decides who name).1 ((bytes_eq-Decides who other).0 e ∙ sym ((bytes_eq-Decides name other).0 is)) in cc)
 
 -- the fence of a message's own sender passes it, and that of another stays
 own_passes : (ss : List Sender) (who : List ℕ) (m : Numbered) (f : Fence) → fence_of who ss ≡ Some f
@@ -169,7 +163,7 @@ alone ss name f (d ∷ ds) known =
     let after : List Sender = passed_in ss d.sender d.message in
     elim (cases_Bool (bytes_eq d.sender name)) [
       | inl own ↦
-          let is : d.sender ≡ name = is_same_name d.sender name own in
+          let is : d.sender ≡ name = (bytes_eq-Decides d.sender name).0 own in
           let mine : fence_of d.sender ss ≡ Some f = ap (λ n. fence_of n ss) is ∙ known in
           alone_own (is_next f d.message) ss name f d ds own (ap (λ (o : Option Fence). takes_by o d.message) mine) refl
           (alone after name (passed f d.message) ds (ap (λ n. fence_of n after) (sym is) ∙ own_passes ss d.sender d.message f mine))
@@ -197,7 +191,7 @@ each told name epoch (d ∷ ds) h =
     let rest = each told name epoch ds (All-tail (IsNumbered told) d ds h) in
     cond_both (bytes_eq d.sender name) (d ∷ of_sender name ds) (of_sender name ds) (All (AreOf (told name epoch) epoch))
     (λ e. All-cons (AreOf (told name epoch) epoch) d (of_sender name ds)
-    (of_its_own told name epoch d (is_same_name d.sender name e) (All-head (IsNumbered told) d ds h)) rest) (λ e. rest)
+    (of_its_own told name epoch d ((bytes_eq-Decides d.sender name).0 e) (All-head (IsNumbered told) d ds h)) rest) (λ e. rest)
 
 pub are_fronts : (told : Numbering) (ss : List Sender) (ds : List Delivered) → All (IsNumbered told) ds → AreFronts told ss ds
 are_fronts told ss ds h =

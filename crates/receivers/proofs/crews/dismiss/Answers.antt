@@ -1,4 +1,4 @@
-use Rattle.std.proofs.Common.{map, refl, ◌∙◌}
+use Rattle.std.proofs.Common.{refl, ◌∙◌}
 use Rattle.receivers.specs.Passes.{crew}
 use Rattle.receivers.proofs.Dismissals.{none_gone, one_gone, can_join_last, map_last, back_more}
 use Rattle.receivers.proofs.crews.dismiss.Goals as goal

@@ -91,16 +91,11 @@ returns-in-Err-sent-clause-heard g c =
     ∙ (ap (λ n. n + 1) (sym at) ∙ sym (ap (λ (n : Counts). n.lines) c.count.ensures))) in record {
       heard = so.heard ++ c.in-Ok.told ∷ [];
       has_heard = has_heard (g.P.Slots.directory f) h new (so.heard ++ c.in-Ok.told ∷ [])
-          (more_heard (g.P.Slots.makes f) g.S.Source.tells (g.P.Slots.directory f) old new c.lines.counts c.count.result
-          (c.args.slots.now, c.args.tx.now) (c.lines.slots, c.lines.tx) (c.hear_told.new.slots, c.hear_told.new.tx)
-          (c.lines.counts.lines + 1) c.in-Ok.told c.in-Ok-hear_told.heard.class so refl e.told (class_is g k) c.count.ensures
-          c.in-Ok-hear_told.heard.sent (hears g k))
+          (more_heard _ _ _ old new _ _ _ _ _ (c.lines.counts.lines + 1) _ _ so refl e.told (class_is g k) c.count.ensures _ (hears g k))
           (ended_unsent h old new c.in-Ok.told refl e.told new_is)
           (λ fault. absurd cc) (omega (arith, inv.later, e.later)) (λ tells. e.bytes tells ∙ inv.bytes tells);
-      hears = far_unsent (g.P.Slots.makes f) g.S.Source.tells (g.P.Slots.directory f) old new c.lines.counts c.count.result
-          (c.args.slots.now, c.args.tx.now) (c.lines.slots, c.lines.tx) (c.hear_told.new.slots, c.hear_told.new.tx)
-          (c.lines.counts.lines + 1) c.in-Ok.told c.in-Ok-hear_told.heard.class so refl e.told (class_is g k) c.count.ensures
-          c.in-Ok-hear_told.heard.sent (hears g k) c.in-Err-sent.field-0 c.in-Err-sent.is;
+      hears = far_unsent _ _ _ old new _ _ _ _ _ (c.lines.counts.lines + 1) _ _ so refl e.told (class_is g k) c.count.ensures _ (hears g k)
+          c.in-Err-sent.field-0 c.in-Err-sent.is;
     }
 
 pub lines-preserved : goal.lines-preserved
@@ -114,9 +109,6 @@ lines-preserved g c =
       bytes = λ tells. e.bytes tells ∙ inv.bytes tells;
       ready = c.hear_told.ensures.ready;
       fixed = c.hear_told.ensures.fixed ∙ inv.fixed;
-      so = far_next (g.P.Slots.makes f) g.S.Source.tells (g.P.Slots.directory f) (given g.S.Source.taken c.lines.lines)
-          (given g.S.Source.taken c.next_told.new.lines) c.lines.counts c.count.result (c.args.slots.now, c.args.tx.now)
-          (c.lines.slots, c.lines.tx) (c.hear_told.new.slots, c.hear_told.new.tx) (c.lines.counts.lines + 1) c.in-Ok.told
-          c.in-Ok-hear_told.heard.class inv.so refl e.told (class_is g k) c.count.ensures
-          c.in-Ok-hear_told.heard.sent (hears g k) c.in-Ok-sent.field-0 c.in-Ok-sent.is;
+      so = far_next _ _ _ (given g.S.Source.taken c.lines.lines) (given g.S.Source.taken c.next_told.new.lines) _ _ _ _ _
+          (c.lines.counts.lines + 1) _ _ inv.so refl e.told (class_is g k) c.count.ensures _ (hears g k) c.in-Ok-sent.field-0 c.in-Ok-sent.is;
     }

@@ -16,32 +16,20 @@ use Rattle.receivers.proofs.session.collect_over.Goals as goal
 pub close_each-requires : goal.close_each-requires
 close_each-requires g c =
     let of = c.in_ok-run_cells.ensures.roots.0 in let many = of.as_many in let before = c.requires.cells.each_cell.as_many in
-    let on =
-    have_run_on c.args.directory.now c.as_slice.result.now c.args.fresh.cells.items c.args.strangers
-    (receiver_runs g.S.Source g.K.Sink c.args.receivers.now.items c.run_cells.new.receivers.items)
-    c.run_cells.new.roots c.run_cells.new.stranger_root c.as_slice.ensures.value c.in_ok-run_cells.ensures.roots
-    c.in_ok-run_cells.ensures.run in
+    let on = have_run_on _ _ _ _ _ _ _ c.as_slice.ensures.value c.in_ok-run_cells.ensures.roots c.in_ok-run_cells.ensures.run in
     subst (CanCloseAll c.args.fresh.cells.items)
     (sym (whole c.args.fresh.roots.len c.run_cells.new.roots c.args.fresh.roots.items (search rules) (search rules)))
-    (can_close_all c.args.directory.now c.args.fresh.cells.items c.args.strangers _ c.run_cells.new.roots c.run_cells.new.stranger_root
-    on).0
+    (can_close_all _ _ _ _ _ _ on).0
 
 pub close-requires-clause-all_joined : goal.close-requires-clause-all_joined
 close-requires-clause-all_joined g c =
-    let on =
-    have_run_on c.args.directory.now c.as_slice.result.now c.args.fresh.cells.items c.args.strangers
-    (receiver_runs g.S.Source g.K.Sink c.args.receivers.now.items c.run_cells.new.receivers.items)
-    c.run_cells.new.roots c.run_cells.new.stranger_root c.as_slice.ensures.value c.in_ok-run_cells.ensures.roots
-    c.in_ok-run_cells.ensures.run in
-    (can_close_all c.args.directory.now c.args.fresh.cells.items c.args.strangers _ c.run_cells.new.roots c.run_cells.new.stranger_root
-    on).1.all_joined
+    let on = have_run_on _ _ _ _ _ _ _ c.as_slice.ensures.value c.in_ok-run_cells.ensures.roots c.in_ok-run_cells.ensures.run in
+    (can_close_all _ _ _ _ _ _ on).1.all_joined
 
 pub returns-clause-collected : goal.returns-clause-collected
 returns-clause-collected g c =
     let runs = receiver_runs g.S.Source g.K.Sink c.args.receivers.now.items c.run_cells.new.receivers.items in
-    let on = have_run_on c.args.directory.now c.as_slice.result.now c.args.fresh.cells.items c.args.strangers runs
-    c.run_cells.new.roots c.run_cells.new.stranger_root c.as_slice.ensures.value c.in_ok-run_cells.ensures.roots
-    c.in_ok-run_cells.ensures.run in
+    let on = have_run_on _ _ _ _ _ _ _ c.as_slice.ensures.value c.in_ok-run_cells.ensures.roots c.in_ok-run_cells.ensures.run in
     let of = c.in_ok-run_cells.ensures.roots.0 in let many = of.as_many in let before = c.requires.cells.each_cell.as_many in
     collected c.args.fresh.cells.items c.args.strangers c.args.own c.args.starts.value.items runs c.run_cells.new.roots
     c.run_cells.new.stranger_root c.in_ok-slots.slots.items c.close.result c.requires.apart c.requires.cells.openings

@@ -1,5 +1,5 @@
-use Rattle.std.proofs.Common.{◌≡◌, ℕ, List, ap, ◌∙◌}
-use Rattle.aes_block.specs.Block.{add, encrypt}
+use Rattle.std.proofs.Common.{ℕ, List, ap, ◌∙◌}
+use Rattle.aes_block.specs.Block.{encrypt}
 use Rattle.cbc_cmac.specs.Mac.{cmac}
 use Rattle.cbc_cmac.proofs.OneBlock.{cmac-block}
 use Rattle.cbc_cmac.proofs.mac.MacKey.mac_of_block.Goals as goal

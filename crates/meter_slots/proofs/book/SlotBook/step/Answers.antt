@@ -11,9 +11,7 @@ invariant_of-self-2 c =
     let b = c.self.inside in
     let given = c.in_ok-served.served.outcome in
     let x : Entry = record { source = c.args.source; line = c.args.line; event = c.args.event; outcome = given } in
-    let judged =
-    answer_kept b.start.value b.own b.entries.items b.standing b.readings.items c.args.event given c.self.invariant.0
-    c.in_ok-served.ensures.outcome in
+    let judged = answer_kept _ _ _ _ _ c.args.event given c.self.invariant.0 c.in_ok-served.ensures.outcome in
     rw (
       c.push_reserved.ensures.items,
       c.note.ensures,
@@ -30,9 +28,7 @@ invariant_of-self-2 c =
 
 pub returns-clause-outcome : goal.returns-clause-outcome
 returns-clause-outcome c =
-    let b = c.self.inside in
-    answer_kept b.start.value b.own b.entries.items b.standing b.readings.items c.args.event c.in_ok-served.served.outcome c.self.invariant.0
-    c.in_ok-served.ensures.outcome
+    answer_kept _ _ _ _ _ c.args.event c.in_ok-served.served.outcome c.self.invariant.0 c.in_ok-served.ensures.outcome
     ∙ ap (λ v. outcome v.start v.own (reverse v.journal) c.args.event) c.self.view_is
 
 pub returns-clause-legal : goal.returns-clause-legal

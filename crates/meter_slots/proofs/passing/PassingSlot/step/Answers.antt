@@ -19,23 +19,14 @@ invariant_of-self-2 c =
 
 pub returns-clause-outcome : goal.returns-clause-outcome
 returns-clause-outcome c =
-    let s = c.self.inside in
-    let served = c.in_ok-served.served in
-    passing_answer c.args.self.now s.own s.start.value s.standing c.answer.new.self c.args.event.now served.outcome served.reading
-    c.self.view_is c.in_ok-served.ensures.outcome
+    passing_answer _ _ _ _ c.answer.new.self _ _ c.in_ok-served.served.reading c.self.view_is c.in_ok-served.ensures.outcome
 
 pub returns-clause-after : goal.returns-clause-after
 returns-clause-after c =
-    let s = c.self.inside in
-    let served = c.in_ok-served.served in
-    passing_after c.args.self.now s.own s.start.value s.standing c.answer.new.self c.args.event.now served.outcome served.reading c.self.view_is
-    c.in_ok-served.ensures.outcome c.show_payload.ensures c.in_ok-served.ensures.number c.in_ok-served.ensures.reading
-    c.in_ok-served.ensures.moves
+    passing_after _ _ _ _ _ _ _ c.in_ok-served.served.reading c.self.view_is c.in_ok-served.ensures.outcome c.show_payload.ensures
+    c.in_ok-served.ensures.number c.in_ok-served.ensures.reading c.in_ok-served.ensures.moves
 
 pub returns-clause-reading : goal.returns-clause-reading
 returns-clause-reading c =
-    let s = c.self.inside in
-    let served = c.in_ok-served.served in
-    passing_reading c.args.self.now s.own s.start.value s.standing c.answer.new.self c.args.event.now served.outcome served.reading
-    c.self.view_is c.in_ok-served.ensures.outcome c.show_payload.ensures c.in_ok-served.ensures.number c.in_ok-served.ensures.reading
-    c.in_ok-served.ensures.moves
+    passing_reading _ _ _ _ c.answer.new.self _ _ c.in_ok-served.served.reading c.self.view_is c.in_ok-served.ensures.outcome
+    c.show_payload.ensures c.in_ok-served.ensures.number c.in_ok-served.ensures.reading c.in_ok-served.ensures.moves

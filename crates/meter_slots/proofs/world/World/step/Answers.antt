@@ -10,10 +10,8 @@ use Rattle.meter_slots.proofs.world.World.step.Goals as goal
 pub invariant_of-self-in-Some : goal.invariant_of-self-in-Some
 invariant_of-self-in-Some c =
     let slots = c.self.inside.slots.items in
-    let found =
-    found_at slots c.self.inside.directory c.args.step.address.0 c.in-Some.place some_slot c.self.invariant (sym c.in-Some.ensures) in
-    ordered_step slots c.step_at.new.slots.items c.self.inside.directory c.in-Some.place c.args.step some_slot c.self.invariant found.0
-    found.1 (c.in_ok-outcome-in-Some.ensures.ok some_slot)
+    let found = found_at slots _ c.args.step.address.0 _ some_slot c.self.invariant (sym c.in-Some.ensures) in
+    ordered_step slots _ _ _ c.args.step some_slot c.self.invariant found.0 found.1 (c.in_ok-outcome-in-Some.ensures.ok some_slot)
 
 -- ---- no slot has the address
 
@@ -43,8 +41,7 @@ returns-in_ok-note-in-None-clause-landed c own cs steps e =
 pub returns-in_ok-outcome-in-Some-clause-after : goal.returns-in_ok-outcome-in-Some-clause-after
 returns-in_ok-outcome-in-Some-clause-after c =
     let w : WorldView = record { slots = c.self.inside.slots.items; strangers = c.self.inside.strangers } in
-    let found =
-    found_at w.slots c.self.inside.directory c.args.step.address.0 c.in-Some.place some_slot c.self.invariant (sym c.in-Some.ensures) in
+    let found = found_at w.slots _ c.args.step.address.0 _ some_slot c.self.invariant (sym c.in-Some.ensures) in
     let apart = subst AreApart c.self.invariant.places c.self.invariant.apart in
     ap (λ bs. record { slots = bs; strangers = w.strangers }) (c.in_ok-outcome-in-Some.ensures.ok some_slot)
     ∙ after_own c.args.step w c.in-Some.place some_slot apart found.0 found.1 ∙ ap (λ v. after_step v c.args.step) c.self.view_is
@@ -52,8 +49,7 @@ returns-in_ok-outcome-in-Some-clause-after c =
 pub returns-in_ok-outcome-in-Some-clause-stranger : goal.returns-in_ok-outcome-in-Some-clause-stranger
 returns-in_ok-outcome-in-Some-clause-stranger c =
     let w : WorldView = record { slots = c.self.inside.slots.items; strangers = c.self.inside.strangers } in
-    let found =
-    found_at w.slots c.self.inside.directory c.args.step.address.0 c.in-Some.place some_slot c.self.invariant (sym c.in-Some.ensures) in
+    let found = found_at w.slots _ c.args.step.address.0 _ some_slot c.self.invariant (sym c.in-Some.ensures) in
     subst (λ (v : WorldView). (Slot c.in-Some.place c.in_ok-outcome-in-Some.outcome ≡ Stranger) ↔ (has_slot v.slots c.args.step ≡ false))
     c.self.view_is
     (stranger_own w.slots c.args.step c.in-Some.place some_slot c.in_ok-outcome-in-Some.outcome found.0 found.1)
@@ -61,8 +57,7 @@ returns-in_ok-outcome-in-Some-clause-stranger c =
 pub returns-in_ok-outcome-in-Some-clause-slot : goal.returns-in_ok-outcome-in-Some-clause-slot
 returns-in_ok-outcome-in-Some-clause-slot c =
     let w : WorldView = record { slots = c.self.inside.slots.items; strangers = c.self.inside.strangers } in
-    let found =
-    found_at w.slots c.self.inside.directory c.args.step.address.0 c.in-Some.place some_slot c.self.invariant (sym c.in-Some.ensures) in
+    let found = found_at w.slots _ c.args.step.address.0 _ some_slot c.self.invariant (sym c.in-Some.ensures) in
     subst (λ (v : WorldView). AnsweredBy v.slots c.args.step (Slot c.in-Some.place c.in_ok-outcome-in-Some.outcome)) c.self.view_is
     (answered_own w.slots c.args.step c.in-Some.place some_slot c.in_ok-outcome-in-Some.outcome found.0 found.1
     (c.in_ok-outcome-in-Some.ensures.outcome some_slot))

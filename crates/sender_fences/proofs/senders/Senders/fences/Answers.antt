@@ -1,4 +1,4 @@
-use Rattle.std.proofs.Common.{rules, ◌≡◌, ◌≤◌, [], ◌∷◌, ◌++◌, length}
+use Rattle.std.proofs.Common.{rules, ◌≡◌, [], ◌∷◌, ◌++◌}
 use Rattle.std.specs.Map.{values_of}
 use Rattle.sender_fences.proofs.Places.{fence_more, fences_end}
 use Rattle.sender_fences.proofs.senders.Senders.fences.Goals as goal
