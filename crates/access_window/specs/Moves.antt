@@ -25,8 +25,10 @@ after k (Store access response) = after_stored k access response
 
 -- the command that is sent at this
 abbrev pub sent_by : Orders → Move → Option Command
+sent_by k (Put payload) = None
+sent_by k (Cancel id) = None
+sent_by k Tick = None
 sent_by k (Store access response) = sent_at k access response
-sent_by k _ = None
 
 -- a downlink: the id of its command, and its counter
 pub record SentCommand : Type 0 where

@@ -93,14 +93,16 @@ after_confirmed k response = confirmed_orders k (confirmed k response)
 
 -- whether a meter with this access listens now
 abbrev pub is_open : Access → Bool
+is_open access.None = false
+is_open access.Soon = false
 is_open access.Limited = true
 is_open access.Unlimited = true
-is_open _ = false
 
 -- the oldest command, where the window is idle
 abbrev pub oldest_where_idle : Window → List Command → Option Command
+oldest_where_idle (Waiting id) commands = None
+oldest_where_idle Idle [] = None
 oldest_where_idle Idle (oldest ∷ others) = Some oldest
-oldest_where_idle _ _ = None
 
 -- the command that is sent: the oldest one, where the window is idle, the meter listens and a counter of four bytes is left
 unfoldable pub sent : Orders → Access → Option Command

@@ -114,13 +114,16 @@ module _ {O C R : Type 0} (o : O) (g : Course C R) where
 
 -- the stage of a pass whose ticket is out
 abbrev pub IsOut : ℕ → Stage → Type 0
+IsOut t Spent = ⊥
+IsOut t Idle = ⊥
 IsOut t (Waiting n) = n ≡ t
 IsOut t (Holding n) = n ≡ t
-IsOut t stage = ⊥
 
 abbrev pub IsThere : Stage → Type 0
 IsThere Spent = ⊥
-IsThere stage = Unit {0}
+IsThere Idle = Unit {0}
+IsThere (Waiting n) = Unit {0}
+IsThere (Holding n) = Unit {0}
 
 -- all acts are what some pass sees, which was not taken in by another
 abbrev pub IsLongest : {O C R : Type 0} → List (Act C R) → List (Known O C R) → Type 0
@@ -132,8 +135,9 @@ module _ {B O C R : Type 0} where
   drew st m found m' = (t : ℕ) × (wrapped t ≡ found) × (m' ≡ (at_stage m.0 (Waiting t), m.1))
 
   abbrev pub LeftAt : (B → List (Act C R)) → Known O C R → List (ℕ × Option (Kept B)) → Me (Option (Kept B)) (Known O C R) → Type 0
+  LeftAt acts_of v [] m' = Unit {0}
+  LeftAt acts_of v ((i, None) ∷ xs) m' = Unit {0}
   LeftAt acts_of v ((i, Some k) ∷ xs) m' = m' ≡ (back_with v (acts_of k.book.value), xs)
-  LeftAt acts_of v _ m' = Unit {0}
 
   -- the book went home
   abbrev pub left : (B → List (Act C R)) → Step (Option (Kept B)) → Me (Option (Kept B)) (Known O C R) → ℕ

@@ -98,7 +98,9 @@ told_by_received t (Ok l) later = told_with (content_behind t l) later
 abbrev pub told_by : Commissioned → Event → Outcome → List Told
 told_by c (Hear format at t) outcome = told_by_received t (received c.mode t) (given_up (stored_counter outcome))
 told_by c Tick outcome = fragments.Tick ∷ []
-told_by c _ outcome = []
+told_by c (Put payload) outcome = []
+told_by c (Cancel id) outcome = []
+told_by c (Rekey key) outcome = []
 
 -- what was told before the first entry, and what the entries tell
 unfoldable pub told : Start → List Entry → List Told

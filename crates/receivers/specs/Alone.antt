@@ -14,7 +14,8 @@ use Rattle.receivers.specs.Run.{Hearing, HasHeard}
 
 abbrev pub step_by : ℕ → ℕ → Told → Option Step
 step_by source line (told.Event address event) = Some (record { source = source; line = line; address = address; event = event })
-step_by source line _ = None
+step_by source line told.Unframed = None
+step_by source line told.Bad = None
 
 -- the steps among numbered lines of a receiver
 unfoldable pub steps_among : ℕ → List (ℕ × Told) → List Step

@@ -14,7 +14,8 @@ use Rattle.receivers.specs.Session.{IsMetersSlot}
 -- what a line tells is bytes
 abbrev pub SaysBytes : Told → Type 0
 SaysBytes (told.Event address event) = HearsBytes event
-SaysBytes _ = Unit {0}
+SaysBytes told.Unframed = Unit {0}
+SaysBytes told.Bad = Unit {0}
 
 abbrev pub AllSayBytes : List Told → Type 0
 AllSayBytes heard = All SaysBytes heard

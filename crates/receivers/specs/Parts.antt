@@ -15,7 +15,8 @@ use Rattle.receivers.specs.Cuts.{starts_behind}
 -- whether a line is for an address of the part, which a test on the numbers of addresses tells
 abbrev pub is_mine : (ℕ → Bool) → Told → Bool
 is_mine mine (told.Event address event) = mine address.0
-is_mine mine _ = false
+is_mine mine told.Unframed = false
+is_mine mine told.Bad = false
 
 -- the lines of a part
 abbrev pub part_of : (ℕ → Bool) → List Told → List Told

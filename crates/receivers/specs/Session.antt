@@ -25,7 +25,8 @@ heard_by w all = heard_from 1 w all
 -- a line that is a meter's own: its number, and what comes
 abbrev pub event_at : Address → ℕ → Told → Option (ℕ × Event)
 event_at a line (told.Event address event) = if a.0 == address.0 then Some (line, event) else None
-event_at a line _ = None
+event_at a line told.Unframed = None
+event_at a line told.Bad = None
 
 -- a meter's own lines among those of a receiver, which are numbered from 1
 abbrev pub lines_for : Address → List Told → List (ℕ × Event)
@@ -34,7 +35,8 @@ lines_for a heard = filter_map (λ l. event_at a l.0 l.1) (enumerate_from 1 hear
 -- a stranger's line: its number, and the address
 abbrev pub stranger_at : List Start → ℕ → Told → Option (ℕ × Address)
 stranger_at commissions line (told.Event address event) = if is_commissioned commissions address then None else Some (line, address)
-stranger_at commissions line _ = None
+stranger_at commissions line told.Unframed = None
+stranger_at commissions line told.Bad = None
 
 -- the strangers' lines among those of a receiver
 abbrev pub lines_of_strangers : List Start → List Told → List (ℕ × Address)

@@ -15,7 +15,8 @@ module _ {X : Type 0} (makes : ℕ → Address → Event → Result Unit Failed 
   -- what a line does: its step, where it is for an address, and else nothing
   abbrev pub Hears : ℕ → Told → Result Unit Failed → X → X → Type 0
   Hears line (told.Event address event) sent x y = makes line address event sent x y
-  Hears line _ sent x y = (sent ≡ Ok tt) × (y ≡ x)
+  Hears line told.Unframed sent x y = (sent ≡ Ok tt) × (y ≡ x)
+  Hears line told.Bad sent x y = (sent ≡ Ok tt) × (y ≡ x)
 
   -- what numbered lines do one after another, each of whose downlinks was written
   abbrev pub HearsAll : List (ℕ × Told) → X → X → Type 0
