@@ -1,5 +1,5 @@
 -- Lines that lists name: each is one of the list that names it.
-use Rattle.std.proofs.Common.{◌≡◌, ◌==◌, ℕ, zero, suc, ◌+◌, ◌<◌, ◌≤◌, not, Bool, false, cond, List, [], ◌∷◌, map, length, get_or, Result, Ok, Err, ⊎_elim, refl, sym, ap, ◌∙◌, subst, arith}
+use Rattle.std.proofs.Common.{◌≡◌, ◌==◌, ℕ, zero, suc, ◌+◌, ◌<◌, ◌≤◌, not, Bool, false, List, [], ◌∷◌, map, length, get_or, Result, Ok, Err, ⊎_elim, refl, sym, ap, ◌∙◌, subst, arith}
 use Rattle.std.specs.List.{list_any, position_or_len}
 use Rattle.std.proofs.lemmas.Bool.{cases_lt, eq-eqb, or_parts}
 use Rattle.std.proofs.lemmas.Bool.Decides.{nat_tests}
@@ -42,13 +42,10 @@ none_at p (x ∷ xs) (suc i) d h within = none_at p xs i d (or_parts (p x) (list
 own_place : (xs : List Address) (k : ℕ) (d : Address) (n : ℕ) → AreApart xs → k < length xs → (get_or xs k d).0 ≡ n
     → position_or_len (λ a. a.0 == n) xs ≡ k
 own_place [] k d n apart inside is = absurd (omega arith)
-own_place (x ∷ xs) zero d n apart inside is =
-    ap (λ b. cond (not b) (1 + position_or_len (λ (a : Address). a.0 == n) xs) 0) (eq-eqb x.0 n is)
+own_place (x ∷ xs) zero d n apart inside is = rw (eq-eqb x.0 n is) refl
 own_place (x ∷ xs) (suc k) d n apart inside is =
     let other = other_test x.0 (get_or xs k d).0 n (none_at (λ (b : Address). b.0 == x.0) xs k d apart.0 (omega arith)) is in
-    let rest = own_place xs k d n apart.1 (omega arith) is in
-    ap (λ b. cond (not b) (1 + position_or_len (λ (a : Address). a.0 == n) xs) 0) other
-    ∙ (let e : 1 + position_or_len (λ (a : Address). a.0 == n) xs ≡ suc k = omega arith in e)
+    let rest = own_place xs k d n apart.1 (omega arith) is in rw other (omega arith)
 
 -- an address that no meter has stands behind all
 pub strange_place : (a : ℕ) (cs : List Start) → list_any (λ c. c.address.0 == a) cs ≡ false
@@ -56,10 +53,7 @@ pub strange_place : (a : ℕ) (cs : List Start) → list_any (λ c. c.address.0 
 strange_place a [] h = refl
 strange_place a (c ∷ cs) h =
     let parts = or_parts (c.address.0 == a) (list_any (λ (d : Start). d.address.0 == a) cs) h in
-    let rest = strange_place a cs parts.1 in
-    ap (λ b. cond (not b) (1 + position_or_len (λ (x : Address). x.0 == a) (map (λ (d : Start). d.address) cs)) 0) parts.0
-    ∙ (let e : 1 + position_or_len (λ (x : Address). x.0 == a) (map (λ (d : Start). d.address) cs) ≡ suc (length cs) =
-    omega arith in e)
+    let rest = strange_place a cs parts.1 in rw parts.0 (omega arith)
 
 -- ---- what a line that is stepped or noted is
 
@@ -67,8 +61,7 @@ own_listed : (directory : List Address) (k : ℕ) (a : Address) (t : Told) → A
     → get_or directory k a ≡ a → IsEventFor a t → sort_of directory t ≡ sorts.Listed k
 own_listed directory k a (told.Event address event) apart inside is same =
     ap sorts.Listed (own_place directory k a address.0 apart inside (ap (λ (x : Address). x.0) is ∙ same))
-own_listed directory k a told.Unframed apart inside is same = absurd same
-own_listed directory k a told.Bad apart inside is same = absurd same
+own_listed directory k a _ apart inside is same = absurd same
 
 pub strange_listed : (directory : List Address) (n place : ℕ) (t : Told) (address : Address) (event : Event) → t ≡ told.Event address event
     → place ≡ position_or_len (λ a. a.0 == address.0) directory → n ≡ length directory → n ≤ place → sort_of directory t ≡ sorts.Listed n

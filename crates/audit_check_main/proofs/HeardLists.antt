@@ -102,8 +102,7 @@ placed f s a n (c ∷ cs) apart = at (c.address.0 == a) refl (placed f s a n cs 
 
 lists_with : (f g : Start → List ℕ) (s r : List ℕ) (cs : List Start) → ((c : Start) → f c ≡ g c) → s ≡ r
     → map f cs ++ s ∷ [] ≡ map g cs ++ r ∷ []
-lists_with f g s r [] same e = ap (λ l. l ∷ []) e
-lists_with f g s r (c ∷ cs) same e = (λ i. same c i ∷ lists_with f g s r cs same e i)
+lists_with f g s r cs same e = λ i. map (λ c. same c i) cs ++ e i ∷ []
 
 own_number : (b : Bool) (line : ℕ) (event : Event) → map number_of (option_to_list (cond b (Some (line, event)) None)) ≡ one_if b line
 own_number true line event = refl
@@ -128,15 +127,10 @@ numbers_for-push cs heard (told.Event address event) line apart number =
     ∙ ap (λ l. own_numbers heard c ++ l) (own_number (is_for address.0 c) line event)))
     (sym (numbers_more (λ l. stranger_at cs l.0 l.1) heard (told.Event address event) line number
     ∙ ap (λ l. map number_of (lines_of_strangers cs heard) ++ l) (strange_number (is_commissioned cs address) line address)))
-numbers_for-push cs heard told.Unframed line apart number =
-    lists_with (own_numbers heard) (own_numbers (heard ++ told.Unframed ∷ [])) _ _ cs
-    (λ c. sym (numbers_more (λ l. event_at c.address l.0 l.1) heard told.Unframed line number ∙ append-nil (own_numbers heard c)))
-    (sym (numbers_more (λ l. stranger_at cs l.0 l.1) heard told.Unframed line number
-    ∙ append-nil (map number_of (lines_of_strangers cs heard))))
-numbers_for-push cs heard told.Bad line apart number =
-    lists_with (own_numbers heard) (own_numbers (heard ++ told.Bad ∷ [])) _ _ cs
-    (λ c. sym (numbers_more (λ l. event_at c.address l.0 l.1) heard told.Bad line number ∙ append-nil (own_numbers heard c)))
-    (sym (numbers_more (λ l. stranger_at cs l.0 l.1) heard told.Bad line number ∙ append-nil (map number_of (lines_of_strangers cs heard))))
+numbers_for-push cs heard t line apart number =
+    lists_with (own_numbers heard) (own_numbers (heard ++ t ∷ [])) _ _ cs
+    (λ c. sym (numbers_more (λ l. event_at c.address l.0 l.1) heard t line number ∙ append-nil (own_numbers heard c)))
+    (sym (numbers_more (λ l. stranger_at cs l.0 l.1) heard t line number ∙ append-nil (map number_of (lines_of_strangers cs heard))))
 
 -- ---- the list of an address
 
@@ -155,15 +149,13 @@ class_sorted directory n (told.Event address event) e =
     by : (b : Bool) (k : ℕ) → cond b classes.Own classes.Strange ≡ class_at (cond b (Some k) None)
     by true k = refl
     by false k = refl
-class_sorted directory n told.Unframed e = refl
-class_sorted directory n told.Bad e = refl
+class_sorted directory n _ e = refl
 
 -- a line of a list has one of the lists
 pub sorted_within : (directory : List Address) (n : ℕ) (w : Whose) → length directory ≡ n → list_in (sort_by directory w) ≤ n
 sorted_within directory n (whose.Meter address) e =
     let most = prefix_len-le-length (λ (a : Address). not (a.0 == address.0)) directory in omega arith
-sorted_within directory n whose.Unframed e = omega arith
-sorted_within directory n whose.Bad e = omega arith
+sorted_within directory n _ e = omega arith
 
 -- ---- lines one after another
 
@@ -175,22 +167,6 @@ pub record HaveComeTo (cs : List Start) (heard : List Told) (lists : List (List 
   pub lists_are : lists ≡ numbers_for cs heard
   pub classes_are : kinds ≡ map (class_by (map (λ c. c.address) cs)) heard
 
--- one line more
-come_more : (cs : List Start) (heard : List Told) (t : Told) (number : ℕ) (lists lists' : List (List ℕ)) (kinds : List Class)
-    (class : Class) (sort : Sort) → AreApart (map (λ c. c.address) cs) → HaveComeTo cs heard lists kinds → number ≡ 1 + length heard
-    → sort ≡ sort_of (map (λ c. c.address) cs) t → lists' ≡ noted sort number lists → class ≡ class_in (length cs) sort
-    → HaveComeTo cs (heard ++ t ∷ []) lists' (kinds ++ class ∷ [])
-come_more cs heard t number lists lists' kinds class sort apart so counted same after is = record {
-  lists_are = after ∙ ((λ i. noted (same i) number (so.lists_are i)) ∙ numbers_for-push cs heard t number apart counted);
-  classes_are = (λ i. so.classes_are i ++ (is ∙ (ap (class_in (length cs)) same ∙ class_sorted (addresses cs) (length cs) t
-      (sym (length-map cs (λ (c : Start). c.address))))) i ∷ [])
-      ∙ sym (map-append (class_by (addresses cs)) heard (t ∷ []));
-}
-
--- what a line tells that stands among others
-told_inside : (texts : List (List ℕ)) (i : ℕ) → i < length texts → told_by_text (slice_get texts i) ≡ told_of (get_or texts i [])
-told_inside texts i inside = ap told_by_text (slice_get-get_or texts i [] inside)
-
 -- one line of a text more
 module _ (cs : List Start) (texts : List (List ℕ)) (i : ℕ) (t : Told) (inside : i < length texts)
     (told_is : t ≡ told_by_text (slice_get texts i)) where
@@ -198,16 +174,21 @@ module _ (cs : List Start) (texts : List (List ℕ)) (i : ℕ) (t : Told) (insid
   more_told =
       ap (map told_of) (take_more texts i [] inside)
       ∙ (map-append told_of (take i texts) (get_or texts i [] ∷ [])
-      ∙ ap (λ x. map told_of (take i texts) ++ x ∷ []) (sym (told_is ∙ told_inside texts i inside)))
+      ∙ ap (λ x. map told_of (take i texts) ++ x ∷ []) (sym (told_is ∙ ap told_by_text (slice_get-get_or texts i [] inside))))
 
   pub come_next : (lists lists' : List (List ℕ)) (kinds : List Class) (class : Class) (sort : Sort) → AreApart (map (λ c. c.address) cs)
       → HaveComeTo cs (map told_of (take i texts)) lists kinds → sort ≡ sort_of (map (λ c. c.address) cs) t
       → lists' ≡ noted sort (i + 1) lists → class ≡ class_in (length cs) sort
       → HaveComeTo cs (map told_of (take (i + 1) texts)) lists' (kinds ++ class ∷ [])
   come_next lists lists' kinds class sort apart so same after is =
-      let many : length (map told_of (take i texts)) ≡ i = length-map (take i texts) told_of ∙ length-take-le i texts (omega arith) in
-      subst (λ heard. HaveComeTo cs heard lists' (kinds ++ class ∷ [])) (sym more_told)
-      (come_more cs (map told_of (take i texts)) t (i + 1) lists lists' kinds class sort apart so (omega arith) same after is)
+      let heard = map told_of (take i texts) in
+      let many : length heard ≡ i = length-map (take i texts) told_of ∙ length-take-le i texts (omega arith) in
+      subst (λ heard. HaveComeTo cs heard lists' (kinds ++ class ∷ [])) (sym more_told) (record {
+        lists_are = after ∙ ((λ j. noted (same j) (i + 1) (so.lists_are j)) ∙ numbers_for-push cs heard t (i + 1) apart (omega arith));
+        classes_are = (λ j. so.classes_are j ++ (is ∙ (ap (class_in (length cs)) same ∙ class_sorted (addresses cs) (length cs) t
+            (sym (length-map cs (λ (c : Start). c.address))))) j ∷ [])
+            ∙ sym (map-append (class_by (addresses cs)) heard (t ∷ []));
+      })
 
 -- an input within the limits has few lines
 pub few_lines : (input : List ℕ) → is_over input ≡ false → length (lines input) ≤ 131072

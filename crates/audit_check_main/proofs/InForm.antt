@@ -20,7 +20,7 @@ use Rattle.report_text.specs.declared.lent.ReceiverEnd.{ReceiverEnd}
 use Rattle.report_text.specs.Orders.{lines_in}
 use Rattle.report_text.specs.OrdersLaw.{IsCounted, place_of_step, place_of_stranger, order_of}
 use Rattle.report_text.specs.Report.{commission_text, numbers_text, answered_text, step_text, readings_after, steps_text, last_text, pending_text, journal_text, orders_now, meter_text, stranger_text, strangers_text, report_text}
-use Rattle.report_text.proofs.LineWalks.{IsWithout, ◌⌢◌, literal, first_line, IsOther, Others}
+use Rattle.report_text.proofs.LineWalks.{IsWithout, ◌⌢◌, literal, first_line, IsKind, kind_of, IsOther, Others}
 use Rattle.report_text.proofs.LinePieces.{worded_number, worded_two}
 use Rattle.report_text.proofs.LineOutcomes.{outcome_is}
 use Rattle.report_text.proofs.LineSteps.{behind_word, behind_two, fields_of_two, fields_of_more}
@@ -29,7 +29,7 @@ use Rattle.roster_file.proofs.ReadBack.{number_back}
 use Rattle.audit_check_main.specs.declared.line_lists.Open.{Open}
 use Rattle.audit_check_main.specs.declared.line_lists.Open.TheVariants as opens
 use Rattle.audit_check_main.specs.Lists.{is_meter, both, numbers_in, pair_of, open_in, is_meters, is_of_strangers, AreInForm}
-use Rattle.audit_check_main.proofs.ReadLists.{IsKind, form_by, form_is, opened_by, counted_by}
+use Rattle.audit_check_main.proofs.ReadLists.{form_by, form_is, opened_by, counted_by}
 
 -- ---- lines on top of others
 
@@ -52,10 +52,10 @@ module _ (meters : ℕ) where
     open_is : open_in above ≡ open_list
 
   -- a line of a kind that is in form
-  line_at : {m s t r : Bool} (line : List ℕ) (above : List (List ℕ)) (n : ℕ) (o : Open) → IsKind line m s t r
+  line_at : {m s t r : Bool} {n : ℕ} {o : Open} (line : List ℕ) (above : List (List ℕ)) → IsKind line m s t r
       → form_by m s t r meters above line ≡ false → IsAt above n o
       → IsAt (line ∷ above) (cond m (suc n) n) (cond m opens.Meter (cond s opens.Strangers o))
-  line_at {m} {s} {t} {r} line above n o k fine at = record {
+  line_at {m} {s} {t} {r} {n} line above k fine at = record {
     in_form = (form_is meters above line k ∙ fine, at.in_form);
     count = counted_by above line k ∙ counts m;
     open_is = opened_by above line k ∙ ap (λ p. cond m opens.Meter (cond s opens.Strangers p)) at.open_is;
@@ -65,14 +65,6 @@ module _ (meters : ℕ) where
       counts true = ap suc at.count
       counts false = at.count
 
-  other_at : (line : List ℕ) (above : List (List ℕ)) (n : ℕ) (o : Open) → IsOther line → IsAt above n o → IsAt (line ∷ above) n o
-  other_at line above n o other = line_at line above n o (record {
-    meter_is = other.meter;
-    strangers_is = other.strangers;
-    step_is = other.step;
-    stranger_is = other.stranger;
-  }) refl
-
   -- ---- texts
 
   -- a text of whole lines, which stand in their lists where this list is open above them, and leave that one open
@@ -81,8 +73,8 @@ module _ (meters : ℕ) where
     cut : (rest : List ℕ) → lines_in (text ++ rest) ≡ lines ++ lines_in rest
     at : (above : List (List ℕ)) → IsAt above n o → IsAt (onto lines above) n' o'
 
-  nothing_stands : (n : ℕ) (o : Open) → Stands [] n o n o
-  nothing_stands n o = record { lines = []; cut = λ rest. refl; at = λ above at. at }
+  nothing_stands : {n : ℕ} {o : Open} → Stands [] n o n o
+  nothing_stands = record { lines = []; cut = λ rest. refl; at = λ above at. at }
 
   then_stands : {a b : List ℕ} {n n' n'' : ℕ} {o o' o'' : Open} → Stands a n o n' o' → Stands b n' o' n'' o'' → Stands (a ++ b) n o n'' o''
   then_stands {a} {b} {n} {n'} {n''} {o} {o'} {o''} x y = record {
@@ -92,20 +84,20 @@ module _ (meters : ℕ) where
     at = λ above at. subst (λ l. IsAt l n'' o'') (sym (onto_both x.lines y.lines above)) (y.at (onto x.lines above) (x.at above at));
   }
 
-  one_stands : (line : List ℕ) (n n' : ℕ) (o o' : Open) → IsWithout 10 line
+  one_stands : {n n' : ℕ} {o o' : Open} (line : List ℕ) → IsWithout 10 line
       → ((above : List (List ℕ)) → IsAt above n o → IsAt (line ∷ above) n' o') → Stands (line ++ codes "\n") n o n' o'
-  one_stands line n n' o o' h at = record { lines = line ∷ []; cut = first_line line h; at = at }
+  one_stands line h at = record { lines = line ∷ []; cut = first_line line h; at = at }
 
-  all_at : (lines : List (List ℕ)) (n : ℕ) (o : Open) → Each IsOther lines → (above : List (List ℕ)) → IsAt above n o
+  all_at : {n : ℕ} {o : Open} (lines : List (List ℕ)) → Each IsOther lines → (above : List (List ℕ)) → IsAt above n o
       → IsAt (onto lines above) n o
-  all_at [] n o h above at = at
-  all_at (line ∷ lines) n o h above at = all_at lines n o h.1 (line ∷ above) (other_at line above n o h.0 at)
+  all_at [] h above at = at
+  all_at (line ∷ lines) h above at = all_at lines h.1 (line ∷ above) (line_at line above h.0 refl at)
 
-  others_stand : {text : List ℕ} → Others text → (n : ℕ) (o : Open) → Stands text n o n o
-  others_stand x n o = record { lines = x.lines; cut = x.cut; at = all_at x.lines n o x.each }
+  others_stand : {text : List ℕ} {n : ℕ} {o : Open} → Others text → Stands text n o n o
+  others_stand x = record { lines = x.lines; cut = x.cut; at = all_at x.lines x.each }
 
-  same_stands : {a : List ℕ} (b : List ℕ) (n n' : ℕ) (o o' : Open) → b ≡ a → Stands a n o n' o' → Stands b n o n' o'
-  same_stands b n n' o o' e x = record { lines = x.lines; cut = λ rest. ap (λ t. lines_in (t ++ rest)) e ∙ x.cut rest; at = x.at }
+  same_stands : {a b : List ℕ} {n n' : ℕ} {o o' : Open} → b ≡ a → Stands a n o n' o' → Stands b n o n' o'
+  same_stands e x = record { lines = x.lines; cut = λ rest. ap (λ t. lines_in (t ++ rest)) e ∙ x.cut rest; at = x.at }
 
   -- ---- a meter
 
@@ -113,12 +105,10 @@ module _ (meters : ℕ) where
       → Stands (commission_text a mode ++ numbers_text last down steps kept) n o (suc n) opens.Meter
   unfolding commission_text labelled_bytes numbers_text
   meter_stands a mode last down steps kept n o few =
-      same_stands _ n (suc n) o opens.Meter (sym (append_assoc (commission_text a mode) (numbers_front last down steps kept) (codes "\n")))
-      (one_stands (commission_text a mode ++ numbers_front last down steps kept) n (suc n) o opens.Meter
-      (commission_is a mode ⌢ numbers_is last down steps kept)
-      (λ above at. line_at (commission_text a mode ++ numbers_front last down steps kept) above n o
-      (record { meter_is = refl; strangers_is = refl; step_is = refl; stranger_is = refl })
-      (ap (nat_le meters) at.count ∙ lt-leb meters n few) at))
+      let line = commission_text a mode ++ numbers_front last down steps kept in
+      same_stands (sym (append_assoc (commission_text a mode) (numbers_front last down steps kept) (codes "\n")))
+      (one_stands line (commission_is a mode ⌢ numbers_is last down steps kept)
+      (λ above at. line_at line above (kind_of refl refl refl refl) (ap (nat_le meters) at.count ∙ lt-leb meters n few) at))
 
   pair_back : (word first second : List ℕ) (more : List (List ℕ)) (i j : ℕ) → first ≡ decimal i → second ≡ decimal j
       → i < 2 ^ 32 → j < 2 ^ 32 → numbers_in (word ∷ first ∷ second ∷ more) ≡ Some (i, j)
@@ -144,10 +134,9 @@ module _ (meters : ℕ) where
       → Stands (labelled_two (codes "step ") i j ++ codes " " ++ o ++ codes "\n") n opens.Meter n opens.Meter
   unfolding labelled_two
   step_stands i j o n small_i small_j h =
-      one_stands (labelled_two (codes "step ") i j ++ codes " " ++ o) n n opens.Meter opens.Meter
-      (worded_two (literal (codes "step ") refl) i j ⌢ literal (codes " ") refl ⌢ h)
-      (λ above at. line_at (labelled_two (codes "step ") i j ++ codes " " ++ o) above n opens.Meter
-      (record { meter_is = refl; strangers_is = refl; step_is = refl; stranger_is = refl })
+      let line = labelled_two (codes "step ") i j ++ codes " " ++ o in
+      one_stands line (worded_two (literal (codes "step ") refl) i j ⌢ literal (codes " ") refl ⌢ h)
+      (λ above at. line_at line above (kind_of refl refl refl refl)
       (λ k. not (is_meters (at.open_is k) && is_some (step_pair i j o small_i small_j k))) at)
 
   entry_stands : (reading : Option Reading) (e : Entry) (n : ℕ) → IsCounted (place_of_step e)
@@ -157,7 +146,7 @@ module _ (meters : ℕ) where
 
   steps_stand : (kept : List Reading) (journal : List Entry) (n : ℕ) → AllByRecursion IsCounted (map place_of_step journal)
       → Stands (steps_text kept journal) n opens.Meter n opens.Meter
-  steps_stand kept [] n small = nothing_stands n opens.Meter
+  steps_stand kept [] n small = nothing_stands
   steps_stand kept (e ∷ later) n small =
       then_stands (entry_stands (slice_get kept 0) e n small.0) (steps_stand (readings_after e.outcome kept) later n small.1)
 
@@ -165,8 +154,8 @@ module _ (meters : ℕ) where
       → AllByRecursion IsCounted (map place_of_step journal) → Stands (journal_text kept journal commands) n opens.Meter n opens.Meter
   unfolding journal_text
   journal_stands kept journal commands n small =
-      same_stands _ n n opens.Meter opens.Meter (append_assoc (steps_text kept journal) (last_text kept) (flat_map pending_text commands))
-      (then_stands (steps_stand kept journal n small) (others_stand (behind_steps kept commands) n opens.Meter))
+      same_stands (append_assoc (steps_text kept journal) (last_text kept) (flat_map pending_text commands))
+      (then_stands (steps_stand kept journal n small) (others_stand (behind_steps kept commands)))
 
   slot_stands : (b : SlotView) (n : ℕ) (o : Open) → n < meters → AllByRecursion IsCounted (order_of b)
       → Stands (meter_text b) n o (suc n) opens.Meter
@@ -188,7 +177,7 @@ module _ (meters : ℕ) where
   slots_stand : (slots : List SlotView) (n : ℕ) (o : Open) → n + length slots ≤ meters
       → AllByRecursion (λ order. All IsCounted order) (map order_of slots)
       → Stands (flat_map meter_text slots) n o (headings slots n) (behind slots o)
-  slots_stand [] n o few small = nothing_stands n o
+  slots_stand [] n o few small = nothing_stands
   slots_stand (b ∷ slots) n o few small =
       then_stands (slot_stands b n o (omega arith) (recursion_from_All IsCounted (order_of b) small.0))
       (slots_stand slots (suc n) opens.Meter (omega arith) small.1)
@@ -198,30 +187,27 @@ module _ (meters : ℕ) where
   heading_stands : (count n : ℕ) (o : Open) → Stands (labelled (codes "strangers ") count ++ codes "\n") n o n opens.Strangers
   unfolding labelled
   heading_stands count n o =
-      one_stands (labelled (codes "strangers ") count) n n o opens.Strangers (worded_number (literal (codes "strangers ") refl) count)
-      (λ above at. line_at (labelled (codes "strangers ") count) above n o
-      (record { meter_is = refl; strangers_is = refl; step_is = refl; stranger_is = refl }) refl at)
+      one_stands (labelled (codes "strangers ") count) (worded_number (literal (codes "strangers ") refl) count)
+      (λ above at. line_at (labelled (codes "strangers ") count) above (kind_of refl refl refl refl) refl at)
 
   stranger_stands : (h : Heard) (n : ℕ) → IsCounted (place_of_stranger h) → Stands (stranger_text h) n opens.Strangers n opens.Strangers
   unfolding stranger_text labelled_two
   stranger_stands h n small =
-      one_stands (labelled_two (codes "stranger ") h.source h.line) n n opens.Strangers opens.Strangers
-      (worded_two (literal (codes "stranger ") refl) h.source h.line)
-      (λ above at. line_at (labelled_two (codes "stranger ") h.source h.line) above n opens.Strangers
-      (record { meter_is = refl; strangers_is = refl; step_is = refl; stranger_is = refl })
+      let line = labelled_two (codes "stranger ") h.source h.line in
+      one_stands line (worded_two (literal (codes "stranger ") refl) h.source h.line)
+      (λ above at. line_at line above (kind_of refl refl refl refl)
       (λ k. not (is_of_strangers (at.open_is k) && is_some (stranger_pair h.source h.line small.0 small.1 k))) at)
 
   heard_stand : (heard : List Heard) (n : ℕ) → AllByRecursion IsCounted (map place_of_stranger heard)
       → Stands (flat_map stranger_text heard) n opens.Strangers n opens.Strangers
-  heard_stand [] n small = nothing_stands n opens.Strangers
+  heard_stand [] n small = nothing_stands
   heard_stand (h ∷ heard) n small = then_stands (stranger_stands h n small.0) (heard_stand heard n small.1)
 
   strangers_stand : (heard : List Heard) (n : ℕ) (o : Open) → AllByRecursion IsCounted (map place_of_stranger heard)
       → Stands (strangers_text heard) n o n opens.Strangers
   unfolding strangers_text
   strangers_stand heard n o small =
-      then_stands (then_stands (heading_stands (length heard) n o) (heard_stand heard n small))
-      (others_stand (rings_others heard) n opens.Strangers)
+      then_stands (then_stands (heading_stands (length heard) n o) (heard_stand heard n small)) (others_stand (rings_others heard))
 
   -- ---- the report
 
@@ -230,13 +216,8 @@ module _ (meters : ℕ) where
       → Stands (report_text ends slots heard) 0 opens.Nothing (headings slots 0) opens.Strangers
   unfolding report_text
   report_stands ends slots heard few small_steps small_heard =
-      then_stands (then_stands (then_stands (others_stand (head_others ends) 0 opens.Nothing)
-      (slots_stand slots 0 opens.Nothing (omega arith) small_steps))
-      (strangers_stand heard (headings slots 0) (behind slots opens.Nothing) small_heard))
-      (others_stand end_others (headings slots 0) opens.Strangers)
-
-  empty_is_other : IsOther []
-  empty_is_other = record { meter = refl; strangers = refl; step = refl; stranger = refl }
+      then_stands (then_stands (then_stands (others_stand (head_others ends)) (slots_stand slots 0 opens.Nothing (omega arith) small_steps))
+      (strangers_stand heard (headings slots 0) (behind slots opens.Nothing) small_heard)) (others_stand end_others)
 
   pub report_in_form : (ends : List ReceiverEnd) (slots : List SlotView) (heard : List Heard) → length slots ≤ meters
       → All (λ order. All IsCounted order) (map order_of slots) → All IsCounted (map place_of_stranger heard)
@@ -249,7 +230,7 @@ module _ (meters : ℕ) where
       let nothing : List (List ℕ) = [] in
       let last : List (List ℕ) = [] ∷ [] in
       let begun = stands.at nothing (record { in_form = tt; count = refl; open_is = refl }) in
-      let ended = other_at [] (onto stands.lines nothing) (headings slots 0) opens.Strangers empty_is_other begun in
+      let ended = line_at [] (onto stands.lines nothing) (kind_of refl refl refl refl) refl begun in
       let whole : lines_in text ≡ stands.lines ++ last = ap lines_in (sym (append-nil text)) ∙ stands.cut [] in
       let turned : [] ∷ onto stands.lines nothing ≡ reverse (lines_in text) =
       sym (onto_both stands.lines last nothing) ∙ ap reverse (sym whole) in

@@ -29,15 +29,13 @@ module _ {S : Type 0} (s : sources.Ghosts S) where
   changes_append : (xs ys xs' ys' : List S) → length xs ≡ length xs'
       → source_changes s (xs ++ ys) (xs' ++ ys') ≡ source_changes s xs xs' ++ source_changes s ys ys'
   changes_append [] ys [] ys' e = refl
-  changes_append [] ys (x' ∷ xs') ys' e = absurd (omega arith)
-  changes_append (x ∷ xs) ys [] ys' e = absurd (omega arith)
   changes_append (x ∷ xs) ys (x' ∷ xs') ys' e = ap (λ l. source_change s x x' ∷ l) (changes_append xs ys xs' ys' (omega arith))
+  changes_append _ ys _ ys' e = absurd (omega arith)
 
   length-changes : (xs xs' : List S) → length xs ≡ length xs' → length (source_changes s xs xs') ≡ length xs
   length-changes [] [] e = refl
-  length-changes [] (x' ∷ xs') e = absurd (omega arith)
-  length-changes (x ∷ xs) [] e = absurd (omega arith)
   length-changes (x ∷ xs) (x' ∷ xs') e = ap suc (length-changes xs xs' (omega arith))
+  length-changes _ _ e = absurd (omega arith)
 
   pub next_untouched : (next : Option S) → IfSome (next_change s next next) LosesNothing
   next_untouched None = tt

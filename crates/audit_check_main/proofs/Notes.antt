@@ -33,8 +33,7 @@ address_if cs false line address event p is e =
 address_fits : (cs : List Start) (line : ℕ) (t : Told) (p : ℕ × Address) → stranger_at cs line t ≡ Some p → (p.0 ≡ line)
     × HasAddress cs t p.1
 address_fits cs line (told.Event address event) p e = address_if cs (is_commissioned cs address) line address event p refl e
-address_fits cs line told.Unframed p e = absurd cc
-address_fits cs line told.Bad p e = absurd cc
+address_fits cs line _ p e = absurd cc
 
 abbrev pub note_pair : Heard → ℕ × ℕ
 note_pair x = (x.source, x.line)

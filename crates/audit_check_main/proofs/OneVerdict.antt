@@ -155,11 +155,10 @@ each_right : (own : Address) (all : List (List Told)) (behind : ℕ → List ℕ
     (map (own_numbers all w) cs ++ behind w ∷ []) k []
 each_right own all behind noted last [] [] h zero le w = last w
 each_right own all behind noted last [] [] h (suc k) le w = absurd (omega arith)
-each_right own all behind noted last [] (s ∷ slots) h k le w = absurd h
-each_right own all behind noted last (c ∷ cs) [] h k le w = absurd h
 each_right own all behind noted last (c ∷ cs) (s ∷ slots) h zero le w = in_order own c all s h.0 w
 each_right own all behind noted last (c ∷ cs) (s ∷ slots) h (suc k) le w =
     each_right own all behind noted last cs slots h.1 k (omega arith) w
+each_right own all behind noted last _ _ h k le w = absurd h
 
 -- the lists of a session
 abbrev lists_of : WorldView → List (List (ℕ × ℕ))
@@ -284,13 +283,12 @@ module _ (a : Audited) where
       h.differs.differs (ap (λ t. slice_get t place) same)
 
   not_faithful : (c : Cause) → IsCause a c → IsFaithful a → ⊥
-  not_faithful (causes.Roster line cause) h k = no_state k.known h k.ordered.form.readable.state_is
-  not_faithful (causes.State line cause) h k = no_state k.known h k.ordered.form.readable.state_is
   not_faithful (causes.Over w) h k = over_not w k.known h.2 k.ordered.form.readable
   not_faithful (causes.Form line) h k = form_not line h.0 k.known h.1 h.2 k.ordered.form
   not_faithful (causes.Order list place) h k = order_not list place h.0 k.known k.world h.1 h.2 k.ordered
   not_faithful (causes.Text place) h k = text_not place k.known k.world h k.ordered k.text
   not_faithful (causes.Next line place) h k = left_not line place h k
+  not_faithful _ h k = no_state k.known h k.ordered.form.readable.state_is
 
   one_order : (l p m q : ℕ) → IsCause a (causes.Order l p) → IsCause a (causes.Order m q) → causes.Order l p ≡ causes.Order m q
   one_order l p m q h k =
@@ -326,56 +324,43 @@ module _ (a : Audited) where
       (subst (λ (e : Known). IsFirstFaulty (length e.starts) (lines_in a.report) m) same k.2))
 
   one_cause : (c d : Cause) → IsCause a c → IsCause a d → c ≡ d
-  one_cause (causes.Roster line cause) (causes.Roster line' cause') h k = cc
-  one_cause (causes.Roster line cause) (causes.State line' cause') h k = absurd cc
-  one_cause (causes.Roster line cause) (causes.Over w) h k = absurd (no_state k.0 h k.1)
-  one_cause (causes.Roster line cause) (causes.Form l) h k = absurd (no_state k.0 h k.1.state_is)
-  one_cause (causes.Roster line cause) (causes.Order l p) h k = absurd (no_state k.0 h k.1.readable.state_is)
-  one_cause (causes.Roster line cause) (causes.Text p) h k = absurd (no_state k.known h k.ordered.form.readable.state_is)
-  one_cause (causes.Roster line cause) (causes.Next l p) h k = absurd (no_state k.known h k.ordered.form.readable.state_is)
-  one_cause (causes.State line cause) (causes.Roster line' cause') h k = absurd cc
-  one_cause (causes.State line cause) (causes.State line' cause') h k = cc
-  one_cause (causes.State line cause) (causes.Over w) h k = absurd (no_state k.0 h k.1)
-  one_cause (causes.State line cause) (causes.Form l) h k = absurd (no_state k.0 h k.1.state_is)
-  one_cause (causes.State line cause) (causes.Order l p) h k = absurd (no_state k.0 h k.1.readable.state_is)
-  one_cause (causes.State line cause) (causes.Text p) h k = absurd (no_state k.known h k.ordered.form.readable.state_is)
-  one_cause (causes.State line cause) (causes.Next l p) h k = absurd (no_state k.known h k.ordered.form.readable.state_is)
-  one_cause (causes.Over w) (causes.Roster line cause) h k = absurd (no_state h.0 k h.1)
-  one_cause (causes.Over w) (causes.State line cause) h k = absurd (no_state h.0 k h.1)
   one_cause (causes.Over w) (causes.Over v) h k =
       ap causes.Over (one_stops (λ input. is_over input ≡ false) (λ input. is_over input ≡ true) never_both 1 w v a.inputs h.2 k.2)
   one_cause (causes.Over w) (causes.Form l) h k = absurd (over_not w k.0 h.2 k.1)
   one_cause (causes.Over w) (causes.Order l p) h k = absurd (over_not w k.0 h.2 k.1.readable)
   one_cause (causes.Over w) (causes.Text p) h k = absurd (over_not w k.known h.2 k.ordered.form.readable)
   one_cause (causes.Over w) (causes.Next l p) h k = absurd (over_not w k.known h.2 k.ordered.form.readable)
-  one_cause (causes.Form l) (causes.Roster line cause) h k = absurd (no_state h.0 k h.1.state_is)
-  one_cause (causes.Form l) (causes.State line cause) h k = absurd (no_state h.0 k h.1.state_is)
+  one_cause (causes.Over w) _ h k = absurd (no_state h.0 k h.1)
   one_cause (causes.Form l) (causes.Over w) h k = absurd (over_not w h.0 k.2 h.1)
   one_cause (causes.Form l) (causes.Form m) h k = one_form l m h k
   one_cause (causes.Form l) (causes.Order m p) h k = absurd (form_not l h.0 k.0 h.1 h.2 k.1)
   one_cause (causes.Form l) (causes.Text p) h k = absurd (form_not l h.0 k.known h.1 h.2 k.ordered.form)
   one_cause (causes.Form l) (causes.Next m p) h k = absurd (form_not l h.0 k.known h.1 h.2 k.ordered.form)
-  one_cause (causes.Order l p) (causes.Roster line cause) h k = absurd (no_state h.0 k h.1.readable.state_is)
-  one_cause (causes.Order l p) (causes.State line cause) h k = absurd (no_state h.0 k h.1.readable.state_is)
+  one_cause (causes.Form l) _ h k = absurd (no_state h.0 k h.1.state_is)
   one_cause (causes.Order l p) (causes.Over w) h k = absurd (over_not w h.0 k.2 h.1.readable)
   one_cause (causes.Order l p) (causes.Form m) h k = absurd (form_not m k.0 h.0 k.1 k.2 h.1)
   one_cause (causes.Order l p) (causes.Order m q) h k = one_order l p m q h k
   one_cause (causes.Order l p) (causes.Text q) h k = absurd (order_not l p h.0 k.known k.world h.1 h.2 k.ordered)
   one_cause (causes.Order l p) (causes.Next m q) h k = absurd (order_not l p h.0 k.known k.world h.1 h.2 k.ordered)
-  one_cause (causes.Text p) (causes.Roster line cause) h k = absurd (no_state h.known k h.ordered.form.readable.state_is)
-  one_cause (causes.Text p) (causes.State line cause) h k = absurd (no_state h.known k h.ordered.form.readable.state_is)
+  one_cause (causes.Order l p) _ h k = absurd (no_state h.0 k h.1.readable.state_is)
   one_cause (causes.Text p) (causes.Over w) h k = absurd (over_not w h.known k.2 h.ordered.form.readable)
   one_cause (causes.Text p) (causes.Form m) h k = absurd (form_not m k.0 h.known k.1 k.2 h.ordered.form)
   one_cause (causes.Text p) (causes.Order m q) h k = absurd (order_not m q k.0 h.known h.world k.1 k.2 h.ordered)
   one_cause (causes.Text p) (causes.Text q) h k = one_text p q h k
   one_cause (causes.Text p) (causes.Next m q) h k = absurd (text_not p k.known k.world h k.ordered k.text)
-  one_cause (causes.Next l p) (causes.Roster line cause) h k = absurd (no_state h.known k h.ordered.form.readable.state_is)
-  one_cause (causes.Next l p) (causes.State line cause) h k = absurd (no_state h.known k h.ordered.form.readable.state_is)
+  one_cause (causes.Text p) _ h k = absurd (no_state h.known k h.ordered.form.readable.state_is)
   one_cause (causes.Next l p) (causes.Over w) h k = absurd (over_not w h.known k.2 h.ordered.form.readable)
   one_cause (causes.Next l p) (causes.Form m) h k = absurd (form_not m k.0 h.known k.1 k.2 h.ordered.form)
   one_cause (causes.Next l p) (causes.Order m q) h k = absurd (order_not m q k.0 h.known h.world k.1 k.2 h.ordered)
   one_cause (causes.Next l p) (causes.Text q) h k = absurd (text_not q h.known h.world k h.ordered h.text)
   one_cause (causes.Next l p) (causes.Next m q) h k = one_left l m p q h k
+  one_cause (causes.Next l p) _ h k = absurd (no_state h.known k h.ordered.form.readable.state_is)
+  one_cause _ (causes.Over w) h k = absurd (no_state k.0 h k.1)
+  one_cause _ (causes.Form l) h k = absurd (no_state k.0 h k.1.state_is)
+  one_cause _ (causes.Order l p) h k = absurd (no_state k.0 h k.1.readable.state_is)
+  one_cause _ (causes.Text p) h k = absurd (no_state k.known h k.ordered.form.readable.state_is)
+  one_cause _ (causes.Next l p) h k = absurd (no_state k.known h k.ordered.form.readable.state_is)
+  one_cause _ _ h k = cc
 
   pub one_verdict : (v w : Verdict) → IsVerdict a v → IsVerdict a w → v ≡ w
   one_verdict Yes Yes h k = refl

@@ -4,6 +4,7 @@ use Rattle.std.specs.Prelude.{◌≤◌, ◌^◌, Option, IfSome}
 use Rattle.std.specs.List.{flat_map, All}
 use Rattle.std.proofs.lemmas.List.Elements.{All-nil, All-cons}
 use Rattle.std.proofs.lemmas.List.{flat_map_more, length-map}
+use Rattle.std.proofs.lemmas.List.Folds.{flat_map-map}
 use Rattle.std.proofs.lemmas.Option.{IfSome_then}
 use Rattle.lists.specs.Each.{Each}
 use Rattle.lists.proofs.Members.{each_push, with_fold}
@@ -80,14 +81,10 @@ left_back own all cs lists slots small few apart so told =
     (record { few = omega arith; apart = subst AreApart (sym (same_addresses own all cs lists slots so)) apart })
     (all_left slots told)
 
-blocks_are : (slots : List SlotView) → flat_map block_text (map known_now slots) ≡ flat_map slot_block slots
-blocks_are [] = refl
-blocks_are (s ∷ slots) = ap (λ t. slot_block s ++ t) (blocks_are slots)
-
 left_is : (own : Address) (slots : List SlotView)
     → left_text own slots ≡ (codes "wmbus-state 1\n" ++ own_text own) ++ flat_map slot_block slots ++ codes "end\n"
 unfolding state_text
-left_is own slots = ap (λ t. (codes "wmbus-state 1\n" ++ own_text own) ++ t ++ codes "end\n") (blocks_are slots)
+left_is own slots = ap (λ t. (codes "wmbus-state 1\n" ++ own_text own) ++ t ++ codes "end\n") (flat_map-map block_text known_now slots)
 
 -- ---- the whole report
 

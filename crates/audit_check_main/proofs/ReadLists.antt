@@ -1,5 +1,5 @@
 -- The lists of the lines read so far, and one line more.
-use Rattle.std.proofs.Common.{◌≡◌, ℕ, zero, suc, ◌+◌, ◌-◌, ◌^◌, ◌<◌, ◌≤◌, ◌&&◌, ◌||◌, not, nat_le, Bool, true, false, cond, List, [], ◌∷◌, ◌++◌, filter, length, get_or, set, reverse, Option, Some, None, refl, sym, ap, ◌∙◌, subst, arith, append_assoc, append-nil, length-append}
+use Rattle.std.proofs.Common.{◌≡◌, ℕ, zero, suc, ◌+◌, ◌-◌, ◌^◌, ◌<◌, ◌≤◌, ◌&&◌, ◌||◌, not, nat_le, Bool, true, false, cond, List, [], ◌∷◌, ◌++◌, filter, length, get_or, set, reverse, Option, Some, refl, sym, ap, ◌∙◌, subst, arith, append_assoc, append-nil, length-append}
 use Rattle.std.specs.Prelude.{is_some}
 use Rattle.std.specs.List.{list_all}
 use Rattle.std.specs.Char.{is_ascii_digit}
@@ -11,10 +11,11 @@ use Rattle.std.proofs.lemmas.Option.{cond_some}
 use Rattle.meter_slots.proofs.JournalLaws.{front_back}
 use Rattle.plain_text.specs.Numbers.{is_plain, number_of}
 use Rattle.plain_text.specs.Parts.{fields_of}
-use Rattle.report_text.specs.Orders.{Told, lines_in, pair_in, meter_heading, strangers_heading, with_steps, with_line, told, orders}
+use Rattle.report_text.specs.Orders.{Told, lines_in, pair_in, meter_heading, strangers_heading, with_steps, told, orders}
+use Rattle.report_text.proofs.LineWalks.{IsKind, told_by, told_is}
 use Rattle.audit_check_main.specs.declared.line_lists.Open.{Open}
 use Rattle.audit_check_main.specs.declared.line_lists.Open.TheVariants as opens
-use Rattle.audit_check_main.specs.Lists.{is_meter, is_strangers, is_step, is_stranger, small_number, both, numbers_in, pair_of, open_in, is_meters, is_of_strangers, is_faulty, AreInForm, as_many, lists_printed}
+use Rattle.audit_check_main.specs.Lists.{is_meter, small_number, both, numbers_in, pair_of, open_in, is_meters, is_of_strangers, is_faulty, AreInForm, as_many, lists_printed}
 use Rattle.audit_check_main.specs.Reading.{ListsRead, onto_last, joined_to, told_above, StandsFor, TakesStep, TakesStranger}
 
 -- ---- the last one of some lists
@@ -26,9 +27,8 @@ module _ {A : Type 0} where
   onto_last-nil (list ∷ next ∷ lists) = ap (λ l. list ∷ l) (onto_last-nil (next ∷ lists))
 
   length-onto_last : (lists : List (List A)) (more : List A) → length (onto_last lists more) ≡ length lists
-  length-onto_last [] more = refl
-  length-onto_last (list ∷ []) more = refl
   length-onto_last (list ∷ next ∷ lists) more = ap suc (length-onto_last (next ∷ lists) more)
+  length-onto_last _ more = refl
 
   onto_later : (list : List A) (lists : List (List A)) (more : List A) (n : ℕ) → length lists ≡ suc n
       → onto_last (list ∷ lists) more ≡ list ∷ onto_last lists more
@@ -43,18 +43,15 @@ module _ {A : Type 0} where
       ∙ ap (λ l. list ∷ l) (onto_last-twice (next ∷ lists) xs ys)
 
   pub onto_last-push : (lists : List (List A)) (xs ys : List A) → onto_last (lists ++ xs ∷ []) ys ≡ lists ++ (xs ++ ys) ∷ []
-  onto_last-push [] xs ys = refl
-  onto_last-push (list ∷ []) xs ys = refl
   onto_last-push (list ∷ next ∷ lists) xs ys = ap (λ l. list ∷ l) (onto_last-push (next ∷ lists) xs ys)
+  onto_last-push _ xs ys = refl
 
   -- a write to the last list
   pub set-last : (lists : List (List A)) (i : ℕ) (d more : List A) → i + 1 ≡ length lists
       → set lists i (get_or lists i d ++ more) ≡ onto_last lists more
-  set-last [] i d more h = absurd (omega arith)
   set-last (list ∷ []) zero d more h = refl
-  set-last (list ∷ []) (suc i) d more h = absurd (omega arith)
-  set-last (list ∷ next ∷ lists) zero d more h = absurd (omega arith)
   set-last (list ∷ next ∷ lists) (suc i) d more h = ap (λ l. list ∷ l) (set-last (next ∷ lists) i d more (omega arith))
+  set-last _ i d more h = absurd (omega arith)
 
 -- ---- pairs
 
@@ -73,9 +70,6 @@ numeral text n h =
     let plain = and_parts _ _ (and_parts _ _ found.0).0 in record { digits = all_digits text plain.0; value = found.1 }
 
 pair_read : (fields : List (List ℕ)) (pair : ℕ × ℕ) → numbers_in fields ≡ Some pair → pair_in fields ≡ pair ∷ []
-pair_read [] pair h = absurd cc
-pair_read (word ∷ []) pair h = absurd cc
-pair_read (word ∷ first ∷ []) pair h = absurd cc
 pair_read (word ∷ first ∷ second ∷ more) pair h = at (small_number first) (small_number second) refl refl h
   where
     by_numbers : (n m : ℕ) → IsNumeral first n → IsNumeral second m → (n, m) ≡ pair → pair_in (word ∷ first ∷ second ∷ more) ≡ pair ∷ []
@@ -85,8 +79,8 @@ pair_read (word ∷ first ∷ second ∷ more) pair h = at (small_number first) 
     at : (a b : Option ℕ) → small_number first ≡ a → small_number second ≡ b → both a b ≡ Some pair
         → pair_in (word ∷ first ∷ second ∷ more) ≡ pair ∷ []
     at (Some n) (Some m) e f g = by_numbers n m (numeral first n e) (numeral second m f) cc
-    at (Some n) None e f g = absurd cc
-    at None b e f g = absurd cc
+    at _ _ e f g = absurd cc
+pair_read _ pair h = absurd cc
 
 -- ---- one line more
 
@@ -96,13 +90,6 @@ form_by meter strangers step stranger most above line =
     cond meter (nat_le most (length (filter is_meter above))) (cond strangers false
     (cond step (not (is_meters (open_in above) && is_some (pair_of line)))
     (cond stranger (not (is_of_strangers (open_in above) && is_some (pair_of line))) false)))
-
--- what kind of line this is
-pub record IsKind (line : List ℕ) (meter strangers step stranger : Bool) : Type 0 where
-  pub meter_is : is_meter line ≡ meter
-  pub strangers_is : is_strangers line ≡ strangers
-  pub step_is : is_step line ≡ step
-  pub stranger_is : is_stranger line ≡ stranger
 
 pub form_is : {m s t r : Bool} (most : ℕ) (above : List (List ℕ)) (line : List ℕ) → IsKind line m s t r
     → is_faulty most above line ≡ form_by m s t r most above line
@@ -116,15 +103,6 @@ opened_by above line k = λ i. cond (k.meter_is i) opens.Meter (cond (k.stranger
 pub counted_by : {m s t r : Bool} (above : List (List ℕ)) (line : List ℕ) → IsKind line m s t r
     → length (filter is_meter (line ∷ above)) ≡ length (cond m (line ∷ filter is_meter above) (filter is_meter above))
 counted_by above line k = λ i. length (cond (k.meter_is i) (line ∷ filter is_meter above) (filter is_meter above))
-
--- what a line of a kind tells, above what the lines below tell
-abbrev told_by : (meter strangers listed : Bool) → List ℕ → Told → Told
-told_by meter strangers listed line below = cond meter (meter_heading below) (cond strangers (strangers_heading below)
-    (cond listed (with_steps (pair_in (fields_of line)) below) below))
-
-told_is : {m s t r : Bool} (line : List ℕ) → IsKind line m s t r → (below : Told) → with_line line below ≡ told_by m s (t || r) line below
-unfolding with_line
-told_is line k below = λ i. told_by (k.meter_is i) (k.strangers_is i) (k.step_is i || k.stranger_is i) line below
 
 module _ (above : List (List ℕ)) (old : ListsRead) (line : List ℕ) (so : StandsFor above old) where
   -- the lists behind a line of a kind
@@ -154,23 +132,20 @@ module _ (above : List (List ℕ)) (old : ListsRead) (line : List ℕ) (so : Sta
       joined : (o : Open) (below : Told)
           → joined_to o old (meter_heading below) ≡ joined_to opens.Meter
           (record { meters = old.meters ++ [] ∷ []; strangers = old.strangers; open_list = opens.Meter }) below
-      joined opens.Nothing below = ap (λ m. record { above = []; meters = m; strangers = old.strangers ++ below.strangers }) (pushed below)
       joined opens.Meter below =
           ap (λ m. record { above = []; meters = m; strangers = old.strangers ++ below.strangers })
           (ap (λ m. m ++ below.above ∷ below.meters) (onto_last-nil old.meters) ∙ pushed below)
-      joined opens.Strangers below =
-          ap (λ m. record { above = []; meters = m; strangers = old.strangers ++ below.strangers }) (pushed below)
+      joined _ below = ap (λ m. record { above = []; meters = m; strangers = old.strangers ++ below.strangers }) (pushed below)
 
   pub after_strangers : {t r : Bool} → IsKind line false true t r
       → StandsFor (line ∷ above) (record { meters = old.meters; strangers = old.strangers; open_list = opens.Strangers })
   after_strangers k = after _ k so.count refl (joined old.open_list)
     where
       joined : (o : Open) (below : Told) → joined_to o old (strangers_heading below) ≡ joined_to opens.Strangers old below
-      joined opens.Nothing below = refl
       joined opens.Meter below =
           ap (λ m. record { above = []; meters = m ++ below.meters; strangers = old.strangers ++ (below.above ++ below.strangers) })
           (onto_last-nil old.meters)
-      joined opens.Strangers below = refl
+      joined _ below = refl
 
   -- a line of a list, with the pair that it names
   listed : (pair : ℕ × ℕ) → pair_of line ≡ Some pair → (below : Told)
@@ -211,15 +186,6 @@ module _ (above : List (List ℕ)) (old : ListsRead) (line : List ℕ) (so : Sta
       → (is_of_strangers old.open_list && is_some (pair_of line)) ≡ b → is_faulty most above line ≡ not b
   faulty_stranger most b k e =
       form_is most above line k ∙ (ap (λ o. not (is_of_strangers o && is_some (pair_of line))) (sym so.open_is) ∙ ap not e)
-
--- a step and a stranger's line that are taken stand in their lists
-pub step_placed : (line : List ℕ) (old new : ListsRead) → TakesStep line old new
-    → (is_meters old.open_list && is_some (pair_of line)) ≡ true
-step_placed line old new takes = (λ i. is_meters (takes.is_open i) && is_some (takes.names i))
-
-pub stranger_placed : (line : List ℕ) (old new : ListsRead) → TakesStranger line old new
-    → (is_of_strangers old.open_list && is_some (pair_of line)) ≡ true
-stranger_placed line old new takes = (λ i. is_of_strangers (takes.is_open i) && is_some (takes.names i))
 
 -- ---- all lines
 
@@ -270,7 +236,6 @@ orders_read most text left number lists so none =
     (λ i. as_many most (both i).meters ++ (both i).strangers ∷ [])
   where
     ended : (o : Open) → joined_to o lists no_lines ≡ record { above = []; meters = lists.meters; strangers = lists.strangers }
-    ended opens.Nothing = (λ i. record { above = []; meters = append-nil lists.meters i; strangers = append-nil lists.strangers i })
     ended opens.Meter =
         (λ i. record {
           above = [];
@@ -278,7 +243,7 @@ orders_read most text left number lists so none =
               ∙ append-nil lists.meters) i;
           strangers = append-nil lists.strangers i;
         })
-    ended opens.Strangers = (λ i. record { above = []; meters = append-nil lists.meters i; strangers = append-nil lists.strangers i })
+    ended _ = (λ i. record { above = []; meters = append-nil lists.meters i; strangers = append-nil lists.strangers i })
 
 -- ---- as many lists as there are meters
 
@@ -289,6 +254,5 @@ as_many-push (suc n) (list ∷ lists) h = ap (λ l. list ∷ l) (as_many-push n 
 
 pub as_many-all : {A : Type 0} (n : ℕ) (lists : List (List A)) → length lists ≡ n → as_many n lists ≡ lists
 as_many-all zero [] h = refl
-as_many-all zero (list ∷ lists) h = absurd (omega arith)
-as_many-all (suc n) [] h = absurd (omega arith)
 as_many-all (suc n) (list ∷ lists) h = ap (λ l. list ∷ l) (as_many-all n lists (omega arith))
+as_many-all _ _ h = absurd (omega arith)

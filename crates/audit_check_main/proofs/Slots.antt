@@ -17,15 +17,10 @@ module _ (own : Address) (all : List (List Told)) where
       → IsOrderedSlot own all c order slot → AreOrderedSlots own all cs lists slots → P cs lists slots
       → P (c ∷ cs) (order ∷ lists) (slot ∷ slots))
       → (cs : List Start) (lists : List (List (ℕ × ℕ))) (slots : List SlotView) → AreOrderedSlots own all cs lists slots → P cs lists slots
-  slots_fold P none one [] [] [] h = none []
-  slots_fold P none one [] (order ∷ lists) [] h = none (order ∷ lists)
-  slots_fold P none one [] [] (s ∷ slots) h = absurd h
-  slots_fold P none one [] (order ∷ lists) (s ∷ slots) h = absurd h
-  slots_fold P none one (c ∷ cs) [] [] h = absurd h
-  slots_fold P none one (c ∷ cs) [] (s ∷ slots) h = absurd h
-  slots_fold P none one (c ∷ cs) (order ∷ lists) [] h = absurd h
+  slots_fold P none one [] lists [] h = none lists
   slots_fold P none one (c ∷ cs) (order ∷ lists) (slot ∷ slots) h =
       one c order slot cs lists slots h.0 h.1 (slots_fold P none one cs lists slots h.1)
+  slots_fold P none one _ _ _ h = absurd h
 
   slots_push : (c : Start) (slot : SlotView) (cs : List Start) (lists : List (List (ℕ × ℕ))) (slots : List SlotView)
       → AreOrderedSlots own all cs lists slots → length cs < length lists
@@ -37,8 +32,7 @@ module _ (own : Address) (all : List (List Told)) where
       first : (lists : List (List (ℕ × ℕ))) → 0 < length lists → IsOrderedSlot own all c (get_or lists 0 []) slot
           → AreOrderedSlots own all (c ∷ []) lists (slot ∷ [])
       first [] few is = absurd (omega arith)
-      first (order ∷ []) few is = (is, tt)
-      first (order ∷ next ∷ lists) few is = (is, tt)
+      first (order ∷ lists) few is = (is, tt)
 
   pub order_at : (cs : List Start) (lists : List (List (ℕ × ℕ))) (i : ℕ) (d : Start) → IsOrderOfEach all cs lists
       → i < length cs → IsOrderOf (get_or cs i d).address all (get_or lists i [])
@@ -48,8 +42,7 @@ module _ (own : Address) (all : List (List Told)) where
   order_at (c ∷ cs) (order ∷ lists) (suc i) d h inside = order_at cs lists i d h.1 (omega arith)
 
   pub slots_none : (lists : List (List (ℕ × ℕ))) → AreOrderedSlots own all [] lists []
-  slots_none [] = tt
-  slots_none (order ∷ lists) = tt
+  slots_none lists = tt
 
   pub slots_more : (cs : List Start) (i : ℕ) (c : Start) (lists : List (List (ℕ × ℕ))) (slots : List SlotView)
       (slot : SlotView) → AreOrderedSlots own all (take i cs) lists slots → i < length cs → length cs < length lists

@@ -161,8 +161,7 @@ event_if a false line address event p is e = absurd cc
 
 event_fits : (a : Address) (line : ℕ) (t : Told) (p : ℕ × Event) → event_at a line t ≡ Some p → (p.0 ≡ line) × HasEvent a t p.1
 event_fits a line (told.Event address event) p e = event_if a (a.0 == address.0) line address event p refl e
-event_fits a line told.Unframed p e = absurd cc
-event_fits a line told.Bad p e = absurd cc
+event_fits a line _ p e = absurd cc
 
 -- what an entry's line is, and what it tells
 abbrev pub entry_pair : Entry → ℕ × ℕ

@@ -1,5 +1,5 @@
 -- What the parts of an audit come to.
-use Rattle.std.proofs.Common.{◌≡◌, ℕ, zero, suc, ◌+◌, ◌<◌, ◌≤◌, ◌&&◌, ◌||◌, Bool, true, false, cond, List, [], ◌∷◌, ◌++◌, map, length, drop, get_or, reverse, Result, Ok, Err, IfOk, refl, sym, ap, ◌∙◌, subst, arith, length-append}
+use Rattle.std.proofs.Common.{◌≡◌, ℕ, zero, suc, ◌+◌, ◌<◌, ◌≤◌, ◌&&◌, ◌||◌, Bool, true, false, cond, List, [], ◌∷◌, ◌++◌, map, length, drop, get_or, Result, Ok, Err, IfOk, refl, sym, ap, ◌∙◌, subst, arith, length-append}
 use Rattle.std.specs.Prelude.{codes, Option, Some, None, IfSome}
 use Rattle.std.specs.Str.{all_ascii_digits}
 use Rattle.std.specs.Str.Parse.{digits_value}
@@ -12,9 +12,8 @@ use Rattle.meter_address.specs.declared.address.Address.{Address}
 use Rattle.meter_slots.specs.declared.counts.Ended.TheVariants as ends
 use Rattle.meter_slots.specs.Journal.{Start, SlotView}
 use Rattle.meter_slots.specs.World.{WorldView}
-use Rattle.stranger_ring.specs.declared.strangers.Heard.{Heard}
 use Rattle.receivers.specs.declared.told.Told.{Told}
-use Rattle.receivers.specs.Orders.{order_of, numbers_by, IsOrderOfStrangers, AreOrderedStrangers}
+use Rattle.receivers.specs.Orders.{order_of, numbers_by, IsOrderOfStrangers}
 use Rattle.receivers.specs.Session.{heard_by, lines_for, lines_of_strangers, IsSession}
 use Rattle.receivers.specs.Classes.{counts_of}
 use Rattle.receivers.specs.Told.{told_of}
@@ -27,15 +26,15 @@ use Rattle.state_file.specs.Whole.{Known, state_of}
 use Rattle.audit_check_main.specs.declared.verdict.Cause.TheVariants as causes
 use Rattle.audit_check_main.specs.declared.verdict.Verdict.{Verdict}
 use Rattle.audit_check_main.specs.declared.verdict.Verdict.TheVariants.{Yes, No}
-use Rattle.audit_check_main.specs.Audit.{Audited, told_in, heard_out, report_of, IsReadable, IsInForm, IsOrdered, IsVerdict}
-use Rattle.audit_check_main.specs.Auditing.{IsCompared, IsStepped, IsVerdictBy}
+use Rattle.audit_check_main.specs.Audit.{Audited, told_in, heard_out, report_of, IsInForm, IsOrdered, IsVerdict}
+use Rattle.audit_check_main.specs.Auditing.{IsCompared, IsStepped, AreListsRead, IsVerdictBy}
 use Rattle.audit_check_main.specs.Printing.{end_of}
 use Rattle.audit_check_main.specs.Difference.{DiffersAt}
-use Rattle.audit_check_main.specs.Leaving.{IsLeftBy, IsReadBack, left_text}
+use Rattle.audit_check_main.specs.Leaving.{IsLeftBy, left_text}
 use Rattle.audit_check_main.specs.Hearing.{HeardInput, heard_input, tells, no_input, numbers_in_list}
-use Rattle.audit_check_main.specs.Lists.{AreInForm, as_many, lists_printed}
+use Rattle.audit_check_main.specs.Lists.{as_many, lists_printed}
 use Rattle.audit_check_main.specs.Order.{numbers_for, wanted, IsRight, IsFirstWrong}
-use Rattle.audit_check_main.specs.Stepping.{AreOrderedSlots, AreOrders, IsOrderOfEach}
+use Rattle.audit_check_main.specs.Stepping.{AreOrders, IsOrderOfEach}
 use Rattle.audit_check_main.proofs.ReadLists.{as_many-all}
 use Rattle.audit_check_main.proofs.Slots.{meters_slots, slots_orders, as_many_slots}
 use Rattle.audit_check_main.proofs.Steps.{heard_none, heard_suc}
@@ -64,14 +63,10 @@ ends_all cs (x ∷ inputs) h =
 -- ---- numbers of lines
 
 nothing_heard : (cs : List Start) (k : ℕ) → get_or (numbers_for cs []) k [] ≡ []
-nothing_heard cs k = at cs k
-  where
-    at : (cs : List Start) (k : ℕ)
-        → get_or (map (λ (c : Start). map (λ l. l.0) (lines_for c.address [])) cs ++ [] ∷ []) k [] ≡ []
-    at [] zero = refl
-    at [] (suc k) = refl
-    at (c ∷ cs) zero = refl
-    at (c ∷ cs) (suc k) = at cs k
+nothing_heard [] zero = refl
+nothing_heard [] (suc k) = refl
+nothing_heard (c ∷ cs) zero = refl
+nothing_heard (c ∷ cs) (suc k) = nothing_heard cs k
 
 numbers_at : (cs : List Start) (inputs : List (List ℕ)) → Each (λ input. is_over input ≡ false) inputs → (k v : ℕ)
     → get_or (get_or (map (heard_input cs) inputs) v no_input).lists k [] ≡ get_or (numbers_for cs (get_or (map told_in inputs) v [])) k []
@@ -121,25 +116,6 @@ module _ (cs : List Start) (inputs : List (List ℕ)) (within : Each (λ input. 
       ∙ get_or_push (map (own_numbers all w) cs) (map (λ l. l.0) (lines_of_strangers cs (heard_by w all))) [] (length cs)
       (length-map cs (own_numbers all w))
 
--- where all lists are right by what all inputs told, each is an order of its lines
-pub orders_are : (cs : List Start) (inputs : List (List ℕ)) (before heard : List HeardInput) (lists : List (List (ℕ × ℕ)))
-    → Each (λ input. is_over input ≡ false) inputs → before ≡ heard → heard ≡ map (heard_input cs) inputs → length lists ≡ length cs + 1
-    → ((k : ℕ) → k < length lists → IsRight (numbers_in_list before k) (get_or lists k [])) → AreOrders cs heard lists
-orders_are cs inputs before heard lists within same heard_is long right =
-    let right_there =
-    subst (λ (h : List HeardInput). (k : ℕ) → k < length lists → IsRight (numbers_in_list h k) (get_or lists k []))
-    (same ∙ heard_is) right in
-    subst (λ (h : List HeardInput). AreOrders cs h lists) (sym heard_is) (record {
-      meters_lists = orders_right cs inputs within lists long right_there;
-      strangers_list = strangers_right cs inputs within lists long right_there;
-    })
-
--- what holds of a verdict that is found holds of it when it is answered
-pub told_are : {E F : Type 0} (found : Result Verdict E) (result : Result Verdict F) (P : Verdict → Type 0)
-    → ((v : Verdict) → result ≡ Ok v → found ≡ Ok v) → IfOk found P → IfOk result P
-told_are found (Err e) P same h = tt
-told_are found (Ok v) P same h = subst (λ r. IfOk r P) (same v refl) h
-
 -- ---- as many lists as there are meters, and one
 
 length-as_many : {A : Type 0} (n : ℕ) (lists : List (List A)) → length (as_many n lists) ≡ n
@@ -159,15 +135,13 @@ abbrev size : text.Told → ℕ
 size t = length t.above + sizes t.meters + length t.strangers
 
 pair_short : (fields : List (List ℕ)) → length (pair_in fields) ≤ 1
-pair_short [] = omega arith
-pair_short (word ∷ []) = omega arith
-pair_short (word ∷ first ∷ []) = omega arith
 pair_short (word ∷ first ∷ second ∷ more) =
     one_if (all_ascii_digits first && all_ascii_digits second) (digits_value 10 first, digits_value 10 second)
   where
     one_if : (b : Bool) (p : ℕ × ℕ) → length (cond b (p ∷ []) []) ≤ 1
     one_if true p = omega arith
     one_if false p = omega arith
+pair_short _ = omega arith
 
 with_line_size : (line : List ℕ) (below : text.Told) → size (with_line line below) ≤ 1 + size below
 unfolding with_line
@@ -191,10 +165,9 @@ list_size : (n : ℕ) (lists : List (List (ℕ × ℕ))) (behind : List (ℕ × 
     → length (get_or (as_many n lists ++ behind ∷ []) k []) ≤ sizes lists + length behind
 list_size zero lists behind zero = omega arith
 list_size zero lists behind (suc k) = omega arith
-list_size (suc n) [] behind zero = omega arith
 list_size (suc n) [] behind (suc k) = list_size n [] behind k
-list_size (suc n) (list ∷ lists) behind zero = omega arith
 list_size (suc n) (list ∷ lists) behind (suc k) = let l = list_size n lists behind k in omega arith
+list_size _ lists behind _ = omega arith
 
 pub list_short : (n : ℕ) (report : List ℕ) (k : ℕ) → length (get_or (lists_printed n (orders report)) k []) ≤ length (lines_in report)
 list_short n report k =
@@ -202,75 +175,78 @@ list_short n report k =
 
 -- ---- verdicts
 
-module _ (r : Known) (text : List ℕ) (next : Option (List ℕ)) (report : List ℕ) (inputs : List (List ℕ)) (state_is : state_of text ≡ Ok r)
-    (within : Each (λ input. is_over input ≡ false) inputs) where
-  abbrev audited : Audited
-  audited = record { state = text; next = next; report = report; inputs = inputs }
+module _ {r : Known} {report : List ℕ} {inputs : List (List ℕ)} {lists : List (List (ℕ × ℕ))} (read : AreListsRead r report inputs lists) where
+  pub as_long : length lists ≡ length r.starts + 1
+  as_long = ap length read.lists_are ∙ length-lists_printed (length r.starts) (orders report)
 
-  readable : IsReadable audited r
-  readable = record { state_is = state_is; within = within }
+  -- where all lists are right by what all inputs told, each is an order of its lines
+  pub orders_are : (before heard : List HeardInput) → before ≡ map (heard_input r.starts) inputs → heard ≡ map (heard_input r.starts) inputs
+      → ((k : ℕ) → k < length lists → IsRight (numbers_in_list before k) (get_or lists k [])) → AreOrders r.starts heard lists
+  orders_are before heard before_is heard_is right =
+      let right_there =
+      subst (λ (h : List HeardInput). (k : ℕ) → k < length lists → IsRight (numbers_in_list h k) (get_or lists k [])) before_is right in
+      subst (λ (h : List HeardInput). AreOrders r.starts h lists) (sym heard_is) (record {
+        meters_lists = orders_right r.starts inputs read.within lists as_long right_there;
+        strangers_list = strangers_right r.starts inputs read.within lists as_long right_there;
+      })
 
-  module _ (in_form : AreInForm (length r.starts) (reverse (lines_in report))) (lists : List (List (ℕ × ℕ)))
-      (lists_are : lists ≡ lists_printed (length r.starts) (orders report)) where
+  module _ (text : List ℕ) (next : Option (List ℕ)) (state_is : state_of text ≡ Ok r) where
+    abbrev audited : Audited
+    audited = record { state = text; next = next; report = report; inputs = inputs }
+
     form : IsInForm audited r
-    form = record { readable = readable; in_form = in_form }
+    form = record { readable = record { state_is = state_is; within = read.within }; in_form = read.in_form }
 
-    pub first_wrong_is : (list place : ℕ) → IsFirstWrong (numbers_in_list (map (heard_input r.starts) inputs)) lists list place
-        → IsVerdict audited (No (causes.Order list place))
-    first_wrong_is list place wrong =
-        let numbers : numbers_in_list (map (heard_input r.starts) inputs) ≡ wanted r.starts (map told_in inputs) =
-        (λ i k w. numbers_same r.starts inputs within k w i) in (
+    pub first_wrong_is : (heard : List HeardInput) → heard ≡ map (heard_input r.starts) inputs → (list place : ℕ)
+        → IsFirstWrong (numbers_in_list heard) lists list place → IsVerdict audited (No (causes.Order list place))
+    first_wrong_is heard heard_is list place wrong =
+        let numbers : numbers_in_list heard ≡ wanted r.starts (map told_in inputs) =
+        ap numbers_in_list heard_is ∙ (λ i k w. numbers_same r.starts inputs read.within k w i) in (
           r,
           form,
-          subst (λ l. IsFirstWrong (wanted r.starts (map told_in inputs)) l list place) lists_are
+          subst (λ l. IsFirstWrong (wanted r.starts (map told_in inputs)) l list place) read.lists_are
               (subst (λ f. IsFirstWrong f lists list place) numbers wrong),
         )
 
-    module _ (slots : List SlotView) (strangers : List Heard) (so : AreOrderedSlots r.own (map tells (map (heard_input r.starts) inputs))
-        r.starts lists slots)
-        (noted : AreOrderedStrangers r.starts (map tells (map (heard_input r.starts) inputs)) (get_or lists (length r.starts) [])
-        strangers) where
+    module _ {v : Verdict} (there : IsStepped r.own r.starts (map (heard_input r.starts) inputs) lists report next v) where
       abbrev world : WorldView
-      world = record { slots = slots; strangers = strangers }
+      world = record { slots = there.slots; strangers = there.strangers }
 
       session : IsSession r.own r.starts (map told_in inputs) world
       session =
-          subst (λ all. IsSession r.own r.starts all world) (tells_all r.starts inputs within)
-          (record { meters = meters_slots _ _ r.starts lists slots so; strangers = noted.lines })
+          subst (λ all. IsSession r.own r.starts all world) (tells_all r.starts inputs read.within)
+          (record { meters = meters_slots _ _ r.starts lists there.slots there.so; strangers = there.noted.lines })
 
       lists_end : {X : Type 0} (n : ℕ) (xs : List X) (d : X) → length xs ≡ n + 1 → drop n xs ≡ get_or xs n d ∷ []
       lists_end n xs d h = drop_more xs n d (omega arith) ∙ ap (λ l. get_or xs n d ∷ l) (drop_all (n + 1) xs (omega arith))
 
-      printed : lists_printed (length r.starts) (orders report) ≡ lists_printed (length r.starts) (orders_of slots strangers)
+      printed : lists_printed (length r.starts) (orders report) ≡ lists_printed (length r.starts) (orders_of there.slots there.strangers)
       printed =
-          let long : length lists ≡ length r.starts + 1 = ap length lists_are ∙ length-lists_printed (length r.starts) (orders report) in
-          let many : length (map (λ (s : SlotView). order_of s.journal) slots) ≡ length r.starts =
-          length-map slots (λ (s : SlotView). order_of s.journal)
-          ∙ as_many_slots _ _ r.starts slots (meters_slots _ _ r.starts lists slots so) in
-          sym lists_are ∙ (slots_orders _ _ r.starts lists slots so
-          ∙ (λ i. sym (as_many-all (length r.starts) (map (λ (s : SlotView). order_of s.journal) slots) many) i
-          ++ (lists_end (length r.starts) lists [] long ∙ ap (λ o. o ∷ []) (sym noted.in_order)) i))
+          let many : length (map (λ (s : SlotView). order_of s.journal) there.slots) ≡ length r.starts =
+          length-map there.slots (λ (s : SlotView). order_of s.journal)
+          ∙ as_many_slots _ _ r.starts there.slots (meters_slots _ _ r.starts lists there.slots there.so) in
+          sym read.lists_are ∙ (slots_orders _ _ r.starts lists there.slots there.so
+          ∙ (λ i. sym (as_many-all (length r.starts) (map (λ (s : SlotView). order_of s.journal) there.slots) many) i
+          ++ (lists_end (length r.starts) lists [] as_long ∙ ap (λ o. o ∷ []) (sym there.noted.in_order)) i))
 
       ordered : IsOrdered audited r world
       ordered = record { form = form; session = session; printed = printed }
 
-      text_is : report_text (map end_of (map (heard_input r.starts) inputs)) slots strangers ≡ report_of audited r world
-      text_is = ap (λ e. report_text e slots strangers) (ends_all r.starts inputs within)
+      text_is : report_text (map end_of (map (heard_input r.starts) inputs)) there.slots there.strangers ≡ report_of audited r world
+      text_is = ap (λ e. report_text e there.slots there.strangers) (ends_all r.starts inputs read.within)
 
-      left_by : (n : Option (List ℕ)) → IsReadBack r.own slots → IfSome n (λ t. t ≡ left_text r.own slots)
-          → IfSome n (IsLeftBy r.own slots)
-      left_by None back h = tt
-      left_by (Some t) back h = record { text_is = h; read_back = back }
+      left_by : (n : Option (List ℕ)) → IfSome n (λ t. t ≡ left_text r.own there.slots) → IfSome n (IsLeftBy r.own there.slots)
+      left_by None h = tt
+      left_by (Some t) h = record { text_is = h; read_back = there.read_back }
 
-      pub compared_is : (verdict : Verdict) → IsReadBack r.own slots
-          → IsCompared report (report_text (map end_of (map (heard_input r.starts) inputs)) slots strangers) next (left_text r.own slots)
-          verdict
+      pub compared_is : (verdict : Verdict)
+          → IsCompared report (report_text (map end_of (map (heard_input r.starts) inputs)) there.slots there.strangers) next
+          (left_text r.own there.slots) verdict
           → IsVerdict audited verdict
-      compared_is Yes back h =
-          record { known = r; world = world; ordered = ordered; text = h.0 ∙ text_is; left = left_by next back h.1 }
-      compared_is (No (causes.Text place)) back h =
+      compared_is Yes h = record { known = r; world = world; ordered = ordered; text = h.0 ∙ text_is; left = left_by next h.1 }
+      compared_is (No (causes.Text place)) h =
           record { known = r; world = world; ordered = ordered; differs = subst (λ t. DiffersAt place report t) text_is h }
-      compared_is (No (causes.Next line place)) back h = record {
+      compared_is (No (causes.Next line place)) h = record {
         known = r;
         world = world;
         ordered = ordered;
@@ -280,29 +256,21 @@ module _ (r : Known) (text : List ℕ) (next : Option (List ℕ)) (report : List
         line_is = h.1.line_is;
         differs = h.1.differs;
       }
-      compared_is (No (causes.Roster line cause)) back h = absurd h.1
-      compared_is (No (causes.State line cause)) back h = absurd h.1
-      compared_is (No (causes.Over w)) back h = absurd h.1
-      compared_is (No (causes.Form line)) back h = absurd h.1
-      compared_is (No (causes.Order list place)) back h = absurd h.1
+      compared_is _ h = absurd h.1
 
-    pub stepped_is : {E : Type 0} (result : Result Verdict E) (own : Address) (meters : List Start) (heard : List HeardInput)
-        → own ≡ r.own → meters ≡ r.starts
-        → IfOk result (λ v. (heard ≡ map (heard_input meters) inputs) × IsStepped own meters heard lists report next v)
-        → IfOk result (IsVerdict audited)
-    stepped_is result own meters heard own_is meters_are = IfOk-weaker result
-        (λ v. (heard ≡ map (heard_input meters) inputs) × IsStepped own meters heard lists report next v) (IsVerdict audited) (λ verdict h.
-        let heard_is = subst (λ m. heard ≡ map (heard_input m) inputs) meters_are h.0 in
-        let there = subst (λ o. IsStepped o r.starts (map (heard_input r.starts) inputs) lists report next verdict) own_is
-        (subst (λ m. IsStepped own m (map (heard_input r.starts) inputs) lists report next verdict) meters_are
-        (subst (λ k. IsStepped own meters k lists report next verdict) heard_is h.1)) in
-        compared_is there.slots there.strangers there.so there.noted verdict there.read_back there.compared)
-
--- the verdict of each state's text
-pub for_each_text : {E T : Type 0} {Q : T → Type 0} (result : Result Verdict E) (P : T → Verdict → Type 0)
-    → ((t : T) → Q t → IfOk result (P t)) → IfOk result (λ v. (t : T) → Q t → P t v)
-for_each_text (Err e) P h = tt
-for_each_text (Ok v) P h = h
+  -- what is found of the lists is answered
+  pub judged : {E F : Type 0} (next : Option (List ℕ)) (found : Result Verdict E) (result : Result Verdict F) (before heard : List HeardInput)
+      → before ≡ map (heard_input r.starts) inputs → heard ≡ map (heard_input r.starts) inputs
+      → ((k : ℕ) → k < length lists → IsRight (numbers_in_list before k) (get_or lists k []))
+      → ((v : Verdict) → result ≡ Ok v → found ≡ Ok v)
+      → IfOk found (λ v. AreOrders r.starts heard lists → IsStepped r.own r.starts heard lists report next v)
+      → IfOk result (IsVerdictBy r next report inputs)
+  judged next found (Err e) before heard before_is heard_is right same stepped = tt
+  judged next found (Ok v) before heard before_is heard_is right same stepped = λ text state_is.
+      let found_so = subst (λ f. IfOk f (λ v. AreOrders r.starts heard lists → IsStepped r.own r.starts heard lists report next v)) (same v refl)
+      stepped (orders_are before heard before_is heard_is right) in
+      let there = subst (λ h. IsStepped r.own r.starts h lists report next v) heard_is found_so in
+      compared_is text next state_is there v there.compared
 
 -- the verdict on the text of a state that was read
 pub verdict_by : {E : Type 0} (result : Result Verdict E) (s : Known) (own : Address) (starts : List Start) (text : List ℕ)

@@ -1,6 +1,6 @@
 -- Pieces of text hold no newline.
-use Rattle.std.proofs.Common.{◌≡◌, ℕ, zero, suc, ◌+◌, ◌/◌, ◌%◌, ◌<◌, ◌==◌, nat_lt, Bool, true, false, cond, ◌&&◌, not, List, [], ◌∷◌, get_or}
-use Rattle.std.proofs.Common.{Option, Some, None, ap, refl, arith}
+use Rattle.std.proofs.Common.{◌≡◌, ℕ, zero, suc, ◌+◌, ◌/◌, ◌%◌, ◌<◌, ◌==◌, nat_lt, Bool, true, false, cond, ◌&&◌, not, List, [], ◌∷◌}
+use Rattle.std.proofs.Common.{get_or, Option, Some, None, ap, refl, arith}
 use Rattle.std.specs.Prelude.{codes}
 use Rattle.std.specs.List.{list_all}
 use Rattle.std.specs.Fmt.{decimal, digits, digits_onto, digit_glyph}
@@ -111,3 +111,6 @@ worded_bytes h bytes = h ⌢ hex bytes
 pub piece_if : {A : Type 0} (text : A → List ℕ) → ((a : A) → IsWithout 10 (text a)) → (o : Option A) → IsWithout 10 (text_if text o)
 piece_if text h None = literal [] refl
 piece_if text h (Some a) = h a
+
+-- that a text of such pieces holds no newline
+pub ruleset pieces = (◌⌢◌, literal, hex_or_dash, number_or_dash, worded_number, worded_two, worded_if, worded_bytes)

@@ -15,16 +15,14 @@ use Rattle.record_text.specs.RecordText.{more_text, next_text, listed, records_t
 use Rattle.unit_text.specs.Pieces.{register_text, unit_text}
 use Rattle.report_text.proofs.LineWalks.{IsWithout, ◌⌢◌, literal, Others, no_others, ◌⨟◌, one_other}
 use Rattle.paper.specs.Pieces.{labelled_bytes}
-use Rattle.report_text.proofs.LinePieces.{hex_or_dash, worded_number, worded_bytes}
+use Rattle.report_text.proofs.LinePieces.{hex_or_dash, worded_number, worded_bytes, pieces}
 use Rattle.report_text.proofs.PlainTexts.{in_line, signed_plain, function_plain, quantity_plain, name_plain, value_plain}
 
 -- ---- lines
 
 register_is : (storage tariff subunit : ℕ) → IsWithout 10 (register_text storage tariff subunit)
 unfolding register_text
-register_is storage tariff subunit =
-    worded_number (literal (codes " ") refl) storage ⌢ worded_number (literal (codes " ") refl) tariff
-    ⌢ worded_number (literal (codes " ") refl) subunit
+register_is storage tariff subunit = search pieces
 
 place_is : (span : RecordSpan) → IsWithout 10 (place_text span)
 unfolding place_text
@@ -32,15 +30,11 @@ place_is span = in_line (function_plain span.function) ⌢ register_is span.stor
 
 unit_is : (quantity : Quantity) (name : UnitName) (exponent : ℤ) → IsWithout 10 (unit_text quantity name exponent)
 unfolding unit_text
-unit_is quantity name exponent =
-    literal (codes " ") refl ⌢ in_line (quantity_plain quantity) ⌢ literal (codes " ") refl ⌢ in_line (name_plain name)
-    ⌢ literal (codes " ") refl ⌢ in_line (signed_plain exponent)
+unit_is quantity name exponent = search (pieces, in_line, quantity_plain, name_plain, signed_plain) depth 9
 
 data_is : (modifiers : List ℕ) (v : Value) (sent : List ℕ) → IsWithout 10 (data_text modifiers v sent)
 unfolding data_text
-data_is modifiers v sent =
-    literal (codes " ") refl ⌢ hex_or_dash modifiers ⌢ literal (codes " ") refl ⌢ in_line (value_plain v)
-    ⌢ literal (codes " ") refl ⌢ hex_or_dash sent
+data_is modifiers v sent = search (pieces, in_line, value_plain) depth 9
 
 record_others : (bytes : List ℕ) (span : RecordSpan) → Others (record_line bytes span)
 unfolding record_line
@@ -63,11 +57,8 @@ span_others : (bytes : List ℕ) (span : RecordSpan) → Others (span_line bytes
 span_others bytes span = one_of span.maker (maker_others bytes span) (record_others bytes span)
 
 fault_is : (fault : RecordFault) → IsWithout 10 (fault_text fault)
-fault_is (Truncated place) = worded_number (literal (codes "truncated ") refl) place
-fault_is (TooManyExtensions place) = worded_number (literal (codes "extensions ") refl) place
-fault_is (Lvar lvar) = worded_bytes (literal (codes "lvar ") refl) (lvar ∷ [])
-fault_is (Selection place) = worded_number (literal (codes "selection ") refl) place
-fault_is (Special dif) = worded_bytes (literal (codes "special ") refl) (dif ∷ [])
+fault_is (Truncated place) = search pieces
+fault_is _ = search pieces
 
 fault_others : (fault : RecordFault) → Others (fault_line fault)
 unfolding fault_line

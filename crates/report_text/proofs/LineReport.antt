@@ -26,7 +26,7 @@ use Rattle.report_text.specs.Report.{ended_text, counts_text, receiver_text, mod
 use Rattle.report_text.specs.Report.{readings_after, steps_text, last_text, pending_text, journal_text, orders_now, meter_text}
 use Rattle.report_text.specs.Report.{stranger_text, ring_text, strangers_text, report_text}
 use Rattle.report_text.proofs.LineWalks.{IsWithout, ◌⌢◌, literal, Tells, nothing, ◌⨾◌, one_line, same_text, Others, no_others, ◌⨟◌, one_other, others_pass}
-use Rattle.report_text.proofs.LinePieces.{letters, number_or_dash, worded_number, worded_two, worded_bytes}
+use Rattle.report_text.proofs.LinePieces.{letters, number_or_dash, worded_number, worded_two, worded_bytes, pieces}
 use Rattle.report_text.proofs.LineOutcomes.{outcome_is}
 use Rattle.report_text.proofs.LineRecords.{records_others}
 use Rattle.report_text.proofs.LineSteps.{step_line, stranger_line}
@@ -49,10 +49,7 @@ ended_is _ = record { passed = refl }
 
 counts_is : (n : Counts) → IsWithout 10 (counts_text n)
 unfolding counts_text
-counts_is n =
-    worded_number (literal (codes " lines ") refl) n.lines ⌢ worded_number (literal (codes " own ") refl) n.own ⌢ worded_number
-    (literal (codes " strangers ") refl) n.strangers
-    ⌢ worded_number (literal (codes " unframed ") refl) n.unframed ⌢ worded_number (literal (codes " bad ") refl) n.bad
+counts_is n = search pieces depth 9
 
 pub receiver_others : (r : ℕ × ReceiverEnd) → Others (receiver_text r)
 unfolding receiver_text labelled
@@ -67,9 +64,7 @@ mode_is Seven = literal (codes "7") refl
 
 pub commission_is : (a : Address) (mode : Mode) → IsWithout 10 (commission_text a mode)
 unfolding commission_text
-commission_is a mode =
-    worded_bytes (literal (codes "meter ") refl) (bytes_of a) ⌢ literal (codes " ") refl ⌢ letters a ⌢ literal
-    (codes " mode ") refl ⌢ mode_is mode
+commission_is a mode = search (pieces, letters, mode_is) depth 9
 
 -- a meter's line without its newline
 abbrev pub numbers_front : Option ℕ → ℕ → ℕ → ℕ → List ℕ
@@ -78,10 +73,7 @@ numbers_front last down steps kept =
     (codes " readings ") kept
 
 pub numbers_is : (last : Option ℕ) (down steps kept : ℕ) → IsWithout 10 (numbers_front last down steps kept)
-numbers_is last down steps kept =
-    literal (codes " last ") refl ⌢ number_or_dash last ⌢ worded_number (literal (codes " down ") refl) down ⌢ worded_number
-    (literal (codes " steps ") refl) steps
-    ⌢ worded_number (literal (codes " readings ") refl) kept
+numbers_is last down steps kept = search pieces depth 9
 
 meter_line : (a : Address) (mode : Mode) (last : Option ℕ) (down steps kept : ℕ)
     → Tells (commission_text a mode ++ numbers_text last down steps kept) meter_heading

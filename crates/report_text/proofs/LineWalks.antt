@@ -121,7 +121,8 @@ abbrev pub told_by : (meter strangers listed : Bool) → List ℕ → Told → T
 told_by meter strangers listed line below = cond meter (meter_heading below) (cond strangers (strangers_heading below)
     (cond listed (with_steps (pair_in (fields_of line)) below) below))
 
-pub told_is : {m s t r : Bool} (line : List ℕ) → IsKind line m s t r → (below : Told) → with_line line below ≡ told_by m s (t || r) line below
+pub told_is : {m s t r : Bool} (line : List ℕ) → IsKind line m s t r → (below : Told)
+    → with_line line below ≡ told_by m s (t || r) line below
 unfolding with_line
 told_is line k below = λ i. told_by (k.meter_is i) (k.strangers_is i) (k.step_is i || k.stranger_is i) line below
 

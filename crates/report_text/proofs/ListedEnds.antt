@@ -86,8 +86,8 @@ pub record IsEnd (payload : List ℕ) (fault : Option RecordFault) (more : Bool)
   pub more_is : more ≡ end_from more_behind 256 payload 0
 
 -- no record is left, or as many are listed as may be
-pub is_end : (payload : List ℕ) (from left : ℕ) (full : Bool) (next : Result (Option RecordSpan) RecordFault) → IsOnTheWay payload from left
-    → spans_from left payload from ≡ [] → (0 == left) ≡ full → next_of payload from ≡ next
+pub is_end : (payload : List ℕ) (from left : ℕ) (full : Bool) (next : Result (Option RecordSpan) RecordFault)
+    → IsOnTheWay payload from left → spans_from left payload from ≡ [] → (0 == left) ≡ full → next_of payload from ≡ next
     → IsEnd payload (fault_behind full next) (more_behind full next)
 is_end payload from left full next h none is found = record {
   fault_is = sym (h.fault ∙ end_here fault_behind left payload from full next none is found);

@@ -78,7 +78,8 @@ digit_plain d few = AllPass-from_list_all is_plain lower_digits refl d 0 few
 
 pub hex_plain : (bytes : List ℕ) → ((i : ℕ) → get_or bytes i 0 < 256) → IsPlain (encode_lower bytes)
 hex_plain bytes small =
-    hex_passes bytes (λ i. let byte = small i in (digit_plain (get_or bytes i 0 / 16) (omega arith), digit_plain (get_or bytes i 0 % 16) (omega arith)))
+    hex_passes bytes (λ i. let byte = small i in
+    (digit_plain (get_or bytes i 0 / 16) (omega arith), digit_plain (get_or bytes i 0 % 16) (omega arith)))
 
 -- ---- faults
 
@@ -91,11 +92,8 @@ hex_labelled_plain h b small = h ⌢ hex_plain (b ∷ []) (one_byte b small)
     one_byte b small (suc i) = omega arith
 
 pub fault_plain : (fault : RecordFault) → NamesByte fault → IsPlain (fault_text fault)
-fault_plain (Truncated place) h = labelled_plain (literal (codes "truncated ") refl) place
-fault_plain (TooManyExtensions place) h = labelled_plain (literal (codes "extensions ") refl) place
-fault_plain (Lvar lvar) h = hex_labelled_plain (literal (codes "lvar ") refl) lvar h
-fault_plain (Selection place) h = labelled_plain (literal (codes "selection ") refl) place
-fault_plain (Special dif) h = hex_labelled_plain (literal (codes "special ") refl) dif h
+fault_plain (Truncated place) h = search (literal, labelled_plain)
+fault_plain _ h = search (literal, labelled_plain, hex_labelled_plain)
 
 -- ---- words
 
@@ -129,11 +127,11 @@ four_plain n = two_plain (n / 100) ⌢ two_plain n
 
 day_plain : (year month day : ℕ) → IsPlain (day_text year month day)
 unfolding day_text
-day_plain year month day = four_plain year ⌢ literal (codes "-") refl ⌢ two_plain month ⌢ literal (codes "-") refl ⌢ two_plain day
+day_plain year month day = search (literal, two_plain, four_plain, ◌⌢◌) depth 7
 
 time_plain : (hour minute : ℕ) → IsPlain (time_text hour minute)
 unfolding time_text
-time_plain hour minute = literal (codes "T") refl ⌢ two_plain hour ⌢ literal (codes ":") refl ⌢ two_plain minute
+time_plain hour minute = search (literal, two_plain, ◌⌢◌) depth 7
 
 marked_plain : {sign : List ℕ} → IsPlain sign → (holds : Bool) → IsPlain (marked sign holds)
 marked_plain h true = h
@@ -141,8 +139,4 @@ marked_plain h false = literal [] refl
 
 pub value_plain : (v : Value) → IsPlain (value_text v)
 value_plain (values.Whole n) = signed_plain n
-value_plain (values.Day year month day) = day_plain year month day
-value_plain (values.Moment year month day hour minute invalid summer) =
-    day_plain year month day ⌢ time_plain hour minute ⌢ marked_plain (literal (codes "!") refl) invalid
-    ⌢ marked_plain (literal (codes "+") refl) summer
-value_plain _ = record { passed = refl }
+value_plain _ = search (literal, day_plain, time_plain, marked_plain, ◌⌢◌)

@@ -99,17 +99,7 @@ exponent_of payload span =
 record_shown : (payload : List ℕ) (span : RecordSpan) (u : Unit) (v : Value) → HasSmallRegister span → IsSmall u.exponent
     → IsShown 1 (object (members (record_members payload span u v)))
 record_shown payload span u v register small = object_shown (members (record_members payload span u v))
-    (integer_shown u.exponent small
-    ⟫ string_shown
-    ⟫ string_shown
-    ⟫ string_shown
-    ⟫ string_shown
-    ⟫ number_shown span.storage register.storage
-    ⟫ number_shown span.subunit register.subunit
-    ⟫ number_shown span.tariff register.tariff
-    ⟫ string_shown
-    ⟫ string_shown
-    ⟫ none_left)
+    (search (◌⟫◌, none_left, string_shown, number_shown, integer_shown) depth 14)
 
 maker_shown : (payload : List ℕ) (span : RecordSpan) → IsShown 1 (maker_tree payload span)
 maker_shown payload span = object_shown (members (maker_members payload span))

@@ -11,9 +11,8 @@ use Rattle.tpl_headers.specs.declared.header.TplFault.{TplFault}
 use Rattle.tpl_headers.specs.declared.header.TplFault.TheVariants as tpl
 use Rattle.message_check.specs.declared.refusal.LayerFault.{LayerFault}
 use Rattle.message_check.specs.declared.refusal.LayerFault.TheVariants.{Ell, Afl, Tpl}
-use Rattle.message_check.specs.declared.refusal.Reason.TheVariants.{NotUplink, BadLayers, PartInMode5, TooManyParts, BadMessage}
-use Rattle.message_check.specs.declared.refusal.Reason.TheVariants.{OtherAddress, Mode, NoAuth, Kdf, ShortBlocks, Unchecked, BadMac}
-use Rattle.message_check.specs.declared.refusal.Reason.TheVariants.{Stale, CheckBytes, SameAccess, QueueFull, IdsSpent, NoSuch, KeyInMode5}
+use Rattle.message_check.specs.declared.refusal.Reason.TheVariants.{NotUplink, BadLayers, TooManyParts, BadMessage, OtherAddress, Mode, Kdf}
+use Rattle.message_check.specs.declared.refusal.Reason.TheVariants.{ShortBlocks, Stale, CheckBytes, SameAccess, NoSuch}
 use Rattle.paper.specs.Pieces.{labelled, labelled_two, labelled_bytes}
 use Rattle.layer_text.specs.Faults.{named_fault_text}
 use Rattle.report_text.specs.Outcomes.{bad_layers_text}
@@ -48,20 +47,14 @@ pub reason_is_its_parts : ReasonIsItsParts
 unfolding labelled labelled_two labelled_bytes
 reason_is_its_parts (NotUplink control) = one (codes "uplink ") (encode_lower (control ∷ []))
 reason_is_its_parts (BadLayers fault) = layers_are fault
-reason_is_its_parts PartInMode5 = refl
 reason_is_its_parts (TooManyParts fid) = one (codes "parts ") (decimal fid)
 reason_is_its_parts (BadMessage fault) = message_is fault
 reason_is_its_parts (OtherAddress address) = one (codes "other ") (encode_lower (bytes_of address))
 reason_is_its_parts (Mode found wanted) = two (codes "mode ") (decimal found) (decimal wanted)
-reason_is_its_parts NoAuth = refl
 reason_is_its_parts (Kdf found) = one (codes "kdf ") (decimal found)
 reason_is_its_parts (ShortBlocks want have) = two (codes "blocks ") (decimal want) (decimal have)
-reason_is_its_parts Unchecked = refl
-reason_is_its_parts BadMac = refl
 reason_is_its_parts (Stale got last) = two (codes "stale ") (decimal got) (decimal last)
 reason_is_its_parts (CheckBytes bytes) = one (codes "check ") (encode_lower bytes)
 reason_is_its_parts (SameAccess access) = one (codes "access ") (decimal access)
-reason_is_its_parts QueueFull = refl
-reason_is_its_parts IdsSpent = refl
 reason_is_its_parts (NoSuch id) = one (codes "nosuch ") (decimal id)
-reason_is_its_parts KeyInMode5 = refl
+reason_is_its_parts _ = refl

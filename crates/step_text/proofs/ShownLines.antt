@@ -13,7 +13,7 @@ use Rattle.meter_slots.specs.declared.counts.Counts.{Counts}
 use Rattle.meter_slots.specs.declared.counts.Ended.{Ended}
 use Rattle.meter_slots.specs.declared.entry.Event.{Event}
 use Rattle.meter_slots.specs.declared.entry.Outcome.{Outcome}
-use Rattle.meter_slots.specs.declared.entry.Outcome.TheVariants.{Stored, PartKept, Ticked, Queued, Cancelled, Rekeyed, Refused}
+use Rattle.meter_slots.specs.declared.entry.Outcome.TheVariants.{Stored, Ticked, Queued, Cancelled, Refused}
 use Rattle.meter_slots.specs.declared.reading.Reading.{Reading}
 use Rattle.meter_slots.specs.declared.standing.Served.{Served}
 use Rattle.meter_slots.specs.Journal.{Start}
@@ -56,23 +56,12 @@ stored_shown : (line : ℕ) (address : Address) (event : List ℕ) (reading : Op
     (sent : Option Sent) (payload : List ℕ) → IsSmall line → IsSmallStored counter confirmed sent reading
     → IsShown 3 (object (members (stored_members line address event reading counter confirmed sent payload)))
 stored_shown line address event reading counter confirmed sent payload small h =
-    let spans = listed payload in
-    let next = next_listed payload in
+    let at : IsShown 2 (or_null (option_map (λ r. number_tree r.at) reading)) =
+    option_shown (λ r. number_tree r.at) reading (λ r is. number_shown r.at (held_by (λ r. IsSmall r.at) reading r h.at is)) in
+    let last : IsShown 2 (or_null (option_map sent_tree sent)) =
+    option_shown sent_tree sent (λ s is. with_more (omega arith) (sent_shown s (held_by IsSmallSent sent s h.sent is))) in
     object_shown (members (stored_members line address event reading counter confirmed sent payload))
-    (string_shown
-    ⟫ option_shown (λ r. number_tree r.at) reading (λ r is. number_shown r.at (held_by (λ r. IsSmall r.at) reading r h.at is))
-    ⟫ number_if confirmed h.confirmed
-    ⟫ number_shown counter h.counter
-    ⟫ string_shown
-    ⟫ option_shown (λ fault. string (fault_text fault)) (fault_behind (is_full spans) next) (λ fault _. string_shown)
-    ⟫ string_shown
-    ⟫ number_shown line small
-    ⟫ boolean_shown (more_behind (is_full spans) next)
-    ⟫ string_shown
-    ⟫ option_shown (λ r. hex_tree r.payload) reading (λ r _. string_shown)
-    ⟫ listed_shown payload
-    ⟫ option_shown sent_tree sent (λ s is. with_more (omega arith) (sent_shown s (held_by IsSmallSent sent s h.sent is)))
-    ⟫ none_left)
+    (search (◌⟫◌, none_left, string_shown, number_shown, number_if, boolean_shown, option_shown, listed_shown) depth 18)
 
 plain_shown : (line : ℕ) (address : Address) (event outcome : List ℕ) → IsSmall line
     → IsShown 3 (object (members (plain_members line address event outcome)))
@@ -88,16 +77,15 @@ outcome_shown : (line : ℕ) (address : Address) (event : List ℕ) (reading : O
     → IsSmallOutcome reading outcome → IsShown 3 (object (members (outcome_members line address event reading outcome)))
 outcome_shown line address event reading (Stored counter confirmed sent) small h =
     stored_shown line address event reading counter confirmed sent (payload_of reading) small h
-outcome_shown line address event reading PartKept small h = plain_shown line address event _ small
 outcome_shown line address event reading (Ticked expired) small h = object_shown (members (ticked_members line address event expired))
     (string_shown ⟫ string_shown ⟫ number_if expired h ⟫ string_shown ⟫ number_shown line small ⟫ string_shown ⟫ none_left)
 outcome_shown line address event reading (Queued id) small h = command_shown line address event _ id small h
 outcome_shown line address event reading (Cancelled id) small h = command_shown line address event _ id small h
-outcome_shown line address event reading Rekeyed small h = plain_shown line address event _ small
 outcome_shown line address event reading (Refused reason) small h =
     object_shown (members (refused_members line address event (reason_cause reason)))
     (string_shown ⟫ string_shown ⟫ string_shown ⟫ number_shown line small ⟫ string_shown ⟫ string_shown
     ⟫ with_more (omega arith) (values_shown (reason_cause reason).values h) ⟫ none_left)
+outcome_shown line address event reading _ small h = plain_shown line address event _ small
 
 pub step_back : (line : ℕ) (address : Address) (event : Event) (served : Served) → IsSmall line
     → IsSmallOutcome served.reading served.outcome
@@ -109,10 +97,8 @@ step_back line address event served small h =
 
 pub stranger_back : (line : ℕ) (address : Address) (event : Event) → IsSmall line
     → read (compact_text (stranger_tree line address event)) ≡ Some (stranger_tree line address event)
-stranger_back line address event small =
-    let shown : IsShown 1 (stranger_tree line address event) = object_shown (members (stranger_members line address (event_word event)))
-    (string_shown ⟫ string_shown ⟫ string_shown ⟫ number_shown line small ⟫ none_left) in
-    read_back _ (with_more (omega arith) shown)
+stranger_back line address event small = read_back _ (object_shown (members (stranger_members line address (event_word event)))
+    (string_shown ⟫ string_shown ⟫ string_shown ⟫ number_shown line small ⟫ none_left))
 
 fault_shown : (kind : List ℕ) (line : ℕ) (cause : Cause) → IsSmall line → AreSmall cause.values
     → IsShown 2 (object (members (fault_members kind line cause)))
@@ -131,17 +117,13 @@ bad_back line bad small h = read_back _ (with_more (omega arith) (fault_shown _ 
 
 pub block_back : (known : Start) → holds known ≤ 16 → IfSome (waits known) IsSmall
     → read (compact_text (block_tree known)) ≡ Some (block_tree known)
-block_back known few awaited =
-    let shown : IsShown 1 (block_tree known) = object_shown (members (block_members known))
+block_back known few awaited = read_back _ (object_shown (members (block_members known))
     (string_shown ⟫ string_shown ⟫ number_shown (holds known) (omega (arith, few)) ⟫ string_shown
-    ⟫ number_if (waits known) awaited ⟫ none_left) in
-    read_back _ (with_more (omega arith) shown)
+    ⟫ number_if (waits known) awaited ⟫ none_left))
 
 pub counts_back : (counts : Counts) (ended : Ended) → IsSmall counts.bad → IsSmall counts.lines → IsSmall counts.own
     → IsSmall counts.strangers → IsSmall counts.unframed
     → read (compact_text (counts_tree counts ended)) ≡ Some (counts_tree counts ended)
-counts_back counts ended bad lines own strangers unframed =
-    let shown : IsShown 1 (counts_tree counts ended) = object_shown (members (counts_members counts ended))
+counts_back counts ended bad lines own strangers unframed = read_back _ (object_shown (members (counts_members counts ended))
     (number_shown counts.bad bad ⟫ string_shown ⟫ string_shown ⟫ number_shown counts.lines lines ⟫ number_shown counts.own own
-    ⟫ number_shown counts.strangers strangers ⟫ number_shown counts.unframed unframed ⟫ none_left) in
-    read_back _ (with_more (omega arith) shown)
+    ⟫ number_shown counts.strangers strangers ⟫ number_shown counts.unframed unframed ⟫ none_left))

@@ -30,7 +30,4 @@ closed front text = ap (λ t. front ++ t) (append_assoc text (34 ∷ []) (93 ∷
 pub ended_plain : (ended : Ended) → escape (ended_text ended) ≡ ended_text ended
 unfolding escape_byte
 ended_plain ends.End = refl
-ended_plain ends.Cut = refl
-ended_plain ends.ReadFault = refl
-ended_plain ends.TxFault = refl
-ended_plain ends.Memory = refl
+ended_plain _ = refl

@@ -160,6 +160,7 @@ pub(crate) fn show_values(values: Values)
     }
 }
 
+#[tactic(auto, using(paper::proofs::Calls::three_make))]
 fn put_one<P: Paper>(paper: &mut P, n: u64)
     ensures { Puts P.takes paper.old (compact_text (values_tree (values_of (Values.One n)))) paper.new }
 {

@@ -12,6 +12,7 @@ use meter_slots::{Counts, Ended};
 use paper::{Paper, put_number, put_text};
 use report_text::ended_word;
 
+#[tactic(auto, using(crate::proofs::Words::as_text, crate::proofs::Words::ended_plain))]
 fn put_ended<P: Paper>(paper: &mut P, ended: Ended)
     ensures { Puts P.takes paper.old (escape (ended_text ended)) paper.new }
 {
@@ -37,7 +38,7 @@ fn put_counts<P: Paper>(paper: &mut P, counts: Counts, ended: Ended)
 }
 
 /// Puts the line of the counts: how many lines were taken, how many of each class, and how they ended.
-#[tactic(auto, unfolding(crate::specs::Lines::json_line), using(paper::proofs::Calls::two_make))]
+#[tactic(auto, unfolding(crate::specs::Lines::json_line), using(paper::proofs::Calls::two_make, crate::proofs::ShownLines::counts_back))]
 pub fn put_counts_line<P: Paper>(paper: &mut P, counts: Counts, ended: Ended)
     ensures puts { Puts P.takes paper.old (counts_line counts ended) paper.new }
     ensures reads_back { let tree = counts_tree counts ended in read (compact_text tree) ≡ Some tree }

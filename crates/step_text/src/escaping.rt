@@ -56,6 +56,7 @@ fn put_escaped_byte<P: Paper>(paper: &mut P, byte: u8)
     paper.put(&[byte]);
 }
 
+#[tactic(auto, using(paper::proofs::Items::one_at))]
 fn put_escaped<P: Paper>(paper: &mut P, bytes: &[u8])
     ensures { Puts P.takes paper.old (escape bytes.now) paper.new }
 {

@@ -9,11 +9,13 @@ pub fn said_is_told()
 {}
 
 /// The word and the values of a refusal are all that the report says of it.
+#[tactic(auto, using(crate::proofs::Parts::reason_is_its_parts))]
 pub fn reason_is_its_parts()
     ensures { ReasonIsItsParts }
 {}
 
 /// Where a meter's block waits for nothing and holds nothing, a tick leaves all that is known of the meter as it is.
+#[tactic(auto, using(crate::proofs::Ticks::no_tick_is_due))]
 pub fn no_tick_is_due()
     ensures { NoTickIsDue }
 {}

@@ -164,7 +164,7 @@ fn put_stranger<P: Paper>(paper: &mut P, line: u32, address: Address, event: &Ev
 }
 
 /// Puts the line of an event for an address that isn't commissioned.
-#[tactic(auto, unfolding(crate::specs::Lines::json_line), using(paper::proofs::Calls::two_make))]
+#[tactic(auto, unfolding(crate::specs::Lines::json_line), using(paper::proofs::Calls::two_make, crate::proofs::ShownLines::stranger_back))]
 pub fn put_stranger_line<P: Paper>(paper: &mut P, line: u32, address: Address, event: &Event)
     ensures puts { Puts P.takes paper.old (stranger_line line address event.now) paper.new }
     ensures reads_back { let tree = stranger_tree line address event.now in read (compact_text tree) ≡ Some tree }

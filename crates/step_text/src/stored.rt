@@ -22,6 +22,7 @@ fn put_at<P: Paper>(paper: &mut P, reading: Option<&Reading>)
     }
 }
 
+#[tactic(auto, using(paper::proofs::Calls::three_make))]
 fn put_hex_string<P: Paper>(paper: &mut P, bytes: &[u8])
     ensures { Puts P.takes paper.old (compact_text (hex_tree bytes.now)) paper.new }
 {

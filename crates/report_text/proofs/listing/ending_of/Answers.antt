@@ -32,7 +32,8 @@ returns-in-Err c =
     let payload = c.args.payload.now in
     let is : next_of payload c.records.from ≡ Err c.in-Err.fault = sym c.in-Err.ensures.exact in
     let ends = is_end payload c.records.from c.records.left false (Err c.in-Err.fault) c.records.invariant
-    (spans_stopped c.records.left payload c.records.from c.in-Err.fault is) (none_is_few c.records.left (omega (arith, c.records-test.true))) is in
+    (spans_stopped c.records.left payload c.records.from c.in-Err.fault is)
+    (none_is_few c.records.left (omega (arith, c.records-test.true))) is in
     record { fault = c.ended_by-in-Err.ensures.fault ∙ ends.fault_is; more = c.ended_by-in-Err.ensures.more ∙ ends.more_is }
 
 pub returns : goal.returns

@@ -1,4 +1,4 @@
-use Rattle.std.proofs.Common.{[], ◌∷◌, true, false, sym, ap, ◌∙◌, option_map}
+use Rattle.std.proofs.Common.{sym, ap, ◌∙◌, option_map}
 use Rattle.std.specs.Prelude.{codes}
 use Rattle.json.specs.Print.{escape_byte, escape}
 use Rattle.serde_json.specs.Data.{string}
@@ -19,9 +19,9 @@ returns g c =
     let waits = is_put _ _ (ap (λ o. compact_text (or_null (option_map number_tree o)))
     (sym (c.awaited_id.ensures ∙ ap awaited_id c.window.ensures))) c.put_number_if.ensures in
     object_put (members (block_members c.args.known.now))
-    (and_text (123 ∷ []) false (codes "address") c.put_text.ensures address
-    (and_text (34 ∷ []) true (codes "block") c.put_text-2.ensures c.put_escaped_block.ensures
-    (and_member (34 ∷ []) true (codes "holds") c.put_text-3.ensures holds
-    (and_known [] true (codes "kind") (string (codes "block"))
-    (and_member (codes ",\"kind\":\"block\"") true (codes "waits") c.put_text-4.ensures waits
-    (no_more [] c.put_text-5.ensures))))))
+    (and_text (codes "address") c.put_text.ensures address
+    (and_text (codes "block") c.put_text-2.ensures c.put_escaped_block.ensures
+    (and_member (codes "holds") c.put_text-3.ensures holds
+    (and_known (codes "kind") (string (codes "block"))
+    (and_member (codes "waits") c.put_text-4.ensures waits
+    (no_more c.put_text-5.ensures))))))

@@ -1,4 +1,3 @@
-use Rattle.std.proofs.Common.{[], ◌∷◌, true, false}
 use Rattle.std.specs.Prelude.{codes}
 use Rattle.json.specs.Print.{escape_byte}
 use Rattle.serde_json.specs.Data.{string}
@@ -11,11 +10,11 @@ pub returns : goal.returns
 unfolding escape_byte
 returns g c =
     object_put (members (counts_members c.args.counts c.args.ended))
-    (and_member (123 ∷ []) false (codes "bad") c.put_text.ensures c.put_number.ensures
-    (and_text [] true (codes "end") c.put_text-2.ensures c.put_ended.ensures
-    (and_known (34 ∷ []) true (codes "kind") (string (codes "counts"))
-    (and_member (codes "\",\"kind\":\"counts\"") true (codes "lines") c.put_text-3.ensures c.put_number-2.ensures
-    (and_member [] true (codes "own") c.put_text-4.ensures c.put_number-3.ensures
-    (and_member [] true (codes "strangers") c.put_text-5.ensures c.put_number-4.ensures
-    (and_member [] true (codes "unframed") c.put_text-6.ensures c.put_number-5.ensures
-    (no_more [] c.put_text-7.ensures))))))))
+    (and_member (codes "bad") c.put_text.ensures c.put_number.ensures
+    (and_text (codes "end") c.put_text-2.ensures c.put_ended.ensures
+    (and_known (codes "kind") (string (codes "counts"))
+    (and_member (codes "lines") c.put_text-3.ensures c.put_number-2.ensures
+    (and_member (codes "own") c.put_text-4.ensures c.put_number-3.ensures
+    (and_member (codes "strangers") c.put_text-5.ensures c.put_number-4.ensures
+    (and_member (codes "unframed") c.put_text-6.ensures c.put_number-5.ensures
+    (no_more c.put_text-7.ensures))))))))

@@ -1,4 +1,3 @@
-use Rattle.std.proofs.Common.{[], ◌∷◌, true, false}
 use Rattle.std.specs.Prelude.{codes}
 use Rattle.json.specs.Print.{escape_byte}
 use Rattle.serde_json.specs.Data.{string}
@@ -13,10 +12,10 @@ unfolding escape_byte
 returns g c =
     let a = c.args in
     object_put (members (command_members a.line a.address (event_word a.event.now) a.outcome.now a.id))
-    (and_text (123 ∷ []) false (codes "address") c.put_text.ensures c.put_address.ensures
-    (and_text (34 ∷ []) true (codes "event") c.put_text-2.ensures c.put_event.ensures
-    (and_member (34 ∷ []) true (codes "id") c.put_text-3.ensures c.put_number.ensures
-    (and_known [] true (codes "kind") (string (codes "step"))
-    (and_member (codes ",\"kind\":\"step\"") true (codes "line") c.put_text-4.ensures c.put_number-2.ensures
-    (and_text [] true (codes "outcome") c.put_text-5.ensures (as_word c.requires c.put_text-6.ensures)
-    (no_more (34 ∷ []) c.put_text-7.ensures)))))))
+    (and_text (codes "address") c.put_text.ensures c.put_address.ensures
+    (and_text (codes "event") c.put_text-2.ensures c.put_event.ensures
+    (and_member (codes "id") c.put_text-3.ensures c.put_number.ensures
+    (and_known (codes "kind") (string (codes "step"))
+    (and_member (codes "line") c.put_text-4.ensures c.put_number-2.ensures
+    (and_text (codes "outcome") c.put_text-5.ensures (as_word c.requires c.put_text-6.ensures)
+    (no_more c.put_text-7.ensures)))))))

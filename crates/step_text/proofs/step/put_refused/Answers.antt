@@ -1,4 +1,4 @@
-use Rattle.std.proofs.Common.{[], ◌∷◌, true, false, sym, ap}
+use Rattle.std.proofs.Common.{sym, ap}
 use Rattle.std.specs.Prelude.{codes}
 use Rattle.json.specs.Print.{escape_byte}
 use Rattle.serde_json.specs.Data.{string}
@@ -19,12 +19,12 @@ returns g c =
     let cause = reason_cause a.reason in
     let values = is_put _ _ (ap (λ vs. compact_text (values_tree vs)) (sym said.values)) c.put_values.ensures in
     object_put (members (refused_members a.line a.address (event_word a.event.now) cause))
-    (and_text (123 ∷ []) false (codes "address") c.put_text.ensures c.put_address.ensures
-    (and_text (34 ∷ []) true (codes "event") c.put_text-2.ensures c.put_event.ensures
-    (and_known (34 ∷ []) true (codes "kind") (string (codes "step"))
-    (and_member (codes "\",\"kind\":\"step\"") true (codes "line") c.put_text-3.ensures c.put_number.ensures
-    (and_known [] true (codes "outcome") (string (codes "refused"))
-    (and_text (codes ",\"outcome\":\"refused\"") true (codes "reason") c.put_text-4.ensures
+    (and_text (codes "address") c.put_text.ensures c.put_address.ensures
+    (and_text (codes "event") c.put_text-2.ensures c.put_event.ensures
+    (and_known (codes "kind") (string (codes "step"))
+    (and_member (codes "line") c.put_text-3.ensures c.put_number.ensures
+    (and_known (codes "outcome") (string (codes "refused"))
+    (and_text (codes "reason") c.put_text-4.ensures
     (as_found cause.word said.word said.plain c.put_text-5.ensures)
-    (and_member (34 ∷ []) true (codes "values") c.put_text-6.ensures values
-    (no_more [] c.put_text-7.ensures))))))))
+    (and_member (codes "values") c.put_text-6.ensures values
+    (no_more c.put_text-7.ensures))))))))

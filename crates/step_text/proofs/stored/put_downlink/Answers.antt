@@ -1,4 +1,4 @@
-use Rattle.std.proofs.Common.{[], ◌∷◌, true, false, sym, ap}
+use Rattle.std.proofs.Common.{sym, ap}
 use Rattle.std.specs.Prelude.{codes}
 use Rattle.hex.specs.Hex.{encode_lower}
 use Rattle.json.specs.Print.{escape_byte, escape}
@@ -16,7 +16,7 @@ returns g c =
     let frame = is_put _ _ (ap (λ b. escape (encode_lower b)) (sym c.bytes.ensures.bytes)) c.put_digits.ensures in
     let id = is_put _ _ (ap (λ n. compact_text (number_tree n)) (sym c.id.ensures)) c.put_number-2.ensures in
     object_put (members (sent_members c.args.downlink.now))
-    (and_member (123 ∷ []) false (codes "down") c.put_text.ensures down
-    (and_text [] true (codes "frame") c.put_text-2.ensures frame
-    (and_member (34 ∷ []) true (codes "id") c.put_text-3.ensures id
-    (no_more [] c.put_text-4.ensures))))
+    (and_member (codes "down") c.put_text.ensures down
+    (and_text (codes "frame") c.put_text-2.ensures frame
+    (and_member (codes "id") c.put_text-3.ensures id
+    (no_more c.put_text-4.ensures))))

@@ -1,4 +1,3 @@
-use Rattle.std.proofs.Common.{[], ◌∷◌, true, false}
 use Rattle.std.specs.Prelude.{codes}
 use Rattle.json.specs.Print.{escape_byte}
 use Rattle.report_text.specs.Readings.{members}
@@ -13,8 +12,8 @@ unfolding escape_byte
 returns g c =
     let a = c.args in
     object_put (members (fault_members a.kind.now a.line (record { word = a.word.now; values = values_of a.values })))
-    (and_text (123 ∷ []) false (codes "kind") c.put_text.ensures (as_word c.requires.kind c.put_text-2.ensures)
-    (and_member (34 ∷ []) true (codes "line") c.put_text-3.ensures c.put_number.ensures
-    (and_text [] true (codes "reason") c.put_text-4.ensures (as_word c.requires.word c.put_text-5.ensures)
-    (and_member (34 ∷ []) true (codes "values") c.put_text-6.ensures c.put_values.ensures
-    (no_more [] c.put_text-7.ensures)))))
+    (and_text (codes "kind") c.put_text.ensures (as_word c.requires.kind c.put_text-2.ensures)
+    (and_member (codes "line") c.put_text-3.ensures c.put_number.ensures
+    (and_text (codes "reason") c.put_text-4.ensures (as_word c.requires.word c.put_text-5.ensures)
+    (and_member (codes "values") c.put_text-6.ensures c.put_values.ensures
+    (no_more c.put_text-7.ensures)))))

@@ -1,5 +1,0 @@
-use Rattle.paper.proofs.Calls.{then}
-use Rattle.step_text.proofs.causes.put_one.Goals as goal
-
-pub returns : goal.returns
-returns g c = then c.put_text.ensures (then c.put_number.ensures c.put_text-2.ensures)
