@@ -39,15 +39,16 @@ chain_at_eleventh start byte part next rest goes_on full = rw (chain_eleventh st
 
 -- ---- a stage that fails ends the record
 
-from_vib : (start : ℕ) (b : Dib) (rest : List ℕ) (fault : RecordFault) → IsDib b → vib_at start rest ≡ Err fault
-    → record_at start (dib_spelling b ++ rest) ≡ Err fault
+from_vib : (start : ℕ) (b : Dib) (rest : List ℕ) {bytes : List ℕ} {fault : RecordFault} → IsDib b → bytes ≡ dib_spelling b ++ rest
+    → vib_at start rest ≡ Err fault → record_at start bytes ≡ Err fault
 unfolding record_at
-from_vib start b rest fault is e = rw (dib_again start b rest is, e) refl
+from_vib start b rest is spelled e = rw (spelled, dib_again start b rest is, e) refl
 
-from_contents : (start : ℕ) (b : Dib) (v : Vib) (rest : List ℕ) (fault : RecordFault) → IsDib b → IsVib v
-    → contents_at start b.dif rest ≡ Err fault → record_at start (dib_spelling b ++ (vib_spelling v ++ rest)) ≡ Err fault
+from_contents : (start : ℕ) (b : Dib) (v : Vib) (rest : List ℕ) {bytes : List ℕ} {fault : RecordFault} → IsDib b → IsVib v
+    → bytes ≡ dib_spelling b ++ (vib_spelling v ++ rest) → contents_at start b.dif rest ≡ Err fault → record_at start bytes ≡ Err fault
 unfolding record_at
-from_contents start b v rest fault is_b is_v e = rw (dib_again start b (vib_spelling v ++ rest) is_b, vib_again start v rest is_v, e) refl
+from_contents start b v rest is_b is_v spelled e =
+    rw (spelled, dib_again start b (vib_spelling v ++ rest) is_b, vib_again start v rest is_v, e) refl
 
 -- ---- the data information block
 
@@ -116,25 +117,18 @@ cut_stops start bytes (no_dif e) = rw e (dib_empty start)
 cut_stops start bytes (no_dife b not_15 not_8 goes_on few e) =
     rw e (dib_chain start b.dif b.difes (Truncated start) not_15 not_8 (chain_at_open start b.dif b.difes goes_on few))
 cut_stops start bytes (no_vif b is e) =
-    ap (record_at start) (e ∙ sym (append-nil (dib_spelling b))) ∙ from_vib start b [] (Truncated start) is (vib_empty start)
+    from_vib start b [] is (e ∙ sym (append-nil (dib_spelling b))) (vib_empty start)
 cut_stops start bytes (no_text b vif is plain e) =
-    ap (record_at start) e
-    ∙ from_vib start b (vif ∷ []) (Truncated start) is (text_missing start vif plain)
+    from_vib start b (vif ∷ []) is e (text_missing start vif plain)
 cut_stops start bytes (short_text b vif count letters is plain short e) =
-    ap (record_at start) e
-    ∙ from_vib start b (vif ∷ count ∷ letters) (Truncated start) is (text_short start vif count letters plain short)
+    from_vib start b (vif ∷ count ∷ letters) is e (text_short start vif count letters plain short)
 cut_stops start bytes (no_vife b v is plain goes_on few e) =
-    ap (record_at start) e
-    ∙ from_vib start b (vib_spelling v) (Truncated start) is (vib_chain start v v.vifes (Truncated start) plain
-    (chain_at_open start v.vif v.vifes goes_on few))
+    from_vib start b (vib_spelling v) is e (vib_chain start v v.vifes (Truncated start) plain (chain_at_open start v.vif v.vifes goes_on few))
 cut_stops start bytes (no_lvar b v is_b is_v field e) =
-    let open_end : vib_spelling v ≡ vib_spelling v ++ [] = sym (append-nil (vib_spelling v)) in
-    ap (record_at start) (e ∙ ap (λ (r : List ℕ). dib_spelling b ++ r) open_end)
-    ∙ from_contents start b v [] (Truncated start) is_b is_v (contents_missing start b.dif field)
+    from_contents start b v [] is_b is_v (e ∙ ap (λ (r : List ℕ). dib_spelling b ++ r) (sym (append-nil (vib_spelling v))))
+    (contents_missing start b.dif field)
 cut_stops start bytes (short_data b v lvar sent width is_b is_v wide short e) =
-    ap (record_at start) e
-    ∙ from_contents start b v (option_to_list lvar ++ sent) (Truncated start) is_b is_v
-    (contents_short start b.dif lvar sent width wide short)
+    from_contents start b v (option_to_list lvar ++ sent) is_b is_v e (contents_short start b.dif lvar sent width wide short)
 
 eleventh_stops : (start : ℕ) (bytes : List ℕ) → HasEleventh bytes → record_at start bytes ≡ Err (TooManyExtensions start)
 eleventh_stops start bytes (dife b next rest not_15 not_8 goes_on full e) =
@@ -146,15 +140,13 @@ eleventh_stops start bytes (vife b v next rest is plain goes_on full e) =
     let eleventh =
     vib_chain start v (v.vifes ++ next ∷ rest) (TooManyExtensions start) plain
     (chain_at_eleventh start v.vif v.vifes next rest goes_on full) in
-    ap (record_at start) e ∙ from_vib start b (vib_spelling v ++ next ∷ rest) (TooManyExtensions start) is (ap (vib_at start) regrouped
-    ∙ eleventh)
+    from_vib start b (vib_spelling v ++ next ∷ rest) is e (ap (vib_at start) regrouped ∙ eleventh)
 
 pub stops_record : (start : ℕ) (bytes : List ℕ) (fault : RecordFault) → Stops start bytes fault → record_at start bytes ≡ Err fault
 stops_record start bytes (Truncated place) s = rw s.0 (cut_stops start bytes s.1)
 stops_record start bytes (TooManyExtensions place) s = rw s.0 (eleventh_stops start bytes s.1)
 stops_record start bytes (Lvar lvar) s =
-    ap (record_at start) s.spelled
-    ∙ from_contents start s.dib s.vib (lvar ∷ s.rest) (Lvar lvar) s.is_dib s.is_vib
+    from_contents start s.dib s.vib (lvar ∷ s.rest) s.is_dib s.is_vib s.spelled
     (contents_unused start s.dib.dif lvar s.rest s.by_lvar s.unused)
 stops_record start bytes (Selection place) s =
     rw (s.0, s.2.begins) (dib_selection start s.1 s.2.rest s.3)

@@ -1,13 +1,11 @@
 -- Strangers by how often addresses were counted.
-use Rattle.std.proofs.Common.{◌≡◌, ◌≤◌, ◌==◌, ◌&&◌, ℕ, Bool, true, false, cond, List, [], ◌∷◌, ◌++◌, map, filter, take, reverse, Some, refl, sym, ap, ap₂, ◌∙◌, subst, arith}
-use Rattle.std.specs.Prelude.{nat_lt, nat_le, All, Contains, IsPermutation, IsSorted, IsTrue, unwrap_or}
+use Rattle.std.proofs.Common.{◌≡◌, ◌≤◌, ◌==◌, ◌&&◌, ℕ, Bool, true, false, cond, List, [], ◌∷◌, ◌++◌, map, filter, take, reverse, Some, refl, sym, ap, ap₂, ◌∙◌, subst, arith, nat_lt, nat_le, All, Contains, IsPermutation, IsSorted, IsTrue, unwrap_or, nat_cmp, Less}
 use mathlib.Core.Path.{fun_ext}
 use Rattle.std.specs.List.{AllByRecursion}
 use Rattle.std.specs.List.Sorted.{IsStrictlySortedBy}
 use Rattle.std.specs.Map.{lookup}
 use Rattle.std.specs.BTreeMap.{is_at}
-use Rattle.std.specs.Ordering.{nat_cmp}
-use Rattle.std.specs.declared.cmp.Ordering.TheVariants.{Less}
+use Rattle.std.proofs.lemmas.Bool.{cond_both}
 use Rattle.std.proofs.lemmas.Bool.Decides.{nat_tests}
 use Rattle.std.proofs.lemmas.List.Elements.{All-from_recursion, recursion_from_All, Contains-append_right}
 use Rattle.meter_address.specs.declared.address.Address.{Address}
@@ -32,45 +30,31 @@ abbrev seconds : List (ℕ × ℕ) → List ℕ
 seconds es = map (λ (e : ℕ × ℕ). e.1) es
 
 module _ (p : ℕ × ℕ → Bool) where
-  below_one : (P : ℕ → Type 0) (b : Bool) (e : ℕ × ℕ) (es : List (ℕ × ℕ)) → P e.0 → AllByRecursion P (seconds (counts_first es))
-      → AllByRecursion P (seconds (counts_first (cond b (e ∷ es) es)))
-  below_one P true e es one all = (one, all)
-  below_one P false e es one all = all
-
   below_kept : (P : ℕ → Type 0) (es : List (ℕ × ℕ)) → AllByRecursion P (firsts es)
       → AllByRecursion P (seconds (counts_first (filter p es)))
   below_kept P [] all = tt
-  below_kept P (e ∷ es) all = below_one P (p e) e (filter p es) all.0 (below_kept P es all.1)
-
-  sorted_one : (b : Bool) (e : ℕ × ℕ) (es : List (ℕ × ℕ)) → AllByRecursion (λ k. nat_cmp e.0 k ≡ Less) (seconds (counts_first es))
-      → IsStrictlySortedBy nat_cmp (seconds (counts_first es)) → IsStrictlySortedBy nat_cmp (seconds (counts_first (cond b (e ∷ es) es)))
-  unfolding IsStrictlySortedBy
-  sorted_one true e es below sorted = (below, sorted)
-  sorted_one false e es below sorted = sorted
+  below_kept P (e ∷ es) all =
+      let rest = below_kept P es all.1 in
+      cond_both (p e) (e ∷ filter p es) (filter p es) (λ xs. AllByRecursion P (seconds (counts_first xs))) (λ _. (all.0, rest)) (λ _. rest)
 
   sorted_kept : (es : List (ℕ × ℕ)) → IsStrictlySortedBy nat_cmp (firsts es) → IsStrictlySortedBy nat_cmp (seconds (counts_first (filter p es)))
   unfolding IsStrictlySortedBy
   sorted_kept [] sorted = tt
   sorted_kept (e ∷ es) sorted =
-      sorted_one (p e) e (filter p es) (below_kept (λ k. nat_cmp e.0 k ≡ Less) es sorted.0) (sorted_kept es sorted.1)
-
-  each_one : (P Q : ℕ × ℕ → Type 0) (b : Bool) (e : ℕ × ℕ) (es : List (ℕ × ℕ)) → (b ≡ true → Q (swapped e)) → AllByRecursion Q (counts_first es)
-      → AllByRecursion Q (counts_first (cond b (e ∷ es) es))
-  each_one P Q true e es one all = (one refl, all)
-  each_one P Q false e es one all = all
+      let rest = sorted_kept es sorted.1 in
+      cond_both (p e) (e ∷ filter p es) (filter p es) (λ xs. IsStrictlySortedBy nat_cmp (seconds (counts_first xs)))
+      (λ _. (below_kept (λ k. nat_cmp e.0 k ≡ Less) es sorted.0, rest)) (λ _. rest)
 
   each_kept : (P Q : ℕ × ℕ → Type 0) → ((e : ℕ × ℕ) → p e ≡ true → P e → Q (swapped e)) → (es : List (ℕ × ℕ)) → AllByRecursion P es
       → AllByRecursion Q (counts_first (filter p es))
   each_kept P Q gives [] all = tt
   each_kept P Q gives (e ∷ es) all =
-      each_one P Q (p e) e (filter p es) (λ passes. gives e passes all.0) (each_kept P Q gives es all.1)
+      let rest = each_kept P Q gives es all.1 in
+      cond_both (p e) (e ∷ filter p es) (filter p es) (λ xs. AllByRecursion Q (counts_first xs)) (λ passes. (gives e passes all.0, rest))
+      (λ _. rest)
 
   -- an entry that is found, and passes, is kept
   module _ (a v : ℕ) (passes : p (a, v) ≡ true) (some : 1 ≤ v) where
-    kept_behind : (b : Bool) (e : ℕ × ℕ) (es : List (ℕ × ℕ)) → Contains (counts_first es) (v, a) → Contains (counts_first (cond b (e ∷ es) es)) (v, a)
-    kept_behind true e es has = Contains-append_right (swapped e ∷ []) (counts_first es) (v, a) has
-    kept_behind false e es has = has
-
     kept_here : (b : Bool) (e : ℕ × ℕ) (es : List (ℕ × ℕ)) → b ≡ true → e ≡ (a, v) → Contains (counts_first (cond b (e ∷ es) es)) (v, a)
     kept_here true e es passed is = (0, omega arith, ap swapped is)
     kept_here false e es never is = absurd cc
@@ -85,7 +69,9 @@ module _ (p : ℕ × ℕ → Bool) where
     by_test true e es same found later =
         let is : e ≡ (a, v) = ap₂ (λ (x y : ℕ). (x, y)) (key_is e.0 same) found in
         kept_here (p e) e (filter p es) (ap p is ∙ passes) is
-    by_test false e es other found later = kept_behind (p e) e (filter p es) (later found)
+    by_test false e es other found later =
+        cond_both (p e) (e ∷ filter p es) (filter p es) (λ xs. Contains (counts_first xs) (v, a))
+        (λ _. Contains-append_right (swapped e ∷ []) (counts_first (filter p es)) (v, a) (later found)) (λ _. later found)
 
     found_kept : (es : List (ℕ × ℕ)) → counted_at es a ≡ v → Contains (counts_first (filter p es)) (v, a)
     found_kept [] found = absurd (omega (arith, found, some))

@@ -1,10 +1,6 @@
 -- Faulty lines that are gathered, a line after another.
-use Rattle.std.proofs.Common.{◌≡◌, ℕ, ◌+◌, ◌<◌, ◌≤◌, List, [], ◌∷◌, ◌++◌, length, take, Result, Ok, Err, sym, ap, ◌∙◌, append_assoc, arith, subst, length-append}
-use Rattle.std.specs.Prelude.{OnOk, min}
+use Rattle.std.proofs.Common.{◌≡◌, ℕ, ◌+◌, ◌<◌, ◌≤◌, List, [], ◌∷◌, ◌++◌, length, take, Result, sym, ap, ◌∙◌, append_assoc, arith, subst, length-append, min}
 use Rattle.std.proofs.lemmas.List.{append-nil, length-take, take_all, take-append-le}
-use Rattle.line_reader.specs.Reader.{Gives, GivesLine}
-use Rattle.line_reader.specs.declared.next.Next.{Next}
-use Rattle.line_reader.specs.declared.next.Next.TheVariants as next
 use Rattle.meter_address.specs.declared.address.Address.{Address}
 use Rattle.line_reader.specs.Grammar.{line_of}
 use Rattle.line_reader.specs.Reader.{IsAtEnd}
@@ -81,16 +77,3 @@ held_full faults addresses x old new full same counted others holds =
       count = counted ∙ ap (λ n. n + 1) holds.count ∙ sym (length-append faults (x ∷ []));
       heard = others ∙ holds.heard ∙ sym (append-nil addresses);
     }
-
--- ---- what an answer gives
-
-pub on_ok : {T E A B : Type 0} (r : Result T E) → OnOk r A → (A → B) → OnOk r B
-on_ok (Ok x) a f = f a
-on_ok (Err e) a f = tt
-
-pub gives_said : (n : Next) (line : Line) (old new : List (List ℕ)) → n ≡ next.Line line → Gives (Ok n) old new
-    → GivesLine (Ok line) old new
-gives_said n line old new is gives = subst (λ m. Gives (Ok m) old new) is gives
-
-pub gives_bad : (n : Next) (bad : BadLine) (old new : List (List ℕ)) → n ≡ next.Bad bad → Gives (Ok n) old new → GivesLine (Err bad) old new
-gives_bad n bad old new is gives = subst (λ m. Gives (Ok m) old new) is gives

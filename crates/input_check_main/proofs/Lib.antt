@@ -1,5 +1,4 @@
 mod Counts
-mod Fronts
 pub mod Kept
 mod LaterFaults
 mod Limits

@@ -1,5 +1,6 @@
 -- The most bytes of a file, and files that were read.
-use Rattle.std.proofs.Common.{◌≡◌, ℕ, ◌<◌, ◌≤◌, Bool, true, false, cond, List, [], ◌++◌, length, sym, ap, ◌∙◌, append-nil, subst, arith}
+use Rattle.std.proofs.Common.{◌≡◌, ℕ, ◌<◌, ◌≤◌, List, [], ◌++◌, length, sym, ap, ◌∙◌, append-nil, subst, arith}
+use Rattle.std.proofs.lemmas.Bool.{cond_both}
 use Rattle.outer_io.specs.Shown.{Change, SourceShown, LosesNothing, IsReadOut}
 use Rattle.line_reader.specs.Lines.{is_over}
 use Rattle.state_file.specs.Faults.{is_state}
@@ -11,11 +12,8 @@ use Rattle.input_check_main.specs.Stops.{IsHeardOut}
 
 -- what is too long for a state is too long for a roster
 pub past_most : (bytes : List ℕ) → 134217728 < length bytes → most_in bytes < length bytes
-past_most bytes long = by_form (is_state (unmarked bytes))
-  where
-    by_form : (b : Bool) → cond b 134217728 1048576 < length bytes
-    by_form true = long
-    by_form false = omega (arith, long)
+past_most bytes long =
+    cond_both (is_state (unmarked bytes)) 134217728 1048576 (λ n. n < length bytes) (λ _. long) (λ _. omega (arith, long))
 
 pub read_within : (file : Change SourceShown) (bytes : List ℕ) → bytes ≡ file.before.left → length bytes ≤ most_in bytes → IsReadOut file
     → IsReadWithin file

@@ -1,11 +1,8 @@
 -- A text with a byte order mark in front is refused at its head, and any other exactly where a line of it is faulty.
-use Rattle.std.proofs.Common.{◌≡◌, ℕ, suc, ◌+◌, ◌-◌, ◌==◌, ◌&&◌, ◌||◌, nat_lt, Bool, true, false, cond, List, [], ◌∷◌, length, take, drop, Result, Ok, Err, refl, sym, ap, ◌∙◌, arith}
-use Rattle.std.specs.Prelude.{slice_index}
-use Rattle.std.specs.Option.{is_some}
-use Rattle.std.specs.Result.{is_err}
+use Rattle.std.proofs.Common.{◌≡◌, ℕ, suc, ◌+◌, ◌-◌, ◌==◌, ◌&&◌, ◌||◌, nat_lt, Bool, true, false, cond, List, [], ◌∷◌, length, take, drop, Result, Ok, Err, refl, sym, ap, ◌∙◌, arith, slice_index, is_some, is_err, eqb-true}
 use Rattle.std.specs.List.{slice_split, onto_first}
 use Rattle.std.specs.Str.Lines.{lines, lines_of_parts, strip_carriage_return}
-use Rattle.std.proofs.lemmas.Bool.{and_parts}
+use Rattle.std.proofs.lemmas.Bool.{and_parts, cond_both}
 use Rattle.std.proofs.lemmas.Bool.Decides.{nat_tests}
 use Rattle.std.proofs.lemmas.List.Splits.{slice_split-cons_no}
 use Rattle.roster_file.specs.declared.roster.LineCause.TheVariants as roster
@@ -13,7 +10,6 @@ use Rattle.roster_file.specs.declared.roster.RosterFault.TheVariants as faulty
 use Rattle.roster_file.specs.Roster.{entries_from, is_passed_over, roster_of, headed as roster_headed}
 use Rattle.roster_file.proofs.RosterLines.{counted}
 use Rattle.state_file.specs.declared.fault.StateFault.{StateFault}
-use Rattle.state_file.specs.declared.fault.StateFault.TheVariants.{Roster}
 use Rattle.state_file.specs.Whole.{Known, headed, of_roster, state_of}
 use Rattle.state_file.specs.Faults.{refused, first_of, state_faults_of}
 use Rattle.state_file.proofs.AllFaults.{first_fault_refuses}
@@ -41,16 +37,11 @@ first_part byte rest other =
 kept_byte : (byte : ℕ) (line : List ℕ) (more : List (List ℕ)) → (byte == 13) ≡ false
     → Begin byte (strip_carriage_return (byte ∷ line) ∷ more)
 kept_byte byte [] more other = record { behind = []; more = more; is = ap (λ b. cond b [] (byte ∷ []) ∷ more) other }
-kept_byte byte (next ∷ line) more other = by_test (slice_index (byte ∷ next ∷ line) (length (byte ∷ next ∷ line) - 1) == 13)
-  where
-    size : length (byte ∷ next ∷ line) - 1 ≡ suc (length line)
-    size = omega arith
-
-    by_test : (b : Bool)
-        → Begin byte (cond b (take (length (byte ∷ next ∷ line) - 1) (byte ∷ next ∷ line)) (byte ∷ next ∷ line) ∷ more)
-    by_test true =
-        record { behind = take (length line) (next ∷ line); more = more; is = ap (λ n. take n (byte ∷ next ∷ line) ∷ more) size }
-    by_test false = record { behind = next ∷ line; more = more; is = refl }
+kept_byte byte (next ∷ line) more other =
+    let size : length (byte ∷ next ∷ line) - 1 ≡ suc (length line) = omega arith in
+    cond_both (slice_index (byte ∷ next ∷ line) (length (byte ∷ next ∷ line) - 1) == 13) _ _ (λ l. Begin byte (l ∷ more))
+    (λ _. record { behind = take (length line) (next ∷ line); more = more; is = ap (λ n. take n (byte ∷ next ∷ line) ∷ more) size })
+    (λ _. record { behind = next ∷ line; more = more; is = refl })
 
 of_parts : (byte : ℕ) (behind : List ℕ) (more : List (List ℕ)) → (byte == 13) ≡ false
     → Begin byte (lines_of_parts ((byte ∷ behind) ∷ more))
@@ -85,30 +76,19 @@ no_roster line entries end = refl
 roster_fault : (bytes line : List ℕ) (entries : List (ℕ × List ℕ)) → entries_from 1 (lines bytes) ≡ (1, 239 ∷ line) ∷ entries
     → is_err (of_roster (roster_of bytes)) ≡ true
 unfolding roster_of
-roster_fault bytes line entries is = by_length (nat_lt 1048576 (length bytes))
-  where
-    by_length : (b : Bool)
-        → is_err (of_roster (cond b (Err (faulty.Line 0 roster.TooLong)) (roster_headed (entries_from 1 (lines bytes)) (length (lines bytes) + 1)))) ≡ true
-    by_length true = refl
-    by_length false =
-        ap (λ all. is_err (of_roster (roster_headed all (length (lines bytes) + 1)))) is
-        ∙ ap (λ r. is_err (of_roster r)) (no_roster line entries (length (lines bytes) + 1))
+roster_fault bytes line entries is =
+    cond_both (nat_lt 1048576 (length bytes)) _ _ (λ r. is_err (of_roster r) ≡ true) (λ _. refl)
+    (λ _. ap (λ all. is_err (of_roster (roster_headed all (length (lines bytes) + 1)))) is
+    ∙ ap (λ r. is_err (of_roster r)) (no_roster line entries (length (lines bytes) + 1)))
 
 state_fault : (bytes line : List ℕ) (entries : List (ℕ × List ℕ)) → entries_from 1 (lines bytes) ≡ (1, 239 ∷ line) ∷ entries
     → is_err (state_of bytes) ≡ true
 unfolding state_of
-state_fault bytes line entries is = by_length (nat_lt 134217728 (length bytes))
-  where
-    by_length : (b : Bool)
-        → is_err (cond b (Err (Roster 0 roster.TooLong)) (headed (entries_from 1 (lines bytes)) (length (lines bytes) + 1) (of_roster (roster_of bytes)))) ≡ true
-    by_length true = refl
-    by_length false =
-        ap (λ all. is_err (headed all (length (lines bytes) + 1) (of_roster (roster_of bytes)))) is
-        ∙ ap is_err (no_state line entries (length (lines bytes) + 1) (of_roster (roster_of bytes)))
-        ∙ roster_fault bytes line entries is
-
-same_number : (x y : ℕ) → (x == y) ≡ true → x ≡ y
-same_number x y h = grind (arith, nat_tests)
+state_fault bytes line entries is =
+    cond_both (nat_lt 134217728 (length bytes)) _ _ (λ (r : Result Known StateFault). is_err r ≡ true) (λ _. refl)
+    (λ _. ap (λ all. is_err (headed all (length (lines bytes) + 1) (of_roster (roster_of bytes)))) is
+    ∙ ap is_err (no_state line entries (length (lines bytes) + 1) (of_roster (roster_of bytes)))
+    ∙ roster_fault bytes line entries is)
 
 marked_fault : (bytes : List ℕ) → has_mark bytes ≡ true → is_err (state_of bytes) ≡ true
 marked_fault [] mark = absurd cc
@@ -116,7 +96,7 @@ marked_fault (a ∷ []) mark = absurd cc
 marked_fault (a ∷ b ∷ []) mark = absurd cc
 marked_fault (a ∷ b ∷ c ∷ rest) mark =
     let two : (a == 239 && b == 187) ≡ true = (and_parts (a == 239 && b == 187) (c == 191) mark).0 in
-    let first : a ≡ 239 = same_number a 239 (and_parts (a == 239) (b == 187) two).0 in
+    let first : a ≡ 239 = eqb-true a 239 (and_parts (a == 239) (b == 187) two).0 in
     let line = first_line 239 (b ∷ c ∷ rest) refl refl in
     ap (λ x. is_err (state_of (x ∷ b ∷ c ∷ rest))) first
     ∙ state_fault (239 ∷ b ∷ c ∷ rest) line.behind (entries_from 2 line.more)

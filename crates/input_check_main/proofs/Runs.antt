@@ -1,6 +1,5 @@
 -- A whole check, by what its parts came to.
-use Rattle.std.proofs.Common.{◌≡◌, ◌≤◌, ℕ, zero, suc, ◌&&◌, not, Bool, true, false, List, [], ◌∷◌, ◌++◌, length, take, Result, Ok, Err, refl, sym, ap, ap₂, ◌∙◌, subst, inl, inr, ⊎_elim, arith}
-use Rattle.std.specs.Prelude.{nat_lt, IsTrue, IfOk, IfErr}
+use Rattle.std.proofs.Common.{◌≡◌, ◌≤◌, ℕ, zero, suc, ◌&&◌, not, Bool, true, false, List, [], ◌∷◌, ◌++◌, length, take, Result, Ok, Err, refl, sym, ap, ap₂, ◌∙◌, subst, inl, inr, ⊎_elim, arith, nat_lt, IsTrue, IfOk, IfErr}
 use Rattle.lists.specs.Each.{Each}
 use Rattle.outer_io.specs.Shown.{Change, SourceShown, SinkShown, ReadFailed, WriteFailed, IsSilent}
 use Rattle.outer_io.specs.declared.sources.Source as sources
@@ -15,7 +14,7 @@ use Rattle.input_check_main.specs.Receivers.{bytes_of_each, heard_by_all, receiv
 use Rattle.input_check_main.specs.States.{is_faulty_text, meters_in, IsTooLong, IsReadWithin}
 use Rattle.input_check_main.specs.Stops.{StopsBy, FileStops, StopsAt, ReceiversStop, IsLong, IsUnread, StopsBehind}
 use Rattle.input_check_main.specs.Run.{Run, AddsNotes, AddsNoteFront, AddsNotesInPart, IsPrinted, IsPrintedInPart, IsChecked, StopsAtState, StopsAtReceiver, IsUnwritten, IsCausedBy, IsCut, IsFaultless, IsDone, is_compared, said_of_state, said_of_files}
-use Rattle.input_check_main.proofs.Fronts.{both, whole}
+use Rattle.outer_io.proofs.Fronts.{both, whole}
 use Rattle.input_check_main.proofs.LaterFaults.{rose_later}
 use Rattle.input_check_main.proofs.Stopping.{stops_so}
 

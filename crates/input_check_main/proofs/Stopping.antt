@@ -1,6 +1,5 @@
 -- Why a check stops.
-use Rattle.std.proofs.Common.{◌≡◌, ◌≤◌, ℕ, ◌+◌, zero, suc, Bool, List, [], ◌∷◌, ◌++◌, take, refl, sym, ap, ◌∙◌, append_assoc, append-nil}
-use Rattle.std.specs.Prelude.{IsTrue}
+use Rattle.std.proofs.Common.{◌≡◌, ◌≤◌, ℕ, ◌+◌, zero, suc, Bool, List, [], ◌∷◌, ◌++◌, take, refl, sym, ap, ◌∙◌, append_assoc, append-nil, IsTrue}
 use Rattle.lists.specs.Each.{Each}
 use Rattle.outer_io.specs.Shown.{Change, SourceShown, SinkShown, ReadFailed, LosesNothing, IsSilent}
 use Rattle.outer_io.specs.declared.sources.Source as sources

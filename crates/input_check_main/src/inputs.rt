@@ -80,7 +80,7 @@ fn check_receivers<S: Source, K: Sink>(
 }
 
 // Checks the state, and prints notes on its keys.
-#[tactic(auto, using(crate::proofs::Fronts::first, crate::proofs::Fronts::first_whole, crate::proofs::Fronts::behind))]
+#[tactic(auto, using(outer_io::proofs::Fronts::first, outer_io::proofs::Fronts::first_whole, outer_io::proofs::Fronts::behind))]
 fn check_keys<S: Source, K: Sink>(
     alloc: Global,
     state: &mut S,

@@ -115,7 +115,7 @@ fn check_lines<S: Source>(alloc: Global, lines: &mut Lines<S>) -> Result<FaultyL
 ///
 /// `Read` comes only where a read failed, `Cut` only where the source has a byte behind a limit, and both leave nothing printed; `Write` comes
 /// only where a write failed, and leaves a front of the text.
-#[tactic(auto, using(crate::proofs::Stopping::unprinted, crate::proofs::Fronts::none, crate::proofs::Limits::heard_out))]
+#[tactic(auto, using(crate::proofs::Stopping::unprinted, outer_io::proofs::Fronts::none, crate::proofs::Limits::heard_out))]
 pub fn check_receiver<S: Source, K: Sink>(
     alloc: Global,
     receiver: u64,

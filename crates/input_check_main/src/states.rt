@@ -122,7 +122,7 @@ fn is_faulty(bytes: &[u8], lines: usize) -> bool
 ///
 /// `Read` comes only where a read failed, `Cut` only where the file has more bytes than a state, or a roster, may have, and both leave
 /// nothing printed; `Write` comes only where a write failed, and leaves a front of the text.
-#[tactic(auto, using(crate::proofs::Stopping::unprinted, crate::proofs::Fronts::none, crate::proofs::Limits::read_within))]
+#[tactic(auto, using(crate::proofs::Stopping::unprinted, outer_io::proofs::Fronts::none, crate::proofs::Limits::read_within))]
 pub fn check_state<S: Source, K: Sink>(
     alloc: Global,
     state: &mut S,

@@ -32,17 +32,18 @@ kept_length a table = ap length (kept_rows a table) ∙ length-map (rows_at a ta
 fault_by : ℕ → ℕ → Option TotalsFault
 fault_by rows meters = if rows == 0 && meters == 4096 then Some Meters else (if rows == 65536 then Some Rows else None)
 
-pub add_fault_stands : (a : Address) (value : Table Row) (edits : List Edit) → StandsFor edits value
-    → add_fault a value ≡ add_fault a (rows_after edits)
+pub add_fault_stands : (a : Address) {found : Option TotalsFault} {inside value : Table Row} → found ≡ add_fault a inside → inside ≡ value
+    → (edits : List Edit) → StandsFor edits value → found ≡ add_fault a (rows_after edits)
 unfolding fault_by
-add_fault_stands a value edits s =
-    ap (add_fault a) s.rows ∙ ap (λ n. fault_by n (length (kept (rows_after edits)))) (kept_length a (rows_after edits))
+add_fault_stands a is shown edits s =
+    is ∙ ap (add_fault a) (shown ∙ s.rows) ∙ ap (λ n. fault_by n (length (kept (rows_after edits)))) (kept_length a (rows_after edits))
     ∙ ap (λ n. fault_by (length (rows_at a (rows_after edits))) n) (length_kept (rows_after edits))
 
-pub place_fault_stands : (a : Address) (place : ℕ) (value : Table Row) (edits : List Edit) → StandsFor edits value
-    → place_fault a place value ≡ place_fault a place (rows_after edits)
-place_fault_stands a place value edits s =
-    ap (place_fault a place) s.rows ∙ ap (λ n. if nat_lt place n then None else Some (NoSuch place)) (kept_length a (rows_after edits))
+pub place_fault_stands : (a : Address) (place : ℕ) {found : Option TotalsFault} {inside value : Table Row} → found ≡ place_fault a place inside
+    → inside ≡ value → (edits : List Edit) → StandsFor edits value → found ≡ place_fault a place (rows_after edits)
+place_fault_stands a place is shown edits s =
+    is ∙ ap (place_fault a place) (shown ∙ s.rows)
+    ∙ ap (λ n. if nat_lt place n then None else Some (NoSuch place)) (kept_length a (rows_after edits))
 
 -- a fault that is found is that of the rows, and where none is found there is none
 pub refused_by : (edit : Edit) (value : Table Row) (found : Option TotalsFault) (fault : TotalsFault)
@@ -55,9 +56,8 @@ refused_by edit value found fault there is = record {
   caused = λ edits s. inr (sym (there edits s) ∙ is);
 }
 
-pub none_there : {A : Type 0} (found kept_one there : Option TotalsFault) (fault : TotalsFault) → found ≡ kept_one → kept_one ≡ there
-    → found ≡ None → there ≡ Some fault → A
-none_there found kept_one there fault e s is other = let clash : None ≡ Some fault = sym is ∙ e ∙ s ∙ other in absurd cc
+pub none_there : {A : Type 0} {found there : Option TotalsFault} {fault : TotalsFault} → found ≡ there → found ≡ None → there ≡ Some fault → A
+none_there {fault} e is other = let clash : None ≡ Some fault = sym is ∙ e ∙ other in absurd cc
 
 -- the sums that are kept are below 2^93
 pub kept_below : (table : Table Row) (sums : List (UsageKey × Sum)) → IsKept table sums → (q : UsageKey)

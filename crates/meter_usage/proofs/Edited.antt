@@ -1,6 +1,7 @@
 -- What is kept stays kept when a row is added or removed.
-use Rattle.std.proofs.Common.{◌≡◌, ℕ, zero, suc, ◌+◌, ◌^◌, ◌<◌, ◌≤◌, Bool, true, false, List, [], ◌∷◌, ◌++◌, map, length, get_or, remove, Option, Some, None, Result, Ok, Err, OnOk, OnErr, is_some, ℤ, refl, sym, ap, ◌∙◌, subst, inl, inr, arith, slice_set}
-use Rattle.std.proofs.lemmas.Bool.{cases_Bool, cond_both}
+use Rattle.std.proofs.Common.{⊎_elim, ◌≡◌, ℕ, zero, suc, ◌+◌, ◌^◌, ◌<◌, ◌≤◌, Bool, true, false, List, [], ◌∷◌, ◌++◌, map, length, get_or, remove, Option, Some, None, Result, Ok, Err, OnOk, OnErr, is_some, ℤ, refl, sym, ap, ◌∙◌, subst, arith, slice_set}
+use Rattle.std.proofs.lemmas.Bool.{cases_Bool}
+use Rattle.std.proofs.lemmas.Bool.Decides.{nat_tests}
 use Rattle.std.proofs.lemmas.List.{length-append, length-map, length-set, get_or-set_same}
 use Rattle.std.proofs.lemmas.Map.Keys.{any_passes_from_place}
 use Rattle.std.proofs.lemmas.Option.{slice_get-get_or}
@@ -24,9 +25,7 @@ use Rattle.meter_usage.proofs.Tables.{kept_rows, kept_with, rows_with, append_so
 
 few_removed : (a : Address) (table : Table Row) → length (remove_entry (same a) table) ≤ length table
 few_removed a [] = omega arith
-few_removed a (e ∷ es) =
-    cond_both (same a e.0) es (e ∷ remove_entry (same a) es) (λ t. length t ≤ length (e ∷ es)) (λ _. omega arith)
-    (λ _. omega (arith, few_removed a es))
+few_removed a (e ∷ es) = let rest = few_removed a es in grind (arith, nat_tests)
 
 -- one more at most, and none where the address has rows already
 few_put : (a : Address) (table : Table Row) (new : List Row)
@@ -34,10 +33,8 @@ few_put : (a : Address) (table : Table Row) (new : List Row)
     × ((rows_at a table ≡ [] → ⊥) → length (insert_entry same table a new) ≡ length table)
 few_put a [] new = (omega arith, λ some. absurd (some refl))
 few_put a (e ∷ es) new =
-    elim (cases_Bool (same a e.0)) [
-      | inl here ↦ rw here (omega arith, λ some. refl)
-      | inr other ↦ rw other (omega (arith, (few_put a es new).0), λ some. ap suc ((few_put a es new).1 some))
-    ]
+    ⊎_elim (λ here. rw here (omega arith, λ some. refl))
+    (λ other. rw other (omega (arith, (few_put a es new).0), λ some. ap suc ((few_put a es new).1 some))) (cases_Bool (same a e.0))
 
 few_with : (a : Address) (table : Table Row) (new rows : List Row) → rows_at a table ≡ rows → length table ≤ 4096
     → (rows_at a table ≡ [] → length table < 4096) → length (with_rows table a new) ≤ 4096

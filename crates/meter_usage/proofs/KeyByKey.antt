@@ -1,5 +1,5 @@
 -- Sums that are mended key by key.
-use Rattle.std.proofs.Common.{⊎_elim, ◌≡◌, ℕ, ◌<◌, Bool, true, false, cond, ◌||◌, List, [], ◌∷◌, length, get_or, remove, Option, Some, None, is_some, ℤ, refl, sym, ap, ◌∙◌, subst, Less, is_eq, unwrap_or}
+use Rattle.std.proofs.Common.{true≢false, ⊎_elim, ◌≡◌, ℕ, ◌<◌, Bool, true, false, cond, ◌||◌, List, [], ◌∷◌, length, get_or, remove, Option, Some, None, is_some, ℤ, refl, sym, ap, ◌∙◌, subst, Less, is_eq, unwrap_or}
 use Rattle.std.specs.List.{AllByRecursion}
 use Rattle.std.specs.List.Sorted.{IsStrictlySortedBy}
 use Rattle.std.specs.Map.{keys_of}
@@ -32,10 +32,7 @@ pub record IsMending (before after : UsageKey → Option ℤ) (old now : List (U
 pub has_amount : (q : UsageKey) (row : Row) → is_some (amount_at q row) ≡ is_among q (keys_of row)
 has_amount q row = is_some-lookup (is_at (key_cmp q)) row
 
-both : true ≡ false → ⊥
-both e = cc
-
-pub none_by : (o : Option ℤ) → is_some o ≡ false → o ≡ None
+pub none_by : {A : Type 0} (o : Option A) → is_some o ≡ false → o ≡ None
 none_by None e = refl
 none_by (Some v) e = absurd cc
 
@@ -127,7 +124,7 @@ pub record IsMakingRoom (row : Row) (old now : List (UsageKey × Sum)) (left : L
 
 pub room_starts : (row : Row) (old : List (UsageKey × Sum)) (left : List UsageKey) → left ≡ keys_of row → IsMakingRoom row old old left
 room_starts row old left e =
-    record { same = λ q. refl; there = λ q has misses. absurd (both (sym has ∙ has_amount q row ∙ ap (is_among q) (sym e) ∙ misses)) }
+    record { same = λ q. refl; there = λ q has misses. absurd (true≢false (sym has ∙ has_amount q row ∙ ap (is_among q) (sym e) ∙ misses)) }
 
 pub room_step : {row : Row} (k : UsageKey) {left keys : List UsageKey} {old now : List (UsageKey × Sum)} (new : List (UsageKey × Sum))
     → IsMakingRoom row old now keys → keys ≡ k ∷ left → ((q : UsageKey) → sum_at q new ≡ sum_at q now)
@@ -140,12 +137,8 @@ room_step {row} k {left} {keys} {old} {now} new m e same stays here =
           at_key (λ p. has_sum p new ≡ true) k q here (λ other. stays q (m'.there q has (no_key k q left other misses)));
     }
 
-none_of : (o : Option Sum) → is_some o ≡ false → unwrap_or o no_sum ≡ no_sum
-none_of None e = refl
-none_of (Some x) e = absurd cc
-
 pub sum_none : (q : UsageKey) (sums : List (UsageKey × Sum)) → has_sum q sums ≡ false → sum_at q sums ≡ no_sum
-sum_none q sums e = none_of (find_sum q sums) e
+sum_none q sums e = ap (λ o. unwrap_or o no_sum) (none_by (find_sum q sums) e)
 
 -- a sum of nothing is put where there is none
 pub room_put : (k q : UsageKey) (old new : List (UsageKey × Sum)) (test : Bool) → is_eq (key_cmp k q) ≡ test

@@ -1,7 +1,7 @@
 -- Rows whose numbers rise, and the amounts of a key that they have.
 use Rattle.std.proofs.Common.{◌≡◌, ℕ, suc, ◌+◌, ◌<◌, List, [], ◌∷◌, ◌++◌, append_assoc, append-nil, map, length, get_or, take, drop, remove, Option, Some, None, ℤ, refl, sym, ap, ◌∙◌, subst, arith, slice_set, Less, Greater}
 use Rattle.std.specs.Ordering.{nat_cmp, ordering_reverse}
-use Rattle.std.specs.Option.{option_map, option_or}
+use Rattle.std.specs.Option.{option_map}
 use Rattle.std.specs.List.{AllByRecursion, cons_option}
 use Rattle.std.specs.List.Sorted.{IsStrictlySortedBy}
 use Rattle.std.proofs.lemmas.Bool.Decides.{nat_tests}
@@ -71,29 +71,19 @@ all_series : (P : ℕ → Type 0) (q : UsageKey) (rows : List NumberedRow) → A
 all_series P q [] a = tt
 all_series P q (row ∷ rows) a = all_by P row.number (amount_at q row.amounts) (series q rows) a.0 (all_series P q rows a.1)
 
-first_by : (n : ℕ) (o : Option ℤ) (es : Numbered)
-    → first (λ e. Some e.1) (cons_option (option_map (λ v. (n, v)) o) es) ≡ option_or o (first (λ e. Some e.1) es)
-first_by n None es = refl
-first_by n (Some v) es = refl
-
-last_by : (n : ℕ) (o : Option ℤ) (es : Numbered)
-    → last (λ e. Some e.1) (cons_option (option_map (λ v. (n, v)) o) es) ≡ option_or (last (λ e. Some e.1) es) o
-last_by n None es = sym (or_none (last (λ e. Some e.1) es))
-last_by n (Some v) es = refl
-
 -- the amounts of rows, without their numbers
 abbrev pub amounts_of : List NumberedRow → List Row
 amounts_of rows = map (λ row. row.amounts) rows
 
 first_series : (q : UsageKey) (rows : List NumberedRow) → first (λ e. Some e.1) (series q rows) ≡ first (amount_at q) (amounts_of rows)
 first_series q [] = refl
-first_series q (row ∷ rows) =
-    first_by row.number (amount_at q row.amounts) (series q rows) ∙ ap (option_or (amount_at q row.amounts)) (first_series q rows)
+first_series q (row ∷ rows) = let rest = first_series q rows in grind (arith, nat_tests)
 
 last_series : (q : UsageKey) (rows : List NumberedRow) → last (λ e. Some e.1) (series q rows) ≡ last (amount_at q) (amounts_of rows)
 last_series q [] = refl
 last_series q (row ∷ rows) =
-    last_by row.number (amount_at q row.amounts) (series q rows) ∙ ap (λ o. option_or o (amount_at q row.amounts)) (last_series q rows)
+    let rest = last_series q rows in
+    grind (arith, nat_tests, or_none (last (λ e. Some e.1) (series q rows)))
 
 -- what was used by the amounts of a key was used by the rows
 pub used_series : (q : UsageKey) (rows : List NumberedRow) → used (series q rows) ≡ usage_at q (amounts_of rows)

@@ -48,14 +48,10 @@ module _ (q : UsageKey) where
   noted_by row entry false false e is =
       amount_inserted q entry.0 entry.1 row ∙ ap (λ t. cond t (Some entry.1) (amount_at q row)) is ∙ sym (or_none (amount_at q row))
 
-  amount_noted : (row : Row) (entry : UsageKey × ℤ)
-      → amount_at q (noted row entry) ≡ option_or (amount_at q row) (cond (is_at (key_cmp q) entry.0) (Some entry.1) None)
-  amount_noted row entry = noted_by row entry (is_some (amount_at entry.0 row)) (is_at (key_cmp q) entry.0) refl refl
-
   pub amount_all : (row entries : Row) → amount_at q (fold noted row entries) ≡ option_or (amount_at q row) (amount_at q entries)
   amount_all row [] = sym (or_none (amount_at q row))
   amount_all row (e ∷ es) =
-      amount_all (noted row e) es ∙ ap (λ o. option_or o (amount_at q es)) (amount_noted row e)
+      amount_all (noted row e) es ∙ ap (λ o. option_or o (amount_at q es)) (noted_by row e _ _ refl refl)
       ∙ or_assoc (amount_at q row) _ (amount_at q es)
       ∙ ap (option_or (amount_at q row)) (cond_or (is_at (key_cmp q) e.0) e.1 (amount_at q es))
 

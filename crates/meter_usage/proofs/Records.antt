@@ -1,12 +1,11 @@
 -- The records of a payload, one after another.
-use Rattle.std.proofs.Common.{◌≡◌, ℕ, ◌≤◌, List, length, fold, Option, Some, None, Ok, Err, ℤ, refl, ap, ◌∙◌, false, ◌==◌, if◌then◌else◌, arith}
+use Rattle.std.proofs.Common.{◌≡◌, ℕ, ◌≤◌, List, [], length, fold, Option, Some, None, Ok, ℤ, refl, sym, ap, ◌∙◌, false, ◌==◌, if◌then◌else◌, arith}
 use Rattle.std.specs.List.{filter_map, cons_option}
 use Rattle.std.proofs.lemmas.Bool.Decides.{nat_tests}
-use Rattle.dif_vif.specs.declared.fault.RecordFault.{RecordFault}
 use Rattle.dif_vif.specs.declared.span.RecordSpan.{RecordSpan}
 use Rattle.dif_vif.specs.Reading.{next_of}
 use Rattle.dif_vif.specs.Listing.{spans_from}
-use Rattle.dif_vif.proofs.Listed.{spans_done, spans_here, spans_stopped}
+use Rattle.dif_vif.proofs.Listed.{spans_here}
 use Rattle.meter_usage.specs.declared.key.UsageKey.{UsageKey}
 use Rattle.meter_usage.specs.Amounts.{Row, noted, noted_if, given}
 
@@ -30,12 +29,8 @@ noted_here payload from span row le e =
     ap (λ spans. fold noted row (filter_map (given payload) spans)) (spans_here payload from span le e)
     ∙ noted_next row (given payload span) (filter_map (given payload) (spans_from (length payload) payload span.end))
 
-pub noted_done : (payload : List ℕ) (from : ℕ) (row : Row) → next_of payload from ≡ Ok None → noted_from payload from row ≡ row
+-- where nothing is left to note, what is noted is the whole
+pub all_noted : (payload : List ℕ) (from : ℕ) {row all : Row} → spans_from (length payload) payload from ≡ []
+    → noted_from payload from row ≡ all → row ≡ all
 unfolding noted_from
-noted_done payload from row e = ap (λ spans. fold noted row (filter_map (given payload) spans)) (spans_done (length payload) payload from e)
-
-pub noted_stopped : (payload : List ℕ) (from : ℕ) (row : Row) (fault : RecordFault) → next_of payload from ≡ Err fault
-    → noted_from payload from row ≡ row
-unfolding noted_from
-noted_stopped payload from row fault e =
-    ap (λ spans. fold noted row (filter_map (given payload) spans)) (spans_stopped (length payload) payload from fault e)
+all_noted payload from {row} none is = sym (ap (λ spans. fold noted row (filter_map (given payload) spans)) none) ∙ is

@@ -25,9 +25,6 @@ keeps_last : (n : ℕ) (rest : Numbered) (e : ℕ × ℤ) → is_at (nat_cmp n) 
 keeps_last n [] e other = rw other refl
 keeps_last n (f ∷ fs) e other = let rest = keeps_last n fs e other in grind (arith, nat_tests)
 
-last_one : (rest : Numbered) (e : ℕ × ℤ) → last (λ e. Some e.1) (rest ++ e ∷ []) ≡ Some e.1
-last_one rest e = last-append (λ e. Some e.1) rest (e ∷ [])
-
 module _ (n : ℕ) (rest : Numbered) (e : ℕ × ℤ) (rising : IsStrictlySortedBy nat_cmp (keys_of (rest ++ e ∷ []))) (same : n ≡ e.0) where
   below : AllByRecursion (λ f. nat_cmp n f.0 ≡ Greater) rest
   below =
@@ -48,7 +45,7 @@ module _ {A : Type 0} (shows : A → ℕ × ℤ) where
 
   pub took_last : (es rest : Numbered) (r : Option A) → TakesLast shows es r rest → amount_taken r ≡ last (λ e. Some e.1) es
   took_last es rest None t = sym (ap (last (λ e. Some e.1)) t.0)
-  took_last es rest (Some a) t = sym (ap (last (λ e. Some e.1)) t ∙ last_one rest (shows a))
+  took_last es rest (Some a) t = sym (ap (last (λ e. Some e.1)) t ∙ last-append (λ e. Some e.1) rest (shows a ∷ []))
 
   -- the last one stands at the number, and is left out
   pub last_there : (n : ℕ) (es rest : Numbered) (r : Option A) → IsStrictlySortedBy nat_cmp (keys_of es) → TakesLast shows es r rest
@@ -65,4 +62,4 @@ module _ {A : Type 0} (shows : A → ℕ × ℤ) where
   last_other n es rest None t other = sym (ap (λ x. last (λ e. Some e.1) (without n x)) t.0)
   last_other n es rest (Some a) t other =
       sym (ap (λ x. last (λ e. Some e.1) (without n x)) t
-      ∙ ap (last (λ e. Some e.1)) (keeps_last n rest (shows a) other) ∙ last_one (without n rest) (shows a))
+      ∙ ap (last (λ e. Some e.1)) (keeps_last n rest (shows a) other) ∙ last-append (λ e. Some e.1) (without n rest) (shows a ∷ []))

@@ -66,8 +66,6 @@ module _ {row : Row} {change : UsageKey → Numbered → Numbered} {old now : Li
 pub tidied : (k q : UsageKey) (old new : List (UsageKey × Numbered)) → lookup (is_at (key_cmp k)) old ≡ Some []
     → lookup (is_at (key_cmp q)) new ≡ cond (is_at (key_cmp k) q) None (lookup (is_at (key_cmp q)) old) → indexed q new ≡ indexed q old
 tidied k q old new bare now =
-    elim (cases_Bool (is_at (key_cmp k) q)) [
-      | inl same ↦ ap (λ o. unwrap_or o []) (now ∙ ap (λ b. cond b None (lookup (is_at (key_cmp q)) old)) same)
-          ∙ ap (λ o. unwrap_or o []) (sym bare ∙ ap (λ p. lookup (is_at (key_cmp p)) old) (same_by_test k q same))
-      | inr other ↦ ap (λ o. unwrap_or o []) (now ∙ ap (λ b. cond b None (lookup (is_at (key_cmp q)) old)) other)
-    ]
+    ⊎_elim (λ same. ap (λ o. unwrap_or o []) (now ∙ ap (λ b. cond b None (lookup (is_at (key_cmp q)) old)) same)
+    ∙ ap (λ o. unwrap_or o []) (sym bare ∙ ap (λ p. lookup (is_at (key_cmp p)) old) (same_by_test k q same)))
+    (λ other. ap (λ o. unwrap_or o []) (now ∙ ap (λ b. cond b None (lookup (is_at (key_cmp q)) old)) other)) (cases_Bool (is_at (key_cmp k) q))

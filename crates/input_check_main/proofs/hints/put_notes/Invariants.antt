@@ -1,5 +1,4 @@
-use Rattle.std.proofs.Common.{take}
-use Rattle.std.specs.List.{flat_map}
+use Rattle.std.proofs.Common.{take, flat_map}
 use Rattle.paper.specs.Puts.{Puts}
 use Rattle.input_check_main.specs.Hints.{note_text}
 use Rattle.input_check_main.proofs.hints.put_notes.Given as goal

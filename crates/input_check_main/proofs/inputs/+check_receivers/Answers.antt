@@ -2,11 +2,8 @@
 use Rattle.std.proofs.Common.{rules, ◌≡◌, ◌+◌, List, ◌∷◌, ◌++◌, ap, ◌∙◌}
 use Rattle.meter_address.specs.declared.address.Address.{Address}
 use Rattle.outer_io.specs.Shown.{source_change, sink_change, sink_shown}
-use Rattle.line_reader.specs.Lines.{all_lines}
-use Rattle.input_check_main.specs.Faulty.{faulty_lines, heard_in}
-use Rattle.input_check_main.specs.Findings.{receiver_lines}
-use Rattle.input_check_main.specs.Receivers.{reader_changes, bytes_of_each, heard_by_all, receivers_text}
-use Rattle.input_check_main.proofs.Fronts.{first, first_whole, behind, both}
+use Rattle.input_check_main.specs.Receivers.{reader_changes, bytes_of_each}
+use Rattle.outer_io.proofs.Fronts.{first, first_whole, behind, both}
 use Rattle.input_check_main.proofs.Stopping.{kept, unread, first_stops, later_stops}
 use Rattle.input_check_main.proofs.inputs.+check_receivers.Goals as goal
 
@@ -22,8 +19,7 @@ returns-in-Err-clause-stops g t c =
 pub returns-in-Err-clause-front : goal.returns-in-Err-clause-front
 returns-in-Err-clause-front g t c = λ tells sinks_tell.
     let is : c.args.receivers.now ≡ c.in-Some.lines.now ∷ c.in-Some.later.now = search rules in
-    rw is (first (receiver_lines (c.args.before + 1) (faulty_lines (all_lines (g.S.Source.left c.in-Some.lines.now.source))))
-    (receivers_text (c.args.before + 1) (bytes_of_each g.S.Source c.in-Some.later.now)) _ _ (c.in-Err.ensures.front tells sinks_tell))
+    rw is (first _ _ _ _ (c.in-Err.ensures.front tells sinks_tell))
 
 pub returns-in-Err-clause-no_loss : goal.returns-in-Err-clause-no_loss
 returns-in-Err-clause-no_loss g t c = λ tells.
@@ -43,15 +39,12 @@ returns-clause-stops g t c =
 pub returns-clause-front : goal.returns-clause-front
 returns-clause-front g t c = λ tells sinks_tell.
     let is : c.args.receivers.now ≡ c.in-Some.lines.now ∷ c.in-Some.later.now = search rules in
-    rw is (behind (receiver_lines (c.args.before + 1) (faulty_lines (all_lines (g.S.Source.left c.in-Some.lines.now.source))))
-    (receivers_text (c.args.before + 1) (bytes_of_each g.S.Source c.in-Some.later.now)) _ _ _ (c.in-Ok.ensures.printed tells sinks_tell)
-    (c.in-Err-check_receivers.ensures.front tells sinks_tell))
+    rw is (behind _ _ _ _ _ (c.in-Ok.ensures.printed tells sinks_tell) (c.in-Err-check_receivers.ensures.front tells sinks_tell))
 
 pub returns-in_default-add_heard-clause-front : goal.returns-in_default-add_heard-clause-front
 returns-in_default-add_heard-clause-front g t c = λ tells sinks_tell.
     let is : c.args.receivers.now ≡ c.in-Some.lines.now ∷ c.in-Some.later.now = search rules in
-    rw is (first_whole (receiver_lines (c.args.before + 1) (faulty_lines (all_lines (g.S.Source.left c.in-Some.lines.now.source))))
-    (receivers_text (c.args.before + 1) (bytes_of_each g.S.Source c.in-Some.later.now)) _ _ (c.in-Ok.ensures.printed tells sinks_tell))
+    rw is (first_whole _ _ _ _ (c.in-Ok.ensures.printed tells sinks_tell))
 
 pub returns-in_default-add_heard-clause-no_loss : goal.returns-in_default-add_heard-clause-no_loss
 returns-in_default-add_heard-clause-no_loss g t c = λ tells.
@@ -61,14 +54,11 @@ returns-in_default-add_heard-clause-no_loss g t c = λ tells.
 pub returns-in-Ok-check_receivers-clause-heard : goal.returns-in-Ok-check_receivers-clause-heard
 returns-in-Ok-check_receivers-clause-heard g t c = λ tells.
     let is : c.args.receivers.now ≡ c.in-Some.lines.now ∷ c.in-Some.later.now = search rules in
-    rw is (both (heard_in (all_lines (g.S.Source.left c.in-Some.lines.now.source))) (heard_by_all (bytes_of_each g.S.Source c.in-Some.later.now)) _ _
-    _ (◌∙◌ {A = List Address} {b = c.args.heard.now.items ++ c.in-Ok.found.heard.items} c.in-Ok-add_heard.ensures
+    rw is (both _ _ _ _ _ (◌∙◌ {A = List Address} {b = c.args.heard.now.items ++ c.in-Ok.found.heard.items} c.in-Ok-add_heard.ensures
     (ap (λ (more : List Address). c.args.heard.now.items ++ more) (c.in-Ok.ensures.heard tells)))
     (c.in-Ok-check_receivers.ensures.heard tells))
 
 pub returns-in-Ok-check_receivers-clause-printed : goal.returns-in-Ok-check_receivers-clause-printed
 returns-in-Ok-check_receivers-clause-printed g t c = λ tells sinks_tell.
     let is : c.args.receivers.now ≡ c.in-Some.lines.now ∷ c.in-Some.later.now = search rules in
-    rw is (both (receiver_lines (c.args.before + 1) (faulty_lines (all_lines (g.S.Source.left c.in-Some.lines.now.source))))
-    (receivers_text (c.args.before + 1) (bytes_of_each g.S.Source c.in-Some.later.now)) _ _ _ (c.in-Ok.ensures.printed tells sinks_tell)
-    (c.in-Ok-check_receivers.ensures.printed tells sinks_tell))
+    rw is (both _ _ _ _ _ (c.in-Ok.ensures.printed tells sinks_tell) (c.in-Ok-check_receivers.ensures.printed tells sinks_tell))

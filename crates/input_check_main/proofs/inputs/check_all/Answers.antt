@@ -3,7 +3,7 @@ use Rattle.std.proofs.Common.{Err, inl}
 use Rattle.outer_io.specs.Shown.{sink_shown}
 use Rattle.input_check_main.specs.Receivers.{bytes_of_each, receivers_text}
 use Rattle.input_check_main.specs.Run.{Run, run_of, said_of_state}
-use Rattle.input_check_main.proofs.Fronts.{first, behind}
+use Rattle.outer_io.proofs.Fronts.{first, behind}
 use Rattle.input_check_main.proofs.Stopping.{kept, unread}
 use Rattle.input_check_main.proofs.Runs.{state_stops, receivers_stop, printed, printed_in_part}
 use Rattle.input_check_main.proofs.inputs.check_all.Goals as goal

@@ -1,5 +1,4 @@
-use Rattle.std.proofs.Common.{◌≡◌, take}
-use Rattle.std.specs.List.{flat_map}
+use Rattle.std.proofs.Common.{◌≡◌, take, flat_map}
 use Rattle.meter_address.specs.Commission.{Commissioned}
 use Rattle.input_check_main.specs.Noticing.{note_if, key_hint}
 use Rattle.input_check_main.proofs.noticing.key_notes.Given as goal

@@ -1,8 +1,9 @@
-use Rattle.std.proofs.Common.{rules, ◌≡◌, Ok, Some, sym, ap, ◌∙◌, subst, IfSome}
+use Rattle.std.proofs.Common.{rules, ◌≡◌, length, Ok, Some, sym, ap, ◌∙◌, subst, IfSome}
 use Rattle.dif_vif.specs.Spans.{LiesWithin}
 use Rattle.dif_vif.specs.Reading.{next_of}
+use Rattle.dif_vif.proofs.Listed.{spans_done, spans_stopped}
 use Rattle.meter_usage.specs.Amounts.{row_of, noted_if, AreSmall}
-use Rattle.meter_usage.proofs.Records.{noted_from, noted_here, noted_done, noted_stopped}
+use Rattle.meter_usage.proofs.Records.{noted_from, noted_here, all_noted}
 use Rattle.meter_usage.proofs.Small.{row_small}
 use Rattle.meter_usage.proofs.amounts.Amounts.of_payload.Goals as goal
 use Rattle.meter_usage.proofs.amounts.Amounts.of_payload.Goals.{in-Err, in-Ok-None}
@@ -29,19 +30,18 @@ records-preserved c =
 pub returns : goal.returns
 returns c =
     elim c.match-next_record.branch [
-      | in-Err w ↦ sym (noted_stopped c.args.payload.now c.records.from c.records.entries.entries w.in-Err._fault
-          (sym w.in-Err.ensures.exact)) ∙ c.records.invariant.noted
-      | in-Ok-None w ↦ sym (noted_done c.args.payload.now c.records.from c.records.entries.entries
-          (sym w.in-Ok-None.ensures.exact ∙ ap Ok w.in-Ok-None.field-0-is)) ∙ c.records.invariant.noted
+      | in-Err w ↦ all_noted c.args.payload.now c.records.from (spans_stopped (length c.args.payload.now) c.args.payload.now c.records.from
+          w.in-Err._fault (sym w.in-Err.ensures.exact)) c.records.invariant.noted
+      | in-Ok-None w ↦ all_noted c.args.payload.now c.records.from (spans_done (length c.args.payload.now) c.args.payload.now c.records.from
+          (sym w.in-Ok-None.ensures.exact ∙ ap Ok w.in-Ok-None.field-0-is)) c.records.invariant.noted
     ]
 
 pub invariant_of-result : goal.invariant_of-result
 invariant_of-result c =
     elim c.match-next_record.branch [
-      | in-Err w ↦ subst AreSmall
-          (sym (sym (noted_stopped c.args.payload.now c.records.from c.records.entries.entries w.in-Err._fault (sym w.in-Err.ensures.exact))
-          ∙ c.records.invariant.noted)) (row_small c.args.payload.now)
-      | in-Ok-None w ↦ subst AreSmall
-          (sym (sym (noted_done c.args.payload.now c.records.from c.records.entries.entries
-          (sym w.in-Ok-None.ensures.exact ∙ ap Ok w.in-Ok-None.field-0-is)) ∙ c.records.invariant.noted)) (row_small c.args.payload.now)
+      | in-Err w ↦ subst AreSmall (sym (all_noted c.args.payload.now c.records.from (spans_stopped (length c.args.payload.now)
+          c.args.payload.now c.records.from w.in-Err._fault (sym w.in-Err.ensures.exact)) c.records.invariant.noted)) (row_small c.args.payload.now)
+      | in-Ok-None w ↦ subst AreSmall (sym (all_noted c.args.payload.now c.records.from (spans_done (length c.args.payload.now)
+          c.args.payload.now c.records.from (sym w.in-Ok-None.ensures.exact ∙ ap Ok w.in-Ok-None.field-0-is)) c.records.invariant.noted))
+          (row_small c.args.payload.now)
     ]

@@ -3,7 +3,6 @@ use Rattle.std.proofs.Common.{rules, ◌∙◌, ap}
 use Rattle.meter_usage.specs.Amounts.{row_of}
 use Rattle.meter_usage.specs.Table.{added}
 use Rattle.meter_usage.specs.Edits.{addition}
-use Rattle.meter_usage.specs.Faults.{add_fault}
 use Rattle.meter_usage.proofs.Edited.{added_stands, ok_at, err_at}
 use Rattle.meter_usage.proofs.Accepted.{accepted_by, add_fault_stands, refused_by, none_there}
 use Rattle.meter_usage.proofs.totals.Totals.add.Goals as goal
@@ -12,8 +11,7 @@ use Rattle.meter_usage.proofs.totals.Totals.add.Goals.{in-Ok, in-Err}
 pub returns-in-Some : goal.returns-in-Some
 returns-in-Some c =
     refused_by (addition c.args.address c.args.payload.now) c.args.self.now _ c.in-Some.fault
-    (λ edits s. c.add_fault.ensures ∙ ap (add_fault c.args.address) c.self.view_is
-    ∙ add_fault_stands c.args.address c.args.self.now edits s) c.in-Some.is
+    (add_fault_stands c.args.address c.add_fault.ensures c.self.view_is) c.in-Some.is
 
 pub returns : goal.returns
 returns c = record {
@@ -25,8 +23,7 @@ returns c = record {
     | in-Err w ↦ err_at _ c.match-add_row.result _ w.result-is
   ];
   unchanged = search rules;
-  refused =
-      λ edits fault s there. none_there _ _ _ fault c.add_fault.ensures
-      (ap (add_fault c.args.address) c.self.view_is ∙ add_fault_stands c.args.address c.args.self.now edits s) c.in_default.is there;
+  refused = λ edits fault s there.
+      none_there (add_fault_stands c.args.address c.add_fault.ensures c.self.view_is edits s) c.in_default.is there;
   caused = λ edits s. search rules;
 }

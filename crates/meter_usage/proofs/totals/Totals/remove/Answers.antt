@@ -2,7 +2,6 @@
 use Rattle.std.proofs.Common.{rules, ◌∙◌, ap}
 use Rattle.meter_usage.specs.Table.{removed}
 use Rattle.meter_usage.specs.Edits.{removal}
-use Rattle.meter_usage.specs.Faults.{place_fault}
 use Rattle.meter_usage.proofs.Edited.{removed_stands}
 use Rattle.meter_usage.proofs.Accepted.{accepted_by, place_fault_stands, refused_by, none_there}
 use Rattle.meter_usage.proofs.totals.Totals.remove.Goals as goal
@@ -10,8 +9,7 @@ use Rattle.meter_usage.proofs.totals.Totals.remove.Goals as goal
 pub returns-in-Some-clause-answered : goal.returns-in-Some-clause-answered
 returns-in-Some-clause-answered c =
     refused_by (removal c.args.address c.args.place) c.args.self.now _ c.in-Some.fault
-    (λ edits s. c.place_fault.ensures ∙ ap (place_fault c.args.address c.args.place) c.self.view_is
-    ∙ place_fault_stands c.args.address c.args.place c.args.self.now edits s) c.in-Some.is
+    (place_fault_stands c.args.address c.args.place c.place_fault.ensures c.self.view_is) c.in-Some.is
 
 pub returns-clause-answered : goal.returns-clause-answered
 returns-clause-answered c = record {
@@ -19,9 +17,7 @@ returns-clause-answered c = record {
       accepted_by (removal c.args.address c.args.place) _ _ (removed_stands c.remove_row.new.meters.entries c.args.self.now
       c.args.address c.args.place (c.remove_row.ensures.removed ∙ ap (λ t. removed t c.args.address c.args.place) c.self.view_is)) edits s;
   unchanged = search rules;
-  refused =
-      λ edits fault s there. none_there _ _ _ fault c.place_fault.ensures
-      (ap (place_fault c.args.address c.args.place) c.self.view_is ∙ place_fault_stands c.args.address c.args.place c.args.self.now edits s)
-      c.in_default.is there;
+  refused = λ edits fault s there.
+      none_there (place_fault_stands c.args.address c.args.place c.place_fault.ensures c.self.view_is edits s) c.in_default.is there;
   caused = λ edits s. search rules;
 }

@@ -3,7 +3,6 @@ use Rattle.std.proofs.Common.{rules, ◌∙◌, ap}
 use Rattle.meter_usage.specs.Amounts.{row_of}
 use Rattle.meter_usage.specs.Table.{replaced}
 use Rattle.meter_usage.specs.Edits.{replacement}
-use Rattle.meter_usage.specs.Faults.{place_fault}
 use Rattle.meter_usage.proofs.Edited.{replaced_stands, ok_at, err_at}
 use Rattle.meter_usage.proofs.Accepted.{accepted_by, place_fault_stands, refused_by, none_there}
 use Rattle.meter_usage.proofs.totals.Totals.replace.Goals as goal
@@ -12,8 +11,7 @@ use Rattle.meter_usage.proofs.totals.Totals.replace.Goals.{in-Ok, in-Err}
 pub returns-in-Some : goal.returns-in-Some
 returns-in-Some c =
     refused_by (replacement c.args.address c.args.place c.args.payload.now) c.args.self.now _ c.in-Some.fault
-    (λ edits s. c.place_fault.ensures ∙ ap (place_fault c.args.address c.args.place) c.self.view_is
-    ∙ place_fault_stands c.args.address c.args.place c.args.self.now edits s) c.in-Some.is
+    (place_fault_stands c.args.address c.args.place c.place_fault.ensures c.self.view_is) c.in-Some.is
 
 pub returns : goal.returns
 returns c = record {
@@ -25,9 +23,7 @@ returns c = record {
     | in-Err w ↦ err_at _ c.match-replace_row.result _ w.result-is
   ];
   unchanged = search rules;
-  refused =
-      λ edits fault s there. none_there _ _ _ fault c.place_fault.ensures
-      (ap (place_fault c.args.address c.args.place) c.self.view_is ∙ place_fault_stands c.args.address c.args.place c.args.self.now edits s)
-      c.in_default.is there;
+  refused = λ edits fault s there.
+      none_there (place_fault_stands c.args.address c.args.place c.place_fault.ensures c.self.view_is edits s) c.in_default.is there;
   caused = λ edits s. search rules;
 }
