@@ -39,22 +39,18 @@ rotated_put text by group front back before mid new is_front is_back one two =
 pub group_heard : {A : Type 0} (by : ℕ) (group : List A) → 0 < length group → length group < 5 → heard by group ≡ rotated by group
 unfolding heard
 group_heard by [] some few = absurd (omega arith)
-group_heard by (a ∷ []) some few = refl
-group_heard by (a ∷ b ∷ []) some few = refl
-group_heard by (a ∷ b ∷ c ∷ []) some few = refl
 group_heard by (a ∷ b ∷ c ∷ d ∷ []) some few = append-nil (rotated by (a ∷ b ∷ c ∷ d ∷ []))
 group_heard by (a ∷ b ∷ c ∷ d ∷ e ∷ later) some few = absurd (omega arith)
+group_heard by _ some few = refl
 
 -- whole groups are heard before what stands behind them
 pub groups_then : {A : Type 0} (by : ℕ) (xs ys : List A) → length xs % 4 ≡ 0 → heard by (xs ++ ys) ≡ heard by xs ++ heard by ys
 unfolding heard
 groups_then by [] ys whole = refl
-groups_then by (a ∷ []) ys whole = absurd (omega arith)
-groups_then by (a ∷ b ∷ []) ys whole = absurd (omega arith)
-groups_then by (a ∷ b ∷ c ∷ []) ys whole = absurd (omega arith)
 groups_then by (a ∷ b ∷ c ∷ d ∷ later) ys whole =
     ap (λ t. rotated by (a ∷ b ∷ c ∷ d ∷ []) ++ t) (groups_then by later ys (omega arith))
     ∙ sym (append_assoc (rotated by (a ∷ b ∷ c ∷ d ∷ [])) _ _)
+groups_then by _ ys whole = absurd (omega arith)
 
 -- ---- the texts of what is heard are what is heard of the texts
 

@@ -9,4 +9,3 @@ pub mod MadeTexts
 pub mod MadeRosters
 pub mod Pieces
 pub mod HeardRuns
-pub mod LinePapers

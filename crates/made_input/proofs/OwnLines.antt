@@ -1,5 +1,5 @@
 -- The lines of made meters are their own, and the meters take turns.
-use Rattle.std.proofs.Common.{◌≡◌, ℕ, zero, suc, ◌+◌, ◌-◌, ◌*◌, ◌/◌, ◌%◌, ◌^◌, ◌<◌, ◌≤◌, nat_lt, false, cond, List, [], ◌∷◌, ◌++◌}
+use Rattle.std.proofs.Common.{◌≡◌, ℕ, zero, suc, ◌+◌, ◌-◌, ◌*◌, ◌/◌, ◌%◌, ◌^◌, ◌<◌, ◌≤◌, cond, List, [], ◌∷◌, ◌++◌}
 use Rattle.std.proofs.Common.{length, take, drop, slice_get, Some, Result, Ok, Err, refl, ap, ◌∙◌, arith, append_assoc, length-append}
 use Rattle.std.proofs.Common.{unwrap_or}
 use Rattle.std.specs.Prelude.{codes}
@@ -10,7 +10,7 @@ use Rattle.std.proofs.lemmas.List.{length-take, take_at}
 use Rattle.std.proofs.lemmas.List.FromFn.{length-map-range_with_len, get_or-map-range_with_len}
 use Rattle.std.proofs.lemmas.Option.{slice_get-get_or, slice_get_past}
 use Rattle.std.proofs.lemmas.Fmt.{length-decimal-le}
-use Rattle.std.proofs.lemmas.Bool.Decides.{nat_tests}
+use Rattle.std.proofs.lemmas.Bool.{le-ltb}
 use Rattle.hex.specs.Hex.{encode_lower, lower_digits}
 use Rattle.hex.proofs.HexLemmas.{decode_of-encode_lower, length-encode_with}
 use Rattle.paper.specs.Pieces.{labelled, labelled_bytes}
@@ -118,9 +118,6 @@ fields_are k frame all =
     ap fields_of (append_assoc (codes "A ") (decimal k) (codes " " ++ encode_lower frame))
     ∙ fields_joined (codes "A") (decimal k ∷ encode_lower frame ∷ []) letter (number_above 32 k (omega arith), (digits, tt))
 
-short : (n : ℕ) → n ≤ 1024 → nat_lt 1024 n ≡ false
-short n h = grind (arith, nat_tests)
-
 pub line_short : (k : ℕ) (frame : List ℕ) → length frame ≤ 300 → k < 2 ^ 64
     → length (labelled (codes "A ") k ++ labelled_bytes (codes " ") frame) ≤ 1024
 unfolding labelled labelled_bytes
@@ -142,7 +139,7 @@ line_read k frame all few small =
     let text : List ℕ = labelled (codes "A ") k ++ labelled_bytes (codes " ") frame in
     let number = number_back (2 ^ 64 - 1) k (omega arith) (omega (arith, small)) in
     let bytes = decode_of-encode_lower frame (λ i. byte_at frame i all) in
-    ap (λ b. cond b (Err bads.TooLong) (by_word (fields_of text))) (short (length text) (line_short k frame few small))
+    ap (λ b. cond b (Err bads.TooLong) (by_word (fields_of text))) (le-ltb 1024 (length text) (line_short k frame few small))
     ∙ ap by_word (fields_are k frame all) ∙ rw (number, bytes) refl
 
 -- ---- the meter

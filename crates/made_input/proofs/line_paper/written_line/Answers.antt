@@ -1,7 +1,9 @@
-use Rattle.made_input.proofs.LinePapers.{paper_has}
+use Rattle.std.proofs.Common.{ap}
+use Rattle.paper.specs.InMemory.{Kept}
+use Rattle.paper.proofs.Keeping.{kept}
 use Rattle.made_input.proofs.line_paper.written_line.Goals as goal
 
 pub returns : goal.returns
 returns g c =
-    paper_has c.in_ok-paper.paper c.print.new.paper _ _ c.in_ok-paper.ensures c.print.ensures
-    c.in_ok-into_bytes.ensures.0 c.in_ok-into_bytes.ensures.1
+    kept _ _ _ _ c.print.ensures (ap (λ (k : Kept). k.text) c.in_ok-paper.ensures) c.in_ok-into_bytes.ensures.0
+    c.in_ok-into_bytes.ensures.1
