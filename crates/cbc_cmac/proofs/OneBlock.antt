@@ -1,5 +1,5 @@
 -- The CMAC of a message of one whole block.
-use Rattle.std.proofs.Common.{◌≡◌, ℕ, zero, suc, ◌-◌, ◌*◌, List, [], ◌∷◌, length, drop, replicate, refl, sym, ap, ap₂, ◌∙◌, arith}
+use Rattle.std.proofs.Common.{◌≡◌, ℕ, zero, suc, ◌*◌, List, [], ◌∷◌, length, drop, replicate, refl, sym, ap, ap₂, ◌∙◌, arith}
 use lib.Bits.{xor_zero_l}
 use Rattle.aes_block.specs.Block.{add, encrypt}
 use Rattle.aes_block.proofs.Lists.{length-add}

@@ -30,11 +30,6 @@ refused r = Err r
 abbrev pub failed : Reason → Passed
 failed r = Err r
 
-bytes_differ : (two : List ℕ) → two ≢ 0x2F ∷ 0x2F ∷ [] → bytes_eq two (0x2F ∷ 0x2F ∷ []) ≡ false
-bytes_differ two h =
-    let d = bytes_eq-Decides two (0x2F ∷ 0x2F ∷ []) in
-    false_from_ne_true _ (λ same. h (d.0 same))
-
 -- ---- the header
 
 address_refused : (P : Reason → Type 0) (a : Address) (named : Option Address) (r : Reason) → address_passed a named ≡ Err r
@@ -97,7 +92,7 @@ check_bytes_refuse : (plain two : List ℕ) → two ≡ slice_index plain 0 ∷ 
     → check_bytes_passed plain ≡ Err (CheckBytes two)
 check_bytes_refuse plain two is other =
     let P : List ℕ → Type 0 = λ x. bytes_eq x (0x2F ∷ 0x2F ∷ []) ≡ false in
-    let test : P (slice_index plain 0 ∷ slice_index plain 1 ∷ []) = subst P is (bytes_differ two other) in
+    let test : P (slice_index plain 0 ∷ slice_index plain 1 ∷ []) = subst P is (false_from_ne_true _ (λ same. other ((bytes_eq-Decides two (0x2F ∷ 0x2F ∷ [])).0 same))) in
     rw test (ap (λ (x : List ℕ). failed (CheckBytes x)) (sym is))
 
 from_header5 : (last : Option ℕ) (c : Commissioned) (m : List ℕ) (r : Reason) → HeaderRefusal c.address 5 m r → Refusal5 last c m r

@@ -55,19 +55,15 @@ signature_refuse auth lacks = by_answer (signature_of auth) refl
 
 -- ---- the derivation
 
-mapped_some : {A B : Type 0} (f : A → B) (o : Option A) → is_some o ≡ true → is_some (option_map f o) ≡ true
-mapped_some f (Some x) h = refl
-mapped_some f None h = absurd cc
-
-default_is : (o : Option ℕ) → is_some o ≡ true → o ≡ Some (unwrap_or o 0)
-default_is (Some x) h = refl
-default_is None h = absurd cc
+default_is : {A : Type 0} (f : A → ℕ) (o : Option A) → is_some o ≡ true → option_map f o ≡ Some (unwrap_or (option_map f o) 0)
+default_is f (Some x) h = refl
+default_is f None h = absurd cc
 
 -- a header of mode 7 names a derivation
 names_derivation : (c : Commissioned) (m : List ℕ) (h : Tpl) → IsFor c.address 7 m h
     → option_map derivation_of h.cfe ≡ Some (derivation_in h)
 names_derivation c m h f =
-    default_is (option_map derivation_of h.cfe) (mapped_some derivation_of h.cfe (f.begins.is_header.extension ∙ eq-eqb _ _ f.in_mode))
+    default_is derivation_of h.cfe (f.begins.is_header.extension ∙ eq-eqb _ _ f.in_mode)
 
 derivation_pass : (h : Tpl) → option_map derivation_of h.cfe ≡ Some 1 → derivation_passed h ≡ passed
 derivation_pass h e = rw (eq-eqb (derivation_in h) 1 (ap (λ (x : Option ℕ). unwrap_or x 0) e)) refl

@@ -35,11 +35,10 @@ given_if false o p h k = k
 
 delivery_bytes : (line : List ℕ) → IfSome (delivery_in line) IsBytes
 unfolding delivery_in bytes_in
-delivery_bytes [] = tt
-delivery_bytes (first ∷ []) = tt
 delivery_bytes (first ∷ second ∷ digits) =
     given_if (first == 68 && second == 32) _ None
     (given_if (ltb 580 (length digits)) None _ tt (bytes_given digits (decode_of digits) refl)) tt
+delivery_bytes _ = tt
 
 more_bytes : (o : Option (List ℕ)) (ds : List (List ℕ)) → IfSome o IsBytes → AllBytes ds → AllBytes (option_to_list o ++ ds)
 more_bytes None ds one all = all

@@ -136,9 +136,8 @@ parts_of own a t hb ht l agree =
     }
 
 begins_twice : (plain : List ℕ) → get_or plain 0 0 ∷ get_or plain 1 0 ∷ [] ≡ 0x2F ∷ 0x2F ∷ [] → plain ≡ 0x2F ∷ 0x2F ∷ drop 2 plain
-begins_twice [] e = absurd cc
-begins_twice (a ∷ []) e = absurd cc
 begins_twice (a ∷ b ∷ rest) e = ap (λ (x : List ℕ). x ++ rest) e
+begins_twice _ e = absurd cc
 
 -- a delivery that tells this is its downlink, with nothing but the content in its blocks
 record IsItself (own : Address) (c : Commissioned) (bytes : List ℕ) (e : Executed) : Type 0 where

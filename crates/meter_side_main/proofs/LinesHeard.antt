@@ -18,11 +18,10 @@ use Rattle.meter_side_main.specs.Session.{HearsNext, HasHeard, HasAnswered}
 -- a line that is too long delivers nothing
 pub long_line : (line : List ℕ) → 582 < length line → delivery_in line ≡ None
 unfolding delivery_in bytes_in
-long_line [] long = refl
-long_line (first ∷ []) long = refl
 long_line (first ∷ second ∷ digits) long =
     cond_both (first == 68 && second == 32) _ None (λ o. o ≡ None)
     (λ _. cond-true _ None (result_ok (decode_of digits)) (lt-ltb 580 (length digits) (omega arith))) (λ _. refl)
+long_line _ long = refl
 
 -- ---- a line is heard behind the others
 

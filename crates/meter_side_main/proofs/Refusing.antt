@@ -1,5 +1,5 @@
 -- Each refusal comes exactly where its cause is the first.
-use Rattle.std.proofs.Common.{◌≡◌, ◌≢◌, ℕ, zero, suc, ◌+◌, ◌<◌, ◌≤◌, Bool, true, false, cond, eqb, ltb, List, [], ◌∷◌, ◌++◌, length, take, drop, get_or, Result, Ok, Err, refl, sym, ap, ap₂, ◌∙◌, subst, arith, ◌⊎◌, inl, inr, eq-eqb}
+use Rattle.std.proofs.Common.{◌≡◌, ◌≢◌, ℕ, zero, suc, ◌+◌, ◌<◌, ◌≤◌, Bool, true, false, cond, eqb, ltb, List, [], ◌∷◌, ◌++◌, length, take, drop, get_or, Result, Ok, Err, refl, sym, ap, ap₂, ◌∙◌, subst, arith, inl, inr, eq-eqb}
 use Rattle.std.specs.Str.{bytes_eq}
 use Rattle.std.proofs.lemmas.Bool.{eqb-true, eqb-false, ne_eqb, le-ltb, ltb-false, false_from_ne_true}
 use Rattle.std.proofs.lemmas.List.{take-append-drop, length-take, length-drop, get_or-take}
@@ -25,11 +25,11 @@ use Rattle.lists.specs.Steps.{◌>>=◌}
 use Rattle.lists.proofs.StepLaws.{bind_err, map_both_ok, map_both_err}
 use Rattle.meter_side_main.proofs.Genuineness.{passed, is_counted, length_of_blocks, told_is_genuine, genuine_is_told}
 
--- a check that refuses, or one behind it
-guard_err : {A : Type 0} (b : Bool) (e : SideReason) (f : Unit {0} → Result A SideReason) (r : SideReason)
-    → (cond b passed (Err e) >>= f) ≡ Err r → ((b ≡ false) × (e ≡ r)) ⊎ ((b ≡ true) × (f tt ≡ Err r))
-guard_err true e f r h = inr (refl, h)
-guard_err false e f r h = inl (refl, cc)
+-- a check that refuses, or what stands behind it
+refused_by : {A : Type 0} (P : SideReason → Type 0) (b : Bool) (e : SideReason) (f : Unit {0} → Result A SideReason) (r : SideReason)
+    → (cond b passed (Err e) >>= f) ≡ Err r → (b ≡ false → P e) → (b ≡ true → f tt ≡ Err r → P r) → P r
+refused_by P true e f r h here behind = behind refl h
+refused_by P false e f r h here behind = let is : e ≡ r = cc in subst P is (here refl)
 
 -- ---- the first other byte
 
@@ -107,41 +107,34 @@ differs xs ys other e = absurd (let same = (bytes_eq-Decides xs ys).1 e in cc)
 told_refusal : (own : Address) (c : Commissioned) (last : ℕ) (bytes : List ℕ) (r : SideReason) → IsBytes bytes → told own c bytes ≡ Err r
     → IsRefusal own c last bytes r
 unfolding told
-told_refusal own c last bytes r hb h = elim (bind_err (framed bytes) _ r h) [
-  | inl f ↦
-      let d = map_both_err (λ (x : List ℕ). x) Frame (decoded_a bytes) r f in
-      subst (IsRefusal own c last bytes) d.2 (fault_found_a bytes d.0 hb d.1)
-  | inr a ↦
-      let t : List ℕ = a.0 in
-      let d = map_both_ok (λ (x : List ℕ). x) Frame (decoded_a bytes) t a.1 in
-      let frame : FrameA bytes t = found bytes t hb (d.1 ∙ ap Ok d.2) in
-      let want : List ℕ = layout_of own c.address t in
-      let two : List ℕ = get_or (decrypted c t) 0 0 ∷ get_or (decrypted c t) 1 0 ∷ [] in
-      elim (guard_err (is_length (get_or t 0 0)) (Layout 0) _ r a.2) [
-        | inl (short, is) ↦
-            subst (IsRefusal own c last bytes) is (t, frame, inl (refl, (λ n b. absurd (let counted = is_blocks t n b in cc))))
-        | inr (counted, l) ↦
-            let blocks = blocks_are t counted in
-            elim (guard_err (eqb (agreeing want t) 41) (Layout (agreeing want t)) _ r l) [
-              | inl (other, is) ↦
-                  let differs : agreeing want t ≢ length want =
-                  λ e. absurd (let same = eq-eqb (agreeing want t) 41 (e ∙ wide own c.address t (blocks_in t) frame.telegram blocks) in cc) in
-                  let first = first_other want t (long own c.address t (blocks_in t) frame.telegram blocks) differs in
-                  subst (IsRefusal own c last bytes) is (t, frame, inr (blocks_in t, blocks, first))
-              | inr (agree, y) ↦
-                  let laid = agrees_laid own c.address t frame.telegram counted (eqb-true _ _ agree) in
-                  elim (guard_err (bytes_eq (mac_due c t) (mac_in t)) BadMac _ r y) [
-                    | inl (other, is) ↦ subst (IsRefusal own c last bytes) is (t, frame, laid, differs _ _ other)
-                    | inr (signed, m) ↦ elim (guard_err (bytes_eq two (0x2F ∷ 0x2F ∷ [])) (CheckBytes two) _ r m) [
-                      | inl (other, is) ↦
-                          subst (IsRefusal own c last bytes) is
-                          (t, frame, laid, (bytes_eq-Decides _ _).0 signed, refl, differs two (0x2F ∷ 0x2F ∷ []) other)
-                      | inr (begins, none) ↦ absurd cc
-                    ]
-                  ]
-            ]
-      ]
-]
+told_refusal own c last bytes r hb h =
+    let P : SideReason → Type 0 = IsRefusal own c last bytes in
+    elim (bind_err (framed bytes) _ r h) [
+      | inl f ↦
+          let d = map_both_err (λ (x : List ℕ). x) Frame (decoded_a bytes) r f in
+          subst P d.2 (fault_found_a bytes d.0 hb d.1)
+      | inr a ↦
+          let t : List ℕ = a.0 in
+          let d = map_both_ok (λ (x : List ℕ). x) Frame (decoded_a bytes) t a.1 in
+          let frame : FrameA bytes t = found bytes t hb (d.1 ∙ ap Ok d.2) in
+          let want : List ℕ = layout_of own c.address t in
+          let two : List ℕ = get_or (decrypted c t) 0 0 ∷ get_or (decrypted c t) 1 0 ∷ [] in
+          refused_by P (is_length (get_or t 0 0)) (Layout 0) _ r a.2
+          (λ short. (t, frame, inl (refl, (λ n b. absurd (let counted = is_blocks t n b in cc)))))
+          (λ counted l.
+          let blocks = blocks_are t counted in
+          refused_by P (eqb (agreeing want t) 41) (Layout (agreeing want t)) _ r l
+          (λ other.
+          let differs : agreeing want t ≢ length want =
+          λ e. absurd (let same = eq-eqb (agreeing want t) 41 (e ∙ wide own c.address t (blocks_in t) frame.telegram blocks) in cc) in
+          (t, frame, inr (blocks_in t, blocks, first_other want t (long own c.address t (blocks_in t) frame.telegram blocks) differs)))
+          (λ agree y.
+          let laid = agrees_laid own c.address t frame.telegram counted (eqb-true _ _ agree) in
+          refused_by P (bytes_eq (mac_due c t) (mac_in t)) BadMac _ r y (λ other. (t, frame, laid, differs _ _ other))
+          (λ signed m. refused_by P (bytes_eq two (0x2F ∷ 0x2F ∷ [])) (CheckBytes two) _ r m
+          (λ other. (t, frame, laid, (bytes_eq-Decides _ _).0 signed, refl, differs two (0x2F ∷ 0x2F ∷ []) other))
+          (λ _ none. absurd cc))))
+    ]
 
 refused_with : (last : ℕ) (e : Executed) (b : Bool) (r : SideReason) → ltb last e.down ≡ b → did_with last (Ok e) ≡ did.Refused r
     → (e.down ≤ last) × (Stale e.down last ≡ r)

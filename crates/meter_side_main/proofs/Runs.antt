@@ -30,25 +30,19 @@ use Rattle.meter_side_main.proofs.Answering.{are_answers, answers_execute}
 -- there are three where they name an address
 pub three_words : (words : List (List ℕ)) → is_some (address_in words) ≡ true → length words ≡ 3
 unfolding address_in
-three_words [] h = absurd cc
-three_words (a ∷ []) h = absurd cc
-three_words (a ∷ b ∷ []) h = absurd cc
 three_words (a ∷ b ∷ c ∷ []) h = refl
-three_words (a ∷ b ∷ c ∷ d ∷ more) h = absurd cc
+three_words _ h = absurd cc
 
 -- ---- what hearing came to
 
 status_is : (ended : DeliveriesEnd) (failed : Bool) → IsStatusOf ended (status_at ended failed)
 status_is End false = inl refl
 status_is End true = inr refl
-status_is Cut failed = refl
-status_is Fault failed = refl
+status_is _ failed = refl
 
 done_is_written : (ended : DeliveriesEnd) (failed : Bool) → status_at ended failed ≡ statuses.Done → failed ≡ false
 done_is_written End false e = refl
-done_is_written End true e = absurd cc
-done_is_written Cut failed e = absurd cc
-done_is_written Fault failed e = absurd cc
+done_is_written _ _ e = absurd cc
 
 -- the sink of a paper
 abbrev sink_of : Filed → SinkShown
@@ -126,7 +120,6 @@ headline_is run meter n h = record {
 
 pub refusal_cause : (run : Run) (status : SideStatus) → IsRefused run.words run.sources_tell run.beginning status
     → (was_heard status ≡ false) × IsCausedBy run status
-refusal_cause run statuses.Done h = absurd h
 refusal_cause run statuses.Words h = (refl, h)
 refusal_cause run statuses.ReadRoster h = (refl, h)
 refusal_cause run (statuses.Roster line cause) h = (refl, h)
@@ -141,10 +134,8 @@ refusal_cause run statuses.Uncommissioned h = (
         missing = m.missing;
       },
 )
-refusal_cause run statuses.Read h = absurd h
-refusal_cause run statuses.Cut h = absurd h
-refusal_cause run statuses.Write h = absurd h
 refusal_cause run statuses.Memory h = (refl, tt)
+refusal_cause run _ h = absurd h
 
 -- what a status says of the words and of the state, where contracts know the bytes of the sources
 data Came (run : Run) (s : SideStatus) : Type 0 where
@@ -171,16 +162,13 @@ one_meter run a b x y m n o found missing =
 module _ (run : Run) (headline : IsTrue (was_heard run.status) → IsTrue run.sources_tell → Headline run) (cause : IsCausedBy run run.status)
     (tells : IsTrue run.sources_tell) where
   came : (s : SideStatus) → run.status ≡ s → IsCausedBy run s → Came run s
-  came statuses.Done is c = Heard (headline (ap was_heard is) tells)
   came statuses.Words is c = Wordless c
   came statuses.ReadRoster is c = Unread c refl
   came (statuses.Roster line k) is c = Faulty (faults.Roster line k) (c tells) refl
   came (statuses.State line k) is c = Faulty (faults.Line line k) (c tells) refl
   came statuses.Uncommissioned is c = Missing (c tells) refl
-  came statuses.Read is c = Heard (headline (ap was_heard is) tells)
-  came statuses.Cut is c = Heard (headline (ap was_heard is) tells)
-  came statuses.Write is c = Heard (headline (ap was_heard is) tells)
   came statuses.Memory is c = NoMemory refl
+  came _ is c = Heard (headline (ap was_heard is) tells)
 
   beginning_by : (a : Address) (fault : StateFault) → address_in run.words ≡ Some a → state_of run.beginning.before.left ≡ Err fault
       → Came run run.status → IsUnlessUnread (status_of fault) run.status

@@ -19,9 +19,8 @@ bytes_in digits = if nat_lt 580 (length digits) then None else result_ok (decode
 
 -- what a line delivers: D, a space, and the digits of its bytes
 unfoldable pub delivery_in : List ℕ → Option (List ℕ)
-delivery_in [] = None
-delivery_in (first ∷ []) = None
 delivery_in (first ∷ second ∷ digits) = if first == 68 && second == 32 then bytes_in digits else None
+delivery_in _ = None
 
 -- what is answered to a delivery, if there is one, after this last counter
 abbrev pub answer_of : Address → Commissioned → ℕ → Option (List ℕ) → Answer

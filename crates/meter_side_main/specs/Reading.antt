@@ -52,9 +52,8 @@ layout_of own meter t = layers_before own meter (parts_in t)
 
 -- how many bytes two lists have in common in front
 unfoldable pub agreeing : List ℕ → List ℕ → ℕ
-agreeing [] bytes = 0
-agreeing (x ∷ xs) [] = 0
 agreeing (x ∷ xs) (y ∷ ys) = if x == y then 1 + agreeing xs ys else 0
+agreeing _ _ = 0
 
 -- the MAC that a telegram should have
 unfoldable pub mac_due : Commissioned → List ℕ → List ℕ

@@ -12,6 +12,7 @@ use Rattle.std.proofs.Math.ListN.{get_or-map}
 use Rattle.std.proofs.lemmas.List.Elements.{filter-append, All-map, All-from_get_or}
 use Rattle.std.proofs.lemmas.List.Folds.{list_any_at, list_any_none}
 use Rattle.std.proofs.lemmas.List.Quantifiers.{position-Some}
+use Rattle.std.proofs.lemmas.Simd.{map-map}
 use Rattle.std.proofs.lemmas.List.Sums.{prefix_len_passes}
 use Rattle.meter_address.specs.declared.address.Address.{Address}
 use Rattle.meter_address.specs.declared.commission.Mode.TheVariants.{Seven}
@@ -68,10 +69,7 @@ slot_of-push own c steps s =
 
 slots-push : (own : Address) (cs : List Start) (steps : List Step) (s : Step)
     → map (slot_of own (steps ++ s ∷ [])) cs ≡ map (slot_after s) (map (slot_of own steps) cs)
-slots-push own [] steps s = refl
-slots-push own (c ∷ cs) steps s =
-    ap (λ b. b ∷ map (slot_of own (steps ++ s ∷ [])) cs) (slot_of-push own c steps s)
-    ∙ ap (λ bs. slot_after s (slot_of own steps c) ∷ bs) (slots-push own cs steps s)
+slots-push own cs steps s = (λ i. map (λ c. slot_of-push own c steps s i) cs) ∙ sym (map-map (slot_after s) (slot_of own steps) cs)
 
 -- ---- a step at the one place
 
@@ -110,11 +108,10 @@ set_stepped (b ∷ bs) (suc place) s d a h e =
 -- ---- the addresses stay
 
 pub addresses_stay : (s : Step) (bs : List SlotView) → map address_of_slot (map (slot_after s) bs) ≡ map address_of_slot bs
-addresses_stay s [] = refl
-addresses_stay s (b ∷ bs) =
-    ap (λ a. a ∷ map address_of_slot (map (slot_after s) bs)) (cond_both (has_number s.address.0 b) (stepped_slot s b) b
-    (λ (x : SlotView). address_of_slot x ≡ b.start.address) (λ _. refl) (λ _. refl))
-    ∙ ap (λ xs. b.start.address ∷ xs) (addresses_stay s bs)
+addresses_stay s bs = map-map address_of_slot (slot_after s) bs ∙ (λ i. map (λ b. stays b i) bs)
+  where
+    stays : (b : SlotView) → address_of_slot (slot_after s b) ≡ address_of_slot b
+    stays b = cond_both (has_number s.address.0 b) (stepped_slot s b) b (λ x. address_of_slot x ≡ address_of_slot b) (λ _. refl) (λ _. refl)
 
 -- ---- the place that the directory gives
 
@@ -154,11 +151,7 @@ ordered_step bs new directory place s d ordered within same made =
 
 pub ordered_fresh : (own : Address) (cs : List Start) → AreApart (map (λ c. c.address) cs)
     → IsOrdered (map (fresh_slot own) cs) (map (λ c. c.address) cs)
-ordered_fresh own cs apart = record { places = same cs; apart = apart }
-  where
-    same : (cs : List Start) → map (λ c. c.address) cs ≡ map address_of_slot (map (fresh_slot own) cs)
-    same [] = refl
-    same (c ∷ cs) = ap (λ xs. c.address ∷ xs) (same cs)
+ordered_fresh own cs apart = record { places = sym (map-map address_of_slot (fresh_slot own) cs); apart = apart }
 
 -- ---- strangers
 

@@ -2,8 +2,7 @@
 use Rattle.std.proofs.Common.{◌≡◌, ℕ, suc, ◌+◌, ◌-◌, ◌^◌, ◌<◌, ◌≤◌, List, [], ◌∷◌, ◌++◌, map, length, take, Bool, true, false, cond, IsTrue, inl, inr, ⊎_elim, refl, sym, ap, ◌∙◌, subst, arith, length-append, add-zero, add-one}
 use Rattle.std.specs.Prelude.{count_by}
 use Rattle.std.specs.List.{enumerate_from}
-use Rattle.std.proofs.lemmas.List.{map-append, length-map, length-take}
-use Rattle.std.proofs.Math.Seq.{take-append_seam}
+use Rattle.std.proofs.lemmas.List.{map-append, length-map, length-take, take_at}
 use Rattle.std.proofs.lemmas.List.Sums.{count_by-le-length, fold-append}
 use Rattle.line_reader.specs.Lines.{all_lines}
 use Rattle.outer_io.specs.Faults.{Rose}
@@ -40,9 +39,6 @@ take_less n xs = ap (λ (m : ℕ). take n (take m xs)) (add-one n) ∙ less n xs
     less : {X : Type 0} (n : ℕ) (xs : List X) → take n (take (suc n) xs) ≡ take n xs
     less (suc n) (x ∷ xs) = ap (λ l. x ∷ l) (less n xs)
     less _ _ = refl
-
-pub take_front : {X : Type 0} (xs ys : List X) (n : ℕ) → n ≡ length xs → take n (xs ++ ys) ≡ xs
-take_front xs ys n e = ap (λ (m : ℕ). take m (xs ++ ys)) e ∙ take-append_seam xs ys
 
 take_taken : {X : Type 0} (n : ℕ) (xs : List X) → take n xs ≡ take (length (take n xs)) xs
 take_taken (suc n) (x ∷ xs) = ap (λ l. x ∷ l) (take_taken n xs)
@@ -173,7 +169,7 @@ ended_memory directory h old new heard told is so next new_is = record {
     lines_are : IsTrue h.tells → lines_of h ≡ old
     lines_are t = let n = next t in
         sym (take_less h.counts.lines (all_lines h.source.now.taken))
-        ∙ (ap (take h.counts.lines) (sym new_is ∙ n.more) ∙ take_front old (n.text ∷ []) h.counts.lines (counted_so t))
+        ∙ (ap (take h.counts.lines) (sym new_is ∙ n.more) ∙ take_at old (n.text ∷ []) h.counts.lines (sym (counted_so t)))
 
 -- it gave one more, whose downlink couldn't be written
 pub ended_unsent : (h : Hearing) (old new : List (List ℕ)) (told : Told) → h.ended ≡ ends.TxFault

@@ -130,15 +130,8 @@ thing_in x = (x.source, x.line, x.event)
 abbrev line_of : Entry → ℕ × Event
 line_of x = (x.line, x.event)
 
-calls_are : (journal : List Entry) → map call_with (map thing_in journal) ≡ map call_in journal
-calls_are journal = map-map call_with thing_in journal
-
 order_is : (journal : List Entry) → in_order_of (map thing_in journal) ≡ order_of journal
 order_is journal = map-map (λ (t : ℕ × ℕ × Event). (t.0, t.1)) thing_in journal
-
--- a receiver's part of a journal, as things
-steps_are : (w : ℕ) (journal : List Entry) → by_one w (map thing_in journal) ≡ steps_by w journal
-steps_are w journal = by_made thing_in w journal
 
 -- a meter's slot is fixed by its own lines and the order of its journal
 pub one_slot : (own : Address) (c : Start) (all all' : List (List Told)) (s s' : SlotView) → IsMetersSlot own all c s
@@ -148,9 +141,9 @@ pub one_slot : (own : Address) (c : Start) (all all' : List (List Told)) (s s' :
 one_slot own c all all' s s' h h' lines order =
     let things =
     one_list (map thing_in s.journal) (map thing_in s'.journal) (order_is s.journal ∙ (order ∙ sym (order_is s'.journal)))
-    (λ w. steps_are w s.journal ∙ (h.lines w ∙ (lines w ∙ (sym (h'.lines w) ∙ sym (steps_are w s'.journal))))) in
+    (λ w. by_made thing_in w s.journal ∙ (h.lines w ∙ (lines w ∙ (sym (h'.lines w) ∙ sym (by_made thing_in w s'.journal))))) in
     let calls : map call_in s.journal ≡ map call_in s'.journal =
-    sym (calls_are s.journal) ∙ (ap (map call_with) things ∙ calls_are s'.journal) in
+    sym (map-map call_with thing_in s.journal) ∙ (ap (map call_with) things ∙ map-map call_with thing_in s'.journal) in
     let journal : s.journal ≡ s'.journal =
     journal_is c own s.journal h.legal ∙ (ap (journal_of c own) calls ∙ sym (journal_is c own s'.journal h'.legal)) in
     (λ i. record { own = (h.own_is ∙ sym h'.own_is) i; start = (h.commission_is ∙ sym h'.commission_is) i; journal = journal i })
@@ -170,7 +163,7 @@ slot_exists own c all order fits =
           own_is = refl;
           commission_is = refl;
           legal = journal_of_legal c own (map call_with made.0);
-          lines = λ w. sym (steps_are w journal) ∙ (ap (by_one w) things ∙ made.1.parts w);
+          lines = λ w. sym (by_made thing_in w journal) ∙ (ap (by_one w) things ∙ made.1.parts w);
         };
         in_order = sym (order_is journal) ∙ (ap in_order_of things ∙ made.1.in_order);
       },
@@ -201,16 +194,13 @@ notes_back heard = map-map note_with note_thing heard ∙ map-id heard
 order_of_notes : (heard : List Heard) → in_order_of (map note_thing heard) ≡ order_of_strangers heard
 order_of_notes heard = map-map (λ (t : ℕ × ℕ × Address). (t.0, t.1)) note_thing heard
 
-notes_are : (w : ℕ) (heard : List Heard) → by_one w (map note_thing heard) ≡ notes_by w heard
-notes_are w heard = by_made note_thing w heard
-
 -- the strangers' list is fixed by their lines and its order
 pub one_strangers : (lines : ℕ → List (ℕ × Address)) (xs ys : List Heard) → ((w : ℕ) → notes_by w xs ≡ lines w)
     → ((w : ℕ) → notes_by w ys ≡ lines w) → order_of_strangers xs ≡ order_of_strangers ys → xs ≡ ys
 one_strangers lines xs ys x y order =
     sym (notes_back xs)
     ∙ (ap (map note_with) (one_list (map note_thing xs) (map note_thing ys) (order_of_notes xs
-    ∙ (order ∙ sym (order_of_notes ys))) (λ w. notes_are w xs ∙ (x w ∙ (sym (y w) ∙ sym (notes_are w ys))))) ∙ notes_back ys)
+    ∙ (order ∙ sym (order_of_notes ys))) (λ w. by_made note_thing w xs ∙ (x w ∙ (sym (y w) ∙ sym (by_made note_thing w ys))))) ∙ notes_back ys)
 
 -- each order of the strangers' lines has a list
 pub strangers_exist : (commissions : List Start) (all : List (List Told)) (order : List (ℕ × ℕ))
@@ -220,7 +210,7 @@ strangers_exist commissions all order fits =
     let things = map-map note_thing note_with made.0 ∙ map-id made.0 in (
       map note_with made.0,
       record {
-        lines = λ w. sym (notes_are w (map note_with made.0)) ∙ (ap (by_one w) things ∙ made.1.parts w);
+        lines = λ w. sym (by_made note_thing w (map note_with made.0)) ∙ (ap (by_one w) things ∙ made.1.parts w);
         in_order = sym (order_of_notes (map note_with made.0)) ∙ (ap in_order_of things ∙ made.1.in_order);
       },
     )

@@ -52,22 +52,17 @@ lines_on f before after natural =
     ∙ filter_map-append (λ l. f l.0 l.1) (enumerate_from 1 before) (enumerate_from (n + 1) after)
     ∙ ap (λ ls. filter_map (λ l. f l.0 l.1) (enumerate_from 1 before) ++ ls) (later_lines f n natural 1 after)
 
-event_if : (n m : ℕ) (event : Event) (b : Bool)
-    → cond b (Some (n + m, event)) None ≡ option_map (later_by n) (cond b (Some (m, event)) None)
-event_if n m event true = refl
-event_if n m event false = refl
+later_if : {E : Type 0} (n : ℕ) (b : Bool) (o p : Option (ℕ × E))
+    → cond b (option_map (later_by n) o) (option_map (later_by n) p) ≡ option_map (later_by n) (cond b o p)
+later_if n true o p = refl
+later_if n false o p = refl
 
 event_later : (a : Address) (n m : ℕ) (t : Told) → event_at a (n + m) t ≡ option_map (later_by n) (event_at a m t)
-event_later a n m (told.Event address event) = event_if n m event (a.0 == address.0)
+event_later a n m (told.Event address event) = later_if n (a.0 == address.0) (Some (m, event)) None
 event_later a n m _ = refl
 
-stranger_if : (n m : ℕ) (address : Address) (b : Bool)
-    → cond b None (Some (n + m, address)) ≡ option_map (later_by n) (cond b None (Some (m, address)))
-stranger_if n m address true = refl
-stranger_if n m address false = refl
-
 stranger_later : (cs : List Start) (n m : ℕ) (t : Told) → stranger_at cs (n + m) t ≡ option_map (later_by n) (stranger_at cs m t)
-stranger_later cs n m (told.Event address event) = stranger_if n m address (is_commissioned cs address)
+stranger_later cs n m (told.Event address event) = later_if n (is_commissioned cs address) None (Some (m, address))
 stranger_later cs n m _ = refl
 
 -- ---- a receiver's part of a journal, and of the strangers' lines
@@ -133,10 +128,6 @@ module _ (own : Address) (before after all : List (List Told)) (on : AreHeardOn 
       ap (λ b. cond b None (Some (line, address))) (any_behind address cs bs first)
   stranger_behind cs bs first line _ = refl
 
-  filter_same : {X Y : Type 0} (f g : X → Option Y) → ((x : X) → f x ≡ g x) → (xs : List X) → filter_map f xs ≡ filter_map g xs
-  filter_same f g e [] = refl
-  filter_same f g e (x ∷ xs) = ap (λ o. cons_option o (filter_map f xs)) (e x) ∙ ap (cons_option (g x)) (filter_same f g e xs)
-
   session_cut : (cs : List Start) (w later : WorldView) → IsSession own cs before w → IsSession own (starts_behind w.slots) after later
       → IsSession own cs all (world_on before w later)
   session_cut cs w later first second = record {
@@ -149,8 +140,7 @@ module _ (own : Address) (before after all : List (List Told)) (on : AreHeardOn 
         ∙ ap (λ ls. notes_by v w.strangers ++ ls) (notes_on before v later.strangers)
         ∙ ap (λ ls. ls ++ map (later_by (length (heard_by v before))) (notes_by v later.strangers)) (first.strangers v)
         ∙ ap (λ ls. lines_of_strangers cs (heard_by v before) ++ map (later_by (length (heard_by v before))) ls)
-        (second.strangers v ∙ filter_same (λ (l : ℕ × Told). stranger_at (starts_behind w.slots) l.0 l.1) (λ (l : ℕ × Told). stranger_at cs l.0 l.1)
-        (λ l. stranger_behind cs w.slots first.meters l.0 l.1) (enumerate_from 1 (heard_by v after)))
+        (second.strangers v ∙ (λ i. filter_map (λ (l : ℕ × Told). stranger_behind cs w.slots first.meters l.0 l.1 i) (enumerate_from 1 (heard_by v after))))
         ∙ sym (lines_on (stranger_at cs) (heard_by v before) (heard_by v after) (stranger_later cs (length (heard_by v before))))
         ∙ ap (lines_of_strangers cs) (sym (on v));
   }

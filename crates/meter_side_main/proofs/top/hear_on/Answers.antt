@@ -33,10 +33,8 @@ returns-clause-heard g c = λ tells.
     let tx : Change SourceShown = source_change g.S.Source c.args.tx.now.reader.source c.hear_source-ended.new.tx.reader.source in
     let out : Change SinkShown = sink_change g.K.Sink c.args.paper.now.sink.now c.finish.new.self.sink.now in
     subst (λ (s : SideStatus). Hears m.own m.commission tx g.K.Sink.tells out s) (sym c.status_at.ensures)
-    (hears_by m.own m.commission tx g.K.Sink.tells (filed g.K.Sink.written g.K.Sink.faults c.args.paper.now)
-    (filed g.K.Sink.written g.K.Sink.faults c.finish.new.self) c.hear_source-ended.result
-    (given g.S.Source.taken c.hear_source-ended.new.tx.reader) heard.told.answers heard.key (heard.ends tells)
-    (heard.told.answered tells) c.requires.empty (done g c).1 c.is_err-unwritten.result (failed g c))
+    (hears_by m.own m.commission tx _ _ _ c.hear_source-ended.result _ _ heard.key (heard.ends tells) (heard.told.answered tells)
+    c.requires.empty (done g c).1 c.is_err-unwritten.result (failed g c))
 
 pub returns-clause-cause : goal.returns-clause-cause
 returns-clause-cause g c =
@@ -44,6 +42,5 @@ returns-clause-cause g c =
     let tx : Change SourceShown = source_change g.S.Source c.args.tx.now.reader.source c.hear_source-ended.new.tx.reader.source in
     let out : Change SinkShown = sink_change g.K.Sink c.args.paper.now.sink.now c.finish.new.self.sink.now in
     subst (λ (s : SideStatus). IsHeardFor g.S.Source.tells tx out s) (sym c.status_at.ensures)
-    (heard_for g.S.Source.tells tx out (given g.S.Source.taken c.hear_source-ended.new.tx.reader)
-    c.requires.untaken heard.no_loss c.hear_source-ended.result c.is_err-unwritten.result heard.ends heard.failed
-    (λ yes. (done g c).1.cause (failed g c ∙ yes)))
+    (heard_for _ tx out (given g.S.Source.taken c.hear_source-ended.new.tx.reader) c.requires.untaken heard.no_loss
+    c.hear_source-ended.result c.is_err-unwritten.result heard.ends heard.failed (λ yes. (done g c).1.cause (failed g c ∙ yes)))

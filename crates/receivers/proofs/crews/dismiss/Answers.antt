@@ -14,14 +14,12 @@ loop-worker-init g c = record {
 
 pub join_each-requires : goal.join_each-requires
 join_each-requires g c = let inv = c.loop-worker.invariant in
-    let can = can_join_last (λ w. crew w.passes.items w.stranger_pass) c.args.cells.now c.args.strangers.now c.loop-worker.workers.items
-    c.pop.new.self.items c.in-Some.worker c.in-Some.ensures.items inv.can in
+    let can = can_join_last (λ w. crew w.passes.items w.stranger_pass) _ _ _ _ _ c.in-Some.ensures.items inv.can in
     record { roots = inv.roots; passes = can.1.crew_of.passes; not_first = can.1.split }
 
 pub join-requires : goal.join-requires
 join-requires g c = let inv = c.loop-worker.invariant in
-    let can = can_join_last (λ w. crew w.passes.items w.stranger_pass) c.args.cells.now c.args.strangers.now c.loop-worker.workers.items
-    c.pop.new.self.items c.in-Some.worker c.in-Some.ensures.items inv.can in
+    let can = can_join_last (λ w. crew w.passes.items w.stranger_pass) _ _ _ _ _ c.in-Some.ensures.items inv.can in
     record { cell = (inv.stranger, can.1.crew_of.stranger_pass); not_first = can.1.stranger }
 
 pub loop-worker-preserved : goal.loop-worker-preserved
@@ -29,11 +27,8 @@ loop-worker-preserved g c = let e = c.join.ensures in let inv = c.loop-worker.in
     let popped = c.in-Some.ensures.items in record {
       roots = c.join_each.ensures.roots;
       stranger = (e.same.0 ∙ inv.stranger.0, e.same.1 ∙ inv.stranger.1);
-      can = (can_join_last (λ w. crew w.passes.items w.stranger_pass) c.args.cells.now c.args.strangers.now c.loop-worker.workers.items
-          c.pop.new.self.items c.in-Some.worker popped inv.can).0;
+      can = (can_join_last (λ w. crew w.passes.items w.stranger_pass) _ _ _ _ _ popped inv.can).0;
       gone = one_gone _ _ _ (crew c.in-Some.worker.passes.items c.in-Some.worker.stranger_pass) _ _ _ _ _ _
-          (map_last (λ w. crew w.passes.items w.stranger_pass) c.loop-worker.workers.items c.pop.new.self.items c.in-Some.worker popped)
-          inv.gone c.join_each.ensures.joined e;
-      back = back_more (λ w. w.receiver) c.loop-worker.workers.items c.pop.new.self.items c.in-Some.worker c.loop-worker.receivers.items
-          c.insert.new.self.items _ popped c.in_ok-insert.ensures.items inv.back;
+          (map_last (λ w. crew w.passes.items w.stranger_pass) _ _ _ popped) inv.gone c.join_each.ensures.joined e;
+      back = back_more (λ w. w.receiver) _ _ c.in-Some.worker _ _ _ popped c.in_ok-insert.ensures.items inv.back;
     }

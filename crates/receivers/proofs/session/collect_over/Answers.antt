@@ -31,8 +31,7 @@ returns-clause-collected g c =
     let runs = receiver_runs g.S.Source g.K.Sink c.args.receivers.now.items c.run_cells.new.receivers.items in
     let on = have_run_on _ _ _ _ _ _ _ c.as_slice.ensures.value c.in_ok-run_cells.ensures.roots c.in_ok-run_cells.ensures.run in
     let of = c.in_ok-run_cells.ensures.roots.0 in let many = of.as_many in let before = c.requires.cells.each_cell.as_many in
-    collected c.args.fresh.cells.items c.args.strangers c.args.own c.args.starts.value.items runs c.run_cells.new.roots
-    c.run_cells.new.stranger_root c.in_ok-slots.slots.items c.close.result c.requires.apart c.requires.cells.openings
+    collected _ _ c.args.own c.args.starts.value.items runs _ _ _ c.close.result c.requires.apart c.requires.cells.openings
     (subst (λ (l : List Address). HaveRunOn l c.args.fresh.cells.items c.args.strangers runs c.run_cells.new.roots
     c.run_cells.new.stranger_root) c.requires.directory on)
     (subst (λ (l : List (Shown SlotView Event Outcome)). AreLeft opening_of

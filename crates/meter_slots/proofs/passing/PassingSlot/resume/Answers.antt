@@ -10,8 +10,7 @@ invariant_of-result c =
     rw c.of-begun.ensures (
       record {
         journal = [];
-        keeps =
-            empty_kept c.args.start c.args.own c.new-standing.result.0 made.ready made.commission made.last made.fits made.parts made.orders;
+        keeps = empty_kept _ _ _ made.ready made.commission made.last made.fits made.parts made.orders;
       },
       made.reading,
     )
