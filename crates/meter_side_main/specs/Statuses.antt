@@ -13,13 +13,14 @@ use Rattle.meter_side_main.specs.declared.status.SideStatus.TheVariants as statu
 abbrev pub code_of : SideStatus → ℕ
 code_of statuses.Done = 0
 code_of statuses.Words = 2
+code_of (statuses.Roster line cause) = 3
+code_of (statuses.State line cause) = 3
 code_of statuses.ReadRoster = 4
 code_of statuses.Read = 5
 code_of statuses.Write = 7
 code_of statuses.Cut = 8
 code_of statuses.Memory = 10
 code_of statuses.Uncommissioned = 12
-code_of _ = 3
 
 -- whether the deliveries were heard, so after statuses 0, 5, 7 and 8
 abbrev pub was_heard : SideStatus → Bool
