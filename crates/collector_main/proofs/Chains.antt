@@ -1,5 +1,5 @@
 -- A run that goes on where another one ended.
-use Rattle.std.proofs.Common.{◌≡◌, List, Result, Ok, IsTrue, map, sym, ap, subst, ◌∙◌}
+use Rattle.std.proofs.Common.{◌≡◌, Result, Ok, map, sym, ap, subst, ◌∙◌}
 use Rattle.receivers.specs.HeardLines.{tellings}
 use Rattle.receivers.specs.Session.{IsSession}
 use Rattle.receivers.proofs.SessionCuts.{cut_sessions}

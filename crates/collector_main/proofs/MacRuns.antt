@@ -1,5 +1,5 @@
 -- Closes `macs_decide_in_runs`: what a roster or a state tells of held fragments is bytes, and so is what lines tell.
-use Rattle.std.proofs.Common.{◌≡◌, ℕ, List, [], ◌∷◌, map, Result, Ok, Err, refl, subst}
+use Rattle.std.proofs.Common.{◌≡◌, ℕ, List, [], ◌∷◌, map, Result, Ok, Err, refl, ap, ◌∙◌}
 use Rattle.std.specs.List.{All}
 use Rattle.std.proofs.lemmas.List.Elements.{All-nil, All-cons}
 use Rattle.lists.specs.Each.{Each, EachWith}
@@ -11,8 +11,8 @@ use Rattle.frame_formats.proofs.Division.{each_byte}
 use Rattle.afl_layer.specs.Fields.{fcl_of}
 use Rattle.afl_layer.specs.Header.{afl_bytes}
 use Rattle.afl_fragments.specs.Fragment.{Fragment}
-use Rattle.afl_fragments.specs.Held.{Told, Piece, Tick, Clear}
-use Rattle.meter_slots.specs.Journal.{Start, SlotView, fresh_start}
+use Rattle.afl_fragments.specs.Held.{Told, Piece}
+use Rattle.meter_slots.specs.Journal.{Start, SlotView}
 use Rattle.meter_slots.specs.MacLaw.{TellsBytes}
 use Rattle.receivers.specs.declared.told.Told.{Told as Telling}
 use Rattle.receivers.specs.Told.{told_of}
@@ -24,7 +24,7 @@ use Rattle.receivers.proofs.SaidBytes.{lines_say_bytes}
 use Rattle.roster_file.specs.declared.roster.RosterFault.{RosterFault}
 use Rattle.roster_file.specs.Roster.{Enrolled, roster_of}
 use Rattle.state_file.specs.Text.{spelt, IsSpeltPart, IsSpeltMark}
-use Rattle.state_file.specs.Whole.{Known, fresh_known, of_roster}
+use Rattle.state_file.specs.Whole.{Known, fresh_known, of_roster, state_of}
 use Rattle.state_file.specs.Written.{IsStart}
 use Rattle.state_file.proofs.ReadStates.{read_is_state}
 use Rattle.state_file.proofs.RosterStates.{rosters_are_states}
@@ -41,8 +41,7 @@ part_tells part s = (bytes-append (afl_bytes (fcl_of part.afl) part.afl) part.by
 marks_tell : (told : List Told) → Each IsSpeltMark told → All TellsBytes told
 marks_tell [] each = All-nil TellsBytes
 marks_tell (Piece part ∷ told) each = All-cons TellsBytes (Piece part) told (part_tells part each.0) (marks_tell told each.1)
-marks_tell (Tick ∷ told) each = All-cons TellsBytes Tick told tt (marks_tell told each.1)
-marks_tell (Clear ∷ told) each = All-cons TellsBytes Clear told tt (marks_tell told each.1)
+marks_tell (mark ∷ told) each = All-cons TellsBytes mark told tt (marks_tell told each.1)
 
 abbrev StartTells : Start → Type 0
 StartTells c = All TellsBytes c.told
@@ -50,27 +49,27 @@ StartTells c = All TellsBytes c.told
 starts_tell : (starts : List Start) → Each IsStart starts → Each StartTells starts
 starts_tell = each_map IsStart StartTells (λ c start. marks_tell c.told start.told.marks)
 
-roster_tells : (bytes : List ℕ) (r : Result Enrolled RosterFault) (known : Known) → roster_of bytes ≡ r → of_roster r ≡ Ok known
-    → Each StartTells known.starts
-roster_tells bytes (Ok r) known read is =
-    let same : fresh_known r ≡ known = cc in
-    subst (λ (k : Known). Each StartTells k.starts) same
-    (starts_tell (fresh_known r).starts (read_is_state bytes (fresh_known r) (rosters_are_states bytes r read)).each)
-roster_tells bytes (Err fault) known read is = absurd (cc is)
+-- what a session begins from is a state
+roster_known : (bytes : List ℕ) (r : Result Enrolled RosterFault) (known : Known) → roster_of bytes ≡ r → of_roster r ≡ Ok known
+    → state_of bytes ≡ Ok known
+roster_known bytes (Ok r) known read is = let same : fresh_known r ≡ known = cc in rosters_are_states bytes r read ∙ ap Ok same
+roster_known bytes (Err fault) known read is = absurd cc
+
+pub form_known : (form : Form) (bytes : List ℕ) (known : Known) → known_of form bytes ≡ Ok known → state_of bytes ≡ Ok known
+form_known forms.Roster bytes known is = roster_known bytes (roster_of bytes) known refl is
+form_known forms.State bytes known is = is
 
 known_tells : (form : Form) (bytes : List ℕ) (known : Known) → known_of form bytes ≡ Ok known → Each StartTells known.starts
-known_tells forms.Roster bytes known is = roster_tells bytes (roster_of bytes) known refl is
-known_tells forms.State bytes known is = starts_tell known.starts (read_is_state bytes known is).each
+known_tells form bytes known is = starts_tell known.starts (read_is_state bytes known (form_known form bytes known is)).each
 
 -- ---- what lines tell
 
-texts_say : (texts : List (List ℕ)) → AllSayBytes (map told_of texts)
-texts_say [] = All-nil SaysBytes
-texts_say (text ∷ texts) = All-cons SaysBytes (told_of text) (map told_of texts) (lines_say_bytes text) (texts_say texts)
+all_mapped : {X Y : Type 0} (P : Y → Type 0) (f : X → Y) → ((x : X) → P (f x)) → (xs : List X) → All P (map f xs)
+all_mapped P f each [] = All-nil P
+all_mapped P f each (x ∷ xs) = All-cons P (f x) (map f xs) (each x) (all_mapped P f each xs)
 
 receivers_say : (receivers : List HeardLines) → All AllSayBytes (map tellings receivers)
-receivers_say [] = All-nil AllSayBytes
-receivers_say (r ∷ receivers) = All-cons AllSayBytes (tellings r) (map tellings receivers) (texts_say r.lines) (receivers_say receivers)
+receivers_say = all_mapped AllSayBytes tellings (λ r. all_mapped SaysBytes told_of lines_say_bytes r.lines)
 
 -- ---- the law
 

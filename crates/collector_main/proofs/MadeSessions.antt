@@ -21,7 +21,6 @@ use Rattle.receivers.specs.HeardLines.{HeardLines, HasTaken, IsHeardSession, tel
 use Rattle.receivers.specs.Receiver.{Receiving}
 use Rattle.receivers.specs.Run.{ReceiverRun, receiver_run, receiver_runs}
 use Rattle.receivers.proofs.HeardRuns.{heard_session}
-use Rattle.report_text.specs.declared.lent.ReceiverEnd.{ReceiverEnd}
 use Rattle.report_text.specs.Report.{report_text}
 use Rattle.state_file.specs.Whole.{Known}
 use Rattle.collector_main.specs.declared.together.HeardTogether.{HeardTogether}
@@ -29,9 +28,10 @@ use Rattle.collector_main.specs.declared.form.Form.TheVariants.{Roster}
 use Rattle.collector_main.specs.Begin.{known_of}
 use Rattle.collector_main.specs.Heard.{Heard, receiver_end}
 use Rattle.collector_main.specs.MadeRun.{heard_whole, heard_texts}
-use Rattle.collector_main.specs.Ready.{IsEndOf, HaveHeard, HearsText, IsMadeTogether}
+use Rattle.collector_main.specs.Ready.{HaveHeard, HearsText, IsMadeTogether}
 use Rattle.collector_main.specs.Showing.{IsFresh}
 use Rattle.collector_main.proofs.ManyReceivers.{IsEnd, all_found, each_known, each_short, ends_are, runs_known, runs_ended, runs_many}
+use Rattle.collector_main.proofs.Runs.{whole_end}
 use Rattle.collector_main.proofs.Orders.{order_is_told}
 
 abbrev pub session_of : (roster first second third fourth : List ℕ) → Session
@@ -58,17 +58,14 @@ module _ {S K : Type 0} (s : sources.Ghosts S) (k : sinks.Ghosts K) (reads : (x 
       → IsEnding how (s.taken new.source) (s.left new.source) lines
       → (how ≡ ends.ReadFault → Rose (s.faults old.source) (s.faults new.source))
       → (how ≡ ends.TxFault → Rose (k.faults old.tx) (k.faults new.tx)) → heard_as lines how ≡ heard_whole text
-  by_end old new text ends.End lines over bytes found so ending read tx =
+  by_end old new text how lines over bytes found so ending read tx =
+      let at_end : how ≡ ends.End =
+      whole_end how _ _ text lines ending bytes over.within (λ is. found (so ∙ ap Some is))
+      (λ is. no_rise _ _ (reads old.source) (reads new.source) (read is)) (λ is. no_rise _ _ (writes old.tx) (writes new.tx) (tx is)) in
+      let whole = subst (λ e. IsEnding e (s.taken new.source) (s.left new.source) lines) at_end ending in
       let taken : s.taken new.source ≡ text = sym (append-nil (s.taken new.source))
-      ∙ ap (λ t. s.taken new.source ++ t) (sym ending.nothing_left) ∙ bytes in
-      ap (λ l. heard_as l ends.End) (ending.all ∙ ap all_lines taken)
-  by_end old new text ends.Cut lines over bytes found so ending read tx =
-      absurd (let cut = ap is_over (sym bytes) ∙ ending.source_over in let within = over.within in cc)
-  by_end old new text ends.ReadFault lines over bytes found so ending read tx =
-      absurd (no_rise _ _ (reads old.source) (reads new.source) (read refl))
-  by_end old new text ends.TxFault lines over bytes found so ending read tx =
-      absurd (no_rise _ _ (writes old.tx) (writes new.tx) (tx refl))
-  by_end old new text ends.Memory lines over bytes found so ending read tx = absurd (found so)
+      ∙ ap (λ t. s.taken new.source ++ t) (sym whole.nothing_left) ∙ bytes in
+      λ i. heard_as ((whole.all ∙ ap all_lines taken) i) (at_end i)
 
   module _ (directory : List Address) where
     one_whole : (old new : Receiving S K) (text : List ℕ) (h : HeardLines) → IsOver old text → new.ended ≢ Some ends.Memory
@@ -81,13 +78,12 @@ module _ {S K : Type 0} (s : sources.Ghosts S) (k : sinks.Ghosts K) (reads : (x 
         → length news ≡ length olds → Each (λ r. r.ended ≢ Some ends.Memory) (receiver_runs s k olds news)
         → EachWith (HasTaken directory) (receiver_runs s k olds news) hs → hs ≡ map heard_whole texts
     all_whole [] news [] [] over many found taken = refl
-    all_whole [] news [] (h ∷ hs) over many found taken = absurd taken
     all_whole [] news (t ∷ texts) hs over many found taken = absurd over
     all_whole (o ∷ olds) news [] hs over many found taken = absurd over
     all_whole (o ∷ olds) [] (t ∷ texts) hs over many found taken = absurd cc
-    all_whole (o ∷ olds) (n ∷ news) (t ∷ texts) [] over many found taken = absurd taken
     all_whole (o ∷ olds) (n ∷ news) (t ∷ texts) (h ∷ hs) over many found taken =
         ap₂ (λ x xs. x ∷ xs) (one_whole o n t h over.0 found.0 taken.0) (all_whole olds news texts hs over.1 (omega arith) found.1 taken.1)
+    all_whole _ _ _ _ over many found taken = absurd taken
 
   -- ---- what they heard together
 

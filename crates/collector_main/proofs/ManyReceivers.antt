@@ -1,10 +1,7 @@
 -- A run of several receivers.
-use Rattle.std.proofs.Common.{get_or, IfOk, suc, ◌≡◌, ◌≢◌, ◌⊎◌, ◌++◌, ◌+◌, ◌<◌, ◌≤◌, ◌^◌, ℕ, List, [], ◌∷◌, Bool, true, false, Option, Some, None, Result, Ok, Err, inl, inr, ⊎_elim, refl, sym, ap, ap₂, subst, ◌∙◌, IsTrue, map, length, take, arith}
+use Rattle.std.proofs.Common.{suc, ◌≡◌, ◌≢◌, ◌++◌, ◌+◌, ◌<◌, ◌≤◌, ◌^◌, ℕ, List, [], ◌∷◌, Bool, true, false, Option, Some, None, Result, Ok, Err, inl, inr, refl, sym, ap, ap₂, subst, ◌∙◌, IsTrue, map, length, arith}
 use Rattle.std.specs.List.{enumerate_from}
-use Rattle.std.specs.List.{All}
-use Rattle.std.proofs.lemmas.List.{length-map, map-append, take_more}
-use Rattle.std.proofs.lemmas.Simd.{map-map}
-use Rattle.std.proofs.lemmas.List.Elements.{All-nil, All-cons}
+use Rattle.std.proofs.lemmas.List.{length-map}
 use Rattle.lists.specs.Each.{Each, EachWith, PassUntil, IsFirst}
 use Rattle.lists.proofs.Members.{each_map, with_fold, with_length, with_map}
 use Rattle.outer_io.specs.Shown.{Change, SourceShown, SinkShown, ReadFailed, WriteFailed, LosesNothing, IsReadOut, HasText}
@@ -20,10 +17,8 @@ use Rattle.meter_slots.specs.Journal.{Start, SlotView}
 use Rattle.meter_slots.specs.Resuming.{known_now}
 use Rattle.meter_address.specs.Address.{AreApart}
 use Rattle.meter_slots.specs.World.{WorldView}
-use Rattle.stranger_ring.specs.declared.strangers.Heard.{Heard as Stranger}
 use Rattle.receivers.specs.Classes.{counts_of}
 use Rattle.receivers.specs.Collected.{IsCollected, address_of}
-use Rattle.receivers.specs.Ending.{IsEnding}
 use Rattle.receivers.specs.HeardLines.{HeardLines, HasTaken, IsHeardSession, IsKnown, tellings}
 use Rattle.receivers.specs.Receiver.{Receiving}
 use Rattle.receivers.specs.Run.{ReceiverRun, receiver_run, receiver_runs, hearing_of, lines_of}
@@ -48,10 +43,10 @@ use Rattle.collector_main.specs.Heard.{Heard, left_known, next_text, next_of, re
 use Rattle.collector_main.specs.Ready.{IsEndOf, HaveHeard}
 use Rattle.collector_main.specs.declared.together.HeardTogether.{HeardTogether}
 use Rattle.collector_main.specs.Run.{Run, Output, IsRun, EndsSo, HasEnded, IsWhole, IsUnwritten, EndIsCaused, IsCausedBy}
-use Rattle.collector_main.specs.Showing.{IsFresh, report_output, all_outputs}
+use Rattle.collector_main.specs.Showing.{IsFresh, all_outputs}
 use Rattle.collector_main.specs.Statuses.{IsUnread, was_heard, status_at, stop_at, stop_from, status_after, unwritten, Wrote}
 use Rattle.collector_main.proofs.Orders.{with_meet, order_is_told}
-use Rattle.collector_main.proofs.Runs.{end_caused}
+use Rattle.collector_main.proofs.Runs.{end_caused, whole_end}
 
 -- ---- the first receiver that stops
 
@@ -90,10 +85,8 @@ one_stops r e runs es end each later n s = at e.ended end.ended end.found_memory
     at ends.End ended found stop =
         let l = later (n + 1) s stop in
         record { number = l.number; how = l.how; stopping = l.stopping; is = l.is; first = inr (ended, l.first) }
-    at ends.Cut ended found stop = record { number = n; how = ends.Cut; stopping = tt; is = cc; first = inl (refl, ended) }
-    at ends.ReadFault ended found stop = record { number = n; how = ends.ReadFault; stopping = tt; is = cc; first = inl (refl, ended) }
-    at ends.TxFault ended found stop = record { number = n; how = ends.TxFault; stopping = tt; is = cc; first = inl (refl, ended) }
     at ends.Memory ended found stop = absurd (found refl)
+    at how ended found stop = record { number = n; how = how; stopping = tt; is = cc; first = inl (refl, ended) }
 
 stops_from : (runs : List ReceiverRun) (es : List ReceiverEnd) → EachWith IsEnd runs es → StopsAt runs es
 stops_from = with_fold IsEnd StopsAt (λ n s none. absurd cc) one_stops
@@ -108,10 +101,7 @@ none_stops = with_fold IsEnd NoneStops (λ n none. tt) (λ r e runs es end each 
     one : (r : ReceiverRun) (e : ReceiverEnd) (runs : List ReceiverRun) (es : List ReceiverEnd) → NoneStops runs es → (n : ℕ) (v : Ended)
         → r.ended ≡ Some v → stop_at n v (stop_from (n + 1) es) ≡ None → Each (HasEnded ends.End) (r ∷ runs)
     one r e runs es later n ends.End ended none = (ended, later (n + 1) none)
-    one r e runs es later n ends.Cut ended none = absurd cc
-    one r e runs es later n ends.ReadFault ended none = absurd cc
-    one r e runs es later n ends.TxFault ended none = absurd cc
-    one r e runs es later n ends.Memory ended none = absurd cc
+    one r e runs es later n _ ended none = absurd cc
 
 -- and the other way round
 all_end : (runs : List ReceiverRun) (es : List ReceiverEnd) → EachWith IsEnd runs es → Each (HasEnded ends.End) runs → (n : ℕ)
@@ -128,28 +118,12 @@ module _ (st : Bool) (directory : List Address) where
       subst (EndIsCaused st r) (sym h.ended)
       (end_caused st r h.how (lines_of (hearing_of r h.how)) h.has_heard.read_fault h.tx_fault (λ told. h.has_heard.ending (knows ∙ told)))
 
-  each_caused : (runs : List ReceiverRun) (parts : List Part) → EachWith (HasRun directory) runs parts
-      → Each (λ r. r.source_tells ≡ st) runs → Each (λ r. EndIsCaused st r r.ended) runs
-  each_caused = with_fold (HasRun directory) (λ runs parts. Each (λ r. r.source_tells ≡ st) runs → Each (λ r. EndIsCaused st r r.ended) runs)
-      (λ knows. tt) (λ r p runs parts h each later knows. (run_caused r p knows.0 h, later knows.1))
-
-  each_keeps : (runs : List ReceiverRun) (parts : List Part) → EachWith (HasRun directory) runs parts
-      → Each (λ r. r.source_tells ≡ st) runs → IsTrue st → Each (λ r. LosesNothing r.source) runs
-  each_keeps = with_fold (HasRun directory)
-      (λ runs parts. Each (λ r. r.source_tells ≡ st) runs → IsTrue st → Each (λ r. LosesNothing r.source) runs) (λ knows told. tt)
-      (λ r p runs parts h each later knows told. (h.has_heard.no_loss (knows.0 ∙ told), later knows.1 told))
-
-  -- a receiver in whose way nothing stood ended at its source's end
-  faultless_end : (r : ReceiverRun) (how : Ended) (lines : List (List ℕ)) → r.ended ≡ Some how → r.ended ≢ Some ends.Memory
-      → (how ≡ ends.ReadFault → ReadFailed r.source) → (how ≡ ends.TxFault → WriteFailed r.tx)
-      → IsEnding how r.source.now.taken r.source.now.left lines → r.source.now.taken ++ r.source.now.left ≡ r.source.before.left
-      → is_over r.source.before.left ≡ false → ¬ ReadFailed r.source → ¬ WriteFailed r.tx → HasEnded ends.End r
-  faultless_end r ends.End lines is found read tx ending bytes within steady tx_steady = is
-  faultless_end r ends.Cut lines is found read tx ending bytes within steady tx_steady =
-      absurd (let over = ap is_over (sym bytes) ∙ ending.source_over in cc)
-  faultless_end r ends.ReadFault lines is found read tx ending bytes within steady tx_steady = absurd (steady (read refl))
-  faultless_end r ends.TxFault lines is found read tx ending bytes within steady tx_steady = absurd (tx_steady (tx refl))
-  faultless_end r ends.Memory lines is found read tx ending bytes within steady tx_steady = absurd (found is)
+  -- what holds of a run that knows whether its source tells
+  each_run : (P : ReceiverRun → Type 0) → ((r : ReceiverRun) (p : Part) → r.source_tells ≡ st → HasRun directory r p → P r)
+      → (runs : List ReceiverRun) (parts : List Part) → EachWith (HasRun directory) runs parts → Each (λ r. r.source_tells ≡ st) runs
+      → Each P runs
+  each_run P one = with_fold (HasRun directory) (λ runs parts. Each (λ r. r.source_tells ≡ st) runs → Each P runs) (λ knows. tt)
+      (λ r p runs parts h each later knows. (one r p knows.0 h, later knows.1))
 
   bytes_of_run : (r : ReceiverRun) → LosesNothing r.source → r.source.before.taken ≡ []
       → r.source.now.taken ++ r.source.now.left ≡ r.source.before.left
@@ -169,9 +143,9 @@ module _ (st : Bool) (directory : List Address) where
       → Each (λ r. ¬ ReadFailed r.source) runs → Each (λ r. ¬ WriteFailed r.tx) runs → Each (HasEnded ends.End) runs)
       (λ knows none found within steady tx_steady. tt)
       (λ r p runs parts h each later knows none found within steady tx_steady. (
-        faultless_end r h.how (lines_of (hearing_of r h.how)) h.ended found.0 h.has_heard.read_fault h.tx_fault
-            (h.has_heard.ending (knows.0 ∙ told)) (bytes_of_run r (h.has_heard.no_loss (knows.0 ∙ told)) (none.0 told))
-            within.0 steady.0 tx_steady.0,
+        h.ended ∙ ap Some (whole_end h.how _ _ _ _ (h.has_heard.ending (knows.0 ∙ told))
+            (bytes_of_run r (h.has_heard.no_loss (knows.0 ∙ told)) (none.0 told)) within.0 (λ is. found.0 (h.ended ∙ ap Some is))
+            (λ is. steady.0 (h.has_heard.read_fault is)) (λ is. tx_steady.0 (h.tx_fault is))),
         later knows.1 none.1 found.1 within.1 steady.1 tx_steady.1,
       ))
 
@@ -273,9 +247,7 @@ module _ (form : Form) (st kt : Bool) (beginning : Change SourceShown) (runs : L
     all_whole : (a b c : Result Unit Failed) → Writes a b c → unwritten a b c ≡ statuses.Done → IsTrue kt
         → (next.now.written ≡ next_is) × (readings.now.written ≡ readings_are) × (report.now.written ≡ report_is)
     all_whole (Ok _) (Ok _) (Ok _) w is writes = (w.wrote_next writes, w.wrote_readings writes, w.wrote_report writes)
-    all_whole (Err _) b c w is writes = absurd cc
-    all_whole (Ok _) (Err _) c w is writes = absurd cc
-    all_whole (Ok _) (Ok _) (Err _) w is writes = absurd cc
+    all_whole _ _ _ w is writes = absurd cc
 
     -- the first output that couldn't be written, each one before it being such
     first_unwritten : (P : Output → Type 0) (a b c : Result Unit Failed) (which : ℕ) → Writes a b c
@@ -303,11 +275,10 @@ module _ (form : Form) (st kt : Bool) (beginning : Change SourceShown) (runs : L
     heard_stop result s stop = subst (IsHeardBy result) stop.is (at stop.number stop.how stop.stopping stop.first)
       where
         at : (w : ℕ) (how : Ended) → IsStopping how → IsFirst (HasEnded ends.End) (HasEnded how) w runs → IsHeardBy result (status_at w how)
-        at w ends.Cut stopping first = (first, refl, λ unread. unread)
-        at w ends.ReadFault stopping first = (first, refl, λ unread. unread)
-        at w ends.TxFault stopping first = ((refl, first), refl, λ unread. unread)
         at w ends.End stopping first = absurd stopping
         at w ends.Memory stopping first = absurd stopping
+        at w ends.TxFault stopping first = ((refl, first), refl, λ unread. unread)
+        at w _ stopping first = (first, refl, λ unread. unread)
 
     steady_writes : (a b c : Result Unit Failed) → Writes a b c → ¬ WriteFailed next → ¬ WriteFailed readings → ¬ WriteFailed report
         → unwritten a b c ≡ statuses.Done
@@ -325,11 +296,9 @@ module _ (form : Form) (st kt : Bool) (beginning : Change SourceShown) (runs : L
   IsOther _ = ⊥
 
   never : (s : Status) → IsOther s → (w : ℕ) (how : Ended) → IsStopping how → status_at w how ≡ s → ⊥
-  never s other w ends.Cut stopping is = subst IsOther (sym is) other
-  never s other w ends.ReadFault stopping is = subst IsOther (sym is) other
-  never s other w ends.TxFault stopping is = subst IsOther (sym is) other
   never s other w ends.End stopping is = stopping
   never s other w ends.Memory stopping is = stopping
+  never s other w _ stopping is = subst IsOther (sym is) other
 
   module _ (a b c : Result Unit Failed) (w : Writes (report_text es world.slots world.strangers) a b c) (each : EachWith IsEnd runs es)
       (result : Status)
@@ -396,14 +365,19 @@ module _ (form : Form) (st kt : Bool) (beginning : Change SourceShown) (runs : L
                     (no_stop (statuses.Write which) (never (statuses.Write which) tt) is);
               };
           status_caused = heard_so.0;
-          ends_caused = λ told. each_caused st directory runs collected.parts collected.each_run knows;
+          ends_caused = λ told. each_run st directory (λ r. EndIsCaused st r r.ended) (run_caused st directory) runs collected.parts
+              collected.each_run knows;
           refused = λ told fault bad. let yes = found told in absurd cc;
           complete = λ told f. inl (let all =
               all_faultless st directory told runs collected.parts collected.each_run knows none (all_found st directory runs es each) f.within
               f.receivers_steady (f.sinks_steady refl) in
               result_is ∙ ap (λ o. status_after o (unwritten a b c)) (all_end runs es each all 1)
               ∙ steady_writes plain a b c w f.outputs_steady.0 f.outputs_steady.1.0 f.outputs_steady.1.1.0);
-          no_loss = λ told. (kept told, λ shown. each_keeps st directory runs collected.parts collected.each_run knows told);
+          no_loss = λ told. (
+            kept told,
+            λ shown. each_run st directory (λ r. LosesNothing r.source)
+                (λ r p known h. h.has_heard.no_loss (known ∙ told)) runs collected.parts collected.each_run knows,
+          );
           silent = λ unheard. let heard = heard_so.1 in absurd cc;
         }
 
@@ -429,27 +403,24 @@ left_have_room own cs runs world room collected =
 
 module _ {S K : Type 0} (s : sources.Ghosts S) (k : sinks.Ghosts K) where
   pub runs_known : (olds news : List (Receiving S K)) → Each (λ r. r.source_tells ≡ s.tells) (receiver_runs s k olds news)
-  runs_known [] news = tt
-  runs_known (o ∷ olds) [] = tt
   runs_known (o ∷ olds) (n ∷ news) = (refl, runs_known olds news)
+  runs_known _ _ = tt
 
   pub runs_untaken : (olds news : List (Receiving S K)) → Each (λ r. IsTrue s.tells → s.taken r.source ≡ []) olds
       → Each (λ r. IsTrue s.tells → r.source.before.taken ≡ []) (receiver_runs s k olds news)
-  runs_untaken [] news each = tt
-  runs_untaken (o ∷ olds) [] each = tt
   runs_untaken (o ∷ olds) (n ∷ news) each = (each.0, runs_untaken olds news each.1)
+  runs_untaken _ _ each = tt
 
   pub runs_ended : (olds news : List (Receiving S K)) (es : List ReceiverEnd) → length news ≡ length olds → EachWith IsEndOf news es
       → EachWith IsEnd (receiver_runs s k olds news) es
   runs_ended [] [] [] many each = tt
-  runs_ended [] [] (e ∷ es) many each = absurd each
   runs_ended [] (n ∷ news) es many each = absurd cc
   runs_ended (o ∷ olds) [] es many each = absurd cc
-  runs_ended (o ∷ olds) (n ∷ news) [] many each = absurd each
   runs_ended (o ∷ olds) (n ∷ news) (e ∷ es) many each = (
     record { ended = each.0.ended; counts = each.0.counts; few = each.0.few; found_memory = each.0.found_memory },
     runs_ended olds news es (suc_is many) each.1,
   )
+  runs_ended _ _ _ many each = absurd each
 
   pub runs_many : (olds news : List (Receiving S K)) → length news ≡ length olds → length (receiver_runs s k olds news) ≡ length olds
   runs_many [] news many = refl

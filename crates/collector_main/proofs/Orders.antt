@@ -28,11 +28,10 @@ use Rattle.report_text.proofs.LineReport.{report_orders}
 pub with_meet : {A B C : Type 0} (P : A → B → Type 0) (Q : A → C → Type 0) (xs : List A) (ys : List B) (zs : List C) → EachWith P xs ys
     → EachWith Q xs zs → EachWith (λ y z. (x : A) × P x y × Q x z) ys zs
 with_meet P Q [] [] [] one two = tt
-with_meet P Q [] [] (z ∷ zs) one two = absurd two
 with_meet P Q [] (y ∷ ys) zs one two = absurd one
 with_meet P Q (x ∷ xs) [] zs one two = absurd one
-with_meet P Q (x ∷ xs) (y ∷ ys) [] one two = absurd two
 with_meet P Q (x ∷ xs) (y ∷ ys) (z ∷ zs) one two = ((x, one.0, two.0), with_meet P Q xs ys zs one.1 two.1)
+with_meet P Q _ _ _ one two = absurd two
 
 module _ {X Y : Type 0} (source line : X → ℕ) (what : X → Y) where
   abbrev pub part : ℕ → List X → List X
@@ -109,13 +108,11 @@ if_none false line y p e = if_some true line y p e
 
 keeps_event : (a : Address) (l : ℕ × Told) (p : ℕ × Event) → event_at a l.0 l.1 ≡ Some p → p.0 ≡ l.0
 keeps_event a (line, told.Event address event) p e = if_some (a.0 == address.0) line event p e
-keeps_event a (line, told.Unframed) p e = absurd cc
-keeps_event a (line, told.Bad) p e = absurd cc
+keeps_event a (line, _) p e = absurd cc
 
 keeps_stranger : (cs : List Start) (l : ℕ × Told) (p : ℕ × Address) → stranger_at cs l.0 l.1 ≡ Some p → p.0 ≡ l.0
 keeps_stranger cs (line, told.Event address event) p e = if_none (is_commissioned cs address) line address p e
-keeps_stranger cs (line, told.Unframed) p e = absurd cc
-keeps_stranger cs (line, told.Bad) p e = absurd cc
+keeps_stranger cs (line, _) p e = absurd cc
 
 -- ---- numbers of receivers
 

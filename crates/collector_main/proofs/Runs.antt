@@ -68,15 +68,22 @@ end_caused st r ends.ReadFault lines read tx ending = read refl
 end_caused st r ends.TxFault lines read tx ending = tx refl
 end_caused st r ends.Memory lines read tx ending = tt
 
+-- a receiver ended at its source's end where nothing else ended it
+pub whole_end : (how : Ended) (taken left text : List ℕ) (lines : List (List ℕ)) → IsEnding how taken left lines → taken ++ left ≡ text
+    → is_over text ≡ false → how ≢ ends.Memory → how ≢ ends.ReadFault → how ≢ ends.TxFault → how ≡ ends.End
+whole_end ends.End taken left text lines ending bytes within memory read tx = refl
+whole_end ends.Cut taken left text lines ending bytes within memory read tx =
+    absurd (let over = ap is_over (sym bytes) ∙ ending.source_over in cc)
+whole_end ends.Memory taken left text lines ending bytes within memory read tx = absurd (memory refl)
+whole_end ends.ReadFault taken left text lines ending bytes within memory read tx = absurd (read refl)
+whole_end ends.TxFault taken left text lines ending bytes within memory read tx = absurd (tx refl)
+
 -- ---- a run in which no receiver was heard to its end
 
 pub unended_caused : (st : Bool) (r : ReceiverRun) (ended : Option Ended) → IsUnended ended → EndIsCaused st r ended
 unended_caused st r None is = tt
 unended_caused st r (Some ends.Memory) is = tt
-unended_caused st r (Some ends.End) is = absurd is
-unended_caused st r (Some ends.Cut) is = absurd is
-unended_caused st r (Some ends.ReadFault) is = absurd is
-unended_caused st r (Some ends.TxFault) is = absurd is
+unended_caused st r (Some _) is = absurd is
 
 module _ (form : Form) (st kt : Bool) (beginning : Change SourceShown) (runs : List ReceiverRun) (sends : Bool) (outputs : List Output) where
   abbrev run_with : Status → Run
@@ -119,12 +126,7 @@ module _ (form : Form) (st kt : Bool) (beginning : Change SourceShown) (runs : L
   }
   unheard_is statuses.Memory why =
       record { caused = tt; unheard = refl; refused = λ told fault bad. inr (inr refl); complete = λ told f. inr refl }
-  unheard_is statuses.Done why = absurd why
-  unheard_is (statuses.Words fault) why = absurd why
-  unheard_is (statuses.Read w) why = absurd why
-  unheard_is (statuses.Transmit w) why = absurd why
-  unheard_is (statuses.Cut w) why = absurd why
-  unheard_is (statuses.Write which) why = absurd why
+  unheard_is _ why = absurd why
 
   pub unheard_run : (status : Status) → IsRefusal form st beginning status
       → (AreTold (run_with status) → Each (λ r. EndIsCaused st r r.ended) runs)
@@ -190,25 +192,20 @@ module _ (form : Form) (st kt : Bool) (beginning : Change SourceShown) (r : Rece
   comes_to ends.Memory lines is never finished cause ending bytes = absurd (never.1 refl)
 
   -- the receiver was heard
-  pub heard_run : (e : Known) (ended ended' : Ended) (counts counts' : Counts) (fresh world : WorldView) → ended ≡ ended'
-      → counts ≡ counts'
+  pub heard_run : (e : Known) (ended : Ended) (counts counts' : Counts) (fresh world : WorldView) → counts ≡ counts'
       → (IsTrue st → known_of form beginning.before.left ≡ Ok e) → (IsTrue st → IsReadOut beginning) → (IsTrue st → LosesNothing beginning)
-      → r.ended ≡ Some ended' → r.counts ≡ counts' → fresh ≡ world_of e.own e.starts [] → counts.lines < 2 ^ 32
-      → HasHeardAlone 1 (record { tells = st; source = r.source; counts = counts'; ended = ended' }) fresh world
-      → (IsTrue st → r.source.before.taken ≡ []) → IsHeardEnd ended'
-      → IsFinished ended report result
+      → r.ended ≡ Some ended → r.counts ≡ counts' → fresh ≡ world_of e.own e.starts [] → counts.lines < 2 ^ 32
+      → HasHeardAlone 1 (record { tells = st; source = r.source; counts = counts'; ended = ended }) fresh world
+      → (IsTrue st → r.source.before.taken ≡ []) → IsHeardEnd ended → IsFinished ended report result
       → (IsTrue kt → HasText (report_text (record { counts = counts; ended = ended } ∷ []) world.slots world.strangers) report)
       → (result ≡ statuses.Done → IsTrue kt
       → report.now.written ≡ report_text (record { counts = counts; ended = ended } ∷ []) world.slots world.strangers)
       → IsRun this
-  heard_run e ended ended' counts counts' fresh world same_end same_counts found read kept is' counted_so before few hears' untaken never' finished
+  heard_run e ended counts counts' fresh world same_counts found read kept is counted_so before few hears' untaken never finished
       written done =
-      let is : r.ended ≡ Some ended = is' ∙ ap Some (sym same_end) in
-      let never : IsHeardEnd ended = (λ t. never'.0 (sym same_end ∙ t), λ m. never'.1 (sym same_end ∙ m)) in
-      let Hears : Counts → Ended
-      → Type 0 = λ n end. HasHeardAlone 1 (record { tells = st; source = r.source; counts = n; ended = end }) fresh world in
-      let hears : HasHeardAlone 1 (record { tells = st; source = r.source; counts = counts; ended = ended }) fresh world =
-      subst (λ (n : Counts). Hears n ended) (sym same_counts) (subst (λ (end : Ended). Hears counts' end) (sym same_end) hears') in
+      let Hears : Counts → Type 0 =
+      λ n. HasHeardAlone 1 (record { tells = st; source = r.source; counts = n; ended = ended }) fresh world in
+      let hears : Hears counts = subst Hears (sym same_counts) hears' in
       let h : Hearing = record { tells = st; source = r.source; counts = counts; ended = ended } in
       let alone = heard_alone e.own e.starts h fresh world before hears in
       let lines = lines_of h in

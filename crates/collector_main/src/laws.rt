@@ -11,6 +11,7 @@ ghost use Rattle.receivers.specs.Session.{IsSession};
 
 /// The lines of one receiver fix the session: the slots and the strangers' list are those of its lines, stepped one after the other. So
 /// the report of `hear` is a function of the roster and of the lines.
+#[tactic(auto, using(crate::proofs::OneReceiver::session_fixed))]
 pub fn one_receivers_lines_fix_the_session()
     ensures { (own : Address) (commissions : List Start) (heard : List Told) (world : WorldView)
         → IsSession own commissions (heard ∷ []) world → world ≡ world_of own commissions (steps_of 1 heard) }

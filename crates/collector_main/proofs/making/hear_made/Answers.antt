@@ -1,7 +1,7 @@
-use Rattle.std.proofs.Common.{rules, ◌≡◌, ◌<◌, ◌^◌, Result, Ok, length, refl, ap, sym, ◌∙◌, arith}
+use Rattle.std.proofs.Common.{rules, ◌≡◌, ◌<◌, ◌^◌, Ok, length, refl, ap, sym, ◌∙◌, arith}
 use Rattle.lists.proofs.Members.{with_length}
 use Rattle.roster_file.proofs.Enrolling.{read_is_enrolled}
-use Rattle.state_file.specs.Whole.{Known, fresh_known, of_roster}
+use Rattle.state_file.specs.Whole.{Known, of_roster}
 use Rattle.collector_main.specs.Ready.{HearsText}
 use Rattle.collector_main.proofs.MadeSessions.{four_fresh, made_heard}
 use Rattle.collector_main.proofs.making.hear_made.Goals as goal

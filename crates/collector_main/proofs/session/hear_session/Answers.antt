@@ -1,4 +1,4 @@
-use Rattle.std.proofs.Common.{Some, None, [], ap, map, refl, ◌∙◌, rules}
+use Rattle.std.proofs.Common.{Some, None, [], ap, refl, ◌∙◌, rules}
 use Rattle.meter_slots.specs.declared.counts.Ended.TheVariants as ends
 use Rattle.meter_slots.specs.World.{world_of}
 use Rattle.collector_main.specs.declared.status.Status.TheVariants as statuses
@@ -21,10 +21,9 @@ returns-in-Memory-clause-run g c =
 
 pub returns-clause-run : goal.returns-clause-run
 returns-clause-run g c =
-    heard_run _ _ _ _ _ _ _ c.in-Ok.state c.work_alone.result c.work_alone.result c.counts-counts.result c.work_alone.new.self.counts
-    c.in-Ok-new.world c.work_alone.new.alone.world
-    refl c.counts-counts.ensures c.in-Ok.ensures.found c.in-Ok.ensures.read c.known.ensures.no_loss
-    c.work_alone.ensures.ended refl
+    heard_run _ _ _ _ _ _ _ c.in-Ok.state c.work_alone.result c.counts-counts.result c.work_alone.new.self.counts
+    c.in-Ok-new.world c.work_alone.new.alone.world c.counts-counts.ensures c.in-Ok.ensures.found c.in-Ok.ensures.read
+    c.known.ensures.no_loss c.work_alone.ensures.ended refl
     (c.in-Ok-new.ensures ∙ ap (λ own. world_of own c.into_starts.result.items []) c.own-own.ensures
     ∙ ap (λ starts. world_of c.in-Ok.state.own starts []) c.into_starts.ensures.starts)
     (search rules)
