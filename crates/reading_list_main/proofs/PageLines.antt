@@ -124,11 +124,11 @@ long_alike kept behind more is none long = by_place (position is_newline more) r
         let one = length-append kept more in
         let two = length-append behind more in
         let k = kept_len in
-        subst (λ l. Alike l (lines (behind ++ more)))
-        (sym (lines_alone (kept ++ more) (newlines-both kept more kept_none alone) (omega arith)))
-        (subst (λ l. Alike ((kept ++ more) ∷ []) l)
-        (sym (lines_alone (behind ++ more) (newlines-both behind more none alone) (omega arith)))
-        (both (kept ++ more) (behind ++ more) (omega arith) (omega arith), tt))
+        rw (
+          lines_alone (kept ++ more) (newlines-both kept more kept_none alone) (omega arith),
+          lines_alone (behind ++ more) (newlines-both behind more none alone) (omega arith),
+        )
+        (both (kept ++ more) (behind ++ more) (omega arith) (omega arith), tt)
     by_place (Some i) found =
         let line = first_place more i found in
         let one = length-append kept line.front in
@@ -136,15 +136,13 @@ long_alike kept behind more is none long = by_place (position is_newline more) r
         let strip_one = length-strip (kept ++ line.front) in
         let strip_two = length-strip (behind ++ line.front) in
         let k = kept_len in
-        subst (λ l. Alike l (lines (behind ++ more)))
-        (sym (ap (λ m. lines (kept ++ m)) line.cut ∙ ap lines (sym (append_assoc kept line.front (10 ∷ line.rest)))
-        ∙ lines_front (kept ++ line.front) line.rest (newlines-both kept line.front kept_none line.alone)))
-        (subst (λ l. Alike (strip_carriage_return (kept ++ line.front) ∷ lines line.rest) l)
-        (sym (ap (λ m. lines (behind ++ m)) line.cut ∙ ap lines (sym (append_assoc behind line.front (10 ∷ line.rest)))
-        ∙ lines_front (behind ++ line.front) line.rest (newlines-both behind line.front none line.alone))) (
+        let cut = λ (held : List ℕ) (held_none : newlines held ≡ 0).
+        ap (λ m. lines (held ++ m)) line.cut ∙ ap lines (sym (append_assoc held line.front (10 ∷ line.rest)))
+        ∙ lines_front (held ++ line.front) line.rest (newlines-both held line.front held_none line.alone) in
+        rw (cut kept kept_none, cut behind none) (
           both (strip_carriage_return (kept ++ line.front)) (strip_carriage_return (behind ++ line.front)) (omega arith) (omega arith),
           alike_self (lines line.rest),
-        ))
+        )
 
 pub kept_alike : (kept behind more : List ℕ) → kept ≡ take 8194 behind → newlines behind ≡ 0
     → Alike (lines (kept ++ more)) (lines (behind ++ more))

@@ -8,7 +8,6 @@ use Rattle.line_teller.specs.declared.ending.LinesEnd.{LinesEnd}
 use Rattle.line_teller.specs.declared.ending.LinesEnd.TheVariants as ends
 use Rattle.line_teller.specs.Ending.{EndsText, IsNoted, is_whole}
 use Rattle.line_teller.proofs.Steps.{noted_then, rose_then}
-use Rattle.reading_list_main.specs.declared.forms.Form.{Form}
 use Rattle.reading_list_main.specs.declared.lister.Lister.{Lister}
 use Rattle.reading_list_main.specs.declared.status.ListStatus.TheVariants as statuses
 use Rattle.reading_list_main.specs.RecordLines.{head_text}
@@ -26,36 +25,24 @@ pub told_lines : (run : Run) (end : LinesEnd) (first now : Lister) (middle : Sin
     → run.notes.before.faults ≤ middle.faults → middle.faults ≤ run.notes.now.faults
     → (IsTrue run.notes_tell → IsNoted (end_notes end now) (record { before = middle; now = run.notes.now }))
     → run.status ≡ status_of end (is_faultless now) → ToldLines run end
-told_lines run end first now middle first_is e one two noted_end status =
-    let note_is : noted 1 first e.lines ≡ noted 1 (fresh run.form) e.lines = ap (λ l. noted 1 l e.lines) first_is in
+told_lines run end first now middle first_is ended one two noted_end status =
+    let e = subst (λ l. Ended l now end run.report.now run.list_tells run.out run.notes_tell (record { before = run.notes.before; now = middle }))
+    first_is ended in
     record {
       lines = e.lines;
       lines_are = e.lines_are;
-      listed = λ on. subst (λ l. EndsText end (listed l e.lines) run.out) first_is (e.written on);
+      listed = e.written;
       noted = λ whole on.
-          let now_is : now ≡ lister_behind (fresh run.form) e.lines = e.now_is whole ∙ ap (λ l. lister_behind l e.lines) first_is in
-          let ending : end_notes end now ≡ ending_text (not (is_read_out end) || (lister_behind (fresh run.form) e.lines).whole)
-          (lister_behind (fresh run.form) e.lines).noted =
-          ap (λ b. cond b (ending_text (not (is_read_out end) || now.whole) now.noted) []) whole
-          ∙ ap (λ (l : Lister). ending_text (not (is_read_out end) || l.whole) l.noted) now_is in
-          subst (λ t. IsNoted (t ++ ending_text (not (is_read_out end) || (lister_behind (fresh run.form) e.lines).whole)
-          (lister_behind (fresh run.form) e.lines).noted) run.notes) note_is
-          (subst (λ t. IsNoted (noted 1 first e.lines ++ t) run.notes) ending
-          (noted_then run.notes.before middle run.notes.now (noted 1 first e.lines) (end_notes end now) one two (e.noted whole on)
+          let ending : end_notes end now ≡ ending_text (not (is_read_out end) || now.whole) now.noted =
+          ap (λ b. cond b (ending_text (not (is_read_out end) || now.whole) now.noted) []) whole in
+          subst (λ (l : Lister). IsNoted (noted 1 (fresh run.form) e.lines ++ ending_text (not (is_read_out end) || l.whole) l.noted) run.notes)
+          (e.now_is whole) (subst (λ t. IsNoted (noted 1 (fresh run.form) e.lines ++ t) run.notes) ending
+          (noted_then run.notes.before middle run.notes.now (noted 1 (fresh run.form) e.lines) (end_notes end now) one two (e.noted whole on)
           (noted_end on)));
-      status = λ whole.
-          status ∙ ap (λ (l : Lister). status_of end (is_faultless l)) (e.now_is whole ∙ ap (λ l. lister_behind l e.lines) first_is);
+      status = λ whole. status ∙ ap (λ (l : Lister). status_of end (is_faultless l)) (e.now_is whole);
     }
 
 -- ---- the whole run
-
--- a front of the lines' list behind the head is a front of the whole list
-front_behind : (form : Form) (lines all : List (List ℕ)) (before written : List ℕ) → lines ≡ all → before ≡ head_text form
-    → AppendsFront (listed (fresh form) lines) before written
-    → AppendsFront (list_text form all) [] written
-front_behind form lines all before written is head front =
-    subst (λ ls. AppendsFront (list_text form ls) [] written) is
-    (behind (head_text form) (listed (fresh form) lines) [] before written head front)
 
 module _ (run : Run) (head : SinkShown) (later : run.out.before.faults ≤ head.faults) (head_is : IsTrue run.list_tells
     → head.written ≡ head_text run.form)
@@ -108,7 +95,8 @@ module _ (run : Run) (head : SinkShown) (later : run.out.before.faults ≤ head.
   so_far_by ends.Read faultless lines are text h = text ∙ ap (λ b. b ++ listed (fresh run.form) lines) h ∙ ap (list_text run.form) are
   so_far_by ends.Cut faultless lines are text h = text ∙ ap (λ b. b ++ listed (fresh run.form) lines) h ∙ ap (list_text run.form) are.1
   so_far_by _ faultless lines are text h =
-      front_behind run.form lines (all_lines run.report.now.taken) head.written run.out.now.written are h text
+      subst (λ ls. AppendsFront (list_text run.form ls) [] run.out.now.written) are
+      (behind (head_text run.form) (listed (fresh run.form) lines) [] head.written run.out.now.written h text)
 
   caused_by : (end : LinesEnd) (faultless : Bool) → t.end ≡ end → IsCausedBy run (status_of end faultless)
   caused_by ends.Done true is = tt

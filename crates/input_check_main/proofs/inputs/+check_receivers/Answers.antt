@@ -1,5 +1,5 @@
 -- The first receiver stops the check, or one of those behind it.
-use Rattle.std.proofs.Common.{rules, ◌≡◌, ◌+◌, List, ◌∷◌, ◌++◌, ap, ◌∙◌}
+use Rattle.std.proofs.Common.{rules, ◌≡◌, List, ◌∷◌, ◌++◌, ap, ◌∙◌}
 use Rattle.meter_address.specs.declared.address.Address.{Address}
 use Rattle.outer_io.specs.Shown.{source_change, sink_change, sink_shown}
 use Rattle.input_check_main.specs.Receivers.{reader_changes, bytes_of_each}
