@@ -31,21 +31,17 @@ all_given status taken left bytes lines done ends same =
 -- a file is cut exactly where the bytes taken pass a limit
 cut_exact : (status : InspectStatus) (lines : List (List ℕ)) (taken left : List ℕ) → IsTrue (shows_lines status)
     → EndsBy status taken left lines → (status ≡ statuses.Cut) ↔ (is_over taken ≡ true)
-cut_exact statuses.Done lines taken left shows ends = let within = ends.within in (λ cut. absurd cc, λ over. absurd cc)
-cut_exact statuses.Write lines taken left shows ends = let within = ends.within in (λ cut. absurd cc, λ over. absurd cc)
-cut_exact statuses.Read lines taken left shows ends = let within = ends.within in (λ cut. absurd cc, λ over. absurd cc)
 cut_exact statuses.Cut lines taken left shows ends = (λ cut. ends.over, λ over. refl)
 cut_exact statuses.Words lines taken left shows ends = absurd cc
 cut_exact statuses.Memory lines taken left shows ends = absurd cc
+cut_exact _ lines taken left shows ends = let within = ends.within in (λ cut. absurd cc, λ over. absurd cc)
 
 -- the statuses by which lines end
 by_end : (P : InspectStatus → Type 0) → P statuses.Done → P statuses.Read → P statuses.Cut → (ended : InspectStatus) → IsEnd ended → P ended
 by_end P done read cut statuses.Done is = done
 by_end P done read cut statuses.Read is = read
 by_end P done read cut statuses.Cut is = cut
-by_end P done read cut statuses.Words is = absurd is
-by_end P done read cut statuses.Write is = absurd is
-by_end P done read cut statuses.Memory is = absurd is
+by_end P done read cut _ is = absurd is
 
 module _ (workers : Option ℕ) (st kt : Bool) (frames : Change SourceShown) (lines : List (List ℕ)) (output : Change SinkShown)
     (result : InspectStatus) where

@@ -2,7 +2,6 @@ pub mod EvenRuns
 pub mod Finished
 pub mod FramesShown
 pub mod ItemsSay
-pub mod Rooms
 pub mod Runs
 pub mod Sheets
 pub mod Takings

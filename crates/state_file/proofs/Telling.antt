@@ -1,7 +1,8 @@
 -- What is known of a meter can be told.
-use Rattle.std.proofs.Common.{◌≡◌, ℕ, ◌+◌, ◌<◌, ◌^◌, map, ◌≤◌, List, [], ◌∷◌, length, filter, not, Bool, true, false, cond, refl, sym, subst, ◌∙◌, arith, length-append}
+use Rattle.std.proofs.Common.{◌≡◌, ℕ, ◌+◌, ◌<◌, ◌^◌, map, ◌≤◌, List, [], ◌∷◌, length, take, filter, not, Bool, true, false, cond, refl, sym, subst, ◌∙◌, arith, length-append}
 use Rattle.std.specs.Prelude.{IfSome}
 use Rattle.std.specs.List.{All}
+use Rattle.std.proofs.lemmas.List.{take_all}
 use Rattle.std.proofs.lemmas.List.Elements.{All-head, All-tail}
 use Rattle.lists.specs.Each.{Each}
 use Rattle.lists.proofs.Members.{each_append}
@@ -27,6 +28,10 @@ use Rattle.state_file.specs.Telling.{HasSpelt, IsSayable}
 pub each_of : {A : Type 0} (P : A → Type 0) (xs : List A) → All P xs → Each P xs
 each_of P [] all = tt
 each_of P (x ∷ xs) all = (All-head P x xs all, each_of P xs (All-tail P x xs all))
+
+-- what holds of as many as there are
+pub all_taken : {X : Type 0} (P : X → Type 0) (xs : List X) (n : ℕ) → length xs ≤ n → All P (take n xs) → All P xs
+all_taken P xs n all h = subst (All P) (take_all n xs all) h
 
 -- what is made of each
 pub each_made : {A B : Type 0} (P : A → Type 0) (Q : B → Type 0) (f : A → B) → ((x : A) → P x → Q (f x)) → (xs : List A) → Each P xs

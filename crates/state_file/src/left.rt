@@ -9,6 +9,7 @@ use meter_slots::SlotBook;
 use paper::{Paper, Printed, put_text};
 use roster_file::{put_meter, put_own};
 
+#[tactic(auto, using(paper::proofs::Items::one_item))]
 fn put_lines<P: Paper>(paper: &mut P, slots: &[SlotBook])
     ensures { Puts P.takes paper.old (flat_map slot_line slots.now) paper.new }
 {
@@ -17,6 +18,7 @@ fn put_lines<P: Paper>(paper: &mut P, slots: &[SlotBook])
     }
 }
 
+#[tactic(auto, using(paper::proofs::Items::one_item))]
 fn put_blocks<P: Paper>(paper: &mut P, slots: &[SlotBook])
     ensures { Puts P.takes paper.old (flat_map slot_block slots.now) paper.new }
 {

@@ -86,6 +86,7 @@ fn show_part_at(known: &KnownMeter<'_>, place: usize)
     }
 }
 
+#[tactic(auto, using(meter_slots::proofs::Starting::all_more))]
 fn show_parts(known: &KnownMeter<'_>)
     ensures { All HasSpelt (held known.now.told) }
 {
@@ -109,6 +110,7 @@ fn show_command_at(queue: &Queue, place: usize)
     }
 }
 
+#[tactic(auto, using(meter_slots::proofs::Starting::all_more))]
 fn show_commands(queue: &Queue)
     ensures { All IsSayable queue.now.commands }
 {
@@ -138,6 +140,7 @@ fn show_start_at(starts: &[MeterStart], place: usize)
     }
 }
 
+#[tactic(auto, using(meter_slots::proofs::Starting::all_more))]
 fn show_starts(starts: &[MeterStart])
     ensures { All IsStart starts.now }
 {
@@ -154,6 +157,7 @@ fn show_slot_at(slots: &[SlotBook], place: usize)
     }
 }
 
+#[tactic(auto, using(meter_slots::proofs::Starting::all_more))]
 fn show_slots(slots: &[SlotBook])
     ensures { All IsLeft slots.now }
 {

@@ -200,6 +200,7 @@ pub fn put_block<P: Paper>(paper: &mut P, known: &KnownMeter<'_>)
     put_block_as(paper, &known.commission(), known);
 }
 
+#[tactic(auto, using(paper::proofs::Items::one_item))]
 fn put_blocks<P: Paper>(paper: &mut P, starts: &[MeterStart])
     ensures { Puts P.takes paper.old (flat_map block_text starts.now) paper.new }
 {

@@ -1,6 +1,9 @@
-use Rattle.std.specs.Process.{exit_status}
-use Rattle.state_raise.proofs.Exits.{written_exit}
+use Rattle.std.proofs.Common.{inl, inr, sym, ap, ◌∙◌, arith}
+use Rattle.state_changes.specs.Statuses.{code_of}
 use Rattle.state_raise.proofs.write_to.Goals as goal
 
 pub returns : goal.returns
-returns g c = written_exit c.write_next-status.result (exit_status c.end.result) c.end.ensures c.write_next-status.ensures.only
+returns g c = elim c.write_next-status.ensures.only [
+  | inl done ↦ (0, omega arith, sym (c.end.ensures ∙ ap code_of done))
+  | inr unwritten ↦ (3, omega arith, sym (c.end.ensures ∙ ap code_of unwritten))
+]

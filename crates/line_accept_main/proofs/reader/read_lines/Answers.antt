@@ -7,33 +7,27 @@ use Rattle.line_accept_main.proofs.reader.read_lines.Goals as goal
 pub returns-in-Err-clause-fault : goal.returns-in-Err-clause-fault
 returns-in-Err-clause-fault c =
     c.lines.invariant
-    ∙ senders_missing c.lines.senders c.in-Err.end c.lines.entries.end c.lines.entries.entries c.in-Err.ensures.entry.0
-    c.in-Err.ensures.entry.1
+    ∙ senders_missing _ _ _ _ c.in-Err.ensures.entry.0 c.in-Err.ensures.entry.1
 
 pub returns-then-is_end-clause-found : goal.returns-then-is_end-clause-found
 returns-then-is_end-clause-found c =
     let all = c.lines.invariant
-    ∙ senders_end c.lines.senders (c.in-Ok.entry.line, c.in-Ok.entry.text.now) c.next.new.self.entries c.lines.entries.entries
-    c.lines.entries.end c.in-Ok.ensures.entry (sym c.is_end.ensures ∙ c.if-is_end.true) in
+    ∙ senders_end _ _ _ _ _ c.in-Ok.ensures.entry (sym c.is_end.ensures ∙ c.if-is_end.true) in
     subst (λ r. IfOk c.read_end.result (λ senders. r ≡ Ok senders)) (sym all) c.read_end.ensures.found
 
 pub returns-then-is_end-clause-fault : goal.returns-then-is_end-clause-fault
 returns-then-is_end-clause-fault c =
     let all = c.lines.invariant
-    ∙ senders_end c.lines.senders (c.in-Ok.entry.line, c.in-Ok.entry.text.now) c.next.new.self.entries c.lines.entries.entries
-    c.lines.entries.end c.in-Ok.ensures.entry (sym c.is_end.ensures ∙ c.if-is_end.true) in
+    ∙ senders_end _ _ _ _ _ c.in-Ok.ensures.entry (sym c.is_end.ensures ∙ c.if-is_end.true) in
     subst (λ r. IfErr c.read_end.result (λ fault. IsFaultOf r fault)) (sym all) c.read_end.ensures.fault
 
 pub lines-preserved : goal.lines-preserved
 lines-preserved c =
     c.lines.invariant
-    ∙ senders_next c.lines.senders c.add_line.new.senders (c.in-Ok.entry.line, c.in-Ok.entry.text.now) c.next.new.self.entries
-    c.lines.entries.entries c.lines.entries.end c.in-Ok.ensures.entry (sym c.is_end.ensures ∙ c.if-is_end.false) c.in-Ok-add_line.ensures.ok
+    ∙ senders_next _ _ _ _ _ _ c.in-Ok.ensures.entry (sym c.is_end.ensures ∙ c.if-is_end.false) c.in-Ok-add_line.ensures.ok
     ∙ ap (senders_from c.add_line.new.senders c.next.new.self.entries) (sym c.in-Ok.ensures.end)
 
 pub returns-in-Err-add_line-clause-fault : goal.returns-in-Err-add_line-clause-fault
 returns-in-Err-add_line-clause-fault c =
     subst (λ r. IsFaultOf r c.in-Err-add_line.fault) (sym c.lines.invariant)
-    (senders_fault c.lines.senders c.in-Err-add_line.fault (c.in-Ok.entry.line, c.in-Ok.entry.text.now) c.next.new.self.entries
-    c.lines.entries.entries c.lines.entries.end c.in-Ok.ensures.entry (sym c.is_end.ensures ∙ c.if-is_end.false)
-    c.in-Err-add_line.ensures.fault)
+    (senders_fault _ _ _ _ _ _ c.in-Ok.ensures.entry (sym c.is_end.ensures ∙ c.if-is_end.false) c.in-Err-add_line.ensures.fault)
