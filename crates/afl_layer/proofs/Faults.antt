@@ -17,8 +17,8 @@ abbrev no_header : AflFault → Result Afl AflFault
 no_header f = Err f
 
 -- a test that refuses, or what stands behind it
-of_test : (bytes : List ℕ) (b : Bool) (d f : AflFault) (r : Result Afl AflFault) → cond b (Err d) r ≡ Err f → (b ≡ true → IsAflFault bytes d)
-    → (b ≡ false → r ≡ Err f → IsAflFault bytes f) → IsAflFault bytes f
+of_test : (bytes : List ℕ) (b : Bool) (d f : AflFault) (r : Result Afl AflFault) → cond b (Err d) r ≡ Err f
+    → (b ≡ true → IsAflFault bytes d) → (b ≡ false → r ≡ Err f → IsAflFault bytes f) → IsAflFault bytes f
 of_test bytes true d f r e here behind = let is : d ≡ f = cc in subst (IsAflFault bytes) is (here refl)
 of_test bytes false d f r e here behind = behind refl e
 

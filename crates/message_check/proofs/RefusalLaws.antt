@@ -38,7 +38,8 @@ address_refused P a None r h why = absurd cc
 address_refused P a (Some n) r h why =
     of_test P (eqb n.0 a.0) (OtherAddress n) r tt h (λ test. why n refl (λ same. eqb-false _ _ test (ap (λ (x : Address). x.0) same)))
 
-pub header_refused : (a : Address) (mode : ℕ) (m : List ℕ) → IsBytes m → (r : Reason) → header_for a mode m ≡ Err r → HeaderRefusal a mode m r
+pub header_refused : (a : Address) (mode : ℕ) (m : List ℕ) → IsBytes m → (r : Reason) → header_for a mode m ≡ Err r
+    → HeaderRefusal a mode m r
 unfolding header_for
 header_refused a mode m fits r e =
     let P : Reason → Type 0 = HeaderRefusal a mode m in
@@ -92,7 +93,8 @@ check_bytes_refuse : (plain two : List ℕ) → two ≡ slice_index plain 0 ∷ 
     → check_bytes_passed plain ≡ Err (CheckBytes two)
 check_bytes_refuse plain two is other =
     let P : List ℕ → Type 0 = λ x. bytes_eq x (0x2F ∷ 0x2F ∷ []) ≡ false in
-    let test : P (slice_index plain 0 ∷ slice_index plain 1 ∷ []) = subst P is (false_from_ne_true _ (λ same. other ((bytes_eq-Decides two (0x2F ∷ 0x2F ∷ [])).0 same))) in
+    let test : P (slice_index plain 0 ∷ slice_index plain 1 ∷ []) =
+    subst P is (false_from_ne_true _ (λ same. other ((bytes_eq-Decides two (0x2F ∷ 0x2F ∷ [])).0 same))) in
     rw test (ap (λ (x : List ℕ). failed (CheckBytes x)) (sym is))
 
 from_header5 : (last : Option ℕ) (c : Commissioned) (m : List ℕ) (r : Reason) → HeaderRefusal c.address 5 m r → Refusal5 last c m r

@@ -154,7 +154,8 @@ reserved_rise down own (s ∷ later) h =
     let r = rises_behind s.start own s.journal h.1.0 in
     let rest = reserved_rise (resumed s.start s.journal).orders.down own later h.1.1 in
     IsRising-below down s.start.orders.down _ h.0
-    (subst (IsRising (Some s.start.orders.down)) (sym (filter_map-append (λ (y : Entry). sent_counter y.outcome) s.journal (joined (journals_of later))))
+    (subst (IsRising (Some s.start.orders.down))
+    (sym (filter_map-append (λ (y : Entry). sent_counter y.outcome) s.journal (joined (journals_of later))))
     (IsRising-join (Some s.start.orders.down) (sent_counters s.journal) _ r.rises
     (subst (λ (f : Option ℕ). IsRising f (sent_counters (joined (journals_of later)))) (sym r.ends) rest)))
 

@@ -113,7 +113,8 @@ module _ (epoch : ℕ) (whole : List (List ℕ)) where
 -- a name that isn't another one isn't what that one is
 apart : (who name other : List ℕ) → bytes_eq who name ≡ false → bytes_eq who other ≡ true → bytes_eq name other ≡ false
 apart who name other h e = false_from_ne_true (bytes_eq name other) (λ is.
-    let no : false ≡ true = sym h ∙ (bytes_eq-Decides who name).1 ((bytes_eq-Decides who other).0 e ∙ sym ((bytes_eq-Decides name other).0 is)) in cc)
+    let no : false ≡ true =
+    sym h ∙ (bytes_eq-Decides who name).1 ((bytes_eq-Decides who other).0 e ∙ sym ((bytes_eq-Decides name other).0 is)) in cc)
 
 -- the fence of a message's own sender passes it, and that of another stays
 own_passes : (ss : List Sender) (who : List ℕ) (m : Numbered) (f : Fence) → fence_of who ss ≡ Some f
