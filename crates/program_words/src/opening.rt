@@ -39,6 +39,6 @@ pub fn open_to_write<R: Eprint + Files<File = File>>(
         .mode(permissions);
     match options.open(rt, name) {
         Ok(file) => Ok(StdSink::file(file)),
-        Err(_unopened) => Err(cannot_open(rt, program, name)),
+        Err(_unmade) => Err(cannot_open(rt, program, name)),
     }
 }
