@@ -216,7 +216,8 @@ module _ (meters : ℕ) where
       → Stands (report_text ends slots heard) 0 opens.Nothing (headings slots 0) opens.Strangers
   unfolding report_text
   report_stands ends slots heard few small_steps small_heard =
-      then_stands (then_stands (then_stands (others_stand (head_others ends)) (slots_stand slots 0 opens.Nothing (omega arith) small_steps))
+      then_stands (then_stands (then_stands (others_stand (head_others ends))
+      (slots_stand slots 0 opens.Nothing (omega arith) small_steps))
       (strangers_stand heard (headings slots 0) (behind slots opens.Nothing) small_heard)) (others_stand end_others)
 
   pub report_in_form : (ends : List ReceiverEnd) (slots : List SlotView) (heard : List Heard) → length slots ≤ meters

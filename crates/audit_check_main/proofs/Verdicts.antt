@@ -175,13 +175,14 @@ list_short n report k =
 
 -- ---- verdicts
 
-module _ {r : Known} {report : List ℕ} {inputs : List (List ℕ)} {lists : List (List (ℕ × ℕ))} (read : AreListsRead r report inputs lists) where
+module _ {r : Known} {report : List ℕ} {inputs : List (List ℕ)} {lists : List (List (ℕ × ℕ))}
+    (read : AreListsRead r report inputs lists) where
   pub as_long : length lists ≡ length r.starts + 1
   as_long = ap length read.lists_are ∙ length-lists_printed (length r.starts) (orders report)
 
   -- where all lists are right by what all inputs told, each is an order of its lines
-  pub orders_are : (before heard : List HeardInput) → before ≡ map (heard_input r.starts) inputs → heard ≡ map (heard_input r.starts) inputs
-      → ((k : ℕ) → k < length lists → IsRight (numbers_in_list before k) (get_or lists k [])) → AreOrders r.starts heard lists
+  pub orders_are : (before heard : List HeardInput) → before ≡ map (heard_input r.starts) inputs
+      → heard ≡ map (heard_input r.starts) inputs → ((k : ℕ) → k < length lists → IsRight (numbers_in_list before k) (get_or lists k [])) → AreOrders r.starts heard lists
   orders_are before heard before_is heard_is right =
       let right_there =
       subst (λ (h : List HeardInput). (k : ℕ) → k < length lists → IsRight (numbers_in_list h k) (get_or lists k [])) before_is right in
@@ -259,15 +260,16 @@ module _ {r : Known} {report : List ℕ} {inputs : List (List ℕ)} {lists : Lis
       compared_is _ h = absurd h.1
 
   -- what is found of the lists is answered
-  pub judged : {E F : Type 0} (next : Option (List ℕ)) (found : Result Verdict E) (result : Result Verdict F) (before heard : List HeardInput)
-      → before ≡ map (heard_input r.starts) inputs → heard ≡ map (heard_input r.starts) inputs
+  pub judged : {E F : Type 0} (next : Option (List ℕ)) (found : Result Verdict E) (result : Result Verdict F)
+      (before heard : List HeardInput) → before ≡ map (heard_input r.starts) inputs → heard ≡ map (heard_input r.starts) inputs
       → ((k : ℕ) → k < length lists → IsRight (numbers_in_list before k) (get_or lists k []))
       → ((v : Verdict) → result ≡ Ok v → found ≡ Ok v)
       → IfOk found (λ v. AreOrders r.starts heard lists → IsStepped r.own r.starts heard lists report next v)
       → IfOk result (IsVerdictBy r next report inputs)
   judged next found (Err e) before heard before_is heard_is right same stepped = tt
   judged next found (Ok v) before heard before_is heard_is right same stepped = λ text state_is.
-      let found_so = subst (λ f. IfOk f (λ v. AreOrders r.starts heard lists → IsStepped r.own r.starts heard lists report next v)) (same v refl)
+      let found_so =
+      subst (λ f. IfOk f (λ v. AreOrders r.starts heard lists → IsStepped r.own r.starts heard lists report next v)) (same v refl)
       stepped (orders_are before heard before_is heard_is right) in
       let there = subst (λ h. IsStepped r.own r.starts h lists report next v) heard_is found_so in
       compared_is text next state_is there v there.compared

@@ -1,5 +1,5 @@
 -- What the collector wrote is faithful.
-use Rattle.std.proofs.Common.{◌≡◌, ◌⊎◌, ℕ, ◌<◌, ◌≤◌, ◌^◌, false, IsTrue, List, [], ◌∷◌, ◌++◌, map, length, Option, Some, None, Result, Ok, Err, ⊎_elim, inl, inr, refl, sym, ap, ◌∙◌, subst, arith, append-nil, length-append}
+use Rattle.std.proofs.Common.{◌≡◌, ◌⊎◌, ℕ, ◌<◌, ◌≤◌, ◌^◌, false, IsTrue, List, [], ◌∷◌, ◌++◌, map, length, Option, Some, None, Ok, ⊎_elim, inl, inr, refl, sym, ap, ◌∙◌, subst, arith, append-nil, length-append}
 use Rattle.std.specs.Prelude.{IfSome}
 use Rattle.std.specs.List.{Contains}
 use Rattle.std.proofs.lemmas.Bool.{cases_lt, ltb-false, or_parts}
@@ -25,11 +25,8 @@ use Rattle.report_text.specs.declared.lent.ReceiverEnd.{ReceiverEnd}
 use Rattle.report_text.specs.Orders.{orders}
 use Rattle.report_text.specs.OrdersLaw.{orders_of}
 use Rattle.report_text.specs.Report.{report_text}
-use Rattle.roster_file.specs.Roster.{Enrolled, roster_of}
-use Rattle.roster_file.specs.declared.roster.RosterFault.{RosterFault}
 use Rattle.state_file.specs.Left.{left_state}
-use Rattle.state_file.specs.Whole.{Known, fresh_known, of_roster, state_of}
-use Rattle.state_file.proofs.RosterStates.{rosters_are_states}
+use Rattle.state_file.specs.Whole.{Known, state_of}
 use Rattle.state_file.proofs.TooLong.{too_long}
 use Rattle.collector_main.specs.declared.form.Form.{Form}
 use Rattle.collector_main.specs.declared.form.Form.TheVariants as forms
@@ -38,6 +35,7 @@ use Rattle.collector_main.specs.Heard.{addresses, left_known, next_of, report_of
 use Rattle.collector_main.specs.Run as collector
 use Rattle.collector_main.specs.Showing.{report_output}
 use Rattle.collector_main.specs.Statuses.{was_heard}
+use Rattle.collector_main.proofs.MacRuns.{form_known}
 use Rattle.collector_main.proofs.Orders.{slots_counted, strangers_counted}
 use Rattle.audit_check_main.specs.Audit.{Audited, told_in, heard_out, IsReadable, IsInForm, IsFaithful, IsVerdict}
 use Rattle.audit_check_main.specs.Leaving.{IsLeftBy}
@@ -115,17 +113,6 @@ is_short : (text : List ℕ) (r : Known) → state_of text ≡ Ok r → length t
 is_short text r h = ⊎_elim (λ test. absurd (let bad = too_long text (grind (arith, nat_tests)) in cc)) (λ few. few)
     (cases_lt 134217728 (length text))
 
--- ---- what a session begins from is a state
-
-roster_known : (text : List ℕ) (r : Known) (roster : Result Enrolled RosterFault) → roster_of text ≡ roster → of_roster roster ≡ Ok r
-    → state_of text ≡ Ok r
-roster_known text r (Ok e) is h = let same : fresh_known e ≡ r = cc in rosters_are_states text e is ∙ ap Ok same
-roster_known text r (Err fault) is h = absurd cc
-
-form_known : (form : Form) (text : List ℕ) (r : Known) → known_of form text ≡ Ok r → state_of text ≡ Ok r
-form_known forms.Roster text r h = roster_known text r (roster_of text) refl h
-form_known forms.State text r h = h
-
 -- ---- a session of what some inputs tell
 
 module _ (state : List ℕ) (inputs : List (List ℕ)) (r : Known) (world : WorldView) (state_is : state_of state ≡ Ok r)
@@ -191,9 +178,8 @@ bytes_in (Some source) = Some source.before.left
 next_read : (next : Option (Change SourceShown)) (read : Option (List ℕ)) → IsNextRead next read
     → IfSome next (λ source. length source.before.left ≤ 134217728) → read ≡ bytes_in next
 next_read None None h short = refl
-next_read None (Some bytes) h short = absurd h
-next_read (Some source) None h short = absurd h
 next_read (Some source) (Some bytes) h short = ap Some (all_read 134217728 source bytes h short)
+next_read _ _ h short = absurd h
 
 each_in : {A : Type 0} (P : A → Type 0) (xs : List A) (x : A) → Each P xs → Contains xs x → P x
 each_in P xs x h c = subst P c.2 (each_at P xs c.0 x c.1 h)
@@ -307,10 +293,4 @@ module _ (c : collector.Run) (a : audit.Run) (given : IsAudited c a) where
       at answers.Yes is done = inl is
       at (answers.No cause) is done = absurd (never_no cause is)
       at answers.Memory is done = inr is
-      at answers.Words is done = absurd done
-      at answers.ReadState is done = absurd done
-      at answers.ReadNext is done = absurd done
-      at answers.ReadReport is done = absurd done
-      at answers.LongReport is done = absurd done
-      at (answers.Read w) is done = absurd done
-      at answers.Write is done = absurd done
+      at _ is done = absurd done

@@ -22,8 +22,6 @@ use Rattle.audit_laws.specs.Laws.{AuditedSessionsAreOne, AuditedSessionsGoOn}
 known_on : (own : Address) (before after : List (List Told)) (bs ds : List SlotView)
     → EachWith (IsMetersSlot own after) (map known_now bs) ds → map known_now ds ≡ map known_now (slots_on before bs ds)
 known_on own before after [] [] h = refl
-known_on own before after [] (d ∷ ds) h = absurd h
-known_on own before after (b ∷ bs) [] h = absurd h
 known_on own before after (b ∷ bs) (d ∷ ds) h =
     let begun : d.start ≡ resumed b.start b.journal = h.0.commission_is in
     let one : known_now d ≡ known_now (slot_on before b d) =
@@ -31,6 +29,7 @@ known_on own before after (b ∷ bs) (d ∷ ds) h =
     ∙ (sym (resumed_renumbered (numbered_on before) (λ x. refl) (λ x. refl) (resumed b.start b.journal) d.journal)
     ∙ resumed_goes_on b.start b.journal (map (numbered_on before) d.journal)) in
     (λ i. one i ∷ known_on own before after bs ds h.1 i)
+known_on own before after _ _ h = absurd h
 
 pub goes_on : AuditedSessionsGoOn
 goes_on own starts before all world later faithful session begun heard =

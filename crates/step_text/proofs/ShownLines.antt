@@ -2,7 +2,7 @@
 use Rattle.std.proofs.Common.{◌≡◌, ℕ, ◌≤◌, List, [], ◌∷◌, Option, Some, option_map, subst, arith}
 use Rattle.std.specs.Prelude.{IfSome}
 use Rattle.std.specs.List.{AllByRecursion}
-use Rattle.serde_json.specs.Data.{object, string}
+use Rattle.serde_json.specs.Data.{object}
 use Rattle.serde_json.specs.Read.{read}
 use Rattle.serde_json.specs.Written.{compact_text}
 use Rattle.downlink_maker.specs.Sent.{Sent}
@@ -17,8 +17,7 @@ use Rattle.meter_slots.specs.declared.entry.Outcome.TheVariants.{Stored, Ticked,
 use Rattle.meter_slots.specs.declared.reading.Reading.{Reading}
 use Rattle.meter_slots.specs.declared.standing.Served.{Served}
 use Rattle.meter_slots.specs.Journal.{Start}
-use Rattle.record_text.specs.Lines.{fault_text}
-use Rattle.report_text.specs.Readings.{members, or_null, hex_tree, payload_of, listed, next_listed, is_full, fault_behind, more_behind}
+use Rattle.report_text.specs.Readings.{members, or_null, payload_of}
 use Rattle.report_text.proofs.ShownTrees.{IsShown, ◌⟫◌, none_left, object_shown, list_shown, string_shown, number_shown, boolean_shown}
 use Rattle.report_text.proofs.ShownTrees.{option_shown, with_more, read_back}
 use Rattle.report_text.proofs.ShownReadings.{listed_shown}
