@@ -33,15 +33,8 @@ Cause format bytes (faults.Crc n) =
 
 same_cause : (format : Format) (bytes : List ℕ) (e : FrameFault) → Cause format bytes e ≡ Fault format bytes e
 same_cause formats.A bytes faults.Empty = refl
-same_cause formats.A bytes (faults.Short l) = refl
-same_cause formats.A bytes (faults.Gap l) = refl
-same_cause formats.A bytes (faults.Length want have) = refl
-same_cause formats.A bytes (faults.Crc n) = refl
 same_cause formats.B bytes faults.Empty = refl
-same_cause formats.B bytes (faults.Short l) = refl
-same_cause formats.B bytes (faults.Gap l) = refl
-same_cause formats.B bytes (faults.Length want have) = refl
-same_cause formats.B bytes (faults.Crc n) = refl
+same_cause _ bytes _ = refl
 
 -- what L is left out
 gap_by : (format : Format) (bytes : List ℕ) (l : ℕ) → BeginsWith bytes l → leaves_out format l ≡ true → Fault format bytes (faults.Gap l)

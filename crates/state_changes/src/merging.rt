@@ -96,6 +96,7 @@ fn put_merged<P: Paper>(
     }
 }
 
+#[tactic(auto, using(paper::proofs::Items::one_item))]
 fn put_all<P: Paper>(
     paper: &mut P,
     meters: &[Commission],

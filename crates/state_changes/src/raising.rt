@@ -72,6 +72,7 @@ fn put_capped<P: Paper>(paper: &mut P, start: &MeterStart, by: u32)
     put_block_as(paper, &capped_commission(&known.commission(), by), &known);
 }
 
+#[tactic(auto, using(paper::proofs::Items::one_item))]
 fn put_all<P: Paper>(paper: &mut P, starts: &[MeterStart], by: u32)
     ensures { Puts P.takes paper.old (flat_map (capped_block by) starts.now) paper.new }
 {
