@@ -1,8 +1,6 @@
 -- The text of an outcome holds no newline.
 use Rattle.std.proofs.Common.{ℕ, List, [], ◌∷◌, Option, refl}
 use Rattle.std.specs.Prelude.{codes, option_map}
-use Rattle.std.specs.Int.{w16, to_be_bytes}
-use Rattle.meter_address.specs.Address.{bytes_of}
 use Rattle.ell_layer.specs.declared.extension.EllFault.{EllFault}
 use Rattle.ell_layer.specs.declared.extension.EllFault.TheVariants as ell
 use Rattle.afl_layer.specs.declared.header.AflFault.{AflFault}
@@ -10,16 +8,16 @@ use Rattle.afl_layer.specs.declared.header.AflFault.TheVariants as afl
 use Rattle.tpl_headers.specs.declared.header.TplFault.{TplFault}
 use Rattle.tpl_headers.specs.declared.header.TplFault.TheVariants as tpl
 use Rattle.message_check.specs.declared.refusal.LayerFault.{LayerFault}
-use Rattle.message_check.specs.declared.refusal.LayerFault.TheVariants.{Ell, Afl, Tpl}
+use Rattle.message_check.specs.declared.refusal.LayerFault.TheVariants.{Tpl}
 use Rattle.message_check.specs.declared.refusal.Reason.{Reason}
 use Rattle.message_check.specs.declared.refusal.Reason.TheVariants.{BadLayers, BadMessage}
 use Rattle.meter_slots.specs.declared.entry.Outcome.{Outcome}
-use Rattle.meter_slots.specs.declared.entry.Outcome.TheVariants.{Stored, Ticked, Queued, Cancelled, Refused}
+use Rattle.meter_slots.specs.declared.entry.Outcome.TheVariants.{Stored}
 use Rattle.meter_slots.specs.declared.reading.Reading.{Reading}
 use Rattle.layer_text.specs.Faults.{ell_fault_text, afl_fault_text, tpl_fault_text, named_fault_text, layer_fault_text}
 use Rattle.report_text.specs.Outcomes.{bad_layers_text, reason_text, reading_text, stored_text, refused_text, ticked_text, outcome_text}
 use Rattle.report_text.proofs.LineWalks.{IsWithout, ◌⌢◌, literal}
-use Rattle.report_text.proofs.LinePieces.{hex_or_dash, worded_number, worded_two, worded_if, worded_bytes, piece_if, pieces}
+use Rattle.report_text.proofs.LinePieces.{worded_number, worded_bytes, piece_if, pieces}
 
 ell_fault : (fault : EllFault) → IsWithout 10 (ell_fault_text fault)
 ell_fault (ell.Truncated have) = worded_number (literal (codes "ell truncated ") refl) have

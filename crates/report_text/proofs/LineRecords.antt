@@ -2,7 +2,7 @@
 use Rattle.std.proofs.Common.{ℕ, ℤ, zero, suc, Bool, true, false, cond, List, [], ◌∷◌, Option, Some, None, Result, Ok, Err, refl}
 use Rattle.std.specs.Prelude.{codes}
 use Rattle.dif_vif.specs.declared.fault.RecordFault.{RecordFault}
-use Rattle.dif_vif.specs.declared.fault.RecordFault.TheVariants.{Truncated, TooManyExtensions, Lvar, Selection, Special}
+use Rattle.dif_vif.specs.declared.fault.RecordFault.TheVariants.{Truncated}
 use Rattle.dif_vif.specs.declared.span.RecordSpan.{RecordSpan}
 use Rattle.dif_vif.specs.Reading.{next_of}
 use Rattle.record_values.specs.declared.units.Quantity.{Quantity}
@@ -15,7 +15,7 @@ use Rattle.record_text.specs.RecordText.{more_text, next_text, listed, records_t
 use Rattle.unit_text.specs.Pieces.{register_text, unit_text}
 use Rattle.report_text.proofs.LineWalks.{IsWithout, ◌⌢◌, literal, Others, no_others, ◌⨟◌, one_other}
 use Rattle.paper.specs.Pieces.{labelled_bytes}
-use Rattle.report_text.proofs.LinePieces.{hex_or_dash, worded_number, worded_bytes, pieces}
+use Rattle.report_text.proofs.LinePieces.{hex_or_dash, worded_bytes, pieces}
 use Rattle.report_text.proofs.PlainTexts.{in_line, signed_plain, function_plain, quantity_plain, name_plain, value_plain}
 
 -- ---- lines

@@ -26,7 +26,7 @@ use Rattle.report_text.specs.Report.{ended_text, counts_text, receiver_text, mod
 use Rattle.report_text.specs.Report.{readings_after, steps_text, last_text, pending_text, journal_text, orders_now, meter_text}
 use Rattle.report_text.specs.Report.{stranger_text, ring_text, strangers_text, report_text}
 use Rattle.report_text.proofs.LineWalks.{IsWithout, ◌⌢◌, literal, Tells, nothing, ◌⨾◌, one_line, same_text, Others, no_others, ◌⨟◌, one_other, others_pass}
-use Rattle.report_text.proofs.LinePieces.{letters, number_or_dash, worded_number, worded_two, worded_bytes, pieces}
+use Rattle.report_text.proofs.LinePieces.{letters, worded_number, worded_two, worded_bytes, pieces}
 use Rattle.report_text.proofs.LineOutcomes.{outcome_is}
 use Rattle.report_text.proofs.LineRecords.{records_others}
 use Rattle.report_text.proofs.LineSteps.{step_line, stranger_line}

@@ -12,7 +12,7 @@ use Rattle.json.specs.Print.{escape}
 use Rattle.json.proofs.Printed.Strings.{escape_byte_plain}
 use Rattle.paper.specs.Pieces.{labelled, labelled_bytes}
 use Rattle.dif_vif.specs.declared.fault.RecordFault.{RecordFault}
-use Rattle.dif_vif.specs.declared.fault.RecordFault.TheVariants.{Truncated, TooManyExtensions, Lvar, Selection, Special}
+use Rattle.dif_vif.specs.declared.fault.RecordFault.TheVariants.{Truncated}
 use Rattle.record_values.specs.declared.units.Quantity.{Quantity}
 use Rattle.record_values.specs.declared.units.Quantity.TheVariants as quantities
 use Rattle.record_values.specs.declared.units.UnitName.{UnitName}
