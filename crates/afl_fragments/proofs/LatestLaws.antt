@@ -109,18 +109,16 @@ found_any n f (Clear ∷ told) part l h = cc
 
 -- where no tick came after all that was told, it is the latest
 abbrev pub is_latest : (f : ℕ) (told : List Told) (part : Fragment) → WasLast 0 f told part → IsLatest f told part
-is_latest f told part w =
-    record {
-      later = w.later;
-      earlier = w.earlier;
-      heard = w.heard;
-      number = w.number;
-      counted = w.counted;
-      latest = w.latest;
-      uncleared =
-          w.uncleared;
-      ticks = omega (arith, w.ticks);
-    }
+is_latest f told part w = record {
+  later = w.later;
+  earlier = w.earlier;
+  heard = w.heard;
+  number = w.number;
+  counted = w.counted;
+  latest = w.latest;
+  uncleared = w.uncleared;
+  ticks = omega (arith, w.ticks);
+}
 
 pub held_was_last : (told : List Told) (f : ℕ) (part : Fragment) → option_map (λ h. h.part) (piece_at f (held told)) ≡ Some part
     → IsLatest f told part

@@ -1,5 +1,5 @@
 -- A roster is read as a state.
-use Rattle.std.proofs.Common.{◌≡◌, ℕ, ◌+◌, ◌==◌, nat_lt, Bool, true, false, cond, List, [], ◌∷◌, length, codes, None, Result, Ok, refl, sym, ap, ◌∙◌, arith}
+use Rattle.std.proofs.Common.{◌≡◌, ℕ, ◌+◌, ◌==◌, nat_lt, true, false, List, [], ◌∷◌, length, codes, None, Result, Ok, refl, sym, ap, ◌∙◌, arith}
 use Rattle.std.specs.Option.{ok_or}
 use Rattle.std.specs.Str.Lines.{lines}
 use Rattle.std.proofs.lemmas.Bool.{and_parts, cond-false, eqb-true, false_from_ne_true, ltb-true}
@@ -10,7 +10,7 @@ use Rattle.roster_file.specs.declared.roster.LineCause.TheVariants as roster
 use Rattle.roster_file.specs.Roster.{Enrolled, at_line, entries_from, head_of, roster_of, headed as roster_headed, owned as roster_owned}
 use Rattle.roster_file.proofs.Enrolling.{too_long}
 use Rattle.state_file.specs.declared.fault.StateFault.{StateFault}
-use Rattle.state_file.specs.Whole.{Known, fresh_known, headed, of_roster, owned, state_of}
+use Rattle.state_file.specs.Whole.{Known, fresh_known, headed, of_roster, state_of}
 
 -- ---- the head
 
