@@ -341,6 +341,31 @@ def test_events_with_ticks() -> None:
         assert [it.ticked for it in found].index("m") == place
 
 
+def test_no_tick_overtakes_lines(house: House) -> None:
+    """While lines wait that a session has no room for, as many commands have come or the last one failed, no tick is taken that isn't due
+    before one of them was heard; a session that has room takes it behind all lines."""
+    meter = house.meters[0].name
+    house.database.execute("update meter set due = 500 where address = ?", (meter,))
+    house.spool("A 1 00\nA 2 00\nA 600 00\nA 3 00\n")
+    put_command(house.database, "c1", meter, "01", NOW)
+    spool = Spool(house.config.spool, "attic")
+    heard = []
+    for most in (1, 2, 1, 1, 2, 2):
+        batch = events.gather(house.config, house.database, [spool], NOW, most)
+        put_places(house.database, [it.spooled for it in batch if it.spooled])
+        for it in batch:
+            house.database.execute("update meter set due = null where address = ?", (it.ticked,))
+            house.database.execute("update command set state = 'queued' where id = ?", (it.command,))
+        heard.append([it.text for it in batch])
+    assert heard == [[f"Q {meter} 01"], ["A 1 00", "A 2 00"], [f"T {meter}"], ["A 600 00"], ["A 3 00"], []]
+    house.database.execute("update meter set due = 700 where address = ?", (meter,))
+    house.spool("A 4 00\n")
+    assert [[it.text for it in events.gather(house.config, house.database, [spool], NOW, most)] for most in (0, 1, 2)] == [
+        [], ["A 4 00"], ["A 4 00", f"T {meter}"]]
+    house.sessions.most = 1
+    assert house.hear() == 2
+
+
 def test_spool_place_is_kept(house: House) -> None:
     """A transaction that isn't committed leaves the place where it was."""
     house.spool(house.whole(house.meters[0]))

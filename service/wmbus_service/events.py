@@ -22,13 +22,16 @@ class Event(NamedTuple):
 
 
 def gather(config: Config, database: sqlite3.Connection, spools: Sequence[Spool], now: float, most: int) -> list[Event]:
-    """What is to be heard now, so many lines at most."""
+    """What is to be heard now, so many lines at most. While lines are left for a later session, no tick stands behind those that are
+    taken: it would overtake what was heard before it was due."""
     asked = asked_for(database)[:most]
-    ticks = due_ticks(database, now)[:most - len(asked)]
-    room = most - len(asked) - len(ticks)
-    # (a line that is left out here is taken by a later session: its place isn't committed)
+    room = most - len(asked)
     heard = merged([spool.take(database, room) for spool in spools], words_of(config.programs.line_merge))[:room]
-    return asked + with_ticks(heard, ticks)
+    events = with_ticks(heard, due_ticks(database, now)[:room])
+    while events and events[-1].ticked and len(heard) == room:
+        events.pop()
+    # (a line that is left out here is taken by a later session: its place isn't committed)
+    return (asked + events)[:most]
 
 
 def asked_for(database: sqlite3.Connection) -> list[Event]:

@@ -2,10 +2,6 @@
 #![tactic(auto)]
 
 #[cfg(test)]
-mod audit_calls;
-#[cfg(test)]
-mod command_line;
-#[cfg(test)]
 mod faults;
 #[cfg(test)]
 mod harness;

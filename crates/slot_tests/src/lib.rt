@@ -2,13 +2,9 @@
 #![tactic(auto)]
 
 #[cfg(test)]
-mod access_window_calls;
-#[cfg(test)]
 mod asserts;
 #[cfg(test)]
 mod book_cells_calls;
-#[cfg(test)]
-mod command_queue_calls;
 #[cfg(test)]
 mod made_input_calls;
 #[cfg(test)]
@@ -21,5 +17,3 @@ mod receivers_calls;
 mod report_text_calls;
 #[cfg(test)]
 mod state_file_calls;
-#[cfg(test)]
-mod stranger_ring_calls;

@@ -1,4 +1,4 @@
-//! The public calls of the crates that read, write and carry texts, on values that come from outside.
+//! The public calls of the crates that read, write and carry texts, of those that read data records, and of programs' mains, on values that come from outside.
 #![tactic(auto)]
 
 #[cfg(test)]
@@ -14,9 +14,11 @@ mod outer_io_calls;
 #[cfg(test)]
 mod paper_calls;
 #[cfg(test)]
-mod plain_text_calls;
-#[cfg(test)]
 mod program_words_calls;
+#[cfg(test)]
+mod programs;
+#[cfg(test)]
+mod records;
 #[cfg(test)]
 mod roster_file_calls;
 #[cfg(test)]

@@ -248,13 +248,9 @@ fn assert_last(rt: &impl Abort, alloc: Global, pieces: Pieces<'_>, count: u32, l
     assert_eq!(rt; letters.as_bytes().last().copied(), Some(last), "{count}");
 }
 
-// A text behind so many newlines, or zeros.
+// A text behind so many newlines.
 fn newlines(times: usize, text: &[u8]) -> Pieces<'_> {
     Pieces::new(b'\n', times, text, 100_000)
-}
-
-fn zeros(times: usize, text: &[u8]) -> Pieces<'_> {
-    Pieces::new(b'0', times, text, 100_000)
 }
 
 #[test]
@@ -263,11 +259,6 @@ fn a_byte_behind_a_limit_is_a_cut(rt: HostRuntime) {
     assert_last(&rt, alloc, newlines(131_072, b""), 131_072, b'.');
     assert_last(&rt, alloc, newlines(131_071, b"x"), 131_072, b'.');
     assert_last(&rt, alloc, newlines(131_072, b"x"), 131_072, b'!');
-    assert_last(&rt, alloc, zeros(67_108_864, b""), 1, b'.');
-    assert_last(&rt, alloc, zeros(67_108_864, b"\n"), 0, b'!');
-    assert_last(&rt, alloc, zeros(67_108_863, b"\n"), 1, b'.');
-    assert_last(&rt, alloc, zeros(67_108_863, b"\nx"), 1, b'!');
-    assert_last(&rt, alloc, zeros(67_108_865, b""), 0, b'!');
 }
 
 // Asserts the answers over two lines where this read fails.

@@ -1,7 +1,7 @@
 //! Addresses and payloads as texts and bytes. The gas meter's address is that of an example of the OMS specification; what else
 //! is expected was written by hand.
 use crate::asserts::NO_MEMORY;
-use meter_address::{Address, AddressFault, Commission, Mode, Payload, read_key};
+use meter_address::{Address, AddressFault, Commission, Mode};
 use std::process::Abort;
 
 #[test]
@@ -43,43 +43,6 @@ fn a_manufacturer_has_three_letters_or_none(rt: HostRuntime) {
     assert_letters(&rt, 0x9395_0000_0000_0000, None);
     assert_letters(&rt, 0x0000_0000_0000_0000, None);
     assert_letters(&rt, 0x9b15_0000_0000_0000, None);
-}
-
-// Asserts that bytes are a payload, equal to another one only where that is told.
-fn assert_payload(rt: &impl Abort, bytes: &[u8], filled: &Payload, is_filled: bool) {
-    let payload = Payload::new(bytes).expect(rt, "no payload");
-    assert_eq!(rt; payload.bytes(), bytes);
-    assert!(rt; payload.copied() == payload);
-    assert!(rt; (payload == *filled) == is_filled);
-}
-
-#[test]
-fn a_payload_has_1_to_94_bytes(rt: HostRuntime) {
-    let bytes = [7u8; 95];
-    let filled = Payload::new(&bytes[..94]).expect(&rt, "no payload");
-    assert_payload(&rt, &bytes[..1], &filled, false);
-    assert_payload(&rt, &bytes[..94], &filled, true);
-    assert!(rt; Payload::new(&[]).is_none());
-    assert!(rt; Payload::new(&bytes).is_none());
-}
-
-#[test]
-fn the_last_counter_has_one_byte_in_mode_5_and_four_in_mode_7(rt: HostRuntime) {
-    assert_eq!(rt; Mode::Five.most_last(), 255);
-    assert_eq!(rt; Mode::Seven.most_last(), 4_294_967_295);
-}
-
-fn assert_key(rt: &impl Abort, text: &str, wanted: Option<[u8; 16]>) {
-    assert_eq!(rt; read_key(text.as_bytes()), wanted, "{text}");
-}
-
-#[test]
-fn a_key_has_32_digits(rt: HostRuntime) {
-    let key = [1, 2, 3, 4, 5, 6, 7, 8, 9, 10, 11, 12, 13, 14, 15, 17];
-    assert_key(&rt, "0102030405060708090A0b0c0d0e0f11", Some(key));
-    assert_key(&rt, "0102030405060708090a0b0c0d0e0f1", None);
-    assert_key(&rt, "0102030405060708090a0b0c0d0e0f110", None);
-    assert_key(&rt, "0102030405060708090a0b0c0d0e0f1g", None);
 }
 
 #[test]

@@ -7,7 +7,6 @@ use roster_file::{
     LineCause, LoadFault, Roster, RosterFault, load_roster, read_roster, write_roster,
 };
 use std::alloc::Global;
-use std::fmt::Write;
 use std::process::Abort;
 
 // The gas meter and the heat meter in version 1, with a comment, an empty line and no newline at the end.
@@ -137,26 +136,6 @@ fn a_roster_is_written_in_version_2(rt: HostRuntime) {
         &read(&rt, rt.alloc(), FIRST),
         FIRST_WRITTEN,
     );
-}
-
-// A roster of so many meters, with addresses from 0.
-fn roster_of(rt: &impl Abort, alloc: Global, meters: u64) -> String {
-    let mut text = String::from_str(alloc, "wmbus-roster 2\nown 9315010000000131\n").expect(
-        rt, NO_MEMORY,
-    );
-    for number in 0..meters {
-        write!(text, "meter {number:016x} 7 {number:032x} - - 0 0\n").expect(rt, NO_MEMORY);
-    }
-    text
-}
-
-#[test]
-fn a_roster_has_at_most_4096_meters(rt: HostRuntime) {
-    let alloc = rt.alloc();
-    let roster = read(&rt, alloc, &roster_of(&rt, alloc, 4_096));
-    assert_eq!(rt; roster.meters().len(), 4_096);
-    let fault = read_roster(alloc, roster_of(&rt, alloc, 4_097).as_bytes()).err();
-    assert_shown(&rt, alloc, &fault, "Some(Line(4099, TooMany))", "fault");
 }
 
 // Asserts the fault of a roster that is read from a source.

@@ -208,7 +208,7 @@ class Trial:
                 if meter.other and self.draw.random() < 0.1:
                     commands.put_key(database, f"c{self.commands}", meter.name, meter.other.hex(), now)
                 else:
-                    commands.put_command(database, f"c{self.commands}", meter.name, self.draw.randbytes(5).hex(), now)
+                    commands.put_command(database, f"c{self.commands}", meter.name, self.draw.randbytes(8).hex(), now)
 
     # ---- the trial
 

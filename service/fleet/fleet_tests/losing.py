@@ -5,7 +5,7 @@ import os
 import signal
 import subprocess
 import time
-from collections.abc import Callable, Iterator, Sequence
+from collections.abc import Iterator, Sequence
 from contextlib import contextmanager
 from dataclasses import replace
 from pathlib import Path
@@ -45,12 +45,12 @@ class Losing(Trial):
         for station in self.stations:
             station.feed(len(station.lines) if is_all else self.halves[station.told.name])
 
-    def ask(self, payload: Callable[[int], str]) -> None:
-        """A command for each meter."""
+    def ask(self, step: int) -> None:
+        """A command for each meter, whose payload stands in no address of a frame: these the broker may have in its log."""
         with store.connect(self.config.database) as database:
             for number, meter in enumerate(self.meters):
                 self.commands += 1
-                commands.put_command(database, f"c{self.commands}", meter.name, payload(number), time.time())
+                commands.put_command(database, f"c{self.commands}", meter.name, f"c0ffee{step:02x}{number:08x}", time.time())
 
 
 class SetBack(Losing):
@@ -69,12 +69,12 @@ class SetBack(Losing):
                 station.feed(len(station.lines) // 4)
             self.heard()
             backup.back_up(self.config, self.folder / "copy")
-            self.ask(lambda number: f"01{number:08x}")
+            self.ask(1)
             self.feed(False)
             self.heard()
             self.end_all()
             self._set_back()
-            self.ask(lambda number: f"02{number:08x}")
+            self.ask(2)
             self.start_all()
             self.feed(True)
             self.heard()
@@ -115,17 +115,17 @@ class InFlight(SetBack):
         """What isn't as it has to be."""
         try:
             self.start_all()
-            self.ask(lambda number: f"01{number:08x}")
+            self.ask(1)
             self._goes_on("select count(*) > 1 and count(distinct state) = 2 from command where state in ('queued', 'sent')")
             with self.stopped("downlinks"):
                 self._goes_on("select count(*) > 1 from outbox where sent is null")
                 with self.stopped("sessions"):
-                    self.ask(lambda number: f"02{number:08x}")
+                    self.ask(2)
                     self._ask_for_key()
                     backup.back_up(self.config, self.folder / "copy")
                 self.copied = self._copied()
             sent = [ident for ident, (state, *_) in self.copied.items() if state == "sent"]
-            self.ask(lambda number: f"03{number:08x}")
+            self.ask(3)
             self._goes_on("select count(*) > 0 from command where state = 'confirmed' and id = any(%s)", [sent])
             self.end_all()
             self._set_back()
@@ -135,7 +135,7 @@ class InFlight(SetBack):
             self.caught_up = self.commands_now()
             # (with ids that the copy doesn't know)
             self.commands -= len(self.meters)
-            self.ask(lambda number: f"04{number:08x}")
+            self.ask(4)
             self.feed(True)
             self.heard()
             self.flush(0.0)

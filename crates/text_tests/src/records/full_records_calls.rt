@@ -1,6 +1,6 @@
 //! Data records as the whole standard reads them.
 use crate::asserts::{NO_MEMORY, assert_text};
-use crate::rows::{Kind, assert_rows};
+use crate::records::rows::{Kind, assert_rows};
 use dif_vif::next_record;
 use full_records::{FullRecord, Qualifier, full_record_of};
 use std::alloc::Global;

@@ -1,8 +1,8 @@
 //! Tables that are written as one text: each row is a line, and one loop goes through all of them.
-use crate::dif_vif_calls::{assert_fault, assert_length};
-use crate::full_records_calls::assert_full;
-use crate::record_text_calls::assert_line;
-use crate::record_values_calls::{assert_modifiers, assert_unit, assert_value};
+use crate::records::dif_vif_calls::{assert_fault, assert_length};
+use crate::records::full_records_calls::assert_full;
+use crate::records::record_text_calls::assert_line;
+use crate::records::record_values_calls::{assert_modifiers, assert_unit, assert_value};
 use std::alloc::Global;
 use std::process::Abort;
 

@@ -1,6 +1,6 @@
 //! Units and values of records.
 use crate::asserts::{NO_MEMORY, assert_shown, assert_text};
-use crate::rows::{Kind, assert_rows};
+use crate::records::rows::{Kind, assert_rows};
 use dif_vif::next_record;
 use record_values::{Unit, Value, unit_of, value_of};
 use std::alloc::Global;

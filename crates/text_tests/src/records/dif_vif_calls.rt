@@ -2,7 +2,7 @@
 ghost use Rattle.std.specs.Prelude.{◌≤◌, length};
 
 use crate::asserts::assert_shown;
-use crate::rows::{Kind, assert_rows};
+use crate::records::rows::{Kind, assert_rows};
 use dif_vif::{RecordSpan, next_record};
 use std::alloc::Global;
 use std::process::Abort;

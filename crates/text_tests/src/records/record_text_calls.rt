@@ -2,7 +2,7 @@
 ghost use Rattle.record_text.specs.RecordText.{records_text};
 
 use crate::asserts::{NO_MEMORY, assert_bytes};
-use crate::rows::{Kind, assert_rows};
+use crate::records::rows::{Kind, assert_rows};
 use outer_io::MemorySink;
 use paper::{Paper, Printed, write};
 use record_text::put_records;
