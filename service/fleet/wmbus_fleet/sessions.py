@@ -106,9 +106,10 @@ def lock(database: Database, shard: int) -> bool:
 def gather(database: Database, ticks: Ticks, shard: int, now: float, most: int) -> list[Event]:
     """What is to be heard of a shard: what operators asked for, then gateways' lines as they were taken, with each tick where it was
     due. While more lines wait, no tick stands behind them all."""
+    # (who cancels a command that is taken here waits for the commit: what was said to be cancelled isn't sent)
     orders = [Event(order_line(*row), command=ident) for ident, *row in database.execute(
         "select id, address, kind, payload, number, state from command where (state = 'waiting' or wish is not null)"
-        " and shard_of(address) = %s order by place limit %s", (shard, most)).fetchall()]
+        " and shard_of(address) = %s order by place limit %s for update", (shard, most)).fetchall()]
     due = due_ticks(database, ticks, shard, now, most - len(orders))
     room = most - len(orders) - len(due)
     heard = take(database, shard, room)

@@ -1,0 +1,60 @@
+"""What comes at a bad moment: a cancellation in the middle of a session, a clock that is set back, a full disk, a gateway that goes, messages
+that no gateway of ours sends."""
+from __future__ import annotations
+
+import random
+import sqlite3
+import subprocess
+import threading
+import time
+import tracemalloc
+from contextlib import closing
+from dataclasses import replace
+from pathlib import Path
+from typing import Any
+
+import pytest
+from tests.kill import PYTHON
+from tests.meters import line_of, next_telegrams, some_meters
+from tests.processes import until
+from tests.stand_in import stand_in
+from wmbus_fleet import backup, broker, commands, gateways, sessions, store
+from wmbus_fleet.config import Broker, Config, Gateway, Ticks
+from wmbus_fleet.gateway import Agent, arm, open_gateway
+from wmbus_fleet.intake import Consuming, Intake
+from wmbus_fleet.messages import Down, Message, lines_body, read_lines
+from wmbus_fleet.status import figures, in_words
+from wmbus_service.config import Config as ServiceConfig
+from wmbus_service.config import Receiver
+from wmbus_service.ending import Ending
+from wmbus_service.store import prepare_folder
+from wmbus_service.trouble import Trouble
+
+from .test_parts import DAY, NOW, Fleet, House, fleet, house
+
+__all__ = ["fleet", "house"]
+LIMIT = 60
+
+
+@pytest.mark.parametrize("kind, payload, states", [("send", "01", ["queued", "cancelled"]), ("rekey", 32 * "0", ["done", "done"])])
+def test_cancelled_while_a_session_has_it(fleet: Fleet, monkeypatch: pytest.MonkeyPatch, kind: str, payload: str, states: list[str]) -> None:
+    """What was said to be cancelled isn't sent: where a session has it in hand, the state behind that one's commit is told, and the next
+    session cancels it."""
+    meter, said = fleet.meters[0].name, []
+    shard = store.one(fleet.database, "select shard_of(%s)", (meter,))
+    fleet.database.execute("insert into command (id, address, kind, payload, made, changed) values ('c1', %s, %s, %s, 1, 1)",
+                           (meter, kind, payload))
+    hearing = sessions.Sessions(fleet.config, fleet.database)
+    with store.connect(fleet.config.database) as other:
+        cancelling = threading.Thread(target=lambda: said.append(commands.cancel_command(other, "c1", NOW)))
+
+        def run(words: Any, state: str, lines: list[str]) -> Any:
+            monkeypatch.setattr(sessions, "run_steps", stand_in)
+            cancelling.start()
+            cancelling.join(1)
+            return stand_in(words, state, lines)
+        monkeypatch.setattr(sessions, "run_steps", run)
+        assert hearing.session(shard, NOW) == 1
+        cancelling.join(LIMIT)
+    hearing.session(shard, NOW)
+    assert [*said, store.one(fleet.database, "select state from command")] == states
