@@ -58,3 +58,20 @@ def test_cancelled_while_a_session_has_it(fleet: Fleet, monkeypatch: pytest.Monk
         cancelling.join(LIMIT)
     hearing.session(shard, NOW)
     assert [*said, store.one(fleet.database, "select state from command")] == states
+
+
+def test_a_tick_waits_for_its_meters_own_lines(fleet: Fleet) -> None:
+    """Also where those of another gateway, which were heard later, came in front of them, as behind a gateway that was cut off."""
+    meter, other = fleet.meters[0].name, "another-gateway"
+    shard = store.one(fleet.database, "select shard_of(%s)", (meter,))
+    fleet.database.execute("update meter set due = 500, gateway = %s where address = %s", (fleet.gateway, meter))
+    fleet.database.execute("update gateway set until = 700")
+    beside = next(it for it in map("{:016x}".format, range(1000)) if store.one(fleet.database, "select shard_of(%s)", (it,)) == shard)
+    rows = [(beside, other, 1, 1, 1, "A 600 00"), (meter, fleet.gateway, 1, 1, 1, "A 400 00"), (meter, fleet.gateway, 1, 1, 2, "A 650 00")]
+    store.copy_rows(fleet.database, "inbox (address, gateway, epoch, message, place, text)", rows)
+    with store.transaction(fleet.database):
+        heard = [event.text for event in sessions.gather(fleet.database, Ticks(10.0, 10.0, 1000.0), shard, 701, 10)]
+        fleet.database.execute("rollback; begin")
+        few = [event.text for event in sessions.gather(fleet.database, Ticks(10.0, 10.0, 1000.0), shard, 701, 2)]
+    assert heard == ["A 600 00", "A 400 00", f"T {meter}", "A 650 00"]
+    assert few == ["A 600 00"]

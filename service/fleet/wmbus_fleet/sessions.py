@@ -10,7 +10,8 @@ from collections.abc import Collection, Sequence
 import psycopg
 from wmbus_service.config import words_of
 from wmbus_service.ending import Ending
-from wmbus_service.events import Event, order_line, with_ticks
+from wmbus_service.events import Event, order_line
+from wmbus_service.merging import moment_in
 from wmbus_service.steps import ProgramFailed, Told, run_steps, state_text
 from wmbus_service.trouble import Trouble
 
@@ -117,6 +118,23 @@ def gather(database: Database, ticks: Ticks, shard: int, now: float, most: int) 
     while events and events[-1].ticked and len(heard) == room:
         events.pop()
     return orders + events
+
+
+def with_ticks(heard: Sequence[Arrived], due: Sequence[tuple[float, str]]) -> list[Event]:
+    """Each tick stands in front of what was heard of its own meter later than it was due, or else behind all lines: what came of another
+    gateway meanwhile doesn't say that all of the meter's lines of before are heard."""
+    waiting = {address: moment for moment, address in due}
+    events: list[Event] = []
+    for line in heard:
+        if line.address in waiting and waiting[line.address] < moment_in(line.text, 0):
+            events.append(_tick(waiting.pop(line.address), line.address))
+        events.append(Event(line.text, spooled=line))
+    return events + [_tick(moment, address) for address, moment in waiting.items()]
+
+
+def _tick(moment: float, address: str) -> Event:
+    """A meter's tick."""
+    return Event(f"T {address}", ticked=address, due=moment)
 
 
 def due_ticks(database: Database, ticks: Ticks, shard: int, now: float, most: int) -> list[tuple[float, str]]:
