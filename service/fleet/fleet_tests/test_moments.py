@@ -75,3 +75,19 @@ def test_a_tick_waits_for_its_meters_own_lines(fleet: Fleet) -> None:
         few = [event.text for event in sessions.gather(fleet.database, Ticks(10.0, 10.0, 1000.0), shard, 701, 2)]
     assert heard == ["A 600 00", "A 400 00", f"T {meter}", "A 650 00"]
     assert few == ["A 600 00"]
+
+
+def test_what_is_kept_no_longer_goes_while_lines_come(fleet: Fleet, monkeypatch: pytest.MonkeyPatch) -> None:
+    """Of a large fleet each turn of the sessions has some lines."""
+    ending, turns = Ending(), 0
+
+    def turn(_self: object, _now: float) -> int:
+        nonlocal turns
+        turns += 1
+        if turns == 5:
+            ending.set()
+        return 1
+    monkeypatch.setattr(sessions.Sessions, "turn", turn)
+    store.copy_rows(fleet.database, "line (number, address, text, made)", [(1, "m", "A 1 00", time.time() - 9 * DAY)])
+    sessions.run(replace(fleet.config, interval=0.01), ending)
+    assert store.one(fleet.database, "select count(*) from line") == 0

@@ -205,9 +205,11 @@ def run(config: Config, ending: Ending) -> None:
                 sessions, let_go_at = Sessions(config, database), time.monotonic()
                 while not ending.is_set():
                     count = sessions.turn(time.time())
-                    if not count and time.monotonic() > let_go_at and not retention.let_go(database, config.keep, time.time()):
+                    is_behind = count >= MOST // 2
+                    # (of a large fleet each turn has lines)
+                    if not is_behind and time.monotonic() > let_go_at and not retention.let_go(database, config.keep, time.time()):
                         let_go_at = time.monotonic() + LET_GO
-                    ending.wait(0 if count >= MOST // 2 else config.interval)
+                    ending.wait(0 if is_behind else config.interval)
         except (psycopg.Error, ProgramFailed, Trouble, OSError) as fault:
             told = f"sessions: {store.told_of(fault)}"
             if told != trouble:
