@@ -91,3 +91,15 @@ def test_what_is_kept_no_longer_goes_while_lines_come(fleet: Fleet, monkeypatch:
     store.copy_rows(fleet.database, "line (number, address, text, made)", [(1, "m", "A 1 00", time.time() - 9 * DAY)])
     sessions.run(replace(fleet.config, interval=0.01), ending)
     assert store.one(fleet.database, "select count(*) from line") == 0
+
+
+def test_a_gateways_clock_that_is_set_back(house: House) -> None:
+    """What is heard goes out all the same, and silence is told."""
+    house.hear(["A 5 00"])
+    assert house.agent.number(NOW + DAY) == 1
+    house.hear(["A 6 00"])
+    assert house.agent.number(NOW + 60) == 1
+    house.hear(["A 7 00"])
+    house.agent.number(NOW + DAY)
+    house.agent.number(NOW + 90)
+    assert [lines for lines, _ in house.messages().values()][3:] == [b"A 5 00\n", b"A 6 00\n", b"A 7 00\n", b""]

@@ -71,7 +71,8 @@ class Agent:
     def number(self, now: float) -> int:
         """Makes messages of what was heard, and commits what each of them holds; how many lines there were."""
         is_listening = bool(self.database.execute("select 1 from armed where sent is null and until > ? limit 1", (now,)).fetchone())
-        if now - self.numbered_at < self.told.interval and not is_listening or self._is_used_up(now):
+        # (a clock that is set back doesn't hold it up)
+        if 0 <= now - self.numbered_at < self.told.interval and not is_listening or self._is_used_up(now):
             return 0
         with store.transaction(self.database):
             lines = self.spool.take(self.database, MOST * ROOM)
@@ -79,7 +80,7 @@ class Agent:
                 self._send_armed(lines, now)
             for start in range(0, len(lines), MOST):
                 self._make(lines[start:start + MOST], now, start + MOST >= len(lines) and len(lines) < MOST * ROOM)
-            if not lines and now - self.said_at > self.told.silence:
+            if not lines and not 0 <= now - self.said_at <= self.told.silence:
                 # (so that a loss at the end shows too)
                 self._make([], now, True)
             put_places(self.database, lines)
