@@ -103,3 +103,13 @@ def test_a_gateways_clock_that_is_set_back(house: House) -> None:
     house.agent.number(NOW + DAY)
     house.agent.number(NOW + 90)
     assert [lines for lines, _ in house.messages().values()][3:] == [b"A 5 00\n", b"A 6 00\n", b"A 7 00\n", b""]
+
+
+def test_no_line_of_before_a_wrong_clock_is_told_of(house: House) -> None:
+    """While it was far ahead a message told of a moment that is still to come: messages that don't hold all that was heard tell no such."""
+    house.hear(["A 5 00"])
+    house.agent.number(NOW + 1000 * DAY)
+    house.hear([f"A {number} 00" for number in range(2500)])
+    house.agent.number(NOW + 60)
+    untils = [until for (until,) in house.database.execute("select until from message where number > 4 order by number")]
+    assert len(untils) == 20 and max(untils) <= NOW + 60

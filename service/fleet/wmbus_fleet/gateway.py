@@ -91,7 +91,9 @@ class Agent:
     def _make(self, lines: Sequence[Spooled], now: float, is_all: bool) -> None:
         """The next message; whether all that was heard until now stands in it or in those before it."""
         _, last = self.numbering()
-        (until,) = self.database.execute("select coalesce(max(until), 0) from message").fetchone()
+        told = self.database.execute("select until from message where number = ?", (last,)).fetchone()
+        # (what was told by a clock that was ahead isn't told again)
+        until = told[0] if told and told[0] <= now else 0
         text = "".join(f"{line.text}\n" for line in lines).encode("latin-1")
         self.database.execute("insert into message (number, lines, until, made) values (?, ?, ?, ?)",
                               (last + 1, text, int(now) if is_all else until, now))
