@@ -113,3 +113,21 @@ def test_no_line_of_before_a_wrong_clock_is_told_of(house: House) -> None:
     house.agent.number(NOW + 60)
     untils = [until for (until,) in house.database.execute("select until from message where number > 4 order by number")]
     assert len(untils) == 20 and max(untils) <= NOW + 60
+
+
+def test_nothing_is_searched_in_a_gateways_messages(house: House) -> None:
+    """A week of them are 300,000, and 20 times a second it looks for those that are too old: no step goes over all of them."""
+    rows = [(number, 60 * b"A 1 00\n", NOW, NOW, 1) for number in range(4, 20_004)]
+    house.database.executemany("insert into message (number, lines, until, made, acknowledged) values (?, ?, ?, ?, ?)", rows)
+    house.database.execute("update numbering set last = 20003")
+    house.hear(["A 5 00"])
+    steps = 0
+
+    def step() -> None:
+        nonlocal steps
+        steps += 1
+    house.database.set_progress_handler(step, 100)
+    assert house.agent.number(NOW + 40) == 1
+    house.agent.forget(NOW + 50)
+    house.database.set_progress_handler(None, 0)
+    assert steps < 20

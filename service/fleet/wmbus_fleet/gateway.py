@@ -39,6 +39,7 @@ create table if not exists source (receiver text, file text, taken integer not n
 create table if not exists message (
     number integer primary key, lines blob not null, until integer not null, made real not null, acknowledged integer not null default 0);
 create index if not exists message_open on message (number) where not acknowledged;
+create index if not exists message_by_age on message (made) where acknowledged;
 -- of each meter the last downlink, until when it counts, and when it was given to the radio
 create table if not exists armed (address text primary key, down integer not null, frame text not null, until real not null, sent real)
     without rowid;
