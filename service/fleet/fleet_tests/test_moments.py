@@ -131,3 +131,20 @@ def test_nothing_is_searched_in_a_gateways_messages(house: House) -> None:
     house.agent.forget(NOW + 50)
     house.database.set_progress_handler(None, 0)
     assert steps < 20
+
+
+def test_a_full_disk_has_a_downlink_go_out_once(house: House) -> None:
+    """What can't be committed is tried again and again, and the radio doesn't send with it."""
+    draw = random.Random(1)
+    meter = some_meters(draw, 1)[0]
+    arm(house.database, Down(meter.name, 5, "05", 1000), NOW + 30)
+    (pages,) = house.database.execute("pragma page_count").fetchone()
+    house.database.execute(f"pragma max_page_count = {pages}")
+    house.hear([line_of(next_telegrams(draw, meter)[0], 1).strip(), *(f"A {number} {400 * '0'}" for number in range(50))])
+    for moment in range(3):
+        with pytest.raises(sqlite3.OperationalError, match="full"):
+            house.agent.number(NOW + 40 + 5 * moment)
+    assert house.sent() == ["D", "05"]
+    house.database.execute("pragma max_page_count = 1000000")
+    assert house.agent.number(NOW + 60) == 51
+    assert house.sent() == ["D", "05"] and house.database.execute("select sent from armed").fetchone() == (NOW + 60,)

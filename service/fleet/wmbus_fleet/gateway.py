@@ -66,6 +66,8 @@ class Agent:
         self.spool = Spool(service.spool, told.receiver)
         self.radio = service.receivers[told.receiver].downlinks
         self.numbered_at = self.said_at = 0.0
+        # of a meter the counter of the downlink that the radio got last
+        self.written: dict[str, int] = {}
 
     # ---- lines
 
@@ -186,10 +188,13 @@ class Agent:
             if address not in addresses:
                 continue
             try:
-                write_downlink(self.radio, frame)
+                # (where the commit failed behind it, as on a full disk, it isn't sent anew with each try)
+                if self.written.get(address) != down:
+                    write_downlink(self.radio, frame)
             except OSError as fault:
                 log.warning("%s: the downlink %d of meter %s can't be sent: %s", self.told.name, down, address, fault.strerror)
                 continue
+            self.written[address] = down
             self.database.execute("update armed set sent = ? where address = ?", (now, address))
 
     # ---- without end
