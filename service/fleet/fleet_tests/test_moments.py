@@ -148,3 +148,18 @@ def test_a_full_disk_has_a_downlink_go_out_once(house: House) -> None:
     house.database.execute("pragma max_page_count = 1000000")
     assert house.agent.number(NOW + 60) == 51
     assert house.sent() == ["D", "05"] and house.database.execute("select sent from armed").fetchone() == (NOW + 60,)
+
+
+def test_what_fails_again_is_said_once(house: House, monkeypatch: pytest.MonkeyPatch, caplog: pytest.LogCaptureFixture) -> None:
+    """A gateway whose disk is full mustn't fill it with that."""
+    ending = Ending()
+    house.agent.config = Config(broker=Broker(port=1))
+
+    def full(_now: float) -> int:
+        raise sqlite3.OperationalError("database or disk is full")
+    monkeypatch.setattr(house.agent, "number", full)
+    stopping = threading.Timer(3.0, ending.set)
+    stopping.start()
+    house.agent.run(ending)
+    stopping.join()
+    assert len([it for it in caplog.records if "full" in it.getMessage()]) == 1

@@ -201,7 +201,7 @@ class Agent:
 
     def run(self, ending: Ending) -> None:
         """Goes on until it is told to end; without the broker it numbers lines and sends what is armed."""
-        trouble = ""
+        trouble = unnumbered = ""
         while not ending.is_set():
             try:
                 with broker.connected(self.config.broker) as connection:
@@ -215,8 +215,11 @@ class Agent:
             while time.monotonic() < limit and not ending.is_set():
                 try:
                     self.number(time.time())
+                    unnumbered = ""
                 except (ProgramFailed, Trouble, OSError, sqlite3.Error) as fault:
-                    log.error("%s: %s", self.told.name, fault)
+                    if str(fault) != unnumbered:
+                        log.error("%s: %s", self.told.name, fault)
+                    unnumbered = str(fault)
                 ending.wait(LOOK)
 
     def _serve(self, connection: Any, ending: Ending) -> None:
