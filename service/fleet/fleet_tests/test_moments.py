@@ -163,3 +163,17 @@ def test_what_fails_again_is_said_once(house: House, monkeypatch: pytest.MonkeyP
     house.agent.run(ending)
     stopping.join()
     assert len([it for it in caplog.records if "full" in it.getMessage()]) == 1
+
+
+def test_a_gateway_that_was_taken_away(fleet: Fleet) -> None:
+    """What it sent before and is taken behind that holds up no tick, and nothing is wanted of it any more."""
+    meter = fleet.meters[0].name
+    shard, now = store.one(fleet.database, "select shard_of(%s)", (meter,)), time.time()
+    fleet.database.execute("update meter set due = %s, gateway = %s where address = %s", (now - 10, fleet.gateway, meter))
+    intake = Intake(fleet.config, fleet.database, "test")
+    intake.take([Message(fleet.gateway, 5, 1, int(now) - 20, ()), Message(fleet.gateway, 5, 9, int(now), ())])
+    fleet.database.execute("update gateway set seen = seen - interval '65 seconds', asked = asked - interval '65 seconds'")
+    gateways.remove(fleet.config, fleet.database, fleet.gateway)
+    assert [line for line in in_words(figures(fleet.database)) if fleet.gateway in line] == []
+    intake.take([Message(fleet.gateway, 5, 2, int(now) - 15, ())])
+    assert sessions.due_ticks(fleet.database, Ticks(), shard, now, 10) == [(pytest.approx(now - 10), meter)]

@@ -126,7 +126,9 @@ def put_fences(database: Database, fences: Mapping[str, Fence], until: Mapping[s
     """How far each gateway's messages are taken, and until when what it heard."""
     rows = [(name, epoch, number, until[name]) for name, (epoch, number) in fences.items()]
     if rows:
-        database.execute("update gateway g set epoch = f.epoch, number = f.number, until = f.until, seen = now() from"
+        # (what comes behind its end of a gateway that was taken away holds up no tick)
+        database.execute("update gateway g set epoch = f.epoch, number = f.number, seen = now(), until = case when g.gone is null then"
+                         " f.until else g.until end from"
                          " unnest(%s::text[], %s::bigint[], %s::bigint[], %s::bigint[]) as f (name, epoch, number, until)"
                          " where g.name = f.name", tuple(list(column) for column in zip(*rows, strict=True)))
 
