@@ -177,3 +177,13 @@ def test_a_gateway_that_was_taken_away(fleet: Fleet) -> None:
     assert [line for line in in_words(figures(fleet.database)) if fleet.gateway in line] == []
     intake.take([Message(fleet.gateway, 5, 2, int(now) - 15, ())])
     assert sessions.due_ticks(fleet.database, Ticks(), shard, now, 10) == [(pytest.approx(now - 10), meter)]
+
+
+def test_what_is_too_large_costs_no_memory() -> None:
+    """A message may be as large as RabbitMQ takes them, 128 MB: it is left before it is cut into lines."""
+    body = (4 << 20) * b"\n"
+    tracemalloc.start()
+    assert read_lines("up.north.gw1", body) is None
+    (_, most) = tracemalloc.get_traced_memory()
+    tracemalloc.stop()
+    assert most < len(body)

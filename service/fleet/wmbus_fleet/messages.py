@@ -62,9 +62,11 @@ def gateway_in(key: str) -> str:
 
 def read_lines(key: str, body: bytes) -> Message | None:
     """A message by its key, `up.AREA.GATEWAY`, and its body; none where it is out of form."""
+    if len(body) > LONGEST:
+        return None
     head, *lines = body.decode("latin-1").split("\n")
     found = HEAD.fullmatch(head)
-    if found is None or not NAME.fullmatch(gateway_in(key)) or len(body) > LONGEST or len(lines) > MOST + 1 or lines[-1:] != [""]:
+    if found is None or not NAME.fullmatch(gateway_in(key)) or len(lines) > MOST + 1 or lines[-1:] != [""]:
         return None
     return Message(gateway_in(key), int(found[1]), int(found[2]), int(found[3]), tuple(lines[:-1]))
 
