@@ -1,5 +1,5 @@
-"""What comes at a bad moment: a cancellation in the middle of a session, a clock that is set back, a full disk, a gateway that goes, messages
-that no gateway of ours sends."""
+"""What comes at a bad moment: a cancellation in the middle of a session, a clock that is set back, a full disk, a gateway that goes,
+messages that no gateway of ours sends."""
 from __future__ import annotations
 
 import random
@@ -37,7 +37,8 @@ LIMIT = 60
 
 
 @pytest.mark.parametrize("kind, payload, states", [("send", "01", ["queued", "cancelled"]), ("rekey", 32 * "0", ["done", "done"])])
-def test_cancelled_while_a_session_has_it(fleet: Fleet, monkeypatch: pytest.MonkeyPatch, kind: str, payload: str, states: list[str]) -> None:
+def test_cancelled_while_a_session_has_it(fleet: Fleet, monkeypatch: pytest.MonkeyPatch, kind: str, payload: str, states: list[str]
+                                          ) -> None:
     """What was said to be cancelled isn't sent: where a session has it in hand, the state behind that one's commit is told, and the next
     session cancels it."""
     meter, said = fleet.meters[0].name, []
@@ -187,3 +188,18 @@ def test_what_is_too_large_costs_no_memory() -> None:
     (_, most) = tracemalloc.get_traced_memory()
     tracemalloc.stop()
     assert most < len(body)
+
+
+def test_a_number_that_no_message_has(fleet: Fleet) -> None:
+    """Its message is left, and counted by the gateway's name."""
+    assert read_lines("up.north.gw1", b"wmbus-lines 1 5 4294967295 9\n") == Message("gw1", 5, 4294967295, 9, ())
+    with broker.connected(fleet.config.broker) as connection:
+        consuming, channel = Consuming(Intake(fleet.config, fleet.database, "test"), connection, [fleet.area]), broker.opened(connection)
+        for number in (1, 1 << 32, 2):
+            broker.publish(channel, broker.EXCHANGE, broker.up_key(fleet.area, fleet.gateway), lines_body(5, number, 9, b""))
+
+        def is_taken() -> bool:
+            consuming.turn()
+            return fleet.fence() == (5, 2)
+        until(is_taken)
+    assert f"{fleet.gateway} sent 1 times a message that is out of form, which is left" in in_words(figures(fleet.database))

@@ -66,7 +66,7 @@ def read_lines(key: str, body: bytes) -> Message | None:
         return None
     head, *lines = body.decode("latin-1").split("\n")
     found = HEAD.fullmatch(head)
-    if found is None or not NAME.fullmatch(gateway_in(key)) or len(lines) > MOST + 1 or lines[-1:] != [""]:
+    if found is None or int(found[2]) > LAST or not NAME.fullmatch(gateway_in(key)) or len(lines) > MOST + 1 or lines[-1:] != [""]:
         return None
     return Message(gateway_in(key), int(found[1]), int(found[2]), int(found[3]), tuple(lines[:-1]))
 

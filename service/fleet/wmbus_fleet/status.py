@@ -41,8 +41,9 @@ def figures(database: Database) -> dict[str, Any]:
         "downlinks_waiting": store.one(database, "select count(*) from outbox where sent is null and missed is null"),
         "ticks_late": store.one(database, "select count(*) from meter where due < %s", (time.time() - 60,)),
         "commands": store.pairs(database, "select state, count(*) from command group by state order by state"),
-        "clocks": _rows(database, "select name, (until - extract(epoch from seen))::bigint as ahead from gateway where gone is null and"
-                                  f" seen > now() - interval '{SILENT} seconds' and abs(until - extract(epoch from seen)) > {SILENT} order by name"),
+        "clocks": _rows(database, "select name, (until - extract(epoch from seen))::bigint as ahead from gateway where seen > now()"
+                                  f" - interval '{SILENT} seconds' and abs(until - extract(epoch from seen)) > {SILENT}"
+                                  " and gone is null order by name"),
         "asked": _rows(database, "select name, epoch, number + 1 as number from gateway where gone is null and asked < now()"
                                  " - interval '60 seconds' and (seen is null or seen <= asked) order by name"),
         "oddities": _rows(database, f"select gateway, what, times from oddity order by last_made desc limit {LAST}"),
