@@ -203,3 +203,17 @@ def test_a_number_that_no_message_has(fleet: Fleet) -> None:
             return fleet.fence() == (5, 2)
         until(is_taken)
     assert f"{fleet.gateway} sent 1 times a message that is out of form, which is left" in in_words(figures(fleet.database))
+
+
+def test_a_key_that_is_no_text(fleet: Fleet) -> None:
+    """Its message is left, and the others of the area are taken."""
+    with broker.connected(fleet.config.broker) as connection:
+        consuming, channel = Consuming(Intake(fleet.config, fleet.database, "test"), connection, [fleet.area]), broker.opened(connection)
+        for key in (f"up.{fleet.area}.".encode() + b"\xff\xfe", broker.up_key(fleet.area, fleet.gateway)):
+            broker.publish(channel, broker.EXCHANGE, key, lines_body(5, 1, 9, b""))
+
+        def is_taken() -> bool:
+            consuming.turn()
+            return fleet.fence() == (5, 1)
+        until(is_taken)
+    assert store.one(fleet.database, "select gateway from oddity") == "??"

@@ -55,12 +55,14 @@ def lines_body(epoch: int, number: int, until: int, lines: bytes) -> bytes:
     return f"wmbus-lines 1 {epoch} {number} {until}\n".encode() + lines
 
 
-def gateway_in(key: str) -> str:
-    """Whose message one is, by its key, `up.AREA.GATEWAY`, which RabbitMQ lets its own user alone use; in letters of names."""
+def gateway_in(key: str | bytes) -> str:
+    """Whose message one is, by its key, `up.AREA.GATEWAY`, which RabbitMQ lets its own user alone use; in letters of names. (A key that is no
+    text comes as bytes.)"""
+    key = key if isinstance(key, str) else key.decode("latin-1")
     return UNNAMED.sub("?", key.split(".")[-1][:LONGEST_NAME + 1])
 
 
-def read_lines(key: str, body: bytes) -> Message | None:
+def read_lines(key: str | bytes, body: bytes) -> Message | None:
     """A message by its key, `up.AREA.GATEWAY`, and its body; none where it is out of form."""
     if len(body) > LONGEST:
         return None
