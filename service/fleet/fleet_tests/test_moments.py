@@ -217,3 +217,25 @@ def test_a_key_that_is_no_text(fleet: Fleet) -> None:
             return fleet.fence() == (5, 1)
         until(is_taken)
     assert store.one(fleet.database, "select gateway from oddity") == "??"
+
+
+@pytest.fixture
+def restored(fleet: Fleet, tmp_path: Path, monkeypatch: pytest.MonkeyPatch) -> Config:
+    """A copy of a fleet is there, and an empty database for it."""
+    monkeypatch.setenv("PATH", "/usr/lib/postgresql/15/bin:/usr/bin:/bin")
+    return replace(fleet.config, database=fleet.both.postgres.make(f"{fleet.area.split('-')[0]}b"))
+
+
+def test_a_restore_that_was_killed(fleet: Fleet, restored: Config, tmp_path: Path, monkeypatch: pytest.MonkeyPatch) -> None:
+    """Nothing works over a copy whose counters weren't raised, as they may have been used since."""
+    def killed(*_: Any) -> int:
+        raise KeyboardInterrupt
+    backup.back_up(fleet.config, tmp_path / "copy")
+    with monkeypatch.context() as patches:
+        patches.setattr(backup, "raise_counters", killed)
+        with pytest.raises(KeyboardInterrupt):
+            backup.restore(restored, tmp_path / "copy", 50)
+    with pytest.raises(Trouble, match="restore"):
+        store.connect(restored.database)
+    with pytest.raises(Trouble):
+        backup.restore(restored, tmp_path / "copy", 50)

@@ -41,10 +41,13 @@ def restore(config: Config, source: Path, margin: int) -> int:
     with psycopg.connect(config.database, autocommit=True) as database:
         if store.one(database, "select to_regclass('setting')") is not None:
             raise Trouble("the database", "it has tables already", "name a new, empty one in the configuration")
+        # (as long as this table is there no part works over the copy)
+        database.execute("create table if not exists restoring ()")
     _done(["pg_restore", "--single-transaction", "--no-owner", "--exit-on-error", f"--dbname={config.database}", str(source)])
-    with store.connect(config.database) as database, store.transaction(database):
+    with store.connect(config.database, is_restored=False) as database, store.transaction(database):
         count = raise_counters(config, database, margin)
         _give_up(database, time.time())
+        database.execute("drop table restoring")
     return count
 
 
