@@ -239,3 +239,16 @@ def test_a_restore_that_was_killed(fleet: Fleet, restored: Config, tmp_path: Pat
         store.connect(restored.database)
     with pytest.raises(Trouble):
         backup.restore(restored, tmp_path / "copy", 50)
+
+
+def test_a_copy_of_the_release_before(fleet: Fleet, restored: Config, tmp_path: Path) -> None:
+    """Its counters are raised too, and its tables made this release's."""
+    for change in ("drop schema page cascade", "drop table oddity", "alter table gateway drop column gone",
+                   "alter table meter drop column heard", "create index line_by_age on line (made)",
+                   "create index reading_by_age on reading (made)"):
+        fleet.database.execute(change)
+    store.set_setting(fleet.database, "version", "1")
+    backup.back_up(fleet.config, tmp_path / "copy")
+    assert backup.restore(restored, tmp_path / "copy", 50) == 3
+    with store.connect(restored.database) as database:
+        assert {block.split(" ")[6] for (block,) in database.execute("select block from meter")} == {"50"}

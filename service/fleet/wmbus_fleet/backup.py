@@ -44,6 +44,8 @@ def restore(config: Config, source: Path, margin: int) -> int:
         # (as long as this table is there no part works over the copy)
         database.execute("create table if not exists restoring ()")
     _done(["pg_restore", "--single-transaction", "--no-owner", "--exit-on-error", f"--dbname={config.database}", str(source)])
+    # (a copy of an earlier release)
+    store.init(config.database)
     with store.connect(config.database, is_restored=False) as database, store.transaction(database):
         count = raise_counters(config, database, margin)
         _give_up(database, time.time())
