@@ -252,3 +252,15 @@ def test_a_copy_of_the_release_before(fleet: Fleet, restored: Config, tmp_path: 
     assert backup.restore(restored, tmp_path / "copy", 50) == 3
     with store.connect(restored.database) as database:
         assert {block.split(" ")[6] for (block,) in database.execute("select block from meter")} == {"50"}
+
+
+def test_no_password_is_an_argument(tmp_path: Path, monkeypatch: pytest.MonkeyPatch) -> None:
+    """Every user of the machine sees a program's words."""
+    seen = tmp_path / "seen"
+    for name in ("pg_dump", "pg_restore"):
+        (tmp_path / name).write_text(f'#!/bin/sh\necho "$@" >>{seen}\necho "$PGPASSWORD" >>{tmp_path}/password\n')
+        (tmp_path / name).chmod(0o700)
+    monkeypatch.setenv("PATH", f"{tmp_path}:/usr/bin:/bin")
+    backup.back_up(Config(database="host=db dbname=wmbus user=wmbus password='very secret'"), tmp_path / "copy")
+    assert "secret" not in seen.read_text() and "dbname=wmbus" in seen.read_text()
+    assert (tmp_path / "password").read_text() == "very secret\n"
