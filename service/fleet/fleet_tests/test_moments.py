@@ -4,7 +4,6 @@ from __future__ import annotations
 
 import random
 import sqlite3
-import subprocess
 import threading
 import time
 import tracemalloc
@@ -16,7 +15,7 @@ from typing import Any
 import pytest
 from tests.kill import PYTHON
 from tests.meters import line_of, next_telegrams, some_meters
-from tests.processes import until
+from tests.processes import started, until
 from tests.stand_in import stand_in
 from wmbus_fleet import backup, broker, commands, gateways, sessions, store
 from wmbus_fleet.config import Broker, Config, Gateway, Ticks
@@ -264,3 +263,21 @@ def test_no_password_is_an_argument(tmp_path: Path, monkeypatch: pytest.MonkeyPa
     backup.back_up(Config(database="host=db dbname=wmbus user=wmbus password='very secret'"), tmp_path / "copy")
     assert "secret" not in seen.read_text() and "dbname=wmbus" in seen.read_text()
     assert (tmp_path / "password").read_text() == "very secret\n"
+
+
+def test_an_area_that_is_made_while_an_intake_works(fleet: Fleet, tmp_path: Path) -> None:
+    """An intake of all areas takes its messages too."""
+    told, path, area, name = fleet.config.programs, tmp_path / "fleet.toml", f"{fleet.area}-new", f"{fleet.gateway}-new"
+    path.write_text(f'database = "{fleet.config.database}"\n[broker]\nport = {fleet.config.broker.port}\n[programs]\n'
+                    f'line_accept = "{told.line_accept}"\naddress_list = "{told.address_list}"\n')
+    command = [PYTHON, Path(__file__).parents[1] / "wmbus-fleet", "--config", path, "intake"]
+    with started(command), broker.connected(fleet.config.broker) as connection:
+        channel = broker.opened(connection)
+
+        def is_taken(area: str, name: str) -> None:
+            broker.publish(channel, broker.EXCHANGE, broker.up_key(area, name), lines_body(5, 1, 9, b""))
+            until(lambda: store.pairs(fleet.database, "select name, number from gateway")[name] == 1)
+        is_taken(fleet.area, fleet.gateway)
+        commands.add_area(fleet.config, fleet.database, area)
+        commands.add_gateway(fleet.config, fleet.database, area, name)
+        is_taken(area, name)

@@ -143,9 +143,16 @@ class Consuming:
         # of each message its tag, its gateway, and what it is, where it is in form
         self.held: list[tuple[int, str, Message | None]] = []
         self.since = 0.0
+        self.areas: set[str] = set()
+        self.listen(areas)
+
+    def listen(self, areas: Sequence[str]) -> None:
+        """Takes messages of these areas too."""
         for area in areas:
-            broker.declare_area(self.channel, area)
-            broker.consume(self.channel, broker.area_queue(area), self._hold)
+            if area not in self.areas:
+                broker.declare_area(self.channel, area)
+                broker.consume(self.channel, broker.area_queue(area), self._hold)
+                self.areas.add(area)
 
     def _hold(self, _channel: Any, method: Any, _properties: Any, body: bytes) -> None:
         """A message is in hand."""
@@ -198,9 +205,10 @@ def run(config: Config, areas: Sequence[str], name: str, ending: Ending) -> None
     while not ending.is_set():
         try:
             with store.connect(config.database) as database, broker.connected(config.broker) as connection:
-                known = [area for (area,) in database.execute("select name from area order by name").fetchall()]
-                consuming = Consuming(Intake(config, database, name), connection, areas or known)
+                consuming = Consuming(Intake(config, database, name), connection, areas)
                 while not ending.is_set():
+                    # (of all also those that were made since)
+                    consuming.listen(areas or [area for (area,) in database.execute("select name from area order by name").fetchall()])
                     consuming.turn()
         except (psycopg.Error, ProgramFailed, *broker.FAULTS) as fault:
             told = f"intake: {store.told_of(fault)}"
