@@ -281,3 +281,26 @@ def test_an_area_that_is_made_while_an_intake_works(fleet: Fleet, tmp_path: Path
         commands.add_area(fleet.config, fleet.database, area)
         commands.add_gateway(fleet.config, fleet.database, area, name)
         is_taken(area, name)
+
+
+def test_a_gateway_whose_queue_was_made_anew(fleet: Fleet, tmp_path: Path) -> None:
+    """As where it was taken away and came back while it stayed connected: it connects again, in place of hearing nothing for ever."""
+    service, ending, turns = ServiceConfig(tmp_path / "service", receivers={"radio": Receiver()}), Ending(), 0
+    prepare_folder(service.folder)
+
+    class Turning(Agent):
+        """A gateway whose queue is made anew in its first turn, and that ends behind some turns."""
+
+        def publish(self, channel: Any) -> int:
+            nonlocal turns
+            turns += 1
+            if turns == 1:
+                broker.delete_gateway(channel, fleet.gateway)
+                broker.declare_gateway(channel, fleet.gateway)
+            if turns == 40:
+                ending.set()
+            return 0
+    with closing(open_gateway(tmp_path / "gateway.db", time.time())) as database, broker.connected(fleet.config.broker) as connection:
+        agent = Turning(fleet.config, Gateway(fleet.gateway, fleet.area, "radio"), service, database)
+        with pytest.raises(broker.FAULTS, match="went"):
+            agent._serve(connection, ending)
