@@ -17,15 +17,17 @@ from tests.kill import PYTHON
 from tests.meters import line_of, next_telegrams, some_meters
 from tests.processes import started, until
 from tests.stand_in import stand_in
-from wmbus_fleet import backup, broker, commands, gateways, sessions, store
-from wmbus_fleet.config import Broker, Config, Gateway, Ticks
+from wmbus_fleet import backup, broker, commands, downlinks, gateways, sessions, store
+from wmbus_fleet.config import Broker, Config, Gateway, Keep, Ticks
 from wmbus_fleet.gateway import Agent, arm, open_gateway
 from wmbus_fleet.intake import Consuming, Intake
-from wmbus_fleet.messages import Down, Message, lines_body, read_lines
+from wmbus_fleet.messages import Down, Message, down_body, frames_in, lines_body, read_lines
+from wmbus_fleet.retention import let_go
 from wmbus_fleet.status import figures, in_words
 from wmbus_service.config import Config as ServiceConfig
 from wmbus_service.config import Receiver
 from wmbus_service.ending import Ending
+from wmbus_service.spool import LONGEST
 from wmbus_service.store import prepare_folder
 from wmbus_service.trouble import Trouble
 
@@ -304,3 +306,28 @@ def test_a_gateway_whose_queue_was_made_anew(fleet: Fleet, tmp_path: Path) -> No
         agent = Turning(fleet.config, Gateway(fleet.gateway, fleet.area, "radio"), service, database)
         with pytest.raises(broker.FAULTS, match="went"):
             agent._serve(connection, ending)
+
+
+def test_a_downlink_that_waited_for_its_gateway(fleet: Fleet, tmp_path: Path) -> None:
+    """It is armed for what is left of its time, and not for all of it anew."""
+    service, ending = ServiceConfig(tmp_path / "service", receivers={"radio": Receiver()}), Ending()
+    prepare_folder(service.folder)
+    made = time.time()
+    store.copy_rows(fleet.database, "outbox (gateway, address, down, frame, command, made)",
+                    [(fleet.gateway, fleet.meters[0].name, 1, "01", 1, made)])
+    with closing(open_gateway(tmp_path / "gateway.db", made)) as database, broker.connected(fleet.config.broker) as connection:
+        assert downlinks.send(fleet.config, fleet.database, broker.opened(connection), made) == 1
+        time.sleep(4)
+        stopping = threading.Timer(3, ending.set)
+        stopping.start()
+        Agent(fleet.config, Gateway(fleet.gateway, fleet.area, "radio"), service, database)._serve(connection, ending)
+        stopping.join()
+        (until,) = database.execute("select until from armed").fetchone()
+    assert made + 890 < until < made + 902
+
+
+@pytest.mark.parametrize("age, left", [(0, 100), (40, 60), (99, 1), (9000, 100), (-9000, 100), (None, 100)])
+def test_how_long_a_downlink_waited(house: House, age: int | None, left: int) -> None:
+    """That is told by the clocks of both; where it would have been dropped by then one of them is wrong, and it counts for all of its time."""
+    house.agent.hear(down_body(Down("9315010203040107", 3, "01", 100)), NOW, None if age is None else int(NOW) - age)
+    assert house.database.execute("select until from armed").fetchone() == (NOW + left,)

@@ -5,6 +5,7 @@ import logging
 import random
 import signal
 import ssl
+import time
 from collections.abc import Callable, Iterator
 from contextlib import contextmanager, suppress
 from pathlib import Path
@@ -131,8 +132,10 @@ def consume(channel: Any, queue: str, take: Callable[..., None]) -> None:
 
 
 def publish(channel: Any, exchange: str, key: str, body: bytes, lives: int | None = None) -> None:
-    """Publishes a message, and waits until its queue has it; one that no queue takes is an error."""
-    properties = pika.BasicProperties(delivery_mode=PERSISTENT, expiration=None if lives is None else str(lives))
+    """Publishes a message, and waits until its queue has it; one that no queue takes is an error. What lives for so many milliseconds tells
+    when it was published."""
+    properties = pika.BasicProperties(delivery_mode=PERSISTENT, expiration=None if lives is None else str(lives),
+                                      timestamp=None if lives is None else int(time.time()))
     with within(PATIENCE):
         channel.basic_publish(exchange, key, body, properties, mandatory=True)
 

@@ -8,6 +8,7 @@ import sqlite3
 import time
 from collections.abc import Sequence
 from contextlib import closing
+from dataclasses import replace
 from pathlib import Path
 from typing import Any
 
@@ -135,13 +136,13 @@ class Agent:
 
     # ---- what it is told
 
-    def hear(self, body: bytes, now: float) -> None:
+    def hear(self, body: bytes, now: float, published: int | None = None) -> None:
         """What the fleet says to the gateway."""
         order = read_order(self.told.name, body)
         if isinstance(order, Again):
             self.send_again(order, now)
         elif isinstance(order, Down):
-            arm(self.database, order, now)
+            arm(self.database, left_of(order, now, published), now)
         else:
             log.error("%s: the fleet said something that isn't understood", self.told.name)
 
@@ -230,8 +231,8 @@ class Agent:
             raise Trouble(f"gateway {self.told.name}", "another one with this name is connected, or its connection isn't closed yet",
                           "where it stays so, give each its own name")
 
-        def told(_channel: Any, method: Any, _properties: Any, body: bytes) -> None:
-            self.hear(body, time.time())
+        def told(_channel: Any, method: Any, properties: Any, body: bytes) -> None:
+            self.hear(body, time.time(), properties.timestamp)
             channel.basic_ack(method.delivery_tag)
 
         broker.consume(channel, broker.gateway_queue(self.told.name), told)
@@ -248,6 +249,13 @@ def mark_acknowledged(database: sqlite3.Connection, numbers: Sequence[int]) -> N
     if numbers:
         with store.transaction(database):
             database.executemany("update message set acknowledged = 1 where number = ?", [(number,) for number in numbers])
+
+
+def left_of(told: Down, now: float, published: int | None) -> Down:
+    """A downlink with what is left of its time behind its way through the queue, which drops it once that is over: where nothing would be
+    left a clock is wrong."""
+    age = 0 if published is None else int(now) - published
+    return replace(told, seconds=told.seconds - age) if 0 < age < told.seconds else told
 
 
 def arm(database: sqlite3.Connection, told: Down, now: float) -> None:
