@@ -328,6 +328,15 @@ def test_a_downlink_that_waited_for_its_gateway(fleet: Fleet, tmp_path: Path) ->
 
 @pytest.mark.parametrize("age, left", [(0, 100), (40, 60), (99, 1), (9000, 100), (-9000, 100), (None, 100)])
 def test_how_long_a_downlink_waited(house: House, age: int | None, left: int) -> None:
-    """That is told by the clocks of both; where it would have been dropped by then one of them is wrong, and it counts for all of its time."""
+    """That is told by the clocks of both; where it would have been dropped by then one of them is wrong, and it counts for all of its
+    time."""
     house.agent.hear(down_body(Down("9315010203040107", 3, "01", 100)), NOW, None if age is None else int(NOW) - age)
     assert house.database.execute("select until from armed").fetchone() == (NOW + left,)
+
+
+def test_epochs_that_begin_again_and_again(fleet: Fleet) -> None:
+    """Of a gateway that loses its disk with each start what is kept is bounded, and the last ones are told."""
+    rows = [("gw", epoch, 1, float(epoch)) for epoch in range(10_005)]
+    store.copy_rows(fleet.database, "missing (gateway, epoch, number, made)", rows)
+    let_go(fleet.database, Keep(), NOW)
+    assert fleet.database.execute("select count(*), min(epoch), max(epoch) from missing").fetchone() == (10_000, 5, 10_004)
