@@ -340,3 +340,8 @@ def test_epochs_that_begin_again_and_again(fleet: Fleet) -> None:
     store.copy_rows(fleet.database, "missing (gateway, epoch, number, made)", rows)
     let_go(fleet.database, Keep(), NOW)
     assert fleet.database.execute("select count(*), min(epoch), max(epoch) from missing").fetchone() == (10_000, 5, 10_004)
+
+
+def test_a_line_that_is_far_too_long() -> None:
+    """So much is kept of it as of a receiver's, which the program calls bad: a session takes 4,000 lines at once."""
+    assert frames_in(["A 1 00", "A 1 " + 200_000 * "0"]) == [(1, "A 1 00"), (2, ("A 1 " + 200_000 * "0")[:LONGEST])]
