@@ -178,7 +178,7 @@ def test_a_gateway_that_was_taken_away(fleet: Fleet) -> None:
     gateways.remove(fleet.config, fleet.database, fleet.gateway)
     assert [line for line in in_words(figures(fleet.database)) if fleet.gateway in line] == []
     intake.take([Message(fleet.gateway, 5, 2, int(now) - 15, ())])
-    assert sessions.due_ticks(fleet.database, Ticks(), shard, now, 10) == [(pytest.approx(now - 10), meter)]
+    assert [address for _, address in sessions.due_ticks(fleet.database, Ticks(), shard, now, 10)] == [meter]
 
 
 def test_what_is_too_large_costs_no_memory() -> None:
@@ -210,7 +210,8 @@ def test_a_key_that_is_no_text(fleet: Fleet) -> None:
     """Its message is left, and the others of the area are taken."""
     with broker.connected(fleet.config.broker) as connection:
         consuming, channel = Consuming(Intake(fleet.config, fleet.database, "test"), connection, [fleet.area]), broker.opened(connection)
-        for key in (f"up.{fleet.area}.".encode() + b"\xff\xfe", broker.up_key(fleet.area, fleet.gateway)):
+        keys: list[Any] = [f"up.{fleet.area}.".encode() + b"\xff\xfe", broker.up_key(fleet.area, fleet.gateway)]
+        for key in keys:
             broker.publish(channel, broker.EXCHANGE, key, lines_body(5, 1, 9, b""))
 
         def is_taken() -> bool:
@@ -272,7 +273,7 @@ def test_an_area_that_is_made_while_an_intake_works(fleet: Fleet, tmp_path: Path
     told, path, area, name = fleet.config.programs, tmp_path / "fleet.toml", f"{fleet.area}-new", f"{fleet.gateway}-new"
     path.write_text(f'database = "{fleet.config.database}"\n[broker]\nport = {fleet.config.broker.port}\n[programs]\n'
                     f'line_accept = "{told.line_accept}"\naddress_list = "{told.address_list}"\n')
-    command = [PYTHON, Path(__file__).parents[1] / "wmbus-fleet", "--config", path, "intake"]
+    command = [PYTHON, str(Path(__file__).parents[1] / "wmbus-fleet"), "--config", str(path), "intake"]
     with started(command), broker.connected(fleet.config.broker) as connection:
         channel = broker.opened(connection)
 
@@ -345,3 +346,16 @@ def test_epochs_that_begin_again_and_again(fleet: Fleet) -> None:
 def test_a_line_that_is_far_too_long() -> None:
     """So much is kept of it as of a receiver's, which the program calls bad: a session takes 4,000 lines at once."""
     assert frames_in(["A 1 00", "A 1 " + 200_000 * "0"]) == [(1, "A 1 00"), (2, ("A 1 " + 200_000 * "0")[:LONGEST])]
+
+
+@pytest.mark.parametrize("said, lacking", [((1, 3, 4), 2), ((2, 3), 1)])
+def test_a_gap_behind_which_a_gateway_goes_on(fleet: Fleet, said: tuple[int, ...], lacking: int) -> None:
+    """It is asked again with each message that it sends, and named all the same."""
+    taking, now = Intake(fleet.config, fleet.database, "test"), int(time.time())
+    for number in said:
+        fleet.database.execute("update gateway set seen = seen - interval '65 seconds', asked = asked - interval '5 seconds'")
+        asked = taking.take([Message(fleet.gateway, 5, number, now, ())])
+    assert [it.number for it in asked] == [lacking]
+    assert [it["number"] for it in figures(fleet.database)["asked"]] == [lacking]
+    taking.take([Message(fleet.gateway, 5, number, now, ()) for number in (lacking, *said)])
+    assert figures(fleet.database)["asked"] == []

@@ -44,8 +44,9 @@ def figures(database: Database) -> dict[str, Any]:
         "clocks": _rows(database, "select name, (until - extract(epoch from seen))::bigint as ahead from gateway where seen > now()"
                                   f" - interval '{SILENT} seconds' and abs(until - extract(epoch from seen)) > {SILENT}"
                                   " and gone is null order by name"),
-        "asked": _rows(database, "select name, epoch, number + 1 as number from gateway where gone is null and asked < now()"
-                                 " - interval '60 seconds' and (seen is null or seen <= asked) order by name"),
+        # (one that goes on behind a gap is asked again and again)
+        "asked": _rows(database, "select name, epoch, number + 1 as number from gateway where gone is null and asked is not null"
+                                 " and (seen is null or seen <= asked and seen < now() - interval '60 seconds') order by name"),
         "oddities": _rows(database, f"select gateway, what, times from oddity order by last_made desc limit {LAST}"),
         "gateways": _rows(database, "select name, area, epoch, number, extract(epoch from now() - seen)::bigint as age from gateway"
                                     f" g where gone is null and ({IS_SILENT}) order by name limit {MOST}"),
