@@ -120,8 +120,10 @@ def test_no_line_of_before_a_wrong_clock_is_told_of(house: House) -> None:
 def test_nothing_is_searched_in_a_gateways_messages(house: House) -> None:
     """A week of them are 300,000, and 20 times a second it looks for those that are too old: no step goes over all of them."""
     rows = [(number, 60 * b"A 1 00\n", NOW, NOW, 1) for number in range(4, 20_004)]
+    house.database.execute("begin")
     house.database.executemany("insert into message (number, lines, until, made, acknowledged) values (?, ?, ?, ?, ?)", rows)
     house.database.execute("update numbering set last = 20003")
+    house.database.execute("commit")
     house.hear(["A 5 00"])
     steps = 0
 
