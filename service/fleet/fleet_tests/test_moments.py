@@ -311,6 +311,17 @@ def test_a_gateway_whose_queue_was_made_anew(fleet: Fleet, tmp_path: Path) -> No
             agent._serve(connection, ending)
 
 
+def test_which_queue_went(fleet: Fleet) -> None:
+    """Of several that a process listens to the one is named."""
+    with broker.connected(fleet.config.broker) as connection:
+        channel, queues = broker.opened(connection), [broker.area_queue(fleet.area), broker.gateway_queue(fleet.gateway)]
+        for queue in queues:
+            broker.consume(channel, queue, lambda *_: None)
+        broker.delete_gateway(broker.opened(connection), fleet.gateway)
+        with pytest.raises(broker.FAULTS, match=f"the queue {queues[1]} went"):
+            connection.process_data_events(10)
+
+
 def test_a_downlink_that_waited_for_its_gateway(fleet: Fleet, tmp_path: Path) -> None:
     """It is armed for what is left of its time, and not for all of it anew."""
     service, ending = ServiceConfig(tmp_path / "service", receivers={"radio": Receiver()}), Ending()

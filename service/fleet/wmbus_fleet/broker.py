@@ -123,12 +123,12 @@ def depth(channel: Any, queue: str) -> int:
 
 def consume(channel: Any, queue: str, take: Callable[..., None]) -> None:
     """Has each message of a queue be taken; that the queue goes is an error, since of one that is made anew nothing would come."""
-    def gone(_told: Any) -> None:
-        raise pika.exceptions.ConsumerCancelled(f"the queue {queue} went")
+    def gone(told: Any) -> None:
+        raise pika.exceptions.ConsumerCancelled(f"the queue {told.method.consumer_tag} went")
 
     channel.add_on_cancel_callback(gone)
     with within(PATIENCE):
-        channel.basic_consume(queue, take)
+        channel.basic_consume(queue, take, consumer_tag=queue)
 
 
 def publish(channel: Any, exchange: str, key: str, body: bytes, lives: int | None = None) -> None:
