@@ -311,6 +311,19 @@ def test_a_gateway_whose_queue_was_made_anew(fleet: Fleet, tmp_path: Path) -> No
             agent._serve(connection, ending)
 
 
+def test_ticks_that_wait_for_a_gateway_arent_late(fleet: Fleet) -> None:
+    """They wait until what it heard has come: more sessions wouldn't help."""
+    now = time.time()
+    fleet.database.execute("update meter set due = %s, gateway = %s where address = %s", (now - 300, fleet.gateway, fleet.meters[0].name))
+
+    def late() -> list[str]:
+        return [line for line in in_words(figures(fleet.database)) if "late" in line]
+    fleet.database.execute("update gateway set until = %s", (int(now) - 400,))
+    assert late() == []
+    fleet.database.execute("update gateway set until = %s", (int(now),))
+    assert late() == ["1 ticks are late: no sessions run, or too few"]
+
+
 def test_which_queue_went(fleet: Fleet) -> None:
     """Of several that a process listens to the one is named."""
     with broker.connected(fleet.config.broker) as connection:

@@ -39,7 +39,9 @@ def figures(database: Database) -> dict[str, Any]:
         "meters": store.one(database, "select count(*) from meter"),
         "inbox": store.one(database, "select count(*) from inbox"),
         "downlinks_waiting": store.one(database, "select count(*) from outbox where sent is null and missed is null"),
-        "ticks_late": store.one(database, "select count(*) from meter where due < %s", (time.time() - 60,)),
+        # (others wait for what a gateway that is cut off heard before they were due)
+        "ticks_late": store.one(database, "select count(*) from meter m left join gateway g on g.name = m.gateway where m.due < %s"
+                                          " and (g.name is null or g.until > m.due)", (time.time() - 60,)),
         "commands": store.pairs(database, "select state, count(*) from command group by state order by state"),
         "clocks": _rows(database, "select name, (until - extract(epoch from seen))::bigint as ahead from gateway where seen > now()"
                                   f" - interval '{SILENT} seconds' and abs(until - extract(epoch from seen)) > {SILENT}"
