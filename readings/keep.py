@@ -472,7 +472,7 @@ def main():
     if words == ["--help"]:
         print(__doc__)
         return 0
-    if len(words) < 2 or words[0].startswith("-"):
+    if len(words) < 2 or not words[0] or words[0].startswith("-"):
         print("keep_readings: give a database, and reports behind it; --help says more", file=sys.stderr)
         return 2
     try:

@@ -142,7 +142,8 @@ def open_database(path, create):
         raise NoDatabase(f"{path}: there is no such file; bin/keep_readings makes one")
     database = None
     try:
-        database = sqlite3.connect(path, timeout=PAGE_WAIT, isolation_level=None)
+        # (SQLite keeps what is called :memory: alone nowhere)
+        database = sqlite3.connect(os.path.join(".", path), timeout=PAGE_WAIT, isolation_level=None)
         database.execute("PRAGMA foreign_keys = ON")
         database.execute("PRAGMA synchronous = FULL")
         if create:
