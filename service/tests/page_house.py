@@ -3,6 +3,7 @@ from __future__ import annotations
 
 import re
 import time
+from collections.abc import Iterator
 from typing import Any
 
 import pytest
@@ -10,6 +11,7 @@ from flask import Flask
 from flask.testing import FlaskClient
 from wmbus_service.page.app import create_app
 
+from readings.used import hour_of
 from .test_sessions import NOW, House
 
 TOKEN = "a-token-of-the-tests-0123456789"
@@ -71,9 +73,16 @@ def entered(app: Flask) -> tuple[FlaskClient, str]:
     return client, word
 
 
-@pytest.fixture(name="page")
-def page_fixture(house: House, monkeypatch: pytest.MonkeyPatch) -> PageHouse:
-    """A house with a page."""
-    monkeypatch.setenv("TZ", "UTC")
+def zoned(monkeypatch: pytest.MonkeyPatch, zone: str) -> None:
+    """This machine is in a zone."""
+    monkeypatch.setenv("TZ", zone)
     time.tzset()
-    return PageHouse(house)
+    hour_of.cache_clear()
+
+
+@pytest.fixture(name="page")
+def page_fixture(house: House, monkeypatch: pytest.MonkeyPatch) -> Iterator[PageHouse]:
+    """A house with a page."""
+    zoned(monkeypatch, "UTC")
+    yield PageHouse(house)
+    hour_of.cache_clear()

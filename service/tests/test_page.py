@@ -19,11 +19,12 @@ import frames
 import messages
 from readings import service_tables
 from .kill import TOP
-from .page_house import DAY, HOUR, PageHouse, page_fixture  # noqa: F401
+from .page_house import DAY, HOUR, PageHouse, page_fixture, zoned  # noqa: F401
 from .processes import run
 from .test_sessions import NOW, house_fixture  # noqa: F401
 
 # NOW is the 15th of January 2027, 08:00 in UTC
+BERLIN = "CET-1CEST,M3.5.0,M10.5.0/3"
 
 
 def test_overview(page: PageHouse) -> None:
@@ -113,6 +114,13 @@ def test_months_of_days_alone(page: PageHouse) -> None:
     assert told
     assert [(row["period"], row["amount"]) for row in told["used"][0]["by"]["month"]] == [
         ("2027-01", "0.140"), ("2026-11", "0.070"), ("2026-10", "0.090")]
+
+
+@pytest.mark.parametrize("zone", [BERLIN, "NST3:30", "NZST-12NZDT,M9.5.0,M4.1.0/3"])
+def test_months_of_days_in_zones(page: PageHouse, monkeypatch: pytest.MonkeyPatch, zone: str) -> None:
+    """A day that is kept counts in its month, wherever the page is."""
+    zoned(monkeypatch, zone)
+    test_months_of_days_alone(page)
 
 
 def test_registers_and_curves(page: PageHouse) -> None:

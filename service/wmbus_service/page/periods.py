@@ -1,7 +1,6 @@
 """What was used by hour, day and month, and curves: of a register the last value of each stretch of time."""
 from __future__ import annotations
 
-import calendar
 import time
 from dataclasses import dataclass, replace
 from decimal import Decimal
@@ -91,7 +90,7 @@ def _with_days(database: Database, address: str, register: Register,
                points: list[tuple[int, None, str]]) -> list[tuple[int, None, str]]:
     """The points with those of days whose readings are gone in front of them."""
     first = points[0][0] if points else 1 << 62
-    days = ((calendar.timegm(time.strptime(day, "%Y-%m-%d")) + DAY - 1, number)
+    days = ((int(time.mktime((*time.strptime(day, "%Y-%m-%d")[:3], 23, 59, 59, 0, 0, -1))), number)
             for day, number in day_values(database, address, register))
     return [(moment, None, number) for moment, number in days if moment < first] + points
 
