@@ -93,6 +93,19 @@ def test_one_unit(page: PageHouse) -> None:
     assert {by: rows[0]["text"] for by, rows in told["used"][0]["by"].items()} == {"hour": "5 kWh", "day": "5 kWh", "month": "425 kWh"}
 
 
+def test_hours_of_other_zones(page: PageHouse, monkeypatch: pytest.MonkeyPatch) -> None:
+    """What was used in an hour is the difference of the last readings of each hour, also where hours begin at the half ones of UTC."""
+    zoned(monkeypatch, "IST-5:30")
+    address = page.addresses[0]
+    # NOW is 13:30 there: readings at ten minutes to 11, at 20 past 11, at ten minutes to 12, at 20 past 12, and at ten minutes to 13
+    for minutes, litres in ((160, 100), (130, 107), (100, 120), (70, 126), (40, 150)):
+        page.volume(address, NOW - 60 * minutes, litres)
+    told = page.client().get(f"/api/meters/{address}").json
+    assert told
+    assert [(row["period"], row["amount"]) for row in told["used"][0]["by"]["hour"]] == [
+        ("2027-01-15 12:00", "0.030"), ("2027-01-15 11:00", "0.020")]
+
+
 def test_replaced_meter(page: PageHouse) -> None:
     """A register that falls is said to be reset or replaced, and what it fell by isn't counted."""
     address = page.addresses[0]

@@ -51,10 +51,10 @@ class Curve:
 
 def bounds_of(by: str, now: float) -> list[int]:
     """The moments at which the hours or days of the last periods begin, in this machine's zone, and one behind now."""
-    year, month, day = time.localtime(now)[:3]
+    year, month, day, _, minute, second = time.localtime(now)[:6]
     _, count = PERIODS[by]
     if by == "hour":
-        found = [int(now) - int(now) % 3600 - 3600 * back for back in range(count)]
+        found = [int(now) - 60 * minute - second - 3600 * back for back in range(count)]
     else:
         first = (year, month - count + 1, 1) if by == "month" else (year, month, day - count + 1)
         days = range(1 + int(now - time.mktime((*first, 0, 0, 0, 0, 0, -1))) // DAY)
