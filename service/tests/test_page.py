@@ -243,6 +243,21 @@ def test_csv(page: PageHouse) -> None:
     assert page.client().get(f"/meters/{first}/readings.csv?from=yesterday").status_code == 400
 
 
+def test_csv_of_days_of_other_lengths(page: PageHouse, monkeypatch: pytest.MonkeyPatch) -> None:
+    """A day of a span is whole, and none of the next one's, on days on which the clocks are set."""
+    zoned(monkeypatch, BERLIN)
+    address = page.addresses[0]
+    # 23:30 in Berlin on the 28th of March and 00:30 on the 29th, and 23:30 on the 25th of October and 00:30 on the 26th, of 2026
+    for litres, moment in enumerate((1774737000, 1774740600, 1792967400, 1792971000)):
+        page.volume(address, moment, litres)
+    page.volume(address, 1774821600 + 1800, 9)
+
+    def values(day: str) -> list[str]:
+        given = page.client().get(f"/meters/{address}/readings.csv?from={day}&to={day}").text
+        return [row[5] for row in csv.reader(io.StringIO(given))][1:]
+    assert (values("2026-03-29"), values("2026-10-25"), values("2026-10-26")) == (["0.001"], ["0.002"], ["0.003"])
+
+
 def test_json_is_the_page(page: PageHouse) -> None:
     """What stands in the JSON of a page stands on the page, meter for meter, and in that order."""
     first, second, third = page.addresses
