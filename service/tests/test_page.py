@@ -12,7 +12,8 @@ from contextlib import closing
 from pathlib import Path
 
 import pytest
-from wmbus_service import schema
+from wmbus_service import retention, schema
+from wmbus_service.config import Keep
 from wmbus_service.page import radios, reading
 
 import frames
@@ -134,6 +135,25 @@ def test_months_of_days_in_zones(page: PageHouse, monkeypatch: pytest.MonkeyPatc
     """A day that is kept counts in its month, wherever the page is."""
     zoned(monkeypatch, zone)
     test_months_of_days_alone(page)
+
+
+def test_months_of_readings_that_went(page: PageHouse) -> None:
+    """Months are counted alike once their readings are gone; of a register that a reading has twice, as a volume and what flowed backward,
+    the first value counts."""
+    address = page.addresses[0]
+    for back, litres in ((80, 1000), (50, 1600), (46, 1650), (20, 2100), (1, 2400)):
+        page.read(address, NOW - back * DAY, ("volume", "m3", -3, str(litres)), ("volume", "m3", -3, "7"))
+
+    def months() -> list[tuple[str, str]]:
+        told = page.client().get(f"/api/meters/{address}").json
+        assert told
+        return [(row["period"], row["amount"]) for row in told["used"][0]["by"]["month"]]
+    wanted = [("2027-01", "0.300"), ("2026-12", "0.450"), ("2026-11", "0.650")]
+    assert months() == wanted
+    while retention.let_go(page.house.database, Keep(readings=10), NOW):
+        pass
+    assert page.house.all("select count(*) from reading") == [1]
+    assert months() == wanted
 
 
 def test_registers_and_curves(page: PageHouse) -> None:
