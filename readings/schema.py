@@ -120,7 +120,7 @@ SAME_LINES = """
 CREATE TABLE IF NOT EXISTS heard (
     report INTEGER NOT NULL REFERENCES report (id) ON DELETE CASCADE,
     receiver INTEGER NOT NULL,
-    first TEXT NOT NULL,       -- the line of its first step, and the meter's address
+    first TEXT NOT NULL,       -- of each of its meters the line of the first step, and the address
     steps BLOB NOT NULL,       -- its steps, as same_lines.py packs them
     PRIMARY KEY (report, receiver)
 ) WITHOUT ROWID;
