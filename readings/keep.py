@@ -36,7 +36,7 @@ import tempfile
 from dataclasses import dataclass, field
 
 from readings.programs import path
-from readings.same_lines import put_heard
+from readings.same_lines import find_same, put_heard
 from readings.schema import NoDatabase, empty_records, ended, is_earlier, open_database
 
 # a report is handed to reading_list in pieces of about so many bytes, so that their records fit into memory
@@ -440,11 +440,15 @@ def put_report(database, program, name, digest, lines):
         return "was kept before"
     report = read_report(lines)
     place = os.path.realpath(name)
+    left = database.execute("SELECT report FROM covered JOIN report ON id = by WHERE name = ?", (place,)).fetchall()
     database.execute("DELETE FROM report WHERE name = ?", (place,))
     now = datetime.datetime.now(datetime.timezone.utc).strftime("%Y-%m-%dT%H:%M:%SZ")
     number = database.execute("INSERT INTO report (name, sha256, kept) VALUES (?, ?, ?)", (place, digest, now)).lastrowid
     put_state(database, number, report)
     put_heard(database, number, report.heard)
+    # (another one may cover what the report in this one's place covered)
+    for covered, in left:
+        find_same(database, covered)
     new = put_readings(database, report, Records(records_of(program, name, lines)))
     return f"{sum(len(it.stored) for it in report.meters)} readings, {new} of them new"
 
