@@ -74,7 +74,8 @@ class Folder:
 
     def lock(self) -> int:
         """Keeps others away as long as this process lives, or a program that it started."""
-        lock = os.open(self.path / "lock", os.O_RDWR | os.O_CREAT, 0o600)
+        # (above the standard streams: in the place of a closed one it wouldn't be handed on)
+        lock = fcntl.fcntl(os.open(self.path / "lock", os.O_RDWR | os.O_CREAT, 0o600), fcntl.F_DUPFD_CLOEXEC, 3)
         try:
             fcntl.flock(lock, fcntl.LOCK_EX | fcntl.LOCK_NB)
         except BlockingIOError:
