@@ -218,6 +218,9 @@ def run() -> int:
     except Stop as stop:
         print(f"sessions: {stop}", file=sys.stderr)
         return stop.status
+    except subprocess.CalledProcessError as fault:
+        print("sessions: there is no program wmbus that can be started, as is said above", file=sys.stderr)
+        return fault.returncode
     except OSError as fault:
         print(f"sessions: {fault}", file=sys.stderr)
         return FAULTY_FOLDER
