@@ -290,15 +290,18 @@ def reading_list():
 
 def listed(program, text):
     """What a program lists of a text: its exit status, its lines, and what it says of them. Only one of them is a pipe, so none waits for another."""
-    with tempfile.TemporaryFile() as file, tempfile.TemporaryFile() as errors:
-        file.write(text)
-        file.seek(0)
-        try:
-            ran = subprocess.run([program, "/dev/stdin"], stdin=file, stdout=subprocess.PIPE, stderr=errors, check=False)
-        except OSError as error:
-            raise Unkept(f"can't start {program}: {error.strerror}") from None
-        errors.seek(0)
-        return ran.returncode, ran.stdout, errors.read().decode(errors="replace")
+    try:
+        with tempfile.TemporaryFile() as file, tempfile.TemporaryFile() as errors:
+            file.write(text)
+            file.seek(0)
+            try:
+                ran = subprocess.run([program, "/dev/stdin"], stdin=file, stdout=subprocess.PIPE, stderr=errors, check=False)
+            except OSError as error:
+                raise Unkept(f"can't start {program}: {error.strerror}") from None
+            errors.seek(0)
+            return ran.returncode, ran.stdout, errors.read().decode(errors="replace")
+    except OSError as error:
+        raise Unkept(f"no temporary file can be written for it: {error.strerror}") from None
 
 
 def records_of(program, name, lines):
