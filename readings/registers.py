@@ -51,7 +51,8 @@ class Register:
         return ", ".join(part for part in (self.name, self.of_what) if part)
 
     def is_main(self):
-        return not self.place() and not self.words()
+        """Whether it is what its quantity's name says; one whose modifiers no words tell may be anything else."""
+        return not self.place() and not self.words() and (not self.modifiers or bool(self.qualifiers))
 
     @property
     def rank(self):

@@ -37,16 +37,16 @@ class PageHouse:
         return self.app.test_client()
 
     def read(self, address: str, moment: float, *records: tuple[Any, ...], made: float | None = None) -> None:
-        """A reading: of each record quantity, unit, power of ten and value, and where it isn't the main one function and storage."""
+        """A reading: of each record quantity, unit, power of ten and value, and where it isn't the main one function, storage and modifiers."""
         self.lines += 1
         self.write("begin")
         number = self.house.database.execute(
             "insert into reading (line, address, counter, moment, receiver, payload, more, made) values (?, ?, ?, ?, 'attic', '', 0, ?)",
             (self.lines, address, self.lines, int(moment), moment if made is None else made)).lastrowid
         for place, (quantity, unit, exponent, value, *rest) in enumerate(records):
-            function, storage = rest or ("instantaneous", 0)
-            self.house.database.execute("insert into record values (?, ?, ?, ?, ?, ?, ?, ?, 0, 0, '', ?)",
-                                        (number, place, quantity, unit, exponent, value, function, storage, "00ff"))
+            function, storage, modifiers = list(rest) + ["instantaneous", 0, ""][len(rest):]
+            self.house.database.execute("insert into record values (?, ?, ?, ?, ?, ?, ?, ?, 0, 0, ?, ?)",
+                                        (number, place, quantity, unit, exponent, value, function, storage, modifiers, "00ff"))
         self.write("commit")
 
     def volume(self, address: str, moment: float, litres: int) -> None:

@@ -138,11 +138,12 @@ def test_months_of_days_in_zones(page: PageHouse, monkeypatch: pytest.MonkeyPatc
 
 
 def test_months_of_readings_that_went(page: PageHouse) -> None:
-    """Months are counted alike once their readings are gone; of a register that a reading has twice, as a volume and what flowed backward,
-    the first value counts."""
-    address = page.addresses[0]
+    """Months are counted alike once their readings are gone; of a register that a reading has twice the first value counts, and what flowed
+    backward is another one, sent in front of it or alone."""
+    address, backward = page.addresses[0], ("volume", "m3", -3, "7", "instantaneous", 0, "3c")
     for back, litres in ((80, 1000), (50, 1600), (46, 1650), (20, 2100), (1, 2400)):
-        page.read(address, NOW - back * DAY, ("volume", "m3", -3, str(litres)), ("volume", "m3", -3, "7"))
+        page.read(address, NOW - back * DAY, backward, ("volume", "m3", -3, str(litres)), ("volume", "m3", -3, "7"))
+        page.read(address, NOW - back * DAY + 60, backward)
 
     def months() -> list[tuple[str, str]]:
         told = page.client().get(f"/api/meters/{address}").json
@@ -152,7 +153,7 @@ def test_months_of_readings_that_went(page: PageHouse) -> None:
     assert months() == wanted
     while retention.let_go(page.house.database, Keep(readings=10), NOW):
         pass
-    assert page.house.all("select count(*) from reading") == [1]
+    assert page.house.all("select count(*) from reading") == [2]
     assert months() == wanted
 
 
@@ -170,6 +171,24 @@ def test_registers_and_curves(page: PageHouse) -> None:
         ("energy", "120 kWh", "123 kWh", 2, "0,110 600,10")]
     text = page.client().get(f"/meters/{address}?span=day").text
     assert 'role="img"' in text and "storage 1" in text
+
+
+def test_registers_with_modifiers(page: PageHouse) -> None:
+    """What modifiers make of a quantity is another one (docs/FORMATS.md): a volume, and what flowed backward, sent in front of it or alone."""
+    address = page.addresses[0]
+    for back, litres, backward in ((3 * DAY, 1000, 7), (2 * DAY, 1300, 7), (DAY, None, 9), (HOUR, 1700, 9), (60, None, 11)):
+        volume = [("volume", "m3", -3, str(litres))] if litres else []
+        page.read(address, NOW - back, ("volume", "m3", -3, str(backward), "instantaneous", 0, "3c"), *volume)
+    told = page.client().get(f"/api/meters/{address}?span=week").json
+    assert told
+    assert [(it["title"], it["of_what"], it["modifiers"], it["text"]) for it in told["values"]] == [
+        ("volume", "", "", "1.700 m³"), ("volume", "modifiers 3c", "3c", "0.011 m³")]
+    assert told["meter"]["main"]["text"] == "1.700 m³"
+    assert [[(row["period"], row["amount"]) for row in it["by"]["day"]] for it in told["used"]] == [
+        [("2027-01-15", "0.400"), ("2027-01-13", "0.300")],
+        [("2027-01-15", "0.002"), ("2027-01-14", "0.002"), ("2027-01-13", "0.000")]]
+    assert [(it["name"], it["least"], it["most"]) for it in told["curves"]] == [
+        ("volume", "1.000 m³", "1.700 m³"), ("volume, modifiers 3c", "0.007 m³", "0.011 m³")]
 
 
 def test_refusals_and_commands_in_words(page: PageHouse) -> None:

@@ -147,14 +147,17 @@ def _last_readings(database: Database, address: str, now: float, most: int) -> l
 
 def _main_value(database: Database, readings: list[tuple[int, int, float, int]], now: float) -> Value | None:
     """Of a meter's last values the one that says most."""
+    other = None
     for ident, moment, made, _ in readings:
-        rows = database.execute(f"select quantity, unit, exponent, value, raw from record where reading = ? and {FIRST_ALWAYS}"
+        rows = database.execute(f"select quantity, unit, modifiers, exponent, value, raw from record where reading = ? and {FIRST_ALWAYS}"
                                 " order by place limit 100", (ident,))
-        found = [Value(Register(quantity, unit), exact(value, exponent), raw, heard_at(moment, made, now))
-                 for quantity, unit, exponent, value, raw in rows if quantity not in NAMES and NUMBER.fullmatch(value)]
-        if found:
-            return min(found, key=lambda it: it.rank)
-    return None
+        found = [Value(Register(quantity, unit, modifiers=modifiers), exact(value, exponent), raw, heard_at(moment, made, now))
+                 for quantity, unit, modifiers, exponent, value, raw in rows if quantity not in NAMES and NUMBER.fullmatch(value)]
+        best = min(found, key=lambda it: it.rank, default=None)
+        if best is not None and best.register.is_main():
+            return best
+        other = other or best
+    return other
 
 
 def last_values(database: Database, address: str, now: float) -> list[Value]:
@@ -163,11 +166,12 @@ def last_values(database: Database, address: str, now: float) -> list[Value]:
     found: dict[tuple[Any, ...], Value] = {}
     count = 0
     for ident, moment, made, _ in _last_readings(database, address, now, MOST_READINGS):
-        rows = database.execute("select quantity, unit, function, storage, tariff, subunit, exponent, value, raw from record"
+        rows = database.execute("select quantity, unit, function, storage, tariff, subunit, modifiers, exponent, value, raw from record"
                                 " where reading = ? order by place limit ?", (ident, MOST_VALUES)).fetchall()
         for row in rows:
-            if (kind := row[:6]) not in found:
-                found[kind] = Value(Register(*kind), exact(row[7], row[6]), row[8], heard_at(moment, made, now))
+            if (kind := row[:7]) not in found:
+                register = Register(*kind[:6], modifiers=kind[6])
+                found[kind] = Value(register, exact(row[8], row[7]), row[9], heard_at(moment, made, now))
         count += len(rows)
         if count > MOST_VALUES:
             break
@@ -180,12 +184,12 @@ def last_values(database: Database, address: str, now: float) -> list[Value]:
 
 POINT = ("select moment, exponent, value from reading cross join record on record.reading = reading.id"
          " where address = ? and moment >= ? and moment < ? and quantity = ? and unit = ? and function = ? and storage = ?"
-         " and tariff = ? and subunit = ? order by moment desc limit 1")
+         " and tariff = ? and subunit = ? and modifiers = ? order by moment desc limit 1")
 
 
 def points_of(database: Database, address: str, register: Register, bounds: Sequence[int]) -> Iterator[tuple[int, None, str]]:
     """The last value in each stretch between bounds, where there is one."""
-    kind = (register.quantity, register.unit, register.function, register.storage, register.tariff, register.subunit)
+    kind = (register.quantity, register.unit, register.function, register.storage, register.tariff, register.subunit, register.modifiers)
     for begin, end in zip(bounds, bounds[1:], strict=False):
         row = database.execute(POINT, (address, begin, end, *kind)).fetchone()
         if row and NUMBER.fullmatch(row[2]) and abs(row[1]) <= MOST_POWER:
@@ -193,7 +197,9 @@ def points_of(database: Database, address: str, register: Register, bounds: Sequ
 
 
 def day_values(database: Database, address: str, register: Register) -> Iterator[tuple[str, str]]:
-    """The last values of days whose readings are gone: day and number."""
+    """The last values of days whose readings are gone: day and number. Those of registers with modifiers aren't kept."""
+    if register.modifiers:
+        return
     rows = database.execute("select day, exponent, value from daily where address = ? and quantity = ? and unit = ? and function = ?"
                             " and storage = ? and tariff = ? and subunit = ? order by day",
                             (address, register.quantity, register.unit, register.function, register.storage, register.tariff,
