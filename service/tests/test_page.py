@@ -137,6 +137,20 @@ def test_months_of_days_in_zones(page: PageHouse, monkeypatch: pytest.MonkeyPatc
     test_months_of_days_alone(page)
 
 
+def test_first_month_when_summer_time_began(page: PageHouse, monkeypatch: pytest.MonkeyPatch) -> None:
+    """The first month that is shown is whole, also in the first hour of a day that has summer time where that month's first day has none."""
+    zoned(monkeypatch, BERLIN)
+    # 00:30 of the 30th of March 2027 in Berlin; ten litres a day at noon in UTC for 410 days up to the day before
+    now = 1806359400
+    page.app.config.update(CLOCK=lambda: now)
+    for back in range(410):
+        page.volume(page.addresses[0], now - 37_800 - back * DAY, 10_000 - 10 * back)
+    told = page.client().get(f"/api/meters/{page.addresses[0]}").json
+    assert told
+    months = told["used"][0]["by"]["month"]
+    assert [(row["period"], row["amount"]) for row in (months[0], months[-1])] == [("2027-03", "0.290"), ("2026-03", "0.310")]
+
+
 def test_months_of_readings_that_went(page: PageHouse) -> None:
     """Months are counted alike once their readings are gone; of a register that a reading has twice the first value counts, and what flowed
     backward is another one, sent in front of it or alone."""

@@ -57,7 +57,8 @@ def bounds_of(by: str, now: float) -> list[int]:
         found = [int(now) - 60 * minute - second - 3600 * back for back in range(count)]
     else:
         first = (year, month - count + 1, 1) if by == "month" else (year, month, day - count + 1)
-        days = range(1 + int(now - time.mktime((*first, 0, 0, 0, 0, 0, -1))) // DAY)
+        # (rounded, since an hour is missing where summer time began)
+        days = range(1 + round((now - time.mktime((*first, 0, 0, 0, 0, 0, -1))) / DAY))
         found = [int(time.mktime((year, month, day - back, 0, 0, 0, 0, 0, -1))) for back in days]
     return sorted(found) + [int(now) + 1]
 
