@@ -8,7 +8,7 @@ import os
 import re
 import sqlite3
 import subprocess
-from contextlib import closing
+from contextlib import closing, suppress
 from pathlib import Path
 
 import pytest
@@ -361,6 +361,18 @@ def test_no_key_can_be_read(page: PageHouse) -> None:
             database.execute(query)
     with pytest.raises(Exception, match="readonly"):
         database.execute("delete from meter")
+    # a new second key stands among the lines, in its command while that waits, and in a line that was set aside
+    line = f"K {page.addresses[0]} {'5e' * 16}"
+    page.write("insert into line (text, made) values (?, 1), ('A 1 00', 1)", line)
+    page.write("insert into aside (receiver, text, said, made) values ('attic', ?, 'status 10', 1)", line)
+    page.write("insert into command (id, address, kind, payload, made, changed) values ('b', ?, 'rekey', ?, 1, 1)", page.addresses[0], "5e" * 16)
+    for table in ("line", "command", "aside"):
+        for query in (f"select * from {table}", f"select * from main.{table}"):
+            told = ""
+            with suppress(sqlite3.DatabaseError):
+                told = str(database.execute(query).fetchall())
+            assert "5e5e" not in told, query
+    assert database.execute("select text from line where text <> ''").fetchall() == [("A 1 00",)]
     database.close()
 
 

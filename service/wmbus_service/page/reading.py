@@ -14,8 +14,15 @@ from ..sensors import NUMBER
 from ..trouble import Trouble
 from .shared import GRACE, NAMES, PREFIXED, Register, is_number, is_time, label_of, maker_of, prefix_for, type_of
 
-# columns that have keys or what was made with them
-KEYED = {("meter", "block"), ("outbox", "frame")}
+# columns that have keys or what was made with them, and such as have new keys beside what is shown, which these views leave out
+KEYED = {("meter", "block"), ("outbox", "frame"), ("aside", "text")}
+VIEWED = {("line", "text"): "line", ("command", "payload"): "command"}
+VIEWS = (
+    "create temp view line as select number, receiver, case when substr(text, 1, 2) in ('A ', 'B ') then text else '' end as text, due, made"
+    " from main.line",
+    "create temp view command as select rowid, id, address, kind, case kind when 'send' then payload else '' end as payload, state, number,"
+    " tries, reason, wish, made, changed from main.command",
+)
 PATIENCE = 2.0
 # in so many of a meter's last readings its registers are looked for, and so many values of these
 MOST_READINGS, MOST_VALUES = 200, 20_000
@@ -32,14 +39,16 @@ def open_reading(path: Path) -> sqlite3.Connection:
         raise Trouble(path, "there is no database yet", "`wmbus-service add` or `wmbus-service run` makes it")
     store.look_at_rights(path, 0o600)
     database = sqlite3.connect(path, timeout=PATIENCE, isolation_level=None, check_same_thread=False)
+    for view in VIEWS:
+        database.execute(view)
     database.execute("pragma query_only = on")
     database.set_authorizer(_allowed)
     return database
 
 
-def _allowed(action: int, first: str | None, second: str | None, _base: str | None, _inner: str | None) -> int:
-    is_keyed = action == sqlite3.SQLITE_READ and (first, second) in KEYED
-    return sqlite3.SQLITE_DENY if is_keyed else sqlite3.SQLITE_OK
+def _allowed(action: int, first: str | None, second: str | None, base: str | None, inner: str | None) -> int:
+    is_keyed = (first, second) in KEYED or base == "main" and inner != VIEWED.get((first or "", second or ""), inner)
+    return sqlite3.SQLITE_DENY if action == sqlite3.SQLITE_READ and is_keyed else sqlite3.SQLITE_OK
 
 
 @dataclass(frozen=True)
