@@ -12,7 +12,7 @@ from contextlib import closing, suppress
 from pathlib import Path
 
 import pytest
-from wmbus_service import retention, schema
+from wmbus_service import exporting, retention, schema, sensors
 from wmbus_service.config import Keep
 from wmbus_service.page import radios, reading
 
@@ -309,6 +309,17 @@ def test_csv_of_days_of_other_lengths(page: PageHouse, monkeypatch: pytest.Monke
         given = page.client().get(f"/meters/{address}/readings.csv?from={day}&to={day}").text
         return [row[5] for row in csv.reader(io.StringIO(given))][1:]
     assert (values("2026-03-29"), values("2026-10-25"), values("2026-10-26")) == (["0.001"], ["0.002"], ["0.003"])
+
+
+def test_all_digits(page: PageHouse) -> None:
+    """A number has all its digits in the page's CSV, in what `wmbus-service export` gives, and in messages; an integer has up to 37."""
+    address, digits = page.addresses[0], "123456789012345678901234567890123456"
+    page.read(address, NOW - 60, ("energy", "Wh", -3, digits))
+    assert f",{digits[:-3]}.{digits[-3:]},Wh," in page.client().get(f"/meters/{address}/readings.csv").text
+    (row,) = exporting.values(page.house.database, address, 0)
+    assert row["value"] == f"{digits[:-3]}.{digits[-3:]}"
+    record = {"quantity": "energy", "unit": "Wh", "value": digits, "exponent": -3}
+    assert sensors.shown(record, sensors.KINDS["energy"]["Wh"]) == f"{digits[:-6]}.{digits[-6:]}"
 
 
 def test_json_is_the_page(page: PageHouse) -> None:
