@@ -442,7 +442,8 @@ def put_report(database, program, name, digest, lines):
     if database.execute("SELECT count(*) FROM report WHERE sha256 = ?", (digest,)).fetchone()[0]:
         return "was kept before"
     report = read_report(lines)
-    place = os.path.realpath(name)
+    # (a name may have bytes that are no text in UTF-8)
+    place = os.path.realpath(name).encode(errors="backslashreplace").decode()
     left = database.execute("SELECT report FROM covered JOIN report ON id = by WHERE name = ?", (place,)).fetchall()
     database.execute("DELETE FROM report WHERE name = ?", (place,))
     now = datetime.datetime.now(datetime.timezone.utc).strftime("%Y-%m-%dT%H:%M:%SZ")

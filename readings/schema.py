@@ -235,6 +235,8 @@ def ended(name, main):
     """Runs a script, and answers its exit status. An interruption, an output that nobody takes, and want of memory or of files end it in words."""
     if sys.stdout is None:
         sys.stdout = open(os.devnull, "w", encoding="utf-8")
+    # (a file's name may have what the standard output can't tell)
+    sys.stdout.reconfigure(errors="backslashreplace")
     try:
         status = main()
         sys.stdout.flush()
