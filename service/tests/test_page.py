@@ -387,6 +387,18 @@ def test_no_key_can_be_read(page: PageHouse) -> None:
     database.close()
 
 
+def test_no_code_of_a_meter_is_shown(page: PageHouse, tmp_path: Path) -> None:
+    """Among the quantities that a session calls unknown are access codes, passwords and keys: what was sent of these stands on no page."""
+    address = page.addresses[0]
+    # the bytes 00ff were sent of each
+    page.read(address, NOW - 60, ("unknown", "-", 0, "raw"), ("unknown", "-", 0, "raw", "maximum", 1))
+    file = tmp_path / "page.html"
+    run([f"{TOP}/bin/report_page", "--now", str(int(NOW)), str(page.house.config.database), str(file)])
+    shown = [page.client().get(path).text for path in (f"/meters/{address}", f"/api/meters/{address}")]
+    for text in (*shown, file.read_text()):
+        assert "unknown" in text and "00ff" not in text
+
+
 def test_page_as_a_file(page: PageHouse, tmp_path: Path) -> None:
     """bin/report_page makes of the service's database a file that says what the served page does."""
     first, second, third = page.addresses

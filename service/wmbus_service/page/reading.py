@@ -120,6 +120,11 @@ def exact(value: str, exponent: int) -> str:
     return f"{Decimal(f'{value}E{exponent}'):f}"
 
 
+def told_raw(quantity: str, raw: str) -> str:
+    """What was sent, where everybody may see it: access codes, passwords and keys of a meter are among the unknown quantities."""
+    return "" if quantity == "unknown" else raw
+
+
 def all_meters(database: Database, now: float) -> list[Meter]:
     """All meters, in the order in which they were added."""
     return meters_of(database, database.execute("select address, name, receiver from meter order by place").fetchall(), now)
@@ -180,7 +185,7 @@ def last_values(database: Database, address: str, now: float) -> list[Value]:
         for row in rows:
             if (kind := row[:7]) not in found:
                 register = Register(*kind[:6], modifiers=kind[6])
-                found[kind] = Value(register, exact(row[8], row[7]), row[9], heard_at(moment, made, now))
+                found[kind] = Value(register, exact(row[8], row[7]), told_raw(row[0], row[9]), heard_at(moment, made, now))
         count += len(rows)
         if count > MOST_VALUES:
             break
