@@ -584,9 +584,11 @@ def write_whole(path, texts):
         with open(part, "w", encoding="utf-8") as file:
             file.writelines(texts)
         os.replace(part, path)
-    except BaseException:
+    except BaseException as fault:
         if os.path.exists(part):
             os.remove(part)
+        if isinstance(fault, OSError) and fault.filename == part:
+            fault.filename = path
         raise
 
 
