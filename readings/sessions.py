@@ -18,14 +18,14 @@ from pathlib import Path
 
 from readings import programs
 
-FAULTY_FOLDER, IN_USE = 1, 9
+FAULTY_FOLDER, IN_USE, STOPPED = 1, 9, 130
 # what may be read or written by others than a file's owner
 BY_OTHERS = 0o077
 RECEIVERS = 16
 # RECEIVER, or RECEIVER.ANYTHING; other names are passed over
 NAME = re.compile(r"[0-9A-Za-z_-]+(?:\.[0-9A-Za-z._-]+)?")
 STATUSES = (f"exit status: 0 no file is left to be heard, {FAULTY_FOLDER} the folder isn't as it has to be, 2 faulty words, "
-            f"{IN_USE} another one works on the folder, else that of wmbus")
+            f"{IN_USE} another one works on the folder, {STOPPED} it was interrupted (0 with --every), else that of wmbus")
 
 
 class Stop(Exception):
@@ -225,6 +225,9 @@ def run() -> int:
         print(f"sessions: {fault}", file=sys.stderr)
         return FAULTY_FOLDER
     except KeyboardInterrupt:
-        return 0
+        # (by an interruption alone it ends where it is to go on for ever)
+        if asked.every is None:
+            print("sessions: stopped; the next start goes on", file=sys.stderr)
+            return STOPPED
     return 0
 
