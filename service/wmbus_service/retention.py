@@ -46,6 +46,8 @@ def _gather_days(database: sqlite3.Connection, before: float) -> int:
         if oldest:
             database.execute(
                 f"insert or replace into daily (day, {VALUES}) select date(reading.made, 'unixepoch'), {VALUES} from record"
-                " join reading on reading.id = record.reading where reading.id <= ? order by reading.id", (oldest[-1],))
+                " join reading on reading.id = record.reading where reading.id <= ?"
+                # (what stays of several is written last: what has no modifiers, and stands first in the day's last reading)
+                " order by modifiers = '', reading.id, record.place desc", (oldest[-1],))
             database.execute("delete from reading where id <= ?", (oldest[-1],))
         return len(oldest)
