@@ -5,6 +5,9 @@ import json
 import os
 import shutil
 import signal
+import socket
+import struct
+import threading
 import time
 import urllib.request
 from collections.abc import Iterator
@@ -124,6 +127,30 @@ def test_readings_and_commands(house: House, mosquitto: Mosquitto) -> None:
     assert {name for name, _, _ in served.listener.heard
             if name.startswith("homeassistant/")} == {f"homeassistant/sensor/wmbus_{meter.name}/volume/config"}
     served.end()
+
+
+def test_a_connection_that_is_reset() -> None:
+    """Where the broker resets the connection just before a message, as one does that is killed while it has unread ones, the connection
+    is lost, as at any other moment: the next one follows."""
+    import paho.mqtt.client as mqtt
+    with socket.create_server(("127.0.0.1", 0)) as server:
+        def serve() -> None:
+            opened, _ = server.accept()
+            opened.recv(1000)
+            # CONNACK, and then a reset
+            opened.sendall(bytes([0x20, 2, 0, 0]))
+            opened.setsockopt(socket.SOL_SOCKET, socket.SO_LINGER, struct.pack("ii", 1, 0))
+            is_known.wait(PATIENCE)
+            opened.close()
+        is_known = threading.Event()
+        serving = threading.Thread(target=serve)
+        serving.start()
+        client = mqtt.Client(client_id="wmbus")
+        broker._connect(Mqtt(port=server.getsockname()[1]), client)
+        is_known.set()
+        serving.join()
+        with pytest.raises((broker.Lost, OSError)):
+            broker.publish(client, [(number, "wmbus/meter/a", "{}", 1) for number in range(3)])
 
 
 def test_discovery() -> None:

@@ -87,7 +87,7 @@ class Broker(threading.Thread):
                     mark_published(database, rows)
                 else:
                     _turn(client, IDLE)
-            client.publish(f"{self.told.topic}/status", "offline", 1, True).is_published()
+            client.publish(f"{self.told.topic}/status", "offline", 1, True)
             _turn(client, IDLE)
             client.disconnect()
         finally:
@@ -130,6 +130,10 @@ def try_connection(told: Mqtt) -> None:
 def publish(client: mqtt.Client, rows: list[Row]) -> None:
     """Publishes messages in their order; all of them are acknowledged when it returns."""
     sent = [client.publish(topic, payload, qos=1, retain=bool(retain)) for _, topic, payload, retain in rows]
+    for message in sent:
+        # (asked whether such a message is published paho raises a RuntimeError)
+        if message.rc != mqtt.MQTT_ERR_SUCCESS:
+            raise Lost(mqtt.error_string(message.rc))
     _until(client, lambda: all(message.is_published() for message in sent))
 
 
