@@ -129,6 +129,21 @@ def test_readings_and_commands(house: House, mosquitto: Mosquitto) -> None:
     served.end()
 
 
+def test_messages_of_any_form(house: House, mosquitto: Mosquitto) -> None:
+    """Whatever a message is it is answered under a topic that can be one (MQTT 3.1.1, 1.5.3: 65,535 bytes), and all that comes later goes
+    its way."""
+    served, meter = Served(house, mosquitto), house.meters[0]
+    until(lambda: ("wmbus/status", "online", False) in served.listener.heard)
+    send = served.listener.client.publish
+    send(f"wmbus/command/{meter.name}", "[" * 100_000, 1)
+    send(f"wmbus/cancel/{meter.name}", '{"id": ' + "[" * 900 + "]" * 900 + "}", 1)
+    send("wmbus/command/".ljust(65_535, "a"), '{"id": "a", "payload": "01"}', 1)
+    house.spool(house.whole(meter))
+    until(lambda: served.heard(f"wmbus/meter/{meter.name}"))
+    until(lambda: sum(name.startswith("wmbus/commands/") and "error" in text for name, text, _ in served.listener.heard) == 3)
+    served.end()
+
+
 def test_a_connection_that_is_reset() -> None:
     """Where the broker resets the connection just before a message, as one does that is killed while it has unread ones, the connection
     is lost, as at any other moment: the next one follows."""

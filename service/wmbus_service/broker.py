@@ -29,6 +29,8 @@ log = logging.getLogger("wmbus")
 AT_ONCE, PATIENCE, IDLE = 100, 20.0, 0.2
 LEAST_PAUSE, MOST_PAUSE = 0.5, 30.0
 MOST_MESSAGE = 10_000
+# signs of an address that are told again
+MOST_ADDRESS = 64
 Row = tuple[int, str, str, int]
 
 
@@ -161,6 +163,8 @@ def _turn(client: mqtt.Client, seconds: float) -> None:
 def take_message(told: Mqtt, database: sqlite3.Connection, topic: str, payload: bytes) -> None:
     """Takes a command or a cancellation; what can't be taken is answered in words. Only what is committed is acknowledged."""
     kind, address = topic.removeprefix(f"{told.topic}/").split("/", 1)
+    # (the answer's topic is longer than this one, and no meter has so long an address)
+    address = address[:MOST_ADDRESS]
     publications = Publications(told, database)
     try:
         said = json.loads(payload[:MOST_MESSAGE])
@@ -168,7 +172,7 @@ def take_message(told: Mqtt, database: sqlite3.Connection, topic: str, payload: 
             put_command(database, str(said["id"]), address, str(said["payload"]), time.time())
         else:
             cancel_command(database, str(said["id"]), time.time(), publications)
-    except (ValueError, KeyError, TypeError):
+    except (ValueError, KeyError, TypeError, RecursionError):
         publications.refuse(address, f'a {kind} is JSON as {{"id": "a1", "payload": "0102"}}')
     except Trouble as fault:
         publications.refuse(address, str(fault))
