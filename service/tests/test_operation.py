@@ -307,6 +307,22 @@ def test_retention(house: House) -> None:
     assert not house.all("select 1 from record where reading not in (select id from reading)")
 
 
+def test_retention_beside_lines(house: House) -> None:
+    """What is kept no longer goes also where each session has lines, as in a house in which one always comes within the interval; more
+    goes than comes."""
+    meter = house.meters[0]
+    house.spool("A 1 00\n" * 7000)
+    house.hear(time.time() - 8 * DAY)
+    served = Service(house.config, house.database)
+    for _ in range(2):
+        house.spool("A 1 00\n" * 2000 + house.whole(meter))
+        assert served.turn() == 2001
+    for _ in range(4):
+        house.spool(house.whole(meter))
+        assert served.turn() == 1
+    assert len(house.all("select number from line")) == 2 * 2001 + 4
+
+
 def test_lines_that_went(house: House) -> None:
     """Once all lines are let go, those that come later have later numbers, so that no reading has the line of another."""
     house.spool(house.whole(house.meters[0]))

@@ -96,9 +96,14 @@ class Service:
         count = self.sessions.next(time.time())
         send_downlinks(self.config, self.database, time.time())
         self.session_made = time.time()
-        if not count and time.monotonic() > self.let_go_at and not retention.let_go(self.database, self.config.keep, time.time()):
-            self.let_go_at = time.monotonic() + LET_GO
+        self._let_go(1 + count // retention.PIECE)
         return count
+
+    def _let_go(self, pieces: int) -> None:
+        """Lets go what is kept no longer; with each session more than it had lines, since in a large house no session may have none."""
+        for _ in range(pieces):
+            if time.monotonic() > self.let_go_at and not retention.let_go(self.database, self.config.keep, time.time()):
+                self.let_go_at = time.monotonic() + LET_GO
 
     def _tell(self, fault: Exception) -> None:
         """Says what is the matter, once as long as it is the same."""
