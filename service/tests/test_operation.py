@@ -323,6 +323,19 @@ def test_retention_beside_lines(house: House) -> None:
     assert len(house.all("select number from line")) == 2 * 2001 + 4
 
 
+def test_retention_and_a_wrong_clock(house: House) -> None:
+    """Readings that were made while the clock was wrong, as on a machine that has none of its own and finds no network at its start, take
+    no others with them: those of before stay as long as they are kept."""
+    meter = house.meters[0]
+    for made in (NOW, NOW + DAY, 1000, NOW + 2 * DAY):
+        house.spool(house.whole(meter))
+        house.hear(made)
+    while retention.let_go(house.database, Keep(), NOW + 3 * DAY):
+        pass
+    assert house.all("select counter from reading order by id") == [1, 2, 4]
+    assert house.all("select day, value from daily") == [("1970-01-01", "3")]
+
+
 def test_lines_that_went(house: House) -> None:
     """Once all lines are let go, those that come later have later numbers, so that no reading has the line of another."""
     house.spool(house.whole(house.meters[0]))

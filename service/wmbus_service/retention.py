@@ -46,6 +46,7 @@ def _gather_days(database: sqlite3.Connection, before: float) -> int:
         if oldest:
             database.execute(
                 f"insert or replace into daily (day, {VALUES}) select date(reading.made, 'unixepoch'), {VALUES} from record"
-                " join reading on reading.id = record.reading where reading.id <= ? order by reading.id", (oldest[-1],))
-            database.execute("delete from reading where id <= ?", (oldest[-1],))
+                " join reading on reading.id = record.reading where reading.id <= ? and made < ? order by reading.id", (oldest[-1], before))
+            # (those in front of it that are younger were made when the clock was right)
+            database.execute("delete from reading where id <= ? and made < ?", (oldest[-1], before))
         return len(oldest)
