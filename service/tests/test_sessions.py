@@ -295,6 +295,19 @@ def test_a_clock_that_jumps(house: House) -> None:
     assert house.all(f"select due, waits from meter where address = '{meter.name}'") == [(None, None)]
 
 
+def test_a_clock_set_back_over_a_silent_meter(house: House) -> None:
+    """The tick comes in time also where the meter isn't heard any more since the clock was set back."""
+    meter, back = house.meters[0], NOW - 86_400
+    put_command(house.database, "a", meter.name, "01", NOW)
+    house.spool(house.whole(meter, access=0x84))
+    house.hear(NOW)
+    waits = []
+    for second in (0, 59, 61):
+        house.hear(back + second)
+        waits += house.all(f"select waits is null from meter where address = '{meter.name}'")
+    assert waits == [0, 0, 1]
+
+
 def test_commands(house: House) -> None:
     """A command is confirmed by a response, cancelled on its way, refused where eight wait; nothing is done twice."""
     meter = house.meters[0]
