@@ -368,3 +368,22 @@ def test_receiver_and_its_limits(tmp_path: Path, monkeypatch: pytest.MonkeyPatch
             until(lambda: (folder / "log").read_text().count("feed ended") == 10)
         finally:
             assert child.end(signal.SIGTERM) == 0
+
+
+def test_a_full_spool_that_was_heard(house: House, tmp_path: Path, monkeypatch: pytest.MonkeyPatch) -> None:
+    """Once sessions have taken what filled the spool the receiver goes on, also where a single file of its own filled it."""
+    line_feed = tmp_path / "line_feed"
+    line_feed.write_text("#!/bin/sh\nexec cat\n")
+    line_feed.chmod(0o755)
+    monkeypatch.setattr(receiving, "PAUSE", 0.01)
+    monkeypatch.setattr(receiving, "LOOK", 0.05)
+    config = replace(house.config, spool_bytes=60, programs=replace(house.config.programs, line_feed=str(line_feed)),
+                     receivers={"attic": Receiver(command="seq 100 120", format="hex")})
+    child = Child(tmp_path / "log", receiving.Receiving(config, "attic").run)
+    try:
+        for number in (1, 2):
+            until(lambda: (tmp_path / "log").read_text().count("spool is full") == number, 10)
+            house.hear()
+    finally:
+        assert child.end(signal.SIGTERM) == 0
+    assert house.all("select text from line order by number")[:42] == [str(number) for number in range(100, 121)] * 2
