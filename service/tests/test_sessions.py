@@ -246,6 +246,19 @@ def test_receivers_merged_by_the_program() -> None:
         assert merging.merged(inputs, [path]) == merging.merged(inputs)
 
 
+def test_a_program_that_fails_to_merge(house: House) -> None:
+    """Where `line_merge` fails that is said, no line counts, and all are heard once it does its work again."""
+    for receiver in ("attic", "roof"):
+        house.spool(house.whole(house.meters[0]), receiver)
+    config, house.sessions.config = house.config, replace(house.config, programs=Programs(line_merge="false"))
+    for _ in range(3):
+        with pytest.raises(Trouble, match="false: .*status 1"):
+            house.sessions.next(NOW)
+    house.sessions.config = config
+    house.hear()
+    assert house.all("select counter from reading") == [1, 2]
+
+
 def test_ticks(house: House) -> None:
     """A window is closed once its time is over, in front of what is heard later; three tries, and the command has expired."""
     meter = house.meters[0]

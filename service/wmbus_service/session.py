@@ -80,6 +80,9 @@ class Sessions:
     def _halve(self, batch: Sequence[Event], failed: ProgramFailed, now: float) -> int:
         """After a failed session the next one takes half of its lines, until the line at which the program fails is found; that one is
         set aside where the program fails at it once more."""
+        if not batch:
+            raise Trouble(self.config.programs.line_merge, f"the program fails to merge the receivers' lines: {failed}",
+                          "look at its release, or leave it out under [programs]: the service then merges them itself") from None
         if len(batch) > 1:
             log.error("the program failed over %d lines, and nothing of it counts: %s", len(batch), failed)
             self.most = len(batch) // 2
