@@ -259,6 +259,13 @@ def test_a_program_that_fails_to_merge(house: House) -> None:
     assert house.all("select counter from reading") == [1, 2]
 
 
+def test_lines_of_a_receiver_that_is_no_more(house: House) -> None:
+    """What a receiver spooled is heard though it has another name in the configuration now."""
+    house.spool(house.whole(house.meters[0]), "cellar")
+    Sessions(house.config, house.database).next(NOW)
+    assert house.all("select counter, receiver from reading") == [(1, "cellar")]
+
+
 def test_ticks(house: House) -> None:
     """A window is closed once its time is over, in front of what is heard later; three tries, and the command has expired."""
     meter = house.meters[0]

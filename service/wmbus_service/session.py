@@ -28,7 +28,9 @@ class Sessions:
 
     def __init__(self, config: Config, database: sqlite3.Connection) -> None:
         self.config, self.database = config, database
-        self.spools = [Spool(config.spool, name) for name in config.receivers]
+        # (a receiver that has another name now, or is no more, may have left lines)
+        left = {path.name.split(".")[0] for path in config.spool.glob("*.lines")} - config.receivers.keys()
+        self.spools = [Spool(config.spool, name) for name in [*config.receivers, *sorted(left)]]
         # how many lines the next session takes: fewer after one that the program failed at
         self.most = MOST
         # the line alone at which the program failed last
