@@ -109,6 +109,21 @@ def test_a_bad_command_is_refused(house: House, monkeypatch: pytest.MonkeyPatch)
     assert "ee" not in house.all("select text from aside")[0]
 
 
+def test_a_key_that_is_refused(house: House, monkeypatch: pytest.MonkeyPatch) -> None:
+    """No new key stays among the commands once it was taken, refused, cancelled or set aside; `line` has those that were heard."""
+    keys = [f"{number:032x}" for number in range(1, 5)]
+    put_key(house.database, "refused", house.meters[2].name, keys[0], NOW)
+    put_key(house.database, "taken", house.meters[0].name, keys[1], NOW)
+    house.hear()
+    put_key(house.database, "cancelled", house.meters[0].name, keys[2], NOW)
+    cancel_command(house.database, "cancelled", NOW)
+    put_key(house.database, "aside", house.meters[0].name, keys[3], NOW)
+    monkeypatch.setattr(session, "run_steps", failing(bool))
+    house.hear()
+    assert house.all("select id, state, payload from command order by id") == [
+        ("aside", "refused", ""), ("cancelled", "cancelled", ""), ("refused", "refused", ""), ("taken", "done", "")]
+
+
 def test_a_program_that_always_fails(house: House, monkeypatch: pytest.MonkeyPatch) -> None:
     """Where it isn't the lines' fault none is set aside, and all come again."""
     house.spool("".join(house.whole(house.meters[0]) for _ in range(5)))

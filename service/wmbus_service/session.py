@@ -129,8 +129,8 @@ def set_aside(database: sqlite3.Connection, event: Event, said: str, now: float)
     if event.spooled:
         put_places(database, [event.spooled])
     if event.command:
-        database.execute("update command set state = 'refused', reason = 'the program failed', wish = null, changed = ? where id = ?",
-                         (now, event.command))
+        database.execute("update command set state = 'refused', reason = 'the program failed', wish = null, changed = ?,"
+                         " payload = case kind when 'rekey' then '' else payload end where id = ?", (now, event.command))
     if event.ticked:
         database.execute("update meter set due = null where address = ?", (event.ticked,))
     receiver = event.spooled.receiver if event.spooled else None

@@ -159,8 +159,8 @@ class Writing:
 
     def _refuse(self, ident: str, words: str) -> None:
         """A command that isn't taken, and why."""
-        self.database.execute("update command set state = 'refused', reason = ?, wish = null, changed = ? where id = ?",
-                              (words, self.now, ident))
+        self.database.execute("update command set state = 'refused', reason = ?, wish = null, changed = ?,"
+                              " payload = case kind when 'rekey' then '' else payload end where id = ?", (words, self.now, ident))
         self.publications.command(ident)
 
     def _change(self, address: str, number: int, state: str) -> None:
