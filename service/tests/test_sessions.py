@@ -1,6 +1,7 @@
 """Sessions in this process: which lines they take, what they do where the program fails, and when ticks are due."""
 from __future__ import annotations
 
+import json
 import os
 import random
 import sqlite3
@@ -12,7 +13,7 @@ from typing import Any
 import pytest
 from wmbus_service import events, merging, session, steps, store
 from wmbus_service.commands import cancel_command, put_command, put_key
-from wmbus_service.config import Config, Programs, Receiver, Ticks
+from wmbus_service.config import Config, Mqtt, Programs, Receiver, Ticks
 from wmbus_service.downlinks import send_downlinks
 from wmbus_service.meters import take_roster
 from wmbus_service.receiving import new_file
@@ -122,6 +123,21 @@ def test_a_key_that_is_refused(house: House, monkeypatch: pytest.MonkeyPatch) ->
     house.hear()
     assert house.all("select id, state, payload from command order by id") == [
         ("aside", "refused", ""), ("cancelled", "cancelled", ""), ("refused", "refused", ""), ("taken", "done", "")]
+
+
+def test_each_change_of_a_command_is_told(house: House, monkeypatch: pytest.MonkeyPatch) -> None:
+    """Also that a new key was taken, and that a command was set aside, is a message for the broker."""
+    config = replace(house.config, mqtt=Mqtt())
+    sessions = Sessions(config, house.database)
+    put_key(house.database, "key", house.meters[0].name, "00" * 16, NOW)
+    sessions.next(NOW)
+    put_command(house.database, "bad", house.meters[0].name, "ee", NOW)
+    monkeypatch.setattr(session, "run_steps", failing(bool))
+    for _ in range(2):
+        sessions.next(NOW)
+    told = [(topic, json.loads(text)) for topic, text in house.all("select topic, payload from publication order by id")]
+    assert [topic for topic, _ in told] == [f"wmbus/commands/{house.meters[0].name}"] * 2
+    assert [(it["id"], it["state"]) for _, it in told] == [("key", "done"), ("bad", "refused")]
 
 
 def test_a_program_that_always_fails(house: House, monkeypatch: pytest.MonkeyPatch) -> None:

@@ -10,6 +10,7 @@ from collections.abc import Collection, Sequence
 from . import events, store
 from .config import Config, words_of
 from .events import Event
+from .publications import Publications
 from .spool import Spool, put_places
 from .steps import ProgramFailed, Told, run_steps, state_text
 from .trouble import Trouble
@@ -96,7 +97,7 @@ class Sessions:
             return int(not failed.is_ended())
         self._look_without_lines(batch)
         with store.transaction(self.database):
-            set_aside(self.database, batch[0], str(failed), now)
+            set_aside(self.config, self.database, batch[0], str(failed), now)
         log.error("the program fails at this line, which is set aside (`wmbus-service status` shows it): %s", failed)
         return 1
 
@@ -124,13 +125,14 @@ def blocks_of(database: sqlite3.Connection, addresses: Collection[str]) -> Block
     return {address: (place, block) for address, place, block in rows}
 
 
-def set_aside(database: sqlite3.Connection, event: Event, said: str, now: float) -> None:
+def set_aside(config: Config, database: sqlite3.Connection, event: Event, said: str, now: float) -> None:
     """Keeps a line that the program fails at out of all later sessions."""
     if event.spooled:
         put_places(database, [event.spooled])
     if event.command:
         database.execute("update command set state = 'refused', reason = 'the program failed', wish = null, changed = ?,"
                          " payload = case kind when 'rekey' then '' else payload end where id = ?", (now, event.command))
+        Publications(config.mqtt, database).command(event.command)
     if event.ticked:
         database.execute("update meter set due = null where address = ?", (event.ticked,))
     receiver = event.spooled.receiver if event.spooled else None

@@ -136,6 +136,7 @@ class Writing:
         """The meter has its new second key, which stands in its block."""
         if event.command:
             self.database.execute("update command set state = 'done', payload = '', changed = ? where id = ?", (self.now, event.command))
+            self.publications.command(event.command)
 
     def _ticked(self, event: Event, said: dict[str, Any], number: int) -> None:
         """The meter's window is closed, its fragments are older, and a command may be given up."""
