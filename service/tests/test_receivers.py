@@ -1,6 +1,7 @@
 """Receivers' profiles: a stick with culfw, a TCP port, a file, each through the proved line_feed into the spool; and systemd's units."""
 from __future__ import annotations
 
+import io
 import os
 import pty
 import shutil
@@ -73,6 +74,48 @@ def test_stick_with_culfw(tmp_path: Path) -> None:
         raise
     os.write(ours, f"TMODE\r\nb{FRAME.upper()}8031\r\n".encode())
     heard.judge()
+
+
+class EndlessLine:
+    """A port at which so much comes without an end of a line, until it is gone."""
+
+    in_waiting = 1000
+
+    def __init__(self, output: io.BytesIO, pieces: int) -> None:
+        self.output, self.pieces, self.held = output, pieces, 0
+
+    def __enter__(self) -> EndlessLine:
+        return self
+
+    def __exit__(self, *_: object) -> None:
+        pass
+
+    def write(self, _content: bytes) -> None:
+        """What the stick is set to."""
+
+    def flush(self) -> None:
+        """The same."""
+
+    def read(self, count: int) -> bytes:
+        """The next piece."""
+        self.held = count * (500 - self.pieces) - len(self.output.getvalue())
+        self.pieces -= 1
+        if not self.pieces:
+            raise OSError("the port is gone")
+        return bytes(count)
+
+
+def test_stick_that_ends_no_line(monkeypatch: pytest.MonkeyPatch) -> None:
+    """What comes without an end of a line, as from a stick of another speed, is passed on, and isn't gathered for ever."""
+    serial = pytest.importorskip("serial")
+    from wmbus_service import culfw
+    output = io.BytesIO()
+    port = EndlessLine(output, 500)
+    monkeypatch.setattr(serial, "Serial", lambda *_, **__: port)
+    monkeypatch.setattr("sys.stdout", io.TextIOWrapper(output))
+    with pytest.raises(OSError):
+        culfw.read("/dev/ttyACM0", "brt")
+    assert port.held <= 4096
 
 
 def test_tcp_port(tmp_path: Path) -> None:
