@@ -279,8 +279,13 @@ def test_versions(tmp_path: Path, monkeypatch: pytest.MonkeyPatch) -> None:
     with sqlite3.connect(other) as database:
         database.execute("create table mail (text text)")
     other.chmod(0o600)
-    with pytest.raises(Trouble, match="another program's"):
-        store.open_store(other)
+    for version in (0, len(schema.MIGRATIONS), len(schema.MIGRATIONS) + 6):
+        with sqlite3.connect(other) as database:
+            database.execute(f"pragma user_version = {version}")
+        with pytest.raises(Trouble, match="another program's"):
+            store.open_store(other)
+        with sqlite3.connect(other) as database:
+            assert database.execute("pragma application_id").fetchone() == (0,)
     none = tmp_path / "none.db"
     none.write_bytes(b"no database at all" * 300)
     none.chmod(0o600)
