@@ -136,6 +136,18 @@ def test_copy(place: Place) -> None:
     assert f"meter {ADDRESS}" in place.said("status")
 
 
+def test_counters_that_would_come_again(place: Place) -> None:
+    """A margin below nothing is refused, and the database stays as it was."""
+    place.said("add", ADDRESS, "--own", OWN, given=KEY)
+    copy = place.folder / "copy.db"
+    place.said("backup", str(copy))
+    place.said("restore", str(copy), "--margin", "50")
+    place.said("backup", str(place.folder / "later.db"))
+    assert "margin" in place.fault("restore", str(place.folder / "later.db"), "--margin", "-20")
+    place.said("export", "--state", str(place.folder / "state"))
+    assert f"meter {ADDRESS} 7 {KEY} - - 50 0\n" in (place.folder / "state").read_text()
+
+
 def test_counters_raised_by_the_program(tmp_path: Path) -> None:
     """Where `state_raise` is named the blocks are those that it writes."""
     program_file = tmp_path / "state_raise"

@@ -282,6 +282,9 @@ def _backup(asked: argparse.Namespace) -> int:
 
 def _restore(asked: argparse.Namespace) -> int:
     config = _config(asked)
+    if asked.margin < 0:
+        raise Trouble("restore", "the margin is below 0, and downlink counters would be used twice",
+                      "give one above the number of downlinks to one meter since the copy")
     store.prepare_folder(config.folder)
     if service.is_locked(config.folder):
         raise Trouble(config.folder, "a service works on this folder", "end it first: systemctl stop wmbus")
