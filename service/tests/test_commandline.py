@@ -11,7 +11,7 @@ from dataclasses import dataclass
 from pathlib import Path
 
 import pytest
-from wmbus_service import config
+from wmbus_service import backup, config, service
 from wmbus_service.backup import raise_counters
 from wmbus_service.commandline import main
 from wmbus_service.config import Config, Programs, has_steps, read_config, unproved_words
@@ -146,6 +146,24 @@ def test_counters_that_would_come_again(place: Place) -> None:
     assert "margin" in place.fault("restore", str(place.folder / "later.db"), "--margin", "-20")
     place.said("export", "--state", str(place.folder / "state"))
     assert f"meter {ADDRESS} 7 {KEY} - - 50 0\n" in (place.folder / "state").read_text()
+
+
+def test_no_service_begins_amid_a_restore(place: Place, monkeypatch: pytest.MonkeyPatch) -> None:
+    """As long as a copy is put back the folder is locked: what a service committed meanwhile would be gone with the old database."""
+    place.said("add", ADDRESS, "--own", OWN, given=KEY)
+    copy, folder = place.folder / "copy.db", place.folder / "wmbus"
+    place.said("backup", str(copy))
+    locked, restored = [], backup.restore
+
+    def restore(asked: Config, source: Path, margin: int) -> int:
+        locked.append(service.is_locked(folder))
+        return restored(asked, source, margin)
+    monkeypatch.setattr(backup, "restore", restore)
+    place.said("restore", str(copy))
+    assert locked == [True] and not service.is_locked(folder)
+    held = service.lock(folder)
+    assert "systemctl stop wmbus" in place.fault("restore", str(copy))
+    os.close(held)
 
 
 def test_counters_raised_by_the_program(tmp_path: Path) -> None:

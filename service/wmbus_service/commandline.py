@@ -288,7 +288,11 @@ def _restore(asked: argparse.Namespace) -> int:
     store.prepare_folder(config.folder)
     if service.is_locked(config.folder):
         raise Trouble(config.folder, "a service works on this folder", "end it first: systemctl stop wmbus")
-    count = backup.restore(config, asked.file, asked.margin)
+    held = service.lock(config.folder)
+    try:
+        count = backup.restore(config, asked.file, asked.margin)
+    finally:
+        os.close(held)
     print(f"restored; downlink counters of {count} meters are {asked.margin} higher, and commands that were open are cancelled")
     return DONE
 
