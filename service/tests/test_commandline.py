@@ -4,6 +4,7 @@ from __future__ import annotations
 import io
 import json
 import os
+import signal
 import sqlite3
 import subprocess
 from contextlib import redirect_stderr, redirect_stdout
@@ -19,8 +20,8 @@ from wmbus_service.meters import add_meter, set_own
 from wmbus_service.service import Service
 from wmbus_service.store import open_store, prepare_folder
 
-from .kill import PYTHON, TOP, program
-from .processes import PATIENCE, run
+from .kill import PYTHON, TOP, Child, program
+from .processes import PATIENCE, run, until
 from .stand_in import use_stand_in
 
 ADDRESS, KEY = "4304101230400104", "00112233445566778899aabbccddeeff"
@@ -164,6 +165,26 @@ def test_no_service_begins_amid_a_restore(place: Place, monkeypatch: pytest.Monk
     held = service.lock(folder)
     assert "systemctl stop wmbus" in place.fault("restore", str(copy))
     os.close(held)
+
+
+def test_a_restore_that_is_cut_off(place: Place, monkeypatch: pytest.MonkeyPatch) -> None:
+    """Until the copy stands in its place the database has all that was committed, also what a killed service left beside it."""
+    place.said("add", ADDRESS, "--own", OWN, given=KEY)
+    copy, path = place.folder / "copy.db", place.folder / "wmbus/wmbus.db"
+    place.said("backup", str(copy))
+
+    def write() -> None:
+        open_store(path).execute("update setting set value = 'later'")
+        os.kill(os.getpid(), signal.SIGKILL)
+    child = Child(place.folder / "log", write)
+    until(lambda: not child.is_running())
+
+    def pulled(*_: object) -> None:
+        raise OSError("the plug was pulled")
+    monkeypatch.setattr(backup, "_put_in_place", pulled)
+    place.fault("restore", str(copy))
+    with sqlite3.connect(path) as database:
+        assert database.execute("select value from setting where name = 'own'").fetchone() == ("later",)
 
 
 def test_counters_raised_by_the_program(tmp_path: Path) -> None:

@@ -6,7 +6,7 @@ import sqlite3
 import subprocess
 import time
 from collections.abc import Sequence
-from contextlib import closing
+from contextlib import closing, suppress
 from pathlib import Path
 
 from . import store
@@ -75,10 +75,18 @@ def restore(config: Config, source: Path, margin: int) -> int:
             _give_up(database, time.time())
         _judge(config, database)
         database.execute("pragma journal_mode = delete")
+    _gather_commits(config.database)
     for name in ("wmbus.db-wal", "wmbus.db-shm"):
         (config.folder / name).unlink(missing_ok=True)
     _put_in_place(beside, config.database)
     return count
+
+
+def _gather_commits(path: Path) -> None:
+    """Has a database's own file have all that was committed, as far as it can be read: it stays one until another takes its place."""
+    if path.exists():
+        with suppress(sqlite3.Error), closing(sqlite3.connect(path)) as database:
+            database.execute("pragma wal_checkpoint(truncate)")
 
 
 def raise_counters(config: Config, database: sqlite3.Connection, margin: int) -> int:
