@@ -19,6 +19,7 @@ import pytest
 from wmbus_service import broker, service, session, steps, store
 from wmbus_service.commands import put_command
 from wmbus_service.config import Config, Metrics, Mqtt, Programs
+from wmbus_service.ending import Ending
 from wmbus_service.sensors import KINDS, kind_of, shown
 from wmbus_service.trouble import Trouble
 
@@ -223,6 +224,21 @@ def test_password_and_tls(tmp_path: Path, house: House) -> None:
     mosquitto.end()
     with pytest.raises(Trouble, match="can't be used"):
         broker.try_connection(told)
+
+
+def test_password_in_another_encoding(tmp_path: Path, house: House) -> None:
+    """A password that isn't in UTF-8 is said to be so, without a sign of it, and what connects tries on, so that a right one is found."""
+    (tmp_path / "password").write_bytes("sch\u00f6n".encode("latin-1"))
+    told = Mqtt(port=free_port(), user="house", password_file=str(tmp_path / "password"))
+    with pytest.raises(Trouble, match="password: .*UTF-8"):
+        broker.try_connection(told)
+    ending = Ending()
+    connecting = broker.Broker(house.config, told, ending)
+    connecting.start()
+    connecting.join(1)
+    assert connecting.is_alive()
+    ending.set()
+    connecting.join(PATIENCE)
 
 
 def test_metrics(house: House, mosquitto: Mosquitto) -> None:

@@ -101,7 +101,7 @@ class Broker(threading.Thread):
 def _connect(told: Mqtt, client: mqtt.Client) -> None:
     """Connects a client, and waits for the broker's answer."""
     if told.user:
-        client.username_pw_set(told.user, Path(told.password_file).read_text(encoding="utf-8").strip() if told.password_file else None)
+        client.username_pw_set(told.user, _password_of(told.password_file) if told.password_file else None)
     if told.tls:
         client.tls_set(ca_certs=told.authority or None)
     answers: list[int] = []
@@ -116,6 +116,14 @@ def _connect(told: Mqtt, client: mqtt.Client) -> None:
     _until(client, lambda: bool(answers))
     if answers[0]:
         raise Lost(f"the broker refuses the connection: {mqtt.connack_string(answers[0])}")
+
+
+def _password_of(path: str) -> str:
+    """The password that stands in a file."""
+    try:
+        return Path(path).read_text(encoding="utf-8").strip()
+    except UnicodeDecodeError:
+        raise Trouble(path, "the password isn't in UTF-8", "write it into the file anew") from None
 
 
 def try_connection(told: Mqtt) -> None:
