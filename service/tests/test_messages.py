@@ -258,6 +258,15 @@ def test_metrics(house: House, mosquitto: Mosquitto) -> None:
     served.end()
 
 
+def test_metrics_port_that_is_taken(house: House) -> None:
+    """Where the metrics' port is another's, or none, it is said which one, and what to do."""
+    from wmbus_service.metrics import serve
+    with socket.create_server(("127.0.0.1", 0)) as taken:
+        for port in (taken.getsockname()[1], 70_000):
+            with pytest.raises(Trouble, match=rf"127\.0\.0\.1:{port}: .*\[metrics\]"):
+                serve(house.config, Metrics(port=port), service.Service(house.config, house.database))
+
+
 def line_of_nobody() -> str:
     """A telegram of a meter that isn't known."""
     from .meters import line_of
