@@ -4,6 +4,7 @@ from __future__ import annotations
 import json
 import os
 import random
+import resource
 import sqlite3
 from collections.abc import Callable, Sequence
 from dataclasses import replace
@@ -14,7 +15,7 @@ import pytest
 from wmbus_service import events, merging, session, steps, store
 from wmbus_service.commands import cancel_command, put_command, put_key
 from wmbus_service.config import Config, Mqtt, Programs, Receiver, Ticks
-from wmbus_service.downlinks import send_downlinks
+from wmbus_service.downlinks import send_downlinks, write_downlink
 from wmbus_service.meters import take_roster
 from wmbus_service.receiving import new_file
 from wmbus_service.session import Sessions
@@ -395,6 +396,21 @@ def test_downlinks(house: House) -> None:
         assert said in house.all("select missed from outbox order by id desc limit 1")[0]
         house.hear(NOW + 31)
     assert not house.sent.exists()
+
+
+def test_a_downlink_that_was_written_in_part(tmp_path: Path) -> None:
+    """Where the disk has no room for all of a downlink it isn't sent, and the next one stands on a line of its own."""
+    path = tmp_path / "sent"
+    write_downlink(str(path), "01")
+    before = resource.getrlimit(resource.RLIMIT_FSIZE)
+    resource.setrlimit(resource.RLIMIT_FSIZE, (8, before[1]))
+    try:
+        with pytest.raises(OSError, match="in part"):
+            write_downlink(str(path), "0203")
+    finally:
+        resource.setrlimit(resource.RLIMIT_FSIZE, before)
+    write_downlink(str(path), "04")
+    assert path.read_text().splitlines()[-1] == "D 04"
 
 
 def test_events_with_ticks() -> None:
