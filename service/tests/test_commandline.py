@@ -115,6 +115,17 @@ def test_from_nothing_to_readings(place: Place) -> None:
     assert "no command" in place.fault("command", "--cancel", "a2")
 
 
+def test_export_of_a_meter_in_large_letters(place: Place) -> None:
+    """An address in large letters names its meter, as it does for the other commands."""
+    address = "93150100000a01ab"
+    place.said("add", address.upper(), "--own", OWN, given=KEY)
+    with sqlite3.connect(place.folder / "wmbus/wmbus.db") as database:
+        database.execute("insert into reading values (1, 1, ?, 1, 100, null, null, null, 0, 100)", (address,))
+        database.execute("insert into record values (1, 0, 'volume', 'm3', -3, '5', 'instantaneous', 0, 0, 0, '', '')")
+    told = [json.loads(line) for line in place.said("export", "--json", "--meter", address.upper()).splitlines()]
+    assert [(it["address"], it["value"]) for it in told] == [(address, "0.005")]
+
+
 def test_copy(place: Place) -> None:
     """A copy comes back with higher counters, its open commands are cancelled, and the state is still one that the program takes."""
     place.said("add", ADDRESS, "--own", OWN, given=KEY)

@@ -260,7 +260,7 @@ def _export(asked: argparse.Namespace) -> int:
             _write_own(asked.lines, exporting.lines(database))
         else:
             rows = exporting.as_json if asked.json else exporting.as_csv
-            sys.stdout.writelines(rows(database, asked.meter, asked.since))
+            sys.stdout.writelines(rows(database, asked.meter and asked.meter.lower(), asked.since))
     return DONE
 
 
