@@ -232,6 +232,19 @@ def test_long_lines(house: House) -> None:
     assert max(len(text) for text in house.all("select text from line")) <= 1100
 
 
+def test_lines_behind_long_ones(house: House) -> None:
+    """However long lines are, those behind them stay in their order, in front of those of the receiver's next file and of ticks that are
+    due, and their file stays until they are heard."""
+    good = [house.whole(house.meters[0], moment=5) for _ in range(3)]
+    house.spool("bad\n" + "0" * (3 * CHUNK // 2) + "\n" + good[0] + ("0" * 2000 + "\n") * 3000 + good[1])
+    house.spool(good[2])
+    house.database.execute("update meter set due = 1000 where address = ?", (house.meters[1].name,))
+    house.sessions.most = 1
+    house.hear()
+    assert house.all("select counter from reading") == [1, 2, 3]
+    assert house.all("select text from line order by number desc limit 1") == [f"T {house.meters[1].name}"]
+
+
 def test_a_long_header_names_another_meter(house: House) -> None:
     """The program says for which meter a line is, and the session has that meter's block, whatever the link address is."""
     meter = house.meters[0]
