@@ -245,6 +245,15 @@ def test_lines_behind_long_ones(house: House) -> None:
     assert house.all("select text from line order by number desc limit 1") == [f"T {house.meters[1].name}"]
 
 
+def test_files_that_went(house: House) -> None:
+    """Of files that are taken away nothing is held, however often a receiver begins anew."""
+    for _ in range(10):
+        house.spool(house.whole(house.meters[0]))
+        house.hear()
+    assert len(house.sessions.spools[0].synced) <= 2
+    assert len(house.all("select file from source")) <= 2
+
+
 def test_a_long_header_names_another_meter(house: House) -> None:
     """The program says for which meter a line is, and the session has that meter's block, whatever the link address is."""
     meter = house.meters[0]

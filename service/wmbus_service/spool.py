@@ -85,6 +85,7 @@ class Spool:
             if is_finished(path, place_of(database, self.receiver, path.name)):
                 path.unlink()
         names = {path.name for path in files}
+        self.synced &= names
         # (a place is forgotten one round after its file went, so that no file comes back behind it)
         for (name,) in database.execute("select file from source where receiver = ?", (self.receiver,)).fetchall():
             if name not in names:
