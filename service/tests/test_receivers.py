@@ -14,6 +14,7 @@ from pathlib import Path
 
 import pytest
 from wmbus_service import receiving
+from wmbus_service.checking import look_at_receiver
 from wmbus_service.config import Config, Programs, Receiver
 from wmbus_service.receiving import PROFILES, Receiving, feed_of
 from wmbus_service.trouble import Trouble
@@ -150,6 +151,23 @@ def test_profiles() -> None:
                  Receiver(profile="tcp", host="radio", format="hex")):
         with pytest.raises(Trouble):
             feed_of("attic", told)
+
+
+def test_programs_that_a_receiver_wants(tmp_path: Path, monkeypatch: pytest.MonkeyPatch) -> None:
+    """`check` names each program of a receiver's command that isn't there, and none that is; also what is no command."""
+    (tmp_path / "rtl_sdr").write_text("#!/bin/sh\n")
+    (tmp_path / "rtl_sdr").chmod(0o755)
+    monkeypatch.setenv("PATH", f"{tmp_path}:/usr/bin:/bin")
+    for told, said in ((Receiver(profile="rtl_wmbus"), "the program rtl_wmbus isn't there"),
+                       (Receiver(command="rtl_sdr | absent -x", format="hex"), "the program absent isn't there"),
+                       (Receiver(command="cat 'a", format="hex"), "quotation")):
+        with pytest.raises(Trouble, match=said):
+            look_at_receiver("attic", told)
+    (tmp_path / "rtl_wmbus").symlink_to(tmp_path / "rtl_sdr")
+    look_at_receiver("attic", Receiver(profile="rtl_wmbus"))
+    for command in ("TZ=UTC rtl_sdr", "exec rtl_sdr - 2>/dev/null", "while true; do rtl_sdr 2>&1 | env TZ=UTC rtl_wmbus; done",
+                    "(rtl_sdr; rtl_wmbus) | cat", "rtl_sdr -d $(cat serial) -F '' a", "$RADIO -f 868M"):
+        look_at_receiver("attic", Receiver(command=command, format="hex"))
 
 
 def test_two_writers_of_a_receiver(tmp_path: Path) -> None:
