@@ -12,9 +12,9 @@ from pathlib import Path
 from typing import Any
 
 import pytest
-from wmbus_service import events, merging, session, steps, store
+from wmbus_service import events, merging, retention, session, steps, store
 from wmbus_service.commands import cancel_command, put_command, put_key
-from wmbus_service.config import Config, Mqtt, Programs, Receiver, Ticks
+from wmbus_service.config import Config, Keep, Mqtt, Programs, Receiver, Ticks
 from wmbus_service.downlinks import send_downlinks, write_downlink
 from wmbus_service.meters import take_roster
 from wmbus_service.receiving import new_file
@@ -139,6 +139,21 @@ def test_each_change_of_a_command_is_told(house: House, monkeypatch: pytest.Monk
     told = [(topic, json.loads(text)) for topic, text in house.all("select topic, payload from publication order by id")]
     assert [topic for topic, _ in told] == [f"wmbus/commands/{house.meters[0].name}"] * 2
     assert [(it["id"], it["state"]) for _, it in told] == [("key", "done"), ("bad", "refused")]
+
+
+def test_a_value_with_a_qualifier(house: House) -> None:
+    """What flowed backward is another quantity than the volume (docs/FORMATS.md), for the broker and among the values of a day."""
+    meter = house.meters[0]
+    sessions = Sessions(replace(house.config, mqtt=Mqtt()), house.database)
+    for counter, payload in ((1, "0c933c05000000" "0c1307000000"), (2, "0c1308000000" "0c933c06000000")):
+        text = b"\x2f\x2f" + bytes.fromhex(payload)
+        house.spool(line_of(messages.whole(meter.key, meter.address, counter, text, 0x44, None), 100))
+        sessions.next(NOW)
+    told = [json.loads(text) for text in house.all("select payload from publication where topic like 'wmbus/meter/%' order by id")]
+    assert [it["volume"] for it in told] == [0.007, 0.008]
+    assert [sorted(it.values())[:2] for it in told] == [[0.005, 0.007], [0.006, 0.008]]
+    retention.let_go(house.database, Keep(readings=1), NOW + 2 * 86_400)
+    assert house.all("select value from daily") == ["8"]
 
 
 def test_a_program_that_always_fails(house: House, monkeypatch: pytest.MonkeyPatch) -> None:

@@ -44,9 +44,11 @@ def _gather_days(database: sqlite3.Connection, before: float) -> int:
     with transaction(database):
         oldest = [ident for (ident,) in database.execute("select id from reading where made < ? order by id limit ?", (before, PIECE))]
         if oldest:
+            # (a value with qualifiers is another quantity, and takes no place of one without)
             database.execute(
                 f"insert or replace into daily (day, {VALUES}) select date(reading.made, 'unixepoch'), {VALUES} from record"
-                " join reading on reading.id = record.reading where reading.id <= ? and made < ? order by reading.id", (oldest[-1], before))
+                " join reading on reading.id = record.reading where reading.id <= ? and made < ?"
+                " order by modifiers = '', reading.id", (oldest[-1], before))
             # (those in front of it that are younger were made when the clock was right)
             database.execute("delete from reading where id <= ? and made < ?", (oldest[-1], before))
         return len(oldest)
