@@ -16,7 +16,7 @@ from dataclasses import replace
 from pathlib import Path
 
 import pytest
-from wmbus_service import broker, service, session, steps, store
+from wmbus_service import broker, service, session, status, steps, store
 from wmbus_service.commands import put_command
 from wmbus_service.config import Config, Metrics, Mqtt, Programs
 from wmbus_service.ending import Ending
@@ -182,10 +182,17 @@ def test_discovery() -> None:
     for record, wanted in (({"quantity": "energy", "unit": "Wh", "value": "12345", "exponent": 3}, "12345"),
                            ({"quantity": "energy", "unit": "J", "value": "-5", "exponent": 0}, "-0.000005"),
                            ({"quantity": "volume", "unit": "m3", "value": "2850427", "exponent": -2}, "28504.27"),
+                           ({"quantity": "volume", "unit": "m3", "value": "12345678901234567890123456789012345", "exponent": -6},
+                            "12345678901234567890123456789.012345"),
                            ({"quantity": "volume", "unit": "m3", "value": "raw", "exponent": -2}, None),
                            ({"quantity": "date", "unit": "-", "value": "2007-02-28", "exponent": 0}, '"2007-02-28"')):
         kind = kind_of("9315010000000107", record)
         assert kind and shown(record, kind) == wanted
+
+
+def test_long_numbers_in_words() -> None:
+    """However many digits a number has, all are told."""
+    assert status.shown("12345678901234567890123456789012345", -6) == "12345678901234567890123456789.012345"
 
 
 def test_sensors_members(house: House, mosquitto: Mosquitto) -> None:
