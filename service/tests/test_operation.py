@@ -341,6 +341,35 @@ def test_retention_and_a_wrong_clock(house: House) -> None:
     assert house.all("select day, value from daily") == [("1970-01-01", "3")]
 
 
+def test_what_retention_costs(house: House) -> None:
+    """To look for what is kept no longer costs no more the more is kept: a session waits for it, and so do all that write."""
+    rows = [(number, number, "m", number, int(NOW), None, "00", None, 0, NOW + number) for number in range(1, 5001)]
+    house.database.executemany("insert into reading values (?, ?, ?, ?, ?, ?, ?, ?, ?, ?)", rows)
+    steps: list[None] = []
+    for now in (NOW + 100 * DAY, NOW + 100 * DAY + 3600):
+        while retention.let_go(house.database, Keep(), now):
+            pass
+        house.database.set_progress_handler(lambda: steps.append(None), 100)
+        assert retention.let_go(house.database, Keep(), now) == 0
+        house.database.set_progress_handler(None, 0)
+    assert not house.all("select id from reading where payload is not null")
+    assert len(steps) * 100 < 5000
+
+
+def test_payloads_and_a_wrong_clock(house: House) -> None:
+    """Payloads go in time also where the clock was years ahead for a while, or where they are kept for less long than before."""
+    for day in range(0, 60, 10):
+        house.spool(house.whole(house.meters[0]))
+        house.hear(NOW + day * DAY)
+    house.spool(house.whole(house.meters[0]))
+    house.hear(NOW + 5000 * DAY)
+    assert retention.let_go(house.database, Keep(lines=0, payloads=4990, readings=0), NOW + 5000 * DAY) == 1
+    for payloads, left in ((100, 6), (40, 5), (15, 2), (100, 2)):
+        while retention.let_go(house.database, Keep(lines=0, payloads=payloads, readings=0), NOW + 60 * DAY):
+            pass
+        assert len(house.all("select id from reading where payload is not null")) == left
+
+
 def test_lines_that_went(house: House) -> None:
     """Once all lines are let go, those that come later have later numbers, so that no reading has the line of another."""
     house.spool(house.whole(house.meters[0]))
