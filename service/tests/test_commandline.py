@@ -148,6 +148,18 @@ def test_copy(place: Place) -> None:
     assert f"meter {ADDRESS}" in place.said("status")
 
 
+def test_copy_of_many_meters(place: Place) -> None:
+    """The program reads what a copy knows of all meters, also where they are more than one state has."""
+    place.said("add", ADDRESS, "--own", OWN, given=KEY)
+    with sqlite3.connect(place.folder / "wmbus/wmbus.db") as database:
+        for number in range(2, 4098):
+            address = f"9315{number:08d}0107"
+            add_meter(database, f"meter {address} 7 {KEY if number < 4097 else 'nokey'} - - 0 0".split())
+    copy = place.folder / "copy.db"
+    place.said("backup", str(copy))
+    assert "doesn't take" in place.fault("restore", str(copy))
+
+
 def test_counters_that_would_come_again(place: Place) -> None:
     """A margin below nothing is refused, and the database stays as it was."""
     place.said("add", ADDRESS, "--own", OWN, given=KEY)

@@ -149,10 +149,10 @@ def _give_up(database: sqlite3.Connection, now: float) -> None:
 def _judge(config: Config, database: sqlite3.Connection) -> None:
     """The program has to take what is known of all meters."""
     own = store.setting(database, "own")
-    blocks = [block for (block,) in database.execute("select block from meter order by place limit ?", (MOST_METERS,))]
+    blocks = [block for (block,) in database.execute("select block from meter order by place")]
     try:
-        if own:
-            run_steps(words_of(config.programs.steps), state_text(own, blocks), [])
+        for start in range(0, len(blocks) if own else 0, MOST_METERS):
+            run_steps(words_of(config.programs.steps), state_text(own or "", blocks[start:start + MOST_METERS]), [])
     except ProgramFailed as failed:
         raise Trouble(config.folder / "restored.db", f"the program doesn't take what the copy knows of the meters: {failed}",
                       "take an earlier copy") from None
