@@ -248,6 +248,20 @@ def test_password_in_another_encoding(tmp_path: Path, house: House) -> None:
     connecting.join(PATIENCE)
 
 
+@pytest.mark.parametrize("told", [Mqtt(port=0), Mqtt(port=70_000), Mqtt(host="")])
+def test_place_where_no_broker_can_be(house: House, told: Mqtt, caplog: pytest.LogCaptureFixture) -> None:
+    """A place that can be none is named by `check` and in the log."""
+    with pytest.raises(Trouble, match=f"mqtt {told.host}:{told.port}: .*look at its host, port"):
+        broker.try_connection(told)
+    ending = Ending()
+    connecting = broker.Broker(house.config, told, ending)
+    connecting.start()
+    until(lambda: not connecting.is_alive() or f"{told.host}:{told.port}" in caplog.text)
+    assert connecting.is_alive()
+    ending.set()
+    connecting.join(PATIENCE)
+
+
 def test_metrics(house: House, mosquitto: Mosquitto) -> None:
     """The client library's parser reads the metrics, and they are what was heard."""
     from prometheus_client.parser import text_string_to_metric_families

@@ -110,7 +110,10 @@ def _connect(told: Mqtt, client: mqtt.Client) -> None:
         answers.append(answer)
 
     client.on_connect = connected
-    client.connect(told.host, told.port, keepalive=30)
+    try:
+        client.connect(told.host, told.port, keepalive=30)
+    except (ValueError, OverflowError) as fault:
+        raise Lost(str(fault)) from None
     # (else each small message waits for the answer to the one before it)
     client.socket().setsockopt(socket.IPPROTO_TCP, socket.TCP_NODELAY, 1)
     _until(client, lambda: bool(answers))
