@@ -148,6 +148,16 @@ def test_copy(place: Place) -> None:
     assert f"meter {ADDRESS}" in place.said("status")
 
 
+@pytest.mark.parametrize("name", ["copy #1.db", "copy?.db", "copy%31.db"])
+def test_copy_of_any_name(place: Place, name: str) -> None:
+    """A copy is put back whatever it is called, and no other one in its place."""
+    place.said("add", ADDRESS, "--own", OWN, given=KEY)
+    place.said("backup", str(place.folder / "copy1.db"))
+    place.said("add", ADDRESS[:-4] + "0204", given=KEY)
+    place.said("backup", str(place.folder / name))
+    assert "counters of 2 meters" in place.said("restore", str(place.folder / name))
+
+
 def test_copy_of_many_meters(place: Place) -> None:
     """The program reads what a copy knows of all meters, also where they are more than one state has."""
     place.said("add", ADDRESS, "--own", OWN, given=KEY)

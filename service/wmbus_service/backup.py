@@ -66,7 +66,7 @@ def restore(config: Config, source: Path, margin: int) -> int:
     beside = config.folder / "restored.db"
     beside.unlink(missing_ok=True)
     os.close(os.open(beside, os.O_WRONLY | os.O_CREAT | os.O_EXCL, 0o600))
-    with closing(sqlite3.connect(f"file:{source}?mode=ro", uri=True)) as copied, closing(sqlite3.connect(beside)) as made:
+    with closing(sqlite3.connect(f"{source.absolute().as_uri()}?mode=ro", uri=True)) as copied, closing(sqlite3.connect(beside)) as made:
         look_over(copied, source)
         copied.backup(made)
     with closing(store.open_store(beside)) as database:
