@@ -158,6 +158,18 @@ def test_copy_of_any_name(place: Place, name: str) -> None:
     assert "counters of 2 meters" in place.said("restore", str(place.folder / name))
 
 
+def test_what_is_no_copy(place: Place) -> None:
+    """An empty file, as a full disk leaves one, and another program's database take no database's place."""
+    place.said("add", ADDRESS, "--own", OWN, given=KEY)
+    copy = place.folder / "copy.db"
+    copy.touch()
+    assert "no copy" in place.fault("restore", str(copy))
+    with sqlite3.connect(copy) as database:
+        database.execute("create table mail (text text)")
+    assert "no copy" in place.fault("restore", str(copy))
+    assert f"meter {ADDRESS}" in place.said("status")
+
+
 def test_copy_of_many_meters(place: Place) -> None:
     """The program reads what a copy knows of all meters, also where they are more than one state has."""
     place.said("add", ADDRESS, "--own", OWN, given=KEY)

@@ -9,7 +9,7 @@ from collections.abc import Sequence
 from contextlib import closing, suppress
 from pathlib import Path
 
-from . import store
+from . import schema, store
 from .commands import OPEN
 from .config import Config, words_of
 from .memory_files import memory_files, path_of
@@ -68,6 +68,8 @@ def restore(config: Config, source: Path, margin: int) -> int:
     os.close(os.open(beside, os.O_WRONLY | os.O_CREAT | os.O_EXCL, 0o600))
     with closing(sqlite3.connect(f"{source.absolute().as_uri()}?mode=ro", uri=True)) as copied, closing(sqlite3.connect(beside)) as made:
         look_over(copied, source)
+        if copied.execute("pragma application_id").fetchone()[0] != schema.APPLICATION:
+            raise Trouble(source, "it is no copy of the service's database", "name a file that `wmbus-service backup` made")
         copied.backup(made)
     with closing(store.open_store(beside)) as database:
         with store.transaction(database):
