@@ -93,6 +93,26 @@ def test_read_only(tmp_path: Path) -> None:
     assert child.status == 0, (tmp_path / "log").read_text()
 
 
+@as_root
+def test_a_folder_that_takes_no_lock(tmp_path: Path) -> None:
+    """A service that begins in a folder that can't be written ends, and says what to do."""
+    folder = tmp_path / "wmbus"
+    store.prepare_folder(folder)
+    for path in (tmp_path.parent.parent, tmp_path.parent, tmp_path):
+        path.chmod(0o755)
+    for path in (folder / "spool", folder):
+        os.chown(path, NOBODY, NOBODY)
+    folder.chmod(0o500)
+
+    def begin() -> None:
+        os.seteuid(NOBODY)
+        with pytest.raises(Trouble, match="lock: .*writable"):
+            service.run(Config(folder=folder))
+    child = Child(tmp_path / "log", begin)
+    until(lambda: not child.is_running())
+    assert child.status == 0, (tmp_path / "log").read_text()
+
+
 def test_rights(tmp_path: Path) -> None:
     """Keys stand in the folder, so others may have no right on it, nor on the database and the roster."""
     folder = tmp_path / "wmbus"

@@ -29,7 +29,11 @@ LET_GO = 3600.0
 
 def lock(folder: Path) -> int:
     """Keeps other services away from a folder, as long as this process lives."""
-    opened = os.open(folder / "lock", os.O_RDWR | os.O_CREAT | os.O_CLOEXEC, 0o600)
+    try:
+        opened = os.open(folder / "lock", os.O_RDWR | os.O_CREAT | os.O_CLOEXEC, 0o600)
+    except OSError as fault:
+        raise Trouble(folder / "lock", f"it can't be opened: {fault.strerror}",
+                      "have the file system writable, and look at the owner and the rights of the folder") from None
     for _ in range(LOCK_TRIES):
         try:
             fcntl.flock(opened, fcntl.LOCK_EX | fcntl.LOCK_NB)
