@@ -441,3 +441,16 @@ def test_a_full_spool_that_was_heard(house: House, tmp_path: Path, monkeypatch: 
     finally:
         assert child.end(signal.SIGTERM) == 0
     assert house.all("select text from line order by number")[:42] == [str(number) for number in range(100, 121)] * 2
+
+
+def test_a_receiver_that_hears_nothing(house: House, tmp_path: Path, monkeypatch: pytest.MonkeyPatch) -> None:
+    """A feed that ends at once, as where the stick isn't there, leaves no file behind, also while no service takes files away."""
+    monkeypatch.setattr(receiving, "PAUSE", 0.01)
+    config = replace(house.config, programs=replace(house.config.programs, line_feed="cat"),
+                     receivers={"attic": Receiver(command="true", format="-")})
+    child = Child(tmp_path / "log", receiving.Receiving(config, "attic").run)
+    try:
+        until(lambda: (tmp_path / "log").read_text().count("feed ended") == 5)
+    finally:
+        assert child.end(signal.SIGTERM) == 0
+    assert len(list(house.config.spool.iterdir())) <= 1

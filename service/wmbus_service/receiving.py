@@ -115,6 +115,7 @@ class Receiving:
     def _feed(self) -> None:
         """One feed to its end, into a file of its own."""
         opened = new_file(self.config.spool, self.name)
+        path = Path(os.readlink(f"/proc/self/fd/{opened}"))
         try:
             radio = subprocess.Popen(["/bin/sh", "-c", self.command], stdin=subprocess.DEVNULL, stdout=subprocess.PIPE, env=environment(),
                                      start_new_session=True)
@@ -131,6 +132,10 @@ class Receiving:
         if not self.ending.is_set():
             self.running[1].wait()
         self._end_feed()
+        with suppress(FileNotFoundError):
+            # (where a stick isn't there, and no service takes files away, there would be more and more)
+            if not path.stat().st_size:
+                path.unlink()
 
     def _end_feed(self) -> None:
         """Ends what this receiver started."""
