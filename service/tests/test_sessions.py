@@ -483,6 +483,22 @@ def test_no_tick_overtakes_lines(house: House) -> None:
     assert house.hear() == 2
 
 
+def test_what_old_commands_cost(house: House) -> None:
+    """Commands that are done stay, as each id is taken once, and cost a session nothing."""
+    rows = [(f"c{number}", house.meters[0].name, number) for number in range(5000)]
+    with store.transaction(house.database):
+        house.database.executemany("insert into command (id, address, kind, payload, state, number, made, changed)"
+                                   " values (?, ?, 'send', '01', 'confirmed', ?, 1, 1)", rows)
+    put_command(house.database, "new", house.meters[0].name, "02", NOW)
+    house.database.execute("update command set state = 'sent', wish = 'cancel' where id = 'c7'")
+    steps_of: list[None] = []
+    house.database.set_progress_handler(lambda: steps_of.append(None), 100)
+    asked = events.asked_for(house.database)
+    house.database.set_progress_handler(None, 0)
+    assert [it.text for it in asked] == [f"X {house.meters[0].name} 7", f"Q {house.meters[0].name} 02"]
+    assert len(steps_of) * 100 < 5000
+
+
 def test_spool_place_is_kept(house: House) -> None:
     """A transaction that isn't committed leaves the place where it was."""
     house.spool(house.whole(house.meters[0]))

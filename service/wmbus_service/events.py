@@ -36,8 +36,9 @@ def gather(config: Config, database: sqlite3.Connection, spools: Sequence[Spool]
 
 def asked_for(database: sqlite3.Connection) -> list[Event]:
     """The lines for what operators asked for and no session has heard yet, the oldest first."""
-    rows = database.execute("select id, address, kind, payload, number, state from command where state = 'waiting' or wish = 'cancel'"
-                            " order by rowid")
+    # (by the index of those that are open: all that ever were stay)
+    rows = database.execute("select id, address, kind, payload, number, state from command where state in ('waiting', 'queued', 'sent')"
+                            " and (state = 'waiting' or wish = 'cancel') order by rowid")
     return [Event(order_line(*row), command=ident) for ident, *row in rows]
 
 
