@@ -61,8 +61,8 @@ def shown(record: dict[str, Any], kind: Kind) -> str | None:
     """A value as a JSON text: a number exactly as it was sent, in the unit of Home Assistant; a day or a moment in quotes."""
     value = record["value"]
     if NUMBER.fullmatch(value):
-        # (scaleb would round what has more than 28 digits)
-        return format(Decimal(f"{value}E{record['exponent'] + kind.power}"), "f")
+        exponent = record["exponent"] + kind.power
+        return f"{Decimal(f'{value}E{exponent}'):f}"
     if (DAY if record["quantity"] == "date" else MOMENT).fullmatch(value) and kind.state is None:
         return f'"{value}"'
     return None
