@@ -53,6 +53,7 @@ def _gather_days(database: sqlite3.Connection, before: float) -> int:
         database.execute(
             f"insert or replace into daily (day, {VALUES}) select date(reading.made, 'unixepoch'), {VALUES} from"
             " (select value as ident from json_each(?)) cross join reading on reading.id = ident"
-            " cross join record on record.reading = reading.id order by modifiers = '', reading.id, record.place desc", (json.dumps(oldest),))
+            " cross join record on record.reading = reading.id order by modifiers = '', reading.id, record.place desc",
+            (json.dumps(oldest),))
         database.executemany("delete from reading where id = ?", [(ident,) for ident in oldest])
         return len(oldest)
