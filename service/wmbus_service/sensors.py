@@ -71,6 +71,8 @@ def shown(record: dict[str, Any], kind: Kind) -> str | None:
 def name_of(record: dict[str, Any]) -> str:
     """A value's name among those of its meter: its quantity, and what sets it apart from the value of now."""
     parts = [record["quantity"]]
+    if record["modifiers"]:
+        parts.append(f"modifiers{record['modifiers']}")
     if record["function"] != "instantaneous":
         parts.append(record["function"])
     return "_".join(parts + [f"{word}{record[word]}" for word in ("storage", "tariff", "subunit") if record[word]])
