@@ -28,6 +28,7 @@ from wmbus_service.config import Config as ServiceConfig
 from wmbus_service.config import Receiver
 from wmbus_service.ending import Ending
 from wmbus_service.spool import LONGEST
+from wmbus_service.steps import ProgramFailed
 from wmbus_service.store import prepare_folder
 from wmbus_service.trouble import Trouble
 
@@ -385,3 +386,20 @@ def test_a_gap_behind_which_a_gateway_goes_on(fleet: Fleet, said: tuple[int, ...
     assert [it["number"] for it in figures(fleet.database)["asked"]] == [lacking]
     taking.take([Message(fleet.gateway, 5, number, now, ()) for number in (lacking, *said)])
     assert figures(fleet.database)["asked"] == []
+
+
+@pytest.mark.parametrize("is_failing", [False, True])
+def test_a_key_that_is_refused_isnt_kept(fleet: Fleet, monkeypatch: pytest.MonkeyPatch, is_failing: bool) -> None:
+    """Nobody needs it any more, neither where the meter is of a mode without one nor where the program fails at it."""
+    meter = next(it for it in fleet.meters if it.mode == 5)
+
+    def run(words: Any, state: str, lines: list[str]) -> Any:
+        if lines and is_failing:
+            raise ProgramFailed(101, "no")
+        return stand_in(words, state, lines)
+    monkeypatch.setattr(sessions, "run_steps", run)
+    commands.put_key(fleet.database, "k1", meter.name, 32 * "a", NOW)
+    hearing = sessions.Sessions(fleet.config, fleet.database)
+    for _ in range(3):
+        hearing.turn(NOW)
+    assert fleet.database.execute("select state, payload from command").fetchall() == [("refused", "")]

@@ -183,7 +183,8 @@ def set_aside(database: Database, event: Event, shard: int, said: str, now: floa
         gone = database.execute(f"delete from inbox_{int(shard)} where gateway = %s and epoch = %s and message = %s and place = %s",
                                 (it.receiver, it.epoch, it.message, it.behind))
     elif event.command:
-        gone = database.execute("update command set state = 'refused', reason = 'the program failed', wish = null, changed = %s"
+        gone = database.execute("update command set state = 'refused', reason = 'the program failed', wish = null, changed = %s,"
+                                " payload = case kind when 'rekey' then '' else payload end"
                                 " where id = %s and (state = 'waiting' or wish is not null)", (now, event.command))
     else:
         gone = database.execute("update meter set due = null where address = %s and due = %s", (event.ticked, event.due))

@@ -42,7 +42,8 @@ def change_command(database: Database, change: Change, now: float) -> None:
         return
     database.execute(
         "update command set state = coalesce(%(state)s, state), number = coalesce(%(given)s, number),"
-        " reason = coalesce(%(reason)s, reason), payload = coalesce(%(payload)s, payload), wish = null, changed = %(now)s"
+        " reason = coalesce(%(reason)s, reason), payload = case when kind = 'rekey' and %(state)s = 'refused' then '' else"
+        " coalesce(%(payload)s, payload) end, wish = null, changed = %(now)s"
         f" where {wanted}",
         {"state": None, "given": None, "reason": None, "payload": None, "now": now} | change)
 
