@@ -403,3 +403,13 @@ def test_a_key_that_is_refused_isnt_kept(fleet: Fleet, monkeypatch: pytest.Monke
     for _ in range(3):
         hearing.turn(NOW)
     assert fleet.database.execute("select state, payload from command").fetchall() == [("refused", "")]
+
+
+def test_a_copy_that_comes_to_nothing(fleet: Fleet, tmp_path: Path, monkeypatch: pytest.MonkeyPatch) -> None:
+    """No file that is none stands under the name of the copy, and it may be made under that name once the fault is gone."""
+    monkeypatch.setenv("PATH", "/usr/lib/postgresql/15/bin:/usr/bin:/bin")
+    with pytest.raises(Trouble, match="pg_dump"):
+        backup.back_up(replace(fleet.config, database=f"{fleet.config.database}-that-isnt-there"), tmp_path / "copy")
+    assert list(tmp_path.iterdir()) == []
+    backup.back_up(fleet.config, tmp_path / "copy")
+    assert [it.name for it in tmp_path.iterdir()] == ["copy"]

@@ -25,13 +25,21 @@ def back_up(config: Config, target: Path) -> None:
     """Copies the database as it is at one moment, by pg_dump, into a file of its owner's."""
     if target.exists():
         raise Trouble(target, "it is there already", "name a new file")
-    os.close(os.open(target, os.O_WRONLY | os.O_CREAT | os.O_EXCL, 0o600))
-    _done(["pg_dump", "--format=custom", f"--file={target}"], config.database)
-    opened = os.open(target, os.O_RDWR)
+    # (it has its name once it is whole)
+    beside = target.with_name(f"{target.name}.making")
+    beside.unlink(missing_ok=True)
+    os.close(os.open(beside, os.O_WRONLY | os.O_CREAT | os.O_EXCL, 0o600))
+    try:
+        _done(["pg_dump", "--format=custom", f"--file={beside}"], config.database)
+    except Trouble:
+        beside.unlink()
+        raise
+    opened = os.open(beside, os.O_RDWR)
     try:
         os.fsync(opened)
     finally:
         os.close(opened)
+    beside.rename(target)
 
 
 def restore(config: Config, source: Path, margin: int) -> int:
