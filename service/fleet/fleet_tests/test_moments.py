@@ -405,6 +405,15 @@ def test_a_key_that_is_refused_isnt_kept(fleet: Fleet, monkeypatch: pytest.Monke
     assert fleet.database.execute("select state, payload from command").fetchall() == [("refused", "")]
 
 
+def test_a_margin_that_cant_be(fleet: Fleet, restored: Config, tmp_path: Path) -> None:
+    """It is named before anything is put into the database, which takes long and wants another empty one behind it."""
+    backup.back_up(fleet.config, tmp_path / "copy")
+    for margin in (-1, 1 << 32):
+        with pytest.raises(Trouble, match="margin"):
+            backup.restore(restored, tmp_path / "copy", margin)
+    assert backup.restore(restored, tmp_path / "copy", 50) == 3
+
+
 def test_a_copy_that_comes_to_nothing(fleet: Fleet, tmp_path: Path, monkeypatch: pytest.MonkeyPatch) -> None:
     """No file that is none stands under the name of the copy, and it may be made under that name once the fault is gone."""
     monkeypatch.setenv("PATH", "/usr/lib/postgresql/15/bin:/usr/bin:/bin")

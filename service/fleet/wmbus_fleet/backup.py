@@ -9,7 +9,7 @@ from pathlib import Path
 
 import psycopg
 from psycopg.conninfo import conninfo_to_dict, make_conninfo
-from wmbus_service.backup import raised_by_program
+from wmbus_service.backup import HIGHEST, raised_by_program
 from wmbus_service.commands import OPEN
 from wmbus_service.config import words_of
 from wmbus_service.trouble import Trouble
@@ -47,6 +47,8 @@ def restore(config: Config, source: Path, margin: int) -> int:
     and open commands are cancelled, since some of them may have been executed. How many meters there are."""
     if not source.is_file():
         raise Trouble(source, "there is no such copy")
+    if not 0 <= margin <= HIGHEST:
+        raise Trouble("the margin", "it isn't a number from 0 to 2^32 - 1", "docs/FLEET.md says how large it has to be")
     with psycopg.connect(config.database, autocommit=True) as database:
         if store.one(database, "select to_regclass('setting')") is not None:
             raise Trouble("the database", "it has tables already", "name a new, empty one in the configuration")
