@@ -12,6 +12,7 @@ from dataclasses import replace
 from pathlib import Path
 from typing import Any
 
+import psycopg
 import pytest
 from tests.kill import PYTHON
 from tests.meters import line_of, next_telegrams, some_meters
@@ -403,6 +404,16 @@ def test_a_key_that_is_refused_isnt_kept(fleet: Fleet, monkeypatch: pytest.Monke
     for _ in range(3):
         hearing.turn(NOW)
     assert fleet.database.execute("select state, payload from command").fetchall() == [("refused", "")]
+
+
+def test_a_copy_of_something_else(fleet: Fleet, restored: Config, tmp_path: Path) -> None:
+    """A copy that another program's database is in is none of a fleet, and isn't said to be restored."""
+    other = fleet.both.postgres.make(f"{fleet.area.split('-')[0]}c")
+    with psycopg.connect(other, autocommit=True) as database:
+        database.execute("create table customer (name text)")
+    backup.back_up(replace(fleet.config, database=other), tmp_path / "copy")
+    with pytest.raises(Trouble, match="no copy of a fleet"):
+        backup.restore(restored, tmp_path / "copy", 50)
 
 
 def test_a_margin_that_cant_be(fleet: Fleet, restored: Config, tmp_path: Path) -> None:

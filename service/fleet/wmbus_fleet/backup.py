@@ -49,6 +49,8 @@ def restore(config: Config, source: Path, margin: int) -> int:
         raise Trouble(source, "there is no such copy")
     if not 0 <= margin <= HIGHEST:
         raise Trouble("the margin", "it isn't a number from 0 to 2^32 - 1", "docs/FLEET.md says how large it has to be")
+    if " TABLE public inbox " not in _done(["pg_restore", "--list", str(source)], config.database):
+        raise Trouble(source, "it is no copy of a fleet's database", "name a file that `wmbus-fleet backup` made")
     with psycopg.connect(config.database, autocommit=True) as database:
         if store.one(database, "select to_regclass('setting')") is not None:
             raise Trouble("the database", "it has tables already", "name a new, empty one in the configuration")
@@ -86,8 +88,8 @@ def _give_up(database: Database, now: float) -> None:
     database.execute("update outbox set missed = 'restored' where sent is null and missed is null")
 
 
-def _done(words: Sequence[str], database: str) -> None:
-    """Runs a program of PostgreSQL's over a database. (A password is no argument, which everybody on the machine sees.)"""
+def _done(words: Sequence[str], database: str) -> str:
+    """Runs a program of PostgreSQL's over a database; what it says. (A password is no argument, which everybody on the machine sees.)"""
     told = conninfo_to_dict(database)
     secret = {"PGPASSWORD": str(told.pop("password"))} if "password" in told else {}
     reached = f"--dbname={make_conninfo(**told)}"
@@ -98,3 +100,4 @@ def _done(words: Sequence[str], database: str) -> None:
         raise Trouble(words[0], f"the program can't be started: {fault.strerror}", "apt-get install postgresql-client") from None
     if done.returncode:
         raise Trouble(words[0], f"status {done.returncode}: {done.stderr.strip()[:300]}")
+    return done.stdout
