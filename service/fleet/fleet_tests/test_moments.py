@@ -18,7 +18,7 @@ from tests.kill import PYTHON
 from tests.meters import line_of, next_telegrams, some_meters
 from tests.processes import started, until
 from tests.stand_in import stand_in
-from wmbus_fleet import backup, broker, commands, downlinks, gateways, sessions, store
+from wmbus_fleet import backup, broker, commands, downlinks, gateways, intake, sessions, store
 from wmbus_fleet.config import Broker, Config, Gateway, Keep, Ticks
 from wmbus_fleet.gateway import Agent, arm, open_gateway
 from wmbus_fleet.intake import Consuming, Intake
@@ -433,3 +433,30 @@ def test_a_copy_that_comes_to_nothing(fleet: Fleet, tmp_path: Path, monkeypatch:
     assert list(tmp_path.iterdir()) == []
     backup.back_up(fleet.config, tmp_path / "copy")
     assert [it.name for it in tmp_path.iterdir()] == ["copy"]
+
+
+@pytest.mark.parametrize("work", [lambda config, ending: intake.run(config, [], "test", ending), downlinks.run, sessions.run])
+def test_a_part_that_is_started_too_early(fleet: Fleet, work: Any) -> None:
+    """As while a copy is put back: it waits, and works once that has ended, in place of ending itself, and for good once it did so five
+    times in ten seconds."""
+    ending, is_at_work = Ending(), False
+    fleet.database.execute("create table restoring ()")
+
+    def later() -> None:
+        nonlocal is_at_work
+        with store.connect(fleet.config.database, is_restored=False) as database:
+            time.sleep(2)
+            database.execute("drop table restoring")
+            connected = "select count(*) from pg_stat_activity where datname = current_database()"
+            for _ in range(100):
+                # (the test itself has two)
+                is_at_work = is_at_work or store.one(database, connected) > 2
+                time.sleep(0 if is_at_work else 0.1)
+        ending.set()
+    waiting = threading.Thread(target=later)
+    waiting.start()
+    try:
+        work(fleet.config, ending)
+    finally:
+        waiting.join()
+    assert is_at_work

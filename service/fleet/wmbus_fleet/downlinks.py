@@ -8,6 +8,7 @@ from typing import Any
 
 import psycopg
 from wmbus_service.ending import Ending
+from wmbus_service.trouble import Trouble
 
 from . import broker, store
 from .config import Config
@@ -66,7 +67,7 @@ def run(config: Config, ending: Ending) -> None:
                     while not ending.is_set():
                         if not send(config, database, channel, time.time()):
                             connection.process_data_events(config.interval)
-        except (psycopg.Error, *broker.FAULTS) as fault:
+        except (psycopg.Error, Trouble, *broker.FAULTS) as fault:
             told = f"downlinks: {store.told_of(fault)}"
             if told != trouble:
                 log.error("%s", told)

@@ -11,6 +11,7 @@ import psycopg
 from wmbus_service.config import words_of
 from wmbus_service.ending import Ending
 from wmbus_service.steps import ProgramFailed
+from wmbus_service.trouble import Trouble
 
 from . import broker, store
 from .config import Config
@@ -210,7 +211,7 @@ def run(config: Config, areas: Sequence[str], name: str, ending: Ending) -> None
                     # (of all also those that were made since)
                     consuming.listen(areas or [area for (area,) in database.execute("select name from area order by name").fetchall()])
                     consuming.turn()
-        except (psycopg.Error, ProgramFailed, *broker.FAULTS) as fault:
+        except (psycopg.Error, ProgramFailed, Trouble, *broker.FAULTS) as fault:
             told = f"intake: {store.told_of(fault)}"
             if told != trouble:
                 log.error("%s", told)
