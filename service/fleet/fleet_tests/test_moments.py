@@ -460,3 +460,11 @@ def test_a_part_that_is_started_too_early(fleet: Fleet, work: Any) -> None:
     finally:
         waiting.join()
     assert is_at_work
+
+
+@pytest.mark.parametrize("told, words", [
+    (Broker(port=1), "127.0.0.1.*refused"), (Broker(host="house..net"), "broker.host"), (Broker(host=70 * "a"), "broker.host")])
+def test_a_broker_that_cant_be_reached(told: Broker, words: str) -> None:
+    """The log says why, and nothing ends by it."""
+    with pytest.raises((*broker.FAULTS, Trouble), match=words), broker.connected(told):
+        pass

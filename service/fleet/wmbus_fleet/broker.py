@@ -38,13 +38,25 @@ def connected(told: Broker) -> Iterator[Any]:
     nodes = told.nodes()
     if not nodes:
         raise Trouble("broker.host", "it names no node")
-    with within(PATIENCE):
-        connection = pika.BlockingConnection([_parameters(told, *node) for node in random.sample(nodes, len(nodes))])
+    try:
+        with within(PATIENCE):
+            connection = pika.BlockingConnection([_parameters(told, *node) for node in random.sample(nodes, len(nodes))])
+    except UnicodeError:
+        raise Trouble(f"broker.host {told.host}", "no broker can be at such a host") from None
+    except pika.exceptions.AMQPConnectionError as fault:
+        # (that of a connection which can't be made has no words of its own)
+        raise fault if str(fault) else pika.exceptions.AMQPConnectionError(f"{told.host}, port {told.port}: {_reason(fault)}") from None
     try:
         yield connection
     finally:
         with suppress(*FAULTS), within(PATIENCE):
             connection.close()
+
+
+def _reason(fault: Exception) -> str:
+    """Why a connection can't be made, which stands in what pika has of it."""
+    inner = fault.args[0] if fault.args else fault
+    return str(getattr(inner, "exception", "")) or repr(inner)
 
 
 def password_of(told: Broker) -> str:
