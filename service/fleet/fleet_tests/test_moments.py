@@ -468,3 +468,10 @@ def test_a_broker_that_cant_be_reached(told: Broker, words: str) -> None:
     """The log says why, and nothing ends by it."""
     with pytest.raises((*broker.FAULTS, Trouble), match=words), broker.connected(told):
         pass
+
+
+def test_a_password_that_is_no_text(tmp_path: Path) -> None:
+    """As a file in another encoding."""
+    (tmp_path / "password").write_bytes("geheimnis-\xe4".encode("latin-1"))
+    with pytest.raises(Trouble, match="password can't be read"):
+        broker.password_of(Broker(password_file=str(tmp_path / "password")))

@@ -67,6 +67,8 @@ def password_of(told: Broker) -> str:
         return Path(told.password_file).read_text(encoding="utf-8").rstrip("\n")
     except OSError as fault:
         raise Trouble(told.password_file, f"the broker's password can't be read: {fault.strerror}") from None
+    except UnicodeDecodeError:
+        raise Trouble(told.password_file, "the broker's password can't be read: it is no text in UTF-8") from None
 
 
 def _parameters(told: Broker, host: str, port: int) -> Any:
