@@ -18,7 +18,7 @@ from tests.kill import PYTHON
 from tests.meters import line_of, next_telegrams, some_meters
 from tests.processes import started, until
 from tests.stand_in import stand_in
-from wmbus_fleet import backup, broker, commands, downlinks, gateways, intake, sessions, store
+from wmbus_fleet import backup, broker, commands, downlinks, gateway, gateways, intake, sessions, store
 from wmbus_fleet.config import Broker, Config, Gateway, Keep, Ticks
 from wmbus_fleet.gateway import Agent, arm, open_gateway
 from wmbus_fleet.intake import Consuming, Intake
@@ -475,3 +475,12 @@ def test_a_password_that_is_no_text(tmp_path: Path) -> None:
     (tmp_path / "password").write_bytes("geheimnis-\xe4".encode("latin-1"))
     with pytest.raises(Trouble, match="password can't be read"):
         broker.password_of(Broker(password_file=str(tmp_path / "password")))
+
+
+def test_a_gateways_file_that_isnt_whole(tmp_path: Path) -> None:
+    """It is named, with what to do."""
+    service = ServiceConfig(tmp_path / "service", receivers={"radio": Receiver()})
+    prepare_folder(service.folder)
+    (service.folder / "gateway.gw1.db").write_bytes(1000 * b"no database")
+    with pytest.raises(Trouble, match="gateway.gw1.db"):
+        gateway.run(Config(), Gateway("gw1", "north", "radio"), service, Ending())

@@ -270,5 +270,11 @@ def run(config: Config, told: Gateway, service: ServiceConfig, ending: Ending) -
     if told.receiver not in service.receivers:
         raise Trouble("gateway.receiver", f"the service's configuration has no receiver {told.receiver}", f"see {told.service}")
     store.prepare_folder(service.folder)
-    with closing(open_gateway(service.folder / f"gateway.{told.name}.db", time.time())) as database:
+    path = service.folder / f"gateway.{told.name}.db"
+    try:
+        database = open_gateway(path, time.time())
+    except sqlite3.Error as fault:
+        raise Trouble(path, f"the gateway's database can't be opened: {fault}",
+                      "look at its disk; where it isn't whole take it away, and the receiver's lines in the spool with it") from None
+    with closing(database):
         Agent(config, told, service, database).run(ending)
