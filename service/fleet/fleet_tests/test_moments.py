@@ -484,3 +484,13 @@ def test_a_gateways_file_that_isnt_whole(tmp_path: Path) -> None:
     (service.folder / "gateway.gw1.db").write_bytes(1000 * b"no database")
     with pytest.raises(Trouble, match="gateway.gw1.db"):
         gateway.run(Config(), Gateway("gw1", "north", "radio"), service, Ending())
+
+
+def test_a_servers_clock_that_is_set_back(fleet: Fleet) -> None:
+    """A tick comes in time all the same, also where its meter isn't heard any more: else a window would stay open for as long as the clock
+    was ahead."""
+    meter, ticks = fleet.meters[0].name, Ticks(10.0, 20.0, 1000.0)
+    shard = store.one(fleet.database, "select shard_of(%s)", (meter,))
+    fleet.database.execute("update meter set due = %s where address = %s", (NOW + 1000 * DAY, meter))
+    assert [sessions.due_ticks(fleet.database, ticks, shard, moment, 10) for moment in (NOW, NOW + 19)] == [[], []]
+    assert [address for _, address in sessions.due_ticks(fleet.database, ticks, shard, NOW + 21, 10)] == [meter]

@@ -139,7 +139,10 @@ def _tick(moment: float, address: str) -> Event:
 
 def due_ticks(database: Database, ticks: Ticks, shard: int, now: float, most: int) -> list[tuple[float, str]]:
     """The meters whose ticks are due, and since when: all that the gateway that heard such a meter last heard until then is in the inbox
-    or was heard by a session, or else the gateway is cut off for very long."""
+    or was heard by a session, or else the gateway is cut off for very long. None is due later than it can be, unless the clock was set back:
+    then it comes in time all the same."""
+    latest = now + max(ticks.window, ticks.fragments)
+    database.execute("update meter set due = %s where shard_of(address) = %s and due > %s", (latest, shard, latest))
     rows = database.execute(
         "select m.due, m.address from meter m left join gateway g on g.name = m.gateway where shard_of(m.address) = %s and m.due <= %s"
         " and (g.name is null or g.until > m.due or m.due < %s) order by m.due, m.address limit %s",
