@@ -494,3 +494,26 @@ def test_a_servers_clock_that_is_set_back(fleet: Fleet) -> None:
     fleet.database.execute("update meter set due = %s where address = %s", (NOW + 1000 * DAY, meter))
     assert [sessions.due_ticks(fleet.database, ticks, shard, moment, 10) for moment in (NOW, NOW + 19)] == [[], []]
     assert [address for _, address in sessions.due_ticks(fleet.database, ticks, shard, NOW + 21, 10)] == [meter]
+
+
+def test_a_tick_at_which_the_program_fails(fleet: Fleet, monkeypatch: pytest.MonkeyPatch) -> None:
+    """It is found and set aside also while lines of other meters keep coming, and overtakes none of its own meter."""
+    meter = fleet.meters[0].name
+    shard = store.one(fleet.database, "select shard_of(%s)", (meter,))
+    beside = next(it for it in map("{:016x}".format, range(1000)) if store.one(fleet.database, "select shard_of(%s)", (it,)) == shard)
+    fleet.database.execute("update meter set due = %s, gateway = %s where address = %s", (NOW - 100, fleet.gateway, meter))
+    fleet.database.execute("update gateway set until = %s", (int(NOW),))
+
+    def run(words: Any, state: str, lines: list[str]) -> Any:
+        if f"T {meter}" in lines:
+            raise ProgramFailed(101, "no")
+        return stand_in(words, state, lines)
+    monkeypatch.setattr(sessions, "run_steps", run)
+    hearing, count = sessions.Sessions(fleet.config, fleet.database), 0
+    for turn in range(60):
+        # (so many that the next session never takes all of them)
+        rows = [(meter if place == 90 and not turn else beside, fleet.gateway, 1, turn, place, f"A {int(NOW) - 200} 00") for place in range(100)]
+        store.copy_rows(fleet.database, "inbox (address, gateway, epoch, message, place, text)", rows)
+        count += hearing.session(shard, NOW)
+    assert fleet.database.execute("select text from aside").fetchall() == [(f"T {meter}",)]
+    assert store.one(fleet.database, "select count(*) from line where message = 0 and place = 90") == 1

@@ -39,6 +39,8 @@ class Sessions:
         self.most = dict.fromkeys(range(SHARDS), MOST)
         # of a shard the line alone at which the program failed last
         self.suspects: dict[int, Event | None] = {}
+        # shards in which the program failed over lines with ticks among them: these are heard apart, since there may always be lines
+        self.apart: set[int] = set()
 
     def turn(self, now: float) -> int:
         """A session of each shard that has something to hear, from any shard on; the most lines that one took."""
@@ -52,13 +54,23 @@ class Sessions:
             with store.transaction(self.database):
                 if not lock(self.database, shard):
                     return 0
-                batch = gather(self.database, self.config.ticks, shard, now, self.most[shard])
+                batch = self._gather(shard, now)
                 if batch:
                     write(self.database, self.config.ticks, shard, batch, self._told(batch), now)
         except ProgramFailed as failed:
             return self._halve(shard, batch, failed, now)
-        self.most[shard] = min(MOST, self.most[shard] * 2)
+        if shard not in self.apart:
+            self.most[shard] = min(MOST, self.most[shard] * 2)
         return len(batch)
+
+    def _gather(self, shard: int, now: float) -> list[Event]:
+        """What the shard's next session hears: ticks alone, as long as there are some that have to be heard apart."""
+        if shard in self.apart:
+            batch = ticks_alone(self.database, self.config.ticks, shard, now, self.most[shard])
+            if batch:
+                return batch
+            self.apart.discard(shard)
+        return gather(self.database, self.config.ticks, shard, now, self.most[shard])
 
     def _told(self, batch: Sequence[Event]) -> Told:
         """What the program says, over the blocks of the meters that the lines are for."""
@@ -77,6 +89,8 @@ class Sessions:
         if len(batch) > 1:
             log.error("the program failed over %d lines of shard %d, and nothing of it counts: %s", len(batch), shard, failed)
             self.most[shard] = len(batch) // 2
+            if any(event.ticked for event in batch):
+                self.apart.add(shard)
             return len(batch)
         if failed.is_ended() or batch[0] != self.suspects.get(shard):
             # (what a machine lacks for a moment, as memory or time, is no line's fault)
@@ -130,6 +144,13 @@ def with_ticks(heard: Sequence[Arrived], due: Sequence[tuple[float, str]]) -> li
             events.append(_tick(waiting.pop(line.address), line.address))
         events.append(Event(line.text, spooled=line))
     return events + [_tick(moment, address) for address, moment in waiting.items()]
+
+
+def ticks_alone(database: Database, ticks: Ticks, shard: int, now: float, most: int) -> list[Event]:
+    """Due ticks of meters of which no line waits, which none of them would overtake."""
+    due = due_ticks(database, ticks, shard, now, 2 * MOST)
+    waiting = {address for (address,) in database.execute(f"select distinct address from inbox_{int(shard)}").fetchall()}
+    return [_tick(moment, address) for moment, address in due if address not in waiting][:most]
 
 
 def _tick(moment: float, address: str) -> Event:
