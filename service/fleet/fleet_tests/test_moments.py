@@ -517,3 +517,24 @@ def test_a_tick_at_which_the_program_fails(fleet: Fleet, monkeypatch: pytest.Mon
         count += hearing.session(shard, NOW)
     assert fleet.database.execute("select text from aside").fetchall() == [(f"T {meter}",)]
     assert store.one(fleet.database, "select count(*) from line where message = 0 and place = 90") == 1
+
+
+def test_two_gateways_in_the_same_moment(fleet: Fleet, tmp_path: Path, monkeypatch: pytest.MonkeyPatch) -> None:
+    """As behind a start of the broker: another one of the name that listens just behind the question whether there is one is seen."""
+    service, ending = ServiceConfig(tmp_path / "service", receivers={"radio": Receiver()}), Ending()
+    prepare_folder(service.folder)
+    with broker.connected(fleet.config.broker) as first, broker.connected(fleet.config.broker) as second, \
+            closing(open_gateway(tmp_path / "gateway.db", time.time())) as database:
+        beside, declare = broker.opened(first), broker.declare_gateway
+
+        def declared(channel: Any, name: str) -> int:
+            count = declare(channel, name)
+            if not beside.consumer_tags:
+                broker.consume(beside, broker.gateway_queue(name), lambda *_: None)
+            return count
+        monkeypatch.setattr(broker, "declare_gateway", declared)
+        stopping = threading.Timer(5, ending.set)
+        stopping.start()
+        with pytest.raises(Trouble, match="another one with this name"):
+            Agent(fleet.config, Gateway(fleet.gateway, fleet.area, "radio"), service, database)._serve(second, ending)
+        stopping.cancel()

@@ -4,6 +4,7 @@ from __future__ import annotations
 
 import logging
 import os
+import random
 import sqlite3
 import time
 from collections.abc import Sequence
@@ -226,7 +227,10 @@ class Agent:
     def _serve(self, connection: Any, ending: Ending) -> None:
         """Goes on as long as the connection stands."""
         channel = broker.opened(connection)
-        if broker.declare_gateway(channel, self.told.name):
+        is_taken = broker.declare_gateway(channel, self.told.name)
+        # (two that come in the same moment, as behind a start of the broker, don't ask in the same one again)
+        ending.wait(random.uniform(0, PAUSE))
+        if is_taken or broker.declare_gateway(channel, self.told.name):
             # (both would number messages of their own under one name, and of each number one is taken)
             raise Trouble(f"gateway {self.told.name}", "another one with this name is connected, or its connection isn't closed yet",
                           "where it stays so, give each its own name")
