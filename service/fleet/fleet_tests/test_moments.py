@@ -2,6 +2,7 @@
 messages that no gateway of ours sends."""
 from __future__ import annotations
 
+import io
 import random
 import sqlite3
 import threading
@@ -18,7 +19,7 @@ from tests.kill import PYTHON
 from tests.meters import line_of, next_telegrams, some_meters
 from tests.processes import started, until
 from tests.stand_in import stand_in
-from wmbus_fleet import backup, broker, commands, downlinks, gateway, gateways, intake, sessions, store
+from wmbus_fleet import backup, broker, commandline, commands, downlinks, gateway, gateways, intake, sessions, store
 from wmbus_fleet.config import Broker, Config, Gateway, Keep, Ticks
 from wmbus_fleet.gateway import Agent, arm, open_gateway
 from wmbus_fleet.intake import Consuming, Intake
@@ -538,3 +539,15 @@ def test_two_gateways_in_the_same_moment(fleet: Fleet, tmp_path: Path, monkeypat
         with pytest.raises(Trouble, match="another one with this name"):
             Agent(fleet.config, Gateway(fleet.gateway, fleet.area, "radio"), service, database)._serve(second, ending)
         stopping.cancel()
+
+
+@pytest.mark.parametrize("words", [
+    ["gateways", "north", "\udcff"], ["commands", "\udcff"], ["command", "--cancel", "\udcff"], ["commission", "-"],
+    ["rekey", 16 * "0"]])
+def test_words_that_are_no_text(fleet: Fleet, tmp_path: Path, monkeypatch: pytest.MonkeyPatch, capsys: pytest.CaptureFixture[str],
+                                words: list[str]) -> None:
+    """As of a terminal or a file in another encoding: that is said in words, without a trace, in which a key could stand."""
+    (tmp_path / "fleet.toml").write_text(f'database = "{fleet.config.database}"\n')
+    monkeypatch.setattr("sys.stdin", io.TextIOWrapper(io.BytesIO(b"wmbus-roster 2\xff\n"), encoding="utf-8"))
+    assert commandline.main(["--config", str(tmp_path / "fleet.toml"), *words]) == 1
+    assert "UTF-8" in capsys.readouterr().err

@@ -45,6 +45,9 @@ def main(given: list[str]) -> int:
         said = str(trouble)
     except psycopg.Error as fault:
         said = f"the database: {store.told_of(fault)}"
+    except UnicodeError:
+        # (without what was given, in which a key may stand)
+        said = "what was given is no text in UTF-8"
     except BrokenPipeError:
         leave_unread()
         return TROUBLE
