@@ -20,6 +20,7 @@ from tests.meters import line_of, next_telegrams, some_meters
 from tests.processes import started, until
 from tests.stand_in import stand_in
 from wmbus_fleet import backup, broker, commandline, commands, downlinks, gateway, gateways, intake, sessions, store
+from wmbus_fleet.administration import Administration
 from wmbus_fleet.config import Broker, Config, Gateway, Keep, Ticks
 from wmbus_fleet.gateway import Agent, arm, open_gateway
 from wmbus_fleet.intake import Consuming, Intake
@@ -551,3 +552,10 @@ def test_words_that_are_no_text(fleet: Fleet, tmp_path: Path, monkeypatch: pytes
     monkeypatch.setattr("sys.stdin", io.TextIOWrapper(io.BytesIO(b"wmbus-roster 2\xff\n"), encoding="utf-8"))
     assert commandline.main(["--config", str(tmp_path / "fleet.toml"), *words]) == 1
     assert "UTF-8" in capsys.readouterr().err
+
+
+@pytest.mark.parametrize("address", ["http://127.0.0.1:port", "http://a b:15672", "http://[::1", "http://house..net:15672"])
+def test_an_address_of_the_management_that_cant_be(address: str) -> None:
+    """It is named, without a trace."""
+    with pytest.raises(Trouble, match="management"):
+        Administration(Broker(management=address)).depths()

@@ -10,6 +10,7 @@ import secrets
 import ssl
 import urllib.error
 import urllib.request
+from http.client import HTTPException
 from typing import Any
 from urllib.parse import quote, urlsplit
 
@@ -28,7 +29,10 @@ class Administration:
     """What RabbitMQ is told by who administers it."""
 
     def __init__(self, told: Broker) -> None:
-        address = urlsplit(told.management)
+        try:
+            address = urlsplit(told.management)
+        except ValueError:
+            address = urlsplit("")
         if address.scheme not in ("http", "https") or not address.netloc:
             raise Trouble("broker.management", "users are made by RabbitMQ's management plugin, and its address isn't known",
                           "name it, as http://127.0.0.1:15672; `rabbitmq-plugins enable rabbitmq_management` has it work")
@@ -72,7 +76,7 @@ class Administration:
                 return None
             remedy = f"has {self.told.user} the tag `administrator`?" if fault.code in (401, 403) else ""
             raise Trouble(self.base, f"RabbitMQ refuses {method} {path}: {fault.code} {fault.reason}", remedy) from None
-        except OSError as fault:
+        except (OSError, HTTPException, UnicodeError) as fault:
             raise Trouble(self.base, f"RabbitMQ's management plugin can't be asked: {fault}",
                           "`rabbitmq-plugins enable rabbitmq_management` has it work") from None
         return json.loads(text) if text else None
