@@ -8,6 +8,7 @@ import sqlite3
 import threading
 import time
 import tracemalloc
+from configparser import ConfigParser
 from contextlib import closing
 from dataclasses import replace
 from pathlib import Path
@@ -559,3 +560,12 @@ def test_an_address_of_the_management_that_cant_be(address: str) -> None:
     """It is named, without a trace."""
     with pytest.raises(Trouble, match="management"):
         Administration(Broker(management=address)).depths()
+
+
+@pytest.mark.parametrize("unit", sorted((Path(__file__).parents[1] / "systemd").iterdir()), ids=lambda path: str(path.name))
+def test_a_part_that_ends_again_and_again(unit: Path) -> None:
+    """As a gateway whose disk is full: systemd starts it for as long as that takes, where else it would leave it for good once it ended five
+    times within ten seconds (systemd.unit(5), StartLimitIntervalSec)."""
+    told = ConfigParser(interpolation=None)
+    told.read(unit)
+    assert told["Service"]["Restart"] == "always" and told["Unit"].get("StartLimitIntervalSec") == "0"
