@@ -5,6 +5,7 @@ from __future__ import annotations
 import io
 import random
 import sqlite3
+import subprocess
 import threading
 import time
 import tracemalloc
@@ -569,3 +570,11 @@ def test_a_part_that_ends_again_and_again(unit: Path) -> None:
     told = ConfigParser(interpolation=None)
     told.read(unit)
     assert told["Service"]["Restart"] == "always" and told["Unit"].get("StartLimitIntervalSec") == "0"
+
+
+def test_who_reads_the_configuration(tmp_path: Path) -> None:
+    """Its user has to, whom the folder lets in: as that of the package, what `install` puts there may be read."""
+    for folder in ("usr/lib/wmbus/wmbus_service", "usr/bin", "lib/systemd/system", "etc/wmbus"):
+        (tmp_path / folder).mkdir(parents=True)
+    subprocess.run([Path(__file__).parents[1] / "install", tmp_path], check=True, stdout=subprocess.DEVNULL)
+    assert (tmp_path / "etc/wmbus/fleet.toml").stat().st_mode & 0o777 == 0o644
