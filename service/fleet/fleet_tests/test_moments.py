@@ -21,7 +21,7 @@ from tests.kill import PYTHON
 from tests.meters import line_of, next_telegrams, some_meters
 from tests.processes import started, until
 from tests.stand_in import stand_in
-from wmbus_fleet import backup, broker, commandline, commands, downlinks, gateway, gateways, intake, sessions, store
+from wmbus_fleet import backup, broker, commandline, commands, downlinks, gateway, gateways, intake, metrics, sessions, store
 from wmbus_fleet.administration import Administration
 from wmbus_fleet.config import Broker, Config, Gateway, Keep, Ticks
 from wmbus_fleet.gateway import Agent, arm, open_gateway
@@ -578,3 +578,16 @@ def test_who_reads_the_configuration(tmp_path: Path) -> None:
         (tmp_path / folder).mkdir(parents=True)
     subprocess.run([Path(__file__).parents[1] / "install", tmp_path], check=True, stdout=subprocess.DEVNULL)
     assert (tmp_path / "etc/wmbus/fleet.toml").stat().st_mode & 0o777 == 0o644
+
+
+def test_a_queue_that_is_gone(fleet: Fleet) -> None:
+    """The metrics have those of the other areas, and don't say that the broker is down."""
+    taken, areas = metrics.Taken(), ["an-area-without", fleet.area]
+    metrics._take_queues(fleet.config, taken, areas)
+    assert taken.labelled["queue_messages"] == {fleet.area: 0.0} and taken.gauges["broker_up"] == 1.0
+
+
+def test_metrics_without_the_brokers_password(fleet: Fleet) -> None:
+    """What the database says is told all the same."""
+    taken = metrics.take(replace(fleet.config, broker=replace(fleet.config.broker, password_file="/nowhere/broker.password")))
+    assert taken.gauges["meters"] == 3.0 and taken.gauges["broker_up"] == 0.0

@@ -9,6 +9,7 @@ from dataclasses import dataclass, field
 from typing import Any
 
 import psycopg
+from pika.exceptions import ChannelClosedByBroker
 from prometheus_client import CollectorRegistry, start_http_server
 from prometheus_client.core import CounterMetricFamily, GaugeMetricFamily, Metric
 from prometheus_client.registry import Collector
@@ -94,12 +95,22 @@ def _take_queues(config: Config, taken: Taken, areas: list[str]) -> None:
     """How many messages wait with the broker."""
     try:
         with broker.connected(config.broker) as connection:
-            channel = broker.opened(connection)
-            taken.labelled["queue_messages"] = {area: float(broker.depth(channel, broker.area_queue(area))) for area in areas}
+            taken.labelled["queue_messages"] = dict(_depths(connection, areas))
         taken.gauges["broker_up"] = 1.0
-    except broker.FAULTS as fault:
+    except (Trouble, *broker.FAULTS) as fault:
         log.error("the metrics: the broker: %s: %s", type(fault).__name__, fault)
         taken.gauges["broker_up"] = 0.0
+
+
+def _depths(connection: Any, areas: list[str]) -> Iterator[tuple[str, float]]:
+    """How many messages wait for an intake of each area; of one without a queue nothing is told."""
+    channel = broker.opened(connection)
+    for area in areas:
+        try:
+            yield area, float(broker.depth(channel, broker.area_queue(area)))
+        except ChannelClosedByBroker as fault:
+            log.error("the metrics: the broker: %s", fault)
+            channel = broker.opened(connection)
 
 
 class Figures(Collector):
