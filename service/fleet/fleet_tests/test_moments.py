@@ -21,7 +21,7 @@ from tests.kill import PYTHON
 from tests.meters import line_of, next_telegrams, some_meters
 from tests.processes import started, until
 from tests.stand_in import stand_in
-from wmbus_fleet import backup, broker, commandline, commands, downlinks, gateway, gateways, intake, metrics, sessions, store
+from wmbus_fleet import backup, broker, commandline, commands, demo, downlinks, gateway, gateways, intake, metrics, sessions, store
 from wmbus_fleet.administration import Administration
 from wmbus_fleet.config import Broker, Config, Gateway, Keep, Ticks
 from wmbus_fleet.gateway import Agent, arm, open_gateway
@@ -591,3 +591,13 @@ def test_metrics_without_the_brokers_password(fleet: Fleet) -> None:
     """What the database says is told all the same."""
     taken = metrics.take(replace(fleet.config, broker=replace(fleet.config.broker, password_file="/nowhere/broker.password")))
     assert taken.gauges["meters"] == 3.0 and taken.gauges["broker_up"] == 0.0
+
+
+@pytest.mark.parametrize("seconds, port", [(float("nan"), 9103), (30.0, 70_000), (30.0, -1)])
+def test_words_of_a_demo_that_cant_be(monkeypatch: pytest.MonkeyPatch, seconds: float, port: int) -> None:
+    """They are named before servers start."""
+    def starts() -> None:
+        raise AssertionError("servers start")
+    monkeypatch.setattr(demo, "own_folder", starts)
+    with pytest.raises(Trouble):
+        demo.run(10, seconds, port, Ending(), print)

@@ -241,8 +241,10 @@ def remove(folder: Path) -> None:
 
 def run(count: int, seconds: float, port: int | None, ending: Ending, say: Say) -> None:
     """Has a fleet hear a town until the process is told to end, and serves its page; without a port it says what was read, and ends."""
-    if not 1 <= count <= 100_000 or seconds <= 0:
+    if not 1 <= count <= 100_000 or not 0 < seconds < float("inf"):
         raise Trouble("the demo", "it takes 1 to 100,000 meters, which send within seconds above 0")
+    if port is not None and not 0 <= port < 1 << 16:
+        raise Trouble("the demo", "a port is a number from 0 to 65535", "name another one with --port")
     with own_folder() as place:
         say("RabbitMQ and PostgreSQL start, on this machine alone")
         with servers(place) as both, suppress(KeyboardInterrupt):
