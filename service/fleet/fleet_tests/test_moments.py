@@ -18,7 +18,7 @@ from typing import Any
 import psycopg
 import pytest
 from tests.kill import PYTHON
-from tests.meters import line_of, next_telegrams, some_meters
+from tests.meters import line_of, next_telegrams, roster_of, some_meters
 from tests.processes import started, until
 from tests.stand_in import stand_in
 from wmbus_fleet import backup, broker, commandline, commands, demo, downlinks, gateway, gateways, intake, metrics, sessions, store
@@ -545,8 +545,7 @@ def test_two_gateways_in_the_same_moment(fleet: Fleet, tmp_path: Path, monkeypat
 
 
 @pytest.mark.parametrize("words", [
-    ["gateways", "north", "\udcff"], ["commands", "\udcff"], ["command", "--cancel", "\udcff"], ["commission", "-"],
-    ["rekey", 16 * "0"]])
+    ["gateways", "north", "\udcff"], ["commands", "\udcff"], ["command", "--cancel", "\udcff"], ["rekey", 16 * "0"]])
 def test_words_that_are_no_text(fleet: Fleet, tmp_path: Path, monkeypatch: pytest.MonkeyPatch, capsys: pytest.CaptureFixture[str],
                                 words: list[str]) -> None:
     """As of a terminal or a file in another encoding: that is said in words, without a trace, in which a key could stand."""
@@ -601,3 +600,13 @@ def test_words_of_a_demo_that_cant_be(monkeypatch: pytest.MonkeyPatch, seconds: 
     monkeypatch.setattr(demo, "own_folder", starts)
     with pytest.raises(Trouble):
         demo.run(10, seconds, port, Ending(), print)
+
+
+def test_a_roster_from_the_standard_input(fleet: Fleet, tmp_path: Path, monkeypatch: pytest.MonkeyPatch) -> None:
+    """It is taken as the same file is, whatever signs stand in its comments."""
+    told, text = tmp_path / "fleet.toml", f"# K\u00e4ltez\u00e4hler, 5 \u20ac\n{roster_of(some_meters(random.Random(3), 5))}".encode() + b"# \xe4\n"
+    steps = fleet.config.programs.steps or f"{Path(__file__).parents[3]}/tests/reference/steps"
+    told.write_text(f'database = "{fleet.config.database}"\n[programs]\nsteps = "{steps}"\n')
+    monkeypatch.setattr("sys.stdin", io.TextIOWrapper(io.BytesIO(text), encoding="utf-8"))
+    assert commandline.main(["--config", str(told), "commission", "-"]) == 0
+    assert store.one(fleet.database, "select count(*) from meter") == 5

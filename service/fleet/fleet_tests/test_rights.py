@@ -201,12 +201,12 @@ def test_the_words(fleet: Fleet, tmp_path: Path, capsys: pytest.CaptureFixture[s
         return status, (told.out + told.err).strip()
 
     meters = some_meters(random.Random(3), 5)
-    monkeypatch.setattr("sys.stdin", io.StringIO(roster_of(meters)))
+    monkeypatch.setattr("sys.stdin", io.TextIOWrapper(io.BytesIO(roster_of(meters).encode())))
     names = tmp_path / "names"
     names.write_text(f"{meters[4].name} Boiler, house 7\n\n{'0' * 16} Nobody\n")
     assert said("commission", "-", "--names", str(names)) == (0, "2 new meters\n1 names")
     assert store.one(fleet.database, "select name from meter where address = %s", (meters[4].name,)) == "Boiler, house 7"
-    monkeypatch.setattr("sys.stdin", io.StringIO(roster_of(meters).replace(" 7 ", " 9 ")))
+    monkeypatch.setattr("sys.stdin", io.TextIOWrapper(io.BytesIO(roster_of(meters).replace(" 7 ", " 9 ").encode())))
     assert "input_check" in said("commission", "-")[1]
     names.write_text("nothing\n")
     assert "line 1" in said("commission", "/dev/null", "--names", str(names))[1] or said("commission", "/dev/null")[0] == 1

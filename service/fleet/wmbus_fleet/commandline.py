@@ -176,7 +176,8 @@ def _remove(config: Config, asked: argparse.Namespace) -> None:
 def _commission(config: Config, asked: argparse.Namespace) -> None:
     with store.connect(config.database) as database:
         if asked.roster == "-":
-            count = commands.take_roster(config, database, sys.stdin.read(), "the standard input")
+            # (as a file is read)
+            count = commands.take_roster(config, database, sys.stdin.buffer.read().decode("latin-1"), "the standard input")
         else:
             count = commands.commission(config, database, Path(asked.roster))
         print(f"{count} new meters")
