@@ -610,3 +610,23 @@ def test_a_roster_from_the_standard_input(fleet: Fleet, tmp_path: Path, monkeypa
     monkeypatch.setattr("sys.stdin", io.TextIOWrapper(io.BytesIO(text), encoding="utf-8"))
     assert commandline.main(["--config", str(told), "commission", "-"]) == 0
     assert store.one(fleet.database, "select count(*) from meter") == 5
+
+
+@pytest.mark.parametrize("given, status", [("00112233445566778899AABBCCDDEEFF", 0), (" 00 11 22 33 44 55 66 77 88 99 aa bb cc dd ee ff\r", 0),
+                                           ("", 1), ("0011", 1)])
+@pytest.mark.parametrize("is_terminal", [False, True])
+def test_how_a_new_key_is_given(fleet: Fleet, tmp_path: Path, monkeypatch: pytest.MonkeyPatch, given: str, status: int,
+                                is_terminal: bool) -> None:
+    """As to the service: as it stands on a delivery note too, with blanks; a terminal's end is no key."""
+    def asked(_prompt: str) -> str:
+        if not given:
+            raise EOFError
+        return given
+    (tmp_path / "fleet.toml").write_text(f'database = "{fleet.config.database}"\n')
+    given_in = io.StringIO(f"{given}\n")
+    monkeypatch.setattr(given_in, "isatty", lambda: is_terminal)
+    monkeypatch.setattr("sys.stdin", given_in)
+    monkeypatch.setattr("getpass.getpass", asked)
+    assert commandline.main(["--config", str(tmp_path / "fleet.toml"), "rekey", fleet.meters[0].name]) == status
+    assert store.pairs(fleet.database, "select kind, payload from command") == (
+        {} if status else {"rekey": "00112233445566778899aabbccddeeff"})

@@ -229,10 +229,14 @@ def _command(config: Config, asked: argparse.Namespace) -> None:
 
 
 def _rekey(config: Config, asked: argparse.Namespace) -> None:
-    key = getpass.getpass("new key: ") if sys.stdin.isatty() else sys.stdin.readline().strip()
+    try:
+        key = getpass.getpass("new key: ") if sys.stdin.isatty() else sys.stdin.readline()
+    except EOFError:
+        raise Trouble("the new key", "none was given") from None
     with store.connect(config.database) as database:
         ident = secrets.token_hex(8)
-        commands.put_key(database, ident, asked.address, key, time.time())
+        # (delivery notes have blanks in it)
+        commands.put_key(database, ident, asked.address, key.strip().replace(" ", ""), time.time())
         print(ident)
 
 
