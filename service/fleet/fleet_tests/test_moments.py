@@ -23,7 +23,7 @@ from tests.processes import started, until
 from tests.stand_in import stand_in
 from wmbus_fleet import backup, broker, commandline, commands, demo, downlinks, gateway, gateways, intake, metrics, sessions, store
 from wmbus_fleet.administration import Administration
-from wmbus_fleet.config import Broker, Config, Gateway, Keep, Ticks
+from wmbus_fleet.config import Broker, Config, Gateway, Keep, Metrics, Ticks
 from wmbus_fleet.gateway import Agent, arm, open_gateway
 from wmbus_fleet.intake import Consuming, Intake
 from wmbus_fleet.messages import Down, Message, down_body, frames_in, lines_body, read_lines
@@ -630,3 +630,9 @@ def test_how_a_new_key_is_given(fleet: Fleet, tmp_path: Path, monkeypatch: pytes
     assert commandline.main(["--config", str(tmp_path / "fleet.toml"), "rekey", fleet.meters[0].name]) == status
     assert store.pairs(fleet.database, "select kind, payload from command") == (
         {} if status else {"rekey": "00112233445566778899aabbccddeeff"})
+
+
+def test_a_port_that_no_metrics_have() -> None:
+    """It is named, without a trace."""
+    with pytest.raises(Trouble, match="metrics"):
+        metrics.run(Config(metrics=Metrics(port=70_000)), Ending())

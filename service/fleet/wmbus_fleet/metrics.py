@@ -144,8 +144,8 @@ def run(config: Config, ending: Ending) -> None:
     registry.register(figures)
     try:
         start_http_server(told.port, addr=told.host, registry=registry)
-    except OSError as fault:
-        raise Trouble(f"metrics.host {told.host} and metrics.port {told.port}", f"the metrics can't be served: {fault.strerror}",
+    except (OSError, OverflowError) as fault:
+        raise Trouble(f"metrics.host {told.host} and metrics.port {told.port}", f"the metrics can't be served: {fault}",
                       "name another port, or end what uses this one") from None
     while True:
         try:
