@@ -636,3 +636,9 @@ def test_a_port_that_no_metrics_have() -> None:
     """It is named, without a trace."""
     with pytest.raises(Trouble, match="metrics"):
         metrics.run(Config(metrics=Metrics(port=70_000)), Ending())
+
+
+def test_names_of_a_file_of_another_system(fleet: Fleet, tmp_path: Path) -> None:
+    """A sign that some editors put in front of the first line is none of its address."""
+    (tmp_path / "names").write_text("".join(f"{meter.name} Flat {place}\n" for place, meter in enumerate(fleet.meters)), encoding="utf-8-sig")
+    assert commands.put_names(fleet.database, tmp_path / "names") == 3

@@ -106,7 +106,8 @@ def _add_meters(database: Database, meters: Sequence[Sequence[str]]) -> int:
 def put_names(database: Database, path: Path) -> int:
     """Names meters, as a file's lines say; how many."""
     try:
-        lines = [line.split(" ", 1) for line in path.read_text(encoding="utf-8").splitlines() if line.strip()]
+        # (some editors put a sign in front of the first line)
+        lines = [line.split(" ", 1) for line in path.read_text(encoding="utf-8-sig").splitlines() if line.strip()]
     except (OSError, UnicodeDecodeError) as fault:
         raise Trouble(path, f"the names can't be read: {fault}") from None
     for number, words in enumerate(lines, 1):
