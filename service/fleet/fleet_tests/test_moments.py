@@ -642,3 +642,12 @@ def test_names_of_a_file_of_another_system(fleet: Fleet, tmp_path: Path) -> None
     """A sign that some editors put in front of the first line is none of its address."""
     (tmp_path / "names").write_text("".join(f"{meter.name} Flat {place}\n" for place, meter in enumerate(fleet.meters)), encoding="utf-8-sig")
     assert commands.put_names(fleet.database, tmp_path / "names") == 3
+
+
+@pytest.mark.parametrize("name, area, words", [("Cellar-12", "north", "gateway.name"), ("a/b", "north", "gateway.name"), ("gw1", "North", "gateway.area")])
+def test_a_gateways_name_that_none_can_have(tmp_path: Path, name: str, area: str, words: str) -> None:
+    """It is named at once: the broker would take all that it sends, and each intake leave it, for good."""
+    service, ending = ServiceConfig(tmp_path / "service", receivers={"radio": Receiver()}), Ending()
+    ending.set()
+    with pytest.raises(Trouble, match=words):
+        gateway.run(Config(), Gateway(name, area, "radio"), service, ending)

@@ -14,8 +14,8 @@ from pathlib import Path
 from typing import Any
 
 from wmbus_service import store
+from wmbus_service.config import NAME, words_of
 from wmbus_service.config import Config as ServiceConfig
-from wmbus_service.config import words_of
 from wmbus_service.downlinks import write_downlink
 from wmbus_service.ending import Ending
 from wmbus_service.spool import Spool, Spooled, put_places
@@ -271,6 +271,10 @@ def arm(database: sqlite3.Connection, told: Down, now: float) -> None:
 
 def run(config: Config, told: Gateway, service: ServiceConfig, ending: Ending) -> None:
     """Runs a gateway over the folder of its machine's service."""
+    for what, name in (("name", told.name), ("area", told.area)):
+        # (the broker takes any, and of such a one no message is in form)
+        if not NAME.fullmatch(name):
+            raise Trouble(f"gateway.{what} {name}", "a name has 1 to 64 of a-z, 0-9, _ and -", "write it as `wmbus-fleet gateways` has it")
     if told.receiver not in service.receivers:
         raise Trouble("gateway.receiver", f"the service's configuration has no receiver {told.receiver}", f"see {told.service}")
     store.prepare_folder(service.folder)
