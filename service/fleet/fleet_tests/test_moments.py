@@ -651,3 +651,15 @@ def test_a_gateways_name_that_none_can_have(tmp_path: Path, name: str, area: str
     ending.set()
     with pytest.raises(Trouble, match=words):
         gateway.run(Config(), Gateway(name, area, "radio"), service, ending)
+
+
+def test_an_intake_of_an_area_that_there_is_none_of(fleet: Fleet, caplog: pytest.LogCaptureFixture) -> None:
+    """As by a slip of the pen: it says so, in place of waiting at a queue of its own while the messages of the area wait in theirs."""
+    ending = Ending()
+    stopping = threading.Timer(3, ending.set)
+    stopping.start()
+    intake.run(fleet.config, [fleet.area, f"{fleet.area}x"], "test", ending)
+    stopping.join()
+    assert [it.getMessage() for it in caplog.records if f"area {fleet.area}x" in it.getMessage() and "no such area" in it.getMessage()]
+    with broker.connected(fleet.config.broker) as connection, pytest.raises(broker.FAULTS, match="no queue"):
+        broker.depth(broker.opened(connection), broker.area_queue(f"{fleet.area}x"))

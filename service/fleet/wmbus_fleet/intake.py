@@ -200,16 +200,25 @@ def ask(channel: Any, asked: Again) -> None:
         log.warning("%s: it has no queue yet, and can't be asked to send again", asked.gateway)
 
 
+def known_areas(database: Database, areas: Sequence[str]) -> Sequence[str]:
+    """These areas, or all that there are; one that there isn't is an error."""
+    known = [area for (area,) in database.execute("select name from area order by name").fetchall()]
+    for area in areas:
+        if area not in known:
+            raise Trouble(f"area {area}", "there is no such area", f"`wmbus-fleet area {area}` makes it")
+    return areas or known
+
+
 def run(config: Config, areas: Sequence[str], name: str, ending: Ending) -> None:
     """Takes in the messages of these areas, or of all; after trouble those that weren't acknowledged come again."""
     trouble = ""
     while not ending.is_set():
         try:
             with store.connect(config.database) as database, broker.connected(config.broker) as connection:
-                consuming = Consuming(Intake(config, database, name), connection, areas)
+                consuming = Consuming(Intake(config, database, name), connection, known_areas(database, areas))
                 while not ending.is_set():
                     # (of all also those that were made since)
-                    consuming.listen(areas or [area for (area,) in database.execute("select name from area order by name").fetchall()])
+                    consuming.listen(known_areas(database, areas))
                     consuming.turn()
         except (psycopg.Error, ProgramFailed, Trouble, *broker.FAULTS) as fault:
             told = f"intake: {store.told_of(fault)}"
