@@ -663,3 +663,18 @@ def test_an_intake_of_an_area_that_there_is_none_of(fleet: Fleet, caplog: pytest
     assert [it.getMessage() for it in caplog.records if f"area {fleet.area}x" in it.getMessage() and "no such area" in it.getMessage()]
     with broker.connected(fleet.config.broker) as connection, pytest.raises(broker.FAULTS, match="no queue"):
         broker.depth(broker.opened(connection), broker.area_queue(f"{fleet.area}x"))
+
+
+def test_a_gateway_with_the_name_of_the_fleets_own_user(fleet: Fleet, tmp_path: Path, monkeypatch: pytest.MonkeyPatch) -> None:
+    """That one would get a gateway's password and rights, or be taken away, and all parts be shut out."""
+    asked: list[Any] = []
+    monkeypatch.setattr(Administration, "_ask", lambda _self, *words, **_more: asked.append(words))
+    name = fleet.config.broker.user
+    with pytest.raises(Trouble, match="own user"):
+        gateways.add(fleet.config, fleet.database, fleet.area, name, tmp_path)
+    commands.add_gateway(fleet.config, fleet.database, fleet.area, name)
+    with pytest.raises(Trouble, match="own user"):
+        gateways.add(fleet.config, fleet.database, fleet.area, name, None)
+    with pytest.raises(Trouble, match="own user"):
+        gateways.remove(fleet.config, fleet.database, name)
+    assert asked == [] and list(tmp_path.iterdir()) == []

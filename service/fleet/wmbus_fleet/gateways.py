@@ -21,7 +21,7 @@ NO_MORE = 1 << 62
 def add(config: Config, database: Database, area: str, name: str, folder: Path | None) -> bool:
     """Makes a gateway known, or moves it to another area; whether it is new. Where users are made, a new one gets a user with a password,
     which a folder for it gets with its configuration, and a known one gets a new password where a folder is named."""
-    asked = Administration(config.broker) if config.broker.management else None
+    asked = administration_for(config, name)
     is_known = database.execute("select 1 from gateway where name = %s and gone is null", (name,)).fetchone() is not None
     if folder is None and asked and not is_known:
         raise Trouble(f"gateway {name}", "its password has to go somewhere", "name a folder: --files FOLDER")
@@ -35,6 +35,15 @@ def add(config: Config, database: Database, area: str, name: str, folder: Path |
             asked.put_password(name, put_files(config, folder, area, name))
         asked.put_rights(area, name)
     return is_new or not is_known
+
+
+def administration_for(config: Config, name: str) -> Administration | None:
+    """Who makes and takes away a gateway's user, where users are made; never the fleet's own one."""
+    if not config.broker.management:
+        return None
+    if name == config.broker.user:
+        raise Trouble(f"gateway {name}", "the fleet's own user of RabbitMQ is called so, and would lose its rights", "choose another name")
+    return Administration(config.broker)
 
 
 def put_files(config: Config, folder: Path, area: str, name: str) -> str:
@@ -77,8 +86,9 @@ def remove(config: Config, database: Database, name: str) -> None:
     of it is taken twice."""
     if not database.execute("select 1 from gateway where name = %s", (name,)).fetchone():
         raise Trouble(f"gateway {name}", "there is no such gateway", "`wmbus-fleet status --gateways` names all")
-    if config.broker.management:
-        Administration(config.broker).remove(name)
+    asked = administration_for(config, name)
+    if asked:
+        asked.remove(name)
     with store.transaction(database):
         database.execute("update gateway set gone = now(), until = %s where name = %s", (NO_MORE, name))
         database.execute("update outbox set missed = 'its gateway was taken away' where gateway = %s and sent is null and missed is null",
