@@ -678,3 +678,22 @@ def test_a_gateway_with_the_name_of_the_fleets_own_user(fleet: Fleet, tmp_path: 
     with pytest.raises(Trouble, match="own user"):
         gateways.remove(fleet.config, fleet.database, name)
     assert asked == [] and list(tmp_path.iterdir()) == []
+
+
+def test_many_ticks_of_which_the_program_fails_at_one(fleet: Fleet, monkeypatch: pytest.MonkeyPatch) -> None:
+    """The others are heard many at a time behind it: while they are, lines wait."""
+    shard, meters = 3, some_meters(random.Random(3), 1500)
+    commands._add_meters(fleet.database, [meter.line().split() for meter in meters])
+    fleet.database.execute("update meter set due = %s where shard_of(address) = %s", (NOW - 100, shard))
+    failing = store.one(fleet.database, "select min(address) from meter where due is not null")
+
+    def run(words: Any, state: str, lines: list[str]) -> Any:
+        if f"T {failing}" in lines:
+            raise ProgramFailed(101, "no")
+        return stand_in(words, state, lines)
+    monkeypatch.setattr(sessions, "run_steps", run)
+    hearing = sessions.Sessions(fleet.config, fleet.database)
+    for _ in range(25):
+        hearing.session(shard, NOW)
+    assert fleet.database.execute("select text from aside").fetchall() == [(f"T {failing}",)]
+    assert store.one(fleet.database, "select count(*) from meter where due is not null") == 0

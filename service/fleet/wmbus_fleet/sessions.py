@@ -39,8 +39,9 @@ class Sessions:
         self.most = dict.fromkeys(range(SHARDS), MOST)
         # of a shard the line alone at which the program failed last
         self.suspects: dict[int, Event | None] = {}
-        # shards in which the program failed over lines with ticks among them: these are heard apart, since there may always be lines
-        self.apart: set[int] = set()
+        # shards in which the program failed over lines with ticks among them: these are heard apart, since there may always be lines, and
+        # so many at most
+        self.apart: dict[int, int] = {}
 
     def turn(self, now: float) -> int:
         """A session of each shard that has something to hear, from any shard on; the most lines that one took."""
@@ -59,17 +60,17 @@ class Sessions:
                     write(self.database, self.config.ticks, shard, batch, self._told(batch), now)
         except ProgramFailed as failed:
             return self._halve(shard, batch, failed, now)
-        if shard not in self.apart:
-            self.most[shard] = min(MOST, self.most[shard] * 2)
+        most = self.apart if shard in self.apart else self.most
+        most[shard] = min(MOST, most[shard] * 2)
         return len(batch)
 
     def _gather(self, shard: int, now: float) -> list[Event]:
         """What the shard's next session hears: ticks alone, as long as there are some that have to be heard apart."""
         if shard in self.apart:
-            batch = ticks_alone(self.database, self.config.ticks, shard, now, self.most[shard])
+            batch = ticks_alone(self.database, self.config.ticks, shard, now, self.apart[shard])
             if batch:
                 return batch
-            self.apart.discard(shard)
+            del self.apart[shard]
         return gather(self.database, self.config.ticks, shard, now, self.most[shard])
 
     def _told(self, batch: Sequence[Event]) -> Told:
@@ -88,9 +89,10 @@ class Sessions:
         one is set aside where the program fails at it once more."""
         if len(batch) > 1:
             log.error("the program failed over %d lines of shard %d, and nothing of it counts: %s", len(batch), shard, failed)
-            self.most[shard] = len(batch) // 2
+            most = self.apart if shard in self.apart else self.most
+            most[shard] = len(batch) // 2
             if any(event.ticked for event in batch):
-                self.apart.add(shard)
+                self.apart.setdefault(shard, MOST)
             return len(batch)
         if failed.is_ended() or batch[0] != self.suspects.get(shard):
             # (what a machine lacks for a moment, as memory or time, is no line's fault)
