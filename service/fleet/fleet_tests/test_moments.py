@@ -516,7 +516,8 @@ def test_a_tick_at_which_the_program_fails(fleet: Fleet, monkeypatch: pytest.Mon
     hearing, count = sessions.Sessions(fleet.config, fleet.database), 0
     for turn in range(60):
         # (so many that the next session never takes all of them)
-        rows = [(meter if place == 90 and not turn else beside, fleet.gateway, 1, turn, place, f"A {int(NOW) - 200} 00") for place in range(100)]
+        rows = [(meter if place == 90 and not turn else beside, fleet.gateway, 1, turn, place, f"A {int(NOW) - 200} 00")
+                for place in range(100)]
         store.copy_rows(fleet.database, "inbox (address, gateway, epoch, message, place, text)", rows)
         count += hearing.session(shard, NOW)
     assert fleet.database.execute("select text from aside").fetchall() == [(f"T {meter}",)]
@@ -604,7 +605,8 @@ def test_words_of_a_demo_that_cant_be(monkeypatch: pytest.MonkeyPatch, seconds: 
 
 def test_a_roster_from_the_standard_input(fleet: Fleet, tmp_path: Path, monkeypatch: pytest.MonkeyPatch) -> None:
     """It is taken as the same file is, whatever signs stand in its comments."""
-    told, text = tmp_path / "fleet.toml", f"# K\u00e4ltez\u00e4hler, 5 \u20ac\n{roster_of(some_meters(random.Random(3), 5))}".encode() + b"# \xe4\n"
+    told, roster = tmp_path / "fleet.toml", roster_of(some_meters(random.Random(3), 5))
+    text = f"# K\u00e4ltez\u00e4hler, 5 \u20ac\n{roster}".encode() + b"# \xe4\n"
     steps = fleet.config.programs.steps or f"{Path(__file__).parents[3]}/tests/reference/steps"
     told.write_text(f'database = "{fleet.config.database}"\n[programs]\nsteps = "{steps}"\n')
     monkeypatch.setattr("sys.stdin", io.TextIOWrapper(io.BytesIO(text), encoding="utf-8"))
@@ -640,11 +642,13 @@ def test_a_port_that_no_metrics_have() -> None:
 
 def test_names_of_a_file_of_another_system(fleet: Fleet, tmp_path: Path) -> None:
     """A sign that some editors put in front of the first line is none of its address."""
-    (tmp_path / "names").write_text("".join(f"{meter.name} Flat {place}\n" for place, meter in enumerate(fleet.meters)), encoding="utf-8-sig")
-    assert commands.put_names(fleet.database, tmp_path / "names") == 3
+    path = tmp_path / "names"
+    path.write_text("".join(f"{meter.name} Flat {place}\n" for place, meter in enumerate(fleet.meters)), encoding="utf-8-sig")
+    assert commands.put_names(fleet.database, path) == 3
 
 
-@pytest.mark.parametrize("name, area, words", [("Cellar-12", "north", "gateway.name"), ("a/b", "north", "gateway.name"), ("gw1", "North", "gateway.area")])
+@pytest.mark.parametrize("name, area, words", [
+    ("Cellar-12", "north", "gateway.name"), ("a/b", "north", "gateway.name"), ("gw1", "North", "gateway.area")])
 def test_a_gateways_name_that_none_can_have(tmp_path: Path, name: str, area: str, words: str) -> None:
     """It is named at once: the broker would take all that it sends, and each intake leave it, for good."""
     service, ending = ServiceConfig(tmp_path / "service", receivers={"radio": Receiver()}), Ending()
