@@ -701,3 +701,16 @@ def test_many_ticks_of_which_the_program_fails_at_one(fleet: Fleet, monkeypatch:
         hearing.session(shard, NOW)
     assert fleet.database.execute("select text from aside").fetchall() == [(f"T {failing}",)]
     assert store.one(fleet.database, "select count(*) from meter where due is not null") == 0
+
+
+@pytest.mark.parametrize("text", ["", "no certificate"])
+def test_an_authority_that_cant_be_read(tmp_path: Path, text: str) -> None:
+    """Its file is named."""
+    path = tmp_path / "authority.pem"
+    if text:
+        path.write_text(text)
+    told = Broker(tls=True, authority=str(path), management="https://127.0.0.1:15671")
+    with pytest.raises(Trouble, match="authority.pem"), broker.connected(told):
+        pass
+    with pytest.raises(Trouble, match="authority.pem"):
+        Administration(told)

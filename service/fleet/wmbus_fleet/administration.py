@@ -7,7 +7,6 @@ import hashlib
 import json
 import re
 import secrets
-import ssl
 import urllib.error
 import urllib.request
 from http.client import HTTPException
@@ -39,7 +38,7 @@ class Administration:
         self.told, self.base = told, told.management.rstrip("/")
         login = f"{told.user}:{broker.password_of(told)}".encode()
         self.head = {"Authorization": "Basic " + base64.b64encode(login).decode(), "Content-Type": "application/json"}
-        self.context = ssl.create_default_context(cafile=told.authority or None) if address.scheme == "https" else None
+        self.context = broker.context_of(told) if address.scheme == "https" else None
 
     def put_password(self, gateway: str, password: str) -> None:
         """Gives a gateway's user this password, of which RabbitMQ gets the hash; the user is made first where there is none."""

@@ -71,8 +71,16 @@ def password_of(told: Broker) -> str:
         raise Trouble(told.password_file, "the broker's password can't be read: it is no text in UTF-8") from None
 
 
+def context_of(told: Broker) -> ssl.SSLContext:
+    """Whose certificates count."""
+    try:
+        return ssl.create_default_context(cafile=told.authority or None)
+    except OSError as fault:
+        raise Trouble(told.authority, f"the authority's certificate can't be read: {fault.strerror}") from None
+
+
 def _parameters(told: Broker, host: str, port: int) -> Any:
-    context = ssl.create_default_context(cafile=told.authority or None) if told.tls else None
+    context = context_of(told) if told.tls else None
     return pika.ConnectionParameters(
         host, port, credentials=pika.PlainCredentials(told.user, password_of(told)), heartbeat=10, socket_timeout=5,
         blocked_connection_timeout=PATIENCE, ssl_options=pika.SSLOptions(context, host) if context else None)
