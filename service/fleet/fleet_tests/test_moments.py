@@ -714,3 +714,22 @@ def test_an_authority_that_cant_be_read(tmp_path: Path, text: str) -> None:
         pass
     with pytest.raises(Trouble, match="authority.pem"):
         Administration(told)
+
+
+def test_a_gateways_file_is_made_at_once(tmp_path: Path, monkeypatch: pytest.MonkeyPatch) -> None:
+    """Whoever looks into it finds all of it: tables without their one row told of no epoch."""
+    path, connect, seen = tmp_path / "gateway.db", gateway.store.connect, set()
+
+    def look(_statement: str) -> None:
+        with closing(sqlite3.connect(path)) as other:
+            if other.execute("select 1 from sqlite_master where name = 'numbering'").fetchone():
+                seen.add(other.execute("select epoch from numbering").fetchone())
+
+    def connected(place: Path) -> sqlite3.Connection:
+        database = connect(place)
+        database.set_trace_callback(look)
+        return database
+    monkeypatch.setattr(gateway.store, "connect", connected)
+    open_gateway(path, NOW).close()
+    look("")
+    assert seen == {(int(NOW),)}

@@ -55,8 +55,8 @@ def open_gateway(path: Path, now: float) -> sqlite3.Connection:
         database = store.connect(path)
     finally:
         os.umask(before)
-    database.executescript(TABLES)
-    database.execute("insert or ignore into numbering values (1, ?, 0)", (int(now),))
+    # (in one commit: whoever looks into it finds all of it)
+    database.executescript(f"begin immediate;{TABLES}insert or ignore into numbering values (1, {int(now)}, 0);commit;")
     return database
 
 
