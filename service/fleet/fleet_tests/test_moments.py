@@ -29,6 +29,7 @@ from wmbus_fleet.intake import Consuming, Intake
 from wmbus_fleet.messages import Down, Message, down_body, frames_in, lines_body, read_lines
 from wmbus_fleet.retention import let_go
 from wmbus_fleet.status import figures, in_words
+from wmbus_service import store as service_store
 from wmbus_service.config import Config as ServiceConfig
 from wmbus_service.config import Receiver
 from wmbus_service.ending import Ending
@@ -718,7 +719,7 @@ def test_an_authority_that_cant_be_read(tmp_path: Path, text: str) -> None:
 
 def test_a_gateways_file_is_made_at_once(tmp_path: Path, monkeypatch: pytest.MonkeyPatch) -> None:
     """Whoever looks into it finds all of it: tables without their one row told of no epoch."""
-    path, connect, seen = tmp_path / "gateway.db", gateway.store.connect, set()
+    path, connect, seen = tmp_path / "gateway.db", service_store.connect, set()
 
     def look(_statement: str) -> None:
         with closing(sqlite3.connect(path)) as other:
@@ -729,7 +730,7 @@ def test_a_gateways_file_is_made_at_once(tmp_path: Path, monkeypatch: pytest.Mon
         database = connect(place)
         database.set_trace_callback(look)
         return database
-    monkeypatch.setattr(gateway.store, "connect", connected)
+    monkeypatch.setattr(service_store, "connect", connected)
     open_gateway(path, NOW).close()
     look("")
     assert seen == {(int(NOW),)}
