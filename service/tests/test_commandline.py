@@ -115,6 +115,15 @@ def test_from_nothing_to_readings(place: Place) -> None:
     assert "no command" in place.fault("command", "--cancel", "a2")
 
 
+def test_strangers_that_are_known_now(place: Place) -> None:
+    """A meter that was heard before it was added is no longer among those that aren't known."""
+    place.said("add", ADDRESS, "--own", OWN, given=KEY)
+    with sqlite3.connect(place.folder / "wmbus/wmbus.db") as database:
+        database.executemany("insert into stranger values (?, ?, 'attic', 1)", [(ADDRESS, 5), ("9315999999990107", 4)])
+    told = place.said("status")
+    assert "not known: 9315999999990107" in told and f"not known: {ADDRESS}" not in told
+
+
 def test_export_of_a_meter_in_large_letters(place: Place) -> None:
     """An address in large letters names its meter, as it does for the other commands."""
     address = "93150100000a01ab"

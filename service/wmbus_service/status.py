@@ -29,7 +29,8 @@ def figures(config: Config, database: sqlite3.Connection) -> dict[str, Any]:
         "downlinks_missed": _rows(database, "select address, receiver, down, missed from outbox where missed is not null"
                                             f" order by id desc limit {LAST}"),
         "refusals": _rows(database, f"select address, words, times from refusal order by last_made desc limit {LAST}"),
-        "strangers": _rows(database, f"select address, times, receiver from stranger order by times desc limit {LAST}"),
+        "strangers": _rows(database, "select address, times, receiver from stranger where address not in (select address from meter)"
+                                     f" order by times desc limit {LAST}"),
         "aside": _rows(database, f"select id, receiver, text, said from aside order by id desc limit {LAST}"),
         "publications_waiting": database.execute("select count(*) from publication").fetchone()[0],
         "spooled_bytes": waiting_bytes(config, database),
