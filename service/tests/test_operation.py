@@ -185,6 +185,24 @@ def test_what_systemd_is_told(house: House, tmp_path: Path, monkeypatch: pytest.
         assert database.execute("select count(*) from reading").fetchone() == (1,)
 
 
+@pytest.mark.parametrize("text", ["", "a line\n"])
+def test_that_it_lives_is_told_within_an_interval(house: House, tmp_path: Path, monkeypatch: pytest.MonkeyPatch, text: str) -> None:
+    """Where the interval is longer than systemd waits for a sign of life (sd_watchdog_enabled(3)), it gets one all the same, whether
+    there was something to hear or nothing."""
+    with socket.socket(socket.AF_UNIX, socket.SOCK_DGRAM) as told:
+        told.bind(str(tmp_path / "notify"))
+        told.settimeout(5)
+        monkeypatch.setenv("NOTIFY_SOCKET", str(tmp_path / "notify"))
+        monkeypatch.setenv("WATCHDOG_USEC", "400000")
+        house.database.close()
+        house.spool(text)
+        child = Child(tmp_path / "log", lambda: service.run(replace(house.config, interval=100_000.0)))
+        try:
+            assert [told.recv(100) for _ in range(5)] == [b"READY=1"] + [b"WATCHDOG=1"] * 4
+        finally:
+            assert child.end(signal.SIGTERM) == 0
+
+
 def test_an_end_at_any_moment(tmp_path: Path) -> None:
     """A signal ends who waits for the end, at whichever step of the wait it comes."""
     def end_at(step: int) -> None:
