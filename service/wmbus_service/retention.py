@@ -17,7 +17,7 @@ def let_go(database: sqlite3.Connection, keep: Keep, now: float) -> int:
     """Lets go what is older than it is kept, a piece of each; how many rows."""
     count = 0
     if keep.lines:
-        count += _delete(database, "line", "number", now - keep.lines * DAY)
+        count += _forget_lines(database, now - keep.lines * DAY, now)
     if keep.payloads:
         count += _forget_payloads(database, now - keep.payloads * DAY)
     if keep.readings:
@@ -25,10 +25,12 @@ def let_go(database: sqlite3.Connection, keep: Keep, now: float) -> int:
     return count
 
 
-def _delete(database: sqlite3.Connection, table: str, key: str, before: float) -> int:
-    """Deletes the oldest rows."""
+def _forget_lines(database: sqlite3.Connection, before: float, now: float) -> int:
+    """Deletes the oldest lines. They are the first ones, so that not all are looked through, unless the clock was ahead when these came."""
     with transaction(database):
-        return database.execute(f"delete from {table} where {key} in (select {key} from {table} where made < ? order by {key} limit ?)",
+        first = database.execute("select made from line order by number limit 1").fetchone()
+        among = "line" if first and first[0] > now else f"(select number, made from line order by number limit {PIECE})"
+        return database.execute(f"delete from line where number in (select number from {among} where made < ? order by number limit ?)",
                                 (before, PIECE)).rowcount
 
 
