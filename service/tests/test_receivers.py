@@ -139,6 +139,27 @@ def test_file(tmp_path: Path) -> None:
     Heard(tmp_path, Receiver(profile="file", file=str(tmp_path / "recorded file"), format="hex")).judge()
 
 
+def test_a_program_that_hangs(tmp_path: Path, monkeypatch: pytest.MonkeyPatch) -> None:
+    """What a feed started ends with it, also a program that heeds no signal in a command of several, whose shell ends at once: it would
+    hold the stick, and no later feed would have it."""
+    monkeypatch.setattr(receiving, "GRACE", 0.5)
+    (tmp_path / "line_feed").write_text(f"#!/bin/sh\nuntil [ -s {tmp_path}/hangs ]; do sleep 0.05; done\n")
+    (tmp_path / "line_feed").chmod(0o755)
+    command = f"sh -c 'trap \"\" TERM; echo $$ >{tmp_path}/hangs; exec sleep 60' | cat"
+    told = Config(folder=tmp_path / "wmbus", programs=Programs(line_feed=str(tmp_path / "line_feed")),
+                  receivers={"attic": Receiver(command=command, format="-")})
+    (tmp_path / "wmbus/spool").mkdir(parents=True)
+    Receiving(told, "attic")._feed()
+    status = Path(f"/proc/{(tmp_path / 'hangs').read_text().strip()}/stat")
+
+    def has_ended() -> bool:
+        with suppress(OSError):
+            # (also what isn't reaped yet)
+            return status.read_text().split()[2] in "ZX"
+        return True
+    until(has_ended, 5)
+
+
 def test_profiles() -> None:
     """Each profile has a command and a format that line_feed knows; what it lacks is named."""
     known = run([program("line_feed"), "--help"]).stdout
