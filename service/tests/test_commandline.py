@@ -283,6 +283,17 @@ def test_configuration(place: Place) -> None:
     assert "can't be read" in place.fault("status")
 
 
+def test_check_of_a_large_roster(place: Place) -> None:
+    """A roster of more meters than a session's state has is right, as it is for the service, which takes it in pieces."""
+    roster = place.folder / "meters.roster"
+    roster.write_text(f"wmbus-roster 2\nown {OWN}\n" + "".join(f"meter 9315{number:08d}0107 7 {KEY} - - 0 0\n" for number in range(4097)))
+    roster.chmod(0o600)
+    place.config.write_text(f'roster = "{roster}"\n' + place.config.read_text())
+    assert f"right: roster {roster}" in place.run("check").output
+    roster.write_text(roster.read_text() + "meter 93150000000201\n")
+    assert "doesn't take the roster" in place.fault("check")
+
+
 def test_words(place: Place) -> None:
     """Faulty words end with status 2, and each command has its help."""
     assert place.run("rum").status == 2

@@ -92,7 +92,8 @@ def look_at_steps(config: Config) -> None:
 
 def look_at_roster(config: Config) -> None:
     """A roster that the program doesn't take."""
-    meters.judge_roster(words_of(config.programs.steps), meters.read_roster(Path(config.roster)), config.roster)
+    for piece in meters.pieces_of(meters.read_roster(Path(config.roster))):
+        meters.judge_roster(words_of(config.programs.steps), piece, config.roster)
 
 
 def look_at_meters(config: Config) -> None:
