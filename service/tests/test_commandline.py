@@ -17,6 +17,7 @@ from wmbus_service.backup import raise_counters
 from wmbus_service.commandline import main
 from wmbus_service.config import Config, Programs, has_steps, read_config, unproved_words
 from wmbus_service.meters import add_meter, set_own
+from wmbus_service.receiving import spooled_bytes
 from wmbus_service.service import Service
 from wmbus_service.store import open_store, prepare_folder
 
@@ -122,6 +123,16 @@ def test_strangers_that_are_known_now(place: Place) -> None:
         database.executemany("insert into stranger values (?, ?, 'attic', 1)", [(ADDRESS, 5), ("9315999999990107", 4)])
     told = place.said("status")
     assert "not known: 9315999999990107" in told and f"not known: {ADDRESS}" not in told
+
+
+def test_a_file_that_goes_meanwhile(place: Place) -> None:
+    """A file that a session takes away while its bytes are counted, as one that stands for nothing here, has none."""
+    place.said("add", ADDRESS, "--own", OWN, given=KEY)
+    spool = place.folder / "wmbus/spool"
+    (spool / "attic.00000001.1.lines").symlink_to("gone")
+    (spool / "attic.00000002.1.lines").write_text("A 1 00\n")
+    assert "7 bytes wait" in place.said("status")
+    assert spooled_bytes(spool) == 7
 
 
 def test_export_of_a_meter_in_large_letters(place: Place) -> None:

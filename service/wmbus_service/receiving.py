@@ -17,7 +17,7 @@ from types import FrameType
 
 from .config import Config, Receiver, words_of
 from .ending import Ending
-from .spool import sync
+from .spool import size_of, sync
 from .store import prepare_folder
 from .trouble import Trouble
 
@@ -69,7 +69,7 @@ def new_file(spool: Path, name: str) -> int:
 
 def spooled_bytes(spool: Path) -> int:
     """How many bytes wait in the spool."""
-    return sum(path.stat().st_size for path in spool.glob("*.lines"))
+    return sum(size_of(path) for path in spool.glob("*.lines"))
 
 
 class Receiving:

@@ -92,6 +92,14 @@ class Spool:
                 database.execute("delete from source where receiver = ? and file = ?", (self.receiver, name))
 
 
+def size_of(path: Path) -> int:
+    """How many bytes a file has; none where a session took it away meanwhile."""
+    try:
+        return path.stat().st_size
+    except FileNotFoundError:
+        return 0
+
+
 def sync(opened: int) -> None:
     """Has a file stand on the disk."""
     os.fsync(opened)

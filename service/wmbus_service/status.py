@@ -12,6 +12,7 @@ from . import service, store
 from .asking import Database
 from .config import Config
 from .sensors import NUMBER
+from .spool import size_of
 
 LAST = 10
 
@@ -68,7 +69,7 @@ def shown(value: str, exponent: int) -> str:
 def waiting_bytes(config: Config, database: Database) -> int:
     """How many bytes of lines no session has taken yet."""
     taken = dict(database.execute("select file, taken from source").fetchall())
-    return sum(max(0, path.stat().st_size - taken.get(path.name, 0)) for path in config.spool.glob("*.lines"))
+    return sum(max(0, size_of(path) - taken.get(path.name, 0)) for path in config.spool.glob("*.lines"))
 
 
 def in_words(told: dict[str, Any]) -> Iterator[str]:
