@@ -145,6 +145,18 @@ def test_messages_of_any_form(house: House, mosquitto: Mosquitto) -> None:
     served.end()
 
 
+@pytest.mark.parametrize("topic", ["house", "wmbus/house"])
+def test_a_command_under_an_earlier_topic(house: House, topic: str) -> None:
+    """A broker goes on to send what was subscribed under the topic of an earlier configuration (MQTT 3.1.1, 4.1): a command there isn't
+    one, and cancels none."""
+    meter = house.meters[0].name
+    put_command(house.database, "a", meter, "01", time.time())
+    for ident in ("a", "b"):
+        broker.take_message(Mqtt(), house.database, f"{topic}/command/{meter}", json.dumps({"id": ident, "payload": "01"}).encode())
+    assert house.all("select id, state from command") == [("a", "waiting")]
+    assert not house.all("select topic from publication")
+
+
 def test_a_connection_that_is_reset() -> None:
     """Where the broker resets the connection just before a message, as one does that is killed while it has unread ones, the connection
     is lost, as at any other moment: the next one follows."""

@@ -173,7 +173,11 @@ def _turn(client: mqtt.Client, seconds: float) -> None:
 
 def take_message(told: Mqtt, database: sqlite3.Connection, topic: str, payload: bytes) -> None:
     """Takes a command or a cancellation; what can't be taken is answered in words. Only what is committed is acknowledged."""
-    kind, address = topic.removeprefix(f"{told.topic}/").split("/", 1)
+    kind, _, address = topic.removeprefix(f"{told.topic}/").partition("/")
+    if not topic.startswith(f"{told.topic}/") or kind not in ("command", "cancel"):
+        # (the broker keeps what was subscribed under the topic of an earlier configuration)
+        log.warning("MQTT: a message under %.100r isn't taken: the topic is %s", topic, told.topic)
+        return
     # (the answer's topic is longer than this one, and no meter has so long an address)
     address = address[:MOST_ADDRESS]
     publications = Publications(told, database)
