@@ -274,6 +274,23 @@ def test_place_where_no_broker_can_be(house: House, told: Mqtt, caplog: pytest.L
     connecting.join(PATIENCE)
 
 
+@pytest.mark.parametrize("name, text", [("topic", "wmbus/#"), ("topic", "+/wmbus"), ("discovery", "homeassistant/#"), ("client", "")])
+def test_names_under_which_nothing_goes(house: House, mosquitto: Mosquitto, name: str, text: str, caplog: pytest.LogCaptureFixture) -> None:
+    """A topic with signs of a filter (MQTT 3.1.1, 3.3.2.1) and an empty client name (3.1.3.1) are named by `check` and in the log, and
+    what connects tries on."""
+    told = replace(Mqtt(port=mosquitto.port), **{name: text})  # type: ignore[arg-type]
+    with pytest.raises(Trouble, match=f"mqtt.{name}: "):
+        broker.try_connection(told)
+    house.database.execute("insert into publication (topic, payload, retain) values (?, '{}', 1)", (f"{told.discovery}/sensor/a",))
+    ending = Ending()
+    connecting = broker.Broker(house.config, told, ending)
+    connecting.start()
+    until(lambda: not connecting.is_alive() or f"mqtt.{name}" in caplog.text)
+    assert connecting.is_alive()
+    ending.set()
+    connecting.join(PATIENCE)
+
+
 def test_metrics(house: House, mosquitto: Mosquitto) -> None:
     """The client library's parser reads the metrics, and they are what was heard."""
     from prometheus_client.parser import text_string_to_metric_families

@@ -65,6 +65,7 @@ class Broker(threading.Thread):
     def _connection(self, database: sqlite3.Connection) -> mqtt.Client:
         """A connection under the service's name, so that the broker keeps the commands that come while there is none."""
         told = self.told
+        look_at_names(told)
 
         def heard(_client: Any, _data: Any, message: mqtt.MQTTMessage) -> None:
             take_message(told, database, message.topic, message.payload)
@@ -129,8 +130,19 @@ def _password_of(path: str) -> str:
         raise Trouble(path, "the password isn't in UTF-8", "write it into the file anew") from None
 
 
+def look_at_names(told: Mqtt) -> None:
+    """Names under which nothing can be published, or kept by the broker."""
+    for name, topic in (("topic", told.topic), ("discovery", told.discovery)):
+        if set(topic) & set("+#"):
+            raise Trouble(f"mqtt.{name}", "it has + or #, and nothing can be published under it", "name a topic without these signs")
+    if not told.client:
+        raise Trouble("mqtt.client", "it is empty, and the broker keeps under it what comes while there is no connection",
+                      "give it a name, or leave it out")
+
+
 def try_connection(told: Mqtt) -> None:
     """Connects under another name, and leaves again."""
+    look_at_names(told)
     try:
         client = mqtt.Client(client_id="")
         _connect(told, client)
