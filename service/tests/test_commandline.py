@@ -282,6 +282,9 @@ def test_configuration(place: Place) -> None:
         folder + "[receivers.attic]\nprofile = 1\n": "receivers.attic.profile isn't a text",
         folder + "[mqtt]\nport = -1\n": "mqtt.port isn't a number",
         folder + "[ticks\n": "it is no TOML",
+        folder + '[programs]\nsteps = "/opt/tim\'s/wmbus steps"\n': "programs.steps isn't a command",
+        folder + '[programs]\nline_merge = "line\'merge"\n': "programs.line_merge isn't a command",
+        folder + '[programs]\nline_feed = ""\n': "programs.line_feed is empty",
     }.items():
         place.config.write_text(text)
         assert said in place.fault("status")
