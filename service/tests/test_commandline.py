@@ -4,10 +4,11 @@ from __future__ import annotations
 import io
 import json
 import os
+import pty
 import signal
 import sqlite3
 import subprocess
-from contextlib import redirect_stderr, redirect_stdout
+from contextlib import redirect_stderr, redirect_stdout, suppress
 from dataclasses import dataclass
 from pathlib import Path
 
@@ -306,6 +307,25 @@ def test_check_of_a_large_roster(place: Place) -> None:
     assert f"right: roster {roster}" in place.run("check").output
     roster.write_text(roster.read_text() + "meter 93150000000201\n")
     assert "doesn't take the roster" in place.fault("check")
+
+
+@pytest.mark.parametrize("sign", [b"\x03", b"\x04"])
+def test_a_key_that_isnt_entered(place: Place, sign: bytes) -> None:
+    """Who ends the question for a key, by Ctrl-C or Ctrl-D, is told so, and the status says that no meter was added."""
+    child, terminal = pty.fork()
+    if not child:
+        os.environ |= {"WMBUS_CONFIG": str(place.config), "PYTHONPATH": str(TOP / "service")}
+        os.execv(PYTHON, [PYTHON, "-m", "wmbus_service", "add", ADDRESS, "--own", OWN])
+    told = b""
+    with suppress(OSError), os.fdopen(terminal, "r+b", 0) as opened:
+        while piece := opened.read(1000):
+            told += piece
+            if told.endswith(b": "):
+                opened.write(sign)
+    _, status = os.waitpid(child, 0)
+    assert os.waitstatus_to_exitcode(status) == 1
+    assert b"wmbus-service: " in told and b"Traceback" not in told
+    assert json.loads(place.said("status", "--json"))["meters"] == []
 
 
 def test_words(place: Place) -> None:

@@ -47,8 +47,10 @@ def main(given: list[str]) -> int:
         return TROUBLE
     except OSError as fault:
         said = str(fault)
+    except EOFError:
+        said = "nothing was entered, and nothing was done"
     except KeyboardInterrupt:
-        return DONE
+        said = "it was interrupted"
     print(f"wmbus-service: {said}", file=sys.stderr)
     return TROUBLE
 
