@@ -117,6 +117,20 @@ def test_from_nothing_to_readings(place: Place) -> None:
     assert "no command" in place.fault("command", "--cancel", "a2")
 
 
+@pytest.mark.parametrize("address, own, key", [(f"{ADDRESS}\u200b", OWN, KEY), (ADDRESS, f"\ufeff{OWN}", KEY), (ADDRESS, OWN, f"{KEY}\u200b"),
+                                               (f"{ADDRESS}\udcfc", OWN, KEY)])
+def test_signs_that_arent_seen(place: Place, address: str, own: str, key: str) -> None:
+    """What was copied out of a document with a sign that nobody sees is refused in words, and no key is told."""
+    said = place.fault("add", address, "--own", own, given=key)
+    assert f"meter {address}: " in said and "type it" in said and KEY not in said
+
+
+def test_a_name_in_another_encoding(place: Place) -> None:
+    """A meter is added also where its name has signs that can't be shown, as a terminal of another encoding gives them: without these."""
+    place.said("add", ADDRESS, "--own", OWN, "--name", "K\udcfcche\n1", given=KEY)
+    assert json.loads(place.said("status", "--json"))["meters"][0]["name"] == "Kche1"
+
+
 def test_strangers_that_are_known_now(place: Place) -> None:
     """A meter that was heard before it was added is no longer among those that aren't known."""
     place.said("add", ADDRESS, "--own", OWN, given=KEY)
