@@ -198,7 +198,7 @@ def _add(asked: argparse.Namespace) -> int:
         if not added:
             raise Trouble(f"meter {asked.address}", "it is known already",
                           "its key stays as it is; `wmbus-service rekey` gives a second one")
-        database.execute("update meter set name = ? where address = ?", (asked.name, asked.address.lower()))
+        database.execute("update meter set name = ? where address = ?", (meters.name_of(asked.name), asked.address.lower()))
     print(f"meter {asked.address.lower()} was added")
     return DONE
 
