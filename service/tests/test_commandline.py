@@ -312,6 +312,16 @@ def test_configuration(place: Place) -> None:
     assert "can't be read" in place.fault("status")
 
 
+@pytest.mark.parametrize("words", [("export", "--since", "9" * 19), ("export", "--since", "9" * 5000), ("export", "--since", "today"),
+                                   ("export", "--meter", "\udcfc"), ("command", "--cancel", "\udcfc"), ("command", "\udcfc", "01"),
+                                   ("rekey", "\udcfc")])
+def test_words_that_cant_be_asked_for(place: Place, words: tuple[str, ...]) -> None:
+    """A moment beyond all that a database has, and what isn't in UTF-8, are faulty words."""
+    place.said("add", ADDRESS, "--own", OWN, given=KEY)
+    done = place.run(*words, given=KEY)
+    assert done.status == 2 and "usage: wmbus-service" in done.errors
+
+
 def test_check_of_a_large_roster(place: Place) -> None:
     """A roster of more meters than a session's state has is right, as it is for the service, which takes it in pieces."""
     roster = place.folder / "meters.roster"
