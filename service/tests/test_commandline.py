@@ -205,6 +205,24 @@ def test_what_is_no_copy(place: Place) -> None:
     assert f"meter {ADDRESS}" in place.said("status")
 
 
+def test_copies_that_fail(place: Place, monkeypatch: pytest.MonkeyPatch) -> None:
+    """A copy that can't be made, or isn't put back, leaves no part of it, in which keys are, and which takes room."""
+    copy, folder = place.folder / "copy.db", place.folder / "wmbus"
+    place.fault("backup", str(copy))
+    place.said("add", ADDRESS, "--own", OWN, given=KEY)
+    with monkeypatch.context() as full:
+        full.setattr(backup, "sync", lambda _: os.write(os.open("/dev/full", os.O_WRONLY), b"a"))
+        assert "No space left" in place.fault("backup", str(copy))
+    assert not list(place.folder.glob("copy*"))
+    place.said("backup", str(copy))
+    with sqlite3.connect(copy) as database:
+        database.execute("update meter set block = 'no block 1 2 3 4 5 6'")
+    assert "doesn't take" in place.fault("restore", str(copy))
+    copy.write_bytes(b"")
+    place.fault("restore", str(copy))
+    assert not list(folder.glob("restored*"))
+
+
 def test_copy_of_many_meters(place: Place) -> None:
     """The program reads what a copy knows of all meters, also where they are more than one state has."""
     place.said("add", ADDRESS, "--own", OWN, given=KEY)
