@@ -340,6 +340,22 @@ def test_words_that_cant_be_asked_for(place: Place, words: tuple[str, ...]) -> N
     assert done.status == 2 and "usage: wmbus-service" in done.errors
 
 
+def test_check_of_a_database_that_isnt_whole(place: Place) -> None:
+    """All else is looked at all the same."""
+    place.said("add", ADDRESS, "--own", OWN, given=KEY)
+    path = place.folder / "wmbus/wmbus.db"
+    with sqlite3.connect(path) as database:
+        pages = database.execute("select rootpage from sqlite_master where tbl_name = 'meter'").fetchall()
+        (size,) = database.execute("pragma page_size").fetchone()
+        database.execute("pragma wal_checkpoint(truncate)")
+    with open(path, "r+b") as file:
+        for (page,) in pages:
+            file.seek((page - 1) * size)
+            file.write(b"\xff" * 200)
+    said = place.fault("check")
+    assert "wrong: meters: the database: " in said and "last backup" in said and "receivers.attic: it can't send" in said
+
+
 def test_check_of_a_large_roster(place: Place) -> None:
     """A roster of more meters than a session's state has is right, as it is for the service, which takes it in pieces."""
     roster = place.folder / "meters.roster"

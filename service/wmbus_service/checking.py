@@ -4,6 +4,7 @@ from __future__ import annotations
 import os
 import shlex
 import shutil
+import sqlite3
 import stat
 import subprocess
 from collections.abc import Callable, Iterator
@@ -62,8 +63,9 @@ def tried(name: str, look: Callable[[], object]) -> Finding:
     """Looks at something; what is wrong."""
     try:
         look()
-    except (Trouble, OSError) as fault:
-        return Finding(name, str(fault) if isinstance(fault, Trouble) else f"{name}: {fault}")
+    except (Trouble, OSError, sqlite3.Error) as fault:
+        told = store.trouble_of(name, fault) if isinstance(fault, sqlite3.Error) else fault
+        return Finding(name, f"{name}: {told}" if isinstance(told, OSError) else str(told))
     return Finding(name)
 
 
