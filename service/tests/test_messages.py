@@ -315,6 +315,8 @@ def test_metrics_port_that_is_taken(house: House) -> None:
         for port in (taken.getsockname()[1], 70_000):
             with pytest.raises(Trouble, match=rf"127\.0\.0\.1:{port}: .*\[metrics\]"):
                 serve(house.config, Metrics(port=port), service.Service(house.config, house.database))
+    with pytest.raises(Trouble, match=r"radio\.\.house:9101: .*\[metrics\]"):
+        serve(house.config, Metrics(host="radio..house"), service.Service(house.config, house.database))
 
 
 def line_of_nobody() -> str:

@@ -133,6 +133,14 @@ def test_tcp_port(tmp_path: Path) -> None:
         heard.judge()
 
 
+@pytest.mark.parametrize("words", [["radio..house", "1"], ["127.0.0.1", "70000"], ["a" * 64 + ".house", "1"]])
+def test_place_that_can_be_none(words: list[str], capsys: pytest.CaptureFixture[str]) -> None:
+    """A host or a port that can be none is named."""
+    from wmbus_service import tcp
+    assert tcp.main(words) == 1
+    assert f"tcp: {':'.join(words)}: " in capsys.readouterr().err
+
+
 def test_file(tmp_path: Path) -> None:
     """A file is heard once."""
     (tmp_path / "recorded file").write_text(f"{telegram_of(FRAME)}\n")
