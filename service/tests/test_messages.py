@@ -197,7 +197,11 @@ def test_discovery() -> None:
                            ({"quantity": "volume", "unit": "m3", "value": "12345678901234567890123456789012345", "exponent": -6},
                             "12345678901234567890123456789.012345"),
                            ({"quantity": "volume", "unit": "m3", "value": "raw", "exponent": -2}, None),
-                           ({"quantity": "date", "unit": "-", "value": "2007-02-28", "exponent": 0}, '"2007-02-28"')):
+                           ({"quantity": "date", "unit": "-", "value": "2007-02-28", "exponent": 0}, '"2007-02-28"'),
+                           # (docs/FORMATS.md: a moment is followed by ! where the meter calls it invalid, and then by + in summer time)
+                           ({"quantity": "datetime", "unit": "-", "value": "2026-03-29T01:59", "exponent": 0}, '"2026-03-29T01:59"'),
+                           ({"quantity": "datetime", "unit": "-", "value": "2026-03-29T03:00+", "exponent": 0}, '"2026-03-29T03:00+"'),
+                           ({"quantity": "datetime", "unit": "-", "value": "2026-03-29T03:00!+", "exponent": 0}, None)):
         kind = kind_of("9315010000000107", record)
         assert kind and shown(record, kind) == wanted
 
