@@ -386,6 +386,15 @@ def test_a_key_that_isnt_entered(place: Place, sign: bytes) -> None:
     assert json.loads(place.said("status", "--json"))["meters"] == []
 
 
+@pytest.mark.parametrize("language", ["C", "C.UTF-8"])
+def test_a_key_in_another_encoding(place: Place, language: str) -> None:
+    """A key or a password that isn't in UTF-8 is refused in words, and nothing of it is told."""
+    words = [PYTHON, "-m", "wmbus_service", "--config", str(place.config), "add", ADDRESS, "--own", OWN]
+    environment = {**os.environ, "LC_ALL": language, "PYTHONPATH": str(TOP / "service")}
+    done = subprocess.run(words, input=f"{KEY}\xfc\n".encode("latin-1"), env=environment, capture_output=True, timeout=PATIENCE, check=False)
+    assert (done.returncode, done.stderr.count(b"\n")) == (1, 1) and b"UTF-8" in done.stderr and KEY.encode() not in done.stderr
+
+
 def test_words(place: Place) -> None:
     """Faulty words end with status 2, and each command has its help."""
     assert place.run("rum").status == 2

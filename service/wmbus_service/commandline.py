@@ -228,7 +228,12 @@ def _own(config: Config, database: sqlite3.Connection, asked: str | None) -> str
 
 def _secret(what: str) -> str:
     """A key or a password, which no list of processes and no history of a shell shows."""
-    return getpass.getpass(f"{what}: ") if sys.stdin.isatty() else sys.stdin.readline().rstrip("\r\n")
+    try:
+        secret = getpass.getpass(f"{what}: ") if sys.stdin.isatty() else sys.stdin.readline().rstrip("\r\n")
+        secret.encode()
+    except UnicodeError:
+        raise Trouble(what, "it isn't in UTF-8", "enter it in this encoding") from None
+    return secret
 
 
 def _key(address: str) -> str:
