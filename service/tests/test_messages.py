@@ -181,6 +181,33 @@ def test_a_connection_that_is_reset() -> None:
             broker.publish(client, [(number, "wmbus/meter/a", "{}", 1) for number in range(3)])
 
 
+def test_a_topic_that_isnt_in_utf_8(house: House, caplog: pytest.LogCaptureFixture) -> None:
+    """What a broker passes on under a topic that can be none (MQTT 3.1.1, 1.5.3) is left, and what comes behind it is taken."""
+    meter = house.meters[0].name
+    sent = b""
+    for topic, payload in ((b"wmbus/command/\xff", b"a"), (f"wmbus/command/{meter}".encode(), b'{"id": "a", "payload": "01"}')):
+        # (a PUBLISH at QoS 0: its topic's length, the topic, the payload)
+        body = len(topic).to_bytes(2, "big") + topic + payload
+        sent += bytes([0x30, len(body)]) + body
+    with socket.create_server(("127.0.0.1", 0)) as server:
+        def serve() -> None:
+            opened, _ = server.accept()
+            with opened:
+                opened.recv(1000)
+                opened.sendall(bytes([0x20, 2, 0, 0]) + sent)
+                is_judged.wait(PATIENCE)
+        is_judged = threading.Event()
+        threading.Thread(target=serve, daemon=True).start()
+        ending = Ending()
+        connecting = broker.Broker(house.config, Mqtt(port=server.getsockname()[1]), ending)
+        connecting.start()
+        until(lambda: not connecting.is_alive() or house.all("select id from command"))
+        is_judged.set()
+        assert connecting.is_alive() and "isn't in UTF-8" in caplog.text
+        ending.set()
+        connecting.join(PATIENCE)
+
+
 def test_discovery() -> None:
     """Each sensor has a unit and a state class that Home Assistant documents for its device class."""
     for address in ("9315010000000107", "9315010000000103", "9315010000000104"):

@@ -68,7 +68,13 @@ class Broker(threading.Thread):
         look_at_names(told)
 
         def heard(_client: Any, _data: Any, message: mqtt.MQTTMessage) -> None:
-            take_message(told, database, message.topic, message.payload)
+            try:
+                topic = message.topic
+            except UnicodeDecodeError:
+                # (not each broker refuses one)
+                log.warning("MQTT: a message isn't taken, whose topic isn't in UTF-8")
+                return
+            take_message(told, database, topic, message.payload)
 
         client = mqtt.Client(client_id=told.client, clean_session=False)
         client.on_message = heard
