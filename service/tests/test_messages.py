@@ -252,6 +252,23 @@ def test_sensors_members(house: House, mosquitto: Mosquitto) -> None:
     served.end()
 
 
+def test_sensors_under_another_topic(house: House, tmp_path: Path) -> None:
+    """Once the topics are others in the configuration sensors are told of under these, and otherwise once over all starts."""
+    house.database.close()
+    seen = []
+    for number, (topic, discovery) in enumerate((("wmbus", "homeassistant"),) * 2 + (("house", "homeassistant"), ("house", "ha")), 1):
+        config = replace(house.config, mqtt=Mqtt(port=free_port(), topic=topic, discovery=discovery))
+        house.spool(house.whole(house.meters[0]))
+        child = Child(tmp_path / f"log {number}", lambda config=config: service.run(config))  # type: ignore[misc]
+        with closing(store.open_store(house.config.database)) as database:
+            until(lambda: database.execute("select count(*) from reading").fetchone() == (number,))  # noqa: B023
+            assert child.end(signal.SIGTERM) == 0
+            seen += [(name.split("/")[0], json.loads(text)["state_topic"].split("/")[0])
+                     for name, text in database.execute("select topic, payload from publication where topic like '%/config'").fetchall()]
+            database.execute("delete from publication")
+    assert seen == [("homeassistant", "wmbus"), ("homeassistant", "house"), ("ha", "house")]
+
+
 def test_password_and_tls(tmp_path: Path, house: House) -> None:
     """A broker that wants a user, a password and TLS; a wrong password is said in words."""
     if not shutil.which("openssl") or not shutil.which("mosquitto_passwd"):

@@ -14,6 +14,7 @@ from .config import Config, unproved_words
 from .downlinks import send_downlinks
 from .ending import Ending
 from .memory_files import leave_no_core
+from .publications import announce_anew
 from .session import MOST, Sessions
 from .trouble import Trouble
 from .watching import Watch
@@ -162,6 +163,7 @@ def start_beside(config: Config, service: Service) -> None:
     """Starts what publishes and what shows the metrics, where they are asked for."""
     if config.mqtt:
         from .broker import Broker
+        announce_anew(config.mqtt, service.database)
         Broker(config, config.mqtt, service.ending).start()
     if config.metrics:
         from .metrics import serve
