@@ -1,6 +1,7 @@
 """The command line as somebody uses it who installs the service, over a configuration in a file."""
 from __future__ import annotations
 
+import errno
 import io
 import json
 import os
@@ -8,12 +9,13 @@ import pty
 import signal
 import sqlite3
 import subprocess
+from collections.abc import Iterator
 from contextlib import redirect_stderr, redirect_stdout, suppress
 from dataclasses import dataclass
 from pathlib import Path
 
 import pytest
-from wmbus_service import backup, config, service
+from wmbus_service import backup, config, exporting, service
 from wmbus_service.backup import raise_counters
 from wmbus_service.commandline import main
 from wmbus_service.config import Config, Programs, has_steps, read_config, unproved_words
@@ -221,6 +223,18 @@ def test_copies_that_fail(place: Place, monkeypatch: pytest.MonkeyPatch) -> None
     copy.write_bytes(b"")
     place.fault("restore", str(copy))
     assert not list(folder.glob("restored*"))
+
+
+def test_an_export_that_fails(place: Place, monkeypatch: pytest.MonkeyPatch) -> None:
+    """Lines or a state of which a part alone can be written, as where the disk is full, leave no file that looks whole."""
+    place.said("add", ADDRESS, "--own", OWN, given=KEY)
+
+    def cut_off(*_: object) -> Iterator[str]:
+        yield "A 1 00\n"
+        raise OSError(errno.ENOSPC, "No space left on device")
+    monkeypatch.setattr(exporting, "lines", cut_off)
+    assert "No space left" in place.fault("export", "--lines", str(place.folder / "lines"))
+    assert not (place.folder / "lines").exists()
 
 
 def test_copy_of_many_meters(place: Place) -> None:

@@ -292,8 +292,13 @@ def _write_own(path: Path, texts: Iterable[str]) -> None:
         opened = os.open(path, os.O_WRONLY | os.O_CREAT | os.O_EXCL, 0o600)
     except FileExistsError:
         raise Trouble(path, "it is there already", "name a new file") from None
-    with open(opened, "w", encoding="latin-1") as file:
-        file.writelines(texts)
+    try:
+        with open(opened, "w", encoding="latin-1") as file:
+            file.writelines(texts)
+    except BaseException:
+        # (a part of it would be taken for all)
+        path.unlink()
+        raise
 
 
 def _backup(asked: argparse.Namespace) -> int:
