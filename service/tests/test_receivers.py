@@ -1,6 +1,8 @@
 """Receivers' profiles: a stick with culfw, a TCP port, a file, each through the proved line_feed into the spool; and systemd's units."""
 from __future__ import annotations
 
+import functools
+import grp
 import io
 import os
 import pty
@@ -9,18 +11,19 @@ import signal
 import socket
 import threading
 import tty
-from contextlib import suppress
+from contextlib import nullcontext, suppress
 from pathlib import Path
 
 import pytest
 from wmbus_service import receiving
-from wmbus_service.checking import look_at_receiver
+from wmbus_service.checking import UNIT_GROUPS, look_at_receiver
 from wmbus_service.config import Config, Programs, Receiver
 from wmbus_service.receiving import PROFILES, Receiving, feed_of
 from wmbus_service.trouble import Trouble
 
 from .kill import TOP, Child, program
 from .processes import PATIENCE, run, until
+from .test_operation import NOBODY, as_root
 
 # a telegram of examples/gas.rx as each of them prints it
 FRAME = (TOP / "examples" / "gas.rx").read_text().split()[2]
@@ -197,6 +200,30 @@ def test_programs_that_a_receiver_wants(tmp_path: Path, monkeypatch: pytest.Monk
     for command in ("TZ=UTC rtl_sdr", "exec rtl_sdr - 2>/dev/null", "while true; do rtl_sdr 2>&1 | env TZ=UTC rtl_wmbus; done",
                     "(rtl_sdr; rtl_wmbus) | cat", "rtl_sdr -d $(cat serial) -F '' a", "$RADIO -f 868M"):
         look_at_receiver("attic", Receiver(command=command, format="hex"))
+
+
+@as_root
+def test_a_stick_that_the_unit_may_read(tmp_path: Path) -> None:
+    """`check`, which is done as the service's user, takes a stick that the receiver's unit may read by its groups, and no other one."""
+    unit = (TOP / "service/systemd/wmbus-receiver@.service").read_text()
+    assert set(UNIT_GROUPS) == set(unit.split("SupplementaryGroups=")[1].split("\n")[0].split())
+    for path in (tmp_path.parent.parent, tmp_path.parent, tmp_path):
+        path.chmod(0o755)
+    stick = tmp_path / "ttyACM0"
+    stick.touch()
+
+    def look(is_right: bool) -> None:
+        os.setgroups([])
+        os.setgid(NOBODY)
+        os.setuid(NOBODY)
+        with nullcontext() if is_right else pytest.raises(Trouble, match="can't be read"):
+            look_at_receiver("attic", Receiver(profile="cul", device=str(stick)))
+    for group, rights, is_right in (("dialout", 0o660, True), ("dialout", 0o600, False), ("root", 0o660, False)):
+        os.chown(stick, 0, grp.getgrnam(group).gr_gid)
+        stick.chmod(rights)
+        child = Child(tmp_path / "log", functools.partial(look, is_right))
+        until(lambda: not child.is_running())  # noqa: B023
+        assert child.status == 0, (tmp_path / "log").read_text()
 
 
 def test_two_writers_of_a_receiver(tmp_path: Path) -> None:

@@ -1,6 +1,7 @@
 """Whether all that a configuration names is there and can be used, in words."""
 from __future__ import annotations
 
+import grp
 import os
 import shlex
 import shutil
@@ -8,7 +9,7 @@ import sqlite3
 import stat
 import subprocess
 from collections.abc import Callable, Iterator
-from contextlib import closing
+from contextlib import closing, suppress
 from dataclasses import dataclass, replace
 from pathlib import Path
 
@@ -22,6 +23,8 @@ LEAST_ROOM = 256 << 20
 NOBODY = "0" * 16
 # what stands in front of a part of a shell's command
 BETWEEN = set("|;&(")
+# those of wmbus-receiver@.service, by which it reads sticks
+UNIT_GROUPS = ("plugdev", "dialout")
 
 
 @dataclass(frozen=True)
@@ -122,9 +125,24 @@ def look_at_receiver(name: str, told: Receiver) -> None:
             raise Trouble(f"receivers.{name}", f"the program {program} isn't there",
                           "Debian doesn't have it: build it" if program == "rtl_wmbus" else f"apt-get install {program.replace('_', '-')}")
     for path in (told.device, told.file):
-        if path and not os.access(path, os.R_OK):
+        if path and not may_read(Path(path)):
             raise Trouble(f"receivers.{name}", f"{path} isn't there, or can't be read by this user",
                           "plug it in, and add the user to the group of the device (dialout)")
+
+
+def may_read(path: Path) -> bool:
+    """Whether a receiver may read a device or a file: as this user, or as one of the groups that its unit gives it."""
+    if os.access(path, os.R_OK):
+        return True
+    told = path.stat() if path.exists() else None
+    return told is not None and bool(told.st_mode & stat.S_IRGRP) and told.st_gid in radio_groups()
+
+
+def radio_groups() -> Iterator[int]:
+    """The groups of wmbus-receiver@.service."""
+    for name in UNIT_GROUPS:
+        with suppress(KeyError):
+            yield grp.getgrnam(name).gr_gid
 
 
 def programs_in(command: str) -> Iterator[str]:
