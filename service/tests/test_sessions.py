@@ -12,7 +12,7 @@ from pathlib import Path
 from typing import Any
 
 import pytest
-from wmbus_service import events, merging, retention, session, steps, store
+from wmbus_service import events, merging, retention, session, spool, steps, store
 from wmbus_service.commands import cancel_command, put_command, put_key
 from wmbus_service.config import Config, Keep, Mqtt, Programs, Receiver, Ticks
 from wmbus_service.downlinks import send_downlinks, write_downlink
@@ -267,6 +267,20 @@ def test_files_that_went(house: House) -> None:
         house.hear()
     assert len(house.sessions.spools[0].synced) <= 2
     assert len(house.all("select file from source")) <= 2
+
+
+def test_an_empty_file_that_goes_meanwhile(house: House, monkeypatch: pytest.MonkeyPatch) -> None:
+    """A receiver that heard nothing takes its file away, at whichever moment of a session: the others' lines are heard."""
+    gone = house.spool("")
+    house.spool(house.whole(house.meters[0]))
+    place_of = spool.place_of
+
+    def going(*words: Any) -> int:
+        gone.unlink(missing_ok=True)
+        return place_of(*words)
+    monkeypatch.setattr(spool, "place_of", going)
+    house.hear()
+    assert house.all("select counter from reading") == [1]
 
 
 def test_a_long_header_names_another_meter(house: House) -> None:
