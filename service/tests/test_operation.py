@@ -25,8 +25,10 @@ from wmbus_service.ending import Ending
 from wmbus_service.service import Service
 from wmbus_service.trouble import Trouble
 
+import messages
 from . import measure
 from .kill import MEMORY, Child
+from .meters import line_of
 from .processes import PATIENCE, until
 from .stand_in import use_stand_in
 from .test_sessions import NOW, House, house_fixture  # noqa: F401
@@ -348,6 +350,21 @@ def test_retention(house: House) -> None:
     assert house.all("select day, value, exponent, unit from daily order by day") == [
         ("2027-01-15", "3", -3, "m3"), ("2027-01-16", "4", -3, "m3"), ("2027-03-06", "5", -3, "m3")]
     assert not house.all("select 1 from record where reading not in (select id from reading)")
+
+
+@pytest.mark.parametrize("piece", [1, 1000])
+def test_what_flowed_backward_in_a_later_piece(house: House, monkeypatch: pytest.MonkeyPatch, piece: int) -> None:
+    """Of a day the volume stays, and not what flowed backward, also where that one was heard later, and goes later: in a large house each
+    reading of a day goes with others."""
+    monkeypatch.setattr(retention, "PIECE", piece)
+    meter = house.meters[0]
+    for counter, payload in ((1, "0c1306000000"), (2, "0c1307000000"), (3, "0c933c05000000")):
+        text = b"\x2f\x2f" + bytes.fromhex(payload)
+        house.spool(line_of(messages.whole(meter.key, meter.address, counter, text, 0x44, None), 100))
+        house.hear(NOW + counter)
+    while retention.let_go(house.database, Keep(readings=1), NOW + 2 * DAY):
+        pass
+    assert house.all("select value from daily") == ["7"]
 
 
 def test_retention_beside_lines(house: House) -> None:
