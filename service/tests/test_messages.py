@@ -145,6 +145,15 @@ def test_messages_of_any_form(house: House, mosquitto: Mosquitto) -> None:
     served.end()
 
 
+@pytest.mark.parametrize("text", ["null", "true", "[]", "1.5"])
+def test_an_id_that_is_none(house: House, text: str) -> None:
+    """A command under an id that is neither a text nor a number, as a template gives null for what it hasn't, is answered, and not taken:
+    the next such one would be taken for the same."""
+    broker.take_message(Mqtt(), house.database, f"wmbus/command/{house.meters[0].name}", f'{{"id": {text}, "payload": "01"}}'.encode())
+    assert not house.all("select id from command")
+    assert ["error" in json.loads(it) for it in house.all("select payload from publication")] == [True]
+
+
 @pytest.mark.parametrize("topic", ["house", "wmbus/house"])
 def test_a_command_under_an_earlier_topic(house: House, topic: str) -> None:
     """A broker goes on to send what was subscribed under the topic of an earlier configuration (MQTT 3.1.1, 4.1): a command there isn't

@@ -202,10 +202,17 @@ def take_message(told: Mqtt, database: sqlite3.Connection, topic: str, payload: 
     try:
         said = json.loads(payload[:MOST_MESSAGE])
         if kind == "command":
-            put_command(database, str(said["id"]), address, str(said["payload"]), time.time())
+            put_command(database, word_of(said["id"]), address, word_of(said["payload"]), time.time())
         else:
-            cancel_command(database, str(said["id"]), time.time(), publications)
+            cancel_command(database, word_of(said["id"]), time.time(), publications)
     except (ValueError, KeyError, TypeError, RecursionError):
         publications.refuse(address, f'a {kind} is JSON as {{"id": "a1", "payload": "0102"}}')
     except Trouble as fault:
         publications.refuse(address, str(fault))
+
+
+def word_of(said: object) -> str:
+    """A text, or a number as one; what is neither, as null, names nothing."""
+    if isinstance(said, bool) or not isinstance(said, (str, int)):
+        raise TypeError
+    return str(said)
