@@ -349,6 +349,14 @@ def test_lines_of_a_receiver_that_is_no_more(house: House) -> None:
     assert house.all("select counter, receiver from reading") == [(1, "cellar")]
 
 
+def test_lines_of_a_receiver_that_is_new(house: House) -> None:
+    """Who names a further receiver, and starts it beside a service that runs, has its lines heard."""
+    house.hear()
+    house.spool(house.whole(house.meters[0]), "garage")
+    house.hear()
+    assert house.all("select counter, receiver from reading") == [(1, "garage")]
+
+
 def test_ticks(house: House) -> None:
     """A window is closed once its time is over, in front of what is heard later; three tries, and the command has expired."""
     meter = house.meters[0]
