@@ -190,6 +190,31 @@ def test_a_connection_that_is_reset() -> None:
             broker.publish(client, [(number, "wmbus/meter/a", "{}", 1) for number in range(3)])
 
 
+def test_a_slow_way_to_the_broker(monkeypatch: pytest.MonkeyPatch) -> None:
+    """Messages are given up where no answer comes for long, and not where each of many takes its time: else all of them would go out
+    again and again."""
+    import paho.mqtt.client as mqtt
+    monkeypatch.setattr(broker, "PATIENCE", 1.0)
+    with socket.create_server(("127.0.0.1", 0)) as server:
+        def serve() -> None:
+            opened, _ = server.accept()
+            with opened, opened.makefile("rb") as file:
+                file.read(file.read(2)[1])
+                opened.sendall(bytes([0x20, 2, 0, 0]))
+                while head := file.read(2):
+                    # (a PUBLISH at QoS 1: the topic's length, the topic, its number)
+                    body = file.read(head[1])
+                    if head[0] & 0xF0 == 0x30:
+                        time.sleep(0.2)
+                        at = 2 + int.from_bytes(body[:2], "big")
+                        opened.sendall(bytes([0x40, 2]) + body[at:at + 2])
+        threading.Thread(target=serve, daemon=True).start()
+        client = mqtt.Client(client_id="wmbus")
+        broker._connect(Mqtt(port=server.getsockname()[1]), client)
+        broker.publish(client, [(number, "wmbus/meter/a", "{}", 1) for number in range(12)])
+        client.disconnect()
+
+
 def test_a_topic_that_isnt_in_utf_8(house: House, caplog: pytest.LogCaptureFixture) -> None:
     """What a broker passes on under a topic that can be none (MQTT 3.1.1, 1.5.3) is left, and what comes behind it is taken."""
     meter = house.meters[0].name

@@ -12,6 +12,7 @@ import sqlite3
 import ssl
 import threading
 import time
+from collections.abc import Callable
 from pathlib import Path
 from typing import Any
 
@@ -123,7 +124,7 @@ def _connect(told: Mqtt, client: mqtt.Client) -> None:
         raise Lost(str(fault)) from None
     # (else each small message waits for the answer to the one before it)
     client.socket().setsockopt(socket.IPPROTO_TCP, socket.TCP_NODELAY, 1)
-    _until(client, lambda: bool(answers))
+    _until(client, lambda: len(answers), 1)
     if answers[0]:
         raise Lost(f"the broker refuses the connection: {mqtt.connack_string(answers[0])}")
 
@@ -165,7 +166,7 @@ def publish(client: mqtt.Client, rows: list[Row]) -> None:
         # (asked whether such a message is published paho raises a RuntimeError)
         if message.rc != mqtt.MQTT_ERR_SUCCESS:
             raise Lost(mqtt.error_string(message.rc))
-    _until(client, lambda: all(message.is_published() for message in sent))
+    _until(client, lambda: sum(message.is_published() for message in sent), len(sent))
 
 
 def mark_published(database: sqlite3.Connection, rows: list[Row]) -> None:
@@ -173,10 +174,12 @@ def mark_published(database: sqlite3.Connection, rows: list[Row]) -> None:
     database.execute("delete from publication where id <= ?", (rows[-1][0],))
 
 
-def _until(client: mqtt.Client, is_done: Any) -> None:
-    """Waits for the broker."""
-    limit = time.monotonic() + PATIENCE
-    while not is_done():
+def _until(client: mqtt.Client, answered: Callable[[], int], wanted: int) -> None:
+    """Waits for so many answers of the broker, as long as one comes after the other, however slow the way to it is."""
+    limit, before = time.monotonic() + PATIENCE, 0
+    while (count := answered()) < wanted:
+        if count > before:
+            limit, before = time.monotonic() + PATIENCE, count
         _turn(client, IDLE)
         if time.monotonic() > limit:
             raise Lost("the broker doesn't answer")
