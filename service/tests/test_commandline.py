@@ -119,8 +119,8 @@ def test_from_nothing_to_readings(place: Place) -> None:
     assert "no command" in place.fault("command", "--cancel", "a2")
 
 
-@pytest.mark.parametrize("address, own, key", [(f"{ADDRESS}\u200b", OWN, KEY), (ADDRESS, f"\ufeff{OWN}", KEY), (ADDRESS, OWN, f"{KEY}\u200b"),
-                                               (f"{ADDRESS}\udcfc", OWN, KEY)])
+@pytest.mark.parametrize("address, own, key", [(f"{ADDRESS}\u200b", OWN, KEY), (ADDRESS, f"\ufeff{OWN}", KEY),
+                                               (ADDRESS, OWN, f"{KEY}\u200b"), (f"{ADDRESS}\udcfc", OWN, KEY)])
 def test_signs_that_arent_seen(place: Place, address: str, own: str, key: str) -> None:
     """What was copied out of a document with a sign that nobody sees is refused in words, and no key is told."""
     said = place.fault("add", address, "--own", own, given=key)
@@ -405,7 +405,8 @@ def test_a_key_in_another_encoding(place: Place, language: str) -> None:
     """A key or a password that isn't in UTF-8 is refused in words, and nothing of it is told."""
     words = [PYTHON, "-m", "wmbus_service", "--config", str(place.config), "add", ADDRESS, "--own", OWN]
     environment = {**os.environ, "LC_ALL": language, "PYTHONPATH": str(TOP / "service")}
-    done = subprocess.run(words, input=f"{KEY}\xfc\n".encode("latin-1"), env=environment, capture_output=True, timeout=PATIENCE, check=False)
+    done = subprocess.run(words, input=f"{KEY}\xfc\n".encode("latin-1"), env=environment, capture_output=True, timeout=PATIENCE,
+                          check=False)
     assert (done.returncode, done.stderr.count(b"\n")) == (1, 1) and b"UTF-8" in done.stderr and KEY.encode() not in done.stderr
 
 

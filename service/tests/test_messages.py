@@ -1,6 +1,7 @@
 """MQTT against a real broker, Home Assistant's discovery, metrics, and where keys stand."""
 from __future__ import annotations
 
+import functools
 import json
 import os
 import shutil
@@ -293,7 +294,7 @@ def test_sensors_under_another_topic(house: House, tmp_path: Path) -> None:
     for number, (topic, discovery) in enumerate((("wmbus", "homeassistant"),) * 2 + (("house", "homeassistant"), ("house", "ha")), 1):
         config = replace(house.config, mqtt=Mqtt(port=free_port(), topic=topic, discovery=discovery))
         house.spool(house.whole(house.meters[0]))
-        child = Child(tmp_path / f"log {number}", lambda config=config: service.run(config))  # type: ignore[misc]
+        child = Child(tmp_path / f"log {number}", functools.partial(service.run, config))
         with closing(store.open_store(house.config.database)) as database:
             until(lambda: database.execute("select count(*) from reading").fetchone() == (number,))  # noqa: B023
             assert child.end(signal.SIGTERM) == 0
@@ -360,7 +361,7 @@ def test_place_where_no_broker_can_be(house: House, told: Mqtt, caplog: pytest.L
 def test_names_under_which_nothing_goes(house: House, mosquitto: Mosquitto, name: str, text: str, caplog: pytest.LogCaptureFixture) -> None:
     """A topic with signs of a filter (MQTT 3.1.1, 3.3.2.1) and an empty client name (3.1.3.1) are named by `check` and in the log, and
     what connects tries on."""
-    told = replace(Mqtt(port=mosquitto.port), **{name: text})  # type: ignore[arg-type]
+    told = replace(Mqtt(port=mosquitto.port), **{name: text})
     with pytest.raises(Trouble, match=f"mqtt.{name}: "):
         broker.try_connection(told)
     house.database.execute("insert into publication (topic, payload, retain) values (?, '{}', 1)", (f"{told.discovery}/sensor/a",))

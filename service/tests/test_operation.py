@@ -414,7 +414,8 @@ def test_what_retention_costs(house: House) -> None:
 def test_what_lines_cost_that_stay(house: House) -> None:
     """The same is so of lines: where none or few of them go, those that stay aren't looked through."""
     rows = [(NOW + number,) for number in range(40_000)]
-    house.database.executemany("insert into line (receiver, text, made) values ('attic', 'A 1 00', ?)", rows)
+    with store.transaction(house.database):
+        house.database.executemany("insert into line (receiver, text, made) values ('attic', 'A 1 00', ?)", rows)
     steps: list[None] = []
     for gone in (0, 10):
         house.database.set_progress_handler(lambda: steps.append(None), 100)
@@ -426,7 +427,8 @@ def test_what_lines_cost_that_stay(house: House) -> None:
 def test_lines_and_a_wrong_clock(house: House) -> None:
     """Lines go in time also behind some that came while the clock was years ahead."""
     rows = [(NOW + 5000 * DAY,)] * 1500 + [(NOW + day * DAY,) for day in range(5) for _ in range(700)]
-    house.database.executemany("insert into line (receiver, text, made) values ('attic', 'A 1 00', ?)", rows)
+    with store.transaction(house.database):
+        house.database.executemany("insert into line (receiver, text, made) values ('attic', 'A 1 00', ?)", rows)
     while retention.let_go(house.database, Keep(), NOW + 9 * DAY + 1):
         pass
     assert house.all("select count(*) from line") == [1500 + 2 * 700]

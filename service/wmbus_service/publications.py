@@ -63,7 +63,7 @@ class Publications:
 
 
 def announce_anew(mqtt: Mqtt, database: sqlite3.Connection) -> None:
-    """Where topics aren't those of the last start sensors are told of once more: those that were told of look where nothing comes any more."""
+    """Where topics aren't those of the last start sensors are told of once more: those of before look where nothing comes any more."""
     with transaction(database):
         told = json.dumps([mqtt.topic, mqtt.discovery])
         if setting(database, "topics") != told:

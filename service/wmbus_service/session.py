@@ -52,7 +52,7 @@ class Sessions:
         return len(batch)
 
     def _look_for_receivers(self) -> None:
-        """A receiver that has another name now, or is no more, may have left lines, and one that came into the configuration since the start
+        """A receiver that has another name now, or is no more, may have left lines, and one that came into the configuration since then
         has some."""
         found = {path.name.split(".")[0] for path in self.config.spool.glob("*.lines")}
         self.spools += [Spool(self.config.spool, name) for name in sorted(found - {spool.receiver for spool in self.spools})]
