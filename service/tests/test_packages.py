@@ -95,3 +95,13 @@ def test_a_removal(tmp_path: Path, is_there: bool) -> None:
     script.write_text(PRERM.read_text(encoding="utf-8").replace("/usr/lib/wmbus", str(folder)).replace("/run/systemd/system", "/nowhere"))
     run(["sh", script, "remove"])
     assert not list(folder.rglob("__pycache__"))
+
+
+def test_an_installation_under_a_strict_umask(tmp_path: Path) -> None:
+    """Whatever the umask of who installs is, as 077 of root's on many machines, the service's user can read all and start the programs."""
+    run(["sh", "-c", f"umask 077; exec sh {TOP}/service/install {tmp_path}/root"])
+    found = list((tmp_path / "root").rglob("*"))
+    assert len(found) > 100
+    for path in found:
+        wanted = 0o755 if path.is_dir() or os.access(path, os.X_OK) else 0o644
+        assert path.stat().st_mode & 0o777 == wanted, path
