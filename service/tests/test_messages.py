@@ -146,6 +146,18 @@ def test_messages_of_any_form(house: House, mosquitto: Mosquitto) -> None:
     served.end()
 
 
+def test_a_cancellation_under_another_meter(house: House) -> None:
+    """A command is cancelled under its own meter alone, as on the page: a broker may let somebody write for one meter and for no other."""
+    meter, other = (it.name for it in house.meters[:2])
+    put_command(house.database, "a", meter, "01", time.time())
+    for address, state in ((other, "waiting"), (meter.upper(), "cancelled")):
+        broker.take_message(Mqtt(), house.database, f"wmbus/cancel/{address}", b'{"id": "a"}')
+        assert house.all("select state from command") == [state]
+    told = house.all("select topic, payload from publication order by id")
+    assert told[0][0] == f"wmbus/commands/{other}" and "error" in json.loads(told[0][1])
+    assert told[1][0] == f"wmbus/commands/{meter}" and json.loads(told[1][1])["state"] == "cancelled"
+
+
 @pytest.mark.parametrize("text", ["null", "true", "[]", "1.5"])
 def test_an_id_that_is_none(house: House, text: str) -> None:
     """A command under an id that is neither a text nor a number, as a template gives null for what it hasn't, is answered, and not taken:

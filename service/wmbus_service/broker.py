@@ -207,11 +207,18 @@ def take_message(told: Mqtt, database: sqlite3.Connection, topic: str, payload: 
         if kind == "command":
             put_command(database, word_of(said["id"]), address, word_of(said["payload"]), time.time())
         else:
-            cancel_command(database, word_of(said["id"]), time.time(), publications)
+            cancel_of(database, address, word_of(said["id"]), publications)
     except (ValueError, KeyError, TypeError, RecursionError):
         publications.refuse(address, f'a {kind} is JSON as {{"id": "a1", "payload": "0102"}}')
     except Trouble as fault:
         publications.refuse(address, str(fault))
+
+
+def cancel_of(database: sqlite3.Connection, address: str, ident: str, publications: Publications) -> None:
+    """Cancels a command of the meter that the topic names: who may write there may not write for another one."""
+    if not database.execute("select 1 from command where id = ? and address = ?", (ident, address.lower())).fetchone():
+        raise Trouble(f"command {ident}", f"the meter {address} has no command with this id")
+    cancel_command(database, ident, time.time(), publications)
 
 
 def word_of(said: object) -> str:
