@@ -370,6 +370,15 @@ def test_check_of_a_database_that_isnt_whole(place: Place) -> None:
     assert "wrong: meters: the database: " in said and "last backup" in said and "receivers.attic: it can't send" in said
 
 
+def test_check_of_programs(place: Place) -> None:
+    """Each program that the configuration names is looked for, also those without which the service does the same itself."""
+    for name in ("line_merge", "state_raise", "meter_name"):
+        lines = [line for line in place.config.read_text().splitlines() if not line.startswith(name)]
+        lines.insert(lines.index("[programs]") + 1, f'{name} = "/nonexistent/{name} -x"')
+        place.config.write_text("\n".join(lines))
+        assert f"/nonexistent/{name}: there is no such program" in place.fault("check")
+
+
 def test_check_of_a_large_roster(place: Place) -> None:
     """A roster of more meters than a session's state has is right, as it is for the service, which takes it in pieces."""
     roster = place.folder / "meters.roster"

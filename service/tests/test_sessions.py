@@ -337,6 +337,9 @@ def test_a_program_that_fails_to_merge(house: House) -> None:
     for _ in range(3):
         with pytest.raises(Trouble, match="false: .*status 1"):
             house.sessions.next(NOW)
+    house.sessions.config = replace(house.config, programs=Programs(line_merge="/nonexistent/line_merge"))
+    with pytest.raises(Trouble, match="/nonexistent/line_merge: .*can't be started"):
+        house.sessions.next(NOW)
     house.sessions.config = config
     house.hear()
     assert house.all("select counter from reading") == [1, 2]

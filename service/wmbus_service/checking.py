@@ -49,7 +49,9 @@ def check(config: Config) -> Iterator[Finding]:
         yield tried(f"database {config.database}", lambda: store.open_store(config.database).close())
     found = tried(f"program {config.programs.steps}", lambda: look_at_steps(config))
     yield replace(found, note=unproved_words(config.programs.steps))
-    yield tried(f"program {config.programs.line_feed}", lambda: look_at_program(config.programs.line_feed))
+    programs = config.programs
+    for command in filter(None, (programs.line_feed, programs.meter_name, programs.line_merge, programs.state_raise)):
+        yield tried(f"program {command}", lambda command=command: look_at_program(command))  # type: ignore[misc]
     if config.roster:
         yield tried(f"roster {config.roster}", lambda: look_at_roster(config))
     yield tried("meters", lambda: look_at_meters(config))
