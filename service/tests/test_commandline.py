@@ -419,6 +419,13 @@ def test_a_key_in_another_encoding(place: Place, language: str) -> None:
     assert (done.returncode, done.stderr.count(b"\n")) == (1, 1) and b"UTF-8" in done.stderr and KEY.encode() not in done.stderr
 
 
+def test_a_configuration_of_windows(place: Place) -> None:
+    """A configuration that was edited on Windows, with a mark in front and carriage returns, is read as it is meant."""
+    place.said("add", ADDRESS, "--own", OWN, given=KEY)
+    place.config.write_bytes(b"\xef\xbb\xbf" + place.config.read_bytes().replace(b"\n", b"\r\n"))
+    assert f"meter {ADDRESS}" in place.said("status")
+
+
 def test_words(place: Place) -> None:
     """Faulty words end with status 2, and each command has its help."""
     assert place.run("rum").status == 2

@@ -201,7 +201,8 @@ def _look_at_program(path: Path, known: dataclasses.Field[str], command: str) ->
 def read_settings(path: Path, wanted: Any, document: str) -> object:
     """The settings of a file, which the document describes, as a value of the type that is wanted."""
     try:
-        told = tomllib.loads(path.read_text(encoding="utf-8"))
+        # (editors on Windows put a mark in front)
+        told = tomllib.loads(path.read_text(encoding="utf-8-sig"))
     except OSError as fault:
         raise Trouble(path, f"the configuration can't be read: {fault.strerror}",
                       "name it with --config, or give this user the right to read it") from None
