@@ -12,7 +12,7 @@ import threading
 import time
 import urllib.request
 from collections.abc import Iterator
-from contextlib import closing
+from contextlib import closing, suppress
 from dataclasses import replace
 from pathlib import Path
 
@@ -226,6 +226,29 @@ def test_a_slow_way_to_the_broker(monkeypatch: pytest.MonkeyPatch) -> None:
         broker._connect(Mqtt(port=server.getsockname()[1]), client)
         broker.publish(client, [(number, "wmbus/meter/a", "{}", 1) for number in range(12)])
         client.disconnect()
+
+
+def test_a_broker_that_lets_nothing_be_subscribed(house: House, caplog: pytest.LogCaptureFixture) -> None:
+    """Where the broker refuses a subscription (MQTT 3.1.1, 3.9.3), as its rights may have it, that is said: no command would come."""
+    with socket.create_server(("127.0.0.1", 0)) as server:
+        def serve() -> None:
+            opened, _ = server.accept()
+            with opened, opened.makefile("rb") as file:
+                file.read(file.read(2)[1])
+                opened.sendall(bytes([0x20, 2, 0, 0]))
+                while head := file.read(2):
+                    body = file.read(head[1])
+                    if head[0] & 0xF0 == 0x80:
+                        opened.sendall(bytes([0x90, 4]) + body[:2] + bytes([0x80, 0x80]))
+        threading.Thread(target=serve, daemon=True).start()
+        ending = Ending()
+        connecting = broker.Broker(house.config, Mqtt(port=server.getsockname()[1]), ending)
+        connecting.start()
+        with suppress(AssertionError):
+            until(lambda: "subscribe" in caplog.text, 5)
+        ending.set()
+        connecting.join(PATIENCE)
+    assert "no commands come" in caplog.text
 
 
 def test_a_topic_that_isnt_in_utf_8(house: House, caplog: pytest.LogCaptureFixture) -> None:

@@ -30,6 +30,8 @@ log = logging.getLogger("wmbus")
 AT_ONCE, PATIENCE, IDLE = 100, 20.0, 0.2
 LEAST_PAUSE, MOST_PAUSE = 0.5, 30.0
 MOST_MESSAGE = 10_000
+# what is answered to a subscription that isn't taken (MQTT 3.1.1, 3.9.3)
+REFUSED = 0x80
 # signs of an address that are told again
 MOST_ADDRESS = 64
 Row = tuple[int, str, str, int]
@@ -78,7 +80,7 @@ class Broker(threading.Thread):
             take_message(told, database, topic, message.payload)
 
         client = mqtt.Client(client_id=told.client, clean_session=False)
-        client.on_message = heard
+        client.on_message, client.on_subscribe = heard, subscribed
         client.will_set(f"{told.topic}/status", "offline", 1, True)
         _connect(told, client)
         client.subscribe([(f"{told.topic}/command/+", 1), (f"{told.topic}/cancel/+", 1)])
@@ -104,6 +106,12 @@ class Broker(threading.Thread):
             opened = client.socket()
             if isinstance(opened, socket.socket):
                 opened.close()
+
+
+def subscribed(_client: Any, _data: Any, _number: int, granted: tuple[int, ...]) -> None:
+    """Says so where the broker lets no commands come."""
+    if any(it >= REFUSED for it in granted):
+        log.warning("MQTT: the broker doesn't let this user subscribe, and no commands come: look at its rights")
 
 
 def _connect(told: Mqtt, client: mqtt.Client) -> None:
