@@ -11,11 +11,6 @@ pub(crate) fn assert_bytes(rt: &impl Abort, bytes: &[u8], wanted: &str, name: &s
     assert_eq!(rt; bytes, wanted.as_bytes(), "{name}");
 }
 
-/// Asserts that a text is this one.
-pub(crate) fn assert_text(rt: &impl Abort, text: &str, wanted: &str, name: &str) {
-    assert_eq!(rt; text, wanted, "{name}");
-}
-
 /// Asserts that a value is shown so.
 pub(crate) fn assert_shown<T: Debug>(
     rt: &impl Abort,
@@ -25,7 +20,7 @@ pub(crate) fn assert_shown<T: Debug>(
     name: &str,
 ) {
     let shown = format!(in alloc; "{value:?}").expect(rt, NO_MEMORY);
-    assert_text(rt, shown.as_str(), wanted, name);
+    assert_bytes(rt, shown.as_bytes(), wanted, name);
 }
 
 /// The bytes of a text.

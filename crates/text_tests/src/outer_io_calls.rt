@@ -1,20 +1,12 @@
-//! The objects in memory and the adapters over std, each called as its users call it.
-ghost use Rattle.std.specs.Prelude.{◌<◌};
-
-use crate::asserts::{NO_MEMORY, assert_bytes, bytes_of, call};
-use outer_io::{
-    Failed, MemorySink, MemorySource, ReadError, Sink, Source, StdSink, StdSource, read_all,
-    write_all,
-};
-use std::alloc::Global;
-use std::fs::{File, remove_file};
+//! The objects in memory, of which no program makes one: their calls fail as they are listed.
+use crate::asserts::{assert_bytes, assert_shown, bytes_of, call};
+use outer_io::{Failed, MemorySink, MemorySource, Sink, Source, write_all};
 use std::process::Abort;
-use std::test::Fail;
 
 // Asserts what a read into these bytes answers, and what they then have.
-fn assert_read<S: Source>(
+fn assert_read(
     rt: &impl Abort,
-    source: &mut S,
+    source: &mut MemorySource,
     into: &mut [u8; 4],
     wanted: Result<usize, Failed>,
     bytes: &str,
@@ -24,23 +16,23 @@ fn assert_read<S: Source>(
     assert_bytes(rt, into, bytes, "read");
 }
 
-// Asserts what writing all of a text answers.
-fn assert_write<K: Sink>(rt: &impl Abort, sink: &mut K, text: &str, wanted: Result<(), Failed>) {
-    let answer = write_all(sink, text.as_bytes());
-    assert_eq!(rt; answer, wanted, "{text}");
-}
-
 #[test]
 fn listed_reads_fail_and_the_others_give_all_there_is_room_for(rt: HostRuntime) {
     let alloc = rt.alloc();
     let mut source = MemorySource::new(bytes_of(&rt, alloc, "abcdef"), call(&rt, alloc, 2));
     let mut steady = MemorySource::steady(alloc, bytes_of(&rt, alloc, "g"));
+    let mut pieces = MemorySource::pieces(bytes_of(&rt, alloc, "hijkl"), 2, call(&rt, alloc, 2));
     let mut into = [b' '; 4];
     assert_read(&rt, &mut source, &mut into, Ok(4), "abcd");
     assert_read(&rt, &mut source, &mut into, Err(Failed), "abcd");
     assert_read(&rt, &mut source, &mut into, Ok(2), "efcd");
     assert_read(&rt, &mut source, &mut into, Ok(0), "efcd");
     assert_read(&rt, &mut steady, &mut into, Ok(1), "gfcd");
+    assert_read(&rt, &mut pieces, &mut into, Ok(2), "hicd");
+    assert_read(&rt, &mut pieces, &mut into, Err(Failed), "hicd");
+    assert_read(&rt, &mut pieces, &mut into, Ok(2), "jkcd");
+    assert_read(&rt, &mut pieces, &mut into, Ok(1), "lkcd");
+    assert_read(&rt, &mut pieces, &mut into, Ok(0), "lkcd");
 }
 
 #[test]
@@ -48,128 +40,23 @@ fn listed_writes_fail_and_the_others_take_all(rt: HostRuntime) {
     let alloc = rt.alloc();
     let mut sink = MemorySink::new(alloc, call(&rt, alloc, 2));
     let mut steady = MemorySink::steady(alloc);
-    assert_write(&rt, &mut sink, "abc", Ok(()));
-    assert_write(&rt, &mut sink, "def", Err(Failed));
-    assert_write(&rt, &mut sink, "ghi", Ok(()));
-    assert_write(&rt, &mut steady, "jk", Ok(()));
+    let mut pieces = MemorySink::pieces(alloc, 2, call(&rt, alloc, 3));
+    let answers = (
+        write_all(&mut sink, b"abc"),
+        write_all(&mut sink, b"def"),
+        write_all(&mut sink, b"ghi"),
+        write_all(&mut steady, b"jk"),
+        write_all(&mut pieces, b"abcde"),
+    );
+    assert_shown(
+        &rt,
+        alloc,
+        &answers,
+        "(Ok(()), Err(Failed), Ok(()), Ok(()), Err(Failed))",
+        "writes",
+    );
     assert_bytes(&rt, sink.bytes(), "abcghi", "listed");
     assert_bytes(&rt, steady.bytes(), "jk", "steady");
-}
-
-#[test]
-fn pieces_are_no_larger_than_their_size(rt: HostRuntime) {
-    let alloc = rt.alloc();
-    let mut source = MemorySource::pieces(bytes_of(&rt, alloc, "abcde"), 2, call(&rt, alloc, 2));
-    let mut sink = MemorySink::pieces(alloc, 2, call(&rt, alloc, 3));
-    let mut into = [b' '; 4];
-    assert_read(&rt, &mut source, &mut into, Ok(2), "ab  ");
-    assert_read(&rt, &mut source, &mut into, Err(Failed), "ab  ");
-    assert_read(&rt, &mut source, &mut into, Ok(2), "cd  ");
-    assert_read(&rt, &mut source, &mut into, Ok(1), "ed  ");
-    assert_read(&rt, &mut source, &mut into, Ok(0), "ed  ");
-    assert_write(&rt, &mut sink, "abcde", Err(Failed));
-    assert_bytes(&rt, sink.bytes(), "abcd", "pieces");
-    assert_eq!(rt; sink.write(b"efg"), Ok(2));
-}
-
-// Asserts that bytes are read back whole from a source that gives them in pieces of this size.
-fn assert_read_back(rt: &impl Abort, alloc: Global, bytes: &[u8], size: usize)
-    requires { 0 < size }
-{
-    let given = bytes.to_vec(alloc).expect(rt, NO_MEMORY);
-    let mut source = MemorySource::pieces(given, size, Vec::new(alloc));
-    let read = read_all(alloc, &mut source, bytes.len()).expect(rt, "unread");
-    assert!(rt; read.as_slice() == bytes);
-}
-
-#[test]
-fn a_source_is_read_to_its_end_and_a_sink_grows_as_it_needs(rt: HostRuntime) {
-    let mut sink = MemorySink::steady(rt.alloc());
-    for _ in 0..1_000 {
-        let answer = write_all(&mut sink, &[0xa5; 1_000]);
-        assert!(rt; answer.is_ok());
-    }
-    assert_eq!(rt; sink.bytes().len(), 1_000_000);
-    assert_read_back(&rt, rt.alloc(), sink.bytes(), 997);
-}
-
-// Asserts what reading all of a text is answered, at most four bytes, where this read fails.
-fn assert_read_four(
-    rt: &impl Abort,
-    alloc: Global,
-    text: &str,
-    fail: u64,
-    wanted: Result<usize, ReadError>,
-) {
-    let mut source = MemorySource::pieces(bytes_of(rt, alloc, text), 3, call(rt, alloc, fail));
-    let answer = read_all(alloc, &mut source, 4).map(|bytes| bytes.len());
-    assert_eq!(rt; answer, wanted, "{text}");
-}
-
-#[test]
-fn more_bytes_than_asked_for_and_a_failed_read_are_told_apart(rt: HostRuntime) {
-    assert_read_four(&rt, rt.alloc(), "abcd", 0, Ok(4));
-    assert_read_four(&rt, rt.alloc(), "abcde", 0, Err(ReadError::TooMany));
-    assert_read_four(&rt, rt.alloc(), "abcd", 3, Err(ReadError::Failed));
-}
-
-// What the adapters answer over a file of this name, one by one.
-fn over_file(rt: &HostRuntime, name: &str) -> Result<[Result<usize, Failed>; 6], Fail> {
-    let mut sink = StdSink::file(File::create(rt, name)?);
-    let written = sink.write(b"abc");
-    drop(sink);
-    let mut source = StdSource::file(File::open(rt, name)?);
-    let mut into = [0; 8];
-    let read = source.read(&mut into);
-    let same = if &into[..3] == b"abc".as_slice() {
-        Ok(3)
-    } else {
-        Err(Failed)
-    };
-    let at_end = source.read(&mut into);
-    let unwritable = StdSink::file(File::open(rt, name)?).write(b"abc");
-    let unreadable = StdSource::file(File::create(rt, name)?).read(&mut into);
-    Ok([written, read, same, at_end, unwritable, unreadable])
-}
-
-#[test]
-fn adapters_write_and_read_files(rt: HostRuntime) -> Result<(), Fail> {
-    let name = "outer_io_adapters.tmp";
-    let answers = over_file(&rt, name);
-    let removed = remove_file(&rt, name);
-    assert_eq!(rt;
-        answers?,
-        [Ok(3), Ok(3), Ok(3), Ok(0), Err(Failed), Err(Failed)]
-    );
-    removed?;
-    Ok(())
-}
-
-#[test]
-fn a_write_to_a_full_file_fails(rt: HostRuntime) -> Result<(), Fail> {
-    let mut full = StdSink::file(File::create(&rt, "/dev/full")?);
-    assert_eq!(rt; write_all(&mut full, b"abc"), Err(Failed));
-    Ok(())
-}
-
-#[test]
-fn standard_streams_and_nothing_take_bytes(rt: HostRuntime) {
-    assert_eq!(rt;
-        write_all(&mut StdSink::standard(rt.stdout()), b"abc\n"),
-        Ok(())
-    );
-    assert_eq!(rt; write_all(&mut StdSink::nothing(), b"abc"), Ok(()));
-    assert_eq!(rt; StdSource::nothing().read(&mut [0; 8]), Ok(0));
-    let _source = StdSource::standard(rt.stdin());
-}
-
-// Takes a value as a thread that is started with it does.
-fn send<T: Send + Drop>(_value: T) {}
-
-#[test]
-fn sources_and_sinks_go_to_threads(rt: HostRuntime) {
-    send(MemorySource::steady(rt.alloc(), Vec::new(rt.alloc())));
-    send(MemorySink::steady(rt.alloc()));
-    send(StdSource::nothing());
-    send(StdSink::nothing());
+    assert_bytes(&rt, pieces.bytes(), "abcd", "pieces");
+    assert_eq!(rt; pieces.write(b"efg"), Ok(2));
 }
