@@ -1,4 +1,5 @@
-// Key, message and CMAC, a row each: first the examples of RFC 4493 (section 4), and behind them 73 that another implementation made; `-` stands for no byte.
+// Key, message and CMAC, a row each: first the examples of RFC 4493 (section 4), and behind them 73 that another implementation made;
+// `-` stands for no byte.
 pub const MACS: &str = "2b7e151628aed2a6abf7158809cf4f3c - bb1d6929e95937287fa37d129b756746
 2b7e151628aed2a6abf7158809cf4f3c 6bc1bee22e409f96e93d7e117393172a 070a16b46b4d4144f79bdd9dd04a287c
 2b7e151628aed2a6abf7158809cf4f3c 6bc1bee22e409f96e93d7e117393172aae2d8a571e03ac9c9eb76fac45af8e5130c81c46a35ce411 dfa66747de9ae63030ca32611497c827
