@@ -36,7 +36,7 @@ import tempfile
 from dataclasses import dataclass, field
 
 from readings.programs import path
-from readings.same_lines import put_heard
+from readings.same_lines import find_same, put_heard
 from readings.schema import NoDatabase, empty_records, ended, is_earlier, open_database
 
 # a report is handed to reading_list in pieces of about so many bytes, so that their records fit into memory
@@ -290,15 +290,18 @@ def reading_list():
 
 def listed(program, text):
     """What a program lists of a text: its exit status, its lines, and what it says of them. Only one of them is a pipe, so none waits for another."""
-    with tempfile.TemporaryFile() as file, tempfile.TemporaryFile() as errors:
-        file.write(text)
-        file.seek(0)
-        try:
-            ran = subprocess.run([program, "/dev/stdin"], stdin=file, stdout=subprocess.PIPE, stderr=errors, check=False)
-        except OSError as error:
-            raise Unkept(f"can't start {program}: {error.strerror}") from None
-        errors.seek(0)
-        return ran.returncode, ran.stdout, errors.read().decode(errors="replace")
+    try:
+        with tempfile.TemporaryFile() as file, tempfile.TemporaryFile() as errors:
+            file.write(text)
+            file.seek(0)
+            try:
+                ran = subprocess.run([program, "/dev/stdin"], stdin=file, stdout=subprocess.PIPE, stderr=errors, check=False)
+            except OSError as error:
+                raise Unkept(f"can't start {program}: {error.strerror}") from None
+            errors.seek(0)
+            return ran.returncode, ran.stdout, errors.read().decode(errors="replace")
+    except OSError as error:
+        raise Unkept(f"no temporary file can be written for it: {error.strerror}") from None
 
 
 def records_of(program, name, lines):
@@ -439,12 +442,17 @@ def put_report(database, program, name, digest, lines):
     if database.execute("SELECT count(*) FROM report WHERE sha256 = ?", (digest,)).fetchone()[0]:
         return "was kept before"
     report = read_report(lines)
-    place = os.path.realpath(name)
+    # (a name may have bytes that are no text in UTF-8)
+    place = os.path.realpath(name).encode(errors="backslashreplace").decode()
+    left = database.execute("SELECT report FROM covered JOIN report ON id = by WHERE name = ?", (place,)).fetchall()
     database.execute("DELETE FROM report WHERE name = ?", (place,))
     now = datetime.datetime.now(datetime.timezone.utc).strftime("%Y-%m-%dT%H:%M:%SZ")
     number = database.execute("INSERT INTO report (name, sha256, kept) VALUES (?, ?, ?)", (place, digest, now)).lastrowid
     put_state(database, number, report)
     put_heard(database, number, report.heard)
+    # (another one may cover what the report in this one's place covered)
+    for covered, in left:
+        find_same(database, covered)
     new = put_readings(database, report, Records(records_of(program, name, lines)))
     return f"{sum(len(it.stored) for it in report.meters)} readings, {new} of them new"
 
@@ -472,7 +480,7 @@ def main():
     if words == ["--help"]:
         print(__doc__)
         return 0
-    if len(words) < 2 or words[0].startswith("-"):
+    if len(words) < 2 or not words[0] or words[0].startswith("-"):
         print("keep_readings: give a database, and reports behind it; --help says more", file=sys.stderr)
         return 2
     try:

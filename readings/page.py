@@ -173,10 +173,13 @@ class Kept:
             receiver.last = moment if receiver.last is None else max(moment, receiver.last)
             if meter.last is None or moment >= meter.last:
                 meter.last, meter.counter = moment, counter
-        for number, register, value, unset, kind in self.database.execute("SELECT reading, register, value, unset, type FROM record"):
+        query = "SELECT reading, register, value, unset, type FROM record ORDER BY reading, place"
+        for number, register, value, unset, kind in self.database.execute(query):
             if number in of_reading:
                 series, moment = of_reading[number]
-                series[register].append((moment, number, shown_value(value, unset, kind)))
+                # (of a register that is twice in a reading the first value counts)
+                if not series[register] or series[register][-1][1] != number:
+                    series[register].append((moment, number, shown_value(value, unset, kind)))
         for meter in self.meters.values():
             for points in meter.series.values():
                 points.sort()
@@ -186,7 +189,7 @@ class Kept:
         sent = {}
         for reading in {points[-1][1] for points in meter.series.values()}:
             for place, register, raw in self.database.execute("SELECT place, register, raw FROM record WHERE reading = ? ORDER BY place", (reading,)):
-                sent[reading, register] = place, raw
+                sent.setdefault((reading, register), (place, raw))
         for register, points in meter.series.items():
             moment, reading, value = points[-1]
             place, raw = sent[reading, register]
@@ -581,9 +584,11 @@ def write_whole(path, texts):
         with open(part, "w", encoding="utf-8") as file:
             file.writelines(texts)
         os.replace(part, path)
-    except BaseException:
+    except BaseException as fault:
         if os.path.exists(part):
             os.remove(part)
+        if isinstance(fault, OSError) and fault.filename == part:
+            fault.filename = path
         raise
 
 

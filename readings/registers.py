@@ -51,7 +51,8 @@ class Register:
         return ", ".join(part for part in (self.name, self.of_what) if part)
 
     def is_main(self):
-        return not self.place() and not self.words()
+        """Whether it is what its quantity's name says; one whose modifiers no words tell may be anything else."""
+        return not self.place() and not self.words() and (not self.modifiers or bool(self.qualifiers))
 
     @property
     def rank(self):
@@ -102,8 +103,9 @@ def thinned(points):
 
 def line_of(moments, numbers):
     """The points of a line over 600 by 120; where all are of one moment they stand side by side."""
-    shown = thinned(list(zip(moments if moments[-1] > moments[0] else range(len(numbers)), numbers)))
+    places = moments if moments[-1] > moments[0] else range(len(numbers))
+    shown = thinned(list(zip(places, numbers)))
     low, height = min(numbers), max(numbers) - min(numbers)
-    begin, across = shown[0][0], 600 / (shown[-1][0] - shown[0][0])
+    begin, across = places[0], 600 / (places[-1] - places[0])
     base, up = (110.5, 100 / height) if height > 0 else (60, 0)
     return " ".join([f"{int((x - begin) * across)},{int(base - (y - low) * up)}" for x, y in shown])

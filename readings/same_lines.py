@@ -35,20 +35,36 @@ def covers(one, other):
     return all(any(are_same(steps, more) for more in one) for steps in other)
 
 
+def firsts_of(steps):
+    """Of each meter its first step: the line and the address, in the order of the lines."""
+    found = {}
+    for line, address, _ in sorted(steps):
+        found.setdefault(address, f"{line} {address}")
+    return "\n".join(found.values())
+
+
 def put_heard(database, number, heard):
     """Puts the steps of a report's receivers, and finds the reports that it covers, or one that covers it."""
-    before = database.execute("SELECT report, first FROM heard").fetchall()
-    firsts = {receiver: " ".join(map(str, min(steps)[:2])) for receiver, steps in heard.items()}
-    database.executemany("INSERT INTO heard VALUES (?, ?, ?, ?)", [(number, receiver, firsts[receiver], packed(steps)) for receiver, steps in heard.items()])
+    rows = [(number, receiver, firsts_of(steps), packed(steps)) for receiver, steps in heard.items()]
+    database.executemany("INSERT INTO heard VALUES (?, ?, ?, ?)", rows)
+    find_same(database, number)
+
+
+def find_same(database, number):
+    """Finds the reports that a report covers, or one that covers it."""
     own = heard_of(database, number)
-    # only these can be of the same lines
-    near = {report for report, first in before if any(first in steps for steps in own)}
+    begins = ["\n" + text.partition("\n")[0] + "\n" for text, in database.execute("SELECT first FROM heard WHERE report = ?", (number,))]
+    near = set()
+    for report, text in database.execute("SELECT report, first FROM heard WHERE report <> ?", (number,)):
+        # only these can be of the same lines
+        if any(text.partition("\n")[0] in steps for steps in own) or any(begin in f"\n{text}\n" for begin in begins):
+            near.add(report)
     for report in sorted(near):
-        steps = heard_of(database, report)
-        if covers(own, steps):
-            database.execute("INSERT OR REPLACE INTO covered VALUES (?, ?)", (report, number))
-        elif covers(steps, own):
-            database.execute("INSERT OR REPLACE INTO covered VALUES (?, ?)", (number, report))
+        (earlier, some), (later, more) = sorted([(report, heard_of(database, report)), (number, own)], key=lambda it: it[0])
+        if covers(more, some):
+            database.execute("INSERT OR REPLACE INTO covered VALUES (?, ?)", (earlier, later))
+        elif covers(some, more):
+            database.execute("INSERT OR REPLACE INTO covered VALUES (?, ?)", (later, earlier))
 
 
 def heard_of(database, number):

@@ -120,7 +120,7 @@ SAME_LINES = """
 CREATE TABLE IF NOT EXISTS heard (
     report INTEGER NOT NULL REFERENCES report (id) ON DELETE CASCADE,
     receiver INTEGER NOT NULL,
-    first TEXT NOT NULL,       -- the line of its first step, and the meter's address
+    first TEXT NOT NULL,       -- of each of its meters the line of the first step, and the address
     steps BLOB NOT NULL,       -- its steps, as same_lines.py packs them
     PRIMARY KEY (report, receiver)
 ) WITHOUT ROWID;
@@ -142,7 +142,8 @@ def open_database(path, create):
         raise NoDatabase(f"{path}: there is no such file; bin/keep_readings makes one")
     database = None
     try:
-        database = sqlite3.connect(path, timeout=PAGE_WAIT, isolation_level=None)
+        # (SQLite keeps what is called :memory: alone nowhere)
+        database = sqlite3.connect(os.path.join(".", path), timeout=PAGE_WAIT, isolation_level=None)
         database.execute("PRAGMA foreign_keys = ON")
         database.execute("PRAGMA synchronous = FULL")
         if create:
@@ -234,6 +235,8 @@ def ended(name, main):
     """Runs a script, and answers its exit status. An interruption, an output that nobody takes, and want of memory or of files end it in words."""
     if sys.stdout is None:
         sys.stdout = open(os.devnull, "w", encoding="utf-8")
+    # (a file's name may have what the standard output can't tell)
+    sys.stdout.reconfigure(errors="backslashreplace")
     try:
         status = main()
         sys.stdout.flush()

@@ -26,7 +26,9 @@ CREATE TEMP TABLE register AS
     FROM (SELECT DISTINCT quantity, unit, function, storage, tariff, subunit, modifiers FROM main.record);
 CREATE INDEX temp.register_key ON register (quantity, unit, function, storage, tariff, subunit, modifiers);
 CREATE TEMP VIEW record AS
-    SELECT reading, place, register.id AS register, exact(value, exponent) AS value, 0 AS unset, iif(value = 'text', 'text', 'number') AS type, raw
+    SELECT reading, place, register.id AS register, exact(value, exponent) AS value, 0 AS unset, iif(value = 'text', 'text', 'number') AS type,
+        -- (access codes, passwords and keys of a meter are among the unknown quantities)
+        iif(quantity = 'unknown', '', raw) AS raw
     FROM main.record AS kept JOIN temp.register USING (quantity, unit, function, storage, tariff, subunit, modifiers);
 CREATE TEMP VIEW refusal AS
     SELECT iif(last_made > {LATE} + (SELECT coalesce(max(made), 0) FROM main.reading WHERE reading.address = kept.address), 2, 1) AS report,

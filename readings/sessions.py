@@ -18,14 +18,14 @@ from pathlib import Path
 
 from readings import programs
 
-FAULTY_FOLDER, IN_USE = 1, 9
+FAULTY_FOLDER, IN_USE, STOPPED = 1, 9, 130
 # what may be read or written by others than a file's owner
 BY_OTHERS = 0o077
 RECEIVERS = 16
 # RECEIVER, or RECEIVER.ANYTHING; other names are passed over
 NAME = re.compile(r"[0-9A-Za-z_-]+(?:\.[0-9A-Za-z._-]+)?")
 STATUSES = (f"exit status: 0 no file is left to be heard, {FAULTY_FOLDER} the folder isn't as it has to be, 2 faulty words, "
-            f"{IN_USE} another one works on the folder, else that of wmbus")
+            f"{IN_USE} another one works on the folder, {STOPPED} it was interrupted (0 with --every), else that of wmbus")
 
 
 class Stop(Exception):
@@ -74,7 +74,8 @@ class Folder:
 
     def lock(self) -> int:
         """Keeps others away as long as this process lives, or a program that it started."""
-        lock = os.open(self.path / "lock", os.O_RDWR | os.O_CREAT, 0o600)
+        # (above the standard streams: in the place of a closed one it wouldn't be handed on)
+        lock = fcntl.fcntl(os.open(self.path / "lock", os.O_RDWR | os.O_CREAT, 0o600), fcntl.F_DUPFD_CLOEXEC, 3)
         try:
             fcntl.flock(lock, fcntl.LOCK_EX | fcntl.LOCK_NB)
         except BlockingIOError:
@@ -217,10 +218,16 @@ def run() -> int:
     except Stop as stop:
         print(f"sessions: {stop}", file=sys.stderr)
         return stop.status
+    except subprocess.CalledProcessError as fault:
+        print("sessions: there is no program wmbus that can be started, as is said above", file=sys.stderr)
+        return fault.returncode
     except OSError as fault:
         print(f"sessions: {fault}", file=sys.stderr)
         return FAULTY_FOLDER
     except KeyboardInterrupt:
-        return 0
+        # (by an interruption alone it ends where it is to go on for ever)
+        if asked.every is None:
+            print("sessions: stopped; the next start goes on", file=sys.stderr)
+            return STOPPED
     return 0
 

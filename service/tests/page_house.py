@@ -3,6 +3,7 @@ from __future__ import annotations
 
 import re
 import time
+from collections.abc import Iterator
 from typing import Any
 
 import pytest
@@ -10,6 +11,7 @@ from flask import Flask
 from flask.testing import FlaskClient
 from wmbus_service.page.app import create_app
 
+from readings.used import hour_of
 from .test_sessions import NOW, House
 
 TOKEN = "a-token-of-the-tests-0123456789"
@@ -35,16 +37,16 @@ class PageHouse:
         return self.app.test_client()
 
     def read(self, address: str, moment: float, *records: tuple[Any, ...], made: float | None = None) -> None:
-        """A reading: of each record quantity, unit, power of ten and value, and where it isn't the main one function and storage."""
+        """A reading: of each record quantity, unit, power of ten and value, and where it isn't the main one function, storage and modifiers."""
         self.lines += 1
         self.write("begin")
         number = self.house.database.execute(
             "insert into reading (line, address, counter, moment, receiver, payload, more, made) values (?, ?, ?, ?, 'attic', '', 0, ?)",
             (self.lines, address, self.lines, int(moment), moment if made is None else made)).lastrowid
         for place, (quantity, unit, exponent, value, *rest) in enumerate(records):
-            function, storage = rest or ("instantaneous", 0)
-            self.house.database.execute("insert into record values (?, ?, ?, ?, ?, ?, ?, ?, 0, 0, '', ?)",
-                                        (number, place, quantity, unit, exponent, value, function, storage, "00ff"))
+            function, storage, modifiers = list(rest) + ["instantaneous", 0, ""][len(rest):]
+            self.house.database.execute("insert into record values (?, ?, ?, ?, ?, ?, ?, ?, 0, 0, ?, ?)",
+                                        (number, place, quantity, unit, exponent, value, function, storage, modifiers, "00ff"))
         self.write("commit")
 
     def volume(self, address: str, moment: float, litres: int) -> None:
@@ -71,9 +73,16 @@ def entered(app: Flask) -> tuple[FlaskClient, str]:
     return client, word
 
 
-@pytest.fixture(name="page")
-def page_fixture(house: House, monkeypatch: pytest.MonkeyPatch) -> PageHouse:
-    """A house with a page."""
-    monkeypatch.setenv("TZ", "UTC")
+def zoned(monkeypatch: pytest.MonkeyPatch, zone: str) -> None:
+    """This machine is in a zone."""
+    monkeypatch.setenv("TZ", zone)
     time.tzset()
-    return PageHouse(house)
+    hour_of.cache_clear()
+
+
+@pytest.fixture(name="page")
+def page_fixture(house: House, monkeypatch: pytest.MonkeyPatch) -> Iterator[PageHouse]:
+    """A house with a page."""
+    zoned(monkeypatch, "UTC")
+    yield PageHouse(house)
+    hour_of.cache_clear()

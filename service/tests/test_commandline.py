@@ -4,6 +4,7 @@ from __future__ import annotations
 import io
 import json
 import os
+import signal
 import sqlite3
 import subprocess
 from contextlib import redirect_stderr, redirect_stdout
@@ -11,7 +12,7 @@ from dataclasses import dataclass
 from pathlib import Path
 
 import pytest
-from wmbus_service import config
+from wmbus_service import backup, config, service
 from wmbus_service.backup import raise_counters
 from wmbus_service.commandline import main
 from wmbus_service.config import Config, Programs, has_steps, read_config, unproved_words
@@ -19,8 +20,8 @@ from wmbus_service.meters import add_meter, set_own
 from wmbus_service.service import Service
 from wmbus_service.store import open_store, prepare_folder
 
-from .kill import PYTHON, TOP, program
-from .processes import PATIENCE, run
+from .kill import PYTHON, TOP, Child, program
+from .processes import PATIENCE, run, until
 from .stand_in import use_stand_in
 
 ADDRESS, KEY = "4304101230400104", "00112233445566778899aabbccddeeff"
@@ -114,6 +115,17 @@ def test_from_nothing_to_readings(place: Place) -> None:
     assert "no command" in place.fault("command", "--cancel", "a2")
 
 
+def test_export_of_a_meter_in_large_letters(place: Place) -> None:
+    """An address in large letters names its meter, as it does for the other commands."""
+    address = "93150100000a01ab"
+    place.said("add", address.upper(), "--own", OWN, given=KEY)
+    with sqlite3.connect(place.folder / "wmbus/wmbus.db") as database:
+        database.execute("insert into reading values (1, 1, ?, 1, 100, null, null, null, 0, 100)", (address,))
+        database.execute("insert into record values (1, 0, 'volume', 'm3', -3, '5', 'instantaneous', 0, 0, 0, '', '')")
+    told = [json.loads(line) for line in place.said("export", "--json", "--meter", address.upper()).splitlines()]
+    assert [(it["address"], it["value"]) for it in told] == [(address, "0.005")]
+
+
 def test_copy(place: Place) -> None:
     """A copy comes back with higher counters, its open commands are cancelled, and the state is still one that the program takes."""
     place.said("add", ADDRESS, "--own", OWN, given=KEY)
@@ -134,6 +146,90 @@ def test_copy(place: Place) -> None:
     copy.write_bytes(copy.read_bytes()[:5000])
     assert "isn't whole" in place.fault("restore", str(copy))
     assert f"meter {ADDRESS}" in place.said("status")
+
+
+@pytest.mark.parametrize("name", ["copy #1.db", "copy?.db", "copy%31.db"])
+def test_copy_of_any_name(place: Place, name: str) -> None:
+    """A copy is put back whatever it is called, and no other one in its place."""
+    place.said("add", ADDRESS, "--own", OWN, given=KEY)
+    place.said("backup", str(place.folder / "copy1.db"))
+    place.said("add", ADDRESS[:-4] + "0204", given=KEY)
+    place.said("backup", str(place.folder / name))
+    assert "counters of 2 meters" in place.said("restore", str(place.folder / name))
+
+
+def test_what_is_no_copy(place: Place) -> None:
+    """An empty file, as a full disk leaves one, and another program's database take no database's place."""
+    place.said("add", ADDRESS, "--own", OWN, given=KEY)
+    copy = place.folder / "copy.db"
+    copy.touch()
+    assert "no copy" in place.fault("restore", str(copy))
+    with sqlite3.connect(copy) as database:
+        database.execute("create table mail (text text)")
+    assert "no copy" in place.fault("restore", str(copy))
+    assert f"meter {ADDRESS}" in place.said("status")
+
+
+def test_copy_of_many_meters(place: Place) -> None:
+    """The program reads what a copy knows of all meters, also where they are more than one state has."""
+    place.said("add", ADDRESS, "--own", OWN, given=KEY)
+    with sqlite3.connect(place.folder / "wmbus/wmbus.db") as database:
+        for number in range(2, 4098):
+            address = f"9315{number:08d}0107"
+            add_meter(database, f"meter {address} 7 {KEY if number < 4097 else 'nokey'} - - 0 0".split())
+    copy = place.folder / "copy.db"
+    place.said("backup", str(copy))
+    assert "doesn't take" in place.fault("restore", str(copy))
+
+
+def test_counters_that_would_come_again(place: Place) -> None:
+    """A margin below nothing is refused, and the database stays as it was."""
+    place.said("add", ADDRESS, "--own", OWN, given=KEY)
+    copy = place.folder / "copy.db"
+    place.said("backup", str(copy))
+    place.said("restore", str(copy), "--margin", "50")
+    place.said("backup", str(place.folder / "later.db"))
+    assert "margin" in place.fault("restore", str(place.folder / "later.db"), "--margin", "-20")
+    place.said("export", "--state", str(place.folder / "state"))
+    assert f"meter {ADDRESS} 7 {KEY} - - 50 0\n" in (place.folder / "state").read_text()
+
+
+def test_no_service_begins_amid_a_restore(place: Place, monkeypatch: pytest.MonkeyPatch) -> None:
+    """As long as a copy is put back the folder is locked: what a service committed meanwhile would be gone with the old database."""
+    place.said("add", ADDRESS, "--own", OWN, given=KEY)
+    copy, folder = place.folder / "copy.db", place.folder / "wmbus"
+    place.said("backup", str(copy))
+    locked, restored = [], backup.restore
+
+    def restore(asked: Config, source: Path, margin: int) -> int:
+        locked.append(service.is_locked(folder))
+        return restored(asked, source, margin)
+    monkeypatch.setattr(backup, "restore", restore)
+    place.said("restore", str(copy))
+    assert locked == [True] and not service.is_locked(folder)
+    held = service.lock(folder)
+    assert "systemctl stop wmbus" in place.fault("restore", str(copy))
+    os.close(held)
+
+
+def test_a_restore_that_is_cut_off(place: Place, monkeypatch: pytest.MonkeyPatch) -> None:
+    """Until the copy stands in its place the database has all that was committed, also what a killed service left beside it."""
+    place.said("add", ADDRESS, "--own", OWN, given=KEY)
+    copy, path = place.folder / "copy.db", place.folder / "wmbus/wmbus.db"
+    place.said("backup", str(copy))
+
+    def write() -> None:
+        open_store(path).execute("update setting set value = 'later'")
+        os.kill(os.getpid(), signal.SIGKILL)
+    child = Child(place.folder / "log", write)
+    until(lambda: not child.is_running())
+
+    def pulled(*_: object) -> None:
+        raise OSError("the plug was pulled")
+    monkeypatch.setattr(backup, "_put_in_place", pulled)
+    place.fault("restore", str(copy))
+    with sqlite3.connect(path) as database:
+        assert database.execute("select value from setting where name = 'own'").fetchone() == ("later",)
 
 
 def test_counters_raised_by_the_program(tmp_path: Path) -> None:

@@ -5,6 +5,9 @@ import json
 import os
 import shutil
 import signal
+import socket
+import struct
+import threading
 import time
 import urllib.request
 from collections.abc import Iterator
@@ -13,9 +16,10 @@ from dataclasses import replace
 from pathlib import Path
 
 import pytest
-from wmbus_service import broker, service, session, steps, store
+from wmbus_service import broker, service, session, status, steps, store
 from wmbus_service.commands import put_command
 from wmbus_service.config import Config, Metrics, Mqtt, Programs
+from wmbus_service.ending import Ending
 from wmbus_service.sensors import KINDS, kind_of, shown
 from wmbus_service.trouble import Trouble
 
@@ -126,6 +130,45 @@ def test_readings_and_commands(house: House, mosquitto: Mosquitto) -> None:
     served.end()
 
 
+def test_messages_of_any_form(house: House, mosquitto: Mosquitto) -> None:
+    """Whatever a message is it is answered under a topic that can be one (MQTT 3.1.1, 1.5.3: 65,535 bytes), and all that comes later goes
+    its way."""
+    served, meter = Served(house, mosquitto), house.meters[0]
+    until(lambda: ("wmbus/status", "online", False) in served.listener.heard)
+    send = served.listener.client.publish
+    send(f"wmbus/command/{meter.name}", "[" * 100_000, 1)
+    send(f"wmbus/cancel/{meter.name}", '{"id": ' + "[" * 900 + "]" * 900 + "}", 1)
+    send("wmbus/command/".ljust(65_535, "a"), '{"id": "a", "payload": "01"}', 1)
+    house.spool(house.whole(meter))
+    until(lambda: served.heard(f"wmbus/meter/{meter.name}"))
+    until(lambda: sum(name.startswith("wmbus/commands/") and "error" in text for name, text, _ in served.listener.heard) == 3)
+    served.end()
+
+
+def test_a_connection_that_is_reset() -> None:
+    """Where the broker resets the connection just before a message, as one does that is killed while it has unread ones, the connection
+    is lost, as at any other moment: the next one follows."""
+    import paho.mqtt.client as mqtt
+    with socket.create_server(("127.0.0.1", 0)) as server:
+        def serve() -> None:
+            opened, _ = server.accept()
+            opened.recv(1000)
+            # CONNACK, and then a reset
+            opened.sendall(bytes([0x20, 2, 0, 0]))
+            opened.setsockopt(socket.SOL_SOCKET, socket.SO_LINGER, struct.pack("ii", 1, 0))
+            is_known.wait(PATIENCE)
+            opened.close()
+        is_known = threading.Event()
+        serving = threading.Thread(target=serve)
+        serving.start()
+        client = mqtt.Client(client_id="wmbus")
+        broker._connect(Mqtt(port=server.getsockname()[1]), client)
+        is_known.set()
+        serving.join()
+        with pytest.raises((broker.Lost, OSError)):
+            broker.publish(client, [(number, "wmbus/meter/a", "{}", 1) for number in range(3)])
+
+
 def test_discovery() -> None:
     """Each sensor has a unit and a state class that Home Assistant documents for its device class."""
     for address in ("9315010000000107", "9315010000000103", "9315010000000104"):
@@ -139,10 +182,17 @@ def test_discovery() -> None:
     for record, wanted in (({"quantity": "energy", "unit": "Wh", "value": "12345", "exponent": 3}, "12345"),
                            ({"quantity": "energy", "unit": "J", "value": "-5", "exponent": 0}, "-0.000005"),
                            ({"quantity": "volume", "unit": "m3", "value": "2850427", "exponent": -2}, "28504.27"),
+                           ({"quantity": "volume", "unit": "m3", "value": "12345678901234567890123456789012345", "exponent": -6},
+                            "12345678901234567890123456789.012345"),
                            ({"quantity": "volume", "unit": "m3", "value": "raw", "exponent": -2}, None),
                            ({"quantity": "date", "unit": "-", "value": "2007-02-28", "exponent": 0}, '"2007-02-28"')):
         kind = kind_of("9315010000000107", record)
         assert kind and shown(record, kind) == wanted
+
+
+def test_long_numbers_in_words() -> None:
+    """However many digits a number has, all are told."""
+    assert status.shown("12345678901234567890123456789012345", -6) == "12345678901234567890123456789.012345"
 
 
 def test_sensors_members(house: House, mosquitto: Mosquitto) -> None:
@@ -183,6 +233,35 @@ def test_password_and_tls(tmp_path: Path, house: House) -> None:
         broker.try_connection(told)
 
 
+def test_password_in_another_encoding(tmp_path: Path, house: House) -> None:
+    """A password that isn't in UTF-8 is said to be so, without a sign of it, and what connects tries on, so that a right one is found."""
+    (tmp_path / "password").write_bytes("sch\u00f6n".encode("latin-1"))
+    told = Mqtt(port=free_port(), user="house", password_file=str(tmp_path / "password"))
+    with pytest.raises(Trouble, match="password: .*UTF-8"):
+        broker.try_connection(told)
+    ending = Ending()
+    connecting = broker.Broker(house.config, told, ending)
+    connecting.start()
+    connecting.join(1)
+    assert connecting.is_alive()
+    ending.set()
+    connecting.join(PATIENCE)
+
+
+@pytest.mark.parametrize("told", [Mqtt(port=0), Mqtt(port=70_000), Mqtt(host="")])
+def test_place_where_no_broker_can_be(house: House, told: Mqtt, caplog: pytest.LogCaptureFixture) -> None:
+    """A place that can be none is named by `check` and in the log."""
+    with pytest.raises(Trouble, match=f"mqtt {told.host}:{told.port}: .*look at its host, port"):
+        broker.try_connection(told)
+    ending = Ending()
+    connecting = broker.Broker(house.config, told, ending)
+    connecting.start()
+    until(lambda: not connecting.is_alive() or f"{told.host}:{told.port}" in caplog.text)
+    assert connecting.is_alive()
+    ending.set()
+    connecting.join(PATIENCE)
+
+
 def test_metrics(house: House, mosquitto: Mosquitto) -> None:
     """The client library's parser reads the metrics, and they are what was heard."""
     from prometheus_client.parser import text_string_to_metric_families
@@ -198,6 +277,15 @@ def test_metrics(house: House, mosquitto: Mosquitto) -> None:
               "wmbus_trouble": 0}
     assert {name: found[name] for name in wanted} == wanted
     served.end()
+
+
+def test_metrics_port_that_is_taken(house: House) -> None:
+    """Where the metrics' port is another's, or none, it is said which one, and what to do."""
+    from wmbus_service.metrics import serve
+    with socket.create_server(("127.0.0.1", 0)) as taken:
+        for port in (taken.getsockname()[1], 70_000):
+            with pytest.raises(Trouble, match=rf"127\.0\.0\.1:{port}: .*\[metrics\]"):
+                serve(house.config, Metrics(port=port), service.Service(house.config, house.database))
 
 
 def line_of_nobody() -> str:

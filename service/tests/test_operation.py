@@ -93,6 +93,26 @@ def test_read_only(tmp_path: Path) -> None:
     assert child.status == 0, (tmp_path / "log").read_text()
 
 
+@as_root
+def test_a_folder_that_takes_no_lock(tmp_path: Path) -> None:
+    """A service that begins in a folder that can't be written ends, and says what to do."""
+    folder = tmp_path / "wmbus"
+    store.prepare_folder(folder)
+    for path in (tmp_path.parent.parent, tmp_path.parent, tmp_path):
+        path.chmod(0o755)
+    for path in (folder / "spool", folder):
+        os.chown(path, NOBODY, NOBODY)
+    folder.chmod(0o500)
+
+    def begin() -> None:
+        os.seteuid(NOBODY)
+        with pytest.raises(Trouble, match="lock: .*writable"):
+            service.run(Config(folder=folder))
+    child = Child(tmp_path / "log", begin)
+    until(lambda: not child.is_running())
+    assert child.status == 0, (tmp_path / "log").read_text()
+
+
 def test_rights(tmp_path: Path) -> None:
     """Keys stand in the folder, so others may have no right on it, nor on the database and the roster."""
     folder = tmp_path / "wmbus"
@@ -279,8 +299,13 @@ def test_versions(tmp_path: Path, monkeypatch: pytest.MonkeyPatch) -> None:
     with sqlite3.connect(other) as database:
         database.execute("create table mail (text text)")
     other.chmod(0o600)
-    with pytest.raises(Trouble, match="another program's"):
-        store.open_store(other)
+    for version in (0, len(schema.MIGRATIONS), len(schema.MIGRATIONS) + 6):
+        with sqlite3.connect(other) as database:
+            database.execute(f"pragma user_version = {version}")
+        with pytest.raises(Trouble, match="another program's"):
+            store.open_store(other)
+        with sqlite3.connect(other) as database:
+            assert database.execute("pragma application_id").fetchone() == (0,)
     none = tmp_path / "none.db"
     none.write_bytes(b"no database at all" * 300)
     none.chmod(0o600)
@@ -305,6 +330,64 @@ def test_retention(house: House) -> None:
     assert house.all("select day, value, exponent, unit from daily order by day") == [
         ("2027-01-15", "3", -3, "m3"), ("2027-01-16", "4", -3, "m3"), ("2027-03-06", "5", -3, "m3")]
     assert not house.all("select 1 from record where reading not in (select id from reading)")
+
+
+def test_retention_beside_lines(house: House) -> None:
+    """What is kept no longer goes also where each session has lines, as in a house in which one always comes within the interval; more
+    goes than comes."""
+    meter = house.meters[0]
+    house.spool("A 1 00\n" * 7000)
+    house.hear(time.time() - 8 * DAY)
+    served = Service(house.config, house.database)
+    for _ in range(2):
+        house.spool("A 1 00\n" * 2000 + house.whole(meter))
+        assert served.turn() == 2001
+    for _ in range(4):
+        house.spool(house.whole(meter))
+        assert served.turn() == 1
+    assert len(house.all("select number from line")) == 2 * 2001 + 4
+
+
+def test_retention_and_a_wrong_clock(house: House) -> None:
+    """Readings that were made while the clock was wrong, as on a machine that has none of its own and finds no network at its start, take
+    no others with them: those of before stay as long as they are kept."""
+    meter = house.meters[0]
+    for made in (NOW, NOW + DAY, 1000, NOW + 2 * DAY):
+        house.spool(house.whole(meter))
+        house.hear(made)
+    while retention.let_go(house.database, Keep(), NOW + 3 * DAY):
+        pass
+    assert house.all("select counter from reading order by id") == [1, 2, 4]
+    assert house.all("select day, value from daily") == [("1970-01-01", "3")]
+
+
+def test_what_retention_costs(house: House) -> None:
+    """To look for what is kept no longer costs no more the more is kept: a session waits for it, and so do all that write."""
+    rows = [(number, number, "m", number, int(NOW), None, "00", None, 0, NOW + number) for number in range(1, 5001)]
+    house.database.executemany("insert into reading values (?, ?, ?, ?, ?, ?, ?, ?, ?, ?)", rows)
+    steps: list[None] = []
+    for now in (NOW + 100 * DAY, NOW + 100 * DAY + 3600):
+        while retention.let_go(house.database, Keep(), now):
+            pass
+        house.database.set_progress_handler(lambda: steps.append(None), 100)
+        assert retention.let_go(house.database, Keep(), now) == 0
+        house.database.set_progress_handler(None, 0)
+    assert not house.all("select id from reading where payload is not null")
+    assert len(steps) * 100 < 5000
+
+
+def test_payloads_and_a_wrong_clock(house: House) -> None:
+    """Payloads go in time also where the clock was years ahead for a while, or where they are kept for less long than before."""
+    for day in range(0, 60, 10):
+        house.spool(house.whole(house.meters[0]))
+        house.hear(NOW + day * DAY)
+    house.spool(house.whole(house.meters[0]))
+    house.hear(NOW + 5000 * DAY)
+    assert retention.let_go(house.database, Keep(lines=0, payloads=4990, readings=0), NOW + 5000 * DAY) == 1
+    for payloads, left in ((100, 6), (40, 5), (15, 2), (100, 2)):
+        while retention.let_go(house.database, Keep(lines=0, payloads=payloads, readings=0), NOW + 60 * DAY):
+            pass
+        assert len(house.all("select id from reading where payload is not null")) == left
 
 
 def test_lines_that_went(house: House) -> None:
@@ -339,3 +422,35 @@ def test_receiver_and_its_limits(tmp_path: Path, monkeypatch: pytest.MonkeyPatch
             until(lambda: (folder / "log").read_text().count("feed ended") == 10)
         finally:
             assert child.end(signal.SIGTERM) == 0
+
+
+def test_a_full_spool_that_was_heard(house: House, tmp_path: Path, monkeypatch: pytest.MonkeyPatch) -> None:
+    """Once sessions have taken what filled the spool the receiver goes on, also where a single file of its own filled it."""
+    line_feed = tmp_path / "line_feed"
+    line_feed.write_text("#!/bin/sh\nexec cat\n")
+    line_feed.chmod(0o755)
+    monkeypatch.setattr(receiving, "PAUSE", 0.01)
+    monkeypatch.setattr(receiving, "LOOK", 0.05)
+    config = replace(house.config, spool_bytes=60, programs=replace(house.config.programs, line_feed=str(line_feed)),
+                     receivers={"attic": Receiver(command="seq 100 120", format="hex")})
+    child = Child(tmp_path / "log", receiving.Receiving(config, "attic").run)
+    try:
+        for number in (1, 2):
+            until(lambda: (tmp_path / "log").read_text().count("spool is full") == number, 10)
+            house.hear()
+    finally:
+        assert child.end(signal.SIGTERM) == 0
+    assert house.all("select text from line order by number")[:42] == [str(number) for number in range(100, 121)] * 2
+
+
+def test_a_receiver_that_hears_nothing(house: House, tmp_path: Path, monkeypatch: pytest.MonkeyPatch) -> None:
+    """A feed that ends at once, as where the stick isn't there, leaves no file behind, also while no service takes files away."""
+    monkeypatch.setattr(receiving, "PAUSE", 0.01)
+    config = replace(house.config, programs=replace(house.config.programs, line_feed="cat"),
+                     receivers={"attic": Receiver(command="true", format="-")})
+    child = Child(tmp_path / "log", receiving.Receiving(config, "attic").run)
+    try:
+        until(lambda: (tmp_path / "log").read_text().count("feed ended") == 5)
+    finally:
+        assert child.end(signal.SIGTERM) == 0
+    assert len(list(house.config.spool.iterdir())) <= 1

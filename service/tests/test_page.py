@@ -8,22 +8,24 @@ import os
 import re
 import sqlite3
 import subprocess
-from contextlib import closing
+from contextlib import closing, suppress
 from pathlib import Path
 
 import pytest
-from wmbus_service import schema
+from wmbus_service import exporting, retention, schema, sensors
+from wmbus_service.config import Keep
 from wmbus_service.page import radios, reading
 
 import frames
 import messages
 from readings import service_tables
 from .kill import TOP
-from .page_house import DAY, HOUR, PageHouse, page_fixture  # noqa: F401
+from .page_house import DAY, HOUR, PageHouse, page_fixture, zoned  # noqa: F401
 from .processes import run
 from .test_sessions import NOW, house_fixture  # noqa: F401
 
 # NOW is the 15th of January 2027, 08:00 in UTC
+BERLIN = "CET-1CEST,M3.5.0,M10.5.0/3"
 
 
 def test_overview(page: PageHouse) -> None:
@@ -92,6 +94,19 @@ def test_one_unit(page: PageHouse) -> None:
     assert {by: rows[0]["text"] for by, rows in told["used"][0]["by"].items()} == {"hour": "5 kWh", "day": "5 kWh", "month": "425 kWh"}
 
 
+def test_hours_of_other_zones(page: PageHouse, monkeypatch: pytest.MonkeyPatch) -> None:
+    """What was used in an hour is the difference of the last readings of each hour, also where hours begin at the half ones of UTC."""
+    zoned(monkeypatch, "IST-5:30")
+    address = page.addresses[0]
+    # NOW is 13:30 there: readings at ten minutes to 11, at 20 past 11, at ten minutes to 12, at 20 past 12, and at ten minutes to 13
+    for minutes, litres in ((160, 100), (130, 107), (100, 120), (70, 126), (40, 150)):
+        page.volume(address, NOW - 60 * minutes, litres)
+    told = page.client().get(f"/api/meters/{address}").json
+    assert told
+    assert [(row["period"], row["amount"]) for row in told["used"][0]["by"]["hour"]] == [
+        ("2027-01-15 12:00", "0.030"), ("2027-01-15 11:00", "0.020")]
+
+
 def test_replaced_meter(page: PageHouse) -> None:
     """A register that falls is said to be reset or replaced, and what it fell by isn't counted."""
     address = page.addresses[0]
@@ -115,6 +130,47 @@ def test_months_of_days_alone(page: PageHouse) -> None:
         ("2027-01", "0.140"), ("2026-11", "0.070"), ("2026-10", "0.090")]
 
 
+@pytest.mark.parametrize("zone", [BERLIN, "NST3:30", "NZST-12NZDT,M9.5.0,M4.1.0/3"])
+def test_months_of_days_in_zones(page: PageHouse, monkeypatch: pytest.MonkeyPatch, zone: str) -> None:
+    """A day that is kept counts in its month, wherever the page is."""
+    zoned(monkeypatch, zone)
+    test_months_of_days_alone(page)
+
+
+def test_first_month_when_summer_time_began(page: PageHouse, monkeypatch: pytest.MonkeyPatch) -> None:
+    """The first month that is shown is whole, also in the first hour of a day that has summer time where that month's first day has none."""
+    zoned(monkeypatch, BERLIN)
+    # 00:30 of the 30th of March 2027 in Berlin; ten litres a day at noon in UTC for 410 days up to the day before
+    now = 1806359400
+    page.app.config.update(CLOCK=lambda: now)
+    for back in range(410):
+        page.volume(page.addresses[0], now - 37_800 - back * DAY, 10_000 - 10 * back)
+    told = page.client().get(f"/api/meters/{page.addresses[0]}").json
+    assert told
+    months = told["used"][0]["by"]["month"]
+    assert [(row["period"], row["amount"]) for row in (months[0], months[-1])] == [("2027-03", "0.290"), ("2026-03", "0.310")]
+
+
+def test_months_of_readings_that_went(page: PageHouse) -> None:
+    """Months are counted alike once their readings are gone; of a register that a reading has twice the first value counts, and what flowed
+    backward is another one, sent in front of it or alone."""
+    address, backward = page.addresses[0], ("volume", "m3", -3, "7", "instantaneous", 0, "3c")
+    for back, litres in ((80, 1000), (50, 1600), (46, 1650), (20, 2100), (1, 2400)):
+        page.read(address, NOW - back * DAY, backward, ("volume", "m3", -3, str(litres)), ("volume", "m3", -3, "7"))
+        page.read(address, NOW - back * DAY + 60, backward)
+
+    def months() -> list[tuple[str, str]]:
+        told = page.client().get(f"/api/meters/{address}").json
+        assert told
+        return [(row["period"], row["amount"]) for row in told["used"][0]["by"]["month"]]
+    wanted = [("2027-01", "0.300"), ("2026-12", "0.450"), ("2026-11", "0.650")]
+    assert months() == wanted
+    while retention.let_go(page.house.database, Keep(readings=10), NOW):
+        pass
+    assert page.house.all("select count(*) from reading") == [2]
+    assert months() == wanted
+
+
 def test_registers_and_curves(page: PageHouse) -> None:
     """Each register has its last value, also one that the last message didn't bring; a curve of two readings or more."""
     address = page.addresses[0]
@@ -129,6 +185,24 @@ def test_registers_and_curves(page: PageHouse) -> None:
         ("energy", "120 kWh", "123 kWh", 2, "0,110 600,10")]
     text = page.client().get(f"/meters/{address}?span=day").text
     assert 'role="img"' in text and "storage 1" in text
+
+
+def test_registers_with_modifiers(page: PageHouse) -> None:
+    """What modifiers make of a quantity is another one (docs/FORMATS.md): a volume, and what flowed backward, sent in front of it or alone."""
+    address = page.addresses[0]
+    for back, litres, backward in ((3 * DAY, 1000, 7), (2 * DAY, 1300, 7), (DAY, None, 9), (HOUR, 1700, 9), (60, None, 11)):
+        volume = [("volume", "m3", -3, str(litres))] if litres else []
+        page.read(address, NOW - back, ("volume", "m3", -3, str(backward), "instantaneous", 0, "3c"), *volume)
+    told = page.client().get(f"/api/meters/{address}?span=week").json
+    assert told
+    assert [(it["title"], it["of_what"], it["modifiers"], it["text"]) for it in told["values"]] == [
+        ("volume", "", "", "1.700 m³"), ("volume", "modifiers 3c", "3c", "0.011 m³")]
+    assert told["meter"]["main"]["text"] == "1.700 m³"
+    assert [[(row["period"], row["amount"]) for row in it["by"]["day"]] for it in told["used"]] == [
+        [("2027-01-15", "0.400"), ("2027-01-13", "0.300")],
+        [("2027-01-15", "0.002"), ("2027-01-14", "0.002"), ("2027-01-13", "0.000")]]
+    assert [(it["name"], it["least"], it["most"]) for it in told["curves"]] == [
+        ("volume", "1.000 m³", "1.700 m³"), ("volume, modifiers 3c", "0.007 m³", "0.011 m³")]
 
 
 def test_refusals_and_commands_in_words(page: PageHouse) -> None:
@@ -222,6 +296,32 @@ def test_csv(page: PageHouse) -> None:
     assert page.client().get(f"/meters/{first}/readings.csv?from=yesterday").status_code == 400
 
 
+def test_csv_of_days_of_other_lengths(page: PageHouse, monkeypatch: pytest.MonkeyPatch) -> None:
+    """A day of a span is whole, and none of the next one's, on days on which the clocks are set."""
+    zoned(monkeypatch, BERLIN)
+    address = page.addresses[0]
+    # 23:30 in Berlin on the 28th of March and 00:30 on the 29th, and 23:30 on the 25th of October and 00:30 on the 26th, of 2026
+    for litres, moment in enumerate((1774737000, 1774740600, 1792967400, 1792971000)):
+        page.volume(address, moment, litres)
+    page.volume(address, 1774821600 + 1800, 9)
+
+    def values(day: str) -> list[str]:
+        given = page.client().get(f"/meters/{address}/readings.csv?from={day}&to={day}").text
+        return [row[5] for row in csv.reader(io.StringIO(given))][1:]
+    assert (values("2026-03-29"), values("2026-10-25"), values("2026-10-26")) == (["0.001"], ["0.002"], ["0.003"])
+
+
+def test_all_digits(page: PageHouse) -> None:
+    """A number has all its digits in the page's CSV, in what `wmbus-service export` gives, and in messages; an integer has up to 37."""
+    address, digits = page.addresses[0], "123456789012345678901234567890123456"
+    page.read(address, NOW - 60, ("energy", "Wh", -3, digits))
+    assert f",{digits[:-3]}.{digits[-3:]},Wh," in page.client().get(f"/meters/{address}/readings.csv").text
+    (row,) = exporting.values(page.house.database, address, 0)
+    assert row["value"] == f"{digits[:-3]}.{digits[-3:]}"
+    record = {"quantity": "energy", "unit": "Wh", "value": digits, "exponent": -3}
+    assert sensors.shown(record, sensors.KINDS["energy"]["Wh"]) == f"{digits[:-6]}.{digits[-6:]}"
+
+
 def test_json_is_the_page(page: PageHouse) -> None:
     """What stands in the JSON of a page stands on the page, meter for meter, and in that order."""
     first, second, third = page.addresses
@@ -272,7 +372,31 @@ def test_no_key_can_be_read(page: PageHouse) -> None:
             database.execute(query)
     with pytest.raises(Exception, match="readonly"):
         database.execute("delete from meter")
+    # a new second key stands among the lines, in its command while that waits, and in a line that was set aside
+    line = f"K {page.addresses[0]} {'5e' * 16}"
+    page.write("insert into line (text, made) values (?, 1), ('A 1 00', 1)", line)
+    page.write("insert into aside (receiver, text, said, made) values ('attic', ?, 'status 10', 1)", line)
+    page.write("insert into command (id, address, kind, payload, made, changed) values ('b', ?, 'rekey', ?, 1, 1)", page.addresses[0], "5e" * 16)
+    for table in ("line", "command", "aside"):
+        for query in (f"select * from {table}", f"select * from main.{table}"):
+            told = ""
+            with suppress(sqlite3.DatabaseError):
+                told = str(database.execute(query).fetchall())
+            assert "5e5e" not in told, query
+    assert database.execute("select text from line where text <> ''").fetchall() == [("A 1 00",)]
     database.close()
+
+
+def test_no_code_of_a_meter_is_shown(page: PageHouse, tmp_path: Path) -> None:
+    """Among the quantities that a session calls unknown are access codes, passwords and keys: what was sent of these stands on no page."""
+    address = page.addresses[0]
+    # the bytes 00ff were sent of each
+    page.read(address, NOW - 60, ("unknown", "-", 0, "raw"), ("unknown", "-", 0, "raw", "maximum", 1))
+    file = tmp_path / "page.html"
+    run([f"{TOP}/bin/report_page", "--now", str(int(NOW)), str(page.house.config.database), str(file)])
+    shown = [page.client().get(path).text for path in (f"/meters/{address}", f"/api/meters/{address}")]
+    for text in (*shown, file.read_text()):
+        assert "unknown" in text and "00ff" not in text
 
 
 def test_page_as_a_file(page: PageHouse, tmp_path: Path) -> None:

@@ -86,7 +86,7 @@ def test_other_sites(page: PageHouse) -> None:
     app = page.page(TOKEN)
     client, word = entered(app)
     path, data = f"/meters/{address}/commands", {"forms": word, "payload": "00"}
-    for headers in ({"Origin": "http://elsewhere.example"}, {"Origin": "null"}, {"Origin": "http://localhost:9103"},
+    for headers in ({"Origin": "http://elsewhere.example"}, {"Origin": "null"}, {"Origin": "http://localhost:9103"}, {"Origin": "http://["},
                     {"Sec-Fetch-Site": "cross-site"}, {"Sec-Fetch-Site": "same-site"}):
         assert client.post(path, data=data, headers=headers).status_code == 403
     for given in ("", "x", word[:-1], word + "é"):

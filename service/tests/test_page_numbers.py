@@ -30,9 +30,9 @@ UNITS = {"m³": "m3", "m³/h": "m3/h", "m³/min": "m3/min", "m³/s": "m3/s", "°
 PREFIXES = {"": 0, "k": 3, "M": 6, "G": 9, "T": 12}
 NUMBER = re.compile(r"(-?[0-9 \u2009\u202f,]+(?:\.[0-9]+)?) (.+)")
 
-REGISTER = ("function", "storage", "tariff", "subunit", "quantity", "unit")
-# a value: function, storage, tariff, subunit, quantity, unit, and its number or word
-Told = tuple[str, int, int, int, str, str, str]
+REGISTER = ("function", "storage", "tariff", "subunit", "quantity", "unit", "modifiers")
+# a value: function, storage, tariff, subunit, quantity, unit, modifiers, and its number or word
+Told = tuple[str, int, int, int, str, str, str, str]
 
 
 class Heard:
@@ -57,8 +57,8 @@ class Heard:
             elif word == "step" and rest[2] == "refused":
                 self.refusals[address][rest[3]] += 1
             elif word == "record":
-                function, storage, tariff, subunit, quantity, unit, exponent, _, value, *_ = rest
-                self.values[address].append((function, int(storage), int(tariff), int(subunit), quantity, unit,
+                function, storage, tariff, subunit, quantity, unit, exponent, modifiers, value, *_ = rest
+                self.values[address].append((function, int(storage), int(tariff), int(subunit), quantity, unit, modifiers.replace("-", ""),
                                              number_text(value, int(exponent))))
             elif word == "stranger":
                 self.strangers += 1
@@ -85,10 +85,10 @@ class Committed:
 
     def values(self, reading: int) -> list[Told]:
         """A reading's values, as the database has them."""
-        rows = self.database.execute("select function, storage, tariff, subunit, quantity, unit, value, exponent from record"
+        rows = self.database.execute("select function, storage, tariff, subunit, quantity, unit, modifiers, value, exponent from record"
                                      " where reading = ? order by place", (reading,))
-        return [(function, storage, tariff, subunit, quantity, unit, number_text(value, exponent))
-                for function, storage, tariff, subunit, quantity, unit, value, exponent in rows]
+        return [(function, storage, tariff, subunit, quantity, unit, modifiers, number_text(value, exponent))
+                for function, storage, tariff, subunit, quantity, unit, modifiers, value, exponent in rows]
 
 
 def number_text(value: str, exponent: int) -> str:
@@ -150,9 +150,10 @@ def look_at_meter(made: Committed, heard: Heard, address: str) -> None:
     assert sorted([*told, *((str(counter), str(moment)) for counter, moment in bare)]) == sorted(heard.readings[address])
     if heard.readings[address]:
         counter, moment = heard.readings[address][-1]
-        assert [tuple(row[place[name]] for name in (*REGISTER, "value"))
+        # (which has no modifiers)
+        assert [tuple(row[place[name]] for name in (*REGISTER[:-1], "value"))
                 for row in read if (row[place["counter"]], row[place["moment"]]) == (counter, moment)] == [
-                    tuple(map(str, value)) for value in heard.values[address]]
+                    (*map(str, value[:-2]), value[-1]) for value in heard.values[address]]
 
 
 @pytest.mark.parametrize("place", EXAMPLES + SESSIONS, ids=[place.name for place in EXAMPLES + SESSIONS])

@@ -1,6 +1,7 @@
 """Receivers' profiles: a stick with culfw, a TCP port, a file, each through the proved line_feed into the spool; and systemd's units."""
 from __future__ import annotations
 
+import io
 import os
 import pty
 import shutil
@@ -13,6 +14,7 @@ from pathlib import Path
 
 import pytest
 from wmbus_service import receiving
+from wmbus_service.checking import look_at_receiver
 from wmbus_service.config import Config, Programs, Receiver
 from wmbus_service.receiving import PROFILES, Receiving, feed_of
 from wmbus_service.trouble import Trouble
@@ -75,6 +77,48 @@ def test_stick_with_culfw(tmp_path: Path) -> None:
     heard.judge()
 
 
+class EndlessLine:
+    """A port at which so much comes without an end of a line, until it is gone."""
+
+    in_waiting = 1000
+
+    def __init__(self, output: io.BytesIO, pieces: int) -> None:
+        self.output, self.pieces, self.held = output, pieces, 0
+
+    def __enter__(self) -> EndlessLine:
+        return self
+
+    def __exit__(self, *_: object) -> None:
+        pass
+
+    def write(self, _content: bytes) -> None:
+        """What the stick is set to."""
+
+    def flush(self) -> None:
+        """The same."""
+
+    def read(self, count: int) -> bytes:
+        """The next piece."""
+        self.held = count * (500 - self.pieces) - len(self.output.getvalue())
+        self.pieces -= 1
+        if not self.pieces:
+            raise OSError("the port is gone")
+        return bytes(count)
+
+
+def test_stick_that_ends_no_line(monkeypatch: pytest.MonkeyPatch) -> None:
+    """What comes without an end of a line, as from a stick of another speed, is passed on, and isn't gathered for ever."""
+    serial = pytest.importorskip("serial")
+    from wmbus_service import culfw
+    output = io.BytesIO()
+    port = EndlessLine(output, 500)
+    monkeypatch.setattr(serial, "Serial", lambda *_, **__: port)
+    monkeypatch.setattr("sys.stdout", io.TextIOWrapper(output))
+    with pytest.raises(OSError):
+        culfw.read("/dev/ttyACM0", "brt")
+    assert port.held <= 4096
+
+
 def test_tcp_port(tmp_path: Path) -> None:
     """What comes over a connection is taken."""
     with socket.create_server(("127.0.0.1", 0)) as server:
@@ -107,6 +151,23 @@ def test_profiles() -> None:
                  Receiver(profile="tcp", host="radio", format="hex")):
         with pytest.raises(Trouble):
             feed_of("attic", told)
+
+
+def test_programs_that_a_receiver_wants(tmp_path: Path, monkeypatch: pytest.MonkeyPatch) -> None:
+    """`check` names each program of a receiver's command that isn't there, and none that is; also what is no command."""
+    (tmp_path / "rtl_sdr").write_text("#!/bin/sh\n")
+    (tmp_path / "rtl_sdr").chmod(0o755)
+    monkeypatch.setenv("PATH", f"{tmp_path}:/usr/bin:/bin")
+    for told, said in ((Receiver(profile="rtl_wmbus"), "the program rtl_wmbus isn't there"),
+                       (Receiver(command="rtl_sdr | absent -x", format="hex"), "the program absent isn't there"),
+                       (Receiver(command="cat 'a", format="hex"), "quotation")):
+        with pytest.raises(Trouble, match=said):
+            look_at_receiver("attic", told)
+    (tmp_path / "rtl_wmbus").symlink_to(tmp_path / "rtl_sdr")
+    look_at_receiver("attic", Receiver(profile="rtl_wmbus"))
+    for command in ("TZ=UTC rtl_sdr", "exec rtl_sdr - 2>/dev/null", "while true; do rtl_sdr 2>&1 | env TZ=UTC rtl_wmbus; done",
+                    "(rtl_sdr; rtl_wmbus) | cat", "rtl_sdr -d $(cat serial) -F '' a", "$RADIO -f 868M"):
+        look_at_receiver("attic", Receiver(command=command, format="hex"))
 
 
 def test_two_writers_of_a_receiver(tmp_path: Path) -> None:

@@ -1,8 +1,10 @@
 """Sessions in this process: which lines they take, what they do where the program fails, and when ticks are due."""
 from __future__ import annotations
 
+import json
 import os
 import random
+import resource
 import sqlite3
 from collections.abc import Callable, Sequence
 from dataclasses import replace
@@ -10,10 +12,10 @@ from pathlib import Path
 from typing import Any
 
 import pytest
-from wmbus_service import events, merging, session, steps, store
+from wmbus_service import events, merging, retention, session, steps, store
 from wmbus_service.commands import cancel_command, put_command, put_key
-from wmbus_service.config import Config, Programs, Receiver, Ticks
-from wmbus_service.downlinks import send_downlinks
+from wmbus_service.config import Config, Keep, Mqtt, Programs, Receiver, Ticks
+from wmbus_service.downlinks import send_downlinks, write_downlink
 from wmbus_service.meters import take_roster
 from wmbus_service.receiving import new_file
 from wmbus_service.session import Sessions
@@ -109,6 +111,51 @@ def test_a_bad_command_is_refused(house: House, monkeypatch: pytest.MonkeyPatch)
     assert "ee" not in house.all("select text from aside")[0]
 
 
+def test_a_key_that_is_refused(house: House, monkeypatch: pytest.MonkeyPatch) -> None:
+    """No new key stays among the commands once it was taken, refused, cancelled or set aside; `line` has those that were heard."""
+    keys = [f"{number:032x}" for number in range(1, 5)]
+    put_key(house.database, "refused", house.meters[2].name, keys[0], NOW)
+    put_key(house.database, "taken", house.meters[0].name, keys[1], NOW)
+    house.hear()
+    put_key(house.database, "cancelled", house.meters[0].name, keys[2], NOW)
+    cancel_command(house.database, "cancelled", NOW)
+    put_key(house.database, "aside", house.meters[0].name, keys[3], NOW)
+    monkeypatch.setattr(session, "run_steps", failing(bool))
+    house.hear()
+    assert house.all("select id, state, payload from command order by id") == [
+        ("aside", "refused", ""), ("cancelled", "cancelled", ""), ("refused", "refused", ""), ("taken", "done", "")]
+
+
+def test_each_change_of_a_command_is_told(house: House, monkeypatch: pytest.MonkeyPatch) -> None:
+    """Also that a new key was taken, and that a command was set aside, is a message for the broker."""
+    config = replace(house.config, mqtt=Mqtt())
+    sessions = Sessions(config, house.database)
+    put_key(house.database, "key", house.meters[0].name, "00" * 16, NOW)
+    sessions.next(NOW)
+    put_command(house.database, "bad", house.meters[0].name, "ee", NOW)
+    monkeypatch.setattr(session, "run_steps", failing(bool))
+    for _ in range(2):
+        sessions.next(NOW)
+    told = [(topic, json.loads(text)) for topic, text in house.all("select topic, payload from publication order by id")]
+    assert [topic for topic, _ in told] == [f"wmbus/commands/{house.meters[0].name}"] * 2
+    assert [(it["id"], it["state"]) for _, it in told] == [("key", "done"), ("bad", "refused")]
+
+
+def test_a_value_with_a_qualifier(house: House) -> None:
+    """What flowed backward is another quantity than the volume (docs/FORMATS.md), for the broker and among the values of a day."""
+    meter = house.meters[0]
+    sessions = Sessions(replace(house.config, mqtt=Mqtt()), house.database)
+    for counter, payload in ((1, "0c933c05000000" "0c1307000000"), (2, "0c1308000000" "0c933c06000000")):
+        text = b"\x2f\x2f" + bytes.fromhex(payload)
+        house.spool(line_of(messages.whole(meter.key, meter.address, counter, text, 0x44, None), 100))
+        sessions.next(NOW)
+    told = [json.loads(text) for text in house.all("select payload from publication where topic like 'wmbus/meter/%' order by id")]
+    assert [it["volume"] for it in told] == [0.007, 0.008]
+    assert [sorted(it.values())[:2] for it in told] == [[0.005, 0.007], [0.006, 0.008]]
+    retention.let_go(house.database, Keep(readings=1), NOW + 2 * 86_400)
+    assert house.all("select value from daily") == ["8"]
+
+
 def test_a_program_that_always_fails(house: House, monkeypatch: pytest.MonkeyPatch) -> None:
     """Where it isn't the lines' fault none is set aside, and all come again."""
     house.spool("".join(house.whole(house.meters[0]) for _ in range(5)))
@@ -200,6 +247,28 @@ def test_long_lines(house: House) -> None:
     assert max(len(text) for text in house.all("select text from line")) <= 1100
 
 
+def test_lines_behind_long_ones(house: House) -> None:
+    """However long lines are, those behind them stay in their order, in front of those of the receiver's next file and of ticks that are
+    due, and their file stays until they are heard."""
+    good = [house.whole(house.meters[0], moment=5) for _ in range(3)]
+    house.spool("bad\n" + "0" * (3 * CHUNK // 2) + "\n" + good[0] + ("0" * 2000 + "\n") * 3000 + good[1])
+    house.spool(good[2])
+    house.database.execute("update meter set due = 1000 where address = ?", (house.meters[1].name,))
+    house.sessions.most = 1
+    house.hear()
+    assert house.all("select counter from reading") == [1, 2, 3]
+    assert house.all("select text from line order by number desc limit 1") == [f"T {house.meters[1].name}"]
+
+
+def test_files_that_went(house: House) -> None:
+    """Of files that are taken away nothing is held, however often a receiver begins anew."""
+    for _ in range(10):
+        house.spool(house.whole(house.meters[0]))
+        house.hear()
+    assert len(house.sessions.spools[0].synced) <= 2
+    assert len(house.all("select file from source")) <= 2
+
+
 def test_a_long_header_names_another_meter(house: House) -> None:
     """The program says for which meter a line is, and the session has that meter's block, whatever the link address is."""
     meter = house.meters[0]
@@ -244,6 +313,26 @@ def test_receivers_merged_by_the_program() -> None:
         inputs = [[Spooled(name, "f", 0, draw.choice(kinds).format(draw.randrange(9))) for _ in range(draw.randrange(30))]
                   for name in ("attic", "roof", "cellar")[:draw.randrange(1, 4)]]
         assert merging.merged(inputs, [path]) == merging.merged(inputs)
+
+
+def test_a_program_that_fails_to_merge(house: House) -> None:
+    """Where `line_merge` fails that is said, no line counts, and all are heard once it does its work again."""
+    for receiver in ("attic", "roof"):
+        house.spool(house.whole(house.meters[0]), receiver)
+    config, house.sessions.config = house.config, replace(house.config, programs=Programs(line_merge="false"))
+    for _ in range(3):
+        with pytest.raises(Trouble, match="false: .*status 1"):
+            house.sessions.next(NOW)
+    house.sessions.config = config
+    house.hear()
+    assert house.all("select counter from reading") == [1, 2]
+
+
+def test_lines_of_a_receiver_that_is_no_more(house: House) -> None:
+    """What a receiver spooled is heard though it has another name in the configuration now."""
+    house.spool(house.whole(house.meters[0]), "cellar")
+    Sessions(house.config, house.database).next(NOW)
+    assert house.all("select counter, receiver from reading") == [(1, "cellar")]
 
 
 def test_ticks(house: House) -> None:
@@ -295,6 +384,19 @@ def test_a_clock_that_jumps(house: House) -> None:
     assert house.all(f"select due, waits from meter where address = '{meter.name}'") == [(None, None)]
 
 
+def test_a_clock_set_back_over_a_silent_meter(house: House) -> None:
+    """The tick comes in time also where the meter isn't heard any more since the clock was set back."""
+    meter, back = house.meters[0], NOW - 86_400
+    put_command(house.database, "a", meter.name, "01", NOW)
+    house.spool(house.whole(meter, access=0x84))
+    house.hear(NOW)
+    waits = []
+    for second in (0, 59, 61):
+        house.hear(back + second)
+        waits += house.all(f"select waits is null from meter where address = '{meter.name}'")
+    assert waits == [0, 0, 1]
+
+
 def test_commands(house: House) -> None:
     """A command is confirmed by a response, cancelled on its way, refused where eight wait; nothing is done twice."""
     meter = house.meters[0]
@@ -333,6 +435,21 @@ def test_downlinks(house: House) -> None:
     assert not house.sent.exists()
 
 
+def test_a_downlink_that_was_written_in_part(tmp_path: Path) -> None:
+    """Where the disk has no room for all of a downlink it isn't sent, and the next one stands on a line of its own."""
+    path = tmp_path / "sent"
+    write_downlink(str(path), "01")
+    before = resource.getrlimit(resource.RLIMIT_FSIZE)
+    resource.setrlimit(resource.RLIMIT_FSIZE, (8, before[1]))
+    try:
+        with pytest.raises(OSError, match="in part"):
+            write_downlink(str(path), "0203")
+    finally:
+        resource.setrlimit(resource.RLIMIT_FSIZE, before)
+    write_downlink(str(path), "04")
+    assert path.read_text().splitlines()[-1] == "D 04"
+
+
 def test_events_with_ticks() -> None:
     """Ticks stand in front of the first line that was heard later."""
     lines = [Spooled("attic", "f", 0, text) for text in ("A 5 aa", "bad", "A 7 bb")]
@@ -364,6 +481,22 @@ def test_no_tick_overtakes_lines(house: House) -> None:
         [], ["A 4 00"], ["A 4 00", f"T {meter}"]]
     house.sessions.most = 1
     assert house.hear() == 2
+
+
+def test_what_old_commands_cost(house: House) -> None:
+    """Commands that are done stay, as each id is taken once, and cost a session nothing."""
+    rows = [(f"c{number}", house.meters[0].name, number) for number in range(5000)]
+    with store.transaction(house.database):
+        house.database.executemany("insert into command (id, address, kind, payload, state, number, made, changed)"
+                                   " values (?, ?, 'send', '01', 'confirmed', ?, 1, 1)", rows)
+    put_command(house.database, "new", house.meters[0].name, "02", NOW)
+    house.database.execute("update command set state = 'sent', wish = 'cancel' where id = 'c7'")
+    steps_of: list[None] = []
+    house.database.set_progress_handler(lambda: steps_of.append(None), 100)
+    asked = events.asked_for(house.database)
+    house.database.set_progress_handler(None, 0)
+    assert [it.text for it in asked] == [f"X {house.meters[0].name} 7", f"Q {house.meters[0].name} 02"]
+    assert len(steps_of) * 100 < 5000
 
 
 def test_spool_place_is_kept(house: House) -> None:

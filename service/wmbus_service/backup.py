@@ -6,10 +6,10 @@ import sqlite3
 import subprocess
 import time
 from collections.abc import Sequence
-from contextlib import closing
+from contextlib import closing, suppress
 from pathlib import Path
 
-from . import store
+from . import schema, store
 from .commands import OPEN
 from .config import Config, words_of
 from .memory_files import memory_files, path_of
@@ -66,8 +66,10 @@ def restore(config: Config, source: Path, margin: int) -> int:
     beside = config.folder / "restored.db"
     beside.unlink(missing_ok=True)
     os.close(os.open(beside, os.O_WRONLY | os.O_CREAT | os.O_EXCL, 0o600))
-    with closing(sqlite3.connect(f"file:{source}?mode=ro", uri=True)) as copied, closing(sqlite3.connect(beside)) as made:
+    with closing(sqlite3.connect(f"{source.absolute().as_uri()}?mode=ro", uri=True)) as copied, closing(sqlite3.connect(beside)) as made:
         look_over(copied, source)
+        if copied.execute("pragma application_id").fetchone()[0] != schema.APPLICATION:
+            raise Trouble(source, "it is no copy of the service's database", "name a file that `wmbus-service backup` made")
         copied.backup(made)
     with closing(store.open_store(beside)) as database:
         with store.transaction(database):
@@ -75,10 +77,18 @@ def restore(config: Config, source: Path, margin: int) -> int:
             _give_up(database, time.time())
         _judge(config, database)
         database.execute("pragma journal_mode = delete")
+    _gather_commits(config.database)
     for name in ("wmbus.db-wal", "wmbus.db-shm"):
         (config.folder / name).unlink(missing_ok=True)
     _put_in_place(beside, config.database)
     return count
+
+
+def _gather_commits(path: Path) -> None:
+    """Has a database's own file have all that was committed, as far as it can be read: it stays one until another takes its place."""
+    if path.exists():
+        with suppress(sqlite3.Error), closing(sqlite3.connect(path)) as database:
+            database.execute("pragma wal_checkpoint(truncate)")
 
 
 def raise_counters(config: Config, database: sqlite3.Connection, margin: int) -> int:
@@ -141,10 +151,10 @@ def _give_up(database: sqlite3.Connection, now: float) -> None:
 def _judge(config: Config, database: sqlite3.Connection) -> None:
     """The program has to take what is known of all meters."""
     own = store.setting(database, "own")
-    blocks = [block for (block,) in database.execute("select block from meter order by place limit ?", (MOST_METERS,))]
+    blocks = [block for (block,) in database.execute("select block from meter order by place")]
     try:
-        if own:
-            run_steps(words_of(config.programs.steps), state_text(own, blocks), [])
+        for start in range(0, len(blocks) if own else 0, MOST_METERS):
+            run_steps(words_of(config.programs.steps), state_text(own or "", blocks[start:start + MOST_METERS]), [])
     except ProgramFailed as failed:
         raise Trouble(config.folder / "restored.db", f"the program doesn't take what the copy knows of the meters: {failed}",
                       "take an earlier copy") from None

@@ -29,6 +29,8 @@ log = logging.getLogger("wmbus")
 AT_ONCE, PATIENCE, IDLE = 100, 20.0, 0.2
 LEAST_PAUSE, MOST_PAUSE = 0.5, 30.0
 MOST_MESSAGE = 10_000
+# signs of an address that are told again
+MOST_ADDRESS = 64
 Row = tuple[int, str, str, int]
 
 
@@ -87,7 +89,7 @@ class Broker(threading.Thread):
                     mark_published(database, rows)
                 else:
                     _turn(client, IDLE)
-            client.publish(f"{self.told.topic}/status", "offline", 1, True).is_published()
+            client.publish(f"{self.told.topic}/status", "offline", 1, True)
             _turn(client, IDLE)
             client.disconnect()
         finally:
@@ -99,7 +101,7 @@ class Broker(threading.Thread):
 def _connect(told: Mqtt, client: mqtt.Client) -> None:
     """Connects a client, and waits for the broker's answer."""
     if told.user:
-        client.username_pw_set(told.user, Path(told.password_file).read_text(encoding="utf-8").strip() if told.password_file else None)
+        client.username_pw_set(told.user, _password_of(told.password_file) if told.password_file else None)
     if told.tls:
         client.tls_set(ca_certs=told.authority or None)
     answers: list[int] = []
@@ -108,12 +110,23 @@ def _connect(told: Mqtt, client: mqtt.Client) -> None:
         answers.append(answer)
 
     client.on_connect = connected
-    client.connect(told.host, told.port, keepalive=30)
+    try:
+        client.connect(told.host, told.port, keepalive=30)
+    except (ValueError, OverflowError) as fault:
+        raise Lost(str(fault)) from None
     # (else each small message waits for the answer to the one before it)
     client.socket().setsockopt(socket.IPPROTO_TCP, socket.TCP_NODELAY, 1)
     _until(client, lambda: bool(answers))
     if answers[0]:
         raise Lost(f"the broker refuses the connection: {mqtt.connack_string(answers[0])}")
+
+
+def _password_of(path: str) -> str:
+    """The password that stands in a file."""
+    try:
+        return Path(path).read_text(encoding="utf-8").strip()
+    except UnicodeDecodeError:
+        raise Trouble(path, "the password isn't in UTF-8", "write it into the file anew") from None
 
 
 def try_connection(told: Mqtt) -> None:
@@ -130,6 +143,10 @@ def try_connection(told: Mqtt) -> None:
 def publish(client: mqtt.Client, rows: list[Row]) -> None:
     """Publishes messages in their order; all of them are acknowledged when it returns."""
     sent = [client.publish(topic, payload, qos=1, retain=bool(retain)) for _, topic, payload, retain in rows]
+    for message in sent:
+        # (asked whether such a message is published paho raises a RuntimeError)
+        if message.rc != mqtt.MQTT_ERR_SUCCESS:
+            raise Lost(mqtt.error_string(message.rc))
     _until(client, lambda: all(message.is_published() for message in sent))
 
 
@@ -157,6 +174,8 @@ def _turn(client: mqtt.Client, seconds: float) -> None:
 def take_message(told: Mqtt, database: sqlite3.Connection, topic: str, payload: bytes) -> None:
     """Takes a command or a cancellation; what can't be taken is answered in words. Only what is committed is acknowledged."""
     kind, address = topic.removeprefix(f"{told.topic}/").split("/", 1)
+    # (the answer's topic is longer than this one, and no meter has so long an address)
+    address = address[:MOST_ADDRESS]
     publications = Publications(told, database)
     try:
         said = json.loads(payload[:MOST_MESSAGE])
@@ -164,7 +183,7 @@ def take_message(told: Mqtt, database: sqlite3.Connection, topic: str, payload: 
             put_command(database, str(said["id"]), address, str(said["payload"]), time.time())
         else:
             cancel_command(database, str(said["id"]), time.time(), publications)
-    except (ValueError, KeyError, TypeError):
+    except (ValueError, KeyError, TypeError, RecursionError):
         publications.refuse(address, f'a {kind} is JSON as {{"id": "a1", "payload": "0102"}}')
     except Trouble as fault:
         publications.refuse(address, str(fault))

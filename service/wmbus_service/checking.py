@@ -5,6 +5,7 @@ import os
 import shlex
 import shutil
 import stat
+import subprocess
 from collections.abc import Callable, Iterator
 from contextlib import closing
 from dataclasses import dataclass, replace
@@ -18,6 +19,8 @@ from .trouble import Trouble
 
 LEAST_ROOM = 256 << 20
 NOBODY = "0" * 16
+# what stands in front of a part of a shell's command
+BETWEEN = set("|;&(")
 
 
 @dataclass(frozen=True)
@@ -105,15 +108,34 @@ def look_at_meters(config: Config) -> None:
 
 
 def look_at_receiver(name: str, told: Receiver) -> None:
-    """A radio's program and its device."""
+    """A radio's programs and its device."""
     command, _ = feed_of(name, told)
-    first = shlex.split(command)[0]
-    if shutil.which(first) is None:
-        raise Trouble(f"receivers.{name}", f"the program {first} isn't there", f"apt-get install {first.replace('_', '-')}")
+    try:
+        programs = list(programs_in(command))
+    except ValueError as fault:
+        raise Trouble(f"receivers.{name}.command", f"it is none that a shell takes: {fault}", "look at its quotes") from None
+    for program in programs:
+        if subprocess.run(["/bin/sh", "-c", 'command -v "$1"', "sh", program], capture_output=True, check=False).returncode:
+            raise Trouble(f"receivers.{name}", f"the program {program} isn't there",
+                          "Debian doesn't have it: build it" if program == "rtl_wmbus" else f"apt-get install {program.replace('_', '-')}")
     for path in (told.device, told.file):
         if path and not os.access(path, os.R_OK):
             raise Trouble(f"receivers.{name}", f"{path} isn't there, or can't be read by this user",
                           "plug it in, and add the user to the group of the device (dialout)")
+
+
+def programs_in(command: str) -> Iterator[str]:
+    """The programs, and words of the shell, with which the parts of a command begin, behind variables that are set for them."""
+    words = shlex.shlex(command, posix=True, punctuation_chars=True)
+    words.whitespace_split, words.commenters = True, ""
+    begins = True
+    for word in words:
+        if word and set(word) <= BETWEEN:
+            begins = True
+        elif begins and word != "env" and "=" not in word:
+            begins = False
+            if "$" not in word:
+                yield word
 
 
 def look_at_downlinks(name: str, told: Receiver) -> None:

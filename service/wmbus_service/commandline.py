@@ -260,7 +260,7 @@ def _export(asked: argparse.Namespace) -> int:
             _write_own(asked.lines, exporting.lines(database))
         else:
             rows = exporting.as_json if asked.json else exporting.as_csv
-            sys.stdout.writelines(rows(database, asked.meter, asked.since))
+            sys.stdout.writelines(rows(database, asked.meter and asked.meter.lower(), asked.since))
     return DONE
 
 
@@ -282,10 +282,17 @@ def _backup(asked: argparse.Namespace) -> int:
 
 def _restore(asked: argparse.Namespace) -> int:
     config = _config(asked)
+    if asked.margin < 0:
+        raise Trouble("restore", "the margin is below 0, and downlink counters would be used twice",
+                      "give one above the number of downlinks to one meter since the copy")
     store.prepare_folder(config.folder)
     if service.is_locked(config.folder):
         raise Trouble(config.folder, "a service works on this folder", "end it first: systemctl stop wmbus")
-    count = backup.restore(config, asked.file, asked.margin)
+    held = service.lock(config.folder)
+    try:
+        count = backup.restore(config, asked.file, asked.margin)
+    finally:
+        os.close(held)
     print(f"restored; downlink counters of {count} meters are {asked.margin} higher, and commands that were open are cancelled")
     return DONE
 

@@ -12,17 +12,13 @@ MODES = ("brt", "brs", "brc")
 
 
 def read(device: str, mode: str) -> None:
-    """Prints the stick's lines until its port ends."""
+    """Prints what the stick says until its port ends."""
     with serial.Serial(device, SPEED, timeout=1) as port:
         # (X21 has each telegram come with its link quality, which line_feed leaves out)
         port.write(f"X21\r\n{mode}\r\n".encode())
         port.flush()
-        gathered = b""
         while True:
-            gathered += port.read(max(1, port.in_waiting))
-            *lines, gathered = gathered.split(b"\n")
-            for line in lines:
-                sys.stdout.buffer.write(line + b"\n")
+            sys.stdout.buffer.write(port.read(max(1, port.in_waiting)))
             sys.stdout.buffer.flush()
 
 

@@ -56,9 +56,14 @@ def write_downlink(path: str, frame: str) -> None:
     opened = os.open(path, os.O_WRONLY | os.O_APPEND | os.O_CREAT | os.O_NONBLOCK | os.O_CLOEXEC, 0o600)
     line = f"D {frame}\n".encode()
     try:
+        before = os.fstat(opened)
+        is_file = stat.S_ISREG(before.st_mode)
         if os.write(opened, line) != len(line):
+            if is_file:
+                # (else the next one would stand behind it in its line)
+                os.ftruncate(opened, before.st_size)
             raise OSError(errno.ENOSPC, "a downlink was written in part")
-        if stat.S_ISREG(os.fstat(opened).st_mode):
+        if is_file:
             os.fsync(opened)
     finally:
         os.close(opened)

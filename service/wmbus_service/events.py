@@ -6,7 +6,7 @@ import sqlite3
 from collections.abc import Sequence
 from typing import NamedTuple
 
-from .config import Config, words_of
+from .config import Config, Ticks, words_of
 from .merging import merged, moment_in
 from .spool import Spool, Spooled
 
@@ -27,7 +27,7 @@ def gather(config: Config, database: sqlite3.Connection, spools: Sequence[Spool]
     asked = asked_for(database)[:most]
     room = most - len(asked)
     heard = merged([spool.take(database, room) for spool in spools], words_of(config.programs.line_merge))[:room]
-    events = with_ticks(heard, due_ticks(database, now)[:room])
+    events = with_ticks(heard, due_ticks(config.ticks, database, now)[:room])
     while events and events[-1].ticked and len(heard) == room:
         events.pop()
     # (a line that is left out here is taken by a later session: its place isn't committed)
@@ -36,8 +36,9 @@ def gather(config: Config, database: sqlite3.Connection, spools: Sequence[Spool]
 
 def asked_for(database: sqlite3.Connection) -> list[Event]:
     """The lines for what operators asked for and no session has heard yet, the oldest first."""
-    rows = database.execute("select id, address, kind, payload, number, state from command where state = 'waiting' or wish = 'cancel'"
-                            " order by rowid")
+    # (by the index of those that are open: all that ever were stay)
+    rows = database.execute("select id, address, kind, payload, number, state from command where state in ('waiting', 'queued', 'sent')"
+                            " and (state = 'waiting' or wish = 'cancel') order by rowid")
     return [Event(order_line(*row), command=ident) for ident, *row in rows]
 
 
@@ -48,9 +49,13 @@ def order_line(address: str, kind: str, payload: str, number: int | None, state:
     return f"Q {address} {payload}" if kind == "send" else f"K {address} {payload}"
 
 
-def due_ticks(database: sqlite3.Connection, now: float) -> list[tuple[float, str]]:
-    """The meters whose tick is due, and since when."""
-    return database.execute("select due, address from meter where due <= ? order by due, address", (now,)).fetchall()
+def due_ticks(ticks: Ticks, database: sqlite3.Connection, now: float) -> list[tuple[float, str]]:
+    """The meters whose tick is due, and since when. None is due later than it can be, unless the clock was set back: then it comes in
+    time all the same, also where its meter isn't heard any more."""
+    latest = now + max(ticks.window, ticks.fragments)
+    rows = database.execute("select due, address from meter where due <= ? or due > ? order by due, address", (now, latest)).fetchall()
+    database.executemany("update meter set due = ? where address = ?", [(latest, address) for due, address in rows if due > latest])
+    return [(due, address) for due, address in rows if due <= now]
 
 
 def with_ticks(heard: Sequence[Spooled], ticks: Sequence[tuple[float, str]]) -> list[Event]:

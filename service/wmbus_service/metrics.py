@@ -12,6 +12,7 @@ from prometheus_client.registry import Collector
 
 from . import store
 from .config import Config, Metrics
+from .trouble import Trouble
 
 if TYPE_CHECKING:
     from .service import Service
@@ -71,4 +72,8 @@ def serve(config: Config, told: Metrics, service: Service) -> None:
     """Shows the metrics."""
     registry = CollectorRegistry()
     registry.register(Figures(config, service))
-    start_http_server(told.port, addr=told.host, registry=registry)
+    try:
+        start_http_server(told.port, addr=told.host, registry=registry)
+    except (OSError, OverflowError) as fault:
+        raise Trouble(f"metrics {told.host}:{told.port}", f"they can't be served: {fault}",
+                      "name another port under [metrics]") from None

@@ -95,6 +95,7 @@ class Receiving:
         while not self.ending.is_set():
             if spooled_bytes(self.config.spool) >= self.config.spool_bytes:
                 if not was_full:
+                    self._begin_file()
                     log.error("%s: the spool is full, and nothing is heard until sessions have taken lines from it", self.name)
                 was_full = True
                 self.ending.wait(LOOK)
@@ -106,9 +107,15 @@ class Receiving:
                 log.warning("%s: its feed ended, and is started again", self.name)
                 self.ending.wait(PAUSE)
 
+    def _begin_file(self) -> None:
+        """Begins an empty file: of a receiver's files the newest isn't taken away, and so would fill the spool though it was heard."""
+        with suppress(OSError):
+            os.close(new_file(self.config.spool, self.name))
+
     def _feed(self) -> None:
         """One feed to its end, into a file of its own."""
         opened = new_file(self.config.spool, self.name)
+        path = Path(os.readlink(f"/proc/self/fd/{opened}"))
         try:
             radio = subprocess.Popen(["/bin/sh", "-c", self.command], stdin=subprocess.DEVNULL, stdout=subprocess.PIPE, env=environment(),
                                      start_new_session=True)
@@ -125,6 +132,10 @@ class Receiving:
         if not self.ending.is_set():
             self.running[1].wait()
         self._end_feed()
+        with suppress(FileNotFoundError):
+            # (where a stick isn't there, and no service takes files away, there would be more and more)
+            if not path.stat().st_size:
+                path.unlink()
 
     def _end_feed(self) -> None:
         """Ends what this receiver started."""

@@ -1,10 +1,11 @@
 """What is kept for how long: lines for days, payloads for weeks, values of each day for ever."""
 from __future__ import annotations
 
+import json
 import sqlite3
 
 from .config import Keep
-from .store import transaction
+from .store import set_setting, setting, transaction
 
 DAY = 86_400.0
 # rows of a transaction, so that sessions wait for none of them long
@@ -32,20 +33,27 @@ def _delete(database: sqlite3.Connection, table: str, key: str, before: float) -
 
 
 def _forget_payloads(database: sqlite3.Connection, before: float) -> int:
-    """Readings stay without what was sent."""
+    """Readings stay without what was sent. Up to which moment there are none with it is kept, so that not all are looked through."""
     with transaction(database):
-        return database.execute("update reading set payload = null where id in"
-                                " (select id from reading where made < ? and payload is not null limit ?)",
-                                (before, PIECE)).rowcount
+        begin = float(setting(database, "payloads") or 0)
+        # (where the clock was set back, or they are kept for longer now, they are looked through anew)
+        rows = database.execute("select made, id from reading where made >= ? and made < ? and payload is not null order by made limit ?",
+                                (begin if begin <= before else 0, before, PIECE)).fetchall()
+        database.executemany("update reading set payload = null where id = ?", [(ident,) for _, ident in rows])
+        set_setting(database, "payloads", str(rows[-1][0] if len(rows) == PIECE else before))
+        return len(rows)
 
 
 def _gather_days(database: sqlite3.Connection, before: float) -> int:
     """Of the oldest readings the last values of each day stay."""
     with transaction(database):
-        oldest = [ident for (ident,) in database.execute("select id from reading where made < ? order by id limit ?", (before, PIECE))]
-        if oldest:
-            database.execute(
-                f"insert or replace into daily (day, {VALUES}) select date(reading.made, 'unixepoch'), {VALUES} from record"
-                " join reading on reading.id = record.reading where reading.id <= ? order by reading.id", (oldest[-1],))
-            database.execute("delete from reading where id <= ?", (oldest[-1],))
+        rows = database.execute("select id from reading where made < ? order by made, id limit ?", (before, PIECE)).fetchall()
+        oldest = [ident for (ident,) in rows]
+        # (what stays of several is written last: what has no modifiers, and stands first in the day's last reading)
+        database.execute(
+            f"insert or replace into daily (day, {VALUES}) select date(reading.made, 'unixepoch'), {VALUES} from"
+            " (select value as ident from json_each(?)) cross join reading on reading.id = ident"
+            " cross join record on record.reading = reading.id order by modifiers = '', reading.id, record.place desc",
+            (json.dumps(oldest),))
+        database.executemany("delete from reading where id = ?", [(ident,) for ident in oldest])
         return len(oldest)

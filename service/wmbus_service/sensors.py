@@ -61,7 +61,8 @@ def shown(record: dict[str, Any], kind: Kind) -> str | None:
     """A value as a JSON text: a number exactly as it was sent, in the unit of Home Assistant; a day or a moment in quotes."""
     value = record["value"]
     if NUMBER.fullmatch(value):
-        return f"{Decimal(value).scaleb(record['exponent'] + kind.power):f}"
+        exponent = record["exponent"] + kind.power
+        return f"{Decimal(f'{value}E{exponent}'):f}"
     if (DAY if record["quantity"] == "date" else MOMENT).fullmatch(value) and kind.state is None:
         return f'"{value}"'
     return None
@@ -70,6 +71,8 @@ def shown(record: dict[str, Any], kind: Kind) -> str | None:
 def name_of(record: dict[str, Any]) -> str:
     """A value's name among those of its meter: its quantity, and what sets it apart from the value of now."""
     parts = [record["quantity"]]
+    if record["modifiers"]:
+        parts.append(f"modifiers{record['modifiers']}")
     if record["function"] != "instantaneous":
         parts.append(record["function"])
     return "_".join(parts + [f"{word}{record[word]}" for word in ("storage", "tariff", "subunit") if record[word]])

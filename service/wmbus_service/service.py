@@ -29,7 +29,11 @@ LET_GO = 3600.0
 
 def lock(folder: Path) -> int:
     """Keeps other services away from a folder, as long as this process lives."""
-    opened = os.open(folder / "lock", os.O_RDWR | os.O_CREAT | os.O_CLOEXEC, 0o600)
+    try:
+        opened = os.open(folder / "lock", os.O_RDWR | os.O_CREAT | os.O_CLOEXEC, 0o600)
+    except OSError as fault:
+        raise Trouble(folder / "lock", f"it can't be opened: {fault.strerror}",
+                      "have the file system writable, and look at the owner and the rights of the folder") from None
     for _ in range(LOCK_TRIES):
         try:
             fcntl.flock(opened, fcntl.LOCK_EX | fcntl.LOCK_NB)
@@ -96,9 +100,14 @@ class Service:
         count = self.sessions.next(time.time())
         send_downlinks(self.config, self.database, time.time())
         self.session_made = time.time()
-        if not count and time.monotonic() > self.let_go_at and not retention.let_go(self.database, self.config.keep, time.time()):
-            self.let_go_at = time.monotonic() + LET_GO
+        self._let_go(1 + count // retention.PIECE)
         return count
+
+    def _let_go(self, pieces: int) -> None:
+        """Lets go what is kept no longer; with each session more than it had lines, since in a large house no session may have none."""
+        for _ in range(pieces):
+            if time.monotonic() > self.let_go_at and not retention.let_go(self.database, self.config.keep, time.time()):
+                self.let_go_at = time.monotonic() + LET_GO
 
     def _tell(self, fault: Exception) -> None:
         """Says what is the matter, once as long as it is the same."""

@@ -10,6 +10,7 @@ from collections.abc import Collection, Sequence
 from . import events, store
 from .config import Config, words_of
 from .events import Event
+from .publications import Publications
 from .spool import Spool, put_places
 from .steps import ProgramFailed, Told, run_steps, state_text
 from .trouble import Trouble
@@ -28,7 +29,9 @@ class Sessions:
 
     def __init__(self, config: Config, database: sqlite3.Connection) -> None:
         self.config, self.database = config, database
-        self.spools = [Spool(config.spool, name) for name in config.receivers]
+        # (a receiver that has another name now, or is no more, may have left lines)
+        left = {path.name.split(".")[0] for path in config.spool.glob("*.lines")} - config.receivers.keys()
+        self.spools = [Spool(config.spool, name) for name in [*config.receivers, *sorted(left)]]
         # how many lines the next session takes: fewer after one that the program failed at
         self.most = MOST
         # the line alone at which the program failed last
@@ -80,6 +83,9 @@ class Sessions:
     def _halve(self, batch: Sequence[Event], failed: ProgramFailed, now: float) -> int:
         """After a failed session the next one takes half of its lines, until the line at which the program fails is found; that one is
         set aside where the program fails at it once more."""
+        if not batch:
+            raise Trouble(self.config.programs.line_merge, f"the program fails to merge the receivers' lines: {failed}",
+                          "look at its release, or leave it out under [programs]: the service then merges them itself") from None
         if len(batch) > 1:
             log.error("the program failed over %d lines, and nothing of it counts: %s", len(batch), failed)
             self.most = len(batch) // 2
@@ -91,7 +97,7 @@ class Sessions:
             return int(not failed.is_ended())
         self._look_without_lines(batch)
         with store.transaction(self.database):
-            set_aside(self.database, batch[0], str(failed), now)
+            set_aside(self.config, self.database, batch[0], str(failed), now)
         log.error("the program fails at this line, which is set aside (`wmbus-service status` shows it): %s", failed)
         return 1
 
@@ -119,13 +125,14 @@ def blocks_of(database: sqlite3.Connection, addresses: Collection[str]) -> Block
     return {address: (place, block) for address, place, block in rows}
 
 
-def set_aside(database: sqlite3.Connection, event: Event, said: str, now: float) -> None:
+def set_aside(config: Config, database: sqlite3.Connection, event: Event, said: str, now: float) -> None:
     """Keeps a line that the program fails at out of all later sessions."""
     if event.spooled:
         put_places(database, [event.spooled])
     if event.command:
-        database.execute("update command set state = 'refused', reason = 'the program failed', wish = null, changed = ? where id = ?",
-                         (now, event.command))
+        database.execute("update command set state = 'refused', reason = 'the program failed', wish = null, changed = ?,"
+                         " payload = case kind when 'rekey' then '' else payload end where id = ?", (now, event.command))
+        Publications(config.mqtt, database).command(event.command)
     if event.ticked:
         database.execute("update meter set due = null where address = ?", (event.ticked,))
     receiver = event.spooled.receiver if event.spooled else None

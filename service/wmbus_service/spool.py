@@ -39,8 +39,13 @@ class Spool:
         """At most so many whole lines behind the committed places, all of which stand on the disk."""
         taken: list[Spooled] = []
         for path in self.files():
-            if len(taken) < most:
-                taken += self._take_of(path, place_of(database, self.receiver, path.name), most - len(taken))
+            if len(taken) >= most:
+                break
+            place = place_of(database, self.receiver, path.name)
+            # (long lines are read in several pieces, and those of the next file stand behind all of them)
+            while len(taken) < most and (found := self._take_of(path, place, most - len(taken))):
+                taken += found
+                place = found[-1].behind
         return taken
 
     def _take_of(self, path: Path, start: int, most: int) -> list[Spooled]:
@@ -80,6 +85,7 @@ class Spool:
             if is_finished(path, place_of(database, self.receiver, path.name)):
                 path.unlink()
         names = {path.name for path in files}
+        self.synced &= names
         # (a place is forgotten one round after its file went, so that no file comes back behind it)
         for (name,) in database.execute("select file from source where receiver = ?", (self.receiver,)).fetchall():
             if name not in names:
@@ -113,4 +119,6 @@ def is_finished(path: Path, taken: int) -> bool:
         except BlockingIOError:
             return False
         file.seek(taken)
-        return b"\n" not in file.read(CHUNK)
+        rest = file.read(CHUNK)
+        # (so much without an end is a line that is far too long, behind which others may stand)
+        return b"\n" not in rest and len(rest) < CHUNK

@@ -60,8 +60,8 @@ def values_of(database: sqlite3.Connection, reading: int) -> list[str]:
 
 
 def shown(value: str, exponent: int) -> str:
-    """A value with its power of ten."""
-    return f"{Decimal(value).scaleb(exponent):f}" if NUMBER.fullmatch(value) else value
+    """A value with its power of ten, and all its digits."""
+    return f"{Decimal(f'{value}E{exponent}'):f}" if NUMBER.fullmatch(value) else value
 
 
 def waiting_bytes(config: Config, database: Database) -> int:

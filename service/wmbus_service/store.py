@@ -98,12 +98,12 @@ def _migrate(path: Path, database: sqlite3.Connection) -> None:
     version, application = (database.execute(f"pragma {name}").fetchone()[0] for name in ("user_version", "application_id"))
     if version == schema.VERSION and application == schema.APPLICATION:
         return
-    if version > schema.VERSION:
+    if version > schema.VERSION and application == schema.APPLICATION:
         raise Trouble(path, f"the database is of version {version}, and this program knows {schema.VERSION}",
                       "install the later release again")
     with transaction(database):
-        version = database.execute("pragma user_version").fetchone()[0]
-        if not version and database.execute("select count(*) from sqlite_master").fetchone()[0]:
+        version, application = (database.execute(f"pragma {name}").fetchone()[0] for name in ("user_version", "application_id"))
+        if application != schema.APPLICATION and (version or database.execute("select count(*) from sqlite_master").fetchone()[0]):
             raise Trouble(path, "it is another program's database", "name another folder in the configuration")
         for text in schema.MIGRATIONS[version:]:
             for statement in _statements(text):

@@ -136,6 +136,7 @@ class Writing:
         """The meter has its new second key, which stands in its block."""
         if event.command:
             self.database.execute("update command set state = 'done', payload = '', changed = ? where id = ?", (self.now, event.command))
+            self.publications.command(event.command)
 
     def _ticked(self, event: Event, said: dict[str, Any], number: int) -> None:
         """The meter's window is closed, its fragments are older, and a command may be given up."""
@@ -159,8 +160,8 @@ class Writing:
 
     def _refuse(self, ident: str, words: str) -> None:
         """A command that isn't taken, and why."""
-        self.database.execute("update command set state = 'refused', reason = ?, wish = null, changed = ? where id = ?",
-                              (words, self.now, ident))
+        self.database.execute("update command set state = 'refused', reason = ?, wish = null, changed = ?,"
+                              " payload = case kind when 'rekey' then '' else payload end where id = ?", (words, self.now, ident))
         self.publications.command(ident)
 
     def _change(self, address: str, number: int, state: str) -> None:

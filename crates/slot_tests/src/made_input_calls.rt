@@ -1,7 +1,6 @@
-//! A small session, as another program made it.
-use crate::asserts::{NO_MEMORY, assert_bytes};
-use made_input::{Made, MadeText, Summary, make};
-use paper::written;
+//! Sessions as another program made them (`made_inputs` of tests/reference/made.py): a small one byte for byte, others by sums of their bytes.
+use crate::asserts::{NO_MEMORY, assert_bytes, assert_shown};
+use made_input::{Made, MadeText, make};
 use std::alloc::Global;
 use std::process::Abort;
 
@@ -20,111 +19,70 @@ A 4 304493150100000001077023900f002c250200000001e862133970de2d8c157a010010071000
 A 5 304493150200000001070fde900f002c2502000000657bb28547f0217a3e3f7a0100100710ac5636ff8b6778b25d32e2f6a241d193fb38b783
 ";
 
-// The lines at these places, each a digit.
-fn lines_at(rt: &impl Abort, alloc: Global, places: &str) -> String {
-    let mut text = String::new(alloc);
-    for place in places.bytes() {
-        put_line(rt, &mut text, usize::from(place.saturating_sub(b'0')));
+// The sum of bytes: that of those before each of them times 257, and the byte, modulo 2^64.
+fn sum_of(bytes: &[u8]) -> u64 {
+    let mut sum = 0_u64;
+    for byte in bytes {
+        sum = sum.wrapping_mul(257).wrapping_add(u64::from(*byte));
     }
-    text
+    sum
 }
 
-fn put_line(rt: &impl Abort, text: &mut String, place: usize) {
-    let line = LINES.lines().nth(place).expect(rt, "no line");
-    text.push_str(line).expect(rt, NO_MEMORY);
-    text.push('\n').expect(rt, NO_MEMORY);
+fn sum_of_text(rt: &impl Abort, alloc: Global, text: &MadeText) -> u64 {
+    sum_of(&text.joined(alloc).expect(rt, NO_MEMORY))
 }
 
-// Asserts that what a receiver hears are the lines at these places.
-fn assert_hears(rt: &impl Abort, alloc: Global, text: &MadeText, places: &str) {
-    let found = text.joined(alloc).expect(rt, NO_MEMORY);
-    let wanted = lines_at(rt, alloc, places);
-    assert_bytes(rt, &found, wanted.as_bytes(), places);
+// Asserts the sums of a session's roster and of what each of its receivers hears.
+fn assert_made(rt: &impl Abort, alloc: Global, made: Made, wanted: &str) {
+    let sums = [
+        sum_of(&made.roster),
+        sum_of_text(rt, alloc, &made.first),
+        sum_of_text(rt, alloc, &made.second),
+        sum_of_text(rt, alloc, &made.third),
+        sum_of_text(rt, alloc, &made.fourth),
+    ];
+    assert_shown(rt, alloc, &sums, wanted, wanted);
 }
 
 #[test]
 fn a_small_session_is_as_another_program_made_it(rt: HostRuntime) {
     let made = make(&rt, rt.alloc(), 2, 5, 7).expect(&rt, NO_MEMORY);
+    let first = made.first.joined(rt.alloc()).expect(&rt, NO_MEMORY);
     assert_bytes(&rt, &made.roster, ROSTER.as_bytes(), "roster");
-    assert_hears(&rt, rt.alloc(), &made.first, "01234");
-    assert_hears(&rt, rt.alloc(), &made.second, "12304");
-    assert_hears(&rt, rt.alloc(), &made.third, "23014");
-    assert_hears(&rt, rt.alloc(), &made.fourth, "30124");
+    assert_bytes(&rt, &first, LINES.as_bytes(), "first");
 }
 
-fn assert_end(rt: &impl Abort, text: &[u8], end: &str) {
-    assert!(rt; text.ends_with(end.as_bytes()), "{end}");
-}
-
-// Asserts what the roster's last meter and the last line that the first receiver hears are, as another program makes them.
-fn assert_ends(rt: &impl Abort, alloc: Global, made: &Made, meter: &str, line: &str) {
-    let first = made.first.joined(alloc).expect(rt, NO_MEMORY);
-    assert_end(rt, &made.roster, meter);
-    assert_end(rt, &first, line);
-}
-
+// That small one, the 256th round, keys drawn from the last number, the most meters, and a large one.
 #[test]
-fn the_256th_round_is_as_another_program_made_it(rt: HostRuntime) {
-    let made = make(&rt, rt.alloc(), 1, 512, 3).expect(&rt, NO_MEMORY);
-    assert_ends(
+fn sessions_have_the_sums_of_those_that_another_program_made(rt: HostRuntime) {
+    assert_made(
         &rt,
         rt.alloc(),
-        &made,
-        "meter 9315010000000107 7 0658fb1cf7b7275387b403bc94cb9d58 - - 0 0\n",
-        "A 512 0e449315999999990107a4f47a00000000515f\n",
+        make(&rt, rt.alloc(), 2, 5, 7).expect(&rt, NO_MEMORY),
+        "[10481755530024231907, 631304658931542367, 13641705019911882847, 16571248415811999583, 17759233624005401183]",
     );
-}
-
-#[test]
-fn the_last_number_is_drawn_from_as_by_another_program(rt: HostRuntime) {
-    let made = make(&rt, rt.alloc(), 12, 12, u64::MAX).expect(&rt, NO_MEMORY);
-    assert_ends(
+    assert_made(
         &rt,
         rt.alloc(),
-        &made,
-        "meter 9315120000000107 7 5a7bdd71f6f0dc29f5103c65a36d8070 - - 0 0\n",
-        "A 12 304493151200000001073487900f002c2501000000377fbc00ae7a310ebbbf7a0100100710ed590236dd826770d2ba9f520e92357fb297b4a1\n",
+        make(&rt, rt.alloc(), 1, 512, 3).expect(&rt, NO_MEMORY),
+        "[622036936452317854, 921052597050652036, 13745043747759447428, 10677373564697179524, 9244378300373632900]",
     );
-}
-
-#[test]
-fn the_last_of_the_most_meters_is_as_another_program_made_it(rt: HostRuntime) {
-    let made = make(&rt, rt.alloc(), 1_024, 1_024, 5).expect(&rt, NO_MEMORY);
-    assert_ends(
+    assert_made(
         &rt,
         rt.alloc(),
-        &made,
-        "meter 9315241000000107 7 92639d6364171f5d82fa04533ea9b97c - - 0 0\n",
-        "A 1024 30449315241000000107143c900f002c2501000000a798146b801d682cdf1a7a0100100710d3ab12ec6b9136f7cce3c85df379fb2e9c88e322\n",
+        make(&rt, rt.alloc(), 12, 12, u64::MAX).expect(&rt, NO_MEMORY),
+        "[5837248731763766459, 308444584303063913, 7796920245363957097, 17535504558341235817, 10797439522915604841]",
     );
-}
-
-fn assert_summary(rt: &impl Abort, alloc: Global, meters: u32, telegrams: u32, wanted: &str) {
-    let text = written(alloc, &Summary { meters, telegrams }).expect(rt, NO_MEMORY);
-    assert_bytes(rt, &text, wanted.as_bytes(), "summary");
-}
-
-#[test]
-fn summaries_are_as_another_program_counted_them(rt: HostRuntime) {
-    assert_summary(
+    assert_made(
         &rt,
         rt.alloc(),
-        1,
-        1,
-        "wmbus-made 1\nmeters 1 receivers 4 lines 4 steps 4 strangers 0\nhighest 1\nend\n",
+        make(&rt, rt.alloc(), 1_024, 1_024, 5).expect(&rt, NO_MEMORY),
+        "[16019460544907220942, 18310726344534927813, 390034841064595909, 10558574234139982021, 2216451740313554373]",
     );
-    assert_summary(
+    assert_made(
         &rt,
         rt.alloc(),
-        1024,
-        2048,
-        "wmbus-made 1\nmeters 1024 receivers 4 lines 8192 steps 8188 strangers 4\nhighest 2047\nend\n",
-    );
-    assert_summary(
-        &rt,
-        rt.alloc(),
-        2,
-        5,
-        "wmbus-made 1\nmeters 2 receivers 4 lines 20 steps 16 strangers 4\nhighest 4\nend\n",
+        make(&rt, rt.alloc(), 50, 5_000, 7).expect(&rt, NO_MEMORY),
+        "[323375960773539415, 11196092063435235550, 10614643397989392862, 7346833078433433310, 16530763729489478366]",
     );
 }

@@ -1,33 +1,9 @@
-//! What the tests assert, and the fields of rows. What fails for want of memory ends the test: a function that hands an error on takes much
-//! longer to prove.
+//! What the tests assert, and what a row's digits spell. What fails for want of memory ends the test: a function that hands an error on
+//! takes much longer to prove.
 use hex::FromHex;
 use std::alloc::Global;
 use std::fmt::Debug;
 use std::process::Abort;
-
-/// What a test says where an allocation failed.
-pub(crate) const NO_MEMORY: &str = "no memory";
-
-fn assert_count(rt: &impl Abort, fields: &[&str], count: usize) {
-    assert!(rt; fields.len() == count);
-}
-
-/// The fields of a row, of which there are so many.
-pub(crate) fn fields<'t>(
-    rt: &impl Abort,
-    alloc: Global,
-    row: &'t str,
-    count: usize,
-) -> Vec<&'t str> {
-    let fields: Vec<&str> = row.split(' ').collect(alloc).expect(rt, NO_MEMORY);
-    assert_count(rt, &fields, count);
-    fields
-}
-
-/// The field at a place of a row.
-pub(crate) fn field<'t>(rt: &impl Abort, row: &[&'t str], place: usize) -> &'t str {
-    row.get(place).expect(rt, "too few fields")
-}
 
 /// The bytes that hexadecimal digits spell: `-` stands for none.
 pub(crate) fn bytes(rt: &impl Abort, alloc: Global, digits: &str) -> Vec<u8> {
@@ -53,6 +29,6 @@ pub(crate) fn assert_shown<T: Debug>(
     wanted: &str,
     name: &str,
 ) {
-    let shown = format!(in alloc; "{value:?}").expect(rt, NO_MEMORY);
+    let shown = format!(in alloc; "{value:?}").expect(rt, "no memory");
     assert_eq!(rt; shown.as_str(), wanted, "{name}");
 }

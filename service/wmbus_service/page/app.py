@@ -7,7 +7,7 @@ import secrets
 import time
 from collections.abc import Iterator
 from contextlib import closing
-from datetime import datetime
+from datetime import datetime, time as clock_time
 from hmac import digest
 from typing import Any
 
@@ -314,7 +314,7 @@ def meter_readings(address: str) -> Response:
 
 def _csv(name: str, addresses: list[str]) -> Response:
     """Readings from a moment or day to another, line by line."""
-    begin, end = _bound("from", 0, 0), _bound("to", LAST_MOMENT, 86_399)
+    begin, end = _bound("from", 0, (0, 0, 0)), _bound("to", LAST_MOMENT, (23, 59, 59))
     door = door_of()
 
     def rows() -> Iterator[str]:
@@ -323,7 +323,7 @@ def _csv(name: str, addresses: list[str]) -> Response:
     return Response(rows(), mimetype="text/csv", headers={"Content-Disposition": f'attachment; filename="{name}"'})
 
 
-def _bound(name: str, without: int, of_day: int) -> int:
+def _bound(name: str, without: int, of_day: tuple[int, int, int]) -> int:
     """A bound of a span: seconds since 1970, or a day, of which the last second counts at the end."""
     text = request.args.get(name, "")
     if not text:
@@ -331,6 +331,6 @@ def _bound(name: str, without: int, of_day: int) -> int:
     if re.fullmatch("[0-9]{1,18}", text, re.ASCII):
         return int(text)
     try:
-        return int(datetime.strptime(text, "%Y-%m-%d").timestamp()) + of_day
+        return int(datetime.combine(datetime.strptime(text, "%Y-%m-%d"), clock_time(*of_day)).timestamp())
     except (ValueError, OverflowError):
         raise Worded(f"`{name}` is a day as 2026-01-31, or a number of seconds since 1970.") from None

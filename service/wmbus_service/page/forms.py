@@ -24,7 +24,7 @@ def guard() -> None:
     if request.method != "POST":
         return
     origin = request.headers.get("Origin")
-    if origin is not None and urlsplit(origin).netloc != request.host:
+    if origin is not None and not _is_own(origin):
         abort(403)
     if request.headers.get("Sec-Fetch-Site", "same-origin") not in ("same-origin", "none"):
         abort(403)
@@ -32,6 +32,14 @@ def guard() -> None:
         abort(403)
     if request.endpoint != "forms.entered" and not may_write():
         abort(403)
+
+
+def _is_own(origin: str) -> bool:
+    """Whether a site is this page's own."""
+    try:
+        return urlsplit(origin).netloc == request.host
+    except ValueError:
+        return False
 
 
 def _field(name: str) -> str:

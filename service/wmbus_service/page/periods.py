@@ -1,7 +1,6 @@
 """What was used by hour, day and month, and curves: of a register the last value of each stretch of time."""
 from __future__ import annotations
 
-import calendar
 import time
 from dataclasses import dataclass, replace
 from decimal import Decimal
@@ -52,13 +51,14 @@ class Curve:
 
 def bounds_of(by: str, now: float) -> list[int]:
     """The moments at which the hours or days of the last periods begin, in this machine's zone, and one behind now."""
-    year, month, day = time.localtime(now)[:3]
+    year, month, day, _, minute, second = time.localtime(now)[:6]
     _, count = PERIODS[by]
     if by == "hour":
-        found = [int(now) - int(now) % 3600 - 3600 * back for back in range(count)]
+        found = [int(now) - 60 * minute - second - 3600 * back for back in range(count)]
     else:
         first = (year, month - count + 1, 1) if by == "month" else (year, month, day - count + 1)
-        days = range(1 + int(now - time.mktime((*first, 0, 0, 0, 0, 0, -1))) // DAY)
+        # (rounded, since an hour is missing where summer time began)
+        days = range(1 + round((now - time.mktime((*first, 0, 0, 0, 0, 0, -1))) / DAY))
         found = [int(time.mktime((year, month, day - back, 0, 0, 0, 0, 0, -1))) for back in days]
     return sorted(found) + [int(now) + 1]
 
@@ -91,7 +91,7 @@ def _with_days(database: Database, address: str, register: Register,
                points: list[tuple[int, None, str]]) -> list[tuple[int, None, str]]:
     """The points with those of days whose readings are gone in front of them."""
     first = points[0][0] if points else 1 << 62
-    days = ((calendar.timegm(time.strptime(day, "%Y-%m-%d")) + DAY - 1, number)
+    days = ((int(time.mktime((*time.strptime(day, "%Y-%m-%d")[:3], 23, 59, 59, 0, 0, -1))), number)
             for day, number in day_values(database, address, register))
     return [(moment, None, number) for moment, number in days if moment < first] + points
 

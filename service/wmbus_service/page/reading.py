@@ -14,8 +14,15 @@ from ..sensors import NUMBER
 from ..trouble import Trouble
 from .shared import GRACE, NAMES, PREFIXED, Register, is_number, is_time, label_of, maker_of, prefix_for, type_of
 
-# columns that have keys or what was made with them
-KEYED = {("meter", "block"), ("outbox", "frame")}
+# columns that have keys or what was made with them, and such as have new keys beside what is shown, which these views leave out
+KEYED = {("meter", "block"), ("outbox", "frame"), ("aside", "text")}
+VIEWED = {("line", "text"): "line", ("command", "payload"): "command"}
+VIEWS = (
+    "create temp view line as select number, receiver, case when substr(text, 1, 2) in ('A ', 'B ') then text else '' end as text, due, made"
+    " from main.line",
+    "create temp view command as select rowid, id, address, kind, case kind when 'send' then payload else '' end as payload, state, number,"
+    " tries, reason, wish, made, changed from main.command",
+)
 PATIENCE = 2.0
 # in so many of a meter's last readings its registers are looked for, and so many values of these
 MOST_READINGS, MOST_VALUES = 200, 20_000
@@ -32,14 +39,16 @@ def open_reading(path: Path) -> sqlite3.Connection:
         raise Trouble(path, "there is no database yet", "`wmbus-service add` or `wmbus-service run` makes it")
     store.look_at_rights(path, 0o600)
     database = sqlite3.connect(path, timeout=PATIENCE, isolation_level=None, check_same_thread=False)
+    for view in VIEWS:
+        database.execute(view)
     database.execute("pragma query_only = on")
     database.set_authorizer(_allowed)
     return database
 
 
-def _allowed(action: int, first: str | None, second: str | None, _base: str | None, _inner: str | None) -> int:
-    is_keyed = action == sqlite3.SQLITE_READ and (first, second) in KEYED
-    return sqlite3.SQLITE_DENY if is_keyed else sqlite3.SQLITE_OK
+def _allowed(action: int, first: str | None, second: str | None, base: str | None, inner: str | None) -> int:
+    is_keyed = (first, second) in KEYED or base == "main" and inner != VIEWED.get((first or "", second or ""), inner)
+    return sqlite3.SQLITE_DENY if action == sqlite3.SQLITE_READ and is_keyed else sqlite3.SQLITE_OK
 
 
 @dataclass(frozen=True)
@@ -111,6 +120,11 @@ def exact(value: str, exponent: int) -> str:
     return f"{Decimal(f'{value}E{exponent}'):f}"
 
 
+def told_raw(quantity: str, raw: str) -> str:
+    """What was sent, where everybody may see it: access codes, passwords and keys of a meter are among the unknown quantities."""
+    return "" if quantity == "unknown" else raw
+
+
 def all_meters(database: Database, now: float) -> list[Meter]:
     """All meters, in the order in which they were added."""
     return meters_of(database, database.execute("select address, name, receiver from meter order by place").fetchall(), now)
@@ -147,14 +161,17 @@ def _last_readings(database: Database, address: str, now: float, most: int) -> l
 
 def _main_value(database: Database, readings: list[tuple[int, int, float, int]], now: float) -> Value | None:
     """Of a meter's last values the one that says most."""
+    other = None
     for ident, moment, made, _ in readings:
-        rows = database.execute(f"select quantity, unit, exponent, value, raw from record where reading = ? and {FIRST_ALWAYS}"
+        rows = database.execute(f"select quantity, unit, modifiers, exponent, value, raw from record where reading = ? and {FIRST_ALWAYS}"
                                 " order by place limit 100", (ident,))
-        found = [Value(Register(quantity, unit), exact(value, exponent), raw, heard_at(moment, made, now))
-                 for quantity, unit, exponent, value, raw in rows if quantity not in NAMES and NUMBER.fullmatch(value)]
-        if found:
-            return min(found, key=lambda it: it.rank)
-    return None
+        found = [Value(Register(quantity, unit, modifiers=modifiers), exact(value, exponent), raw, heard_at(moment, made, now))
+                 for quantity, unit, modifiers, exponent, value, raw in rows if quantity not in NAMES and NUMBER.fullmatch(value)]
+        best = min(found, key=lambda it: it.rank, default=None)
+        if best is not None and best.register.is_main():
+            return best
+        other = other or best
+    return other
 
 
 def last_values(database: Database, address: str, now: float) -> list[Value]:
@@ -163,11 +180,12 @@ def last_values(database: Database, address: str, now: float) -> list[Value]:
     found: dict[tuple[Any, ...], Value] = {}
     count = 0
     for ident, moment, made, _ in _last_readings(database, address, now, MOST_READINGS):
-        rows = database.execute("select quantity, unit, function, storage, tariff, subunit, exponent, value, raw from record"
+        rows = database.execute("select quantity, unit, function, storage, tariff, subunit, modifiers, exponent, value, raw from record"
                                 " where reading = ? order by place limit ?", (ident, MOST_VALUES)).fetchall()
         for row in rows:
-            if (kind := row[:6]) not in found:
-                found[kind] = Value(Register(*kind), exact(row[7], row[6]), row[8], heard_at(moment, made, now))
+            if (kind := row[:7]) not in found:
+                register = Register(*kind[:6], modifiers=kind[6])
+                found[kind] = Value(register, exact(row[8], row[7]), told_raw(row[0], row[9]), heard_at(moment, made, now))
         count += len(rows)
         if count > MOST_VALUES:
             break
@@ -180,12 +198,12 @@ def last_values(database: Database, address: str, now: float) -> list[Value]:
 
 POINT = ("select moment, exponent, value from reading cross join record on record.reading = reading.id"
          " where address = ? and moment >= ? and moment < ? and quantity = ? and unit = ? and function = ? and storage = ?"
-         " and tariff = ? and subunit = ? order by moment desc limit 1")
+         " and tariff = ? and subunit = ? and modifiers = ? order by moment desc limit 1")
 
 
 def points_of(database: Database, address: str, register: Register, bounds: Sequence[int]) -> Iterator[tuple[int, None, str]]:
     """The last value in each stretch between bounds, where there is one."""
-    kind = (register.quantity, register.unit, register.function, register.storage, register.tariff, register.subunit)
+    kind = (register.quantity, register.unit, register.function, register.storage, register.tariff, register.subunit, register.modifiers)
     for begin, end in zip(bounds, bounds[1:], strict=False):
         row = database.execute(POINT, (address, begin, end, *kind)).fetchone()
         if row and NUMBER.fullmatch(row[2]) and abs(row[1]) <= MOST_POWER:
@@ -193,7 +211,9 @@ def points_of(database: Database, address: str, register: Register, bounds: Sequ
 
 
 def day_values(database: Database, address: str, register: Register) -> Iterator[tuple[str, str]]:
-    """The last values of days whose readings are gone: day and number."""
+    """The last values of days whose readings are gone: day and number. Those of registers with modifiers aren't kept."""
+    if register.modifiers:
+        return
     rows = database.execute("select day, exponent, value from daily where address = ? and quantity = ? and unit = ? and function = ?"
                             " and storage = ? and tariff = ? and subunit = ? order by day",
                             (address, register.quantity, register.unit, register.function, register.storage, register.tariff,

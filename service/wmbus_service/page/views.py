@@ -27,7 +27,7 @@ def meter_data(meter: Meter) -> dict[str, Any]:
 
 def register_data(register: Any) -> dict[str, Any]:
     """A register as data: what the database has of it."""
-    return {name: getattr(register, name) for name in ("quantity", "unit", "function", "storage", "tariff", "subunit")}
+    return {name: getattr(register, name) for name in ("quantity", "unit", "function", "storage", "tariff", "subunit", "modifiers")}
 
 
 def value_data(value: Value) -> dict[str, Any]:
