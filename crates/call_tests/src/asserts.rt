@@ -5,6 +5,9 @@ use std::alloc::Global;
 use std::fmt::Debug;
 use std::process::Abort;
 
+/// What a test says where an allocation failed.
+pub(crate) const NO_MEMORY: &str = "no memory";
+
 /// The bytes that hexadecimal digits spell: `-` stands for none.
 pub(crate) fn bytes(rt: &impl Abort, alloc: Global, digits: &str) -> Vec<u8> {
     let digits = if digits == "-" { "" } else { digits };
@@ -14,6 +17,16 @@ pub(crate) fn bytes(rt: &impl Abort, alloc: Global, digits: &str) -> Vec<u8> {
 /// The sixteen bytes that hexadecimal digits spell.
 pub(crate) fn block(rt: &impl Abort, digits: &str) -> [u8; 16] {
     <[u8; 16] as FromHex>::from_hex(digits).expect(rt, "no block")
+}
+
+/// The bytes of a text.
+pub(crate) fn bytes_of(rt: &impl Abort, alloc: Global, text: &str) -> Vec<u8> {
+    text.as_bytes().to_vec(alloc).expect(rt, NO_MEMORY)
+}
+
+/// The number of the call that fails, alone in a list.
+pub(crate) fn call(rt: &impl Abort, alloc: Global, number: u64) -> Vec<u64> {
+    vec![in alloc; number].expect(rt, NO_MEMORY)
 }
 
 /// Asserts that bytes are these.
@@ -29,6 +42,6 @@ pub(crate) fn assert_shown<T: Debug>(
     wanted: &str,
     name: &str,
 ) {
-    let shown = format!(in alloc; "{value:?}").expect(rt, "no memory");
+    let shown = format!(in alloc; "{value:?}").expect(rt, NO_MEMORY);
     assert_eq!(rt; shown.as_str(), wanted, "{name}");
 }

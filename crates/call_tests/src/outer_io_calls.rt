@@ -13,7 +13,7 @@ fn assert_read(
 ) {
     let answer = source.read(into);
     assert_eq!(rt; answer, wanted, "{bytes}");
-    assert_bytes(rt, into, bytes, "read");
+    assert_bytes(rt, into, bytes.as_bytes(), "read");
 }
 
 #[test]
@@ -55,8 +55,8 @@ fn listed_writes_fail_and_the_others_take_all(rt: HostRuntime) {
         "(Ok(()), Err(Failed), Ok(()), Ok(()), Err(Failed))",
         "writes",
     );
-    assert_bytes(&rt, sink.bytes(), "abcghi", "listed");
-    assert_bytes(&rt, steady.bytes(), "jk", "steady");
-    assert_bytes(&rt, pieces.bytes(), "abcd", "pieces");
+    assert_bytes(&rt, sink.bytes(), b"abcghi", "listed");
+    assert_bytes(&rt, steady.bytes(), b"jk", "steady");
+    assert_bytes(&rt, pieces.bytes(), b"abcd", "pieces");
     assert_eq!(rt; pieces.write(b"efg"), Ok(2));
 }
