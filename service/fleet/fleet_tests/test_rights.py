@@ -79,6 +79,7 @@ def test_a_gateway_has_its_own_queue_and_name_alone(fleet: Fleet, tmp_path: Path
         "another's name": published(broker.EXCHANGE, broker.up_key(area, other)),
         "another area": published(broker.EXCHANGE, broker.up_key(f"{area}2", own)),
         "a longer name": published(broker.EXCHANGE, broker.up_key(area, own) + "x"),
+        "a name with a newline": published(broker.EXCHANGE, broker.up_key(area, own) + "\n"),
         "past the exchange": published("", queue),
         "reading another's downlinks": lambda channel: next(channel.consume(queue, inactivity_timeout=1)),
         "getting one of them": lambda channel: channel.basic_get(queue),

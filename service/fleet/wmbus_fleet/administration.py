@@ -46,8 +46,9 @@ class Administration:
         """Lets a gateway read its own queue, and publish under its own name in its area; nothing else."""
         queue = f"^{re.escape(broker.gateway_queue(gateway))}$"
         self._ask("PUT", f"permissions/{HOST}/{quote(gateway)}", {"configure": queue, "write": f"^{broker.EXCHANGE}$", "read": queue})
+        # (at a $ a newline may stand behind the name)
         self._ask("PUT", f"topic-permissions/{HOST}/{quote(gateway)}",
-                  {"exchange": broker.EXCHANGE, "write": f"^{re.escape(broker.up_key(area, gateway))}$", "read": NONE})
+                  {"exchange": broker.EXCHANGE, "write": f"^{re.escape(broker.up_key(area, gateway))}\\z", "read": NONE})
 
     def remove(self, gateway: str) -> None:
         """Takes a gateway's user away, and ends its connections."""

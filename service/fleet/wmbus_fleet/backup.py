@@ -8,6 +8,7 @@ from collections.abc import Sequence
 from pathlib import Path
 
 import psycopg
+from psycopg.conninfo import conninfo_to_dict, make_conninfo
 from wmbus_service.backup import raised_by_program
 from wmbus_service.commands import OPEN
 from wmbus_service.config import words_of
@@ -25,7 +26,7 @@ def back_up(config: Config, target: Path) -> None:
     if target.exists():
         raise Trouble(target, "it is there already", "name a new file")
     os.close(os.open(target, os.O_WRONLY | os.O_CREAT | os.O_EXCL, 0o600))
-    _done(["pg_dump", "--format=custom", f"--dbname={config.database}", f"--file={target}"])
+    _done(["pg_dump", "--format=custom", f"--file={target}"], config.database)
     opened = os.open(target, os.O_RDWR)
     try:
         os.fsync(opened)
@@ -41,10 +42,15 @@ def restore(config: Config, source: Path, margin: int) -> int:
     with psycopg.connect(config.database, autocommit=True) as database:
         if store.one(database, "select to_regclass('setting')") is not None:
             raise Trouble("the database", "it has tables already", "name a new, empty one in the configuration")
-    _done(["pg_restore", "--single-transaction", "--no-owner", "--exit-on-error", f"--dbname={config.database}", str(source)])
-    with store.connect(config.database) as database, store.transaction(database):
+        # (as long as this table is there no part works over the copy)
+        database.execute("create table if not exists restoring ()")
+    _done(["pg_restore", "--single-transaction", "--no-owner", "--exit-on-error", str(source)], config.database)
+    # (a copy of an earlier release)
+    store.init(config.database)
+    with store.connect(config.database, is_restored=False) as database, store.transaction(database):
         count = raise_counters(config, database, margin)
         _give_up(database, time.time())
+        database.execute("drop table restoring")
     return count
 
 
@@ -70,10 +76,14 @@ def _give_up(database: Database, now: float) -> None:
     database.execute("update outbox set missed = 'restored' where sent is null and missed is null")
 
 
-def _done(words: Sequence[str]) -> None:
-    """Runs a program of PostgreSQL's."""
+def _done(words: Sequence[str], database: str) -> None:
+    """Runs a program of PostgreSQL's over a database. (A password is no argument, which everybody on the machine sees.)"""
+    told = conninfo_to_dict(database)
+    secret = {"PGPASSWORD": str(told.pop("password"))} if "password" in told else {}
+    reached = f"--dbname={make_conninfo(**told)}"
     try:
-        done = subprocess.run(words, stdin=subprocess.DEVNULL, capture_output=True, text=True, check=False)
+        done = subprocess.run([words[0], reached, *words[1:]], stdin=subprocess.DEVNULL, capture_output=True, text=True, check=False,
+                              env=os.environ | secret)
     except OSError as fault:
         raise Trouble(words[0], f"the program can't be started: {fault.strerror}", "apt-get install postgresql-client") from None
     if done.returncode:

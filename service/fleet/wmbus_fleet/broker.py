@@ -5,6 +5,7 @@ import logging
 import random
 import signal
 import ssl
+import time
 from collections.abc import Callable, Iterator
 from contextlib import contextmanager, suppress
 from pathlib import Path
@@ -121,14 +122,20 @@ def depth(channel: Any, queue: str) -> int:
 
 
 def consume(channel: Any, queue: str, take: Callable[..., None]) -> None:
-    """Has each message of a queue be taken."""
+    """Has each message of a queue be taken; that the queue goes is an error, since of one that is made anew nothing would come."""
+    def gone(told: Any) -> None:
+        raise pika.exceptions.ConsumerCancelled(f"the queue {told.method.consumer_tag} went")
+
+    channel.add_on_cancel_callback(gone)
     with within(PATIENCE):
-        channel.basic_consume(queue, take)
+        channel.basic_consume(queue, take, consumer_tag=queue)
 
 
 def publish(channel: Any, exchange: str, key: str, body: bytes, lives: int | None = None) -> None:
-    """Publishes a message, and waits until its queue has it; one that no queue takes is an error."""
-    properties = pika.BasicProperties(delivery_mode=PERSISTENT, expiration=None if lives is None else str(lives))
+    """Publishes a message, and waits until its queue has it; one that no queue takes is an error. What lives for so many milliseconds tells
+    when it was published."""
+    properties = pika.BasicProperties(delivery_mode=PERSISTENT, expiration=None if lives is None else str(lives),
+                                      timestamp=None if lives is None else int(time.time()))
     with within(PATIENCE):
         channel.basic_publish(exchange, key, body, properties, mandatory=True)
 

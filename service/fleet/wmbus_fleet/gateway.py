@@ -8,6 +8,7 @@ import sqlite3
 import time
 from collections.abc import Sequence
 from contextlib import closing
+from dataclasses import replace
 from pathlib import Path
 from typing import Any
 
@@ -39,6 +40,7 @@ create table if not exists source (receiver text, file text, taken integer not n
 create table if not exists message (
     number integer primary key, lines blob not null, until integer not null, made real not null, acknowledged integer not null default 0);
 create index if not exists message_open on message (number) where not acknowledged;
+create index if not exists message_by_age on message (made) where acknowledged;
 -- of each meter the last downlink, until when it counts, and when it was given to the radio
 create table if not exists armed (address text primary key, down integer not null, frame text not null, until real not null, sent real)
     without rowid;
@@ -65,13 +67,16 @@ class Agent:
         self.spool = Spool(service.spool, told.receiver)
         self.radio = service.receivers[told.receiver].downlinks
         self.numbered_at = self.said_at = 0.0
+        # of a meter the counter of the downlink that the radio got last
+        self.written: dict[str, int] = {}
 
     # ---- lines
 
     def number(self, now: float) -> int:
         """Makes messages of what was heard, and commits what each of them holds; how many lines there were."""
         is_listening = bool(self.database.execute("select 1 from armed where sent is null and until > ? limit 1", (now,)).fetchone())
-        if now - self.numbered_at < self.told.interval and not is_listening or self._is_used_up(now):
+        # (a clock that is set back doesn't hold it up)
+        if 0 <= now - self.numbered_at < self.told.interval and not is_listening or self._is_used_up(now):
             return 0
         with store.transaction(self.database):
             lines = self.spool.take(self.database, MOST * ROOM)
@@ -79,7 +84,7 @@ class Agent:
                 self._send_armed(lines, now)
             for start in range(0, len(lines), MOST):
                 self._make(lines[start:start + MOST], now, start + MOST >= len(lines) and len(lines) < MOST * ROOM)
-            if not lines and now - self.said_at > self.told.silence:
+            if not lines and not 0 <= now - self.said_at <= self.told.silence:
                 # (so that a loss at the end shows too)
                 self._make([], now, True)
             put_places(self.database, lines)
@@ -90,7 +95,9 @@ class Agent:
     def _make(self, lines: Sequence[Spooled], now: float, is_all: bool) -> None:
         """The next message; whether all that was heard until now stands in it or in those before it."""
         _, last = self.numbering()
-        (until,) = self.database.execute("select coalesce(max(until), 0) from message").fetchone()
+        told = self.database.execute("select until from message where number = ?", (last,)).fetchone()
+        # (what was told by a clock that was ahead isn't told again)
+        until = told[0] if told and told[0] <= now else 0
         text = "".join(f"{line.text}\n" for line in lines).encode("latin-1")
         self.database.execute("insert into message (number, lines, until, made) values (?, ?, ?, ?)",
                               (last + 1, text, int(now) if is_all else until, now))
@@ -129,13 +136,13 @@ class Agent:
 
     # ---- what it is told
 
-    def hear(self, body: bytes, now: float) -> None:
+    def hear(self, body: bytes, now: float, published: int | None = None) -> None:
         """What the fleet says to the gateway."""
         order = read_order(self.told.name, body)
         if isinstance(order, Again):
             self.send_again(order, now)
         elif isinstance(order, Down):
-            arm(self.database, order, now)
+            arm(self.database, left_of(order, now, published), now)
         else:
             log.error("%s: the fleet said something that isn't understood", self.told.name)
 
@@ -182,17 +189,20 @@ class Agent:
             if address not in addresses:
                 continue
             try:
-                write_downlink(self.radio, frame)
+                # (where the commit failed behind it, as on a full disk, it isn't sent anew with each try)
+                if self.written.get(address) != down:
+                    write_downlink(self.radio, frame)
             except OSError as fault:
                 log.warning("%s: the downlink %d of meter %s can't be sent: %s", self.told.name, down, address, fault.strerror)
                 continue
+            self.written[address] = down
             self.database.execute("update armed set sent = ? where address = ?", (now, address))
 
     # ---- without end
 
     def run(self, ending: Ending) -> None:
         """Goes on until it is told to end; without the broker it numbers lines and sends what is armed."""
-        trouble = ""
+        trouble = unnumbered = ""
         while not ending.is_set():
             try:
                 with broker.connected(self.config.broker) as connection:
@@ -206,8 +216,11 @@ class Agent:
             while time.monotonic() < limit and not ending.is_set():
                 try:
                     self.number(time.time())
+                    unnumbered = ""
                 except (ProgramFailed, Trouble, OSError, sqlite3.Error) as fault:
-                    log.error("%s: %s", self.told.name, fault)
+                    if str(fault) != unnumbered:
+                        log.error("%s: %s", self.told.name, fault)
+                    unnumbered = str(fault)
                 ending.wait(LOOK)
 
     def _serve(self, connection: Any, ending: Ending) -> None:
@@ -218,8 +231,8 @@ class Agent:
             raise Trouble(f"gateway {self.told.name}", "another one with this name is connected, or its connection isn't closed yet",
                           "where it stays so, give each its own name")
 
-        def told(_channel: Any, method: Any, _properties: Any, body: bytes) -> None:
-            self.hear(body, time.time())
+        def told(_channel: Any, method: Any, properties: Any, body: bytes) -> None:
+            self.hear(body, time.time(), properties.timestamp)
             channel.basic_ack(method.delivery_tag)
 
         broker.consume(channel, broker.gateway_queue(self.told.name), told)
@@ -236,6 +249,13 @@ def mark_acknowledged(database: sqlite3.Connection, numbers: Sequence[int]) -> N
     if numbers:
         with store.transaction(database):
             database.executemany("update message set acknowledged = 1 where number = ?", [(number,) for number in numbers])
+
+
+def left_of(told: Down, now: float, published: int | None) -> Down:
+    """A downlink with what is left of its time behind its way through the queue, which drops it once that is over: where nothing would be
+    left a clock is wrong."""
+    age = 0 if published is None else int(now) - published
+    return replace(told, seconds=told.seconds - age) if 0 < age < told.seconds else told
 
 
 def arm(database: sqlite3.Connection, told: Down, now: float) -> None:

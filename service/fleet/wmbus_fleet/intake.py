@@ -126,7 +126,9 @@ def put_fences(database: Database, fences: Mapping[str, Fence], until: Mapping[s
     """How far each gateway's messages are taken, and until when what it heard."""
     rows = [(name, epoch, number, until[name]) for name, (epoch, number) in fences.items()]
     if rows:
-        database.execute("update gateway g set epoch = f.epoch, number = f.number, until = f.until, seen = now() from"
+        # (what comes behind its end of a gateway that was taken away holds up no tick)
+        database.execute("update gateway g set epoch = f.epoch, number = f.number, seen = now(), until = case when g.gone is null then"
+                         " f.until else g.until end from"
                          " unnest(%s::text[], %s::bigint[], %s::bigint[], %s::bigint[]) as f (name, epoch, number, until)"
                          " where g.name = f.name", tuple(list(column) for column in zip(*rows, strict=True)))
 
@@ -141,9 +143,16 @@ class Consuming:
         # of each message its tag, its gateway, and what it is, where it is in form
         self.held: list[tuple[int, str, Message | None]] = []
         self.since = 0.0
+        self.areas: set[str] = set()
+        self.listen(areas)
+
+    def listen(self, areas: Sequence[str]) -> None:
+        """Takes messages of these areas too."""
         for area in areas:
-            broker.declare_area(self.channel, area)
-            broker.consume(self.channel, broker.area_queue(area), self._hold)
+            if area not in self.areas:
+                broker.declare_area(self.channel, area)
+                broker.consume(self.channel, broker.area_queue(area), self._hold)
+                self.areas.add(area)
 
     def _hold(self, _channel: Any, method: Any, _properties: Any, body: bytes) -> None:
         """A message is in hand."""
@@ -196,9 +205,10 @@ def run(config: Config, areas: Sequence[str], name: str, ending: Ending) -> None
     while not ending.is_set():
         try:
             with store.connect(config.database) as database, broker.connected(config.broker) as connection:
-                known = [area for (area,) in database.execute("select name from area order by name").fetchall()]
-                consuming = Consuming(Intake(config, database, name), connection, areas or known)
+                consuming = Consuming(Intake(config, database, name), connection, areas)
                 while not ending.is_set():
+                    # (of all also those that were made since)
+                    consuming.listen(areas or [area for (area,) in database.execute("select name from area order by name").fetchall()])
                     consuming.turn()
         except (psycopg.Error, ProgramFailed, *broker.FAULTS) as fault:
             told = f"intake: {store.told_of(fault)}"

@@ -6,6 +6,7 @@ from collections.abc import Sequence
 from dataclasses import dataclass
 
 from wmbus_service.config import NAME
+from wmbus_service.spool import LONGEST as LONGEST_LINE
 
 # so many lines a message at most, the numbers that an epoch has, and so many bytes a message
 MOST = 100
@@ -55,24 +56,28 @@ def lines_body(epoch: int, number: int, until: int, lines: bytes) -> bytes:
     return f"wmbus-lines 1 {epoch} {number} {until}\n".encode() + lines
 
 
-def gateway_in(key: str) -> str:
-    """Whose message one is, by its key, `up.AREA.GATEWAY`, which RabbitMQ lets its own user alone use; in letters of names."""
+def gateway_in(key: str | bytes) -> str:
+    """Whose message one is, by its key, `up.AREA.GATEWAY`, which RabbitMQ lets its own user alone use; in letters of names. (A key that is
+    no text comes as bytes.)"""
+    key = key if isinstance(key, str) else key.decode("latin-1")
     return UNNAMED.sub("?", key.split(".")[-1][:LONGEST_NAME + 1])
 
 
-def read_lines(key: str, body: bytes) -> Message | None:
+def read_lines(key: str | bytes, body: bytes) -> Message | None:
     """A message by its key, `up.AREA.GATEWAY`, and its body; none where it is out of form."""
+    if len(body) > LONGEST:
+        return None
     head, *lines = body.decode("latin-1").split("\n")
     found = HEAD.fullmatch(head)
-    if found is None or not NAME.fullmatch(gateway_in(key)) or len(body) > LONGEST or len(lines) > MOST + 1 or lines[-1:] != [""]:
+    if found is None or int(found[2]) > LAST or not NAME.fullmatch(gateway_in(key)) or len(lines) > MOST + 1 or lines[-1:] != [""]:
         return None
     return Message(gateway_in(key), int(found[1]), int(found[2]), int(found[3]), tuple(lines[:-1]))
 
 
 def frames_in(lines: Sequence[str]) -> list[tuple[int, str]]:
     """The lines of frames with their places, from 1: whatever else stands there, a gateway says what it heard alone, and puts no command
-    and no key."""
-    return [(place, line.replace("\0", "?")) for place, line in enumerate(lines, 1) if line.startswith(FRAMES)]
+    and no key. Of a line that is far too long so much is kept as of a receiver's."""
+    return [(place, line[:LONGEST_LINE].replace("\0", "?")) for place, line in enumerate(lines, 1) if line.startswith(FRAMES)]
 
 
 def again_body(asked: Again) -> bytes:

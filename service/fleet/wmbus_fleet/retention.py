@@ -6,7 +6,7 @@ from .config import Keep
 from .store import Database
 
 DAY, STEP = 86_400.0, 5000
-MOST_STRANGERS = 10_000
+MOST_STRANGERS = MOST_MISSING = 10_000
 
 
 def let_go(database: Database, keep: Keep, now: float) -> bool:
@@ -24,4 +24,5 @@ def let_go(database: Database, keep: Keep, now: float) -> bool:
                      (MOST_STRANGERS,))
     database.execute("delete from oddity where (gateway, what) in (select gateway, what from oddity order by last_made desc offset %s)",
                      (MOST_STRANGERS,))
+    database.execute("delete from missing where ctid in (select ctid from missing order by made desc offset %s)", (MOST_MISSING,))
     return gone > 0

@@ -10,7 +10,8 @@ from collections.abc import Collection, Sequence
 import psycopg
 from wmbus_service.config import words_of
 from wmbus_service.ending import Ending
-from wmbus_service.events import Event, order_line, with_ticks
+from wmbus_service.events import Event, order_line
+from wmbus_service.merging import moment_in
 from wmbus_service.steps import ProgramFailed, Told, run_steps, state_text
 from wmbus_service.trouble import Trouble
 
@@ -106,9 +107,10 @@ def lock(database: Database, shard: int) -> bool:
 def gather(database: Database, ticks: Ticks, shard: int, now: float, most: int) -> list[Event]:
     """What is to be heard of a shard: what operators asked for, then gateways' lines as they were taken, with each tick where it was
     due. While more lines wait, no tick stands behind them all."""
+    # (who cancels a command that is taken here waits for the commit: what was said to be cancelled isn't sent)
     orders = [Event(order_line(*row), command=ident) for ident, *row in database.execute(
         "select id, address, kind, payload, number, state from command where (state = 'waiting' or wish is not null)"
-        " and shard_of(address) = %s order by place limit %s", (shard, most)).fetchall()]
+        " and shard_of(address) = %s order by place limit %s for update", (shard, most)).fetchall()]
     due = due_ticks(database, ticks, shard, now, most - len(orders))
     room = most - len(orders) - len(due)
     heard = take(database, shard, room)
@@ -116,6 +118,23 @@ def gather(database: Database, ticks: Ticks, shard: int, now: float, most: int) 
     while events and events[-1].ticked and len(heard) == room:
         events.pop()
     return orders + events
+
+
+def with_ticks(heard: Sequence[Arrived], due: Sequence[tuple[float, str]]) -> list[Event]:
+    """Each tick stands in front of what was heard of its own meter later than it was due, or else behind all lines: what came of another
+    gateway meanwhile doesn't say that all of the meter's lines of before are heard."""
+    waiting = {address: moment for moment, address in due}
+    events: list[Event] = []
+    for line in heard:
+        if line.address in waiting and waiting[line.address] < moment_in(line.text, 0):
+            events.append(_tick(waiting.pop(line.address), line.address))
+        events.append(Event(line.text, spooled=line))
+    return events + [_tick(moment, address) for address, moment in waiting.items()]
+
+
+def _tick(moment: float, address: str) -> Event:
+    """A meter's tick."""
+    return Event(f"T {address}", ticked=address, due=moment)
 
 
 def due_ticks(database: Database, ticks: Ticks, shard: int, now: float, most: int) -> list[tuple[float, str]]:
@@ -186,9 +205,11 @@ def run(config: Config, ending: Ending) -> None:
                 sessions, let_go_at = Sessions(config, database), time.monotonic()
                 while not ending.is_set():
                     count = sessions.turn(time.time())
-                    if not count and time.monotonic() > let_go_at and not retention.let_go(database, config.keep, time.time()):
+                    is_behind = count >= MOST // 2
+                    # (of a large fleet each turn has lines)
+                    if not is_behind and time.monotonic() > let_go_at and not retention.let_go(database, config.keep, time.time()):
                         let_go_at = time.monotonic() + LET_GO
-                    ending.wait(0 if count >= MOST // 2 else config.interval)
+                    ending.wait(0 if is_behind else config.interval)
         except (psycopg.Error, ProgramFailed, Trouble, OSError) as fault:
             told = f"sessions: {store.told_of(fault)}"
             if told != trouble:

@@ -39,12 +39,16 @@ def figures(database: Database) -> dict[str, Any]:
         "meters": store.one(database, "select count(*) from meter"),
         "inbox": store.one(database, "select count(*) from inbox"),
         "downlinks_waiting": store.one(database, "select count(*) from outbox where sent is null and missed is null"),
-        "ticks_late": store.one(database, "select count(*) from meter where due < %s", (time.time() - 60,)),
+        # (others wait for what a gateway that is cut off heard before they were due)
+        "ticks_late": store.one(database, "select count(*) from meter m left join gateway g on g.name = m.gateway where m.due < %s"
+                                          " and (g.name is null or g.until > m.due)", (time.time() - 60,)),
         "commands": store.pairs(database, "select state, count(*) from command group by state order by state"),
         "clocks": _rows(database, "select name, (until - extract(epoch from seen))::bigint as ahead from gateway where seen > now()"
-                                  f" - interval '{SILENT} seconds' and abs(until - extract(epoch from seen)) > {SILENT} order by name"),
-        "asked": _rows(database, "select name, epoch, number + 1 as number from gateway where asked < now() - interval '60 seconds'"
-                                 " and (seen is null or seen <= asked) order by name"),
+                                  f" - interval '{SILENT} seconds' and abs(until - extract(epoch from seen)) > {SILENT}"
+                                  " and gone is null order by name"),
+        # (one that goes on behind a gap is asked again and again)
+        "asked": _rows(database, "select name, epoch, number + 1 as number from gateway where gone is null and asked is not null"
+                                 " and (seen is null or seen <= asked and seen < now() - interval '60 seconds') order by name"),
         "oddities": _rows(database, f"select gateway, what, times from oddity order by last_made desc limit {LAST}"),
         "gateways": _rows(database, "select name, area, epoch, number, extract(epoch from now() - seen)::bigint as age from gateway"
                                     f" g where gone is null and ({IS_SILENT}) order by name limit {MOST}"),

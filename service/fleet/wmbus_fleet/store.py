@@ -22,8 +22,8 @@ SERVER_ALIVE = ("tcp_keepalives_idle = 10", "tcp_keepalives_interval = 5", "tcp_
                 "idle_in_transaction_session_timeout = 120000")
 
 
-def connect(words: str) -> Database:
-    """A connection to the fleet's database, the tables of which are there."""
+def connect(words: str, is_restored: bool = True) -> Database:
+    """A connection to the fleet's database, the tables of which are there, and, where a copy was put into it, its counters raised."""
     database = psycopg.connect(make_conninfo(words, **ALIVE), autocommit=True, connect_timeout=5)
     # (each commit stands before it is acknowledged, whatever the server's configuration says)
     database.execute("; ".join(f"set {setting}" for setting in ("synchronous_commit = on", *SERVER_ALIVE)))
@@ -34,6 +34,10 @@ def connect(words: str) -> Database:
                       f"its tables are of version {version}, and this program knows {schema.VERSION}",
                       "`wmbus-fleet init` makes them" if version is None or version < schema.VERSION
                       else "install the release that fits")
+    if is_restored and one(database, "select to_regclass('restoring') is not null"):
+        database.close()
+        raise Trouble("the database", "a copy is put into it, and `wmbus-fleet restore` hasn't ended: its counters may be those of before",
+                      "wait, or where it was ended name a new, empty one in the configuration, and restore the copy again")
     return database
 
 
