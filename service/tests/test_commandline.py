@@ -1,22 +1,26 @@
 """The command line as somebody uses it who installs the service, over a configuration in a file."""
 from __future__ import annotations
 
+import errno
 import io
 import json
 import os
+import pty
 import signal
 import sqlite3
 import subprocess
-from contextlib import redirect_stderr, redirect_stdout
+from collections.abc import Iterator
+from contextlib import redirect_stderr, redirect_stdout, suppress
 from dataclasses import dataclass
 from pathlib import Path
 
 import pytest
-from wmbus_service import backup, config, service
+from wmbus_service import backup, config, exporting, service
 from wmbus_service.backup import raise_counters
 from wmbus_service.commandline import main
 from wmbus_service.config import Config, Programs, has_steps, read_config, unproved_words
 from wmbus_service.meters import add_meter, set_own
+from wmbus_service.receiving import spooled_bytes
 from wmbus_service.service import Service
 from wmbus_service.store import open_store, prepare_folder
 
@@ -115,6 +119,39 @@ def test_from_nothing_to_readings(place: Place) -> None:
     assert "no command" in place.fault("command", "--cancel", "a2")
 
 
+@pytest.mark.parametrize("address, own, key", [(f"{ADDRESS}\u200b", OWN, KEY), (ADDRESS, f"\ufeff{OWN}", KEY),
+                                               (ADDRESS, OWN, f"{KEY}\u200b"), (f"{ADDRESS}\udcfc", OWN, KEY)])
+def test_signs_that_arent_seen(place: Place, address: str, own: str, key: str) -> None:
+    """What was copied out of a document with a sign that nobody sees is refused in words, and no key is told."""
+    said = place.fault("add", address, "--own", own, given=key)
+    assert f"meter {address}: " in said and "type it" in said and KEY not in said
+
+
+def test_a_name_in_another_encoding(place: Place) -> None:
+    """A meter is added also where its name has signs that can't be shown, as a terminal of another encoding gives them: without these."""
+    place.said("add", ADDRESS, "--own", OWN, "--name", "K\udcfcche\n1", given=KEY)
+    assert json.loads(place.said("status", "--json"))["meters"][0]["name"] == "Kche1"
+
+
+def test_strangers_that_are_known_now(place: Place) -> None:
+    """A meter that was heard before it was added is no longer among those that aren't known."""
+    place.said("add", ADDRESS, "--own", OWN, given=KEY)
+    with sqlite3.connect(place.folder / "wmbus/wmbus.db") as database:
+        database.executemany("insert into stranger values (?, ?, 'attic', 1)", [(ADDRESS, 5), ("9315999999990107", 4)])
+    told = place.said("status")
+    assert "not known: 9315999999990107" in told and f"not known: {ADDRESS}" not in told
+
+
+def test_a_file_that_goes_meanwhile(place: Place) -> None:
+    """A file that a session takes away while its bytes are counted, as one that stands for nothing here, has none."""
+    place.said("add", ADDRESS, "--own", OWN, given=KEY)
+    spool = place.folder / "wmbus/spool"
+    (spool / "attic.00000001.1.lines").symlink_to("gone")
+    (spool / "attic.00000002.1.lines").write_text("A 1 00\n")
+    assert "7 bytes wait" in place.said("status")
+    assert spooled_bytes(spool) == 7
+
+
 def test_export_of_a_meter_in_large_letters(place: Place) -> None:
     """An address in large letters names its meter, as it does for the other commands."""
     address = "93150100000a01ab"
@@ -168,6 +205,36 @@ def test_what_is_no_copy(place: Place) -> None:
         database.execute("create table mail (text text)")
     assert "no copy" in place.fault("restore", str(copy))
     assert f"meter {ADDRESS}" in place.said("status")
+
+
+def test_copies_that_fail(place: Place, monkeypatch: pytest.MonkeyPatch) -> None:
+    """A copy that can't be made, or isn't put back, leaves no part of it, in which keys are, and which takes room."""
+    copy, folder = place.folder / "copy.db", place.folder / "wmbus"
+    place.fault("backup", str(copy))
+    place.said("add", ADDRESS, "--own", OWN, given=KEY)
+    with monkeypatch.context() as full:
+        full.setattr(backup, "sync", lambda _: os.write(os.open("/dev/full", os.O_WRONLY), b"a"))
+        assert "No space left" in place.fault("backup", str(copy))
+    assert not list(place.folder.glob("copy*"))
+    place.said("backup", str(copy))
+    with sqlite3.connect(copy) as database:
+        database.execute("update meter set block = 'no block 1 2 3 4 5 6'")
+    assert "doesn't take" in place.fault("restore", str(copy))
+    copy.write_bytes(b"")
+    place.fault("restore", str(copy))
+    assert not list(folder.glob("restored*"))
+
+
+def test_an_export_that_fails(place: Place, monkeypatch: pytest.MonkeyPatch) -> None:
+    """Lines or a state of which a part alone can be written, as where the disk is full, leave no file that looks whole."""
+    place.said("add", ADDRESS, "--own", OWN, given=KEY)
+
+    def cut_off(*_: object) -> Iterator[str]:
+        yield "A 1 00\n"
+        raise OSError(errno.ENOSPC, "No space left on device")
+    monkeypatch.setattr(exporting, "lines", cut_off)
+    assert "No space left" in place.fault("export", "--lines", str(place.folder / "lines"))
+    assert not (place.folder / "lines").exists()
 
 
 def test_copy_of_many_meters(place: Place) -> None:
@@ -262,6 +329,9 @@ def test_configuration(place: Place) -> None:
         folder + "[receivers.attic]\nprofile = 1\n": "receivers.attic.profile isn't a text",
         folder + "[mqtt]\nport = -1\n": "mqtt.port isn't a number",
         folder + "[ticks\n": "it is no TOML",
+        folder + '[programs]\nsteps = "/opt/tim\'s/wmbus steps"\n': "programs.steps isn't a command",
+        folder + '[programs]\nline_merge = "line\'merge"\n': "programs.line_merge isn't a command",
+        folder + '[programs]\nline_feed = ""\n': "programs.line_feed is empty",
     }.items():
         place.config.write_text(text)
         assert said in place.fault("status")
@@ -272,6 +342,88 @@ def test_configuration(place: Place) -> None:
     assert "there is no receiver roof" in place.fault("receive", "roof")
     place.config.unlink()
     assert "can't be read" in place.fault("status")
+
+
+@pytest.mark.parametrize("words", [("export", "--since", "9" * 19), ("export", "--since", "9" * 5000), ("export", "--since", "today"),
+                                   ("export", "--meter", "\udcfc"), ("command", "--cancel", "\udcfc"), ("command", "\udcfc", "01"),
+                                   ("rekey", "\udcfc")])
+def test_words_that_cant_be_asked_for(place: Place, words: tuple[str, ...]) -> None:
+    """A moment beyond all that a database has, and what isn't in UTF-8, are faulty words."""
+    place.said("add", ADDRESS, "--own", OWN, given=KEY)
+    done = place.run(*words, given=KEY)
+    assert done.status == 2 and "usage: wmbus-service" in done.errors
+
+
+def test_check_of_a_database_that_isnt_whole(place: Place) -> None:
+    """All else is looked at all the same."""
+    place.said("add", ADDRESS, "--own", OWN, given=KEY)
+    path = place.folder / "wmbus/wmbus.db"
+    with sqlite3.connect(path) as database:
+        pages = database.execute("select rootpage from sqlite_master where tbl_name = 'meter'").fetchall()
+        (size,) = database.execute("pragma page_size").fetchone()
+        database.execute("pragma wal_checkpoint(truncate)")
+    with open(path, "r+b") as file:
+        for (page,) in pages:
+            file.seek((page - 1) * size)
+            file.write(b"\xff" * 200)
+    said = place.fault("check")
+    assert "wrong: meters: the database: " in said and "last backup" in said and "receivers.attic: it can't send" in said
+
+
+def test_check_of_programs(place: Place) -> None:
+    """Each program that the configuration names is looked for, also those without which the service does the same itself."""
+    for name in ("line_merge", "state_raise", "meter_name"):
+        lines = [line for line in place.config.read_text().splitlines() if not line.startswith(name)]
+        lines.insert(lines.index("[programs]") + 1, f'{name} = "/nonexistent/{name} -x"')
+        place.config.write_text("\n".join(lines))
+        assert f"/nonexistent/{name}: there is no such program" in place.fault("check")
+
+
+def test_check_of_a_large_roster(place: Place) -> None:
+    """A roster of more meters than a session's state has is right, as it is for the service, which takes it in pieces."""
+    roster = place.folder / "meters.roster"
+    roster.write_text(f"wmbus-roster 2\nown {OWN}\n" + "".join(f"meter 9315{number:08d}0107 7 {KEY} - - 0 0\n" for number in range(4097)))
+    roster.chmod(0o600)
+    place.config.write_text(f'roster = "{roster}"\n' + place.config.read_text())
+    assert f"right: roster {roster}" in place.run("check").output
+    roster.write_text(roster.read_text() + "meter 93150000000201\n")
+    assert "doesn't take the roster" in place.fault("check")
+
+
+@pytest.mark.parametrize("sign", [b"\x03", b"\x04"])
+def test_a_key_that_isnt_entered(place: Place, sign: bytes) -> None:
+    """Who ends the question for a key, by Ctrl-C or Ctrl-D, is told so, and the status says that no meter was added."""
+    child, terminal = pty.fork()
+    if not child:
+        os.environ |= {"WMBUS_CONFIG": str(place.config), "PYTHONPATH": str(TOP / "service")}
+        os.execv(PYTHON, [PYTHON, "-m", "wmbus_service", "add", ADDRESS, "--own", OWN])
+    told = b""
+    with suppress(OSError), os.fdopen(terminal, "r+b", 0) as opened:
+        while piece := opened.read(1000):
+            told += piece
+            if told.endswith(b": "):
+                opened.write(sign)
+    _, status = os.waitpid(child, 0)
+    assert os.waitstatus_to_exitcode(status) == 1
+    assert b"wmbus-service: " in told and b"Traceback" not in told
+    assert json.loads(place.said("status", "--json"))["meters"] == []
+
+
+@pytest.mark.parametrize("language", ["C", "C.UTF-8"])
+def test_a_key_in_another_encoding(place: Place, language: str) -> None:
+    """A key or a password that isn't in UTF-8 is refused in words, and nothing of it is told."""
+    words = [PYTHON, "-m", "wmbus_service", "--config", str(place.config), "add", ADDRESS, "--own", OWN]
+    environment = {**os.environ, "LC_ALL": language, "PYTHONPATH": str(TOP / "service")}
+    done = subprocess.run(words, input=f"{KEY}\xfc\n".encode("latin-1"), env=environment, capture_output=True, timeout=PATIENCE,
+                          check=False)
+    assert (done.returncode, done.stderr.count(b"\n")) == (1, 1) and b"UTF-8" in done.stderr and KEY.encode() not in done.stderr
+
+
+def test_a_configuration_of_windows(place: Place) -> None:
+    """A configuration that was edited on Windows, with a mark in front and carriage returns, is read as it is meant."""
+    place.said("add", ADDRESS, "--own", OWN, given=KEY)
+    place.config.write_bytes(b"\xef\xbb\xbf" + place.config.read_bytes().replace(b"\n", b"\r\n"))
+    assert f"meter {ADDRESS}" in place.said("status")
 
 
 def test_words(place: Place) -> None:

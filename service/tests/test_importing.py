@@ -231,10 +231,10 @@ def key_file(secret: bytes, method: str = AES_128) -> str:
             f"<CipherData><CipherValue>{lines}</CipherValue></CipherData></EncryptedData>\n")
 
 
-def zipped(*files: tuple[str, str]) -> bytes:
+def zipped(*files: tuple[str, str], method: int = zipfile.ZIP_DEFLATED) -> bytes:
     """An archive of files."""
     content = io.BytesIO()
-    with zipfile.ZipFile(content, "w", zipfile.ZIP_DEFLATED) as archive:
+    with zipfile.ZipFile(content, "w", method) as archive:
         for name, text in files:
             archive.writestr(name, text)
     return content.getvalue()
@@ -249,6 +249,15 @@ def test_kamstrups_key_file(place: Place, form: str) -> None:
     path = listed(place, zipped(("order.kem", text), ("read me.txt", "")) if form == "zip" else text)
     assert place.said("import", str(path), "--mode", "5", given=f"{PASSWORD}\n") == "2 new meters\n"
     assert known(place) == {KAMSTRUP: f"meter {KAMSTRUP} 5 {KEY} - - 0 0\n", HEAT: f"meter {HEAT} 5 {'ff' * 16} - - 0 0\n"}
+
+
+@pytest.mark.parametrize("method", [zipfile.ZIP_STORED, zipfile.ZIP_DEFLATED, zipfile.ZIP_BZIP2, zipfile.ZIP_LZMA])
+def test_a_damaged_archive(place: Place, method: int) -> None:
+    """An archive that isn't whole any more is named, however it is packed."""
+    pytest.importorskip("defusedxml", reason="python3-defusedxml isn't there")
+    content = bytearray(zipped(("order.kem", ORDER), method=method))
+    content[60:80] = bytes(20)
+    assert "keys: the archive can't be read: " in place.fault("import", str(listed(place, bytes(content))), "--own", OWN)
 
 
 def test_faulty_key_files(place: Place) -> None:

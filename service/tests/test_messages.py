@@ -1,6 +1,7 @@
 """MQTT against a real broker, Home Assistant's discovery, metrics, and where keys stand."""
 from __future__ import annotations
 
+import functools
 import json
 import os
 import shutil
@@ -11,7 +12,7 @@ import threading
 import time
 import urllib.request
 from collections.abc import Iterator
-from contextlib import closing
+from contextlib import closing, suppress
 from dataclasses import replace
 from pathlib import Path
 
@@ -145,6 +146,39 @@ def test_messages_of_any_form(house: House, mosquitto: Mosquitto) -> None:
     served.end()
 
 
+def test_a_cancellation_under_another_meter(house: House) -> None:
+    """A command is cancelled under its own meter alone, as on the page: a broker may let somebody write for one meter and for no other."""
+    meter, other = (it.name for it in house.meters[:2])
+    put_command(house.database, "a", meter, "01", time.time())
+    for address, state in ((other, "waiting"), (meter.upper(), "cancelled")):
+        broker.take_message(Mqtt(), house.database, f"wmbus/cancel/{address}", b'{"id": "a"}')
+        assert house.all("select state from command") == [state]
+    told = house.all("select topic, payload from publication order by id")
+    assert told[0][0] == f"wmbus/commands/{other}" and "error" in json.loads(told[0][1])
+    assert told[1][0] == f"wmbus/commands/{meter}" and json.loads(told[1][1])["state"] == "cancelled"
+
+
+@pytest.mark.parametrize("text", ["null", "true", "[]", "1.5"])
+def test_an_id_that_is_none(house: House, text: str) -> None:
+    """A command under an id that is neither a text nor a number, as a template gives null for what it hasn't, is answered, and not taken:
+    the next such one would be taken for the same."""
+    broker.take_message(Mqtt(), house.database, f"wmbus/command/{house.meters[0].name}", f'{{"id": {text}, "payload": "01"}}'.encode())
+    assert not house.all("select id from command")
+    assert ["error" in json.loads(it) for it in house.all("select payload from publication")] == [True]
+
+
+@pytest.mark.parametrize("topic", ["house", "wmbus/house"])
+def test_a_command_under_an_earlier_topic(house: House, topic: str) -> None:
+    """A broker goes on to send what was subscribed under the topic of an earlier configuration (MQTT 3.1.1, 4.1): a command there isn't
+    one, and cancels none."""
+    meter = house.meters[0].name
+    put_command(house.database, "a", meter, "01", time.time())
+    for ident in ("a", "b"):
+        broker.take_message(Mqtt(), house.database, f"{topic}/command/{meter}", json.dumps({"id": ident, "payload": "01"}).encode())
+    assert house.all("select id, state from command") == [("a", "waiting")]
+    assert not house.all("select topic from publication")
+
+
 def test_a_connection_that_is_reset() -> None:
     """Where the broker resets the connection just before a message, as one does that is killed while it has unread ones, the connection
     is lost, as at any other moment: the next one follows."""
@@ -169,6 +203,81 @@ def test_a_connection_that_is_reset() -> None:
             broker.publish(client, [(number, "wmbus/meter/a", "{}", 1) for number in range(3)])
 
 
+def test_a_slow_way_to_the_broker(monkeypatch: pytest.MonkeyPatch) -> None:
+    """Messages are given up where no answer comes for long, and not where each of many takes its time: else all of them would go out
+    again and again."""
+    import paho.mqtt.client as mqtt
+    monkeypatch.setattr(broker, "PATIENCE", 1.0)
+    with socket.create_server(("127.0.0.1", 0)) as server:
+        def serve() -> None:
+            opened, _ = server.accept()
+            with opened, opened.makefile("rb") as file:
+                file.read(file.read(2)[1])
+                opened.sendall(bytes([0x20, 2, 0, 0]))
+                while head := file.read(2):
+                    # (a PUBLISH at QoS 1: the topic's length, the topic, its number)
+                    body = file.read(head[1])
+                    if head[0] & 0xF0 == 0x30:
+                        time.sleep(0.2)
+                        at = 2 + int.from_bytes(body[:2], "big")
+                        opened.sendall(bytes([0x40, 2]) + body[at:at + 2])
+        threading.Thread(target=serve, daemon=True).start()
+        client = mqtt.Client(client_id="wmbus")
+        broker._connect(Mqtt(port=server.getsockname()[1]), client)
+        broker.publish(client, [(number, "wmbus/meter/a", "{}", 1) for number in range(12)])
+        client.disconnect()
+
+
+def test_a_broker_that_lets_nothing_be_subscribed(house: House, caplog: pytest.LogCaptureFixture) -> None:
+    """Where the broker refuses a subscription (MQTT 3.1.1, 3.9.3), as its rights may have it, that is said: no command would come."""
+    with socket.create_server(("127.0.0.1", 0)) as server:
+        def serve() -> None:
+            opened, _ = server.accept()
+            with opened, opened.makefile("rb") as file:
+                file.read(file.read(2)[1])
+                opened.sendall(bytes([0x20, 2, 0, 0]))
+                while head := file.read(2):
+                    body = file.read(head[1])
+                    if head[0] & 0xF0 == 0x80:
+                        opened.sendall(bytes([0x90, 4]) + body[:2] + bytes([0x80, 0x80]))
+        threading.Thread(target=serve, daemon=True).start()
+        ending = Ending()
+        connecting = broker.Broker(house.config, Mqtt(port=server.getsockname()[1]), ending)
+        connecting.start()
+        with suppress(AssertionError):
+            until(lambda: "subscribe" in caplog.text, 5)
+        ending.set()
+        connecting.join(PATIENCE)
+    assert "no commands come" in caplog.text
+
+
+def test_a_topic_that_isnt_in_utf_8(house: House, caplog: pytest.LogCaptureFixture) -> None:
+    """What a broker passes on under a topic that can be none (MQTT 3.1.1, 1.5.3) is left, and what comes behind it is taken."""
+    meter = house.meters[0].name
+    sent = b""
+    for topic, payload in ((b"wmbus/command/\xff", b"a"), (f"wmbus/command/{meter}".encode(), b'{"id": "a", "payload": "01"}')):
+        # (a PUBLISH at QoS 0: its topic's length, the topic, the payload)
+        body = len(topic).to_bytes(2, "big") + topic + payload
+        sent += bytes([0x30, len(body)]) + body
+    with socket.create_server(("127.0.0.1", 0)) as server:
+        def serve() -> None:
+            opened, _ = server.accept()
+            with opened:
+                opened.recv(1000)
+                opened.sendall(bytes([0x20, 2, 0, 0]) + sent)
+                is_judged.wait(PATIENCE)
+        is_judged = threading.Event()
+        threading.Thread(target=serve, daemon=True).start()
+        ending = Ending()
+        connecting = broker.Broker(house.config, Mqtt(port=server.getsockname()[1]), ending)
+        connecting.start()
+        until(lambda: not connecting.is_alive() or house.all("select id from command"))
+        is_judged.set()
+        assert connecting.is_alive() and "isn't in UTF-8" in caplog.text
+        ending.set()
+        connecting.join(PATIENCE)
+
+
 def test_discovery() -> None:
     """Each sensor has a unit and a state class that Home Assistant documents for its device class."""
     for address in ("9315010000000107", "9315010000000103", "9315010000000104"):
@@ -185,7 +294,11 @@ def test_discovery() -> None:
                            ({"quantity": "volume", "unit": "m3", "value": "12345678901234567890123456789012345", "exponent": -6},
                             "12345678901234567890123456789.012345"),
                            ({"quantity": "volume", "unit": "m3", "value": "raw", "exponent": -2}, None),
-                           ({"quantity": "date", "unit": "-", "value": "2007-02-28", "exponent": 0}, '"2007-02-28"')):
+                           ({"quantity": "date", "unit": "-", "value": "2007-02-28", "exponent": 0}, '"2007-02-28"'),
+                           # (docs/FORMATS.md: a moment is followed by ! where the meter calls it invalid, and then by + in summer time)
+                           ({"quantity": "datetime", "unit": "-", "value": "2026-03-29T01:59", "exponent": 0}, '"2026-03-29T01:59"'),
+                           ({"quantity": "datetime", "unit": "-", "value": "2026-03-29T03:00+", "exponent": 0}, '"2026-03-29T03:00+"'),
+                           ({"quantity": "datetime", "unit": "-", "value": "2026-03-29T03:00!+", "exponent": 0}, None)):
         kind = kind_of("9315010000000107", record)
         assert kind and shown(record, kind) == wanted
 
@@ -207,6 +320,23 @@ def test_sensors_members(house: House, mosquitto: Mosquitto) -> None:
     assert told["state_topic"] == f"wmbus/meter/{meter.name}" and told["value_template"] == "{{ value_json.volume }}"
     assert served.heard(str(told["state_topic"]))[0]["volume"] == 0.001
     served.end()
+
+
+def test_sensors_under_another_topic(house: House, tmp_path: Path) -> None:
+    """Once the topics are others in the configuration sensors are told of under these, and otherwise once over all starts."""
+    house.database.close()
+    seen = []
+    for number, (topic, discovery) in enumerate((("wmbus", "homeassistant"),) * 2 + (("house", "homeassistant"), ("house", "ha")), 1):
+        config = replace(house.config, mqtt=Mqtt(port=free_port(), topic=topic, discovery=discovery))
+        house.spool(house.whole(house.meters[0]))
+        child = Child(tmp_path / f"log {number}", functools.partial(service.run, config))
+        with closing(store.open_store(house.config.database)) as database:
+            until(lambda: database.execute("select count(*) from reading").fetchone() == (number,))  # noqa: B023
+            assert child.end(signal.SIGTERM) == 0
+            seen += [(name.split("/")[0], json.loads(text)["state_topic"].split("/")[0])
+                     for name, text in database.execute("select topic, payload from publication where topic like '%/config'").fetchall()]
+            database.execute("delete from publication")
+    assert seen == [("homeassistant", "wmbus"), ("homeassistant", "house"), ("ha", "house")]
 
 
 def test_password_and_tls(tmp_path: Path, house: House) -> None:
@@ -262,6 +392,23 @@ def test_place_where_no_broker_can_be(house: House, told: Mqtt, caplog: pytest.L
     connecting.join(PATIENCE)
 
 
+@pytest.mark.parametrize("name, text", [("topic", "wmbus/#"), ("topic", "+/wmbus"), ("discovery", "homeassistant/#"), ("client", "")])
+def test_names_under_which_nothing_goes(house: House, mosquitto: Mosquitto, name: str, text: str, caplog: pytest.LogCaptureFixture) -> None:
+    """A topic with signs of a filter (MQTT 3.1.1, 3.3.2.1) and an empty client name (3.1.3.1) are named by `check` and in the log, and
+    what connects tries on."""
+    told = replace(Mqtt(port=mosquitto.port), **{name: text})
+    with pytest.raises(Trouble, match=f"mqtt.{name}: "):
+        broker.try_connection(told)
+    house.database.execute("insert into publication (topic, payload, retain) values (?, '{}', 1)", (f"{told.discovery}/sensor/a",))
+    ending = Ending()
+    connecting = broker.Broker(house.config, told, ending)
+    connecting.start()
+    until(lambda: not connecting.is_alive() or f"mqtt.{name}" in caplog.text)
+    assert connecting.is_alive()
+    ending.set()
+    connecting.join(PATIENCE)
+
+
 def test_metrics(house: House, mosquitto: Mosquitto) -> None:
     """The client library's parser reads the metrics, and they are what was heard."""
     from prometheus_client.parser import text_string_to_metric_families
@@ -286,6 +433,8 @@ def test_metrics_port_that_is_taken(house: House) -> None:
         for port in (taken.getsockname()[1], 70_000):
             with pytest.raises(Trouble, match=rf"127\.0\.0\.1:{port}: .*\[metrics\]"):
                 serve(house.config, Metrics(port=port), service.Service(house.config, house.database))
+    with pytest.raises(Trouble, match=r"radio\.\.house:9101: .*\[metrics\]"):
+        serve(house.config, Metrics(host="radio..house"), service.Service(house.config, house.database))
 
 
 def line_of_nobody() -> str:

@@ -25,8 +25,10 @@ from wmbus_service.ending import Ending
 from wmbus_service.service import Service
 from wmbus_service.trouble import Trouble
 
+import messages
 from . import measure
 from .kill import MEMORY, Child
+from .meters import line_of
 from .processes import PATIENCE, until
 from .stand_in import use_stand_in
 from .test_sessions import NOW, House, house_fixture  # noqa: F401
@@ -185,6 +187,24 @@ def test_what_systemd_is_told(house: House, tmp_path: Path, monkeypatch: pytest.
         assert database.execute("select count(*) from reading").fetchone() == (1,)
 
 
+@pytest.mark.parametrize("text", ["", "a line\n"])
+def test_that_it_lives_is_told_within_an_interval(house: House, tmp_path: Path, monkeypatch: pytest.MonkeyPatch, text: str) -> None:
+    """Where the interval is longer than systemd waits for a sign of life (sd_watchdog_enabled(3)), it gets one all the same, whether
+    there was something to hear or nothing."""
+    with socket.socket(socket.AF_UNIX, socket.SOCK_DGRAM) as told:
+        told.bind(str(tmp_path / "notify"))
+        told.settimeout(5)
+        monkeypatch.setenv("NOTIFY_SOCKET", str(tmp_path / "notify"))
+        monkeypatch.setenv("WATCHDOG_USEC", "400000")
+        house.database.close()
+        house.spool(text)
+        child = Child(tmp_path / "log", lambda: service.run(replace(house.config, interval=100_000.0)))
+        try:
+            assert [told.recv(100) for _ in range(5)] == [b"READY=1"] + [b"WATCHDOG=1"] * 4
+        finally:
+            assert child.end(signal.SIGTERM) == 0
+
+
 def test_an_end_at_any_moment(tmp_path: Path) -> None:
     """A signal ends who waits for the end, at whichever step of the wait it comes."""
     def end_at(step: int) -> None:
@@ -332,6 +352,21 @@ def test_retention(house: House) -> None:
     assert not house.all("select 1 from record where reading not in (select id from reading)")
 
 
+@pytest.mark.parametrize("piece", [1, 1000])
+def test_what_flowed_backward_in_a_later_piece(house: House, monkeypatch: pytest.MonkeyPatch, piece: int) -> None:
+    """Of a day the volume stays, and not what flowed backward, also where that one was heard later, and goes later: in a large house each
+    reading of a day goes with others."""
+    monkeypatch.setattr(retention, "PIECE", piece)
+    meter = house.meters[0]
+    for counter, payload in ((1, "0c1306000000"), (2, "0c1307000000"), (3, "0c933c05000000")):
+        text = b"\x2f\x2f" + bytes.fromhex(payload)
+        house.spool(line_of(messages.whole(meter.key, meter.address, counter, text, 0x44, None), 100))
+        house.hear(NOW + counter)
+    while retention.let_go(house.database, Keep(readings=1), NOW + 2 * DAY):
+        pass
+    assert house.all("select value from daily") == ["7"]
+
+
 def test_retention_beside_lines(house: House) -> None:
     """What is kept no longer goes also where each session has lines, as in a house in which one always comes within the interval; more
     goes than comes."""
@@ -374,6 +409,29 @@ def test_what_retention_costs(house: House) -> None:
         house.database.set_progress_handler(None, 0)
     assert not house.all("select id from reading where payload is not null")
     assert len(steps) * 100 < 5000
+
+
+def test_what_lines_cost_that_stay(house: House) -> None:
+    """The same is so of lines: where none or few of them go, those that stay aren't looked through."""
+    rows = [(NOW + number,) for number in range(40_000)]
+    with store.transaction(house.database):
+        house.database.executemany("insert into line (receiver, text, made) values ('attic', 'A 1 00', ?)", rows)
+    steps: list[None] = []
+    for gone in (0, 10):
+        house.database.set_progress_handler(lambda: steps.append(None), 100)
+        assert retention.let_go(house.database, Keep(), NOW + 7 * DAY + gone) == gone
+        house.database.set_progress_handler(None, 0)
+    assert len(steps) * 100 < 40_000
+
+
+def test_lines_and_a_wrong_clock(house: House) -> None:
+    """Lines go in time also behind some that came while the clock was years ahead."""
+    rows = [(NOW + 5000 * DAY,)] * 1500 + [(NOW + day * DAY,) for day in range(5) for _ in range(700)]
+    with store.transaction(house.database):
+        house.database.executemany("insert into line (receiver, text, made) values ('attic', 'A 1 00', ?)", rows)
+    while retention.let_go(house.database, Keep(), NOW + 9 * DAY + 1):
+        pass
+    assert house.all("select count(*) from line") == [1500 + 2 * 700]
 
 
 def test_payloads_and_a_wrong_clock(house: House) -> None:

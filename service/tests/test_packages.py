@@ -9,7 +9,7 @@ import pytest
 from .kill import TOP
 from .processes import run
 
-POSTRM = TOP / "service/debian/postrm"
+POSTRM, PRERM = TOP / "service/debian/postrm", TOP / "service/debian/prerm"
 # debconf's words for a shell, with an answer that stands in a file, where there is one
 DEBCONF = """
 db_fset() { :; }
@@ -27,7 +27,8 @@ class Machine:
     def __init__(self, folder: Path) -> None:
         self.folder, self.kept, self.settings = folder, folder / "var/lib/wmbus", folder / "etc/wmbus"
         self.asked, self.users = folder / "asked", folder / "users"
-        for path in (self.kept / "spool", self.settings, folder / "bin"):
+        self.units = folder / "etc/systemd/system"
+        for path in (self.kept / "spool", self.settings, folder / "bin", self.units / "multi-user.target.wants"):
             path.mkdir(parents=True)
         (folder / "debconf").write_text(DEBCONF)
         user = folder / "bin/deluser"
@@ -42,6 +43,7 @@ class Machine:
                           ("/usr/share/debconf/confmodule", self.folder / debconf)):
             assert path in text
             text = text.replace(path, str(own))
+        text = text.replace("/etc/systemd/system", str(self.units))
         script = self.folder / "postrm"
         script.write_text(text)
         environment = os.environ | {"PATH": f"{self.folder}/bin:{os.environ['PATH']}", "ANSWER": answer or "", "ASKED": str(self.asked)}
@@ -70,3 +72,36 @@ def test_a_purge_without_data(tmp_path: Path) -> None:
     assert not machine.kept.exists() and not machine.settings.exists() and not machine.asked.exists()
     assert machine.users.read_text() == "--quiet --system wmbus\n"
     assert not machine.purge(None)
+
+
+def test_a_purge_and_units(tmp_path: Path) -> None:
+    """What `systemctl enable` made goes too, so that what is installed anew starts nothing; other packages' units stay."""
+    machine = Machine(tmp_path)
+    wants = machine.units / "multi-user.target.wants"
+    others = {"wmbus-gateway.service", "ssh.service"}
+    for name in others | {"wmbus.service", "wmbus-page.service", "wmbus-receiver@cellar.service"}:
+        (wants / name).symlink_to(f"/lib/systemd/system/{name}")
+    machine.purge(None)
+    assert {path.name for path in wants.iterdir()} == others
+
+
+@pytest.mark.parametrize("is_there", [True, False])
+def test_a_removal(tmp_path: Path, is_there: bool) -> None:
+    """The package can be removed also where somebody took its folder away before; what Python made of its files goes."""
+    folder = tmp_path / "usr/lib/wmbus"
+    if is_there:
+        (folder / "wmbus_service/__pycache__").mkdir(parents=True)
+    script = tmp_path / "prerm"
+    script.write_text(PRERM.read_text(encoding="utf-8").replace("/usr/lib/wmbus", str(folder)).replace("/run/systemd/system", "/nowhere"))
+    run(["sh", script, "remove"])
+    assert not list(folder.rglob("__pycache__"))
+
+
+def test_an_installation_under_a_strict_umask(tmp_path: Path) -> None:
+    """Whatever the umask of who installs is, as 077 of root's on many machines, the service's user can read all and start the programs."""
+    run(["sh", "-c", f"umask 077; exec sh {TOP}/service/install {tmp_path}/root"])
+    found = list((tmp_path / "root").rglob("*"))
+    assert len(found) > 100
+    for path in found:
+        wanted = 0o755 if path.is_dir() or os.access(path, os.X_OK) else 0o644
+        assert path.stat().st_mode & 0o777 == wanted, path

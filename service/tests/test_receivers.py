@@ -1,6 +1,8 @@
 """Receivers' profiles: a stick with culfw, a TCP port, a file, each through the proved line_feed into the spool; and systemd's units."""
 from __future__ import annotations
 
+import functools
+import grp
 import io
 import os
 import pty
@@ -14,13 +16,14 @@ from pathlib import Path
 
 import pytest
 from wmbus_service import receiving
-from wmbus_service.checking import look_at_receiver
+from wmbus_service.checking import UNIT_GROUPS, look_at_receiver, tried
 from wmbus_service.config import Config, Programs, Receiver
 from wmbus_service.receiving import PROFILES, Receiving, feed_of
 from wmbus_service.trouble import Trouble
 
 from .kill import TOP, Child, program
 from .processes import PATIENCE, run, until
+from .test_operation import NOBODY, as_root
 
 # a telegram of examples/gas.rx as each of them prints it
 FRAME = (TOP / "examples" / "gas.rx").read_text().split()[2]
@@ -133,10 +136,39 @@ def test_tcp_port(tmp_path: Path) -> None:
         heard.judge()
 
 
+@pytest.mark.parametrize("words", [["radio..house", "1"], ["127.0.0.1", "70000"], ["a" * 64 + ".house", "1"]])
+def test_place_that_can_be_none(words: list[str], capsys: pytest.CaptureFixture[str]) -> None:
+    """A host or a port that can be none is named."""
+    from wmbus_service import tcp
+    assert tcp.main(words) == 1
+    assert f"tcp: {':'.join(words)}: " in capsys.readouterr().err
+
+
 def test_file(tmp_path: Path) -> None:
     """A file is heard once."""
     (tmp_path / "recorded file").write_text(f"{telegram_of(FRAME)}\n")
     Heard(tmp_path, Receiver(profile="file", file=str(tmp_path / "recorded file"), format="hex")).judge()
+
+
+def test_a_program_that_hangs(tmp_path: Path, monkeypatch: pytest.MonkeyPatch) -> None:
+    """What a feed started ends with it, also a program that heeds no signal in a command of several, whose shell ends at once: it would
+    hold the stick, and no later feed would have it."""
+    monkeypatch.setattr(receiving, "GRACE", 0.5)
+    (tmp_path / "line_feed").write_text(f"#!/bin/sh\nuntil [ -s {tmp_path}/hangs ]; do sleep 0.05; done\n")
+    (tmp_path / "line_feed").chmod(0o755)
+    command = f"sh -c 'trap \"\" TERM; echo $$ >{tmp_path}/hangs; exec sleep 60' | cat"
+    told = Config(folder=tmp_path / "wmbus", programs=Programs(line_feed=str(tmp_path / "line_feed")),
+                  receivers={"attic": Receiver(command=command, format="-")})
+    (tmp_path / "wmbus/spool").mkdir(parents=True)
+    Receiving(told, "attic")._feed()
+    status = Path(f"/proc/{(tmp_path / 'hangs').read_text().strip()}/stat")
+
+    def has_ended() -> bool:
+        with suppress(OSError):
+            # (also what isn't reaped yet)
+            return status.read_text().split()[2] in "ZX"
+        return True
+    until(has_ended, 5)
 
 
 def test_profiles() -> None:
@@ -168,6 +200,30 @@ def test_programs_that_a_receiver_wants(tmp_path: Path, monkeypatch: pytest.Monk
     for command in ("TZ=UTC rtl_sdr", "exec rtl_sdr - 2>/dev/null", "while true; do rtl_sdr 2>&1 | env TZ=UTC rtl_wmbus; done",
                     "(rtl_sdr; rtl_wmbus) | cat", "rtl_sdr -d $(cat serial) -F '' a", "$RADIO -f 868M"):
         look_at_receiver("attic", Receiver(command=command, format="hex"))
+
+
+@as_root
+def test_a_stick_that_the_unit_may_read(tmp_path: Path) -> None:
+    """`check`, which is done as the service's user, takes a stick that the receiver's unit may read by its groups, and no other one."""
+    unit = (TOP / "service/systemd/wmbus-receiver@.service").read_text()
+    assert set(UNIT_GROUPS) == set(unit.split("SupplementaryGroups=")[1].split("\n")[0].split())
+    for path in (tmp_path.parent.parent, tmp_path.parent, tmp_path):
+        path.chmod(0o755)
+    stick = tmp_path / "ttyACM0"
+    stick.touch()
+
+    def look(is_right: bool) -> None:
+        os.setgroups([])
+        os.setgid(NOBODY)
+        os.setuid(NOBODY)
+        said = tried("receiver attic", lambda: look_at_receiver("attic", Receiver(profile="cul", device=str(stick)))).wrong
+        assert ("can't be read" in said) is not is_right
+    for group, rights, is_right in (("dialout", 0o660, True), ("dialout", 0o600, False), ("root", 0o660, False)):
+        os.chown(stick, 0, grp.getgrnam(group).gr_gid)
+        stick.chmod(rights)
+        child = Child(tmp_path / "log", functools.partial(look, is_right))
+        until(lambda: not child.is_running())  # noqa: B023
+        assert child.status == 0, (tmp_path / "log").read_text()
 
 
 def test_two_writers_of_a_receiver(tmp_path: Path) -> None:

@@ -12,7 +12,7 @@ from pathlib import Path
 from typing import Any
 
 import pytest
-from wmbus_service import events, merging, retention, session, steps, store
+from wmbus_service import events, merging, retention, session, spool, steps, store
 from wmbus_service.commands import cancel_command, put_command, put_key
 from wmbus_service.config import Config, Keep, Mqtt, Programs, Receiver, Ticks
 from wmbus_service.downlinks import send_downlinks, write_downlink
@@ -269,6 +269,20 @@ def test_files_that_went(house: House) -> None:
     assert len(house.all("select file from source")) <= 2
 
 
+def test_an_empty_file_that_goes_meanwhile(house: House, monkeypatch: pytest.MonkeyPatch) -> None:
+    """A receiver that heard nothing takes its file away, at whichever moment of a session: the others' lines are heard."""
+    gone = house.spool("")
+    house.spool(house.whole(house.meters[0]))
+    place_of = spool.place_of
+
+    def going(*words: Any) -> int:
+        gone.unlink(missing_ok=True)
+        return place_of(*words)
+    monkeypatch.setattr(spool, "place_of", going)
+    house.hear()
+    assert house.all("select counter from reading") == [1]
+
+
 def test_a_long_header_names_another_meter(house: House) -> None:
     """The program says for which meter a line is, and the session has that meter's block, whatever the link address is."""
     meter = house.meters[0]
@@ -323,6 +337,9 @@ def test_a_program_that_fails_to_merge(house: House) -> None:
     for _ in range(3):
         with pytest.raises(Trouble, match="false: .*status 1"):
             house.sessions.next(NOW)
+    house.sessions.config = replace(house.config, programs=Programs(line_merge="/nonexistent/line_merge"))
+    with pytest.raises(Trouble, match="/nonexistent/line_merge: .*can't be started"):
+        house.sessions.next(NOW)
     house.sessions.config = config
     house.hear()
     assert house.all("select counter from reading") == [1, 2]
@@ -333,6 +350,14 @@ def test_lines_of_a_receiver_that_is_no_more(house: House) -> None:
     house.spool(house.whole(house.meters[0]), "cellar")
     Sessions(house.config, house.database).next(NOW)
     assert house.all("select counter, receiver from reading") == [(1, "cellar")]
+
+
+def test_lines_of_a_receiver_that_is_new(house: House) -> None:
+    """Who names a further receiver, and starts it beside a service that runs, has its lines heard."""
+    house.hear()
+    house.spool(house.whole(house.meters[0]), "garage")
+    house.hear()
+    assert house.all("select counter, receiver from reading") == [(1, "garage")]
 
 
 def test_ticks(house: House) -> None:

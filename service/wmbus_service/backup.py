@@ -28,11 +28,15 @@ def back_up(config: Config, target: Path) -> int:
     beside = target.with_name(f"{target.name}.making")
     beside.unlink(missing_ok=True)
     os.close(os.open(beside, os.O_WRONLY | os.O_CREAT | os.O_EXCL, 0o600))
-    with closing(store.open_store(config.database)) as database, closing(sqlite3.connect(beside, isolation_level=None)) as copy:
-        database.backup(copy)
-        look_over(copy, beside)
-        copy.execute("pragma journal_mode = delete")
-    _put_in_place(beside, target)
+    try:
+        with closing(store.open_store(config.database)) as database, closing(sqlite3.connect(beside, isolation_level=None)) as copy:
+            database.backup(copy)
+            look_over(copy, beside)
+            copy.execute("pragma journal_mode = delete")
+        _put_in_place(beside, target)
+    finally:
+        # (where it failed: a part of a copy has keys, and takes room)
+        beside.unlink(missing_ok=True)
     return target.stat().st_size
 
 
@@ -66,6 +70,16 @@ def restore(config: Config, source: Path, margin: int) -> int:
     beside = config.folder / "restored.db"
     beside.unlink(missing_ok=True)
     os.close(os.open(beside, os.O_WRONLY | os.O_CREAT | os.O_EXCL, 0o600))
+    try:
+        return _restore_over(config, source, beside, margin)
+    finally:
+        # (where it isn't put back)
+        for name in ("restored.db", "restored.db-wal", "restored.db-shm"):
+            (config.folder / name).unlink(missing_ok=True)
+
+
+def _restore_over(config: Config, source: Path, beside: Path, margin: int) -> int:
+    """Has a file beside the database have what the copy has, as it may go on, and puts it in its place."""
     with closing(sqlite3.connect(f"{source.absolute().as_uri()}?mode=ro", uri=True)) as copied, closing(sqlite3.connect(beside)) as made:
         look_over(copied, source)
         if copied.execute("pragma application_id").fetchone()[0] != schema.APPLICATION:

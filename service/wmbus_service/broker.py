@@ -12,6 +12,7 @@ import sqlite3
 import ssl
 import threading
 import time
+from collections.abc import Callable
 from pathlib import Path
 from typing import Any
 
@@ -29,6 +30,8 @@ log = logging.getLogger("wmbus")
 AT_ONCE, PATIENCE, IDLE = 100, 20.0, 0.2
 LEAST_PAUSE, MOST_PAUSE = 0.5, 30.0
 MOST_MESSAGE = 10_000
+# what is answered to a subscription that isn't taken (MQTT 3.1.1, 3.9.3)
+REFUSED = 0x80
 # signs of an address that are told again
 MOST_ADDRESS = 64
 Row = tuple[int, str, str, int]
@@ -65,12 +68,19 @@ class Broker(threading.Thread):
     def _connection(self, database: sqlite3.Connection) -> mqtt.Client:
         """A connection under the service's name, so that the broker keeps the commands that come while there is none."""
         told = self.told
+        look_at_names(told)
 
         def heard(_client: Any, _data: Any, message: mqtt.MQTTMessage) -> None:
-            take_message(told, database, message.topic, message.payload)
+            try:
+                topic = message.topic
+            except UnicodeDecodeError:
+                # (not each broker refuses one)
+                log.warning("MQTT: a message isn't taken, whose topic isn't in UTF-8")
+                return
+            take_message(told, database, topic, message.payload)
 
         client = mqtt.Client(client_id=told.client, clean_session=False)
-        client.on_message = heard
+        client.on_message, client.on_subscribe = heard, subscribed
         client.will_set(f"{told.topic}/status", "offline", 1, True)
         _connect(told, client)
         client.subscribe([(f"{told.topic}/command/+", 1), (f"{told.topic}/cancel/+", 1)])
@@ -98,6 +108,12 @@ class Broker(threading.Thread):
                 opened.close()
 
 
+def subscribed(_client: Any, _data: Any, _number: int, granted: tuple[int, ...]) -> None:
+    """Says so where the broker lets no commands come."""
+    if any(it >= REFUSED for it in granted):
+        log.warning("MQTT: the broker doesn't let this user subscribe, and no commands come: look at its rights")
+
+
 def _connect(told: Mqtt, client: mqtt.Client) -> None:
     """Connects a client, and waits for the broker's answer."""
     if told.user:
@@ -116,7 +132,7 @@ def _connect(told: Mqtt, client: mqtt.Client) -> None:
         raise Lost(str(fault)) from None
     # (else each small message waits for the answer to the one before it)
     client.socket().setsockopt(socket.IPPROTO_TCP, socket.TCP_NODELAY, 1)
-    _until(client, lambda: bool(answers))
+    _until(client, lambda: len(answers), 1)
     if answers[0]:
         raise Lost(f"the broker refuses the connection: {mqtt.connack_string(answers[0])}")
 
@@ -129,8 +145,19 @@ def _password_of(path: str) -> str:
         raise Trouble(path, "the password isn't in UTF-8", "write it into the file anew") from None
 
 
+def look_at_names(told: Mqtt) -> None:
+    """Names under which nothing can be published, or kept by the broker."""
+    for name, topic in (("topic", told.topic), ("discovery", told.discovery)):
+        if set(topic) & set("+#"):
+            raise Trouble(f"mqtt.{name}", "it has + or #, and nothing can be published under it", "name a topic without these signs")
+    if not told.client:
+        raise Trouble("mqtt.client", "it is empty, and the broker keeps under it what comes while there is no connection",
+                      "give it a name, or leave it out")
+
+
 def try_connection(told: Mqtt) -> None:
     """Connects under another name, and leaves again."""
+    look_at_names(told)
     try:
         client = mqtt.Client(client_id="")
         _connect(told, client)
@@ -147,7 +174,7 @@ def publish(client: mqtt.Client, rows: list[Row]) -> None:
         # (asked whether such a message is published paho raises a RuntimeError)
         if message.rc != mqtt.MQTT_ERR_SUCCESS:
             raise Lost(mqtt.error_string(message.rc))
-    _until(client, lambda: all(message.is_published() for message in sent))
+    _until(client, lambda: sum(message.is_published() for message in sent), len(sent))
 
 
 def mark_published(database: sqlite3.Connection, rows: list[Row]) -> None:
@@ -155,10 +182,12 @@ def mark_published(database: sqlite3.Connection, rows: list[Row]) -> None:
     database.execute("delete from publication where id <= ?", (rows[-1][0],))
 
 
-def _until(client: mqtt.Client, is_done: Any) -> None:
-    """Waits for the broker."""
-    limit = time.monotonic() + PATIENCE
-    while not is_done():
+def _until(client: mqtt.Client, answered: Callable[[], int], wanted: int) -> None:
+    """Waits for so many answers of the broker, as long as one comes after the other, however slow the way to it is."""
+    limit, before = time.monotonic() + PATIENCE, 0
+    while (count := answered()) < wanted:
+        if count > before:
+            limit, before = time.monotonic() + PATIENCE, count
         _turn(client, IDLE)
         if time.monotonic() > limit:
             raise Lost("the broker doesn't answer")
@@ -173,17 +202,35 @@ def _turn(client: mqtt.Client, seconds: float) -> None:
 
 def take_message(told: Mqtt, database: sqlite3.Connection, topic: str, payload: bytes) -> None:
     """Takes a command or a cancellation; what can't be taken is answered in words. Only what is committed is acknowledged."""
-    kind, address = topic.removeprefix(f"{told.topic}/").split("/", 1)
+    kind, _, address = topic.removeprefix(f"{told.topic}/").partition("/")
+    if not topic.startswith(f"{told.topic}/") or kind not in ("command", "cancel"):
+        # (the broker keeps what was subscribed under the topic of an earlier configuration)
+        log.warning("MQTT: a message under %.100r isn't taken: the topic is %s", topic, told.topic)
+        return
     # (the answer's topic is longer than this one, and no meter has so long an address)
     address = address[:MOST_ADDRESS]
     publications = Publications(told, database)
     try:
         said = json.loads(payload[:MOST_MESSAGE])
         if kind == "command":
-            put_command(database, str(said["id"]), address, str(said["payload"]), time.time())
+            put_command(database, word_of(said["id"]), address, word_of(said["payload"]), time.time())
         else:
-            cancel_command(database, str(said["id"]), time.time(), publications)
+            cancel_of(database, address, word_of(said["id"]), publications)
     except (ValueError, KeyError, TypeError, RecursionError):
         publications.refuse(address, f'a {kind} is JSON as {{"id": "a1", "payload": "0102"}}')
     except Trouble as fault:
         publications.refuse(address, str(fault))
+
+
+def cancel_of(database: sqlite3.Connection, address: str, ident: str, publications: Publications) -> None:
+    """Cancels a command of the meter that the topic names: who may write there may not write for another one."""
+    if not database.execute("select 1 from command where id = ? and address = ?", (ident, address.lower())).fetchone():
+        raise Trouble(f"command {ident}", f"the meter {address} has no command with this id")
+    cancel_command(database, ident, time.time(), publications)
+
+
+def word_of(said: object) -> str:
+    """A text, or a number as one; what is neither, as null, names nothing."""
+    if isinstance(said, bool) or not isinstance(said, (str, int)):
+        raise TypeError
+    return str(said)

@@ -1,13 +1,15 @@
 """Whether all that a configuration names is there and can be used, in words."""
 from __future__ import annotations
 
+import grp
 import os
 import shlex
 import shutil
+import sqlite3
 import stat
 import subprocess
 from collections.abc import Callable, Iterator
-from contextlib import closing
+from contextlib import closing, suppress
 from dataclasses import dataclass, replace
 from pathlib import Path
 
@@ -21,6 +23,8 @@ LEAST_ROOM = 256 << 20
 NOBODY = "0" * 16
 # what stands in front of a part of a shell's command
 BETWEEN = set("|;&(")
+# those of wmbus-receiver@.service, by which it reads sticks
+UNIT_GROUPS = ("plugdev", "dialout")
 
 
 @dataclass(frozen=True)
@@ -45,7 +49,9 @@ def check(config: Config) -> Iterator[Finding]:
         yield tried(f"database {config.database}", lambda: store.open_store(config.database).close())
     found = tried(f"program {config.programs.steps}", lambda: look_at_steps(config))
     yield replace(found, note=unproved_words(config.programs.steps))
-    yield tried(f"program {config.programs.line_feed}", lambda: look_at_program(config.programs.line_feed))
+    programs = config.programs
+    for command in filter(None, (programs.line_feed, programs.meter_name, programs.line_merge, programs.state_raise)):
+        yield tried(f"program {command}", lambda command=command: look_at_program(command))  # type: ignore[misc]
     if config.roster:
         yield tried(f"roster {config.roster}", lambda: look_at_roster(config))
     yield tried("meters", lambda: look_at_meters(config))
@@ -62,8 +68,9 @@ def tried(name: str, look: Callable[[], object]) -> Finding:
     """Looks at something; what is wrong."""
     try:
         look()
-    except (Trouble, OSError) as fault:
-        return Finding(name, str(fault) if isinstance(fault, Trouble) else f"{name}: {fault}")
+    except (Trouble, OSError, sqlite3.Error) as fault:
+        told = store.trouble_of(name, fault) if isinstance(fault, sqlite3.Error) else fault
+        return Finding(name, f"{name}: {told}" if isinstance(told, OSError) else str(told))
     return Finding(name)
 
 
@@ -92,7 +99,8 @@ def look_at_steps(config: Config) -> None:
 
 def look_at_roster(config: Config) -> None:
     """A roster that the program doesn't take."""
-    meters.judge_roster(words_of(config.programs.steps), meters.read_roster(Path(config.roster)), config.roster)
+    for piece in meters.pieces_of(meters.read_roster(Path(config.roster))):
+        meters.judge_roster(words_of(config.programs.steps), piece, config.roster)
 
 
 def look_at_meters(config: Config) -> None:
@@ -119,9 +127,24 @@ def look_at_receiver(name: str, told: Receiver) -> None:
             raise Trouble(f"receivers.{name}", f"the program {program} isn't there",
                           "Debian doesn't have it: build it" if program == "rtl_wmbus" else f"apt-get install {program.replace('_', '-')}")
     for path in (told.device, told.file):
-        if path and not os.access(path, os.R_OK):
+        if path and not may_read(Path(path)):
             raise Trouble(f"receivers.{name}", f"{path} isn't there, or can't be read by this user",
                           "plug it in, and add the user to the group of the device (dialout)")
+
+
+def may_read(path: Path) -> bool:
+    """Whether a receiver may read a device or a file: as this user, or as one of the groups that its unit gives it."""
+    if os.access(path, os.R_OK):
+        return True
+    told = path.stat() if path.exists() else None
+    return told is not None and bool(told.st_mode & stat.S_IRGRP) and told.st_gid in radio_groups()
+
+
+def radio_groups() -> Iterator[int]:
+    """The groups of wmbus-receiver@.service."""
+    for name in UNIT_GROUPS:
+        with suppress(KeyError):
+            yield grp.getgrnam(name).gr_gid
 
 
 def programs_in(command: str) -> Iterator[str]:

@@ -5,6 +5,7 @@ import argparse
 import getpass
 import logging
 import os
+import re
 import secrets
 import sqlite3
 import sys
@@ -47,8 +48,10 @@ def main(given: list[str]) -> int:
         return TROUBLE
     except OSError as fault:
         said = str(fault)
+    except EOFError:
+        said = "nothing was entered, and nothing was done"
     except KeyboardInterrupt:
-        return DONE
+        said = "it was interrupted"
     print(f"wmbus-service: {said}", file=sys.stderr)
     return TROUBLE
 
@@ -98,16 +101,16 @@ def _meter_words(command: Command) -> None:
     made.add_argument("--heard", action="store_true", help="leaves out meters that weren't heard yet")
     made.add_argument("--own", metavar="ADDRESS", help="the collector's own address, with the first meters")
     made = command("rekey", _rekey, "gives a meter of mode 7 its new second key, which is asked for as with `add`")
-    made.add_argument("address", metavar="METER")
+    made.add_argument("address", metavar="METER", type=_text)
 
 
 def _command_words(command: Command) -> None:
     """The words of commands to meters."""
     made = command("command", _command, "has a command sent to a meter once it listens, or cancels one")
-    made.add_argument("address", metavar="METER", nargs="?")
+    made.add_argument("address", metavar="METER", type=_text, nargs="?")
     made.add_argument("payload", metavar="HEX", nargs="?", help="what the meter gets, 1 to 94 bytes")
     made.add_argument("--id", help="your own id of the command; under one id a command is taken once")
-    made.add_argument("--cancel", metavar="ID", help="has this command not be sent any more")
+    made.add_argument("--cancel", metavar="ID", type=_text, help="has this command not be sent any more")
 
 
 def _data_words(command: Command) -> None:
@@ -117,8 +120,8 @@ def _data_words(command: Command) -> None:
     kinds.add_argument("--json", action="store_true", help="one JSON object a value, in place of CSV")
     kinds.add_argument("--state", metavar="FILE", type=Path, help="writes the state, with keys, for the other programs")
     kinds.add_argument("--lines", metavar="FILE", type=Path, help="writes the lines that are kept, as they were committed")
-    made.add_argument("--meter", metavar="METER", help="of this meter alone")
-    made.add_argument("--since", metavar="SECONDS", type=int, default=0, help="from this moment on, in seconds since 1970")
+    made.add_argument("--meter", metavar="METER", type=_text, help="of this meter alone")
+    made.add_argument("--since", metavar="SECONDS", type=_moment, default=0, help="from this moment on, in seconds since 1970")
     command("backup", _backup, "copies the database, also while the service runs").add_argument("file", metavar="FILE", type=Path)
     made = command("restore", _restore, "puts a copy in the place of the database, once the service has ended")
     made.add_argument("file", metavar="FILE", type=Path)
@@ -142,6 +145,20 @@ def _count(text: str) -> int:
     if not text.isascii() or not text.isdigit() or int(text) > MOST_COUNT:
         raise argparse.ArgumentTypeError(f"this is no number up to {MOST_COUNT}")
     return int(text)
+
+
+def _moment(text: str) -> int:
+    """A moment in seconds, of which SQLite has those below 2^63."""
+    if not re.fullmatch("-?[0-9]{1,18}", text):
+        raise argparse.ArgumentTypeError("this is no number of seconds")
+    return int(text)
+
+
+def _text(text: str) -> str:
+    """A word that can be asked for."""
+    if any("\ud800" <= sign <= "\udfff" for sign in text):
+        raise argparse.ArgumentTypeError("this isn't in UTF-8")
+    return text
 
 
 def _config(asked: argparse.Namespace) -> Config:
@@ -196,7 +213,7 @@ def _add(asked: argparse.Namespace) -> int:
         if not added:
             raise Trouble(f"meter {asked.address}", "it is known already",
                           "its key stays as it is; `wmbus-service rekey` gives a second one")
-        database.execute("update meter set name = ? where address = ?", (asked.name, asked.address.lower()))
+        database.execute("update meter set name = ? where address = ?", (meters.name_of(asked.name), asked.address.lower()))
     print(f"meter {asked.address.lower()} was added")
     return DONE
 
@@ -211,7 +228,12 @@ def _own(config: Config, database: sqlite3.Connection, asked: str | None) -> str
 
 def _secret(what: str) -> str:
     """A key or a password, which no list of processes and no history of a shell shows."""
-    return getpass.getpass(f"{what}: ") if sys.stdin.isatty() else sys.stdin.readline().rstrip("\r\n")
+    try:
+        secret = getpass.getpass(f"{what}: ") if sys.stdin.isatty() else sys.stdin.readline().rstrip("\r\n")
+        secret.encode()
+    except UnicodeError:
+        raise Trouble(what, "it isn't in UTF-8", "enter it in this encoding") from None
+    return secret
 
 
 def _key(address: str) -> str:
@@ -270,8 +292,13 @@ def _write_own(path: Path, texts: Iterable[str]) -> None:
         opened = os.open(path, os.O_WRONLY | os.O_CREAT | os.O_EXCL, 0o600)
     except FileExistsError:
         raise Trouble(path, "it is there already", "name a new file") from None
-    with open(opened, "w", encoding="latin-1") as file:
-        file.writelines(texts)
+    try:
+        with open(opened, "w", encoding="latin-1") as file:
+            file.writelines(texts)
+    except BaseException:
+        # (a part of it would be taken for all)
+        path.unlink()
+        raise
 
 
 def _backup(asked: argparse.Namespace) -> int:

@@ -183,13 +183,26 @@ def read_config(path: Path) -> Config:
     """The configuration of a file."""
     config = read_settings(path, Config, "docs/SERVICE.md")
     assert isinstance(config, Config)
+    for known in dataclasses.fields(Programs):
+        _look_at_program(path, known, getattr(config.programs, known.name))
     return config
+
+
+def _look_at_program(path: Path, known: dataclasses.Field[str], command: str) -> None:
+    """A program's words that are none."""
+    try:
+        is_empty = not words_of(command)
+    except ValueError as fault:
+        raise Trouble(path, f"programs.{known.name} isn't a command: {fault}", "look at its quotes") from None
+    if is_empty and known.default is dataclasses.MISSING:
+        raise Trouble(path, f"programs.{known.name} is empty", "leave it out: the program that is installed is taken then")
 
 
 def read_settings(path: Path, wanted: Any, document: str) -> object:
     """The settings of a file, which the document describes, as a value of the type that is wanted."""
     try:
-        told = tomllib.loads(path.read_text(encoding="utf-8"))
+        # (editors on Windows put a mark in front)
+        told = tomllib.loads(path.read_text(encoding="utf-8-sig"))
     except OSError as fault:
         raise Trouble(path, f"the configuration can't be read: {fault.strerror}",
                       "name it with --config, or give this user the right to read it") from None

@@ -4,6 +4,7 @@ from __future__ import annotations
 
 import base64
 import io
+import lzma
 import zipfile
 import zlib
 from collections.abc import Callable
@@ -55,7 +56,7 @@ def _unpacked(path: Path, content: bytes) -> bytes:
                 raise Trouble(path, f"it is an archive with {len(names)} key files in it", "unpack it, and save a spreadsheet as CSV")
             with archive.open(names[0]) as file:
                 unpacked = file.read(MOST_BYTES + 1)
-    except (zipfile.BadZipFile, zlib.error, RuntimeError, EOFError, ValueError) as fault:
+    except (zipfile.BadZipFile, zlib.error, lzma.LZMAError, OSError, RuntimeError, EOFError, ValueError) as fault:
         raise Trouble(path, f"the archive can't be read: {fault}", "unpack it, and give what was in it") from None
     if len(unpacked) > MOST_BYTES:
         raise Trouble(path, f"what is in it has more than {MOST_BYTES} bytes")

@@ -9,6 +9,7 @@ from collections.abc import Iterator, Sequence
 from .memory_files import memory_files, path_of
 from .spool import Spooled
 from .steps import ProgramFailed
+from .trouble import Trouble
 
 PATIENCE = 60
 MOMENTS = 1 << 64
@@ -68,6 +69,9 @@ def _order_of_program(inputs: Sequence[Sequence[Spooled]], program: Sequence[str
             done = subprocess.run(words, stdin=subprocess.DEVNULL, capture_output=True, pass_fds=opened, timeout=PATIENCE, check=False)
         except subprocess.TimeoutExpired:
             raise ProgramFailed(None, "line_merge gave no answer") from None
+        except OSError as fault:
+            raise Trouble(words[0], f"the program can't be started: {fault.strerror}",
+                          "name it in the configuration under [programs]") from None
     order = [int(line.split(b" ", 1)[0]) - 1 for line in done.stdout.split(b"\n") if line]
     if done.returncode or len(order) != sum(len(lines) for lines in inputs):
         raise ProgramFailed(done.returncode, done.stderr.decode("utf-8", "replace"))

@@ -74,6 +74,9 @@ def judge_roster(program: Sequence[str], text: str, place: object) -> None:
     """Has the program judge a roster; it names the first faulty line."""
     try:
         run_steps(program, text, [])
+    except UnicodeEncodeError:
+        raise Trouble(place, "an address or a key of it has a sign that none has, which may not be seen",
+                      "type it, where it was copied out of a document") from None
     except ProgramFailed as failed:
         raise Trouble(place, f"the program doesn't take the roster: {failed}",
                       "`input_check` names all faulty lines, and says what to do") from None

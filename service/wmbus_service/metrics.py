@@ -74,6 +74,6 @@ def serve(config: Config, told: Metrics, service: Service) -> None:
     registry.register(Figures(config, service))
     try:
         start_http_server(told.port, addr=told.host, registry=registry)
-    except (OSError, OverflowError) as fault:
+    except (OSError, OverflowError, UnicodeError) as fault:
         raise Trouble(f"metrics {told.host}:{told.port}", f"they can't be served: {fault}",
-                      "name another port under [metrics]") from None
+                      "name another host or port under [metrics]") from None

@@ -7,6 +7,7 @@ from typing import Any
 
 from .config import Mqtt
 from .sensors import Kind, kind_of, name_of, shown
+from .store import set_setting, setting, transaction
 
 
 class Publications:
@@ -59,6 +60,15 @@ class Publications:
 
     def _put(self, topic: str, payload: str, retain: bool) -> None:
         self.database.execute("insert into publication (topic, payload, retain) values (?, ?, ?)", (topic, payload, retain))
+
+
+def announce_anew(mqtt: Mqtt, database: sqlite3.Connection) -> None:
+    """Where topics aren't those of the last start sensors are told of once more: those of before look where nothing comes any more."""
+    with transaction(database):
+        told = json.dumps([mqtt.topic, mqtt.discovery])
+        if setting(database, "topics") != told:
+            database.execute("delete from announced")
+            set_setting(database, "topics", told)
 
 
 def sensor(mqtt: Mqtt, address: str, label: str, record: dict[str, Any], kind: Kind) -> dict[str, Any]:

@@ -17,7 +17,7 @@ from types import FrameType
 
 from .config import Config, Receiver, words_of
 from .ending import Ending
-from .spool import sync
+from .spool import size_of, sync
 from .store import prepare_folder
 from .trouble import Trouble
 
@@ -69,7 +69,7 @@ def new_file(spool: Path, name: str) -> int:
 
 def spooled_bytes(spool: Path) -> int:
     """How many bytes wait in the spool."""
-    return sum(path.stat().st_size for path in spool.glob("*.lines"))
+    return sum(size_of(path) for path in spool.glob("*.lines"))
 
 
 class Receiving:
@@ -141,11 +141,7 @@ class Receiving:
         """Ends what this receiver started."""
         self._signal(signal.SIGTERM)
         for child in self.running:
-            try:
-                child.wait(GRACE)
-            except subprocess.TimeoutExpired:
-                self._signal(signal.SIGKILL)
-                child.wait()
+            end_group(child)
 
     def _signal(self, number: int) -> None:
         """Sends a signal to all that still runs of the feed."""
@@ -153,6 +149,18 @@ class Receiving:
             if child.returncode is None:
                 with suppress(ProcessLookupError):
                     os.killpg(child.pid, number)
+
+
+def end_group(child: subprocess.Popen[bytes]) -> None:
+    """Waits for a program and all that it started, and kills what doesn't end in time: it would keep the stick from the next start."""
+    limit = time.monotonic() + GRACE
+    with suppress(ProcessLookupError):
+        while time.monotonic() < limit:
+            child.poll()
+            os.killpg(child.pid, 0)
+            time.sleep(0.02)
+        os.killpg(child.pid, signal.SIGKILL)
+    child.wait()
 
 
 def environment() -> dict[str, str]:

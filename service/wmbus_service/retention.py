@@ -17,7 +17,7 @@ def let_go(database: sqlite3.Connection, keep: Keep, now: float) -> int:
     """Lets go what is older than it is kept, a piece of each; how many rows."""
     count = 0
     if keep.lines:
-        count += _delete(database, "line", "number", now - keep.lines * DAY)
+        count += _forget_lines(database, now - keep.lines * DAY, now)
     if keep.payloads:
         count += _forget_payloads(database, now - keep.payloads * DAY)
     if keep.readings:
@@ -25,10 +25,12 @@ def let_go(database: sqlite3.Connection, keep: Keep, now: float) -> int:
     return count
 
 
-def _delete(database: sqlite3.Connection, table: str, key: str, before: float) -> int:
-    """Deletes the oldest rows."""
+def _forget_lines(database: sqlite3.Connection, before: float, now: float) -> int:
+    """Deletes the oldest lines. They are the first ones, so that not all are looked through, unless the clock was ahead when these came."""
     with transaction(database):
-        return database.execute(f"delete from {table} where {key} in (select {key} from {table} where made < ? order by {key} limit ?)",
+        first = database.execute("select made from line order by number limit 1").fetchone()
+        among = "line" if first and first[0] > now else f"(select number, made from line order by number limit {PIECE})"
+        return database.execute(f"delete from line where number in (select number from {among} where made < ? order by number limit ?)",
                                 (before, PIECE)).rowcount
 
 
@@ -49,11 +51,12 @@ def _gather_days(database: sqlite3.Connection, before: float) -> int:
     with transaction(database):
         rows = database.execute("select id from reading where made < ? order by made, id limit ?", (before, PIECE)).fetchall()
         oldest = [ident for (ident,) in rows]
-        # (what stays of several is written last: what has no modifiers, and stands first in the day's last reading)
-        database.execute(
-            f"insert or replace into daily (day, {VALUES}) select date(reading.made, 'unixepoch'), {VALUES} from"
-            " (select value as ident from json_each(?)) cross join reading on reading.id = ident"
-            " cross join record on record.reading = reading.id order by modifiers = '', reading.id, record.place desc",
-            (json.dumps(oldest),))
+        chosen = (f"into daily (day, {VALUES}) select date(reading.made, 'unixepoch'), {VALUES} from"
+                  " (select value as ident from json_each(?)) cross join reading on reading.id = ident"
+                  " cross join record on record.reading = reading.id where modifiers")
+        # (what has modifiers takes no place of what has none, also where that one went before)
+        database.execute(f"insert or ignore {chosen} != '' order by reading.id desc, record.place", (json.dumps(oldest),))
+        # (what stays of several is written last: what stands first in the day's last reading)
+        database.execute(f"insert or replace {chosen} = '' order by reading.id, record.place desc", (json.dumps(oldest),))
         database.executemany("delete from reading where id = ?", [(ident,) for ident in oldest])
         return len(oldest)

@@ -9,7 +9,8 @@ from typing import Any
 
 NUMBER = re.compile(r"-?[0-9]+")
 DAY = re.compile(r"[0-9]{4}-[0-9]{2}-[0-9]{2}")
-MOMENT = re.compile(r"[0-9]{4}-[0-9]{2}-[0-9]{2}T[0-9]{2}:[0-9]{2}")
+# (in summer time with a + behind it)
+MOMENT = re.compile(r"[0-9]{4}-[0-9]{2}-[0-9]{2}T[0-9]{2}:[0-9]{2}\+?")
 MEASUREMENT, TOTAL = "measurement", "total_increasing"
 # device types of EN 13757-3, the last byte of an address
 GAS, WATER = ("03",), ("06", "07", "15", "16")

@@ -14,6 +14,7 @@ from .config import Config, unproved_words
 from .downlinks import send_downlinks
 from .ending import Ending
 from .memory_files import leave_no_core
+from .publications import announce_anew
 from .session import MOST, Sessions
 from .trouble import Trouble
 from .watching import Watch
@@ -23,6 +24,8 @@ log = logging.getLogger("wmbus")
 # after trouble it is tried again, less and less often
 LEAST_PAUSE, MOST_PAUSE = 1.0, 60.0
 LOCK_TRIES, LOCK_PAUSE = 5, 0.1
+# so often it is told that it lives where nobody says how often
+ALIVE = 60.0
 # so often it is looked for what is kept no longer
 LET_GO = 3600.0
 
@@ -65,6 +68,12 @@ def notify(text: str) -> None:
             told.sendto(text.encode(), f"\0{path[1:]}" if path.startswith("@") else path)
 
 
+def alive_seconds() -> float:
+    """So often systemd is told that the service lives: twice in the time after which it would end it."""
+    told = os.environ.get("WATCHDOG_USEC", "")
+    return int(told) / 2e6 if told.isdecimal() and int(told) else ALIVE
+
+
 class Service:
     """A service over a folder, until it is told to end."""
 
@@ -91,8 +100,17 @@ class Service:
             except (Trouble, OSError, sqlite3.Error) as fault:
                 self._tell(fault)
                 wait, pause = pause, min(2 * pause, MOST_PAUSE)
+            self._wait(wait, watched)
+
+    def _wait(self, seconds: float, watched: int | None) -> None:
+        """Waits for the next session, and tells meanwhile that it lives."""
+        limit, alive = time.monotonic() + seconds, alive_seconds()
+        while True:
             notify("WATCHDOG=1")
-            self.ending.wait(wait, watched)
+            until = min(limit, time.monotonic() + alive)
+            # (where it ends before its time there is something to hear)
+            if self.ending.wait(until - time.monotonic(), watched) or time.monotonic() < until or until == limit:
+                return
 
     def turn(self) -> int:
         """What is committed goes out, then a session, then what it says to be sent; how many lines it took."""
@@ -145,6 +163,7 @@ def start_beside(config: Config, service: Service) -> None:
     """Starts what publishes and what shows the metrics, where they are asked for."""
     if config.mqtt:
         from .broker import Broker
+        announce_anew(config.mqtt, service.database)
         Broker(config, config.mqtt, service.ending).start()
     if config.metrics:
         from .metrics import serve

@@ -29,9 +29,7 @@ class Sessions:
 
     def __init__(self, config: Config, database: sqlite3.Connection) -> None:
         self.config, self.database = config, database
-        # (a receiver that has another name now, or is no more, may have left lines)
-        left = {path.name.split(".")[0] for path in config.spool.glob("*.lines")} - config.receivers.keys()
-        self.spools = [Spool(config.spool, name) for name in [*config.receivers, *sorted(left)]]
+        self.spools = [Spool(config.spool, name) for name in config.receivers]
         # how many lines the next session takes: fewer after one that the program failed at
         self.most = MOST
         # the line alone at which the program failed last
@@ -39,6 +37,7 @@ class Sessions:
 
     def next(self, now: float) -> int:
         """One session over what is there; how many lines it took."""
+        self._look_for_receivers()
         batch: list[Event] = []
         try:
             with store.transaction(self.database):
@@ -51,6 +50,12 @@ class Sessions:
         for spool in self.spools:
             spool.clear(self.database)
         return len(batch)
+
+    def _look_for_receivers(self) -> None:
+        """A receiver that has another name now, or is no more, may have left lines, and one that came into the configuration since then
+        has some."""
+        found = {path.name.split(".")[0] for path in self.config.spool.glob("*.lines")}
+        self.spools += [Spool(self.config.spool, name) for name in sorted(found - {spool.receiver for spool in self.spools})]
 
     def _hear(self, batch: Sequence[Event], now: float) -> None:
         """Has the program hear the lines, and writes what it said."""

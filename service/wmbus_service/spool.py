@@ -5,6 +5,7 @@ from __future__ import annotations
 import fcntl
 import os
 import sqlite3
+from contextlib import suppress
 from dataclasses import dataclass
 from itertools import accumulate
 from pathlib import Path
@@ -42,10 +43,12 @@ class Spool:
             if len(taken) >= most:
                 break
             place = place_of(database, self.receiver, path.name)
-            # (long lines are read in several pieces, and those of the next file stand behind all of them)
-            while len(taken) < most and (found := self._take_of(path, place, most - len(taken))):
-                taken += found
-                place = found[-1].behind
+            # (a receiver takes its own file away where it heard nothing; long lines are read in several pieces, and those of the next
+            # file stand behind all of them)
+            with suppress(FileNotFoundError):
+                while len(taken) < most and (found := self._take_of(path, place, most - len(taken))):
+                    taken += found
+                    place = found[-1].behind
         return taken
 
     def _take_of(self, path: Path, start: int, most: int) -> list[Spooled]:
@@ -90,6 +93,14 @@ class Spool:
         for (name,) in database.execute("select file from source where receiver = ?", (self.receiver,)).fetchall():
             if name not in names:
                 database.execute("delete from source where receiver = ? and file = ?", (self.receiver, name))
+
+
+def size_of(path: Path) -> int:
+    """How many bytes a file has; none where a session took it away meanwhile."""
+    try:
+        return path.stat().st_size
+    except FileNotFoundError:
+        return 0
 
 
 def sync(opened: int) -> None:

@@ -12,6 +12,7 @@ from . import service, store
 from .asking import Database
 from .config import Config
 from .sensors import NUMBER
+from .spool import size_of
 
 LAST = 10
 
@@ -29,7 +30,8 @@ def figures(config: Config, database: sqlite3.Connection) -> dict[str, Any]:
         "downlinks_missed": _rows(database, "select address, receiver, down, missed from outbox where missed is not null"
                                             f" order by id desc limit {LAST}"),
         "refusals": _rows(database, f"select address, words, times from refusal order by last_made desc limit {LAST}"),
-        "strangers": _rows(database, f"select address, times, receiver from stranger order by times desc limit {LAST}"),
+        "strangers": _rows(database, "select address, times, receiver from stranger where address not in (select address from meter)"
+                                     f" order by times desc limit {LAST}"),
         "aside": _rows(database, f"select id, receiver, text, said from aside order by id desc limit {LAST}"),
         "publications_waiting": database.execute("select count(*) from publication").fetchone()[0],
         "spooled_bytes": waiting_bytes(config, database),
@@ -67,7 +69,7 @@ def shown(value: str, exponent: int) -> str:
 def waiting_bytes(config: Config, database: Database) -> int:
     """How many bytes of lines no session has taken yet."""
     taken = dict(database.execute("select file, taken from source").fetchall())
-    return sum(max(0, path.stat().st_size - taken.get(path.name, 0)) for path in config.spool.glob("*.lines"))
+    return sum(max(0, size_of(path) - taken.get(path.name, 0)) for path in config.spool.glob("*.lines"))
 
 
 def in_words(told: dict[str, Any]) -> Iterator[str]:

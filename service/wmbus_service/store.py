@@ -76,7 +76,7 @@ def connect(path: Path) -> sqlite3.Connection:
     return database
 
 
-def trouble_of(path: Path, fault: sqlite3.Error) -> Trouble:
+def trouble_of(path: object, fault: sqlite3.Error) -> Trouble:
     """A fault of SQLite in words."""
     remedies = {
         "full": "make room on its disk; nothing of the session was kept, and its lines stay in the spool",

@@ -31,7 +31,7 @@ def main(words: list[str]) -> int:
         return 2
     try:
         read(words[0], int(words[1]))
-    except OSError as fault:
+    except (OSError, OverflowError, UnicodeError) as fault:
         print(f"tcp: {words[0]}:{words[1]}: {fault}", file=sys.stderr)
         return 1
     return 0

@@ -3,7 +3,8 @@
 // FAULTS has words between single spaces: `read=3:5` lets the program's third read fail with errno 5 (0: it answers 0 bytes), `read=3+:5` each from the
 // third on, and `read=3:5@rx2` counts only reads of files whose path ends so. Kinds are memory, read, write, open and thread. `chunk=SIZE` lets each
 // read and write move at most SIZE bytes. Calls that the C library makes by itself don't count. FAULTS_TOLD names a file that gets, as numbers of eight
-// bytes, the calls of each kind, how many failed, and how many bytes the file of the first one that failed had moved before; then that file's path.
+// bytes, the calls of each kind, how many failed, how many bytes the file of the first one that failed had moved before, and how many bytes that read asked
+// for which asked for the fewest; then the path of that file.
 #define _GNU_SOURCE
 #include <dlfcn.h>
 #include <errno.h>
@@ -23,7 +24,7 @@ enum { MEMORY, READ, WRITE, OPEN, THREAD, KINDS };
 static const char *const NAMES[KINDS] = {"memory", "read", "write", "open", "thread"};
 
 static struct told {
-    atomic_ulong calls[KINDS], failed, before;
+    atomic_ulong calls[KINDS], failed, before, least;
     char path[256];
 } nowhere, *told = &nowhere;
 
@@ -86,9 +87,11 @@ static int ends_so(const char *path, const struct rule *rule) {
     return !rule->end || (size >= rule->end_size && !memcmp(path + size - rule->end_size, rule->end, rule->end_size));
 }
 
+static int is_program(void *caller) { return (unsigned long)caller >= program_from && (unsigned long)caller < program_to; }
+
 // Counts a call of the program; the errno that it is to fail with, or -1 where it isn't. `path` is null where the call is for no file.
 static int fault(int kind, void *caller, const char *path, unsigned long before) {
-    if ((unsigned long)caller < program_from || (unsigned long)caller >= program_to) return -1;
+    if (!is_program(caller)) return -1;
     atomic_fetch_add(&told->calls[kind], 1);
     int found = -1;
     for (struct rule *rule = rules; rule < rules + rule_count; rule++) {
@@ -118,6 +121,11 @@ static ssize_t transfer(int kind, void *caller, int file, void *bytes, size_t si
     if (error >= 0) {
         errno = error;
         return error ? -1 : 0;
+    }
+    unsigned long least = atomic_load(&told->least);
+    if (kind == READ && is_program(caller)) {
+        while ((!least || size < least) && !atomic_compare_exchange_weak(&told->least, &least, size)) {
+        }
     }
     if (chunk && size > chunk) size = chunk;
     ssize_t count = kind == READ ? syscall(SYS_read, file, bytes, size) : syscall(SYS_write, file, bytes, size);

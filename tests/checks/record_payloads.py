@@ -24,6 +24,12 @@ def by_hand() -> list[tuple[bytes, str]]:
     return [(bytes.fromhex(payload), wanted) for payload, wanted in rows]
 
 
+def listed() -> list[tuple[bytes, str]]:
+    """A published payload's record alone, and what it says: as `by_hand` has it, and its type behind that."""
+    rows = [line.split(" ", 1) for line in _lines("listed")]
+    return [(bytes.fromhex(payload), wanted) for payload, wanted in rows]
+
+
 def report_of(payloads: Iterable[bytes]) -> str:
     """A report of one meter, whose steps are of the lines from 1 on."""
     steps = "".join(f"step 1 {number} stored 42 100 {payload.hex() or '-'}\n" for number, payload in enumerate(payloads, 1))

@@ -1,7 +1,7 @@
 """Made sessions and their summaries (docs/FORMATS.md, "Made sessions")."""
 from reference.ciphers import BLOCK, METER_CIPHER, METER_MAC, cbc_encrypted, cmac, derived
 from reference.frames import frame_a
-from reference.roster import Commission, Roster
+from reference.roster import Commission, Roster, roster_text
 from reference.sessions import outputs_of, session_of
 from reference.states import state_of
 
@@ -60,6 +60,23 @@ def _heard(lines: list[bytes], receiver: int) -> bytes:
     """`heard`: what a receiver hears, each group rotated."""
     groups = [lines[start:start + GROUP] for start in range(0, len(lines), GROUP)]
     return b"".join(b"".join(group[receiver % len(group):] + group[:receiver % len(group)]) for group in groups)
+
+
+def made_inputs(meters: int, telegrams: int, seed: int) -> tuple[bytes, list[bytes]]:
+    """The roster of a made session, and what each of its receivers hears."""
+    known = meters_of(meters, seed)
+    lines = _lines(known, telegrams)
+    return roster_text(Roster(OWN, known)).encode(), [_heard(lines, receiver) for receiver in range(RECEIVERS)]
+
+
+def summary_told(report: str) -> str:
+    """The summary whose numbers are those of a report."""
+    rows = [line.split(" ") for line in report.splitlines()]
+    receivers, meters, strangers = ([row for row in rows if row[0] == word] for word in ("receiver", "meter", "strangers"))
+    last, steps = (sum(int(row[row.index(word) + 1].replace("-", "0")) for row in meters) for word in ("last", "steps"))
+    lines = sum(int(row[3]) for row in receivers)
+    told = f"meters {len(meters)} receivers {len(receivers)} lines {lines} steps {steps} strangers {strangers[0][1]}"
+    return f"wmbus-made 1\n{told}\nhighest {last}\nend\n"
 
 
 def made_summary(meters: int, telegrams: int, seed: int) -> str:

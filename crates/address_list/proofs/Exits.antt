@@ -2,7 +2,7 @@
 use Rattle.std.proofs.Common.{refl, arith}
 use Rattle.line_teller.specs.declared.ending.LinesEnd.{LinesEnd}
 use Rattle.line_teller.specs.declared.ending.LinesEnd.TheVariants as ends
-use Rattle.address_list_main.specs.Run.{code_of}
+use Rattle.address_list.specs.Run.{code_of}
 use Rattle.address_list.specs.Exit.{IsRunExit}
 
 -- each end has one of them

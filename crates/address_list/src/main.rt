@@ -6,20 +6,24 @@ ghost use Rattle.std.specs.String.{string_bytes};
 ghost use Rattle.std.specs.Process.{exit_status};
 ghost use Rattle.outer_io.specs.Shown.{source_change, sink_change};
 ghost use Rattle.line_teller.specs.declared.ending.LinesEnd.{LinesEnd};
-ghost use Rattle.address_list_main.specs.Run.{IsRun, code_of};
+ghost use Rattle.address_list.specs.Run.{IsRun, code_of};
 ghost use Rattle.program_words.specs.OwnTexts.{asks_for_text, IsTold};
 ghost use Rattle.address_list.specs.Exit.{IsRunExit, names_one};
 
+mod laws;
+mod running;
 mod status;
+mod telling;
 
-use address_list_main::{LINE_MAX, list_addresses};
 use line_reader::TextReader;
 use line_teller::LinesEnd;
 use outer_io::{Sink, Source, StdSink, StdSource};
 use program_words::{NoWords, OwnText, command_words, open_to_read, own_text, tell};
+use running::list_addresses;
 use status::{Said, Stopped};
 use std::fs::{File, Files};
 use std::process::ExitCode;
+use telling::LINE_MAX;
 
 const HELP: &str = "address_list: for which meter each line of a receiver is
 

@@ -11,7 +11,7 @@ pub(crate) struct Said {
 
 impl Said {
     ghost use Rattle.std.specs.Prelude.{◌≡◌};
-    ghost use Rattle.address_list_main.specs.Run.{code_of};
+    ghost use Rattle.address_list.specs.Run.{code_of};
 
     /// The exit status of the program.
     pub(crate) fn code(self) -> u8

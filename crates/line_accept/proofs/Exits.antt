@@ -1,8 +1,8 @@
 -- The exit statuses of a run.
 use Rattle.std.proofs.Common.{◌≡◌, ℕ, refl, sym, subst, arith}
-use Rattle.line_accept_main.specs.declared.status.AcceptStatus.{AcceptStatus}
-use Rattle.line_accept_main.specs.declared.status.AcceptStatus.TheVariants as statuses
-use Rattle.line_accept_main.specs.Run.{Run, IsCausedBy, IsRun, code_of}
+use Rattle.line_accept.specs.declared.status.AcceptStatus.{AcceptStatus}
+use Rattle.line_accept.specs.declared.status.AcceptStatus.TheVariants as statuses
+use Rattle.line_accept.specs.Run.{Run, IsCausedBy, IsRun, code_of}
 use Rattle.line_accept.specs.Exit.{IsRunExit}
 
 run_exit : (run : Run) (status : AcceptStatus) → IsCausedBy run status → IsRunExit (code_of status)

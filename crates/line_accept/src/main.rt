@@ -5,15 +5,27 @@ ghost use Rattle.std.specs.Prelude.{◌≡◌, ◌≢◌, [], true, false, lengt
 ghost use Rattle.std.specs.String.{string_bytes};
 ghost use Rattle.std.specs.Process.{exit_status};
 ghost use Rattle.outer_io.specs.Shown.{source_change, sink_change};
-ghost use Rattle.line_accept_main.specs.declared.status.AcceptStatus.{AcceptStatus};
-ghost use Rattle.line_accept_main.specs.Run.{IsRun, code_of};
+ghost use Rattle.line_accept.specs.declared.status.AcceptStatus.{AcceptStatus};
+ghost use Rattle.line_accept.specs.Run.{IsRun, code_of};
 ghost use Rattle.program_words.specs.OwnTexts.{asks_for_text, IsTold};
 ghost use Rattle.line_accept.specs.Exit.{IsRunExit};
 
-use line_accept_main::{AcceptStatus, LINE_MAX, accept_run};
+mod accepting;
+mod delivery;
+mod fault;
+mod names;
+mod reader;
+mod running;
+mod status;
+mod texts;
+mod words;
+
+use delivery::LINE_MAX;
 use line_reader::TextReader;
 use outer_io::{Sink, Source, StdSink, StdSource};
 use program_words::{NoWords, Numbered, command_words, open_to_read, own_text, tell};
+use running::accept_run;
+use status::AcceptStatus;
 use std::fs::{File, Files};
 use std::process::ExitCode;
 

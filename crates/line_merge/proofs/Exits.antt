@@ -1,10 +1,10 @@
 -- The exit statuses of a merge.
 use Rattle.std.proofs.Common.{ℕ, zero, suc, refl, subst, arith}
-use Rattle.line_merge_main.specs.declared.status.InputFault.{InputFault}
-use Rattle.line_merge_main.specs.declared.status.InputFault.TheVariants as faults
-use Rattle.line_merge_main.specs.declared.status.MergeStatus.{MergeStatus}
-use Rattle.line_merge_main.specs.declared.status.MergeStatus.TheVariants as statuses
-use Rattle.line_merge_main.specs.Statuses.{code_of, fault_code}
+use Rattle.line_merge.specs.declared.status.InputFault.{InputFault}
+use Rattle.line_merge.specs.declared.status.InputFault.TheVariants as faults
+use Rattle.line_merge.specs.declared.status.MergeStatus.{MergeStatus}
+use Rattle.line_merge.specs.declared.status.MergeStatus.TheVariants as statuses
+use Rattle.line_merge.specs.Statuses.{code_of, fault_code}
 use Rattle.line_merge.specs.Exit.{IsRunExit, IsUnopened}
 
 fault_exit : (fault : InputFault) → IsRunExit (fault_code fault)

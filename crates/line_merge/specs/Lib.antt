@@ -1,2 +1,9 @@
 pub mod Exit
+pub mod Inputs
+pub mod Least
+pub mod Merging
+pub mod Readers
+pub mod Run
+pub mod Statuses
+pub mod Steps
 pub mod Words

@@ -1,5 +1,5 @@
 //! What a status means, in words.
-use line_merge_main::{FaultyInput, InputFault, MergeStatus};
+use crate::status::{FaultyInput, InputFault, MergeStatus};
 use std::fmt;
 
 /// A status, said in words.

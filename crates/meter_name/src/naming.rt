@@ -13,7 +13,7 @@ use outer_io::Sink;
 use paper::{Paper, Printed, put_hex, put_text, write};
 
 /// Why the words name no meter.
-#[derive(Clone, Copy, Debug, PartialEq, Eq)]
+#[derive(Clone, Copy)]
 pub enum NameFault {
     /// There is neither one word nor four.
     Count,
@@ -28,7 +28,7 @@ pub enum NameFault {
 }
 
 /// The other name of a meter, which is printed.
-#[derive(Clone, Copy, Debug, PartialEq, Eq)]
+#[derive(Clone, Copy)]
 pub enum Named {
     /// The address of four words.
     Address(Address),

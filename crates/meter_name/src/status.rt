@@ -4,7 +4,7 @@ use meter_label::LabelFault;
 use std::fmt;
 
 /// How a run ended.
-#[derive(Clone, Copy, Debug, PartialEq, Eq)]
+#[derive(Clone, Copy)]
 pub enum NameStatus {
     /// Status 0: the name is printed.
     Done,

@@ -1,8 +1,8 @@
 -- The exit statuses of a run.
 use Rattle.std.proofs.Common.{refl, arith}
-use Rattle.reading_list_main.specs.declared.status.ListStatus.{ListStatus}
-use Rattle.reading_list_main.specs.declared.status.ListStatus.TheVariants as statuses
-use Rattle.reading_list_main.specs.Run.{code_of}
+use Rattle.reading_list.specs.declared.status.ListStatus.{ListStatus}
+use Rattle.reading_list.specs.declared.status.ListStatus.TheVariants as statuses
+use Rattle.reading_list.specs.Run.{code_of}
 use Rattle.reading_list.specs.Exit.{IsRunExit}
 
 -- each status of a run is one of them

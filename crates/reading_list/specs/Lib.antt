@@ -1,2 +1,10 @@
 pub mod Exit
+pub mod Limits
+pub mod Listing
+pub mod Notes
+pub mod Pages
+pub mod RecordLines
+pub mod Run
+pub mod Running
+pub mod Said
 pub mod Words

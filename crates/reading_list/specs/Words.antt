@@ -1,8 +1,8 @@
 -- The words of the program.
 use Rattle.std.specs.Prelude.{ℕ, List, [], ◌∷◌, codes, nat_eq, Option, Some, None, if◌then◌else◌}
 use Rattle.std.specs.Cmp.Lexicographic.{pointwise}
-use Rattle.reading_list_main.specs.declared.forms.Form.{Form}
-use Rattle.reading_list_main.specs.declared.forms.Form.TheVariants as forms
+use Rattle.reading_list.specs.declared.forms.Form.{Form}
+use Rattle.reading_list.specs.declared.forms.Form.TheVariants as forms
 
 -- the form that the words ask for: JSON for a report alone, comma separated values where `--csv` stands before it
 abbrev pub form_asked : List (List ℕ) → Option Form

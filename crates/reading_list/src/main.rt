@@ -5,18 +5,29 @@ ghost use Rattle.std.specs.Prelude.{◌≡◌, [], true, false, map, None, IsTru
 ghost use Rattle.std.specs.String.{string_bytes};
 ghost use Rattle.std.specs.Process.{exit_status};
 ghost use Rattle.outer_io.specs.Shown.{source_change, sink_change};
-ghost use Rattle.reading_list_main.specs.declared.status.ListStatus.{ListStatus};
-ghost use Rattle.reading_list_main.specs.Run.{IsRun, code_of};
+ghost use Rattle.reading_list.specs.declared.status.ListStatus.{ListStatus};
+ghost use Rattle.reading_list.specs.Run.{IsRun, code_of};
 ghost use Rattle.program_words.specs.OwnTexts.{asks_for_text, IsTold};
 ghost use Rattle.reading_list.specs.Exit.{IsRunExit};
 ghost use Rattle.reading_list.specs.Words.{form_asked};
 
+mod forms;
+mod lister;
+mod notes;
+mod page;
+mod pages;
+mod record_lines;
+mod running;
+mod said;
+mod status;
 mod status_words;
 
 use error_sink::ErrorSink;
+use forms::Form;
 use outer_io::{Sink, Source, StdSink, StdSource};
 use program_words::{NoWords, OwnText, command_words, open_to_read, own_text, tell};
-use reading_list_main::{Form, ListStatus, list_report};
+use running::list_report;
+use status::ListStatus;
 use status_words::{Said, Stopped};
 use std::fs::{File, Files};
 use std::process::ExitCode;

@@ -1,5 +1,5 @@
 //! What a status means, in words.
-use reading_list_main::ListStatus;
+use crate::status::ListStatus;
 use std::fmt;
 
 /// A status, said in words.

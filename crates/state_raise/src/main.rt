@@ -1,17 +1,21 @@
 //! The program `state_raise`: opens the files that its words name, and writes the state with its counters raised.
 #![tactic(auto)]
 
-ghost use Rattle.std.specs.Prelude.{◌≡◌, true, false, map, None, is_some, IfOk, IfErr, IsTrue};
+ghost use Rattle.std.specs.Prelude.{◌≡◌, ◌++◌, ◌⊎◌, true, false, map, None, is_some, Ok, IfOk, IfErr, IsTrue};
 ghost use Rattle.std.specs.String.{string_bytes};
 ghost use Rattle.std.specs.Process.{exit_status};
+ghost use Rattle.outer_io.specs.Bytes.{AppendsFront};
+ghost use Rattle.outer_io.specs.Shown.{WriteFailed, source_change, sink_change};
+ghost use Rattle.state_file.specs.Whole.{state_of};
+ghost use Rattle.state_file.specs.Written.{state_text};
 ghost use Rattle.state_changes.specs.CommandWords.{raise_in};
-ghost use Rattle.state_changes.specs.Loading.{IsRaisedOf};
+ghost use Rattle.state_changes.specs.Loading.{IsRaisedOf, IsUnraised};
 ghost use Rattle.state_changes.specs.Statuses.{code_of};
 ghost use Rattle.state_changes.specs.declared.status.ChangeStatus.{ChangeStatus};
 ghost use Rattle.program_words.specs.OwnTexts.{asks_for_text, IsTold};
-ghost use Rattle.state_raise.specs.Exit.{IsRunExit};
+ghost use Rattle.state_raise.specs.Exit.{IsRefusalExit, IsRunExit, IsWriteExit};
 
-use outer_io::Source;
+use outer_io::{Sink, Source};
 use program_words::{NoWords, command_words, open_to_read, open_to_write, own_text, tell};
 use state_changes::{ChangeMessage, ChangeStatus, Raised, load_raised, read_raise, write_next};
 use std::fs::{File, Files};
@@ -62,7 +66,11 @@ fn load<R: Eprint + AllocGlobal, S: Source>(
     by: u32,
 ) -> Result<Raised, ExitCode>
     ensures raised { IfOk result (λ next. IsTrue S.tells → IsRaisedOf by (S.left state.old) next) }
-    ensures exit { IfErr result (λ ended. IsRunExit (exit_status ended)) }
+    ensures read_back { IfOk result (λ next. state_of (state_text next) ≡ Ok next) }
+    // Where there is none the status says why.
+    ensures refused { IfErr result (λ ended. (status : ChangeStatus) × (exit_status ended ≡ code_of status)
+        × IsUnraised by S.tells (source_change S.Source state.old state.new) status) }
+    ensures exit { IfErr result (λ ended. IsRefusalExit (exit_status ended)) }
 {
     match load_raised(rt.alloc(), state, by) {
         Ok(next) => Ok(next),
@@ -76,22 +84,34 @@ fn raise<R: Eprint + Files<File = File> + AllocGlobal>(
     state: &str,
     by: u32,
 ) -> Result<Raised, ExitCode>
-    ensures { IfErr result (λ ended. IsRunExit (exit_status ended)) }
+    ensures { IfErr result (λ ended. IsRefusalExit (exit_status ended)) }
 {
-    let mut state = open_to_read(rt, PROGRAM, state)?;
-    load(rt, &mut state, by)
+    match open_to_read(rt, PROGRAM, state) {
+        Ok(mut state) => load(rt, &mut state, by),
+        Err(ended) => Err(ended),
+    }
+}
+
+// Writes the next state, and ends with the status of that.
+fn write_state<R: Eprint, K: Sink>(rt: &R, next: &Raised, sink: &mut K) -> ExitCode
+    ensures done { exit_status result ≡ 0 → IsTrue K.tells → K.written sink.new ≡ K.written sink.old ++ state_text next.now }
+    ensures unwritten { exit_status result ≡ 7 → WriteFailed (sink_change K.Sink sink.old sink.new) }
+    ensures front { exit_status result ≡ 7 → IsTrue K.tells →
+        AppendsFront (state_text next.now) (K.written sink.old) (K.written sink.new) }
+    ensures exit { (exit_status result ≡ 0) ⊎ (exit_status result ≡ 7) }
+{
+    let status = write_next(next, sink);
+    end(rt, status)
 }
 
 // Writes the next state to the file of this name.
 fn write_to<R: Eprint + Files<File = File>>(rt: &R, next: &Raised, name: &str) -> ExitCode
-    ensures { IsRunExit (exit_status result) }
+    ensures { IsWriteExit (exit_status result) }
 {
-    let mut sink = match open_to_write(rt, PROGRAM, name, PRIVATE) {
-        Ok(sink) => sink,
-        Err(ended) => return ended,
-    };
-    let status = write_next(next, &mut sink);
-    end(rt, status)
+    match open_to_write(rt, PROGRAM, name, PRIVATE) {
+        Ok(mut sink) => write_state(rt, next, &mut sink),
+        Err(ended) => ended,
+    }
 }
 
 // Does what the words behind the program's name ask for.

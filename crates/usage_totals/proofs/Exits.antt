@@ -1,10 +1,10 @@
 -- The exit statuses of a run.
 use Rattle.std.proofs.Common.{◌≡◌, true, false, refl, subst, arith}
 use Rattle.std.specs.Prelude.{None, IsSome}
-use Rattle.usage_totals_main.specs.declared.status.TotalsStatus.{TotalsStatus}
-use Rattle.usage_totals_main.specs.declared.status.TotalsStatus.TheVariants as statuses
-use Rattle.usage_totals_main.specs.Words.{totals_asked}
-use Rattle.usage_totals_main.specs.Run.{Run, IsRun, IsCausedBy, code_of}
+use Rattle.usage_totals.specs.declared.status.TotalsStatus.{TotalsStatus}
+use Rattle.usage_totals.specs.declared.status.TotalsStatus.TheVariants as statuses
+use Rattle.usage_totals.specs.Words.{totals_asked}
+use Rattle.usage_totals.specs.Run.{Run, IsRun, IsCausedBy, code_of}
 use Rattle.usage_totals.specs.Exit.{IsRunExit}
 
 exit_of : (status : TotalsStatus) → (status ≡ statuses.Words → ⊥) → IsRunExit (code_of status)

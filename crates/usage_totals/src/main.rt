@@ -6,18 +6,28 @@ ghost use Rattle.std.specs.String.{string_bytes};
 ghost use Rattle.std.specs.Process.{exit_status};
 ghost use Rattle.outer_io.specs.Shown.{source_change, sink_change};
 ghost use Rattle.line_reader.specs.Reader.{given};
-ghost use Rattle.usage_totals_main.specs.declared.status.TotalsStatus.{TotalsStatus};
-ghost use Rattle.usage_totals_main.specs.Run.{IsRun, code_of};
-ghost use Rattle.usage_totals_main.specs.Words.{totals_asked};
+ghost use Rattle.usage_totals.specs.declared.status.TotalsStatus.{TotalsStatus};
+ghost use Rattle.usage_totals.specs.Run.{IsRun, code_of};
+ghost use Rattle.usage_totals.specs.Words.{totals_asked};
 ghost use Rattle.program_words.specs.OwnTexts.{asks_for_text, IsTold};
 ghost use Rattle.usage_totals.specs.Exit.{IsRunExit};
 
+mod answer;
+mod asked;
+mod request;
+mod running;
+mod status;
+mod texts;
+
+use asked::totals_asked;
 use line_reader::TextReader;
 use outer_io::{Sink, Source, StdSink, StdSource};
 use program_words::{NoWords, Numbered, command_words, own_text, tell};
+use request::LINE_MAX;
+use running::totals_run;
+use status::TotalsStatus;
 use std::fs::{File, Files};
 use std::process::ExitCode;
-use usage_totals_main::{LINE_MAX, TotalsStatus, totals_asked, totals_run};
 
 const HELP: &str =
     "usage_totals: usages of meters, from payloads that are added, corrected and taken away
@@ -63,7 +73,7 @@ fn end(rt: &impl Eprint, status: TotalsStatus) -> ExitCode
 }
 
 // Answers the lines of a file, and ends with the status of that.
-fn answer<R: Eprint + AllocGlobal, S: Source, K: Sink>(
+fn answer_edits<R: Eprint + AllocGlobal, S: Source, K: Sink>(
     rt: &R,
     command: &[String],
     edits: &mut TextReader<S>,
@@ -126,7 +136,7 @@ fn perform<R: Print + Eprint + Files<File = File> + AllocGlobal>(
         Err(ended) => return ended,
     };
     let mut lines = TextReader::new(StdSource::file(file), LINE_MAX);
-    answer(rt, command, &mut lines, &mut out)
+    answer_edits(rt, command, &mut lines, &mut out)
 }
 
 // What it means that the words can't be had.

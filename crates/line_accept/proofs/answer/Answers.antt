@@ -1,6 +1,6 @@
 use Rattle.std.specs.Process.{exit_status}
 use Rattle.outer_io.specs.Shown.{source_change, sink_change}
-use Rattle.line_accept_main.specs.Run.{Run}
+use Rattle.line_accept.specs.Run.{Run}
 use Rattle.line_accept.proofs.Exits.{exit_of}
 use Rattle.line_accept.proofs.answer.Goals as goal
 

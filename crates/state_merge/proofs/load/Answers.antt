@@ -1,11 +1,11 @@
 use Rattle.std.proofs.Common.{sym, subst}
 use Rattle.outer_io.specs.Shown.{source_change}
-use Rattle.state_merge.specs.Exit.{IsRunExit}
+use Rattle.state_merge.specs.Exit.{IsRefusalExit}
 use Rattle.state_merge.proofs.Exits.{refused_exit}
 use Rattle.state_merge.proofs.load.Goals as goal
 
 pub returns-in-Err-clause-exit : goal.returns-in-Err-clause-exit
 returns-in-Err-clause-exit g c =
-    subst IsRunExit (sym c.end.ensures)
+    subst IsRefusalExit (sym c.end.ensures)
     (refused_exit g.S.Source.tells (source_change g.S.Source c.args.state.now c.load_merged.new.state)
     (source_change g.S.Source c.args.roster.now c.load_merged.new.roster) c.in-Err.status c.in-Err.ensures.refused)

@@ -1,7 +1,0 @@
-use Rattle.address_list_main.proofs.Runs.{listed_run, ran}
-use Rattle.address_list_main.proofs.running.list_addresses.Goals as goal
-
-pub returns : goal.returns
-returns g c =
-    ran _ (λ tells. listed_run _ _ _ _ _ (c.tell_lines.ensures.ended tells)) c.tell_lines.ensures.read c.tell_lines.ensures.write
-    c.tell_lines.ensures.bytes

@@ -1,4 +1,0 @@
-pub mod Addresses
-pub mod Laws
-pub mod Run
-pub mod Telling

@@ -1,4 +1,0 @@
-pub mod SendersLines
-pub mod Lines
-pub mod MovedTexts
-pub mod Runs

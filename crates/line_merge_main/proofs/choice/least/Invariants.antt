@@ -1,5 +1,0 @@
-use Rattle.line_merge_main.specs.Least.{IsBest}
-use Rattle.line_merge_main.proofs.choice.least.Given as goal
-
-abbrev pub invariant-loop-place : goal.invariant-loop-place
-invariant-loop-place l = IsBest l.heads l.place l.best

@@ -1,8 +1,0 @@
-use Rattle.std.proofs.Common.{refl}
-use Rattle.paper.proofs.Calls.{once, three_make}
-use Rattle.line_merge_main.specs.Inputs.{line_text}
-use Rattle.line_merge_main.proofs.lines.MergedLinePrinted.print.Goals as goal
-
-pub returns : goal.returns
-unfolding line_text
-returns g c = three_make _ c.put_number_if.ensures (once c.put.ensures) c.put_text.ensures refl

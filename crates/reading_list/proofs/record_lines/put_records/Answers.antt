@@ -1,0 +1,56 @@
+-- Up to the first fault each record's line stands behind those before it.
+use Rattle.std.proofs.Common.{◌≡◌, ◌<◌, sym, ap, ◌∙◌, subst, IfSome, Ok, Err, Some, None, arith}
+use Rattle.dif_vif.specs.Spans.{LiesWithin}
+use Rattle.dif_vif.specs.Listing.{spans_from}
+use Rattle.dif_vif.specs.Reading.{next_of}
+use Rattle.reading_list.specs.RecordLines.{fault_from}
+use Rattle.reading_list.proofs.RecordsPut.{spans_next, fault_next, line_more, lines_end}
+use Rattle.reading_list.proofs.record_lines.put_records.Goals as goal
+
+pub returns-in-Err : goal.returns-in-Err
+returns-in-Err g c =
+    let some : 0 < c.records.left = omega (arith, c.records-test.true) in
+    let is : next_of c.args.step.now.payload.items c.records.from ≡ Err c.in-Err.fault =
+    ap (λ bytes. next_of bytes c.records.from) (sym c.as_slice.ensures.value) ∙ sym c.in-Err.ensures.exact in
+    record {
+      text = c.records.invariant.text _ (lines_end _ c.records.left _ c.records.from _ (spans_next c.records.left _ c.records.from _ some is));
+      fault = sym (fault_next c.records.left _ c.records.from _ some is) ∙ c.records.invariant.fault;
+    }
+
+pub returns-in-Ok-None : goal.returns-in-Ok-None
+returns-in-Ok-None g c =
+    let some : 0 < c.records.left = omega (arith, c.records-test.true) in
+    let is : next_of c.args.step.now.payload.items c.records.from ≡ Ok None =
+    ap (λ bytes. next_of bytes c.records.from) (sym c.as_slice.ensures.value) ∙ sym c.in-Ok-None.ensures.exact
+    ∙ ap Ok c.in-Ok-None.field-0-is in
+    record {
+      text = c.records.invariant.text _ (lines_end _ c.records.left _ c.records.from _ (spans_next c.records.left _ c.records.from _ some is));
+      fault = sym (fault_next c.records.left _ c.records.from _ some is) ∙ c.records.invariant.fault;
+    }
+
+pub records-preserved : goal.records-preserved
+records-preserved g c =
+    let some : 0 < c.records.left = omega (arith, c.records-test.true) in
+    let is : next_of c.args.step.now.payload.items c.records.from ≡ Ok (Some c.in-Ok-Some.span) =
+    ap (λ bytes. next_of bytes c.records.from) (sym c.as_slice.ensures.value) ∙ sym c.in-Ok-Some.ensures.exact
+    ∙ ap Ok c.in-Ok-Some.field-0-is in
+    let within : LiesWithin c.args.step.now.payload.items c.in-Ok-Some.span =
+    subst (λ bytes. LiesWithin bytes c.in-Ok-Some.span) c.as_slice.ensures.value
+    (subst (λ next. IfSome next (LiesWithin c.as_slice.result.now)) c.in-Ok-Some.field-0-is c.in-Ok-Some.ensures.within) in
+    record {
+      within = within.within;
+      counted = omega arith;
+      fault = sym (fault_next c.records.left _ c.records.from _ some is) ∙ c.records.invariant.fault;
+      text = λ q later. c.records.invariant.text q
+          (line_more _ c.records.left _ c.records.from c.in-Ok-Some.span _ some is c.put_record.ensures later);
+    }
+
+pub returns : goal.returns
+unfolding spans_from fault_from
+returns g c =
+    let none : c.records.left ≡ 0 = omega (arith, c.records-test.false) in
+    record {
+      text = c.records.invariant.text _
+          (lines_end _ c.records.left _ c.records.from _ (ap (λ n. spans_from n c.args.step.now.payload.items c.records.from) none));
+      fault = sym (ap (λ n. fault_from n c.args.step.now.payload.items c.records.from) none) ∙ c.records.invariant.fault;
+    }

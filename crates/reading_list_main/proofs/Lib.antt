@@ -1,6 +1,0 @@
-pub mod RecordsPut
-pub mod Lines
-pub mod PageLines
-pub mod PageRuns
-pub mod Runs
-pub mod ReadPut

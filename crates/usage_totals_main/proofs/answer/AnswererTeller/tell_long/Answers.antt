@@ -1,7 +1,0 @@
--- A line that is too long asks for nothing.
-use Rattle.usage_totals_main.proofs.Lines.{long_line}
-use Rattle.usage_totals_main.proofs.Told.{told_bad}
-use Rattle.usage_totals_main.proofs.answer.AnswererTeller.tell_long.Goals as goal
-
-pub returns : goal.returns
-returns c = λ line long. told_bad c.args.self.now _ line _ _ _ (long_line line long) c.put_bad.ensures

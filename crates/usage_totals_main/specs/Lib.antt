@@ -1,5 +1,0 @@
-pub mod Words
-pub mod Requests
-pub mod Texts
-pub mod Answering
-pub mod Run
