@@ -8,7 +8,7 @@ from wmbus_service.config import Page
 from wmbus_service.page import serving
 from wmbus_service.trouble import Trouble
 
-from .page_house import TOKEN, PageHouse, entered, page_fixture  # noqa: F401
+from .page_house import HOUR, TOKEN, PageHouse, entered, page_fixture  # noqa: F401
 from .test_sessions import NOW, house_fixture  # noqa: F401
 
 STRANGER = "2d2c785634121b16"
@@ -100,6 +100,22 @@ def test_other_sites(page: PageHouse) -> None:
     assert "HttpOnly" in cookie and "SameSite=Strict" in cookie
     assert client.post("/leave", data={"forms": word}).status_code == 303
     assert client.post(path, data=data).status_code == 403
+
+
+def test_a_token_given_long_ago(page: PageHouse) -> None:
+    """The token holds for twelve hours from when it was given, however often a page was asked for in between."""
+    app = page.page(TOKEN)
+    client, word = entered(app)
+    path, data = f"/meters/{page.addresses[0]}/commands", {"forms": word, "payload": "00"}
+    for hours in (5, 11.9):
+        app.config.update(CLOCK=lambda: NOW + hours * HOUR)
+        assert client.post(path, data=data).status_code == 303 and "Leave" in client.get("/").text
+    app.config.update(CLOCK=lambda: NOW + 12.1 * HOUR)
+    assert client.post(path, data=data).status_code == 403
+    given = client.get("/").text
+    assert "Leave" not in given and ">Enter<" in given and page.house.all("select count(*) from command") == [2]
+    again = client.post("/enter", data={"forms": word, "token": TOKEN})
+    assert again.status_code == 303 and client.post(path, data=data).status_code == 303
 
 
 def test_elsewhere(page: PageHouse) -> None:

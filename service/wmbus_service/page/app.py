@@ -120,8 +120,9 @@ def door_of() -> Door:
 
 
 def may_write() -> bool:
-    """Whether who asks has given the token."""
-    return current_app.config["TOKEN"] is not None and bool(session.get("entered"))
+    """Whether who asks has given the token, and not too long ago; each answer makes the cookie itself younger."""
+    given = session.get("entered")
+    return current_app.config["TOKEN"] is not None and given is not None and clock() - float(given) < ENTERED_SECONDS
 
 
 def database() -> Database:
