@@ -11,7 +11,7 @@ import sys
 import threading
 import time
 import urllib.request
-from collections.abc import Iterator
+from collections.abc import Iterator, Sequence
 from contextlib import ExitStack, contextmanager, suppress
 from dataclasses import dataclass
 from pathlib import Path
@@ -27,6 +27,13 @@ from .test_sessions import house_fixture  # noqa: F401
 SERVICE = Path(__file__).resolve().parents[1]
 # what a client of TLS sends first: a record's head, and then nothing
 HALF_A_HANDSHAKE = bytes.fromhex("160301020001")
+# the service on a machine whose localhost has two addresses, as Debian's /etc/hosts gives it
+TWO_ADDRESSES = """import runpy, socket
+found = socket.getaddrinfo
+names = {"localhost": ("127.0.0.1", "::1")}
+socket.getaddrinfo = lambda host, *more, **named: [it for name in names.get(host, (host,)) for it in found(name, *more, **named)]
+runpy.run_module("wmbus_service", run_name="__main__")
+"""
 
 
 @dataclass(frozen=True)
@@ -54,12 +61,12 @@ class Served:
 
 
 @contextmanager
-def served(page: PageHouse, words: str) -> Iterator[Served]:
+def served(page: PageHouse, words: str, program: Sequence[str] = ("-m", "wmbus_service")) -> Iterator[Served]:
     """`wmbus-service page` by a configuration."""
     folder = page.house.config.folder
     file, log = folder.parent / "config.toml", folder.parent / "page.log"
     file.write_text(f'folder = "{folder}"\n[page]\n{words}')
-    with open(log, "wb") as opened, started([sys.executable, "-m", "wmbus_service", "--config", str(file), "page"], cwd=SERVICE,
+    with open(log, "wb") as opened, started([sys.executable, *program, "--config", str(file), "page"], cwd=SERVICE,
                                             stderr=opened) as process:
         yield Served(process, log)
 
@@ -93,6 +100,20 @@ def test_on_this_machine(page: PageHouse) -> None:
     """It is served, and ends with status 0."""
     with served(page, "port = 0\n") as it:
         assert "All meters" in fetched(it)
+        it.process.send_signal(signal.SIGTERM)
+        assert it.ended() == 0, it.said()
+
+
+def test_a_name_of_two_addresses(page: PageHouse) -> None:
+    """Under localhost it is served at both of its addresses, and says where."""
+    with socket.create_server(("127.0.0.1", 0)) as free:
+        port = free.getsockname()[1]
+    with served(page, f'host = "localhost"\nport = {port}\n', ("-c", TWO_ADDRESSES)) as it:
+        until(lambda: "the page is at" in it.said() or it.process.poll() is not None)
+        assert f"the page is at http://localhost:{port}/" in it.said(), it.said()
+        for host in ("127.0.0.1", "[::1]"):
+            with urllib.request.urlopen(f"http://{host}:{port}/", timeout=PATIENCE) as given:
+                assert "All meters" in given.read().decode()
         it.process.send_signal(signal.SIGTERM)
         assert it.ended() == 0, it.said()
 

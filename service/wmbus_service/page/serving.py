@@ -85,7 +85,7 @@ def serve_page(page: Page, made: Callable[[str | None, bool], object]) -> None:
         server.serve()
 
     def serve_plainly() -> None:
-        log.info("the page is at http://%s:%s/", page.host, server.effective_port)
+        log.info("the page is at http://%s:%s/", page.host, port_of(server))
         server.run()
     if page.certificate:
         serve_until(ending, page, serve_with_tls, server.stop)
@@ -124,6 +124,11 @@ def plain_server(app: object, page: Page) -> Any:
         return waitress.create_server(app, host=page.host, port=page.port, threads=THREADS, ident=None)
     except OSError as fault:
         raise _unserved(page, fault) from None
+
+
+def port_of(server: Any) -> int:
+    """The port that a server without TLS has; of a name with several addresses, as localhost, it is one server for each of them."""
+    return int(server.effective_listen[0][1] if hasattr(server, "effective_listen") else server.effective_port)
 
 
 def server_with_tls(app: object, page: Page) -> Any:
