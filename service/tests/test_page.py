@@ -311,6 +311,18 @@ def test_csv_of_days_of_other_lengths(page: PageHouse, monkeypatch: pytest.Monke
     assert (values("2026-03-29"), values("2026-10-25"), values("2026-10-26")) == (["0.001"], ["0.002"], ["0.003"])
 
 
+def test_commands_given_up_among_many(page: PageHouse) -> None:
+    """A command that was given up is told of also where many others came after it, as where each meter of a building gets one."""
+    first, second, _ = page.addresses
+    query = "insert into command (id, address, kind, payload, state, made, changed) values (?, ?, 'send', '00', ?, ?, ?)"
+    page.write(query, "old", first, "expired", NOW - 30 * DAY, NOW - 20 * DAY)
+    page.write(query, "valve", first, "expired", NOW - 2 * DAY, NOW - DAY)
+    for number in range(60):
+        page.write(query, f"c{number}", second, "confirmed", NOW - DAY, NOW - DAY + number)
+    told = [look["to_do"] for look in (page.client().get("/api/overview").json or {})["looks"] if look["what"] == "command given up"]
+    assert len(told) == 1 and told[0].startswith("Command valve: ")
+
+
 def test_all_digits(page: PageHouse) -> None:
     """A number has all its digits in the page's CSV, in what `wmbus-service export` gives, and in messages; an integer has up to 37."""
     address, digits = page.addresses[0], "123456789012345678901234567890123456"
