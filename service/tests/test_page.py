@@ -288,12 +288,22 @@ def test_csv(page: PageHouse) -> None:
         return list(csv.reader(io.StringIO(given.text)))
     head, *found = rows(f"/meters/{first}/readings.csv")
     assert head == ["moment", "address", "name", "counter", "quantity", "value", "unit", "function", "storage", "tariff", "subunit",
-                    "receiver"]
+                    "receiver", "modifiers"]
     assert [row[2] for row in found] == ['a, "b"'] * 3 and [row[5] for row in found] == ["0.010", "0.020", "0.030"]
     assert [row[5] for row in rows(f"/meters/{first}/readings.csv?from=2027-01-13&to=2027-01-13")[1:]] == ["0.020"]
     assert [row[5] for row in rows(f"/meters/{first}/readings.csv?from={int(NOW) - 2 * DAY}")[1:]] == ["0.020", "0.030"]
     assert [row[5] for row in rows("/readings.csv?from=2027-01-14")[1:]] == ["0.030", "0.005"]
     assert page.client().get(f"/meters/{first}/readings.csv?from=yesterday").status_code == 400
+
+
+def test_csv_of_what_flowed_backward(page: PageHouse) -> None:
+    """What flowed backward isn't taken for the volume by who reads the CSV of the page, or of `wmbus-service export`."""
+    address = page.addresses[0]
+    page.read(address, NOW - 60, ("volume", "m3", -3, "5000"), ("volume", "m3", -3, "7", "instantaneous", 0, "3c"))
+    exported = "".join(exporting.as_csv(page.house.database, address, 0))
+    for text in (page.client().get(f"/meters/{address}/readings.csv").text, page.client().get("/readings.csv").text, exported):
+        rows = list(csv.DictReader(io.StringIO(text)))
+        assert [(row["quantity"], row["value"], row["modifiers"]) for row in rows] == [("volume", "5.000", ""), ("volume", "0.007", "3c")]
 
 
 def test_csv_of_days_of_other_lengths(page: PageHouse, monkeypatch: pytest.MonkeyPatch) -> None:

@@ -89,7 +89,7 @@ def strangers_page(database: Database, now: float) -> dict[str, Any]:
 
 
 READINGS = ("select moment, reading.address, meter.name, counter, quantity, value, exponent, unit, function, storage, tariff, subunit,"
-            " reading.receiver from reading cross join record on record.reading = reading.id"
+            " reading.receiver, modifiers from reading cross join record on record.reading = reading.id"
             " left join meter on meter.address = reading.address"
             " where reading.address = ? and moment >= ? and moment <= ? order by moment, reading.id, record.place")
 
