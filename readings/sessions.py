@@ -93,12 +93,12 @@ class Folder:
                 print(f"sessions: {self.state} has keys, and others can read it: chmod 600 {self.state}", file=sys.stderr)
 
     def waiting(self) -> list[str]:
-        """Of each receiver the first file by name, of at most sixteen receivers."""
+        """Of each receiver the first file by name, of at most sixteen receivers: those whose files have waited longest."""
         first: dict[str, str] = {}
         for name in sorted(os.listdir(self.rx)):
             if NAME.fullmatch(name) and (self.rx / name).is_file():
                 first.setdefault(name.split(".")[0], name)
-        return list(first.values())[:RECEIVERS]
+        return sorted(sorted(first.values(), key=lambda name: (self.rx / name).stat().st_mtime)[:RECEIVERS])
 
     def number(self) -> int:
         """The number of the next round, above those of all rounds of which something is there."""
