@@ -118,6 +118,14 @@ def test_a_token_given_long_ago(page: PageHouse) -> None:
     assert again.status_code == 303 and client.post(path, data=data).status_code == 303
 
 
+def test_addresses_of_this_machine(page: PageHouse) -> None:
+    """It answers under each address of this machine alone at which it may be served, and under no other site's name that looks like one."""
+    for host in ("127.0.0.1", "127.8.0.1:9102", "[::1]:9102", "localhost", "LOCALHOST:80"):
+        assert page.client().get("/", headers={"Host": host}).status_code == 200, host
+    for host in ("127.0.0.1.example", "192.168.1.2", "[::2]", "127.0.0.1@elsewhere.example", "localhost.example", "0.0.0.0"):
+        assert page.client().get("/", headers={"Host": host}).status_code == 400, host
+
+
 def test_elsewhere(page: PageHouse) -> None:
     """Bound elsewhere, nothing is read without the token, and the session's cookie goes over TLS alone."""
     app = page.page(TOKEN, is_elsewhere=True)

@@ -1,6 +1,7 @@
 """The page's addresses: HTML for people, the same as JSON under /api, readings as CSV."""
 from __future__ import annotations
 
+import ipaddress
 import logging
 import re
 import secrets
@@ -39,7 +40,6 @@ HEADERS = {
     "X-Content-Type-Options": "nosniff", "Referrer-Policy": "same-origin", "Cache-Control": "no-store",
     "Cross-Origin-Resource-Policy": "same-origin",
 }
-LOCAL_NAMES = {"127.0.0.1", "localhost", "[::1]"}
 MOST_BYTES = 1 << 16
 # after so long the token is asked for again
 ENTERED_SECONDS = 12 * 3600
@@ -101,6 +101,14 @@ def create_page(door: Door, token: str | None, is_elsewhere: bool) -> Flask:
     return app
 
 
+def is_local(host: str) -> bool:
+    """Whether an address is this machine's own, which no other machine reaches."""
+    try:
+        return host == "localhost" or ipaddress.ip_address(host).is_loopback
+    except ValueError:
+        return False
+
+
 def config_now() -> tuple[Config, float]:
     """The configuration and the clock."""
     config = current_app.config["WMBUS"]
@@ -143,7 +151,7 @@ def _guard() -> AnyResponse | None:
     """Another site's name that leads to this machine isn't answered, and elsewhere than on this machine reading needs the token."""
     if not current_app.config["IS_ELSEWHERE"]:
         name = re.sub(r":\d+$", "", request.host).lower()
-        if name not in LOCAL_NAMES:
+        if not is_local(name.removeprefix("[").removesuffix("]")):
             raise Worded("This page is served under the names of this machine alone: 127.0.0.1 and localhost.")
         return None
     if may_write() or request.endpoint in ("static", "pages.common_style", "forms.enter", "forms.entered"):

@@ -1,7 +1,6 @@
 """Serves the page: on this machine alone as it is, elsewhere with TLS and a token."""
 from __future__ import annotations
 
-import ipaddress
 import logging
 import os
 import threading
@@ -14,7 +13,7 @@ from ..config import Config, Page
 from ..ending import Ending
 from ..memory_files import leave_no_core
 from ..trouble import Trouble
-from .app import create_app
+from .app import create_app, is_local as is_local
 
 log = logging.getLogger("wmbus")
 
@@ -22,14 +21,6 @@ LEAST_TOKEN = 24
 THREADS = 4
 # so long an answer that is on its way has when the page is to end
 GRACE = 3.0
-
-
-def is_local(host: str) -> bool:
-    """Whether an address is this machine's own, which no other machine reaches."""
-    try:
-        return host == "localhost" or ipaddress.ip_address(host).is_loopback
-    except ValueError:
-        return False
 
 
 def read_token(page: Page) -> str | None:
