@@ -15,6 +15,7 @@ from typing import Any
 from flask import (
     Blueprint, Flask, Response, abort, current_app, g, jsonify, make_response, redirect, render_template, request, send_file, session,
 )
+from flask.sessions import SecureCookieSessionInterface
 from markupsafe import Markup
 from werkzeug.exceptions import HTTPException
 from werkzeug.routing import Map
@@ -68,6 +69,15 @@ class Pages(Flask):
     url_map_class: type[Map] = Addresses
 
 
+class Sessions(SecureCookieSessionInterface):
+    """Sessions whose cookie has the port in its name: a browser gives a machine's cookies to all ports, and another page may be at one."""
+
+    def get_cookie_name(self, app: Flask) -> str:
+        """The cookie's name."""
+        port = re.search(r":([0-9]{1,5})$", request.host)
+        return super().get_cookie_name(app) + (f"-{port[1]}" if port else "")
+
+
 def create_app(config: Config, token: str | None = None, is_elsewhere: bool = False) -> Flask:
     """The page over a configuration's database. Without a token it only reads; elsewhere than on this machine reading needs it too."""
     app = create_page(HouseDoor(config), token, is_elsewhere)
@@ -82,6 +92,7 @@ def create_page(door: Door, token: str | None, is_elsewhere: bool) -> Flask:
     app.config.update(DOOR=door, TOKEN=token, IS_ELSEWHERE=is_elsewhere, CLOCK=time.time, MAX_CONTENT_LENGTH=MOST_BYTES,
                       SESSION_COOKIE_NAME="wmbus", PERMANENT_SESSION_LIFETIME=ENTERED_SECONDS,
                       SESSION_COOKIE_SAMESITE="Strict", SESSION_COOKIE_SECURE=is_elsewhere)
+    app.session_interface = Sessions()
     # (a new token ends all sessions)
     app.secret_key = digest(token.encode(), b"sessions of the page", "sha256") if token else secrets.token_bytes(32)
     app.jinja_options = {"trim_blocks": True, "lstrip_blocks": True}
