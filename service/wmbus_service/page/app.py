@@ -283,7 +283,7 @@ def receivers() -> str:
 @pages.get("/strangers")
 def strangers() -> str:
     """The meters that aren't known."""
-    return render_template("strangers.html", **views.strangers_page(database(), clock()))
+    return render_template("strangers.html", most=MOST_SHOWN, **views.strangers_page(database(), clock()))
 
 
 @house.get("/api/overview")

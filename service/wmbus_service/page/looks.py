@@ -139,7 +139,7 @@ def _of_commands(database: Database, titles: dict[str, str], now: float) -> Iter
 
 def _of_strangers(database: Database, now: float) -> Iterator[Look]:
     """Strangers that are heard often."""
-    for row in strangers(database, 10):
+    for row in strangers(database, 10, now - METER_SILENCE):
         if row["times"] >= OFTEN and row["last_made"] > now - METER_SILENCE:
             yield Look("look", f"heard {times(row['times'])}", row["label"], f"/strangers#{row['address']}",
                        f"It isn't known ({row['type']}, maker {row['maker']}). Is this yours? Then add it with its key.")

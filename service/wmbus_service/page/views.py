@@ -85,7 +85,7 @@ def receivers_page(config: Config, database: Database, now: float) -> dict[str, 
 
 def strangers_page(database: Database, now: float) -> dict[str, Any]:
     """The meters that aren't known."""
-    return {"now": now, "strangers": strangers(database)}
+    return {"now": now, "strangers": strangers(database, since=now - looks.METER_SILENCE)}
 
 
 READINGS = ("select moment, reading.address, meter.name, counter, quantity, value, exponent, unit, function, storage, tariff, subunit,"
