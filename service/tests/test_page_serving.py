@@ -1,6 +1,7 @@
 """The page as a process: served on this machine as it is, elsewhere with TLS; it ends when it is told to, whatever its connections do."""
 from __future__ import annotations
 
+import os
 import re
 import shutil
 import signal
@@ -149,6 +150,38 @@ def go_on(opened: socket.socket) -> None:
         while True:
             opened.sendall(b"a")
             time.sleep(0.5)
+
+
+def test_broken_records(page: PageHouse, tmp_path: Path) -> None:
+    """Bytes that are no record of TLS, behind a handshake and in the midst of a request, take none of its threads with them."""
+    words, trust = with_tls(tmp_path)
+    with served(page, words + with_token(tmp_path)) as it:
+        for begun in (b"", b"GET /enter HTTP/1.1\r\nHost: ") * serving.THREADS:
+            with socket.create_connection(("127.0.0.1", it.port()), PATIENCE) as plain:
+                with trust.wrap_socket(plain, server_hostname="127.0.0.1") as broken:
+                    broken.sendall(begun)
+                    os.write(broken.fileno(), b"no record" * 20)
+                    with suppress(OSError):
+                        broken.recv(100)
+        assert "<h1>Enter</h1>" in fetched(it, trust)
+
+
+def test_silent_connections(page: PageHouse, tmp_path: Path) -> None:
+    """Connections that begin no handshake, or only half of one, keep nobody else from a page with TLS."""
+    words, trust = with_tls(tmp_path)
+    with served(page, words + with_token(tmp_path)) as it, ExitStack() as opened:
+        fetched(it, trust)
+        for begun in (b"", b"", HALF_A_HANDSHAKE):
+            opened.enter_context(socket.create_connection(("127.0.0.1", it.port()), PATIENCE)).sendall(begun)
+        time.sleep(0.5)
+        before = time.monotonic()
+        assert "<h1>Enter</h1>" in fetched(it, trust)
+        assert time.monotonic() - before < 8
+        for _ in range(2 * serving.THREADS):
+            with socket.create_connection(("127.0.0.1", it.port()), PATIENCE) as plain:
+                plain.sendall(b"GET / HTTP/1.1\r\nHost: 127.0.0.1\r\n\r\n")
+                assert b"200" not in plain.recv(100)
+        assert "<h1>Enter</h1>" in fetched(it, trust) and "Traceback" not in it.said()
 
 
 @pytest.mark.parametrize("is_with_tls", [False, True])

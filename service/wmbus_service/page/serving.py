@@ -125,16 +125,13 @@ def port_of(server: Any) -> int:
 def server_with_tls(app: object, page: Page) -> Any:
     """A server with TLS."""
     try:
-        from cheroot.ssl.builtin import BuiltinSSLAdapter
-        from cheroot.wsgi import Server
+        from .tls import server_of
     except ImportError:
         raise Trouble("page.certificate", "TLS needs cheroot, which isn't there", "apt-get install python3-cheroot") from None
     try:
-        server = Server((page.host, page.port), app, numthreads=THREADS, server_name="wmbus")
-        server.ssl_adapter = BuiltinSSLAdapter(page.certificate, page.key)
+        return server_of(app, page, THREADS)
     except OSError as fault:
         raise Trouble(page.certificate, f"TLS can't be begun: {fault}", "look at page.certificate and page.key") from None
-    return server
 
 
 def _unserved(page: Page, fault: OSError) -> Trouble:
