@@ -159,6 +159,8 @@ def hand_out(folder: Folder) -> str:
         sync(place)
     os.rename(folder.made, folder.making)
     sync(folder.path)
+    # (the names go last: as long as they are there it is known that this round counts)
+    shutil.rmtree(folder.making / "tx")
     shutil.rmtree(folder.making)
     return f"round {number}: heard {' '.join(names)}" + (f", downlinks of {' '.join(downlinks)}" if downlinks else "")
 
@@ -167,6 +169,9 @@ def recover(folder: Folder) -> None:
     """Goes on where the one before was stopped: a round counts where its outputs are in place and NEXT became the state."""
     if folder.made.exists() and not folder.next.exists():
         say(f"{hand_out(folder)} (the rest of a round that was stopped)")
+    elif (folder.making / "names").exists() and not folder.next.exists():
+        # (all of it was handed out)
+        shutil.rmtree(folder.making)
     elif folder.made.exists() or folder.making.exists() or folder.next.exists():
         throw_away(folder)
         say("a round was stopped before it counted; its files are heard again")
