@@ -166,6 +166,28 @@ def test_broken_records(page: PageHouse, tmp_path: Path) -> None:
         assert "<h1>Enter</h1>" in fetched(it, trust)
 
 
+def test_requests_without_end(page: PageHouse, tmp_path: Path) -> None:
+    """Heads and bodies of any length take no memory from a page with TLS: it answers before it has taken all of them."""
+    words, trust = with_tls(tmp_path)
+    head = b"Host: 127.0.0.1\r\nConnection: close\r\n"
+    chunk = b"10000\r\n" + b"a" * 0x10000 + b"\r\n"
+    with served(page, words + with_token(tmp_path)) as it:
+        for begun, piece, end in ((b"GET /enter HTTP/1.1\r\n" + head + b"X: ", b"a" * 0x10000, b"\r\n\r\n"),
+                                  (b"GET /enter?", b"a" * 0x10000, b" HTTP/1.1\r\n" + head + b"\r\n"),
+                                  (b"POST /enter HTTP/1.1\r\nContent-Type: application/x-www-form-urlencoded\r\n" + head
+                                   + b"Transfer-Encoding: chunked\r\n\r\n9\r\nforms=a&b\r\n", chunk, b"0\r\n\r\n")):
+            sent = 0
+            with socket.create_connection(("127.0.0.1", it.port()), PATIENCE) as plain, suppress(OSError):
+                with trust.wrap_socket(plain, server_hostname="127.0.0.1") as asked:
+                    asked.sendall(begun)
+                    while sent < 1024:
+                        asked.sendall(piece)
+                        sent += 1
+                    asked.sendall(end)
+            assert sent < 1024
+        assert "<h1>Enter</h1>" in fetched(it, trust)
+
+
 def test_silent_connections(page: PageHouse, tmp_path: Path) -> None:
     """Connections that begin no handshake, or only half of one, keep nobody else from a page with TLS."""
     words, trust = with_tls(tmp_path)

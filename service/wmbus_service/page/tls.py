@@ -10,6 +10,8 @@ from cheroot.wsgi import Server
 
 from ..config import Page
 
+# so many bytes a request's head has at most, and its body; the page itself takes fewer, and says so in words
+MOST_HEAD, MOST_BODY = 1 << 16, 1 << 20
 ENVIRONMENT = {"wsgi.url_scheme": "https", "HTTPS": "on"}
 
 
@@ -45,4 +47,5 @@ def server_of(app: object, page: Page, threads: int) -> Any:
     server: Any = Server((page.host, page.port), app, numthreads=threads, server_name="wmbus")
     server.ssl_adapter = Adapter(page.certificate, page.key)
     server.ConnectionClass = Connection
+    server.max_request_header_size, server.max_request_body_size = MOST_HEAD, MOST_BODY
     return server
