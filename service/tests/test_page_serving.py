@@ -119,6 +119,16 @@ def test_a_name_of_two_addresses(page: PageHouse) -> None:
         assert it.ended() == 0, it.said()
 
 
+def test_an_address_of_version_6(page: PageHouse) -> None:
+    """Where it says that the page is, a browser finds it."""
+    with served(page, 'host = "::1"\nport = 0\n') as it:
+        until(lambda: "the page is at" in it.said() or it.process.poll() is not None)
+        found = re.search(r"the page is at (\S+)", it.said())
+        assert found and found[1].startswith("http://[::1]:"), it.said()
+        with urllib.request.urlopen(found[1], timeout=PATIENCE) as given:
+            assert "All meters" in given.read().decode()
+
+
 def test_elsewhere_with_tls(page: PageHouse, tmp_path: Path) -> None:
     """On all addresses it speaks TLS alone, and asks for the token first; without either it doesn't start."""
     tls, trust = with_tls(tmp_path)

@@ -68,15 +68,16 @@ def serve_page(page: Page, made: Callable[[str | None, bool], object]) -> None:
     leave_no_core()
     token = look_at_page(page)
     app = made(token, not is_local(page.host))
+    host = f"[{page.host}]" if ":" in page.host else page.host
     server = server_with_tls(app, page) if page.certificate else plain_server(app, page)
 
     def serve_with_tls() -> None:
         server.prepare()
-        log.info("the page is at https://%s:%s/", page.host, server.bind_addr[1])
+        log.info("the page is at https://%s:%s/", host, server.bind_addr[1])
         server.serve()
 
     def serve_plainly() -> None:
-        log.info("the page is at http://%s:%s/", page.host, port_of(server))
+        log.info("the page is at http://%s:%s/", host, port_of(server))
         server.run()
     if page.certificate:
         serve_until(ending, page, serve_with_tls, server.stop)
