@@ -556,7 +556,7 @@ def read_names(path):
     except UnicodeDecodeError:
         raise NoNames(path, "this is no text in UTF-8") from None
     for number, line in enumerate(lines, 1):
-        place, (address, _, name) = f"{path} line {number}", line.strip().partition(" ")
+        place, (address, name) = f"{path} line {number}", (*line.split(maxsplit=1), "", "")[:2]
         if not address or address.startswith("#"):
             continue
         if not is_address(address.lower()) or not name.strip():
