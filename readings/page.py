@@ -4,7 +4,8 @@ usage: bin/report_page [--names NAMES] [--now MOMENT] DB OUT.html
        bin/report_page --help
 
 The page has each meter with its last values, when it was heard last, a curve for each quantity, what was used by day and month, why
-telegrams of it were refused, what commands wait, the receivers, and the strangers that were heard. OUT.html is written whole or not at all.
+telegrams of it were refused, what commands wait, the receivers, and the strangers that were heard. OUT.html is written whole or not at all,
+and keeps its permissions where it was there.
 Silence is measured against the clock, or against MOMENT, seconds since 1970. Times are local: those of the machine's zone, or of TZ.
 
 NAMES is a text file with a line `ADDRESS NAME` for each meter that has a name: its sixteen digits, and what it is called, which the page shows first.
@@ -556,7 +557,7 @@ def read_names(path):
     except UnicodeDecodeError:
         raise NoNames(path, "this is no text in UTF-8") from None
     for number, line in enumerate(lines, 1):
-        place, (address, _, name) = f"{path} line {number}", line.strip().partition(" ")
+        place, (address, name) = f"{path} line {number}", (*line.split(maxsplit=1), "", "")[:2]
         if not address or address.startswith("#"):
             continue
         if not is_address(address.lower()) or not name.strip():
@@ -582,6 +583,9 @@ def write_whole(path, texts):
     part = f"{path}.{os.getpid()}.part"
     try:
         with open(part, "w", encoding="utf-8") as file:
+            # (whom the page that was there isn't for, neither is this one)
+            if os.path.exists(path):
+                os.chmod(part, os.stat(path).st_mode & 0o777)
             file.writelines(texts)
         os.replace(part, path)
     except BaseException as fault:

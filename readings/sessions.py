@@ -93,12 +93,12 @@ class Folder:
                 print(f"sessions: {self.state} has keys, and others can read it: chmod 600 {self.state}", file=sys.stderr)
 
     def waiting(self) -> list[str]:
-        """Of each receiver the first file by name, of at most sixteen receivers."""
+        """Of each receiver the first file by name, of at most sixteen receivers: those whose files have waited longest."""
         first: dict[str, str] = {}
         for name in sorted(os.listdir(self.rx)):
             if NAME.fullmatch(name) and (self.rx / name).is_file():
                 first.setdefault(name.split(".")[0], name)
-        return list(first.values())[:RECEIVERS]
+        return sorted(sorted(first.values(), key=lambda name: (self.rx / name).stat().st_mtime)[:RECEIVERS])
 
     def number(self) -> int:
         """The number of the next round, above those of all rounds of which something is there."""
@@ -159,6 +159,8 @@ def hand_out(folder: Folder) -> str:
         sync(place)
     os.rename(folder.made, folder.making)
     sync(folder.path)
+    # (the names go last: as long as they are there it is known that this round counts)
+    shutil.rmtree(folder.making / "tx")
     shutil.rmtree(folder.making)
     return f"round {number}: heard {' '.join(names)}" + (f", downlinks of {' '.join(downlinks)}" if downlinks else "")
 
@@ -167,6 +169,9 @@ def recover(folder: Folder) -> None:
     """Goes on where the one before was stopped: a round counts where its outputs are in place and NEXT became the state."""
     if folder.made.exists() and not folder.next.exists():
         say(f"{hand_out(folder)} (the rest of a round that was stopped)")
+    elif (folder.making / "names").exists() and not folder.next.exists():
+        # (all of it was handed out)
+        shutil.rmtree(folder.making)
     elif folder.made.exists() or folder.making.exists() or folder.next.exists():
         throw_away(folder)
         say("a round was stopped before it counted; its files are heard again")

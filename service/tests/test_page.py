@@ -288,12 +288,22 @@ def test_csv(page: PageHouse) -> None:
         return list(csv.reader(io.StringIO(given.text)))
     head, *found = rows(f"/meters/{first}/readings.csv")
     assert head == ["moment", "address", "name", "counter", "quantity", "value", "unit", "function", "storage", "tariff", "subunit",
-                    "receiver"]
+                    "receiver", "modifiers"]
     assert [row[2] for row in found] == ['a, "b"'] * 3 and [row[5] for row in found] == ["0.010", "0.020", "0.030"]
     assert [row[5] for row in rows(f"/meters/{first}/readings.csv?from=2027-01-13&to=2027-01-13")[1:]] == ["0.020"]
     assert [row[5] for row in rows(f"/meters/{first}/readings.csv?from={int(NOW) - 2 * DAY}")[1:]] == ["0.020", "0.030"]
     assert [row[5] for row in rows("/readings.csv?from=2027-01-14")[1:]] == ["0.030", "0.005"]
     assert page.client().get(f"/meters/{first}/readings.csv?from=yesterday").status_code == 400
+
+
+def test_csv_of_what_flowed_backward(page: PageHouse) -> None:
+    """What flowed backward isn't taken for the volume by who reads the CSV of the page, or of `wmbus-service export`."""
+    address = page.addresses[0]
+    page.read(address, NOW - 60, ("volume", "m3", -3, "5000"), ("volume", "m3", -3, "7", "instantaneous", 0, "3c"))
+    exported = "".join(exporting.as_csv(page.house.database, address, 0))
+    for text in (page.client().get(f"/meters/{address}/readings.csv").text, page.client().get("/readings.csv").text, exported):
+        rows = list(csv.DictReader(io.StringIO(text)))
+        assert [(row["quantity"], row["value"], row["modifiers"]) for row in rows] == [("volume", "5.000", ""), ("volume", "0.007", "3c")]
 
 
 def test_csv_of_days_of_other_lengths(page: PageHouse, monkeypatch: pytest.MonkeyPatch) -> None:
@@ -309,6 +319,32 @@ def test_csv_of_days_of_other_lengths(page: PageHouse, monkeypatch: pytest.Monke
         given = page.client().get(f"/meters/{address}/readings.csv?from={day}&to={day}").text
         return [row[5] for row in csv.reader(io.StringIO(given))][1:]
     assert (values("2026-03-29"), values("2026-10-25"), values("2026-10-26")) == (["0.001"], ["0.002"], ["0.003"])
+
+
+def test_commands_given_up_among_many(page: PageHouse) -> None:
+    """A command that was given up is told of also where many others came after it, as where each meter of a building gets one."""
+    first, second, _ = page.addresses
+    query = "insert into command (id, address, kind, payload, state, made, changed) values (?, ?, 'send', '00', ?, ?, ?)"
+    page.write(query, "old", first, "expired", NOW - 30 * DAY, NOW - 20 * DAY)
+    page.write(query, "valve", first, "expired", NOW - 2 * DAY, NOW - DAY)
+    for number in range(60):
+        page.write(query, f"c{number}", second, "confirmed", NOW - DAY, NOW - DAY + number)
+    told = [look["to_do"] for look in (page.client().get("/api/overview").json or {})["looks"] if look["what"] == "command given up"]
+    assert len(told) == 1 and told[0].startswith("Command valve: ")
+
+
+def test_strangers_among_many(page: PageHouse) -> None:
+    """A stranger that is heard often now is told of though others were heard more often before, and none is left out without a word."""
+    query = "insert into stranger values (?, ?, 'attic', ?)"
+    for number in range(250):
+        page.write(query, f"4304{number:08d}0407", 5000, NOW - 30 * DAY)
+    page.write(query, "2d2c785634121b16", 50, NOW - 60)
+    looks = (page.client().get("/api/overview").json or {})["looks"]
+    assert [look["link"] for look in looks if look["what"] == "heard 50 times"] == ["/strangers#2d2c785634121b16"]
+    text = page.client().get("/strangers").text
+    assert "And 51 more" in text and 'id="2d2c785634121b16"' in text
+    told = (page.client().get("/api/strangers").json or {})["strangers"]
+    assert len(told) == 251 and told[0]["address"] == "2d2c785634121b16"
 
 
 def test_all_digits(page: PageHouse) -> None:

@@ -8,7 +8,7 @@ from wmbus_service.config import Page
 from wmbus_service.page import serving
 from wmbus_service.trouble import Trouble
 
-from .page_house import TOKEN, PageHouse, entered, page_fixture  # noqa: F401
+from .page_house import HOUR, TOKEN, PageHouse, entered, forms_word, page_fixture  # noqa: F401
 from .test_sessions import NOW, house_fixture  # noqa: F401
 
 STRANGER = "2d2c785634121b16"
@@ -100,6 +100,43 @@ def test_other_sites(page: PageHouse) -> None:
     assert "HttpOnly" in cookie and "SameSite=Strict" in cookie
     assert client.post("/leave", data={"forms": word}).status_code == 303
     assert client.post(path, data=data).status_code == 403
+
+
+def test_a_token_given_long_ago(page: PageHouse) -> None:
+    """The token holds for twelve hours from when it was given, however often a page was asked for in between."""
+    app = page.page(TOKEN)
+    client, word = entered(app)
+    path, data = f"/meters/{page.addresses[0]}/commands", {"forms": word, "payload": "00"}
+    for hours in (5, 11.9):
+        app.config.update(CLOCK=lambda: NOW + hours * HOUR)
+        assert client.post(path, data=data).status_code == 303 and "Leave" in client.get("/").text
+    app.config.update(CLOCK=lambda: NOW + 12.1 * HOUR)
+    assert client.post(path, data=data).status_code == 403
+    given = client.get("/").text
+    assert "Leave" not in given and ">Enter<" in given and page.house.all("select count(*) from command") == [2]
+    again = client.post("/enter", data={"forms": word, "token": TOKEN})
+    assert again.status_code == 303 and client.post(path, data=data).status_code == 303
+
+
+def test_addresses_of_this_machine(page: PageHouse) -> None:
+    """It answers under each address of this machine alone at which it may be served, and under no other site's name that looks like one."""
+    for host in ("127.0.0.1", "127.8.0.1:9102", "[::1]:9102", "localhost", "LOCALHOST:80"):
+        assert page.client().get("/", headers={"Host": host}).status_code == 200, host
+    for host in ("127.0.0.1.example", "192.168.1.2", "[::2]", "127.0.0.1@elsewhere.example", "localhost.example", "0.0.0.0"):
+        assert page.client().get("/", headers={"Host": host}).status_code == 400, host
+
+
+def test_two_pages_of_a_machine(page: PageHouse) -> None:
+    """Who is entered at one page stays so while he enters at another one of the same machine, as that of a fleet at the next port."""
+    tokens = {9102: TOKEN, 9103: TOKEN[::-1]}
+    clients = {port: page.page(token).test_client() for port, token in tokens.items()}
+    clients[9103].cookie_jar = clients[9102].cookie_jar
+    for port, client in clients.items():
+        at = f"http://localhost:{port}"
+        word = forms_word(client.get("/enter", base_url=at).text)
+        assert client.post("/enter", data={"forms": word, "token": tokens[port]}, base_url=at).status_code == 303
+    for port, client in clients.items():
+        assert "Leave" in client.get("/", base_url=f"http://localhost:{port}").text, port
 
 
 def test_elsewhere(page: PageHouse) -> None:

@@ -1,6 +1,7 @@
 """The page as a process: served on this machine as it is, elsewhere with TLS; it ends when it is told to, whatever its connections do."""
 from __future__ import annotations
 
+import os
 import re
 import shutil
 import signal
@@ -11,7 +12,7 @@ import sys
 import threading
 import time
 import urllib.request
-from collections.abc import Iterator
+from collections.abc import Iterator, Sequence
 from contextlib import ExitStack, contextmanager, suppress
 from dataclasses import dataclass
 from pathlib import Path
@@ -27,6 +28,13 @@ from .test_sessions import house_fixture  # noqa: F401
 SERVICE = Path(__file__).resolve().parents[1]
 # what a client of TLS sends first: a record's head, and then nothing
 HALF_A_HANDSHAKE = bytes.fromhex("160301020001")
+# the service on a machine whose localhost has two addresses, as Debian's /etc/hosts gives it
+TWO_ADDRESSES = """import runpy, socket
+found = socket.getaddrinfo
+names = {"localhost": ("127.0.0.1", "::1")}
+socket.getaddrinfo = lambda host, *more, **named: [it for name in names.get(host, (host,)) for it in found(name, *more, **named)]
+runpy.run_module("wmbus_service", run_name="__main__")
+"""
 
 
 @dataclass(frozen=True)
@@ -54,12 +62,12 @@ class Served:
 
 
 @contextmanager
-def served(page: PageHouse, words: str) -> Iterator[Served]:
+def served(page: PageHouse, words: str, program: Sequence[str] = ("-m", "wmbus_service")) -> Iterator[Served]:
     """`wmbus-service page` by a configuration."""
     folder = page.house.config.folder
     file, log = folder.parent / "config.toml", folder.parent / "page.log"
     file.write_text(f'folder = "{folder}"\n[page]\n{words}')
-    with open(log, "wb") as opened, started([sys.executable, "-m", "wmbus_service", "--config", str(file), "page"], cwd=SERVICE,
+    with open(log, "wb") as opened, started([sys.executable, *program, "--config", str(file), "page"], cwd=SERVICE,
                                             stderr=opened) as process:
         yield Served(process, log)
 
@@ -97,6 +105,30 @@ def test_on_this_machine(page: PageHouse) -> None:
         assert it.ended() == 0, it.said()
 
 
+def test_a_name_of_two_addresses(page: PageHouse) -> None:
+    """Under localhost it is served at both of its addresses, and says where."""
+    with socket.create_server(("127.0.0.1", 0)) as free:
+        port = free.getsockname()[1]
+    with served(page, f'host = "localhost"\nport = {port}\n', ("-c", TWO_ADDRESSES)) as it:
+        until(lambda: "the page is at" in it.said() or it.process.poll() is not None)
+        assert f"the page is at http://localhost:{port}/" in it.said(), it.said()
+        for host in ("127.0.0.1", "[::1]"):
+            with urllib.request.urlopen(f"http://{host}:{port}/", timeout=PATIENCE) as given:
+                assert "All meters" in given.read().decode()
+        it.process.send_signal(signal.SIGTERM)
+        assert it.ended() == 0, it.said()
+
+
+def test_an_address_of_version_6(page: PageHouse) -> None:
+    """Where it says that the page is, a browser finds it."""
+    with served(page, 'host = "::1"\nport = 0\n') as it:
+        until(lambda: "the page is at" in it.said() or it.process.poll() is not None)
+        found = re.search(r"the page is at (\S+)", it.said())
+        assert found and found[1].startswith("http://[::1]:"), it.said()
+        with urllib.request.urlopen(found[1], timeout=PATIENCE) as given:
+            assert "All meters" in given.read().decode()
+
+
 def test_elsewhere_with_tls(page: PageHouse, tmp_path: Path) -> None:
     """On all addresses it speaks TLS alone, and asks for the token first; without either it doesn't start."""
     tls, trust = with_tls(tmp_path)
@@ -128,6 +160,60 @@ def go_on(opened: socket.socket) -> None:
         while True:
             opened.sendall(b"a")
             time.sleep(0.5)
+
+
+def test_broken_records(page: PageHouse, tmp_path: Path) -> None:
+    """Bytes that are no record of TLS, behind a handshake and in the midst of a request, take none of its threads with them."""
+    words, trust = with_tls(tmp_path)
+    with served(page, words + with_token(tmp_path)) as it:
+        for begun in (b"", b"GET /enter HTTP/1.1\r\nHost: ") * serving.THREADS:
+            with socket.create_connection(("127.0.0.1", it.port()), PATIENCE) as plain:
+                with trust.wrap_socket(plain, server_hostname="127.0.0.1") as broken:
+                    broken.sendall(begun)
+                    os.write(broken.fileno(), b"no record" * 20)
+                    with suppress(OSError):
+                        broken.recv(100)
+        assert "<h1>Enter</h1>" in fetched(it, trust)
+
+
+def test_requests_without_end(page: PageHouse, tmp_path: Path) -> None:
+    """Heads and bodies of any length take no memory from a page with TLS: it answers before it has taken all of them."""
+    words, trust = with_tls(tmp_path)
+    head = b"Host: 127.0.0.1\r\nConnection: close\r\n"
+    chunk = b"10000\r\n" + b"a" * 0x10000 + b"\r\n"
+    with served(page, words + with_token(tmp_path)) as it:
+        for begun, piece, end in ((b"GET /enter HTTP/1.1\r\n" + head + b"X: ", b"a" * 0x10000, b"\r\n\r\n"),
+                                  (b"GET /enter?", b"a" * 0x10000, b" HTTP/1.1\r\n" + head + b"\r\n"),
+                                  (b"POST /enter HTTP/1.1\r\nContent-Type: application/x-www-form-urlencoded\r\n" + head
+                                   + b"Transfer-Encoding: chunked\r\n\r\n9\r\nforms=a&b\r\n", chunk, b"0\r\n\r\n")):
+            sent = 0
+            with socket.create_connection(("127.0.0.1", it.port()), PATIENCE) as plain, suppress(OSError):
+                with trust.wrap_socket(plain, server_hostname="127.0.0.1") as asked:
+                    asked.sendall(begun)
+                    while sent < 1024:
+                        asked.sendall(piece)
+                        sent += 1
+                    asked.sendall(end)
+            assert sent < 1024
+        assert "<h1>Enter</h1>" in fetched(it, trust)
+
+
+def test_silent_connections(page: PageHouse, tmp_path: Path) -> None:
+    """Connections that begin no handshake, or only half of one, keep nobody else from a page with TLS."""
+    words, trust = with_tls(tmp_path)
+    with served(page, words + with_token(tmp_path)) as it, ExitStack() as opened:
+        fetched(it, trust)
+        for begun in (b"", b"", HALF_A_HANDSHAKE):
+            opened.enter_context(socket.create_connection(("127.0.0.1", it.port()), PATIENCE)).sendall(begun)
+        time.sleep(0.5)
+        before = time.monotonic()
+        assert "<h1>Enter</h1>" in fetched(it, trust)
+        assert time.monotonic() - before < 8
+        for _ in range(2 * serving.THREADS):
+            with socket.create_connection(("127.0.0.1", it.port()), PATIENCE) as plain:
+                plain.sendall(b"GET / HTTP/1.1\r\nHost: 127.0.0.1\r\n\r\n")
+                assert b"200" not in plain.recv(100)
+        assert "<h1>Enter</h1>" in fetched(it, trust) and "Traceback" not in it.said()
 
 
 @pytest.mark.parametrize("is_with_tls", [False, True])

@@ -12,9 +12,11 @@ from .status import shown
 from .steps import state_text
 from .trouble import Trouble
 
-HEAD = ("moment", "address", "name", "counter", "quantity", "value", "unit", "function", "storage", "tariff", "subunit", "receiver")
+HEAD = ("moment", "address", "name", "counter", "quantity", "value", "unit", "function", "storage", "tariff", "subunit", "receiver",
+        "modifiers")
 QUERY = ("select moment, reading.address, meter.name, counter, quantity, value, exponent, unit, function, storage, tariff, subunit,"
-         " reading.receiver from record join reading on reading.id = record.reading left join meter on meter.address = reading.address"
+         " reading.receiver, modifiers from record join reading on reading.id = record.reading"
+         " left join meter on meter.address = reading.address"
          " where reading.address = coalesce(?, reading.address) and moment >= ? order by reading.id, record.place")
 
 

@@ -1,6 +1,7 @@
 """The page's addresses: HTML for people, the same as JSON under /api, readings as CSV."""
 from __future__ import annotations
 
+import ipaddress
 import logging
 import re
 import secrets
@@ -14,6 +15,7 @@ from typing import Any
 from flask import (
     Blueprint, Flask, Response, abort, current_app, g, jsonify, make_response, redirect, render_template, request, send_file, session,
 )
+from flask.sessions import SecureCookieSessionInterface
 from markupsafe import Markup
 from werkzeug.exceptions import HTTPException
 from werkzeug.routing import Map
@@ -39,7 +41,6 @@ HEADERS = {
     "X-Content-Type-Options": "nosniff", "Referrer-Policy": "same-origin", "Cache-Control": "no-store",
     "Cross-Origin-Resource-Policy": "same-origin",
 }
-LOCAL_NAMES = {"127.0.0.1", "localhost", "[::1]"}
 MOST_BYTES = 1 << 16
 # after so long the token is asked for again
 ENTERED_SECONDS = 12 * 3600
@@ -68,6 +69,15 @@ class Pages(Flask):
     url_map_class: type[Map] = Addresses
 
 
+class Sessions(SecureCookieSessionInterface):
+    """Sessions whose cookie has the port in its name: a browser gives a machine's cookies to all ports, and another page may be at one."""
+
+    def get_cookie_name(self, app: Flask) -> str:
+        """The cookie's name."""
+        port = re.search(r":([0-9]{1,5})$", request.host)
+        return super().get_cookie_name(app) + (f"-{port[1]}" if port else "")
+
+
 def create_app(config: Config, token: str | None = None, is_elsewhere: bool = False) -> Flask:
     """The page over a configuration's database. Without a token it only reads; elsewhere than on this machine reading needs it too."""
     app = create_page(HouseDoor(config), token, is_elsewhere)
@@ -82,6 +92,7 @@ def create_page(door: Door, token: str | None, is_elsewhere: bool) -> Flask:
     app.config.update(DOOR=door, TOKEN=token, IS_ELSEWHERE=is_elsewhere, CLOCK=time.time, MAX_CONTENT_LENGTH=MOST_BYTES,
                       SESSION_COOKIE_NAME="wmbus", PERMANENT_SESSION_LIFETIME=ENTERED_SECONDS,
                       SESSION_COOKIE_SAMESITE="Strict", SESSION_COOKIE_SECURE=is_elsewhere)
+    app.session_interface = Sessions()
     # (a new token ends all sessions)
     app.secret_key = digest(token.encode(), b"sessions of the page", "sha256") if token else secrets.token_bytes(32)
     app.jinja_options = {"trim_blocks": True, "lstrip_blocks": True}
@@ -99,6 +110,14 @@ def create_page(door: Door, token: str | None, is_elsewhere: bool) -> Flask:
     app.register_error_handler(door.faults, _database_fault)
     app.register_error_handler(Exception, _any_fault)
     return app
+
+
+def is_local(host: str) -> bool:
+    """Whether an address is this machine's own, which no other machine reaches."""
+    try:
+        return host == "localhost" or ipaddress.ip_address(host).is_loopback
+    except ValueError:
+        return False
 
 
 def config_now() -> tuple[Config, float]:
@@ -120,8 +139,9 @@ def door_of() -> Door:
 
 
 def may_write() -> bool:
-    """Whether who asks has given the token."""
-    return current_app.config["TOKEN"] is not None and bool(session.get("entered"))
+    """Whether who asks has given the token, and not too long ago; each answer makes the cookie itself younger."""
+    given = session.get("entered")
+    return current_app.config["TOKEN"] is not None and given is not None and clock() - float(given) < ENTERED_SECONDS
 
 
 def database() -> Database:
@@ -142,7 +162,7 @@ def _guard() -> AnyResponse | None:
     """Another site's name that leads to this machine isn't answered, and elsewhere than on this machine reading needs the token."""
     if not current_app.config["IS_ELSEWHERE"]:
         name = re.sub(r":\d+$", "", request.host).lower()
-        if name not in LOCAL_NAMES:
+        if not is_local(name.removeprefix("[").removesuffix("]")):
             raise Worded("This page is served under the names of this machine alone: 127.0.0.1 and localhost.")
         return None
     if may_write() or request.endpoint in ("static", "pages.common_style", "forms.enter", "forms.entered"):
@@ -263,7 +283,7 @@ def receivers() -> str:
 @pages.get("/strangers")
 def strangers() -> str:
     """The meters that aren't known."""
-    return render_template("strangers.html", **views.strangers_page(database(), clock()))
+    return render_template("strangers.html", most=MOST_SHOWN, **views.strangers_page(database(), clock()))
 
 
 @house.get("/api/overview")

@@ -60,7 +60,7 @@ def entered() -> Response:
     token = current_app.config["TOKEN"]
     if token is None or not compare_digest(_field("token").encode(), token.encode()):
         raise Worded("This isn't the token, which stands in the file that the configuration names as page.token_file.", 403)
-    session["entered"] = session.permanent = True
+    session["entered"], session.permanent = clock(), True
     return redirect("/", 303)
 
 

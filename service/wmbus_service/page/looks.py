@@ -10,7 +10,7 @@ from ..config import Config
 from ..service import is_locked
 from ..status import waiting_bytes
 from .radios import Radio
-from .reading import Meter, commands_of, rows_of, strangers
+from .reading import Meter, rows_of, strangers
 from .shared import REPEATS, WRONG_KEY, counted, row_of, time_text, times, words_of_page
 
 HOUR, DAY = 3600.0, 86_400.0
@@ -126,11 +126,11 @@ def _of_service(config: Config, database: Database) -> Iterator[Look]:
 
 def _of_commands(database: Database, titles: dict[str, str], now: float) -> Iterator[Look]:
     """Commands that were given up, and downlinks that didn't go out."""
-    for row in commands_of(database):
-        if row["state"] in ("expired", "refused") and row["changed"] > now - RECENT:
-            words = "given up" if row["state"] == "expired" else "refused"
-            yield Look("look", f"command {words}", titles.get(row["address"], row["address"]), f"/meters/{row['address']}",
-                       f"Command {row['id']}: {row['reason'] or STATES[row['state']]}. Queue it again once the meter is in reach.")
+    for row in rows_of(database, "select id, address, state, reason from command where state in ('expired', 'refused') and changed > ?"
+                                 " order by rowid desc limit ?", (now - RECENT, MOST)):
+        words = "given up" if row["state"] == "expired" else "refused"
+        yield Look("look", f"command {words}", titles.get(row["address"], row["address"]), f"/meters/{row['address']}",
+                   f"Command {row['id']}: {row['reason'] or STATES[row['state']]}. Queue it again once the meter is in reach.")
     for row in rows_of(database, "select address, receiver, missed from outbox where missed is not null and made > ?"
                                  " order by id desc limit 10", (now - DAY,)):
         yield Look("look", "not sent", titles.get(row["address"], row["address"]), f"/meters/{row['address']}",
@@ -139,7 +139,7 @@ def _of_commands(database: Database, titles: dict[str, str], now: float) -> Iter
 
 def _of_strangers(database: Database, now: float) -> Iterator[Look]:
     """Strangers that are heard often."""
-    for row in strangers(database, 10):
+    for row in strangers(database, 10, now - METER_SILENCE):
         if row["times"] >= OFTEN and row["last_made"] > now - METER_SILENCE:
             yield Look("look", f"heard {times(row['times'])}", row["label"], f"/strangers#{row['address']}",
                        f"It isn't known ({row['type']}, maker {row['maker']}). Is this yours? Then add it with its key.")

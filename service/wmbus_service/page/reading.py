@@ -243,9 +243,9 @@ def refusals_of(database: Database, address: str) -> list[dict[str, Any]]:
                    (address,))
 
 
-def strangers(database: Database, most: int = 200) -> list[dict[str, Any]]:
-    """Meters that aren't known, those that were heard most first."""
+def strangers(database: Database, most: int = 1000, since: float = 0) -> list[dict[str, Any]]:
+    """Meters that aren't known: those that were heard since a moment first, and of these those that were heard most."""
     found = rows_of(database, "select address, times, receiver, last_made from stranger where not exists"
                               " (select 1 from meter where meter.address = stranger.address)"
-                              " order by times desc, address limit ?", (most,))
+                              " order by last_made > ? desc, times desc, address limit ?", (since, most))
     return [row | {"label": label_of(row["address"]), "maker": maker(row["address"]), "type": type_of(row["address"])} for row in found]

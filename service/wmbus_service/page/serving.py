@@ -1,7 +1,6 @@
 """Serves the page: on this machine alone as it is, elsewhere with TLS and a token."""
 from __future__ import annotations
 
-import ipaddress
 import logging
 import os
 import threading
@@ -14,7 +13,7 @@ from ..config import Config, Page
 from ..ending import Ending
 from ..memory_files import leave_no_core
 from ..trouble import Trouble
-from .app import create_app
+from .app import create_app, is_local as is_local
 
 log = logging.getLogger("wmbus")
 
@@ -22,14 +21,6 @@ LEAST_TOKEN = 24
 THREADS = 4
 # so long an answer that is on its way has when the page is to end
 GRACE = 3.0
-
-
-def is_local(host: str) -> bool:
-    """Whether an address is this machine's own, which no other machine reaches."""
-    try:
-        return host == "localhost" or ipaddress.ip_address(host).is_loopback
-    except ValueError:
-        return False
 
 
 def read_token(page: Page) -> str | None:
@@ -77,15 +68,16 @@ def serve_page(page: Page, made: Callable[[str | None, bool], object]) -> None:
     leave_no_core()
     token = look_at_page(page)
     app = made(token, not is_local(page.host))
+    host = f"[{page.host}]" if ":" in page.host else page.host
     server = server_with_tls(app, page) if page.certificate else plain_server(app, page)
 
     def serve_with_tls() -> None:
         server.prepare()
-        log.info("the page is at https://%s:%s/", page.host, server.bind_addr[1])
+        log.info("the page is at https://%s:%s/", host, server.bind_addr[1])
         server.serve()
 
     def serve_plainly() -> None:
-        log.info("the page is at http://%s:%s/", page.host, server.effective_port)
+        log.info("the page is at http://%s:%s/", host, port_of(server))
         server.run()
     if page.certificate:
         serve_until(ending, page, serve_with_tls, server.stop)
@@ -126,19 +118,21 @@ def plain_server(app: object, page: Page) -> Any:
         raise _unserved(page, fault) from None
 
 
+def port_of(server: Any) -> int:
+    """The port that a server without TLS has; of a name with several addresses, as localhost, it is one server for each of them."""
+    return int(server.effective_listen[0][1] if hasattr(server, "effective_listen") else server.effective_port)
+
+
 def server_with_tls(app: object, page: Page) -> Any:
     """A server with TLS."""
     try:
-        from cheroot.ssl.builtin import BuiltinSSLAdapter
-        from cheroot.wsgi import Server
+        from .tls import server_of
     except ImportError:
         raise Trouble("page.certificate", "TLS needs cheroot, which isn't there", "apt-get install python3-cheroot") from None
     try:
-        server = Server((page.host, page.port), app, numthreads=THREADS, server_name="wmbus")
-        server.ssl_adapter = BuiltinSSLAdapter(page.certificate, page.key)
+        return server_of(app, page, THREADS)
     except OSError as fault:
         raise Trouble(page.certificate, f"TLS can't be begun: {fault}", "look at page.certificate and page.key") from None
-    return server
 
 
 def _unserved(page: Page, fault: OSError) -> Trouble:

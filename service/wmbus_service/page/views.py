@@ -85,11 +85,11 @@ def receivers_page(config: Config, database: Database, now: float) -> dict[str, 
 
 def strangers_page(database: Database, now: float) -> dict[str, Any]:
     """The meters that aren't known."""
-    return {"now": now, "strangers": strangers(database)}
+    return {"now": now, "strangers": strangers(database, since=now - looks.METER_SILENCE)}
 
 
 READINGS = ("select moment, reading.address, meter.name, counter, quantity, value, exponent, unit, function, storage, tariff, subunit,"
-            " reading.receiver from reading cross join record on record.reading = reading.id"
+            " reading.receiver, modifiers from reading cross join record on record.reading = reading.id"
             " left join meter on meter.address = reading.address"
             " where reading.address = ? and moment >= ? and moment <= ? order by moment, reading.id, record.place")
 

@@ -133,7 +133,7 @@ def _of_rows(database: Database, now: float) -> Iterator[Look]:
                                  f" order by id desc limit {FEW}", (now - DAY,)):
         yield Look("look", "not sent", row["address"], f"/meters/{row['address']}",
                    f"A downlink by gateway {row['receiver'] or '(none)'} wasn't sent: {row['missed']}.")
-    for row in strangers(database, FEW):
+    for row in strangers(database, FEW, now - METER_SILENCE):
         if row["times"] >= OFTEN and row["last_made"] > now - METER_SILENCE:
             yield Look("look", f"heard {times(row['times'])}", row["label"], f"/strangers#{row['address']}",
                        f"It isn't known ({row['type']}, maker {row['maker']}). Is it one of the fleet's? Then commission it.")
