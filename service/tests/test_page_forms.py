@@ -1,6 +1,7 @@
 """The page's forms: who may use them, and what they do."""
 from __future__ import annotations
 
+import re
 from pathlib import Path
 
 import pytest
@@ -45,6 +46,25 @@ def test_queue_and_cancel(page: PageHouse) -> None:
     assert "The next session cancels command valve" in given.text and page.house.all("select wish from command") == ["cancel"]
     other = client.post(f"/meters/{page.addresses[1]}/commands/cancel", data={"forms": word, "id": "valve"})
     assert other.status_code == 400 and "no such command" in other.text
+
+
+def test_a_form_that_is_sent_twice(page: PageHouse) -> None:
+    """A double click, or a form that is sent once more behind an answer that didn't come, queues its command once; the next form another."""
+    address = page.addresses[0]
+    client = entered(page.page(TOKEN))[0]
+
+    def fields() -> dict[str, str]:
+        text = client.get(f"/meters/{address}").text
+        form = re.search(rf'<form method="post" action="/meters/{address}/commands" .*?</form>', text, re.S)
+        assert form
+        return dict(re.findall(r'name="(\w+)" value="([^"]+)"', form[0])) | {"payload": "0102"}
+
+    form = fields()
+    given = [client.post(f"/meters/{address}/commands", data=form, follow_redirects=True).text for _ in range(2)]
+    assert "waits for the next session" in given[0] and "was taken before" in given[1]
+    assert page.house.all("select payload from command") == ["0102"]
+    assert client.post(f"/meters/{address}/commands", data=fields()).status_code == 303
+    assert page.house.all("select count(*) from command") == [2]
 
 
 def test_add_a_stranger(page: PageHouse) -> None:

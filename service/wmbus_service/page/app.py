@@ -98,7 +98,7 @@ def create_page(door: Door, token: str | None, is_elsewhere: bool) -> Flask:
     app.jinja_options = {"trim_blocks": True, "lstrip_blocks": True}
     app.jinja_env.filters.update(moment=_moment_text, ago=_ago, grouped=grouped, counted=counted, times=times, html=Markup)
     app.jinja_env.globals.update(zone=zone_text, may_write=may_write, has_token=lambda: token is not None, forms=_forms_word,
-                                 spans=list(periods.SPANS), door=door)
+                                 new_ident=new_ident, spans=list(periods.SPANS), door=door)
     app.register_blueprint(pages)
     from .forms import forms
     app.register_blueprint(forms)
@@ -182,6 +182,11 @@ def _forms_word() -> str:
     if "forms" not in session:
         session["forms"] = secrets.token_urlsafe(24)
     return str(session["forms"])
+
+
+def new_ident() -> str:
+    """A new command's id. A form brings it, so that one that is sent twice queues its command once."""
+    return f"page-{secrets.token_hex(4)}"
 
 
 def _moment_text(moment: float | None) -> str:

@@ -12,7 +12,7 @@ from werkzeug.wrappers import Response
 from ..commands import KEY
 from ..importing import ADDRESS
 from ..meters import name_of
-from .app import Worded, clock, door_of, may_write
+from .app import Worded, clock, door_of, may_write, new_ident
 
 forms = Blueprint("forms", __name__)
 MODES = ("5", "7")
@@ -76,7 +76,7 @@ def queue(address: str) -> Response:
     """Has a command sent to a meter once it listens."""
     if not ADDRESS.fullmatch(address):
         raise Worded("A meter's address has sixteen hexadecimal digits.")
-    ident = _field("id") or f"page-{secrets.token_hex(4)}"
+    ident = _field("id") or new_ident()
     is_new = door_of().put_command(address, ident, re.sub(r"\s", "", _field("payload")), clock())
     flash(f"Command {ident} waits for the next session." if is_new else f"Command {ident} was taken before; nothing is sent again.")
     return redirect(f"/meters/{address}", 303)
