@@ -233,6 +233,26 @@ def test_clocks(page: PageHouse) -> None:
         (NOW - 2 * HOUR, "0.001 m³"), (NOW - 3 * HOUR, "0.001 m³"), (NOW - 4 * HOUR, "0.008 m³")]
 
 
+def test_a_clock_that_begins_anew(page: PageHouse) -> None:
+    """Where a receiver counts seconds from its start, the last reading is the one that was written last, not that of its longest run; also
+    where another one with a clock heard the meter before."""
+    first, second, third = page.addresses
+    page.read(first, 8_000_000, ("volume", "m3", -3, "7"), made=NOW - 90 * DAY)
+    page.volume(second, NOW - 40 * DAY, 7)
+    page.read(third, 8_000_000, ("volume", "m3", -3, "7"), made=NOW - 40 * DAY)
+    page.volume(third, NOW - 60, 9)
+    for address in (first, second):
+        page.read(address, 50, ("volume", "m3", -3, "8"), made=NOW - 120)
+        page.read(address, 110, ("volume", "m3", -3, "9"), made=NOW - 60)
+    told = page.client().get("/api/overview").json
+    assert told
+    assert [(meter["heard"], meter["main"]["text"]) for meter in told["meters"]] == [(NOW - 60, "0.009 m³")] * 3
+    assert not [look for look in told["looks"] if look["link"].startswith("/meters/")]
+    for address in page.addresses:
+        values = page.client().get(f"/api/meters/{address}").json
+        assert values and [it["text"] for it in values["values"]] == ["0.009 m³"]
+
+
 def test_receivers(page: PageHouse) -> None:
     """Lines a minute, since when there are none, and the share of whole frames."""
     meter = page.house.meters[0]

@@ -12,7 +12,7 @@ from .. import store
 from ..asking import Database
 from ..sensors import NUMBER
 from ..trouble import Trouble
-from .shared import GRACE, NAMES, PREFIXED, Register, is_number, is_time, label_of, maker_of, prefix_for, type_of
+from .shared import FIRST_TIME, GRACE, NAMES, PREFIXED, Register, is_number, is_time, label_of, maker_of, prefix_for, type_of
 
 # columns that have keys or what was made with them, and such as have new keys beside what is shown, which these views leave out
 KEYED = {("meter", "block"), ("outbox", "frame"), ("aside", "text")}
@@ -149,14 +149,23 @@ def _meter(database: Database, row: tuple[str, str, str | None], now: float) -> 
     return Meter(*row, heard=heard_at(moment, made, now), counter=counter, main=_main_value(database, last, now))
 
 
-def _last_readings(database: Database, address: str, now: float, most: int) -> list[tuple[int, int, float, int]]:
+LAST = "select id, moment, made, counter from reading where"
+Last = list[tuple[int, int, float, int]]
+
+
+def _last_readings(database: Database, address: str, now: float, most: int) -> Last:
     """A meter's last readings, the last one first; those of a clock that is ahead only where there are no others."""
-    query = "select id, moment, made, counter from reading where address = ? and moment <= ? order by moment desc, id desc limit ?"
-    for until in (int(now) + GRACE, (1 << 63) - 1):
-        found: list[tuple[int, int, float, int]] = database.execute(query, (address, until, most)).fetchall()
-        if found:
-            return found
-    return []
+    limit = int(now) + GRACE
+    query = f"{LAST} address = ? and moment >= ? and moment <= ? order by moment desc, id desc limit ?"
+    found: Last = database.execute(query, (address, FIRST_TIME, limit, most)).fetchall()
+    # (of moments that count from a receiver's start the last one is that which was written last)
+    counts = database.execute(f"{LAST} id in (select id from reading where address = ? and moment < ? order by id desc limit ?)"
+                              " order by id desc", (address, FIRST_TIME, most)).fetchall()
+    if counts:
+        found = sorted(found + counts, key=lambda it: (heard_at(it[1], it[2], now), it[0]), reverse=True)[:most]
+    if not found:
+        found = database.execute(query, (address, limit + 1, (1 << 63) - 1, most)).fetchall()
+    return found
 
 
 def _main_value(database: Database, readings: list[tuple[int, int, float, int]], now: float) -> Value | None:
