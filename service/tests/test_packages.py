@@ -74,6 +74,30 @@ def test_a_purge_without_data(tmp_path: Path) -> None:
     assert not machine.purge(None)
 
 
+@pytest.mark.parametrize("answer", [None, "false", "true"])
+def test_a_purge_of_a_folder_that_lies_elsewhere(tmp_path: Path, answer: str | None) -> None:
+    """Where the folder is a link to one on another disk, what stands there is asked for too, and stays with its user or goes."""
+    machine = Machine(tmp_path)
+    disk = tmp_path / "disk"
+    machine.kept.rename(disk)
+    machine.kept.symlink_to(disk)
+    (disk / "wmbus.db").write_text("kept")
+    said = machine.purge(answer)
+    assert (disk / "wmbus.db").exists() is machine.kept.is_symlink() is (answer != "true")
+    assert machine.users.exists() is (answer == "true") and ("stays" in said) is (answer != "true")
+
+
+def test_a_purge_of_a_folder_of_its_own_disk(tmp_path: Path) -> None:
+    """Where a disk is mounted at the folder, which can't be taken away then, all on it goes by a yes, and the purge ends well."""
+    machine = Machine(tmp_path)
+    (machine.kept / "wmbus.db").write_text("kept")
+    busy = machine.folder / "bin/rm"
+    busy.write_text(f'#!/bin/sh\nfor it; do [ "$it" != {machine.kept} ] || {{ /bin/rm -rf "$it"/*; exit 1; }}; done; exec /bin/rm "$@"\n')
+    busy.chmod(0o755)
+    machine.purge("true")
+    assert not list(machine.kept.iterdir()) and machine.users.exists() and not machine.settings.exists()
+
+
 def test_a_purge_and_units(tmp_path: Path) -> None:
     """What `systemctl enable` made goes too, so that what is installed anew starts nothing; other packages' units stay."""
     machine = Machine(tmp_path)
