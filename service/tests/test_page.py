@@ -14,7 +14,7 @@ from pathlib import Path
 import pytest
 from wmbus_service import exporting, retention, schema, sensors
 from wmbus_service.config import Keep
-from wmbus_service.page import radios, reading
+from wmbus_service.page import radios, reading, views
 
 import frames
 import messages
@@ -314,6 +314,27 @@ def test_csv(page: PageHouse) -> None:
     assert [row[5] for row in rows(f"/meters/{first}/readings.csv?from={int(NOW) - 2 * DAY}")[1:]] == ["0.020", "0.030"]
     assert [row[5] for row in rows("/readings.csv?from=2027-01-14")[1:]] == ["0.030", "0.005"]
     assert page.client().get(f"/meters/{first}/readings.csv?from=yesterday").status_code == 400
+
+
+def test_a_csv_that_nobody_reads_on(page: PageHouse, monkeypatch: pytest.MonkeyPatch) -> None:
+    """A download that stands still, as that of a machine that sleeps, holds nothing of the database: what is written meanwhile goes from its
+    log into its file, which would grow until the disk is full. Read on, it has each value once and in order, also readings of one moment."""
+    address, other = page.addresses[:2]
+    moments = [NOW - 50, NOW - 40, NOW - 40, NOW - 40, NOW - 30, NOW - 20, NOW - 10]
+    for place, moment in enumerate(moments):
+        page.read(address, moment, *[("volume", "m3", -3, str(place))] * (place != 1), ("power", "W", 0, str(place)))
+    page.read(address, NOW - 5)
+    with closing(reading.open_reading(page.house.config.database)) as opened:
+        for piece in (200, 1, 2, 3):
+            monkeypatch.setattr(views, "PIECE", piece, raising=False)
+            rows = views.readings_csv(opened, [address], int(moments[0]), int(NOW))
+            told = [next(rows) for _ in range(3)]
+            page.volume(other, NOW - piece, 1)
+            _, logged, done = page.house.database.execute("pragma wal_checkpoint(passive)").fetchone()
+            assert done == logged
+            found = [tuple(row.split(",")[place] for place in (0, 4, 5)) for row in (told + list(rows))[1:]]
+            assert found == [(str(int(moment)), quantity, f"0.00{place}" if quantity == "volume" else str(place))
+                             for place, moment in enumerate(moments) for quantity in ["volume"] * (place != 1) + ["power"]]
 
 
 def test_csv_of_what_flowed_backward(page: PageHouse) -> None:

@@ -88,18 +88,30 @@ def strangers_page(database: Database, now: float) -> dict[str, Any]:
     return {"now": now, "strangers": strangers(database, since=now - looks.METER_SILENCE)}
 
 
+# readings that are taken at once: between two such pieces nothing of the database is held, however long who asks reads on nothing
+PIECE = 200
+LAST_OF_PIECE = ("select moment, id from reading where address = ? and moment >= ? and moment <= ? and (moment, id) > (?, ?)"
+                 " order by moment, id limit ?")
 READINGS = ("select moment, reading.address, meter.name, counter, quantity, value, exponent, unit, function, storage, tariff, subunit,"
             " reading.receiver, modifiers from reading cross join record on record.reading = reading.id"
-            " left join meter on meter.address = reading.address"
-            " where reading.address = ? and moment >= ? and moment <= ? order by moment, reading.id, record.place")
+            " left join meter on meter.address = reading.address where reading.address = ? and moment >= ? and moment <= ?"
+            " and (moment, reading.id) > (?, ?) and (moment, reading.id) <= (?, ?) order by moment, reading.id, record.place")
 
 
 def readings_csv(database: Database, addresses: list[str], begin: int, end: int) -> Iterator[str]:
     """The values of some meters' readings in a span, as lines of CSV."""
     yield _csv_line(HEAD)
     for address in addresses:
-        for moment, meter, name, counter, quantity, value, exponent, *rest in database.execute(READINGS, (address, begin, end)):
+        for moment, meter, name, counter, quantity, value, exponent, *rest in _values(database, address, begin, end):
             yield _csv_line((moment, meter, name or "", counter, quantity, exact(value, exponent), *rest))
+
+
+def _values(database: Database, address: str, begin: int, end: int) -> Iterator[tuple[Any, ...]]:
+    """The values of a meter's readings in a span, piece by piece."""
+    behind = begin, 0
+    while piece := database.execute(LAST_OF_PIECE, (address, behind[0], end, *behind, PIECE)).fetchall():
+        yield from database.execute(READINGS, (address, behind[0], end, *behind, *piece[-1])).fetchall()
+        behind = piece[-1]
 
 
 def _csv_line(fields: tuple[object, ...]) -> str:
