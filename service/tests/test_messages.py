@@ -207,7 +207,7 @@ def test_a_slow_way_to_the_broker(monkeypatch: pytest.MonkeyPatch) -> None:
     """Messages are given up where no answer comes for long, and not where each of many takes its time: else all of them would go out
     again and again."""
     import paho.mqtt.client as mqtt
-    monkeypatch.setattr(broker, "PATIENCE", 1.0)
+    monkeypatch.setattr(broker, "PATIENCE", 4.0)
     with socket.create_server(("127.0.0.1", 0)) as server:
         def serve() -> None:
             opened, _ = server.accept()
@@ -218,7 +218,7 @@ def test_a_slow_way_to_the_broker(monkeypatch: pytest.MonkeyPatch) -> None:
                     # (a PUBLISH at QoS 1: the topic's length, the topic, its number)
                     body = file.read(head[1])
                     if head[0] & 0xF0 == 0x30:
-                        time.sleep(0.2)
+                        time.sleep(0.4)
                         at = 2 + int.from_bytes(body[:2], "big")
                         opened.sendall(bytes([0x40, 2]) + body[at:at + 2])
         threading.Thread(target=serve, daemon=True).start()
