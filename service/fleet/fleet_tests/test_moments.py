@@ -444,6 +444,14 @@ def test_a_copy_that_comes_to_nothing(fleet: Fleet, tmp_path: Path, monkeypatch:
     with pytest.raises(Trouble, match="pg_dump"):
         backup.back_up(replace(fleet.config, database=f"{fleet.config.database}-that-isnt-there"), tmp_path / "copy")
     assert list(tmp_path.iterdir()) == []
+
+    def interrupted(*_: Any) -> str:
+        raise KeyboardInterrupt
+    with monkeypatch.context() as patches:
+        patches.setattr(backup, "_done", interrupted)
+        with pytest.raises(KeyboardInterrupt):
+            backup.back_up(fleet.config, tmp_path / "copy")
+    assert list(tmp_path.iterdir()) == []
     backup.back_up(fleet.config, tmp_path / "copy")
     assert [it.name for it in tmp_path.iterdir()] == ["copy"]
 
