@@ -512,3 +512,12 @@ def test_a_receiver_that_hears_nothing(house: House, tmp_path: Path, monkeypatch
     finally:
         assert child.end(signal.SIGTERM) == 0
     assert len(list(house.config.spool.iterdir())) <= 1
+
+
+def test_a_receiver_without_line_feed(house: House) -> None:
+    """Where line_feed isn't there each start says so, and leaves no file."""
+    config = replace(house.config, programs=replace(house.config.programs, line_feed="/nonexistent/line_feed"),
+                     receivers={"attic": Receiver(command="true", format="-")})
+    with pytest.raises(Trouble, match="line_feed can't be started"):
+        receiving.Receiving(config, "attic")._feed()
+    assert not list(house.config.spool.iterdir())
