@@ -278,6 +278,32 @@ def test_a_topic_that_isnt_in_utf_8(house: House, caplog: pytest.LogCaptureFixtu
         connecting.join(PATIENCE)
 
 
+@pytest.mark.parametrize("sent", [bytes([0x30, 0]), bytes([0x32, 2, 0, 9]), bytes([0x90, 0])])
+def test_a_packet_that_is_none(house: House, sent: bytes, caplog: pytest.LogCaptureFixture) -> None:
+    """What comes from the broker's port and is no packet of MQTT, as one that is shorter than its own fields, ends that connection alone,
+    and the next one follows."""
+    came: list[int] = []
+    with socket.create_server(("127.0.0.1", 0)) as server:
+        def serve() -> None:
+            with suppress(OSError):
+                while True:
+                    opened, _ = server.accept()
+                    came.append(1)
+                    with opened, suppress(OSError):
+                        opened.recv(1000)
+                        opened.sendall(bytes([0x20, 2, 0, 0]) + sent)
+                        while opened.recv(1000):
+                            pass
+        threading.Thread(target=serve, daemon=True).start()
+        ending = Ending()
+        connecting = broker.Broker(house.config, Mqtt(port=server.getsockname()[1]), ending)
+        connecting.start()
+        until(lambda: not connecting.is_alive() or len(came) > 1)
+        assert connecting.is_alive() and "it is tried again" in caplog.text
+        ending.set()
+        connecting.join(PATIENCE)
+
+
 def test_discovery() -> None:
     """Each sensor has a unit and a state class that Home Assistant documents for its device class."""
     for address in ("9315010000000107", "9315010000000103", "9315010000000104"):

@@ -10,6 +10,7 @@ import logging
 import socket
 import sqlite3
 import ssl
+import struct
 import threading
 import time
 from collections.abc import Callable
@@ -195,7 +196,10 @@ def _until(client: mqtt.Client, answered: Callable[[], int], wanted: int) -> Non
 
 def _turn(client: mqtt.Client, seconds: float) -> None:
     """Lets the connection go on for a moment."""
-    answer = client.loop(seconds)
+    try:
+        answer = client.loop(seconds)
+    except struct.error:
+        raise Lost("what came is no packet of MQTT") from None
     if answer != mqtt.MQTT_ERR_SUCCESS:
         raise Lost(mqtt.error_string(answer))
 
