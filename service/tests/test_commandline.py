@@ -163,6 +163,18 @@ def test_export_of_a_meter_in_large_letters(place: Place) -> None:
     assert [(it["address"], it["value"]) for it in told] == [(address, "0.005")]
 
 
+def test_status_of_what_flowed_backward(place: Place) -> None:
+    """What flowed backward isn't told as a second volume: it is another quantity (docs/FORMATS.md), under its own name."""
+    place.said("add", ADDRESS, "--own", OWN, given=KEY)
+    with sqlite3.connect(place.folder / "wmbus/wmbus.db") as database:
+        database.execute("insert into reading values (1, 1, ?, 1, 100, null, null, null, 0, 100)", (ADDRESS,))
+        for number, modifiers in enumerate(("3c", "")):
+            database.execute("insert into record values (1, ?, 'volume', 'm3', -3, ?, 'instantaneous', 0, 0, 0, ?, '')",
+                             (number, str(7 - number), modifiers))
+    told = json.loads(place.said("status", "--json"))["meters"][0]["values"]
+    assert told == ["volume_modifiers3c 0.007 m3", "volume 0.006 m3"]
+
+
 def test_copy(place: Place) -> None:
     """A copy comes back with higher counters, its open commands are cancelled, and the state is still one that the program takes."""
     place.said("add", ADDRESS, "--own", OWN, given=KEY)

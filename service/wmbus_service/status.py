@@ -55,8 +55,9 @@ def meter(database: sqlite3.Connection, row: tuple[Any, ...], now: float) -> dic
 
 
 def values_of(database: sqlite3.Connection, reading: int) -> list[str]:
-    """A reading's values of now in words."""
-    rows = database.execute("select quantity, value, exponent, unit from record where reading = ? and function = 'instantaneous'"
+    """A reading's values of now in words; one with qualifiers, as what flowed backward, is another quantity than the plain one."""
+    rows = database.execute("select quantity || case modifiers when '' then '' else '_modifiers' || modifiers end, value, exponent, unit"
+                            " from record where reading = ? and function = 'instantaneous'"
                             " and storage = 0 and tariff = 0 and subunit = 0 order by place", (reading,)).fetchall()
     return [" ".join([quantity, shown(value, exponent), *([unit] if unit != "-" else [])]) for quantity, value, exponent, unit in rows]
 
