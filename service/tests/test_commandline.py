@@ -219,6 +219,16 @@ def test_what_is_no_copy(place: Place) -> None:
     assert f"meter {ADDRESS}" in place.said("status")
 
 
+def test_a_copy_where_a_restore_works(place: Place) -> None:
+    """A copy that stands where a restore makes its own file is named, and isn't deleted for it."""
+    place.said("add", ADDRESS, "--own", OWN, given=KEY)
+    copy = place.folder / "wmbus/restored.db"
+    place.said("backup", str(copy))
+    assert "another name" in place.fault("restore", str(copy))
+    os.rename(copy, place.folder / "copy.db")
+    assert "counters of 1 meters" in place.said("restore", str(place.folder / "copy.db"))
+
+
 def test_copies_that_fail(place: Place, monkeypatch: pytest.MonkeyPatch) -> None:
     """A copy that can't be made, or isn't put back, leaves no part of it, in which keys are, and which takes room."""
     copy, folder = place.folder / "copy.db", place.folder / "wmbus"
