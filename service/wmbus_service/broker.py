@@ -211,6 +211,10 @@ def take_message(told: Mqtt, database: sqlite3.Connection, topic: str, payload: 
         # (the broker keeps what was subscribed under the topic of an earlier configuration)
         log.warning("MQTT: a message under %.100r isn't taken: the topic is %s", topic, told.topic)
         return
+    if set(address) & set("+#\0"):
+        # (not each broker refuses one, and nothing can be published under it)
+        log.warning("MQTT: a message under %.100r isn't taken: this topic can be none", topic)
+        return
     # (the answer's topic is longer than this one, and no meter has so long an address)
     address = address[:MOST_ADDRESS]
     publications = Publications(told, database)
