@@ -512,3 +512,13 @@ def test_a_receiver_that_hears_nothing(house: House, tmp_path: Path, monkeypatch
     finally:
         assert child.end(signal.SIGTERM) == 0
     assert len(list(house.config.spool.iterdir())) <= 1
+
+
+def test_a_receiver_whose_line_feed_isnt_there(house: House) -> None:
+    """Where line_feed can't be started, and systemd tries it again each five seconds, no file is left each time."""
+    config = replace(house.config, programs=replace(house.config.programs, line_feed="/nonexistent/line_feed"),
+                     receivers={"attic": Receiver(command="sleep 60", format="-")})
+    for _ in range(3):
+        with pytest.raises(Trouble, match="line_feed can't be started"):
+            receiving.Receiving(config, "attic")._feed()
+    assert not list(house.config.spool.iterdir())

@@ -126,6 +126,7 @@ class Receiving:
             radio.stdout.close()
         except OSError as fault:
             self._end_feed()
+            path.unlink(missing_ok=True)
             raise Trouble(f"receivers.{self.name}", f"line_feed can't be started: {fault.strerror}", "name it under [programs]") from None
         finally:
             os.close(opened)
