@@ -9,6 +9,7 @@ import pty
 import signal
 import sqlite3
 import subprocess
+import time
 from collections.abc import Iterator
 from contextlib import redirect_stderr, redirect_stdout, suppress
 from dataclasses import dataclass
@@ -140,6 +141,17 @@ def test_strangers_that_are_known_now(place: Place) -> None:
         database.executemany("insert into stranger values (?, ?, 'attic', 1)", [(ADDRESS, 5), ("9315999999990107", 4)])
     told = place.said("status")
     assert "not known: 9315999999990107" in told and f"not known: {ADDRESS}" not in told
+
+
+def test_the_age_of_what_was_heard_late(place: Place) -> None:
+    """What a receiver heard while the service was down is as old as that, and not as young as the session that took it; where a moment can
+    be none the session's counts."""
+    place.said("add", ADDRESS, "--own", OWN, given=KEY)
+    for moment, wanted in ((int(time.time()) - 259_200, 259_200), (100, 0)):
+        with sqlite3.connect(place.folder / "wmbus/wmbus.db") as database:
+            database.execute("insert or replace into reading values (1, 1, ?, 1, ?, null, null, null, 0, ?)",
+                             (ADDRESS, moment, time.time()))
+        assert wanted <= json.loads(place.said("status", "--json"))["meters"][0]["age"] < wanted + PATIENCE
 
 
 def test_a_file_that_goes_meanwhile(place: Place) -> None:

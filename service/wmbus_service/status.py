@@ -11,6 +11,7 @@ from typing import Any
 from . import service, store
 from .asking import Database
 from .config import Config
+from .retention import HEARD
 from .sensors import NUMBER
 from .spool import size_of
 
@@ -48,7 +49,7 @@ def _rows(database: sqlite3.Connection, query: str) -> list[dict[str, Any]]:
 def meter(database: sqlite3.Connection, row: tuple[Any, ...], now: float) -> dict[str, Any]:
     """A meter and its last reading."""
     told = dict(zip(("address", "name", "waits", "holds", "receiver"), row, strict=True))
-    last = database.execute("select id, made, counter from reading where address = ? order by id desc limit 1", (row[0],)).fetchone()
+    last = database.execute(f"select id, {HEARD}, counter from reading where address = ? order by id desc limit 1", (row[0],)).fetchone()
     if last is None:
         return told | {"age": None, "counter": None, "values": []}
     return told | {"age": round(now - last[1]), "counter": last[2], "values": values_of(database, last[0])}
