@@ -31,15 +31,15 @@ def back_up(config: Config, target: Path) -> None:
     os.close(os.open(beside, os.O_WRONLY | os.O_CREAT | os.O_EXCL, 0o600))
     try:
         _done(["pg_dump", "--format=custom", f"--file={beside}"], config.database)
-    except Trouble:
-        beside.unlink()
-        raise
-    opened = os.open(beside, os.O_RDWR)
-    try:
-        os.fsync(opened)
+        opened = os.open(beside, os.O_RDWR)
+        try:
+            os.fsync(opened)
+        finally:
+            os.close(opened)
+        beside.rename(target)
     finally:
-        os.close(opened)
-    beside.rename(target)
+        # (where it failed: a part of a copy has keys, and takes room)
+        beside.unlink(missing_ok=True)
 
 
 def restore(config: Config, source: Path, margin: int) -> int:
