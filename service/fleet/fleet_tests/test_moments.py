@@ -501,6 +501,15 @@ def test_a_servers_clock_that_is_set_back(fleet: Fleet) -> None:
     assert [address for _, address in sessions.due_ticks(fleet.database, ticks, shard, NOW + 21, 10)] == [meter]
 
 
+def test_a_gap_behind_a_servers_clock_that_is_set_back(fleet: Fleet) -> None:
+    """Its gateway is asked all the same, in place of nothing of it being taken any more for as long as the clock was ahead."""
+    taking, now = Intake(fleet.config, fleet.database, "test"), int(time.time())
+    taking.take([Message(fleet.gateway, 5, 1, now, ())])
+    fleet.database.execute("update gateway set asked = now() + interval '300 days'")
+    assert [it.number for it in taking.take([Message(fleet.gateway, 5, 3, now, ())])] == [2]
+    assert taking.take([Message(fleet.gateway, 5, 4, now, ())]) == [], "it was just asked"
+
+
 def test_a_tick_at_which_the_program_fails(fleet: Fleet, monkeypatch: pytest.MonkeyPatch) -> None:
     """It is found and set aside also while lines of other meters keep coming, and overtakes none of its own meter."""
     meter = fleet.meters[0].name

@@ -83,8 +83,10 @@ class Intake:
                 wanted[message.gateway] = Again(message.gateway, epoch, number + 1)
         if not wanted:
             return []
-        rows = self.database.execute("update gateway set asked = now() where name = any(%s) and (asked is null or asked < now()"
-                                     " - make_interval(secs => %s)) returning name", (sorted(wanted), ASKED_SECONDS)).fetchall()
+        # (a clock that is set back doesn't keep it from that)
+        rows = self.database.execute("update gateway set asked = now() where name = any(%s) and (asked is null or"
+                                     " abs(extract(epoch from now() - asked)) > %s) returning name",
+                                     (sorted(wanted), ASKED_SECONDS)).fetchall()
         return [wanted[name] for (name,) in rows]
 
 
