@@ -510,6 +510,19 @@ def test_a_gap_behind_a_servers_clock_that_is_set_back(fleet: Fleet) -> None:
     assert taking.take([Message(fleet.gateway, 5, 4, now, ())]) == [], "it was just asked"
 
 
+def test_a_downlink_of_a_servers_clock_that_is_set_back(fleet: Fleet) -> None:
+    """It goes out, and counts for a window and no longer; the broker takes nothing that counts for many years, and all others would wait
+    behind it."""
+    now, meter = time.time(), fleet.meters[0].name
+    store.copy_rows(fleet.database, "outbox (gateway, address, down, frame, command, made)",
+                    [(fleet.gateway, meter, 1, "01", 1, now + 20_000 * DAY), (fleet.gateway, meter, 2, "02", 1, now)])
+    with broker.connected(fleet.config.broker) as connection:
+        channel = broker.opened(connection)
+        assert downlinks.send(fleet.config, fleet.database, channel, now) == 2
+        bodies = [next(channel.consume(broker.gateway_queue(fleet.gateway), auto_ack=True, inactivity_timeout=10))[2] for _ in range(2)]
+    assert bodies == [down_body(Down(meter, 1, "01", 900)), down_body(Down(meter, 2, "02", 900))]
+
+
 def test_a_tick_at_which_the_program_fails(fleet: Fleet, monkeypatch: pytest.MonkeyPatch) -> None:
     """It is found and set aside also while lines of other meters keep coming, and overtakes none of its own meter."""
     meter = fleet.meters[0].name
