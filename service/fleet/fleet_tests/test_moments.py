@@ -523,6 +523,15 @@ def test_a_downlink_of_a_servers_clock_that_is_set_back(fleet: Fleet) -> None:
     assert bodies == [down_body(Down(meter, 1, "01", 900)), down_body(Down(meter, 2, "02", 900))]
 
 
+def test_what_was_written_while_a_servers_clock_was_ahead(fleet: Fleet, monkeypatch: pytest.MonkeyPatch) -> None:
+    """It holds up nothing that is kept no longer, however much it is."""
+    monkeypatch.setattr("wmbus_fleet.retention.STEP", 3)
+    made = [*[NOW + 900 * DAY] * 4, *[NOW - 9 * DAY] * 5, NOW - DAY]
+    store.copy_rows(fleet.database, "line (number, address, text, made)", [(place, "m", "A 1 00", it) for place, it in enumerate(made)])
+    assert [let_go(fleet.database, Keep(), NOW) for _ in range(3)] == [True, True, False]
+    assert store.one(fleet.database, "select array_agg(number order by number) from line") == [0, 1, 2, 3, 9]
+
+
 def test_a_tick_at_which_the_program_fails(fleet: Fleet, monkeypatch: pytest.MonkeyPatch) -> None:
     """It is found and set aside also while lines of other meters keep coming, and overtakes none of its own meter."""
     meter = fleet.meters[0].name
