@@ -23,6 +23,7 @@ from tests.processes import started, until
 from tests.stand_in import stand_in
 from wmbus_fleet import backup, broker, commandline, commands, demo, downlinks, gateway, gateways, intake, metrics, sessions, store
 from wmbus_fleet.administration import Administration
+from wmbus_fleet.arrived import arrived
 from wmbus_fleet.config import Broker, Config, Gateway, Keep, Metrics, Ticks
 from wmbus_fleet.gateway import Agent, arm, open_gateway
 from wmbus_fleet.intake import Consuming, Intake
@@ -530,6 +531,14 @@ def test_what_was_written_while_a_servers_clock_was_ahead(fleet: Fleet, monkeypa
     store.copy_rows(fleet.database, "line (number, address, text, made)", [(place, "m", "A 1 00", it) for place, it in enumerate(made)])
     assert [let_go(fleet.database, Keep(), NOW) for _ in range(3)] == [True, True, False]
     assert store.one(fleet.database, "select array_agg(number order by number) from line") == [0, 1, 2, 3, 9]
+
+
+def test_a_tick_behind_another_gateways_later_line(fleet: Fleet) -> None:
+    """Where that one came in front of what the meter's own gateway heard before the tick was due, the tick waits for this all the same."""
+    meter = fleet.meters[0].name
+    heard = [arrived(meter, gateway, 1, 1, place, text) for place, (gateway, text) in enumerate(
+        [("gw2", "A 600 00"), ("gw1", "A 400 00"), ("gw2", "A 610 00")], 1)]
+    assert [event.text for event in sessions.with_ticks(heard, [(500.0, meter)])] == ["A 600 00", "A 400 00", f"T {meter}", "A 610 00"]
 
 
 def test_a_tick_at_which_the_program_fails(fleet: Fleet, monkeypatch: pytest.MonkeyPatch) -> None:
