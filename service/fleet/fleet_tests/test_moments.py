@@ -9,6 +9,7 @@ import subprocess
 import threading
 import time
 import tracemalloc
+from collections.abc import Callable
 from configparser import ConfigParser
 from contextlib import closing
 from dataclasses import replace
@@ -175,6 +176,34 @@ def test_what_fails_again_is_said_once(house: House, monkeypatch: pytest.MonkeyP
     house.agent.run(ending)
     stopping.join()
     assert len([it for it in caplog.records if "full" in it.getMessage()]) == 1
+
+
+@pytest.mark.parametrize("part", ["intake", "sessions", "downlinks", "gateway"])
+def test_what_fails_anew_is_said_anew(fleet: Fleet, tmp_path: Path, monkeypatch: pytest.MonkeyPatch, caplog: pytest.LogCaptureFixture,
+                                      part: str) -> None:
+    """Where a part worked meanwhile, as between two failures of the network with months between them, its log has the second one too."""
+    ending, turns = Ending(), 0
+
+    def turn(*_: Any) -> int:
+        nonlocal turns
+        turns += 1
+        if turns in (1, 2, 4):
+            raise Trouble("the test", "it fails")
+        if turns == 5:
+            ending.set()
+        return 1
+    service = ServiceConfig(tmp_path / "service", receivers={"radio": Receiver()})
+    prepare_folder(service.folder)
+    monkeypatch.setattr(Consuming, "turn", turn)
+    monkeypatch.setattr(sessions.Sessions, "turn", turn)
+    monkeypatch.setattr(downlinks, "send", turn)
+    monkeypatch.setattr(Agent, "publish", turn)
+    work: dict[str, Callable[[], None]] = {
+        "intake": lambda: intake.run(fleet.config, [fleet.area], "test", ending), "sessions": lambda: sessions.run(fleet.config, ending),
+        "downlinks": lambda: downlinks.run(fleet.config, ending),
+        "gateway": lambda: gateway.run(fleet.config, Gateway(fleet.gateway, fleet.area, "radio"), service, ending)}
+    work[part]()
+    assert len([it for it in caplog.records if "it fails" in it.getMessage()]) == 2
 
 
 def test_a_gateway_that_was_taken_away(fleet: Fleet) -> None:

@@ -66,7 +66,9 @@ def run(config: Config, ending: Ending) -> None:
                 with broker.connected(config.broker) as connection:
                     channel = broker.opened(connection)
                     while not ending.is_set():
-                        if not send(config, database, channel, time.time()):
+                        count = send(config, database, channel, time.time())
+                        trouble = ""
+                        if not count:
                             connection.process_data_events(config.interval)
         except (psycopg.Error, Trouble, *broker.FAULTS) as fault:
             told = f"downlinks: {store.told_of(fault)}"

@@ -239,6 +239,7 @@ def run(config: Config, ending: Ending) -> None:
                     # (of a large fleet each turn has lines)
                     if not is_behind and time.monotonic() > let_go_at and not retention.let_go(database, config.keep, time.time()):
                         let_go_at = time.monotonic() + LET_GO
+                    trouble = ""
                     ending.wait(0 if is_behind else config.interval)
         except (psycopg.Error, ProgramFailed, Trouble, OSError) as fault:
             told = f"sessions: {store.told_of(fault)}"
