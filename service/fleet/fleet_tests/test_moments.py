@@ -361,6 +361,17 @@ def test_ticks_that_wait_for_a_gateway_arent_late(fleet: Fleet) -> None:
     assert late() == ["1 ticks are late: no sessions run, or too few"]
 
 
+def test_late_ticks_of_the_metrics(fleet: Fleet) -> None:
+    """They are those that `status` tells of, also over the tables of a release that counted all of them."""
+    now = time.time()
+    fleet.database.execute("create or replace view page.late as select count(*) as count, min(due) as since from public.meter")
+    store.init(fleet.config.database)
+    fleet.database.execute("update meter set due = %s, gateway = %s where address = %s", (now - 300, fleet.gateway, fleet.meters[0].name))
+    for until, count in ((int(now) - 400, 0.0), (int(now), 1.0)):
+        fleet.database.execute("update gateway set until = %s", (until,))
+        assert metrics.take(fleet.config).gauges["ticks_late"] == count == figures(fleet.database)["ticks_late"]
+
+
 def test_which_queue_went(fleet: Fleet) -> None:
     """Of several that a process listens to the one is named."""
     with broker.connected(fleet.config.broker) as connection:
