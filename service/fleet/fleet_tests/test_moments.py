@@ -299,12 +299,26 @@ def test_no_password_is_an_argument(tmp_path: Path, monkeypatch: pytest.MonkeyPa
     """Every user of the machine sees a program's words."""
     seen = tmp_path / "seen"
     for name in ("pg_dump", "pg_restore"):
-        (tmp_path / name).write_text(f'#!/bin/sh\necho "$@" >>{seen}\necho "$PGPASSWORD" >>{tmp_path}/password\n')
+        (tmp_path / name).write_text(f'#!/bin/sh\necho "$@" >>{seen}\necho "$PGPASSWORD" >>{tmp_path}/password\necho "{backup.INBOX}"\n')
         (tmp_path / name).chmod(0o700)
     monkeypatch.setenv("PATH", f"{tmp_path}:/usr/bin:/bin")
     backup.back_up(Config(database="host=db dbname=wmbus user=wmbus password='very secret'"), tmp_path / "copy")
     assert "secret" not in seen.read_text() and "dbname=wmbus" in seen.read_text()
-    assert (tmp_path / "password").read_text() == "very secret\n"
+    assert set((tmp_path / "password").read_text().splitlines()) == {"very secret"}
+
+
+@pytest.mark.parametrize("listed", ["; no table", "1; TABLE public inbox wmbus\n2; TABLE public restoring wmbus"])
+def test_a_copy_that_could_never_be_put_back(tmp_path: Path, monkeypatch: pytest.MonkeyPatch, listed: str) -> None:
+    """As of a database without a fleet's tables, by a slip of the pen in the configuration, or of one into which a copy is just put: that is
+    said when it is made, and not when it is wanted."""
+    (tmp_path / "listed").write_text(listed)
+    for name, does in (("pg_dump", ""), ("pg_restore", f"cat {tmp_path}/listed")):
+        (tmp_path / name).write_text(f"#!/bin/sh\n{does}\n")
+        (tmp_path / name).chmod(0o700)
+    monkeypatch.setenv("PATH", f"{tmp_path}:/usr/bin:/bin")
+    with pytest.raises(Trouble, match="couldn't be put back"):
+        backup.back_up(Config(), tmp_path / "copy")
+    assert not list(tmp_path.glob("copy*"))
 
 
 def test_an_area_that_is_made_while_an_intake_works(fleet: Fleet, tmp_path: Path) -> None:
@@ -457,7 +471,7 @@ def test_a_copy_of_something_else(fleet: Fleet, restored: Config, tmp_path: Path
     other = fleet.both.postgres.make(f"{fleet.area.split('-')[0]}c")
     with psycopg.connect(other, autocommit=True) as database:
         database.execute("create table customer (name text)")
-    backup.back_up(replace(fleet.config, database=other), tmp_path / "copy")
+    backup._done(["pg_dump", "--format=custom", f"--file={tmp_path / 'copy'}"], other)
     with pytest.raises(Trouble, match="no copy of a fleet"):
         backup.restore(restored, tmp_path / "copy", 50)
 
