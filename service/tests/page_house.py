@@ -85,4 +85,5 @@ def page_fixture(house: House, monkeypatch: pytest.MonkeyPatch) -> Iterator[Page
     """A house with a page."""
     zoned(monkeypatch, "UTC")
     yield PageHouse(house)
-    hour_of.cache_clear()
+    # (the tests behind it aren't in the zone of this one)
+    zoned(monkeypatch, "UTC")

@@ -9,6 +9,7 @@ import pty
 import signal
 import sqlite3
 import subprocess
+import time
 from collections.abc import Iterator
 from contextlib import redirect_stderr, redirect_stdout, suppress
 from dataclasses import dataclass
@@ -142,6 +143,17 @@ def test_strangers_that_are_known_now(place: Place) -> None:
     assert "not known: 9315999999990107" in told and f"not known: {ADDRESS}" not in told
 
 
+def test_the_age_of_what_was_heard_late(place: Place) -> None:
+    """What a receiver heard while the service was down is as old as that, and not as young as the session that took it; where a moment can
+    be none the session's counts."""
+    place.said("add", ADDRESS, "--own", OWN, given=KEY)
+    for moment, wanted in ((int(time.time()) - 259_200, 259_200), (100, 0)):
+        with sqlite3.connect(place.folder / "wmbus/wmbus.db") as database:
+            database.execute("insert or replace into reading values (1, 1, ?, 1, ?, null, null, null, 0, ?)",
+                             (ADDRESS, moment, time.time()))
+        assert wanted <= json.loads(place.said("status", "--json"))["meters"][0]["age"] < wanted + PATIENCE
+
+
 def test_a_file_that_goes_meanwhile(place: Place) -> None:
     """A file that a session takes away while its bytes are counted, as one that stands for nothing here, has none."""
     place.said("add", ADDRESS, "--own", OWN, given=KEY)
@@ -161,6 +173,18 @@ def test_export_of_a_meter_in_large_letters(place: Place) -> None:
         database.execute("insert into record values (1, 0, 'volume', 'm3', -3, '5', 'instantaneous', 0, 0, 0, '', '')")
     told = [json.loads(line) for line in place.said("export", "--json", "--meter", address.upper()).splitlines()]
     assert [(it["address"], it["value"]) for it in told] == [(address, "0.005")]
+
+
+def test_status_of_what_flowed_backward(place: Place) -> None:
+    """What flowed backward isn't told as a second volume: it is another quantity (docs/FORMATS.md), under its own name."""
+    place.said("add", ADDRESS, "--own", OWN, given=KEY)
+    with sqlite3.connect(place.folder / "wmbus/wmbus.db") as database:
+        database.execute("insert into reading values (1, 1, ?, 1, 100, null, null, null, 0, 100)", (ADDRESS,))
+        for number, modifiers in enumerate(("3c", "")):
+            database.execute("insert into record values (1, ?, 'volume', 'm3', -3, ?, 'instantaneous', 0, 0, 0, ?, '')",
+                             (number, str(7 - number), modifiers))
+    told = json.loads(place.said("status", "--json"))["meters"][0]["values"]
+    assert told == ["volume_modifiers3c 0.007 m3", "volume 0.006 m3"]
 
 
 def test_copy(place: Place) -> None:
@@ -205,6 +229,16 @@ def test_what_is_no_copy(place: Place) -> None:
         database.execute("create table mail (text text)")
     assert "no copy" in place.fault("restore", str(copy))
     assert f"meter {ADDRESS}" in place.said("status")
+
+
+def test_a_copy_where_a_restore_works(place: Place) -> None:
+    """A copy that stands where a restore makes its own file is named, and isn't deleted for it."""
+    place.said("add", ADDRESS, "--own", OWN, given=KEY)
+    copy = place.folder / "wmbus/restored.db"
+    place.said("backup", str(copy))
+    assert "another name" in place.fault("restore", str(copy))
+    os.rename(copy, place.folder / "copy.db")
+    assert "counters of 1 meters" in place.said("restore", str(place.folder / "copy.db"))
 
 
 def test_copies_that_fail(place: Place, monkeypatch: pytest.MonkeyPatch) -> None:

@@ -207,7 +207,7 @@ def test_a_slow_way_to_the_broker(monkeypatch: pytest.MonkeyPatch) -> None:
     """Messages are given up where no answer comes for long, and not where each of many takes its time: else all of them would go out
     again and again."""
     import paho.mqtt.client as mqtt
-    monkeypatch.setattr(broker, "PATIENCE", 1.0)
+    monkeypatch.setattr(broker, "PATIENCE", 4.0)
     with socket.create_server(("127.0.0.1", 0)) as server:
         def serve() -> None:
             opened, _ = server.accept()
@@ -218,7 +218,7 @@ def test_a_slow_way_to_the_broker(monkeypatch: pytest.MonkeyPatch) -> None:
                     # (a PUBLISH at QoS 1: the topic's length, the topic, its number)
                     body = file.read(head[1])
                     if head[0] & 0xF0 == 0x30:
-                        time.sleep(0.2)
+                        time.sleep(0.4)
                         at = 2 + int.from_bytes(body[:2], "big")
                         opened.sendall(bytes([0x40, 2]) + body[at:at + 2])
         threading.Thread(target=serve, daemon=True).start()
@@ -251,11 +251,14 @@ def test_a_broker_that_lets_nothing_be_subscribed(house: House, caplog: pytest.L
     assert "no commands come" in caplog.text
 
 
-def test_a_topic_that_isnt_in_utf_8(house: House, caplog: pytest.LogCaptureFixture) -> None:
-    """What a broker passes on under a topic that can be none (MQTT 3.1.1, 1.5.3) is left, and what comes behind it is taken."""
+@pytest.mark.parametrize("topic, words", [(b"wmbus/command/\xff", "isn't in UTF-8"), (b"wmbus/command/+", "can be none"),
+                                          (b"wmbus/cancel/a/#", "can be none"), (b"wmbus/command/a\0", "can be none")])
+def test_a_topic_that_can_be_none(house: House, topic: bytes, words: str, caplog: pytest.LogCaptureFixture) -> None:
+    """What a broker passes on under a topic that can be none (MQTT 3.1.1, 1.5.3 and 4.7.1) is left, since nothing can be answered under
+    it, and what comes behind it is taken."""
     meter = house.meters[0].name
     sent = b""
-    for topic, payload in ((b"wmbus/command/\xff", b"a"), (f"wmbus/command/{meter}".encode(), b'{"id": "a", "payload": "01"}')):
+    for topic, payload in ((topic, b"a"), (f"wmbus/command/{meter}".encode(), b'{"id": "a", "payload": "01"}')):
         # (a PUBLISH at QoS 0: its topic's length, the topic, the payload)
         body = len(topic).to_bytes(2, "big") + topic + payload
         sent += bytes([0x30, len(body)]) + body
@@ -273,7 +276,34 @@ def test_a_topic_that_isnt_in_utf_8(house: House, caplog: pytest.LogCaptureFixtu
         connecting.start()
         until(lambda: not connecting.is_alive() or house.all("select id from command"))
         is_judged.set()
-        assert connecting.is_alive() and "isn't in UTF-8" in caplog.text
+        assert connecting.is_alive() and words in caplog.text
+        assert not house.all("select topic from publication")
+        ending.set()
+        connecting.join(PATIENCE)
+
+
+@pytest.mark.parametrize("sent", [bytes([0x30, 0]), bytes([0x32, 2, 0, 9]), bytes([0x90, 0])])
+def test_a_packet_that_is_none(house: House, sent: bytes, caplog: pytest.LogCaptureFixture) -> None:
+    """What comes from the broker's port and is no packet of MQTT, as one that is shorter than its own fields, ends that connection alone,
+    and the next one follows."""
+    came: list[int] = []
+    with socket.create_server(("127.0.0.1", 0)) as server:
+        def serve() -> None:
+            with suppress(OSError):
+                while True:
+                    opened, _ = server.accept()
+                    came.append(1)
+                    with opened, suppress(OSError):
+                        opened.recv(1000)
+                        opened.sendall(bytes([0x20, 2, 0, 0]) + sent)
+                        while opened.recv(1000):
+                            pass
+        threading.Thread(target=serve, daemon=True).start()
+        ending = Ending()
+        connecting = broker.Broker(house.config, Mqtt(port=server.getsockname()[1]), ending)
+        connecting.start()
+        until(lambda: not connecting.is_alive() or len(came) > 1)
+        assert connecting.is_alive() and "it is tried again" in caplog.text
         ending.set()
         connecting.join(PATIENCE)
 

@@ -352,6 +352,19 @@ def test_retention(house: House) -> None:
     assert not house.all("select 1 from record where reading not in (select id from reading)")
 
 
+def test_days_that_were_heard_late(house: House) -> None:
+    """What receivers heard on days on which the service was down is of those days: the last values of each of them stay, and not those of
+    the day alone on which all was taken out of the spool. A moment that can be none, or is far ahead, names no day."""
+    meter = house.meters[0]
+    house.spool("".join(house.whole(meter, moment=int(NOW) + moment)
+                        for moment in (-2 * DAY, -2 * DAY + 60, -DAY, -DAY + 60, 0)) + house.whole(meter, moment=int(NOW) + 900 * DAY))
+    house.hear(NOW)
+    while retention.let_go(house.database, Keep(readings=1), NOW + 2 * DAY):
+        pass
+    # (1,800,000,000 is the 15th of January 2027, 08:00)
+    assert house.all("select day, value from daily order by day") == [("2027-01-13", "2"), ("2027-01-14", "4"), ("2027-01-15", "6")]
+
+
 @pytest.mark.parametrize("piece", [1, 1000])
 def test_what_flowed_backward_in_a_later_piece(house: House, monkeypatch: pytest.MonkeyPatch, piece: int) -> None:
     """Of a day the volume stays, and not what flowed backward, also where that one was heard later, and goes later: in a large house each
@@ -512,3 +525,13 @@ def test_a_receiver_that_hears_nothing(house: House, tmp_path: Path, monkeypatch
     finally:
         assert child.end(signal.SIGTERM) == 0
     assert len(list(house.config.spool.iterdir())) <= 1
+
+
+def test_a_receiver_whose_line_feed_isnt_there(house: House) -> None:
+    """Where line_feed can't be started, and systemd tries it again each five seconds, no file is left each time."""
+    config = replace(house.config, programs=replace(house.config.programs, line_feed="/nonexistent/line_feed"),
+                     receivers={"attic": Receiver(command="sleep 60", format="-")})
+    for _ in range(3):
+        with pytest.raises(Trouble, match="line_feed can't be started"):
+            receiving.Receiving(config, "attic")._feed()
+    assert not list(house.config.spool.iterdir())

@@ -151,6 +151,19 @@ def test_first_month_when_summer_time_began(page: PageHouse, monkeypatch: pytest
     assert [(row["period"], row["amount"]) for row in (months[0], months[-1])] == [("2027-03", "0.290"), ("2026-03", "0.310")]
 
 
+def test_days_at_any_hour(page: PageHouse) -> None:
+    """The same days are shown in the evening as in the morning, also where nothing was heard on one of them."""
+    for back in range(40):
+        if back != 3:
+            page.volume(page.addresses[0], NOW - HOUR - back * DAY, 10_000 - 10 * back)
+    for hours in (0, 10):
+        page.app.config.update(CLOCK=lambda: NOW + hours * HOUR)
+        told = page.client().get(f"/api/meters/{page.addresses[0]}").json
+        assert told
+        days = told["used"][0]["by"]["day"]
+        assert (len(days), days[-1]["period"]) == (30, "2026-12-16")
+
+
 def test_months_of_readings_that_went(page: PageHouse) -> None:
     """Months are counted alike once their readings are gone; of a register that a reading has twice the first value counts, and what flowed
     backward is another one, sent in front of it or alone."""

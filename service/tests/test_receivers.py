@@ -198,7 +198,8 @@ def test_programs_that_a_receiver_wants(tmp_path: Path, monkeypatch: pytest.Monk
     (tmp_path / "rtl_wmbus").symlink_to(tmp_path / "rtl_sdr")
     look_at_receiver("attic", Receiver(profile="rtl_wmbus"))
     for command in ("TZ=UTC rtl_sdr", "exec rtl_sdr - 2>/dev/null", "while true; do rtl_sdr 2>&1 | env TZ=UTC rtl_wmbus; done",
-                    "(rtl_sdr; rtl_wmbus) | cat", "rtl_sdr -d $(cat serial) -F '' a", "$RADIO -f 868M"):
+                    "(rtl_sdr; rtl_wmbus) | cat", "rtl_sdr -d $(cat serial) -F '' a", "$RADIO -f 868M",
+                    "rtl_sdr | cut -d '|' -f 2 | tr \\; ' '", "env -i rtl_sdr"):
         look_at_receiver("attic", Receiver(command=command, format="hex"))
 
 

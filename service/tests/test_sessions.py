@@ -337,6 +337,10 @@ def test_a_program_that_fails_to_merge(house: House) -> None:
     for _ in range(3):
         with pytest.raises(Trouble, match="false: .*status 1"):
             house.sessions.next(NOW)
+    for output in ("usage: line_merge FILE", "3 A\\n1 A", "0 A\\n1 A", "1 A\\n1 A"):
+        house.sessions.config = replace(house.config, programs=Programs(line_merge=f"printf '{output}\\n'"))
+        with pytest.raises(Trouble, match="printf .*fails to merge"):
+            house.sessions.next(NOW)
     house.sessions.config = replace(house.config, programs=Programs(line_merge="/nonexistent/line_merge"))
     with pytest.raises(Trouble, match="/nonexistent/line_merge: .*can't be started"):
         house.sessions.next(NOW)

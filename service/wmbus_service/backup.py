@@ -68,6 +68,8 @@ def restore(config: Config, source: Path, margin: int) -> int:
     if not source.is_file():
         raise Trouble(source, "there is no such copy")
     beside = config.folder / "restored.db"
+    if beside.exists() and beside.samefile(source):
+        raise Trouble(source, "a restore makes its own file there", "give the copy another name")
     beside.unlink(missing_ok=True)
     os.close(os.open(beside, os.O_WRONLY | os.O_CREAT | os.O_EXCL, 0o600))
     try:

@@ -10,6 +10,7 @@ import logging
 import socket
 import sqlite3
 import ssl
+import struct
 import threading
 import time
 from collections.abc import Callable
@@ -195,7 +196,10 @@ def _until(client: mqtt.Client, answered: Callable[[], int], wanted: int) -> Non
 
 def _turn(client: mqtt.Client, seconds: float) -> None:
     """Lets the connection go on for a moment."""
-    answer = client.loop(seconds)
+    try:
+        answer = client.loop(seconds)
+    except struct.error:
+        raise Lost("what came is no packet of MQTT") from None
     if answer != mqtt.MQTT_ERR_SUCCESS:
         raise Lost(mqtt.error_string(answer))
 
@@ -206,6 +210,10 @@ def take_message(told: Mqtt, database: sqlite3.Connection, topic: str, payload: 
     if not topic.startswith(f"{told.topic}/") or kind not in ("command", "cancel"):
         # (the broker keeps what was subscribed under the topic of an earlier configuration)
         log.warning("MQTT: a message under %.100r isn't taken: the topic is %s", topic, told.topic)
+        return
+    if set(address) & set("+#\0"):
+        # (not each broker refuses one, and nothing can be published under it)
+        log.warning("MQTT: a message under %.100r isn't taken: this topic can be none", topic)
         return
     # (the answer's topic is longer than this one, and no meter has so long an address)
     address = address[:MOST_ADDRESS]

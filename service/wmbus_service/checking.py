@@ -3,6 +3,7 @@ from __future__ import annotations
 
 import grp
 import os
+import re
 import shlex
 import shutil
 import sqlite3
@@ -21,8 +22,10 @@ from .trouble import Trouble
 
 LEAST_ROOM = 256 << 20
 NOBODY = "0" * 16
-# what stands in front of a part of a shell's command
+# what stands in front of a part of a shell's command, and these signs as parts of a word, in quotes or behind a backslash
 BETWEEN = set("|;&(")
+QUOTED = re.compile(r"""'[^']*'|"(?:\\.|[^"\\])*"|\\.""", re.DOTALL)
+HIDDEN = {ord(sign): 0xE000 + ord(sign) for sign in BETWEEN}
 # those of wmbus-receiver@.service, by which it reads sticks
 UNIT_GROUPS = ("plugdev", "dialout")
 
@@ -149,7 +152,7 @@ def radio_groups() -> Iterator[int]:
 
 def programs_in(command: str) -> Iterator[str]:
     """The programs, and words of the shell, with which the parts of a command begin, behind variables that are set for them."""
-    words = shlex.shlex(command, posix=True, punctuation_chars=True)
+    words = shlex.shlex(QUOTED.sub(lambda it: it[0].translate(HIDDEN), command), posix=True, punctuation_chars=True)
     words.whitespace_split, words.commenters = True, ""
     begins = True
     for word in words:
@@ -157,8 +160,9 @@ def programs_in(command: str) -> Iterator[str]:
             begins = True
         elif begins and word != "env" and "=" not in word:
             begins = False
-            if "$" not in word:
-                yield word
+            # (behind an option of env's own its word may stand)
+            if "$" not in word and not word.startswith("-"):
+                yield word.translate({hidden: sign for sign, hidden in HIDDEN.items()})
 
 
 def look_at_downlinks(name: str, told: Receiver) -> None:

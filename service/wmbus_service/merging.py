@@ -4,6 +4,7 @@ from __future__ import annotations
 import heapq
 import re
 import subprocess
+from collections import Counter
 from collections.abc import Iterator, Sequence
 
 from .memory_files import memory_files, path_of
@@ -72,7 +73,7 @@ def _order_of_program(inputs: Sequence[Sequence[Spooled]], program: Sequence[str
         except OSError as fault:
             raise Trouble(words[0], f"the program can't be started: {fault.strerror}",
                           "name it in the configuration under [programs]") from None
-    order = [int(line.split(b" ", 1)[0]) - 1 for line in done.stdout.split(b"\n") if line]
-    if done.returncode or len(order) != sum(len(lines) for lines in inputs):
-        raise ProgramFailed(done.returncode, done.stderr.decode("utf-8", "replace"))
-    return order
+    told = [line.split(b" ", 1)[0] for line in done.stdout.split(b"\n") if line]
+    if done.returncode or Counter(told) != {b"%d" % number: len(lines) for number, lines in enumerate(inputs, 1)}:
+        raise ProgramFailed(done.returncode, done.stderr.decode("utf-8", "replace") or "what it printed isn't an order of all lines")
+    return [int(number) - 1 for number in told]

@@ -117,6 +117,16 @@ class Receiving:
         opened = new_file(self.config.spool, self.name)
         path = Path(os.readlink(f"/proc/self/fd/{opened}"))
         try:
+            self._feed_into(opened)
+        finally:
+            with suppress(FileNotFoundError):
+                # (where a stick isn't there, and no service takes files away, there would be more and more)
+                if not path.stat().st_size:
+                    path.unlink()
+
+    def _feed_into(self, opened: int) -> None:
+        """The same into an open file, which it closes."""
+        try:
             radio = subprocess.Popen(["/bin/sh", "-c", self.command], stdin=subprocess.DEVNULL, stdout=subprocess.PIPE, env=environment(),
                                      start_new_session=True)
             words = [*words_of(self.config.programs.line_feed), self.form]
@@ -132,10 +142,6 @@ class Receiving:
         if not self.ending.is_set():
             self.running[1].wait()
         self._end_feed()
-        with suppress(FileNotFoundError):
-            # (where a stick isn't there, and no service takes files away, there would be more and more)
-            if not path.stat().st_size:
-                path.unlink()
 
     def _end_feed(self) -> None:
         """Ends what this receiver started."""

@@ -10,6 +10,8 @@ from .store import set_setting, setting, transaction
 DAY = 86_400.0
 # rows of a transaction, so that sessions wait for none of them long
 PIECE = 1000
+# when a reading was heard, as the page tells it: by its receiver's clock, where that one has a time that isn't after its session's
+HEARD = "case when moment between 100000000 and made + 3600 then moment else made end"
 VALUES = "address, quantity, unit, exponent, value, function, storage, tariff, subunit"
 
 
@@ -51,7 +53,7 @@ def _gather_days(database: sqlite3.Connection, before: float) -> int:
     with transaction(database):
         rows = database.execute("select id from reading where made < ? order by made, id limit ?", (before, PIECE)).fetchall()
         oldest = [ident for (ident,) in rows]
-        chosen = (f"into daily (day, {VALUES}) select date(reading.made, 'unixepoch'), {VALUES} from"
+        chosen = (f"into daily (day, {VALUES}) select date({HEARD}, 'unixepoch'), {VALUES} from"
                   " (select value as ident from json_each(?)) cross join reading on reading.id = ident"
                   " cross join record on record.reading = reading.id where modifiers")
         # (what has modifiers takes no place of what has none, also where that one went before)

@@ -11,6 +11,7 @@ from typing import Any
 from . import service, store
 from .asking import Database
 from .config import Config
+from .retention import HEARD
 from .sensors import NUMBER
 from .spool import size_of
 
@@ -48,15 +49,16 @@ def _rows(database: sqlite3.Connection, query: str) -> list[dict[str, Any]]:
 def meter(database: sqlite3.Connection, row: tuple[Any, ...], now: float) -> dict[str, Any]:
     """A meter and its last reading."""
     told = dict(zip(("address", "name", "waits", "holds", "receiver"), row, strict=True))
-    last = database.execute("select id, made, counter from reading where address = ? order by id desc limit 1", (row[0],)).fetchone()
+    last = database.execute(f"select id, {HEARD}, counter from reading where address = ? order by id desc limit 1", (row[0],)).fetchone()
     if last is None:
         return told | {"age": None, "counter": None, "values": []}
     return told | {"age": round(now - last[1]), "counter": last[2], "values": values_of(database, last[0])}
 
 
 def values_of(database: sqlite3.Connection, reading: int) -> list[str]:
-    """A reading's values of now in words."""
-    rows = database.execute("select quantity, value, exponent, unit from record where reading = ? and function = 'instantaneous'"
+    """A reading's values of now in words; one with qualifiers, as what flowed backward, is another quantity than the plain one."""
+    rows = database.execute("select quantity || case modifiers when '' then '' else '_modifiers' || modifiers end, value, exponent, unit"
+                            " from record where reading = ? and function = 'instantaneous'"
                             " and storage = 0 and tariff = 0 and subunit = 0 order by place", (reading,)).fetchall()
     return [" ".join([quantity, shown(value, exponent), *([unit] if unit != "-" else [])]) for quantity, value, exponent, unit in rows]
 

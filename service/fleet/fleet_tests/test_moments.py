@@ -353,7 +353,7 @@ def test_a_gateway_whose_queue_was_made_anew(fleet: Fleet, tmp_path: Path) -> No
             if turns == 1:
                 broker.delete_gateway(channel, fleet.gateway)
                 broker.declare_gateway(channel, fleet.gateway)
-            if turns == 40:
+            if turns == 1000:
                 ending.set()
             return 0
     with closing(open_gateway(tmp_path / "gateway.db", time.time())) as database, broker.connected(fleet.config.broker) as connection:
@@ -404,15 +404,23 @@ def test_a_downlink_that_waited_for_its_gateway(fleet: Fleet, tmp_path: Path) ->
     made = time.time()
     store.copy_rows(fleet.database, "outbox (gateway, address, down, frame, command, made)",
                     [(fleet.gateway, fleet.meters[0].name, 1, "01", 1, made)])
+
+    class Armed(Agent):
+        """A gateway that ends once it has a downlink."""
+
+        def hear(self, body: bytes, now: float, published: int | None = None) -> None:
+            super().hear(body, now, published)
+            ending.set()
     with closing(open_gateway(tmp_path / "gateway.db", made)) as database, broker.connected(fleet.config.broker) as connection:
         assert downlinks.send(fleet.config, fleet.database, broker.opened(connection), made) == 1
+        sent = time.time()
         time.sleep(4)
-        stopping = threading.Timer(3, ending.set)
+        stopping = threading.Timer(LIMIT, ending.set)
         stopping.start()
-        Agent(fleet.config, Gateway(fleet.gateway, fleet.area, "radio"), service, database)._serve(connection, ending)
-        stopping.join()
+        Armed(fleet.config, Gateway(fleet.gateway, fleet.area, "radio"), service, database)._serve(connection, ending)
+        stopping.cancel()
         (until,) = database.execute("select until from armed").fetchone()
-    assert made + 890 < until < made + 902
+    assert made + 890 < until < sent + 902
 
 
 @pytest.mark.parametrize("age, left", [(0, 100), (40, 60), (99, 1), (9000, 100), (-9000, 100), (None, 100)])
@@ -490,6 +498,14 @@ def test_a_copy_that_comes_to_nothing(fleet: Fleet, tmp_path: Path, monkeypatch:
     monkeypatch.setenv("PATH", "/usr/lib/postgresql/15/bin:/usr/bin:/bin")
     with pytest.raises(Trouble, match="pg_dump"):
         backup.back_up(replace(fleet.config, database=f"{fleet.config.database}-that-isnt-there"), tmp_path / "copy")
+    assert list(tmp_path.iterdir()) == []
+
+    def interrupted(*_: Any) -> str:
+        raise KeyboardInterrupt
+    with monkeypatch.context() as patches:
+        patches.setattr(backup, "_done", interrupted)
+        with pytest.raises(KeyboardInterrupt):
+            backup.back_up(fleet.config, tmp_path / "copy")
     assert list(tmp_path.iterdir()) == []
     backup.back_up(fleet.config, tmp_path / "copy")
     assert [it.name for it in tmp_path.iterdir()] == ["copy"]

@@ -37,15 +37,15 @@ def back_up(config: Config, target: Path) -> None:
         if INBOX not in listed or " TABLE public restoring " in listed:
             raise Trouble("the database", "it isn't a fleet's, or `wmbus-fleet restore` hasn't ended: a copy of it couldn't be put back",
                           "look at `database` in the configuration")
-    except Trouble:
-        beside.unlink()
-        raise
-    opened = os.open(beside, os.O_RDWR)
-    try:
-        os.fsync(opened)
+        opened = os.open(beside, os.O_RDWR)
+        try:
+            os.fsync(opened)
+        finally:
+            os.close(opened)
+        beside.rename(target)
     finally:
-        os.close(opened)
-    beside.rename(target)
+        # (where it failed: a part of a copy has keys, and takes room)
+        beside.unlink(missing_ok=True)
 
 
 def restore(config: Config, source: Path, margin: int) -> int:

@@ -58,9 +58,14 @@ def bounds_of(by: str, now: float) -> list[int]:
     else:
         first = (year, month - count + 1, 1) if by == "month" else (year, month, day - count + 1)
         # (rounded, since an hour is missing where summer time began)
-        days = range(1 + round((now - time.mktime((*first, 0, 0, 0, 0, 0, -1))) / DAY))
-        found = [int(time.mktime((year, month, day - back, 0, 0, 0, 0, 0, -1))) for back in days]
+        days = range(1 + round((_midnight(year, month, day) - _midnight(*first)) / DAY))
+        found = [_midnight(year, month, day - back) for back in days]
     return sorted(found) + [int(now) + 1]
+
+
+def _midnight(year: int, month: int, day: int) -> int:
+    """The moment at which a day begins."""
+    return int(time.mktime((year, month, day, 0, 0, 0, 0, 0, -1)))
 
 
 def used_tables(database: Database, address: str, register: Register, now: float) -> dict[str, list[Row]]:

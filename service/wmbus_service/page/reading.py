@@ -211,7 +211,8 @@ def points_of(database: Database, address: str, register: Register, bounds: Sequ
 
 
 def day_values(database: Database, address: str, register: Register) -> Iterator[tuple[str, str]]:
-    """The last values of days whose readings are gone: day and number. Those of registers with modifiers aren't kept."""
+    """The last values of days whose readings are gone: day and number. They are kept as if registers had no modifiers, and count for those
+    that have none."""
     if register.modifiers:
         return
     rows = database.execute("select day, exponent, value from daily where address = ? and quantity = ? and unit = ? and function = ?"
