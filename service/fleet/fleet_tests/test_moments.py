@@ -9,6 +9,7 @@ import subprocess
 import threading
 import time
 import tracemalloc
+from collections.abc import Callable
 from configparser import ConfigParser
 from contextlib import closing
 from dataclasses import replace
@@ -23,6 +24,7 @@ from tests.processes import started, until
 from tests.stand_in import stand_in
 from wmbus_fleet import backup, broker, commandline, commands, demo, downlinks, gateway, gateways, intake, metrics, sessions, store
 from wmbus_fleet.administration import Administration
+from wmbus_fleet.arrived import arrived
 from wmbus_fleet.config import Broker, Config, Gateway, Keep, Metrics, Ticks
 from wmbus_fleet.gateway import Agent, arm, open_gateway
 from wmbus_fleet.intake import Consuming, Intake
@@ -176,6 +178,34 @@ def test_what_fails_again_is_said_once(house: House, monkeypatch: pytest.MonkeyP
     assert len([it for it in caplog.records if "full" in it.getMessage()]) == 1
 
 
+@pytest.mark.parametrize("part", ["intake", "sessions", "downlinks", "gateway"])
+def test_what_fails_anew_is_said_anew(fleet: Fleet, tmp_path: Path, monkeypatch: pytest.MonkeyPatch, caplog: pytest.LogCaptureFixture,
+                                      part: str) -> None:
+    """Where a part worked meanwhile, as between two failures of the network with months between them, its log has the second one too."""
+    ending, turns = Ending(), 0
+
+    def turn(*_: Any) -> int:
+        nonlocal turns
+        turns += 1
+        if turns in (1, 2, 4):
+            raise Trouble("the test", "it fails")
+        if turns == 5:
+            ending.set()
+        return 1
+    service = ServiceConfig(tmp_path / "service", receivers={"radio": Receiver()})
+    prepare_folder(service.folder)
+    monkeypatch.setattr(Consuming, "turn", turn)
+    monkeypatch.setattr(sessions.Sessions, "turn", turn)
+    monkeypatch.setattr(downlinks, "send", turn)
+    monkeypatch.setattr(Agent, "publish", turn)
+    work: dict[str, Callable[[], None]] = {
+        "intake": lambda: intake.run(fleet.config, [fleet.area], "test", ending), "sessions": lambda: sessions.run(fleet.config, ending),
+        "downlinks": lambda: downlinks.run(fleet.config, ending),
+        "gateway": lambda: gateway.run(fleet.config, Gateway(fleet.gateway, fleet.area, "radio"), service, ending)}
+    work[part]()
+    assert len([it for it in caplog.records if "it fails" in it.getMessage()]) == 2
+
+
 def test_a_gateway_that_was_taken_away(fleet: Fleet) -> None:
     """What it sent before and is taken behind that holds up no tick, and nothing is wanted of it any more."""
     meter = fleet.meters[0].name
@@ -269,12 +299,26 @@ def test_no_password_is_an_argument(tmp_path: Path, monkeypatch: pytest.MonkeyPa
     """Every user of the machine sees a program's words."""
     seen = tmp_path / "seen"
     for name in ("pg_dump", "pg_restore"):
-        (tmp_path / name).write_text(f'#!/bin/sh\necho "$@" >>{seen}\necho "$PGPASSWORD" >>{tmp_path}/password\n')
+        (tmp_path / name).write_text(f'#!/bin/sh\necho "$@" >>{seen}\necho "$PGPASSWORD" >>{tmp_path}/password\necho "{backup.INBOX}"\n')
         (tmp_path / name).chmod(0o700)
     monkeypatch.setenv("PATH", f"{tmp_path}:/usr/bin:/bin")
     backup.back_up(Config(database="host=db dbname=wmbus user=wmbus password='very secret'"), tmp_path / "copy")
     assert "secret" not in seen.read_text() and "dbname=wmbus" in seen.read_text()
-    assert (tmp_path / "password").read_text() == "very secret\n"
+    assert set((tmp_path / "password").read_text().splitlines()) == {"very secret"}
+
+
+@pytest.mark.parametrize("listed", ["; no table", "1; TABLE public inbox wmbus\n2; TABLE public restoring wmbus"])
+def test_a_copy_that_could_never_be_put_back(tmp_path: Path, monkeypatch: pytest.MonkeyPatch, listed: str) -> None:
+    """As of a database without a fleet's tables, by a slip of the pen in the configuration, or of one into which a copy is just put: that is
+    said when it is made, and not when it is wanted."""
+    (tmp_path / "listed").write_text(listed)
+    for name, does in (("pg_dump", ""), ("pg_restore", f"cat {tmp_path}/listed")):
+        (tmp_path / name).write_text(f"#!/bin/sh\n{does}\n")
+        (tmp_path / name).chmod(0o700)
+    monkeypatch.setenv("PATH", f"{tmp_path}:/usr/bin:/bin")
+    with pytest.raises(Trouble, match="couldn't be put back"):
+        backup.back_up(Config(), tmp_path / "copy")
+    assert not list(tmp_path.glob("copy*"))
 
 
 def test_an_area_that_is_made_while_an_intake_works(fleet: Fleet, tmp_path: Path) -> None:
@@ -329,6 +373,17 @@ def test_ticks_that_wait_for_a_gateway_arent_late(fleet: Fleet) -> None:
     assert late() == []
     fleet.database.execute("update gateway set until = %s", (int(now),))
     assert late() == ["1 ticks are late: no sessions run, or too few"]
+
+
+def test_late_ticks_of_the_metrics(fleet: Fleet) -> None:
+    """They are those that `status` tells of, also over the tables of a release that counted all of them."""
+    now = time.time()
+    fleet.database.execute("create or replace view page.late as select count(*) as count, min(due) as since from public.meter")
+    store.init(fleet.config.database)
+    fleet.database.execute("update meter set due = %s, gateway = %s where address = %s", (now - 300, fleet.gateway, fleet.meters[0].name))
+    for until, count in ((int(now) - 400, 0.0), (int(now), 1.0)):
+        fleet.database.execute("update gateway set until = %s", (until,))
+        assert metrics.take(fleet.config).gauges["ticks_late"] == count == figures(fleet.database)["ticks_late"]
 
 
 def test_which_queue_went(fleet: Fleet) -> None:
@@ -424,7 +479,7 @@ def test_a_copy_of_something_else(fleet: Fleet, restored: Config, tmp_path: Path
     other = fleet.both.postgres.make(f"{fleet.area.split('-')[0]}c")
     with psycopg.connect(other, autocommit=True) as database:
         database.execute("create table customer (name text)")
-    backup.back_up(replace(fleet.config, database=other), tmp_path / "copy")
+    backup._done(["pg_dump", "--format=custom", f"--file={tmp_path / 'copy'}"], other)
     with pytest.raises(Trouble, match="no copy of a fleet"):
         backup.restore(restored, tmp_path / "copy", 50)
 
@@ -515,6 +570,45 @@ def test_a_servers_clock_that_is_set_back(fleet: Fleet) -> None:
     fleet.database.execute("update meter set due = %s where address = %s", (NOW + 1000 * DAY, meter))
     assert [sessions.due_ticks(fleet.database, ticks, shard, moment, 10) for moment in (NOW, NOW + 19)] == [[], []]
     assert [address for _, address in sessions.due_ticks(fleet.database, ticks, shard, NOW + 21, 10)] == [meter]
+
+
+def test_a_gap_behind_a_servers_clock_that_is_set_back(fleet: Fleet) -> None:
+    """Its gateway is asked all the same, in place of nothing of it being taken any more for as long as the clock was ahead."""
+    taking, now = Intake(fleet.config, fleet.database, "test"), int(time.time())
+    taking.take([Message(fleet.gateway, 5, 1, now, ())])
+    fleet.database.execute("update gateway set asked = now() + interval '300 days'")
+    assert [it.number for it in taking.take([Message(fleet.gateway, 5, 3, now, ())])] == [2]
+    assert taking.take([Message(fleet.gateway, 5, 4, now, ())]) == [], "it was just asked"
+
+
+def test_a_downlink_of_a_servers_clock_that_is_set_back(fleet: Fleet) -> None:
+    """It goes out, and counts for a window and no longer; the broker takes nothing that counts for many years, and all others would wait
+    behind it."""
+    now, meter = time.time(), fleet.meters[0].name
+    store.copy_rows(fleet.database, "outbox (gateway, address, down, frame, command, made)",
+                    [(fleet.gateway, meter, 1, "01", 1, now + 20_000 * DAY), (fleet.gateway, meter, 2, "02", 1, now)])
+    with broker.connected(fleet.config.broker) as connection:
+        channel = broker.opened(connection)
+        assert downlinks.send(fleet.config, fleet.database, channel, now) == 2
+        bodies = [next(channel.consume(broker.gateway_queue(fleet.gateway), auto_ack=True, inactivity_timeout=10))[2] for _ in range(2)]
+    assert bodies == [down_body(Down(meter, 1, "01", 900)), down_body(Down(meter, 2, "02", 900))]
+
+
+def test_what_was_written_while_a_servers_clock_was_ahead(fleet: Fleet, monkeypatch: pytest.MonkeyPatch) -> None:
+    """It holds up nothing that is kept no longer, however much it is."""
+    monkeypatch.setattr("wmbus_fleet.retention.STEP", 3)
+    made = [*[NOW + 900 * DAY] * 4, *[NOW - 9 * DAY] * 5, NOW - DAY]
+    store.copy_rows(fleet.database, "line (number, address, text, made)", [(place, "m", "A 1 00", it) for place, it in enumerate(made)])
+    assert [let_go(fleet.database, Keep(), NOW) for _ in range(3)] == [True, True, False]
+    assert store.one(fleet.database, "select array_agg(number order by number) from line") == [0, 1, 2, 3, 9]
+
+
+def test_a_tick_behind_another_gateways_later_line(fleet: Fleet) -> None:
+    """Where that one came in front of what the meter's own gateway heard before the tick was due, the tick waits for this all the same."""
+    meter = fleet.meters[0].name
+    heard = [arrived(meter, gateway, 1, 1, place, text) for place, (gateway, text) in enumerate(
+        [("gw2", "A 600 00"), ("gw1", "A 400 00"), ("gw2", "A 610 00")], 1)]
+    assert [event.text for event in sessions.with_ticks(heard, [(500.0, meter)])] == ["A 600 00", "A 400 00", f"T {meter}", "A 610 00"]
 
 
 def test_a_tick_at_which_the_program_fails(fleet: Fleet, monkeypatch: pytest.MonkeyPatch) -> None:

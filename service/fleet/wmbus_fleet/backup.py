@@ -19,6 +19,8 @@ from .config import Config
 from .store import Database
 
 PIECE = 4096
+# what stands in the list of a copy of a fleet's database
+INBOX = " TABLE public inbox "
 
 
 def back_up(config: Config, target: Path) -> None:
@@ -31,6 +33,10 @@ def back_up(config: Config, target: Path) -> None:
     os.close(os.open(beside, os.O_WRONLY | os.O_CREAT | os.O_EXCL, 0o600))
     try:
         _done(["pg_dump", "--format=custom", f"--file={beside}"], config.database)
+        listed = _done(["pg_restore", "--list", str(beside)], config.database)
+        if INBOX not in listed or " TABLE public restoring " in listed:
+            raise Trouble("the database", "it isn't a fleet's, or `wmbus-fleet restore` hasn't ended: a copy of it couldn't be put back",
+                          "look at `database` in the configuration")
         opened = os.open(beside, os.O_RDWR)
         try:
             os.fsync(opened)
@@ -49,7 +55,7 @@ def restore(config: Config, source: Path, margin: int) -> int:
         raise Trouble(source, "there is no such copy")
     if not 0 <= margin <= HIGHEST:
         raise Trouble("the margin", "it isn't a number from 0 to 2^32 - 1", "docs/FLEET.md says how large it has to be")
-    if " TABLE public inbox " not in _done(["pg_restore", "--list", str(source)], config.database):
+    if INBOX not in _done(["pg_restore", "--list", str(source)], config.database):
         raise Trouble(source, "it is no copy of a fleet's database", "name a file that `wmbus-fleet backup` made")
     with psycopg.connect(config.database, autocommit=True) as database:
         if store.one(database, "select to_regclass('setting')") is not None:

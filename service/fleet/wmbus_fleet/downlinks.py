@@ -27,7 +27,8 @@ def send(config: Config, database: Database, channel: Any, now: float) -> int:
     rows = database.execute("select id, gateway, address, down, frame, made from outbox where sent is null and missed is null"
                             " order by id limit %s", (AT_ONCE,)).fetchall()
     for ident, gateway, address, down, frame, made in rows:
-        left = int(made + config.ticks.window - now)
+        # (one that was made while a clock was ahead counts for no longer either, and the broker refuses what would count for many years)
+        left = int(min(made, now) + config.ticks.window - now)
         fault = "it is too late: the meter's window is closed" if left < 1 else _sent(channel, gateway, Down(address, down, frame, left))
         if fault is None:
             mark_sent(database, ident, time.time())
@@ -65,7 +66,9 @@ def run(config: Config, ending: Ending) -> None:
                 with broker.connected(config.broker) as connection:
                     channel = broker.opened(connection)
                     while not ending.is_set():
-                        if not send(config, database, channel, time.time()):
+                        count = send(config, database, channel, time.time())
+                        trouble = ""
+                        if not count:
                             connection.process_data_events(config.interval)
         except (psycopg.Error, Trouble, *broker.FAULTS) as fault:
             told = f"downlinks: {store.told_of(fault)}"

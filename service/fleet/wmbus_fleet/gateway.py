@@ -68,6 +68,8 @@ class Agent:
         self.spool = Spool(service.spool, told.receiver)
         self.radio = service.receivers[told.receiver].downlinks
         self.numbered_at = self.said_at = 0.0
+        # what went wrong last, as long as nothing went well behind it
+        self.trouble = ""
         # of a meter the counter of the downlink that the radio got last
         self.written: dict[str, int] = {}
 
@@ -203,16 +205,16 @@ class Agent:
 
     def run(self, ending: Ending) -> None:
         """Goes on until it is told to end; without the broker it numbers lines and sends what is armed."""
-        trouble = unnumbered = ""
+        unnumbered = ""
         while not ending.is_set():
             try:
                 with broker.connected(self.config.broker) as connection:
                     self._serve(connection, ending)
             except (*broker.FAULTS, ProgramFailed, Trouble, sqlite3.Error) as fault:
                 told = f"{self.told.name}: {type(fault).__name__}: {fault}"
-                if told != trouble:
+                if told != self.trouble:
                     log.error("%s", told)
-                trouble = told
+                self.trouble = told
             limit = time.monotonic() + PAUSE
             while time.monotonic() < limit and not ending.is_set():
                 try:
@@ -243,7 +245,9 @@ class Agent:
         while not ending.is_set():
             now = time.time()
             count = self.number(now) + self.publish(channel)
-            if not count:
+            if count:
+                self.trouble = ""
+            else:
                 self.forget(now)
             connection.process_data_events(0 if count else LOOK)
 

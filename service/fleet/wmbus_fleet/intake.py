@@ -83,8 +83,10 @@ class Intake:
                 wanted[message.gateway] = Again(message.gateway, epoch, number + 1)
         if not wanted:
             return []
-        rows = self.database.execute("update gateway set asked = now() where name = any(%s) and (asked is null or asked < now()"
-                                     " - make_interval(secs => %s)) returning name", (sorted(wanted), ASKED_SECONDS)).fetchall()
+        # (a clock that is set back doesn't keep it from that)
+        rows = self.database.execute("update gateway set asked = now() where name = any(%s) and (asked is null or"
+                                     " abs(extract(epoch from now() - asked)) > %s) returning name",
+                                     (sorted(wanted), ASKED_SECONDS)).fetchall()
         return [wanted[name] for (name,) in rows]
 
 
@@ -161,14 +163,14 @@ class Consuming:
             self.since = time.monotonic()
         self.held.append((method.delivery_tag, gateway_in(method.routing_key), read_lines(method.routing_key, body)))
 
-    def turn(self) -> None:
-        """A batch, once it is due."""
+    def turn(self) -> int:
+        """A batch, once it is due; how many messages it had."""
         lines = sum(len(message.lines) for _, _, message in self.held if message)
         # (the broker gives no more before some are acknowledged)
         is_due = time.monotonic() - self.since >= self.intake.config.interval or lines >= MOST or len(self.held) >= PREFETCH
         self.connection.process_data_events(0 if self.held and is_due else LOOK)
         if not self.held or not is_due:
-            return
+            return 0
         count = self._count()
         tag, batch = self.held[count - 1][0], self.held[:count]
         asked = self.intake.take([it for _, _, it in batch if it], [name for _, name, it in batch if it is None])
@@ -176,6 +178,7 @@ class Consuming:
         acknowledge(self.channel, tag)
         for it in asked:
             ask(self.channel, it)
+        return count
 
     def _count(self) -> int:
         """How many messages the batch has, one at least: no more lines than one transaction takes."""
@@ -219,7 +222,8 @@ def run(config: Config, areas: Sequence[str], name: str, ending: Ending) -> None
                 while not ending.is_set():
                     # (of all also those that were made since)
                     consuming.listen(known_areas(database, areas))
-                    consuming.turn()
+                    if consuming.turn():
+                        trouble = ""
         except (psycopg.Error, ProgramFailed, Trouble, *broker.FAULTS) as fault:
             told = f"intake: {store.told_of(fault)}"
             if told != trouble:

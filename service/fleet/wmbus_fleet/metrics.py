@@ -39,7 +39,8 @@ GAUGES = {
     "meters_unheard": "meters that never had a reading", "downlinks_waiting": "downlinks that the broker hasn't got yet",
     "downlinks_missed": "downlinks that weren't sent in time", "commands_open": "commands that aren't done",
     "aside_lines": "lines at which the program failed", "gaps": "epochs of gateways that ended with a gap",
-    "ticks_late": "ticks that were due a minute ago or earlier", "broker_up": "1 where the broker answers",
+    "ticks_late": "ticks that were due a minute ago or earlier and don't wait for a gateway that is cut off",
+    "broker_up": "1 where the broker answers",
 }
 LABELLED = {
     "gateways": ("gateways that are known", "area"), "gateways_silent": ("gateways that weren't heard for ten minutes", "area"),

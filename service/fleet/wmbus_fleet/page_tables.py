@@ -9,6 +9,10 @@ _WAITING = " union all ".join(
     f"(select {shard} as shard, case when text ~ '^[AB] [0-9]{{1,12}} ' then split_part(text, ' ', 2)::bigint end as heard"
     f" from public.inbox_{shard} order by id limit 1)" for shard in range(SHARDS))
 
+# (others wait for what a gateway that is cut off heard before they were due)
+LATE = """create or replace view page.late as select count(*) as count, min(m.due) as since from public.meter m
+    left join public.gateway g on g.name = m.gateway where m.due < extract(epoch from now()) - 60 and (g.name is null or g.until > m.due);"""
+
 VIEWS = f"""
 create schema page;
 create view page.meter as select address, name, gateway as receiver, gateway, heard from public.meter;
@@ -37,7 +41,7 @@ create view page.gateway as select name, area, epoch, number, until, extract(epo
 create view page.missing as select gateway, epoch, number, made from public.missing;
 create view page.inbox as select gateway from public.inbox;
 create view page.waiting as {_WAITING};
-create view page.late as select count(*) as count, min(due) as since from public.meter where due < extract(epoch from now()) - 60;
+{LATE}
 create view page.worker as select application_name as name, count(*) as count from pg_stat_activity
     where datname = current_database() and application_name like 'wmbus %' group by application_name;
 grant usage on schema page to public;

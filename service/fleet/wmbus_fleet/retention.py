@@ -15,10 +15,10 @@ def let_go(database: Database, keep: Keep, now: float) -> bool:
     for table, key, days in (("line", "number", keep.lines), ("reading", "line", keep.readings)):
         if days:
             with store.transaction(database):
-                # (numbers rise with the moments, and so no index by age is needed)
-                found = database.execute(f"with first as (select {key} from {table} order by {key} limit %s for update skip locked)"
-                                         f" delete from {table} it using first where it.{key} = first.{key} and it.made < %s",
-                                         (STEP, now - days * DAY))
+                # (numbers rise with the moments, and so no index by age is needed; what was written while the clock was ahead is passed)
+                found = database.execute(f"with first as (select {key} from {table} where made <= %s order by {key} limit %s"
+                                         f" for update skip locked) delete from {table} it using first"
+                                         f" where it.{key} = first.{key} and it.made < %s", (now, STEP, now - days * DAY))
                 gone += found.rowcount
     database.execute("delete from stranger where address in (select address from stranger order by last_made desc offset %s)",
                      (MOST_STRANGERS,))

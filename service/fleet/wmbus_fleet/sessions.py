@@ -138,11 +138,14 @@ def gather(database: Database, ticks: Ticks, shard: int, now: float, most: int) 
 
 def with_ticks(heard: Sequence[Arrived], due: Sequence[tuple[float, str]]) -> list[Event]:
     """Each tick stands in front of what was heard of its own meter later than it was due, or else behind all lines: what came of another
-    gateway meanwhile doesn't say that all of the meter's lines of before are heard."""
+    gateway meanwhile doesn't say that all of the meter's lines of before are heard, and behind what was heard earlier it stands too where
+    another gateway's later line came in front of that."""
     waiting = {address: moment for moment, address in due}
+    before = {line.address: place for place, line in enumerate(heard)
+              if line.address in waiting and moment_in(line.text, 0) <= waiting[line.address]}
     events: list[Event] = []
-    for line in heard:
-        if line.address in waiting and waiting[line.address] < moment_in(line.text, 0):
+    for place, line in enumerate(heard):
+        if line.address in waiting and waiting[line.address] < moment_in(line.text, 0) and before.get(line.address, -1) < place:
             events.append(_tick(waiting.pop(line.address), line.address))
         events.append(Event(line.text, spooled=line))
     return events + [_tick(moment, address) for address, moment in waiting.items()]
@@ -236,6 +239,7 @@ def run(config: Config, ending: Ending) -> None:
                     # (of a large fleet each turn has lines)
                     if not is_behind and time.monotonic() > let_go_at and not retention.let_go(database, config.keep, time.time()):
                         let_go_at = time.monotonic() + LET_GO
+                    trouble = ""
                     ending.wait(0 if is_behind else config.interval)
         except (psycopg.Error, ProgramFailed, Trouble, OSError) as fault:
             told = f"sessions: {store.told_of(fault)}"

@@ -57,6 +57,9 @@ def init(words: str) -> None:
                 database.execute(schema.TABLES + schema.INBOXES + page_tables.VIEWS)
             elif version == 1:
                 database.execute(schema.SECOND + page_tables.VIEWS)
+            elif version == schema.VERSION:
+                # (the first releases of this version counted ticks that wait too)
+                database.execute(page_tables.LATE)
             if version in (None, 1):
                 set_setting(database, "version", str(schema.VERSION))
 
