@@ -5,7 +5,8 @@ import time
 
 
 def peak_so_far(process):
-    """The most memory that a running process had by now, in kB; 0 where it is gone. What the kernel tells of a process that ended counts the one that started it too."""
+    """The most memory that a running process had by now, in kB; 0 where it is gone. What the kernel tells of a process that ended counts
+    the one that started it too."""
     try:
         with open(f"/proc/{process}/status", encoding="ascii") as file:
             for line in file:
@@ -17,7 +18,8 @@ def peak_so_far(process):
 
 
 def run(words, output=subprocess.DEVNULL):
-    """A program's run on one processor, its output to nothing or where it is said: seconds of the processor and by the clock, the peak of memory in kB, and the exit status."""
+    """A program's run on one processor, its output to nothing or where it is said: seconds of the processor and by the clock, the peak of
+    memory in kB, and the exit status."""
     began, peak, ended = time.monotonic(), 0, 0
     program = subprocess.Popen(words, stdout=output, preexec_fn=lambda: os.sched_setaffinity(0, {min(os.sched_getaffinity(0))}))
     while not ended:

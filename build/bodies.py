@@ -1,7 +1,7 @@
 """Wrong bodies of the crates, as must-fail/ has them: which function each changes, and what of a crate the crates above it see.
 
-A body is a file of lines `file: src/a.rt`, `old: TEXT` (standing once in that file) and `new: TEXT`; further pairs apply to what the earlier ones made. A line
-`alone: WHY` says that it can't be tried together with others."""
+A body is a file of lines `file: src/a.rt`, `old: TEXT` (standing once in that file) and `new: TEXT`; further pairs apply to what the
+earlier ones made. A line `alone: WHY` says that it can't be tried together with others."""
 import functools
 import hashlib
 import os
@@ -12,7 +12,8 @@ from libraries import TOP, below, known_crates, toolchain
 
 PARTS = ("src", "specs", "proofs")
 
-# A function of a source file: what it is called by there, the words of which rattle makes its name, where its text, its body and its end are, and the cycle that it is of.
+# A function of a source file: what it is called by there, the words of which rattle makes its name, where its text, its body and its end
+# are, and the cycle that it is of.
 Function = namedtuple("Function", "key words start body end cycle")
 
 # what is no code: comments, texts and characters
@@ -139,8 +140,8 @@ def sum_of_statements(crate):
 
 
 def sum_of_trial(crate):
-    """A sum of all that says whether a crate's bodies are wrong: its sources and definitions, the bodies, and the statements of the crates below. Proofs are none of it:
-    where a body breaks a contract no proof can help it."""
+    """A sum of all that says whether a crate's bodies are wrong: its sources and definitions, the bodies, and the statements of the crates
+    below. Proofs are none of it: where a body breaks a contract no proof can help it."""
     folder, total = f"{TOP}/crates/{crate}", hashlib.sha256(f"{toolchain()} {known_crates()[crate]}\n".encode())
     for part in ("src", "specs", "must-fail"):
         for path in files_below(f"{folder}/{part}"):
@@ -151,7 +152,8 @@ def sum_of_trial(crate):
 
 
 class Body:
-    """A wrong body: its file of must-fail, the texts that it changes, the functions in which they stand, and why it stands alone, if it does."""
+    """A wrong body: its file of must-fail, the texts that it changes, the functions in which they stand, and why it stands alone, if it
+    does."""
 
     def __init__(self, crate, file):
         self.crate, self.file, self.pairs, self.places, self.alone, self.bad = crate, file, [], [], None, None

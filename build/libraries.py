@@ -1,4 +1,5 @@
-"""The repository's crates, and where each stands once it is proved: what crates.txt says of them, and the words by which the prover finds those below."""
+"""The repository's crates, and where each stands once it is proved: what crates.txt says of them, and the words by which the prover finds
+those below."""
 import functools
 import os
 import shutil

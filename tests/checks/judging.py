@@ -1,5 +1,5 @@
-"""What scripts share that compare the program wmbus with tests/reference, a second implementation of sessions: the package that it needs, runs and their
-texts, drawn sessions."""
+"""What scripts share that compare the program wmbus with tests/reference, a second implementation of sessions: the package that it needs,
+runs and their texts, drawn sessions."""
 import importlib.util
 import os
 import random

@@ -1,5 +1,5 @@
-"""Made sessions in which several receivers hear the same meters at once: whole messages, fragments, commands, cancellations, new keys, ticks, strangers,
-broken frames and bad lines in all of them; some receivers end early."""
+"""Made sessions in which several receivers hear the same meters at once: whole messages, fragments, commands, cancellations, new keys,
+ticks, strangers, broken frames and bad lines in all of them; some receivers end early."""
 import random
 
 from frames import format_a

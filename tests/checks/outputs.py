@@ -1,4 +1,5 @@
-"""What the other outputs of `wmbus collect` have to hold, by its report and its inputs alone: the readings, the next roster and the downlinks."""
+"""What the other outputs of `wmbus collect` have to hold, by its report and its inputs alone: the readings, the next roster and the
+downlinks."""
 import json
 
 import replay

@@ -21,7 +21,8 @@ def run(program, words, folder):
 
 
 def parts(report):
-    """A report's receivers, its meters (address, head, steps as (receiver, line, outcome), the lines behind them), its strangers and its ring."""
+    """A report's receivers, its meters (address, head, steps as (receiver, line, outcome), the lines behind them), its strangers and its
+    ring."""
     receivers, meters, strangers, ring = [], [], [], []
     for line in report.splitlines():
         word, _, rest = line.partition(" ")

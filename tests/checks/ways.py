@@ -1,4 +1,5 @@
-"""What each script begins with: the ways to the modules that scripts share, in whichever folder they stand, and an end in words (readings/quiet.py).
+"""What each script begins with: the ways to the modules that scripts share, in whichever folder they stand, and an end in words
+(readings/quiet.py).
 
 Other folders whose scripts begin so have a file of this name that runs this one."""
 import os
