@@ -22,7 +22,8 @@ def newer_programs():
 
 def copy_into(folder):
     """Copies what a commit would have, with the programs for these sources: as they lie in dist/, or else as they are built here."""
-    listed = subprocess.run(["git", "-C", TOP, "ls-files", "-z", "--cached", "--others", "--exclude-standard"], check=True, stdout=subprocess.PIPE).stdout
+    listed = subprocess.run(["git", "-C", TOP, "ls-files", "-z", "--cached", "--others", "--exclude-standard"], check=True,
+                            stdout=subprocess.PIPE).stdout
     there = b"\0".join(name for name in listed.split(b"\0") if name and os.path.isfile(os.path.join(os.fsencode(TOP), name)))
     packed = subprocess.run(["tar", "-C", TOP, "--null", "-T", "-", "-c"], input=there, check=True, stdout=subprocess.PIPE).stdout
     os.mkdir(folder)

@@ -33,7 +33,8 @@ def messages(draw, meter, counter):
     key_id = draw.randrange(2)
     key = meter.other if key_id and meter.other else meter.key
     if draw.random() < 0.25:
-        made = fragments(key, meter.address, counter, payload(draw, counter) + bytes.fromhex("0c2b75230000") * 8, draw.randrange(2, 5), key_id)
+        made = fragments(key, meter.address, counter, payload(draw, counter) + bytes.fromhex("0c2b75230000") * 8, draw.randrange(2, 5),
+                         key_id)
     else:
         control, access = draw.choice([(0x44, None), (0x44, 0x80), (0x44, 0x84), (0x46, 0x80), (0x08, None), (0x18, 0x80)])
         made = [whole(key, meter.address, counter, payload(draw, counter), control, access, key_id)]
@@ -46,14 +47,16 @@ def messages(draw, meter, counter):
 
 def operator_line(draw, meter):
     name = meter.address.hex()
-    return draw.choice([f"Q {name} {draw.randbytes(draw.randrange(1, 30)).hex()}\n", f"X {name} {draw.randrange(1, 20)}\n", f"T {name}\n", f"T {name}\n",
+    return draw.choice([f"Q {name} {draw.randbytes(draw.randrange(1, 30)).hex()}\n", f"X {name} {draw.randrange(1, 20)}\n", f"T {name}\n",
+                        f"T {name}\n",
                         f"K {name} {(meter.other or meter.key).hex()}\n"])
 
 
 def other_line(draw, moment):
     kind = draw.randrange(4)
     if kind == 0:
-        return heard(format_a(telegram(0x44, bytes.fromhex("931599999999") + bytes([draw.randrange(99), 7]), b"\x7a\x00\x00\x00\x00")), moment)
+        return heard(format_a(telegram(0x44, bytes.fromhex("931599999999") + bytes([draw.randrange(99), 7]), b"\x7a\x00\x00\x00\x00")),
+                     moment)
     if kind == 1:
         return heard(draw.randbytes(draw.randrange(0, 60)), moment)
     return draw.choice(["nothing\n", "A 1\n", "\n", f"T {draw.randbytes(8).hex()}\n", "Q 1 2 3\n"])

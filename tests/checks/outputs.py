@@ -12,7 +12,8 @@ def record_of(line):
     if fields[0] == "maker":
         return {"maker": fields[1], "raw": fields[2].replace("-", "")}
     _, function, storage, tariff, subunit, quantity, unit, exponent, modifiers, value, raw = fields
-    return {"function": function, "storage": int(storage), "tariff": int(tariff), "subunit": int(subunit), "quantity": quantity, "unit": unit, "exponent": int(exponent),
+    return {"function": function, "storage": int(storage), "tariff": int(tariff), "subunit": int(subunit), "quantity": quantity,
+            "unit": unit, "exponent": int(exponent),
             "modifiers": modifiers.replace("-", ""), "value": value, "raw": raw.replace("-", "")}
 
 
@@ -22,7 +23,8 @@ def readings_of(report):
     for address, head, steps, behind in replay.parts(report)[1]:
         stored = [outcome.split(" ") for _, _, outcome in steps if outcome.startswith("stored ")]
         fault = [line.split(" ", 1)[1] for line in behind if line.startswith("fault ")]
-        meters.append({"address": address, "mode": int(head.split(" ")[3]), "counter": int(stored[-1][1]) if stored else None, "at": int(stored[-1][2]) if stored else None,
+        meters.append({"address": address, "mode": int(head.split(" ")[3]), "counter": int(stored[-1][1]) if stored else None,
+                       "at": int(stored[-1][2]) if stored else None,
                        "fault": fault[0] if fault else None, "more": "more" in behind,
                        "records": [record_of(line) for line in behind if line.startswith(("record ", "maker "))]})
     return json.dumps({"meters": meters}, sort_keys=True, separators=(",", ":")) + "\n"

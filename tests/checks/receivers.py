@@ -25,7 +25,8 @@ def rtl_433(telegram, moment, data=None, **members):
     """rtl_433 22.11 of a frame of format A: an L that is two too low, and the CRC of the last block behind the telegram."""
     if data is None:
         data = bytes([telegram[0] - 2]) + telegram[1:] + format_a(telegram)[-2:]
-    told = {"time": shown(moment), "model": "Wireless-MBus", "mode": "T", "M": "ELS", "id": int(telegram[7:3:-1].hex(), 16), "version": telegram[8], "type": telegram[9],
+    told = {"time": shown(moment), "model": "Wireless-MBus", "mode": "T", "M": "ELS", "id": int(telegram[7:3:-1].hex(), 16),
+            "version": telegram[8], "type": telegram[9],
             "type_string": "Gas", "C": telegram[1], "data_length": len(telegram), "data": data.hex(), "mic": "CRC"}
     told.update(members)
     return json.dumps({name: value for name, value in told.items() if value is not None}, separators=(", ", " : "))

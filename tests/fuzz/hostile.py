@@ -96,9 +96,11 @@ def records(draw):
     if chance < 0.8:
         return known + draw.choice(PAYLOADS)[2:]
     if chance < 0.95:
-        heads = (bytes([draw.randrange(256), draw.choice([0x13, 0x14, 0x6C, 0x6D, 0x7C, 0xFB, 0xFD, 0xFF, draw.randrange(256)])]) for _ in range(draw.randrange(1, 20)))
+        heads = (bytes([draw.randrange(256), draw.choice([0x13, 0x14, 0x6C, 0x6D, 0x7C, 0xFB, 0xFD, 0xFF, draw.randrange(256)])])
+                 for _ in range(draw.randrange(1, 20)))
         return b"\x2f\x2f" + b"".join(head + draw.randbytes(draw.randrange(9)) for head in heads)
-    return draw.choice([b"\x2f\x2f", b"", b"\x2f\x2f" + draw.randbytes(draw.randrange(180)), b"\x2f\x2f" + b"\x00\x13" * draw.randrange(90)])
+    return draw.choice([b"\x2f\x2f", b"", b"\x2f\x2f" + draw.randbytes(draw.randrange(180)), b"\x2f\x2f"
+                        + b"\x00\x13" * draw.randrange(90)])
 
 
 class Message:
@@ -134,7 +136,8 @@ class Message:
         if kind == 0:
             self.control = draw.randrange(256)
         elif kind == 1:
-            self.extension = draw.choice([b"\x8c", b"\x8c\x80", b"\x8d", b"\x8e" + draw.randbytes(draw.randrange(12)), b"\x8f\x00\x00", b"\x8c\x80\x00\x8c\x80\x00"])
+            self.extension = draw.choice([b"\x8c", b"\x8c\x80", b"\x8d", b"\x8e" + draw.randbytes(draw.randrange(12)), b"\x8f\x00\x00",
+                                          b"\x8c\x80\x00\x8c\x80\x00"])
         elif kind == 2:
             self.fields ^= 1 << draw.choice([8, 9, 10, 11, 12, 13, 14, 15])
         elif kind == 3:
@@ -168,8 +171,10 @@ class Message:
             made += bytes([self.derivation << 4 | self.key_id])
         encrypted = self.blocks * 16
         if self.meter.mode == 5:
-            return made + cbc(self.key(), self.plain[:encrypted], self.meter.address + bytes([self.number & 0xFF]) * 8) + self.plain[encrypted:] + self.rest
-        return made + cbc(derived(self.key(), METER_CIPHER, self.number & 0xFFFFFFFF, self.meter.address), self.plain[:encrypted]) + self.plain[encrypted:] + self.rest
+            return made + cbc(self.key(), self.plain[:encrypted], self.meter.address
+                              + bytes([self.number & 0xFF]) * 8) + self.plain[encrypted:] + self.rest
+        return made + cbc(derived(self.key(), METER_CIPHER, self.number & 0xFFFFFFFF, self.meter.address),
+                          self.plain[:encrypted]) + self.plain[encrypted:] + self.rest
 
     def layer(self, text, number, more, fields):
         """The authentication and fragmentation layer of a whole message (number 0) or of one of its fragments."""
@@ -203,7 +208,8 @@ class Message:
             piece = text[place * size:(place + 1) * size]
             if draw.random() < 0.02:
                 piece = bent(draw, piece)
-            made.append(telegram(self.control, self.meter.address, (self.extension + self.layer(text, number, not last, fields) + piece)[:246]))
+            made.append(telegram(self.control, self.meter.address, (self.extension + self.layer(text, number, not last, fields)
+                                                                    + piece)[:246]))
         for _ in range(draw.choice([0, 0, 0, 1, 2])):
             at = draw.randrange(len(made))
             made.insert(draw.randrange(len(made) + 1), made[at] if draw.random() < 0.5 or len(made) == 1 else made.pop(at))
@@ -247,7 +253,8 @@ def operator_line(draw, meters):
 
 def stranger_line(draw, moment):
     name = bytes.fromhex("9315") + draw.getrandbits(9).to_bytes(4, "little") + b"\x01\x07"
-    return framed(draw, moment, telegram(0x44, name, draw.choice([b"\x7a\x01\x00\x00\x00", b"\x78", draw.randbytes(draw.randrange(1, 40))])))
+    return framed(draw, moment, telegram(0x44, name, draw.choice([b"\x7a\x01\x00\x00\x00", b"\x78",
+                                                                  draw.randbytes(draw.randrange(1, 40))])))
 
 
 def damaged(draw, line):
@@ -304,7 +311,8 @@ def hostile_lines(draw, meters, count):
         else:
             known = draw.choice(LINES).split(b" ")
             telegram_known = telegram_of(known[0], bytes.fromhex(known[2].decode())) if known[0] in (b"A", b"B") else None
-            made.append(b" ".join(known) if telegram_known is None else framed(draw, len(made), telegram_known[:10] + bent(draw, telegram_known[10:])[:240]))
+            made.append(b" ".join(known) if telegram_known is None else framed(draw, len(made), telegram_known[:10]
+                                                                               + bent(draw, telegram_known[10:])[:240]))
     return made
 
 

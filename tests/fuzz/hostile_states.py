@@ -22,7 +22,8 @@ KNOWN = [line.encode() for line in [
     f"meter {SECOND} 5 0102030405060708090a0b0c0d0e0f11 - 42 4294967294 8", "reading 100 42 -", "command 8 2 01",
     "meter f09a3d86a480040a 7 5bdb9b96294e7c32b302e186433adf1d - - 0 0", "end",
 ]]
-NUMBERS = [0, 1, 2, 3, 4, 7, 8, 9, 255, 256, 2**32 - 1, 2**32, 2**64 - 1, 2**64, 10**20, "00", "01", "+1", "-1", "1e3", "", "-", "3 ", "٣", "9" * 400]
+NUMBERS = [0, 1, 2, 3, 4, 7, 8, 9, 255, 256, 2**32 - 1, 2**32, 2**64 - 1, 2**64, 10**20, "00", "01", "+1", "-1", "1e3", "", "-", "3 ", "٣",
+           "9" * 400]
 MOST_READING, MOST_COMMAND, MOST_PIECE = 4096, 94, 242
 MOST_WRITTEN = 24
 State = tuple[list[bytes], bytes]
@@ -44,7 +45,8 @@ def _place(draw: random.Random, lines: list[bytes]) -> int:
 
 def _with_field(draw: random.Random, lines: list[bytes], places: dict[bytes, list[int]], value: bytes) -> None:
     """Puts a value in one of these fields of a line, by the line's first word."""
-    fitting = [(at, place) for at, line in enumerate(lines) for place in places.get(line.split(b" ")[0], []) if place < len(line.split(b" "))]
+    fitting = [(at, place) for at, line in enumerate(lines) for place in places.get(line.split(b" ")[0], [])
+               if place < len(line.split(b" "))]
     if fitting:
         at, place = draw.choice(fitting)
         fields = lines[at].split(b" ")
@@ -130,14 +132,16 @@ def other_spelling(draw: random.Random, lines: list[bytes]) -> None:
     line = lines[at]
     fields = line.split(b" ")
     lines[at] = draw.choice([
-        line + b" ", b" " + line, line.replace(b" ", b"  ", 1), line.replace(b" ", b"\t", 1), line + b" 0", b" ".join(fields[:-1]), line.upper(),
+        line + b" ", b" " + line, line.replace(b" ", b"  ", 1), line.replace(b" ", b"\t", 1), line + b" 0", b" ".join(fields[:-1]),
+        line.upper(),
         line + b"\r", line + b"\r\r", line[:3] + b"\r" + line[3:], b"#" + line, b"\xef\xbb\xbf" + line, line + b"\0",
         line[:draw.randrange(len(line) + 1)]])
 
 
 def one_more(draw: random.Random, lines: list[bytes]) -> None:
     """A line of another place, or one that may stand anywhere or nowhere."""
-    others = [b"tick", b"tick", b"end", b"clear", b"ring 9315010203040107", b"part", b"waits", b"", b"#", b"tick 1", b"end ", b"wmbus-roster 2"]
+    others = [b"tick", b"tick", b"end", b"clear", b"ring 9315010203040107", b"part", b"waits", b"", b"#", b"tick 1", b"end ",
+              b"wmbus-roster 2"]
     other = draw.choice([*KNOWN, *others])
     lines.insert(draw.randrange(len(lines) + 1), other)
 
@@ -156,7 +160,8 @@ def roster_alone(draw: random.Random, lines: list[bytes]) -> None:
 
 
 CHANGES = [
-    other_byte, doubled, left_out, exchanged, other_number, other_number, other_bytes, other_part, other_part, more_commands, other_spelling, one_more,
+    other_byte, doubled, left_out, exchanged, other_number, other_number, other_bytes, other_part, other_part, more_commands,
+    other_spelling, one_more,
     one_more, other_head, roster_alone,
 ]
 RARE = {other_head, roster_alone}
@@ -244,20 +249,27 @@ EDGES = [
         (2**64 - 1, 2**32 - 1, 4096), (0, 0, 4097), (2**64, 2**32, 4097), (1, 2**32, 4097), ("00", "00", 0), ("", "", 0)]),
     *(_block("reading 1 1 -", second) for second in ["reading 1 1 -", "reading x", "reading"]),
     *(_block(f"{word} {ident} {tries} {payload}") for word in ["waits", "command"] for ident, tries, payload in [
-        (1, 0, "01"), (1, 1, "01"), (1, 2, "01"), (1, 3, "01"), (1, 4, "01"), (0, 1, "01"), (9, 1, "5a" * 94), (9, 1, "5a" * 95), (10, 1, "01"),
+        (1, 0, "01"), (1, 1, "01"), (1, 2, "01"), (1, 3, "01"), (1, 4, "01"), (0, 1, "01"), (9, 1, "5a" * 94), (9, 1, "5a" * 95),
+        (10, 1, "01"),
         (2**32 - 1, 1, "01"), (2**32, 4, "-"), (10, 4, "-"), (10, 3, ""), (10, 3, "-"), (1, 1, "0"), ("01", 1, "01"), (1, "01", "01")]),
     *(_block(*_commands(count, first)) for count in (8, 9) for first in ("waits 1 3 01", "command 1 2 01")),
-    *(_block(*_commands(2), last) for last in ["command 2 0 01", "command 3 1 01", "waits 3 1 01", "waits 3 0 01", "command 9 0 01", "command 3 0 01"]),
+    *(_block(*_commands(2), last) for last in ["command 2 0 01", "command 3 1 01", "waits 3 1 01", "waits 3 0 01", "command 9 0 01",
+                                               "command 3 0 01"]),
     _block(f"command {2**32 - 1} 0 01", ids=2**32 - 1),
     *(_block(f"part {layer}{'5a' * size}", mode=mode) for mode in (5, 7) for layer, size in [
-        ("90020140", 242), ("90020140", 243), ("90021040", 1), ("90021140", 1), ("90020040", 1), ("90020000", 1), ("90020100", 1), ("90020200", 0),
-        ("900a030400000000000000ff", 1), ("900a034400000000000000ff", 1), ("9003024001", 1), ("90030140", 1), ("900201c1", 1), ("91020140", 1),
+        ("90020140", 242), ("90020140", 243), ("90021040", 1), ("90021140", 1), ("90020040", 1), ("90020000", 1), ("90020100", 1),
+        ("90020200", 0),
+        ("900a030400000000000000ff", 1), ("900a034400000000000000ff", 1), ("9003024001", 1), ("90030140", 1), ("900201c1", 1),
+        ("91020140", 1),
         ("900201", 0), ("", 0)]),
     *(_block(*below) for below in [["tick", "tick"], ["part 9002014001", "tick", "tick"], ["part 9002014001", "tick", "part 9002014002"],
-                                   ["part 9002014001", "tick", "part 9002024002", "tick", "part 9002034003"], ["part", "tick 1"], ["tick "]]),
+                                   ["part 9002014001", "tick", "part 9002024002", "tick", "part 9002034003"], ["part", "tick 1"],
+                                   ["tick "]]),
     *(_ended([it.encode() for it in (*HEAD, line, "end")]) for line in [
-        "meter", f"meter {ADDRESS}", "meter a 6 k o l d i", f"meter {ADDRESS} 6 k o l d i", f"meter {ADDRESS} 5 {'00' * 16} {'00' * 16} l d i",
-        f"meter {ADDRESS} 5 {'00' * 16} - 256 d i", f"meter {ADDRESS} 7 {'00' * 16} - 256 d i", f"meter {ADDRESS} 7 {'00' * 16} - - 1 i", "tick", "end "]),
+        "meter", f"meter {ADDRESS}", "meter a 6 k o l d i", f"meter {ADDRESS} 6 k o l d i",
+        f"meter {ADDRESS} 5 {'00' * 16} {'00' * 16} l d i",
+        f"meter {ADDRESS} 5 {'00' * 16} - 256 d i", f"meter {ADDRESS} 7 {'00' * 16} - 256 d i", f"meter {ADDRESS} 7 {'00' * 16} - - 1 i",
+        "tick", "end "]),
 ]
 
 
