@@ -17,6 +17,8 @@ OTHER_PLACE, DOWN_PLACE = 4, 6
 MOST_NAME = 80
 # a roster that the program judges has so many meters at most
 PIECE = 4096
+# how a state begins, which the program takes in the place of a roster
+STATE = "wmbus-state 1"
 
 
 def count(database: sqlite3.Connection) -> int:
@@ -54,15 +56,20 @@ def fields_of(line: str) -> list[str]:
     return fields if len(fields) == 8 else [*fields[:OTHER_PLACE], "-", *fields[OTHER_PLACE:]]
 
 
+def lines_of(text: str) -> list[str]:
+    """The lines of a roster but those that are passed over."""
+    return [line for line in (it.removesuffix("\r") for it in text.split("\n")) if line and not line.startswith("#")]
+
+
 def meters_in(text: str) -> tuple[str, list[list[str]]]:
     """The own address and the fields of each meter's line of a roster that the program takes."""
-    told = [line for line in (it.removesuffix("\r") for it in text.split("\n")) if line and not line.startswith("#")]
+    told = lines_of(text)
     return told[1].split(" ")[1].lower(), [fields_of(line) for line in told[2:]]
 
 
 def pieces_of(text: str) -> Iterator[str]:
     """A roster of any number of meters as rosters that the program judges, of which the first one has all where they aren't too many."""
-    lines = [line for line in (it.removesuffix("\r") for it in text.split("\n")) if line and not line.startswith("#")]
+    lines = lines_of(text)
     if len(lines) <= PIECE + 2:
         yield text
         return
@@ -72,6 +79,9 @@ def pieces_of(text: str) -> Iterator[str]:
 
 def judge_roster(program: Sequence[str], text: str, place: object) -> None:
     """Has the program judge a roster; it names the first faulty line."""
+    if lines_of(text)[:1] == [STATE]:
+        raise Trouble(place, "it is a state, and no roster",
+                      "name a file of `wmbus-roster 2` and, below it, the state's lines `own` and `meter` alone")
     try:
         run_steps(program, text, [])
     except UnicodeEncodeError:
